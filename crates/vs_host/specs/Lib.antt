@@ -1,0 +1,4 @@
+pub mod World
+pub mod Names
+pub mod Memory
+pub mod Files

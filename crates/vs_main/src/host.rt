@@ -1,0 +1,139 @@
+// The files of the current folder, standard input, standard output and the clock of the system.
+ghost use Rattle.std.specs.Prelude.{◌≡◌, None, [], false, Ok, IfOk};
+ghost use Rattle.vs_host.specs.World.{HasCause};
+
+use std::fs::{self, File};
+use std::io::{self, ErrorKind, Read, Seek, SeekFrom, Write};
+use std::time::{SystemTime, UNIX_EPOCH};
+use vs_host::{Clock, Failed, Folder, Host, Out, Script, World};
+
+/// The real outside. It tells nothing of contents; each refusal of the system counts as a fault of the call. A name that no
+/// regular file has, such as that of a folder, is a fault too.
+#[derive(Drop)]
+pub struct RealHost {
+    rt: HostRuntime,
+    /// The clock's last answer, for where it cannot be read.
+    last_answer: u64,
+    script_faults: u64,
+    out_faults: u64,
+    folder_faults: u64,
+}
+
+impl RealHost {
+    pub fn new(rt: HostRuntime) -> RealHost {
+        RealHost {
+            rt,
+            last_answer: 0,
+            script_faults: 0,
+            out_faults: 0,
+            folder_faults: 0,
+        }
+    }
+}
+
+impl World for RealHost {
+    ghost tells = { record { folder = false; output = false; script = false; clock = false } };
+
+    ghost scene = { λ s. record {
+      folder = λ _. None;
+      output = [];
+      script = [];
+      answers = [];
+      script_faults = s.script_faults;
+      out_faults = s.out_faults;
+      folder_faults = s.folder_faults;
+    } };
+}
+
+impl Script for RealHost {
+    fn read(&mut self, into: &mut [u8]) -> Result<usize, Failed> {
+        match self.rt.stdin().read(into) {
+            Ok(count) => Ok(count),
+            Err(_) => {
+                self.script_faults = self.script_faults.saturating_add(1);
+                Err(Failed)
+            }
+        }
+    }
+}
+
+impl Out for RealHost {
+    fn write(&mut self, piece: &[u8]) -> Result<(), Failed> {
+        match self.rt.stdout().write_all(piece) {
+            Ok(()) => Ok(()),
+            Err(_) => {
+                self.out_faults = self.out_faults.saturating_add(1);
+                Err(Failed)
+            }
+        }
+    }
+}
+
+fn seconds(rt: &HostRuntime) -> Option<u64> {
+    let now = SystemTime::now(rt).ok()?;
+    let since = now.duration_since(UNIX_EPOCH).ok()?;
+    Some(since.as_secs())
+}
+
+impl Clock for RealHost {
+    fn now(&mut self) -> u64 {
+        if let Some(now) = seconds(&self.rt) {
+            self.last_answer = now;
+        }
+        self.last_answer
+    }
+}
+
+fn is_there(rt: &HostRuntime, name: &str) -> io::Result<bool> {
+    match fs::metadata(rt, name) {
+        Ok(found) if found.is_file() => Ok(true),
+        Ok(_) => Err(io::Error::from(ErrorKind::InvalidInput)),
+        Err(error) if error.kind() == ErrorKind::NotFound => Ok(false),
+        Err(error) => Err(error),
+    }
+}
+
+fn size_of(rt: &HostRuntime, name: &str) -> io::Result<u64> {
+    Ok(fs::metadata(rt, name)?.len())
+}
+
+fn read_part(rt: &HostRuntime, name: &str, at: u64, into: &mut [u8]) -> io::Result<()> {
+    let mut file = File::open(rt, name)?;
+    file.seek(SeekFrom::Start(at))?;
+    file.read_exact(into)
+}
+
+impl RealHost {
+    fn folder_answer<T: Drop>(&mut self, answer: io::Result<T>) -> Result<T, Failed>
+        ensures ok { IfOk result (λ value. answer ≡ Ok value) }
+        ensures cause { HasCause self.old.folder_faults self.new.folder_faults result }
+        ensures frame { self.new ≡ record self.old { folder_faults = self.new.folder_faults } }
+    {
+        match answer {
+            Ok(value) => Ok(value),
+            Err(_) => {
+                self.folder_faults = self.folder_faults.saturating_add(1);
+                Err(Failed)
+            }
+        }
+    }
+}
+
+impl Folder for RealHost {
+    fn has(&mut self, name: &str) -> Result<bool, Failed> {
+        let answer = is_there(&self.rt, name);
+        self.folder_answer(answer)
+    }
+
+    fn len(&mut self, name: &str) -> Result<u64, Failed> {
+        let answer = size_of(&self.rt, name);
+        self.folder_answer(answer)
+    }
+
+    fn read_at(&mut self, name: &str, at: u64, into: &mut [u8]) -> Result<(), Failed> {
+        let answer = read_part(&self.rt, name, at, into);
+        self.folder_answer(answer)
+    }
+}
+
+impl Host for RealHost {}

@@ -1,0 +1,39 @@
+// Whole runs over a host in memory, against outputs that are written out.
+mod faults;
+mod limits;
+mod pieces;
+mod runs;
+
+ghost use Rattle.std.specs.Prelude.{◌≡◌, [], IfOk, IsTrue};
+
+use std::alloc::Global;
+use std::test::Fail;
+use vs_host::{Host, MemHost};
+use vs_top::{Report, run};
+
+/// A host with the file `f`, where there is one, and a script.
+fn host_with(alloc: Global, file: Option<&[u8]>, script: &[u8]) -> Result<MemHost, Fail>
+    ensures { IfOk result (λ host. host.answers ≡ []) }
+{
+    let mut host = MemHost::new(alloc, Vec::from_slice(alloc, script)?)?;
+    if let Some(bytes) = file {
+        host.put(alloc, "f", Vec::from_slice(alloc, bytes)?)?;
+    }
+    Ok(host)
+}
+
+fn words_of(alloc: Global, words: &[&str]) -> Result<Vec<String>, Fail> {
+    let mut list = Vec::new(alloc);
+    for word in words {
+        list.push(String::from_str(alloc, word)?)?;
+    }
+    Ok(list)
+}
+
+/// Runs `edit f`.
+fn edit_f<H: Host>(alloc: Global, host: &mut H) -> Result<Report, Fail>
+    requires { IsTrue (H.tells).clock → (H.scene host.old).answers ≡ [] }
+{
+    let words = words_of(alloc, &["edit", "f"])?;
+    Ok(run(alloc, words.as_slice(), host))
+}

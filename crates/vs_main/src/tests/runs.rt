@@ -1,0 +1,192 @@
+// The replies to each kind of command, and the statuses 0, 1 and 2.
+use super::{edit_f, host_with, words_of};
+use std::test::Fail;
+use vs_top::run;
+
+#[derive(Clone, Copy)]
+struct Case {
+    shows: &'static str,
+    file: Option<&'static [u8]>,
+    script: &'static [u8],
+    output: &'static [u8],
+    status: u8,
+    marks: usize,
+}
+
+const CASES: [Case; 14] = [
+    Case {
+        shows: "a block is put behind a line, and all lines are printed",
+        file: Some(b"a\nb\nc\n"),
+        script: b"2a\nx\n.\n%p\n",
+        output: b"\"f\" 3L, 6B\nchange 1, 4 lines\na\nb\nx\nc\n",
+        status: 0,
+        marks: 2,
+    },
+    Case {
+        shows: "a file that is not there is new",
+        file: None,
+        script: b"",
+        output: b"\"f\" [New]\n",
+        status: 0,
+        marks: 0,
+    },
+    Case {
+        shows: "a line behind the last one does not exist",
+        file: Some(b"a\n"),
+        script: b"2a\nx\n.\n%p\n",
+        output: b"\"f\" 1L, 2B\nE16: Invalid range\na\n",
+        status: 1,
+        marks: 2,
+    },
+    Case {
+        shows: "an empty block changes nothing",
+        file: Some(b"a\n"),
+        script: b"1a\n.\n",
+        output: b"\"f\" 1L, 2B\nno change\n",
+        status: 0,
+        marks: 1,
+    },
+    Case {
+        shows: "other lines are no commands, and take no block",
+        file: Some(b"a\n"),
+        script: b"a\n1\n12345678a\n%p \n",
+        output: b"\"f\" 1L, 2B\nE492: Not an editor command\nE492: Not an editor command\nE492: Not an editor command\nE492: Not an editor command\n",
+        status: 1,
+        marks: 4,
+    },
+    Case {
+        shows: "empty lines are no commands and have no reply",
+        file: Some(b"a\n"),
+        script: b"\n\n%p\n\n",
+        output: b"\"f\" 1L, 2B\na\n",
+        status: 0,
+        marks: 1,
+    },
+    Case {
+        shows: "the text without lines has nothing to print, and 1 is its line 0",
+        file: None,
+        script: b"%p\n1a\nx\n.\n0a\ny\n.\n%p\n",
+        output: b"\"f\" [New]\nE16: Invalid range\nchange 1, 1 lines\nchange 2, 2 lines\ny\nx\n",
+        status: 1,
+        marks: 4,
+    },
+    Case {
+        shows: "line 2 of the text without lines does not exist",
+        file: Some(b""),
+        script: b"2a\nx\n.\n",
+        output: b"\"f\" 0L, 0B\nE16: Invalid range\n",
+        status: 1,
+        marks: 1,
+    },
+    Case {
+        shows: "a file without a last line end has its rest as a last line",
+        file: Some(b"a\nb"),
+        script: b"%p\n",
+        output: b"\"f\" 2L, 3B\na\nb\n",
+        status: 0,
+        marks: 1,
+    },
+    Case {
+        shows: "one empty line is a line",
+        file: Some(b"\n"),
+        script: b"%p\n",
+        output: b"\"f\" 1L, 1B\n\n",
+        status: 0,
+        marks: 1,
+    },
+    Case {
+        shows: "a script without a last line end has its rest as a last line",
+        file: Some(b"a\n"),
+        script: b"%p",
+        output: b"\"f\" 1L, 2B\na\n",
+        status: 0,
+        marks: 1,
+    },
+    Case {
+        shows: "a block without a dot goes on to the script's end",
+        file: Some(b"a\n"),
+        script: b"1a\nx\ny",
+        output: b"\"f\" 1L, 2B\nchange 1, 3 lines\n",
+        status: 0,
+        marks: 1,
+    },
+    Case {
+        shows: "a dot ends a block only alone on its line",
+        file: Some(b""),
+        script: b"0a\n..\n .\n.\n%p\n",
+        output: b"\"f\" 0L, 0B\nchange 1, 2 lines\n..\n .\n",
+        status: 0,
+        marks: 2,
+    },
+    Case {
+        shows: "bytes 0 and 255 are bytes like others",
+        file: Some(b"a\x00\xff\n"),
+        script: b"0a\n\xff\x00\n.\n%p\n",
+        output: b"\"f\" 1L, 4B\nchange 1, 2 lines\n\xff\x00\na\x00\xff\n",
+        status: 0,
+        marks: 2,
+    },
+];
+
+#[test]
+fn replies_are_those_of_the_manual(rt: HostRuntime) -> Result<(), Fail> {
+    let alloc = rt.alloc();
+    for case in &CASES {
+        let shows = case.shows;
+        let mut host = host_with(alloc, case.file, case.script)?;
+        let report = edit_f(alloc, &mut host)?;
+        assert_eq!(rt; host.output(), case.output, "{shows}");
+        assert_eq!(rt; report.status, case.status, "{shows}");
+        assert_eq!(rt; report.marks.len(), case.marks, "{shows}");
+        assert!(rt; host.file("f") == case.file, "{shows}");
+    }
+    Ok(())
+}
+
+#[test]
+fn marks_have_the_time_of_the_clock(rt: HostRuntime) -> Result<(), Fail> {
+    let alloc = rt.alloc();
+    let mut host = host_with(alloc, Some(b"a\n"), b"%p\n")?;
+    host.set_clock(1_000_000_007);
+    let report = edit_f(alloc, &mut host)?;
+    assert_eq!(rt; report.marks.len(), 1);
+    assert_eq!(rt; report.marks[0].at, 1_000_000_007);
+    Ok(())
+}
+
+#[test]
+fn other_words_are_usage_without_a_call(rt: HostRuntime) -> Result<(), Fail> {
+    let alloc = rt.alloc();
+    let longest =
+        "n23456789a123456789b123456789c123456789d123456789e123456789f123456789g123456789h123456789i123456789j123456789k123456789l123456789m123456789n123456789o123456789p123456789q123456789r123456789s123456789t";
+    let too_long =
+        "n23456789a123456789b123456789c123456789d123456789e123456789f123456789g123456789h123456789i123456789j123456789k123456789l123456789m123456789n123456789o123456789p123456789q123456789r123456789s123456789tu";
+    let refused: [&[&str]; 12] = [
+        &[],
+        &["edit"],
+        &["edit", "f", "g"],
+        &["Edit", "f"],
+        &["edit", ""],
+        &["edit", "a/b"],
+        &["edit", "x.vsnew"],
+        &["edit", "."],
+        &["edit", ".."],
+        &["edit", "a b"],
+        &["edit", "a\x7f"],
+        &["edit", too_long],
+    ];
+    for words in refused {
+        let mut host = host_with(alloc, None, b"%p\n")?;
+        let list = words_of(alloc, words)?;
+        let report = run(alloc, list.as_slice(), &mut host);
+        assert_eq!(rt; report.status, 2);
+        assert_eq!(rt; host.calls(), 0);
+        assert_eq!(rt; report.marks.len(), 0);
+    }
+    for name in [longest, "f", "...", ".vsnew.x", "~!"] {
+        let mut host = host_with(alloc, None, b"")?;
+        let list = words_of(alloc, &["edit", name])?;
+        assert_eq!(rt; run(alloc, list.as_slice(), &mut host).status, 0, "{name}");
+    }
+    Ok(())
+}

@@ -1,0 +1,65 @@
+-- How long texts are: a file of at most 2^20 bytes is within each limit, and lines that are put in add their own length.
+use Rattle.std.proofs.Common.{◌≡◌, ℕ, ◌≤◌, ◌+◌, ◌^◌, Bool, true, false, List, [], ◌∷◌, ◌++◌, length, take, drop, All, Ok, Err, IsErrAnd, IsErrOf, refl, sym, ap, ◌∙◌, arith}
+use Rattle.std.proofs.lemmas.List.{length-append, take-append-drop}
+use Rattle.std.proofs.lemmas.List.Elements.{All-from_recursion}
+use Rattle.std.proofs.lemmas.Bool.{true≢false}
+use Rattle.std.proofs.lemmas.Option.{same_Some}
+use Rattle.std.specs.List.{AllByRecursion}
+use Rattle.std.specs.Result.{result_err}
+use Rattle.std.specs.declared.result.Result.{Result}
+use Rattle.vs_text.specs.Text.{lines_of, bytes_of}
+use Rattle.vs_text.specs.Limits.{IsShort, IsWithinLimits, IsRefusal}
+use Rattle.vs_text.specs.declared.error.TextErr.{TextErr}
+use Rattle.vs_text.specs.declared.error.TextErr.TheVariants as text
+use Rattle.vs_text.proofs.FileForm.{bytes_of-append}
+use Rattle.vs_text.proofs.LineEnds.{length-lines_of, bytes_of-lines_of}
+use Rattle.vs_text.proofs.TextLimits.{within_not_refused}
+use Rattle.vs_session.specs.Machine.{with_lines}
+use Rattle.vs_session.specs.Early.{GrowsBy}
+use Rattle.vs_session.specs.Open.{open_error}
+use Rattle.vs_session.specs.declared.session.OpenErr.{OpenErr}
+use Rattle.vs_session.specs.declared.session.OpenErr.TheVariants as opening
+
+-- lines put into a text
+pub grows_by : (at : ℕ) (text more new : List (List ℕ)) → new ≡ with_lines text at more → GrowsBy more text new
+grows_by at text more new is =
+    let parts : bytes_of (take at text) + bytes_of (drop at text) ≡ bytes_of text = sym (bytes_of-append (take at text) (drop at text)) ∙ ap bytes_of (take-append-drop at text) in
+    let whole : bytes_of new ≡ bytes_of (take at text) + bytes_of more + bytes_of (drop at text) =
+    ap bytes_of is ∙ bytes_of-append (take at text ++ more) (drop at text) ∙ ap (λ n. n + bytes_of (drop at text)) (bytes_of-append (take at text) more) in
+    let lines : length (take at text) + length (drop at text) ≡ length text = sym (length-append (take at text) (drop at text)) ∙ ap length (take-append-drop at text) in
+    let count : length new ≡ length (take at text) + length more + length (drop at text) =
+    ap length is ∙ length-append (take at text ++ more) (drop at text) ∙ ap (λ n. n + length (drop at text)) (length-append (take at text) more) in
+    record { lines = omega (arith, lines, count); bytes = omega (arith, parts, whole) }
+
+-- the text of a file that is not too long
+pub file_sizes : (file : List ℕ) (text : List (List ℕ)) → text ≡ lines_of file → length file ≤ 2 ^ 20 → (length text ≤ 2 ^ 20) × (bytes_of text ≤ 2 ^ 20 + 1)
+file_sizes file text is small = (
+  omega (arith, small, length-lines_of file, ap (λ (l : List (List ℕ)). length l) is),
+  omega (arith, small, bytes_of-lines_of file, ap bytes_of is),
+)
+
+short_lines : (text : List (List ℕ)) → bytes_of text ≤ 2 ^ 20 + 1 → AllByRecursion IsShort text
+short_lines [] few = tt
+short_lines (line ∷ text) few = (omega (arith, few), short_lines text (omega (arith, few)))
+
+-- such a file is not refused but for memory
+file_fits : (file : List ℕ) (error : TextErr) → length file ≤ 2 ^ 20 → IsRefusal (lines_of file) error → error ≡ text.NoMemory
+file_fits file error small refused =
+    let sizes = file_sizes file (lines_of file) refl small in
+    within_not_refused (lines_of file) error (record {
+      short_lines = All-from_recursion IsShort (lines_of file) (short_lines (lines_of file) sizes.1);
+      few_lines = omega (arith, sizes.0);
+      few_bytes = omega (arith, sizes.1);
+    }) refused
+
+abbrev is_limit : OpenErr → Bool
+is_limit (opening.TextLimit size) = true
+is_limit opening.Failed = false
+is_limit opening.NoMemory = false
+
+pub no_limit : {T : Type 0} (r : Result T OpenErr) (file : List ℕ) (error : TextErr) (size : ℕ) → length file ≤ 2 ^ 20 → IsRefusal (lines_of file) error
+    → IsErrAnd r (λ e. e ≡ open_error error) → IsErrOf r (opening.TextLimit size) → ⊥
+no_limit (Ok x) file error size small refused is limit = is
+no_limit (Err e) file error size small refused is limit =
+    let found : e ≡ opening.TextLimit size = same_Some e (opening.TextLimit size) (ap result_err limit) in
+    true≢false (sym (ap is_limit (sym is ∙ found)) ∙ ap (λ e. is_limit (open_error e)) (file_fits file error small refused))

@@ -1,0 +1,6 @@
+pub mod Script
+pub mod Machine
+pub mod Reply
+pub mod Early
+pub mod Session
+pub mod Open

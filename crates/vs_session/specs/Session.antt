@@ -1,0 +1,25 @@
+-- What a session is.
+use Rattle.std.specs.Prelude.{ℕ, List, [], length, None, Some}
+use Rattle.std.specs.declared.option.Option.{Option}
+use Rattle.vs_text.specs.Text.{lines_of}
+use Rattle.vs_session.specs.Machine.{State}
+
+-- a session, as its users see it: the file's name, its numbers of lines and bytes where it was there, and the machine's state
+pub record Opened : Type 0 where
+  pub name : List ℕ
+  pub found : Option (ℕ × ℕ)
+  pub state : State
+
+-- the numbers of lines and bytes of a file
+abbrev pub sizes_of : Option (List ℕ) → Option (ℕ × ℕ)
+sizes_of None = None
+sizes_of (Some bytes) = Some (length (lines_of bytes), length bytes)
+
+-- the text of a file; where there is none, the text without lines
+abbrev pub text_in : Option (List ℕ) → List (List ℕ)
+text_in None = []
+text_in (Some bytes) = lines_of bytes
+
+-- the session that opens the bytes under a name
+abbrev pub opened : List ℕ → Option (List ℕ) → Opened
+opened name file = record { name = name; found = sizes_of file; state = record { text = text_in file; last = 0 } }

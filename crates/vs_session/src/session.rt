@@ -1,0 +1,221 @@
+// The session: a file's text, and the commands on it.
+ghost use Rattle.std.specs.Prelude.{◌≡◌, ◌<◌, ◌≤◌, ◌+◌, ◌^◌, ◌++◌, ◌∷◌, [], List, ℕ, length, false, true, None, Some, IfOk, OnErr, OnOk, IsErr, IsErrOf, IfSome, IsSomeAnd, IsTrue};
+ghost use Rattle.vs_faults.specs.Faults.{Rose};
+ghost use Rattle.vs_host.specs.Names.{is_allowed};
+ghost use Rattle.vs_host.specs.World.{content_of, ReadsFolder, ChangesClock};
+ghost use Rattle.vs_text.specs.Text.{bytes_of};
+ghost use Rattle.vs_session.specs.Machine.{reply_of, state_after, opening_of, done_reply, done_state, meaning_of};
+ghost use Rattle.vs_session.specs.Script.{Command};
+ghost use Rattle.vs_session.specs.Script.Command.{Append, PrintAll};
+ghost use Rattle.vs_session.specs.Early.{IsHanded, outcome_of, block_in, FitsWith, GrowsBy};
+
+use crate::command::{Early, Mark, Outcome};
+use crate::reply::Reply;
+use std::alloc::{AllocError, Global};
+use std::marker::Model;
+use vs_host::{Failed, Host};
+use vs_text::{Text, TextErr, read_text, write_text};
+
+/// Bytes of the longest file that is opened.
+const FILE_LIMIT: u64 = 1_048_576;
+
+/// The greatest change number.
+const GREATEST_CHANGE: u64 = 2_000_000_000;
+
+/// Why a file was not opened.
+#[derive(Clone, Copy, Debug, PartialEq, Eq, Drop)]
+pub enum OpenErr {
+    /// The file has more bytes than a file may have: their number.
+    TextLimit(u64),
+    /// A call on the folder failed.
+    Failed,
+    NoMemory,
+}
+
+impl From<AllocError> for OpenErr {
+    ghost use Rattle.vs_session.specs.declared.session.OpenErr.TheVariants.{NoMemory};
+
+    ghost from_gives = { λ _ e. e ≡ NoMemory };
+
+    fn from(_: AllocError) -> Self {
+        OpenErr::NoMemory
+    }
+}
+
+impl From<TextErr> for OpenErr {
+    ghost use Rattle.vs_session.specs.Open.{open_error};
+
+    ghost from_gives = { λ error e. e ≡ open_error error };
+
+    fn from(error: TextErr) -> Self {
+        match error {
+            TextErr::TextFull(size) | TextErr::LineTooLong(size) => OpenErr::TextLimit(size),
+            TextErr::NoMemory => OpenErr::NoMemory,
+        }
+    }
+}
+
+impl From<Failed> for OpenErr {
+    ghost use Rattle.vs_session.specs.declared.session.OpenErr.TheVariants as error;
+
+    ghost from_gives = { λ _ e. e ≡ error.Failed };
+
+    fn from(_: Failed) -> Self {
+        OpenErr::Failed
+    }
+}
+
+/// A file that was opened, seen as its name, its size when it was opened, its text, and the number of the last change.
+#[derive(Drop)]
+pub struct Session {
+    name: String,
+    found: Option<(u64, u64)>,
+    text: Text,
+    last: u64,
+}
+
+impl Model for Session {
+    ghost use Rattle.vs_session.specs.Session.{Opened};
+    ghost use Rattle.std.specs.Prelude.{◌≤◌, length, string_bytes};
+
+    ghost Value = { Opened };
+
+    ghost view = { λ s. record { name = string_bytes s.name; found = s.found; state = record { text = s.text; last = s.last } } };
+
+    ghost invariant = { λ s. length (string_bytes s.name) ≤ 200 };
+}
+
+/// The answer to one command.
+#[derive(Drop)]
+pub struct Step {
+    pub mark: Mark,
+    pub reply: Reply,
+}
+
+impl Session {
+    ghost use Rattle.vs_session.specs.Session.{opened};
+
+    /// Opens the file of a name, or the text without lines where there is no file.
+    pub fn open<H: Host>(alloc: Global, host: &mut H, name: &str) -> Result<Session, OpenErr>
+        requires name { IsTrue (is_allowed name.now) }
+        ensures opened { IfOk result (λ session. IsTrue (H.tells).folder → session ≡ opened name.now (content_of (H.scene host.old) name.now)) }
+        ensures fresh { IfOk result (λ session. (session.name ≡ name.now) × (session.state.last ≡ 0)) }
+        ensures size { IfOk result (λ session. (length session.state.text ≤ 2 ^ 20) × (bytes_of session.state.text ≤ 2 ^ 20 + 1)) }
+        ensures failed { IsErrOf result OpenErr.Failed → Rose (H.scene host.old).folder_faults (H.scene host.new).folder_faults }
+        ensures limit { (size : ℕ) → IsErrOf result (OpenErr.TextLimit size) → (2 ^ 20 < size) × (IsTrue (H.tells).folder → IsSomeAnd (content_of (H.scene host.old) name.now) (λ bytes. size ≡ length bytes)) }
+        ensures over { IsTrue (H.tells).folder → IfSome (content_of (H.scene host.old) name.now) (λ bytes. 2 ^ 20 < length bytes → IsErr result) }
+        ensures folder_faults { (H.scene host.old).folder_faults ≤ (H.scene host.new).folder_faults }
+        ensures frame { ReadsFolder (H.scene host.old) (H.scene host.new) }
+    {
+        let kept = String::from_str(alloc, name)?;
+        if !host.has(name)? {
+            return Ok(Session {
+                name: kept,
+                found: None,
+                text: Text::of(Vec::new(alloc)),
+                last: 0,
+            });
+        }
+        let size = host.len(name)?;
+        if size > FILE_LIMIT {
+            return Err(OpenErr::TextLimit(size));
+        }
+        let mut bytes = vec![in alloc; 0u8; size as usize]?;
+        host.read_at(name, 0, &mut bytes)?;
+        let text = read_text(alloc, &bytes)?;
+        Ok(Session {
+            name: kept,
+            found: Some((text.lines().len() as u64, size)),
+            text,
+            last: 0,
+        })
+    }
+
+    /// The first reply: the name and size of the file, or that it is new.
+    pub fn opening(&self) -> Reply
+        ensures { result ≡ opening_of self.now.name self.now.found }
+    {
+        match self.found {
+            Some((lines, bytes)) => Reply::opened(&self.name, lines, bytes),
+            None => Reply::opened_new(&self.name),
+        }
+    }
+
+    /// Answers one command. The clock is read once, when the command begins.
+    pub fn step<H: Host>(&mut self, alloc: Global, host: &mut H, early: &Early) -> Step
+        requires size { FitsWith self.old.state.text (block_in early.now) }
+        requires clock { IsTrue (H.tells).clock → length (H.scene host.old).answers < 2 ^ 63 }
+        ensures reply { (command : Command) → IsHanded early.now command →
+            result.reply ≡ reply_of self.old.state command (outcome_of result.mark.outcome) }
+        ensures state { (command : Command) → IsHanded early.now command →
+            self.new.state ≡ state_after self.old.state command (outcome_of result.mark.outcome) }
+        ensures lost { early.now ≡ Early.NoMemory → result.mark.outcome ≡ Outcome.NoMemory }
+        ensures same { (self.new.name ≡ self.old.name) × (self.new.found ≡ self.old.found) }
+        ensures grows { GrowsBy (block_in early.now) self.old.state.text self.new.state.text }
+        ensures clock { IsTrue (H.tells).clock → (H.scene host.new).answers ≡ (H.scene host.old).answers ++ result.mark.at ∷ [] }
+        ensures frame { ChangesClock (H.scene host.old) (H.scene host.new) }
+    {
+        let at = host.now();
+        let (reply, outcome) = match self.answer(alloc, early) {
+            Ok(reply) => (reply, Outcome::Done),
+            Err(_) => (Reply::refuses(b"out of memory"), Outcome::NoMemory),
+        };
+        Step {
+            mark: Mark { outcome, at },
+            reply,
+        }
+    }
+
+    fn answer(&mut self, alloc: Global, early: &Early) -> Result<Reply, TextErr>
+        requires size { FitsWith self.old.state.text (block_in early.now) }
+        ensures reply { IfOk result (λ reply. (command : Command) → IsHanded early.now command →
+            reply ≡ done_reply self.old.state.last (meaning_of self.old.state.text command)) }
+        ensures state { OnOk result ((command : Command) → IsHanded early.now command →
+            self.new.state ≡ done_state self.old.state (meaning_of self.old.state.text command)) }
+        ensures lost { early.now ≡ Early.NoMemory → IsErr result }
+        ensures same { (self.new.name ≡ self.old.name) × (self.new.found ≡ self.old.found) }
+        ensures grows { GrowsBy (block_in early.now) self.old.state.text self.new.state.text }
+        ensures err { OnErr result (self.new.state ≡ self.old.state) }
+    {
+        match early {
+            Early::Append { at, lines } => self.append(alloc, *at, lines),
+            Early::PrintAll => self.print_all(alloc),
+            Early::Other => Ok(Reply::refuses(b"E492: Not an editor command")),
+            Early::NoMemory => Err(TextErr::NoMemory),
+        }
+    }
+
+    fn print_all(&self, alloc: Global) -> Result<Reply, TextErr>
+        ensures { IfOk result (λ reply. reply ≡ done_reply self.now.state.last (meaning_of self.now.state.text PrintAll)) }
+    {
+        if self.text.lines().is_empty() {
+            return Ok(Reply::refuses(b"E16: Invalid range"));
+        }
+        Ok(Reply::printed(write_text(alloc, &self.text)?))
+    }
+
+    fn append(&mut self, alloc: Global, at: u64, lines: &Text) -> Result<Reply, TextErr>
+        requires size { FitsWith self.old.state.text lines.now }
+        ensures reply { IfOk result (λ reply. reply ≡ done_reply self.old.state.last (meaning_of self.old.state.text (Append at lines.now))) }
+        ensures state { OnOk result (self.new.state ≡ done_state self.old.state (meaning_of self.old.state.text (Append at lines.now))) }
+        ensures same { (self.new.name ≡ self.old.name) × (self.new.found ≡ self.old.found) }
+        ensures grows { GrowsBy lines.now self.old.state.text self.new.state.text }
+        ensures err { OnErr result (self.new.state ≡ self.old.state) }
+    {
+        let count = self.text.lines().len();
+        let place = if count == 0 && at == 1 { 0 } else { at };
+        if (count as u64) < place {
+            return Ok(Reply::refuses(b"E16: Invalid range"));
+        }
+        let added = lines.lines();
+        if added.is_empty() {
+            return Ok(Reply::says(b"no change"));
+        }
+        if GREATEST_CHANGE <= self.last {
+            return Ok(Reply::refuses(b"change numbers used up"));
+        }
+        self.text.put_lines(place as usize, added)?;
+        self.last += 1;
+        Ok(Reply::change(self.last, (count + added.len()) as u64))
+    }
+}

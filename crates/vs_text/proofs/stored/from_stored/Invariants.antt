@@ -1,0 +1,6 @@
+use Rattle.std.proofs.Common.{◌≡◌, ◌++◌, map, take, drop}
+use Rattle.vs_text.specs.Text.{plain_byte}
+use Rattle.vs_text.proofs.stored.from_stored.Given as goal
+
+abbrev pub invariant-loop-byte : goal.invariant-loop-byte
+invariant-loop-byte l = l.line ≡ map plain_byte (take l.byte-index l.initial.line) ++ drop l.byte-index l.initial.line

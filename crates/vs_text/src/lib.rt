@@ -1,0 +1,27 @@
+//! Lines and texts: how they are read from a file, written to one, and stored in the blocks of a swap file.
+#![tactic(auto)]
+
+mod error;
+mod line;
+mod read;
+mod stored;
+#[cfg(test)]
+mod tests;
+mod text;
+mod write;
+
+pub use error::TextErr;
+pub use line::Line;
+pub use read::read_text;
+pub use stored::{from_stored, to_stored};
+pub use text::Text;
+pub use write::write_text;
+
+/// The greatest number of lines of a text.
+pub const MAX_LINES: u64 = 4_000_000;
+
+/// The greatest number of bytes of a line, without its end.
+pub const MAX_LINE_BYTES: u64 = 1_048_576;
+
+/// The greatest number of bytes of a text, with one for each line end.
+pub const MAX_TEXT_BYTES: u64 = 268_435_456;

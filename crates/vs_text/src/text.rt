@@ -1,0 +1,72 @@
+ghost use Rattle.std.specs.Prelude.{◌≡◌, ◌≤◌, ◌++◌, ◌∷◌, [], ◌==◌, List, ℕ, length, take, drop, OnOk, OnErr};
+
+use crate::Line;
+use std::alloc::{AllocError, AllocFailed};
+use std::marker::Model;
+
+/// A text: its lines, of which there may be none.
+#[derive(Debug, Drop)]
+pub struct Text {
+    lines: Vec<Line>,
+}
+
+impl Model for Text {
+    ghost Value = { List (List ℕ) };
+
+    ghost view = { λ text. text.lines.items };
+}
+
+impl Text {
+    /// The text of these lines. It takes no memory.
+    pub fn of(lines: Vec<Line>) -> Text
+        ensures { result ≡ lines.items }
+    {
+        Text { lines }
+    }
+
+    pub fn lines(&self) -> &[Line]
+        ensures { result.now ≡ self.now }
+    {
+        self.lines.as_slice()
+    }
+
+    /// The lines themselves, in the memory that the text had.
+    pub fn into_lines(self) -> Vec<Line>
+        ensures { result.items ≡ self }
+    {
+        self.lines
+    }
+
+    /// The number of lines.
+    pub fn len(&self) -> usize
+        ensures { result ≡ length self.now }
+    {
+        self.lines.len()
+    }
+
+    pub fn is_empty(&self) -> bool
+        ensures { result ≡ (length self.now == 0) }
+    {
+        self.lines.is_empty()
+    }
+
+    /// Adds a line at the end. If there is no memory, the line comes back.
+    pub fn push(&mut self, line: Line) -> Result<(), AllocFailed<Line>>
+        ensures ok { OnOk result (self.new ≡ self.old ++ line ∷ []) }
+        ensures err { OnErr result (self.new ≡ self.old) }
+    {
+        self.lines.push(line)
+    }
+
+    /// Puts copies of these lines after the first `at` ones.
+    pub fn put_lines(&mut self, at: usize, lines: &[Line]) -> Result<(), AllocError>
+        requires { at ≤ length self.old }
+        ensures ok { OnOk result (self.new ≡ take at self.old ++ lines.now ++ drop at self.old) }
+        ensures err { OnErr result (self.new ≡ self.old) }
+    {
+        self.lines.extend_from_slice(lines)?;
+        let (_, tail) = self.lines.split_at_mut(at);
+        tail.rotate_right(lines.len());
+        Ok(())
+    }
+}

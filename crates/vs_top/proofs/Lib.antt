@@ -1,0 +1,6 @@
+mod Errors
+mod Lines
+mod Pieces
+mod Stopping
+mod Runs
+mod Words

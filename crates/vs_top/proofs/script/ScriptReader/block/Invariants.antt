@@ -1,0 +1,21 @@
+use Rattle.std.proofs.Common.{◌≡◌, ◌≤◌, IsTrue, ◌+◌, ◌*◌, length, ℕ, List, [], false}
+use Rattle.vs_session.specs.Script.{block_of, whole_block}
+use Rattle.vs_text.specs.Text.{bytes_of}
+use Rattle.vs_host.specs.World.{ChangesScript}
+use Rattle.vs_top.specs.Ahead.{CountsTaken, HasSeen, GoesOn, whole_lines, turns, lines_ahead}
+use Rattle.vs_top.proofs.Stopping.{InBlock}
+use Rattle.vs_top.proofs.script.ScriptReader.block.Given as goal
+
+abbrev pub invariant-lines : goal.invariant-lines
+invariant-lines g l = record {
+  block : IsTrue (g.S.World.tells).script → InBlock l.lost l.lines.items l.initial.self l.self (g.S.World.scene l.initial.host) (g.S.World.scene l.host);
+  ended : IsTrue (g.S.World.tells).script → HasSeen l.self (g.S.World.scene l.host);
+  counts : IsTrue (g.S.World.tells).script → CountsTaken l.initial.self l.self (g.S.World.scene l.initial.host) (g.S.World.scene l.host);
+  bytes : bytes_of l.lines.items + 2 * turns l.self ≤ 2 * turns l.initial.self;
+  turns : length l.lines.items + turns l.self ≤ turns l.initial.self;
+  faults : (g.S.World.scene l.initial.host).script_faults ≤ (g.S.World.scene l.host).script_faults;
+  frame : ChangesScript (g.S.World.scene l.initial.host) (g.S.World.scene l.host);
+}
+
+abbrev pub decreases-lines : goal.decreases-lines
+decreases-lines g l = turns l.self
