@@ -1,5 +1,5 @@
 // A host that gives its script in pieces of a size.
-ghost use Rattle.std.specs.Prelude.{◌<◌, false};
+ghost use Rattle.std.specs.Prelude.{◌<◌, true};
 ghost use Rattle.vs_host.specs.Memory.{scene_of};
 
 use vs_host::{Clock, Failed, Folder, Host, MemHost, Out, Script, World};
@@ -12,7 +12,7 @@ pub struct Pieces {
 }
 
 impl World for Pieces {
-    ghost tells = { record { folder = false; output = false; script = false; clock = false } };
+    ghost tells = { record { folder = true; output = true; script = true; clock = true } };
 
     ghost scene = { λ s. scene_of s.inner };
 }
@@ -32,7 +32,7 @@ impl Out for Pieces {
 
 impl Clock for Pieces {
     fn now(&mut self) -> u64 {
-        0
+        self.inner.now()
     }
 }
 
