@@ -4,22 +4,25 @@ use std::io::Write;
 const HELP: &str = "\
 levertaupe: runs a script of Ex commands over a file of the current folder
 
-usage: levertaupe edit NAME < SCRIPT
-       levertaupe --help | --version
-
-  edit NAME    reads commands from standard input and writes their replies to
-               standard output
+  levertaupe edit NAME < SCRIPT   answers each command on standard output
+  levertaupe --help               shows this page
+  levertaupe --version            shows the version
 
 Commands, one on a line:
-  Na           puts the lines that follow, up to a line that is `.`, after
-               line N (0: before the first line)
-  %p           prints all lines
+  Na   puts the lines that follow, up to a line `.`, after line N
+       (0: before the first line)
+  %p   prints all lines
 
-The status is 0 where all went well, 1 where a reply was an error, 2 for other
-words, 5 to 8 for a fault of the script, the output, the folder or memory, 12
-and 13 for a file or a script that is too large.
+Nothing is saved yet: the file stays as it is.
 
-The manual is docs/COMMANDS.md, and man/levertaupe.1.
+Statuses; from 2 on a line on standard error says the same:
+   0  every command did its work       7  the file cannot be read
+   1  some reply is an error           8  no memory
+   2  other words                     12  a file of more than 1,048,576 bytes
+   5  the script cannot be read       13  a script of more than 1,048,576 bytes
+   6  the output cannot be written
+
+The manual is docs/COMMANDS.md, and as a manual page man/levertaupe.1.
 ";
 
 const VERSION: &str = "levertaupe 0.1.0\n";
