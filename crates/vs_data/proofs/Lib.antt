@@ -1,0 +1,11 @@
+pub mod Entries
+pub mod Fresh
+pub mod Headers
+pub mod Inserting
+pub mod Lines
+pub mod Lists
+pub mod Moves
+pub mod Reading
+pub mod Removing
+pub mod Splitting
+pub mod Stored

@@ -1,0 +1,3 @@
+pub mod Splices
+pub mod Texts
+pub mod Undoing

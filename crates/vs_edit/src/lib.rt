@@ -1,0 +1,15 @@
+//! Stores of one text that is changed by splices, committed and rolled back.
+//!
+//! [`LineStore`] says what every such store promises, and [`VecStore`] keeps its text in memory.
+#![tactic(auto)]
+
+pub mod failing;
+mod generic;
+mod store;
+#[cfg(test)]
+mod tests;
+mod vec_store;
+
+pub use generic::{splice_or_rollback, text_of};
+pub use store::{LineStore, StoreErr};
+pub use vec_store::VecStore;

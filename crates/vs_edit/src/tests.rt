@@ -1,0 +1,205 @@
+ghost use Rattle.std.specs.Prelude.{◌+◌, ◌<◌, ◌≤◌, All, IsTrue, length};
+ghost use Rattle.vs_text.specs.Limits.{IsShort};
+
+use crate::failing::{FailingStore, has_room};
+use crate::{LineStore, StoreErr, VecStore, splice_or_rollback, text_of};
+use std::alloc::{AllocError, Global};
+use std::process::Abort;
+use std::test::Fail;
+use vs_text::{Line, MAX_LINE_BYTES, MAX_LINES, Text, from_stored, write_text};
+
+fn are_short(lines: &[Line]) -> bool
+    ensures { IsTrue result → All IsShort lines.now }
+{
+    for line in lines {
+        if line.bytes().len() as u64 > MAX_LINE_BYTES {
+            return false;
+        }
+    }
+    true
+}
+
+// Splices where all that a splice asks for holds.
+fn splice_if_allowed<S: LineStore>(
+    alloc: Global,
+    store: &mut S,
+    top: u64,
+    old: u64,
+    new: &[Line],
+) -> Result<bool, StoreErr>
+    requires { S.valid store.old }
+    ensures { S.valid store.new }
+{
+    let len = store.len();
+    let count = new.len() as u64;
+    if count > MAX_LINES || old > len || top > len - old || len - old > MAX_LINES - count {
+        return Ok(false);
+    }
+    if !are_short(new) || !has_room(store.bytes(), new) {
+        return Ok(false);
+    }
+    splice_or_rollback(alloc, store, top, old, new)?;
+    Ok(true)
+}
+
+// A line for each byte: the byte, up to four times.
+fn lines_of(alloc: Global, bytes: &[u8]) -> Result<Vec<Line>, AllocError> {
+    let mut lines = Vec::new(alloc);
+    for byte in bytes {
+        let mut line = vec![in alloc; *byte; *byte as usize % 5]?;
+        from_stored(&mut line);
+        lines.push(Line::from_vec(line))?;
+    }
+    Ok(lines)
+}
+
+fn spliced(
+    alloc: Global,
+    now: &[u8],
+    top: usize,
+    old: usize,
+    new: &[u8],
+) -> Result<Vec<u8>, AllocError>
+    requires { top + old ≤ length now.now }
+{
+    let mut next = Vec::from_slice(alloc, &now[..top])?;
+    next.extend_from_slice(new)?;
+    next.extend_from_slice(&now[top + old..])?;
+    Ok(next)
+}
+
+// Numbers that look like chance, and are the same in each run.
+#[derive(Drop)]
+struct Numbers(u64);
+
+impl Numbers {
+    fn below(&mut self, n: u64) -> u64
+        requires { 0 < n }
+        ensures { result < n }
+    {
+        self.0 = self
+            .0
+            .wrapping_mul(6_364_136_223_846_793_005)
+            .wrapping_add(1_442_695_040_888_963_407);
+        (self.0 >> 33) % n
+    }
+
+    fn bytes(&mut self, alloc: Global, most: u64) -> Result<Vec<u8>, AllocError> {
+        let mut bytes = Vec::new(alloc);
+        for _ in 0..self.below(most.max(1)) {
+            bytes.push(self.below(256) as u8)?;
+        }
+        Ok(bytes)
+    }
+}
+
+// Asserts that the store has these lines, by each of its calls that reads.
+fn assert_has<S: LineStore>(
+    rt: &impl Abort,
+    alloc: Global,
+    store: &mut S,
+    bytes: &[u8],
+) -> Result<(), StoreErr>
+    requires { S.valid store.old }
+    ensures { S.valid store.new }
+{
+    let want = Text::of(lines_of(alloc, bytes)?);
+    let file = write_text(alloc, &want)?;
+    let found = text_of(alloc, store)?;
+    assert_eq!(rt; write_text(alloc, &found)?.as_slice(), file.as_slice());
+    assert_eq!(rt; store.len(), bytes.len() as u64);
+    assert_eq!(rt; store.bytes(), file.len() as u64);
+    Ok(())
+}
+
+// A text as a list of bytes, now and when it was committed.
+#[derive(Drop)]
+struct Plain {
+    now: Vec<u8>,
+    committed: Vec<u8>,
+}
+
+fn play<S: LineStore>(
+    rt: &impl Abort,
+    alloc: Global,
+    store: &mut S,
+    plain: &mut Plain,
+    numbers: &mut Numbers,
+) -> Result<(), StoreErr>
+    requires { S.valid store.old }
+    ensures { S.valid store.new }
+{
+    match numbers.below(8) {
+        0 => {
+            store.commit();
+            plain.committed = Vec::from_slice(alloc, &plain.now)?;
+        }
+        1 => {
+            store.rollback();
+            plain.now = Vec::from_slice(alloc, &plain.committed)?;
+        }
+        _ => {
+            let len = plain.now.len() as u64;
+            let top = numbers.below(len + 1);
+            let old = numbers.below((len - top).min(6) + 1);
+            let new = numbers.bytes(alloc, 8)?;
+            let lines = lines_of(alloc, &new)?;
+            assert!(rt; splice_if_allowed(alloc, store, top, old, &lines)?);
+            plain.now = spliced(alloc, &plain.now, top as usize, old as usize, &new)?;
+        }
+    }
+    assert_has(rt, alloc, store, &plain.now)
+}
+
+#[test]
+fn follows_a_plain_list(rt: HostRuntime) -> Result<(), Fail> {
+    let alloc = rt.alloc();
+    let mut store = VecStore::new(alloc)?;
+    let mut plain = Plain {
+        now: Vec::new(alloc),
+        committed: Vec::new(alloc),
+    };
+    let mut numbers = Numbers(1);
+    for _ in 0..400 {
+        play(&rt, alloc, &mut store, &mut plain, &mut numbers)?;
+    }
+    store.rollback();
+    assert_has(&rt, alloc, &mut store, &plain.committed)?;
+    Ok(())
+}
+
+// A splice that takes one line out and puts two in, and a look at the whole text.
+fn change<S: LineStore>(alloc: Global, store: &mut S) -> Result<(), StoreErr>
+    requires { S.valid store.old }
+    ensures { S.valid store.new }
+{
+    let new = lines_of(alloc, b"xy")?;
+    let _ = splice_if_allowed(alloc, store, 1, 1, &new)?;
+    let _ = text_of(alloc, store)?;
+    Ok(())
+}
+
+#[test]
+fn fails_the_call_that_is_named(rt: HostRuntime) -> Result<(), Fail> {
+    let alloc = rt.alloc();
+    for fails_at in 0..6 {
+        let mut inner = VecStore::new(alloc)?;
+        let lines = lines_of(alloc, b"abc")?;
+        assert!(rt; splice_if_allowed(alloc, &mut inner, 0, 0, &lines)?);
+        inner.commit();
+        let mut store = FailingStore::new(inner, fails_at);
+        let fails = fails_at != 0;
+        assert_eq!(rt;
+            change(alloc, &mut store).is_err(),
+            fails,
+            "call {fails_at}"
+        );
+        assert_eq!(rt; store.faults, u64::from(fails), "call {fails_at}");
+        store.rollback();
+        assert_has(&rt, alloc, &mut store.store, b"abc")?;
+        change(alloc, &mut store)?;
+        store.commit();
+        assert_has(&rt, alloc, &mut store.store, b"axyc")?;
+    }
+    Ok(())
+}

@@ -1,0 +1,5 @@
+pub mod Chunks
+pub mod Entries
+pub mod Headers
+pub mod Reading
+pub mod Slots
