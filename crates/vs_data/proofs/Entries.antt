@@ -1,5 +1,5 @@
 -- The index entries of some lines, moved one after the other.
-use Rattle.std.proofs.Common.{◌≡◌, ℕ, ◌+◌, ◌-◌, ◌*◌, ◌^◌, ◌<◌, ◌≤◌, List, length, refl, ap, ◌∙◌, inl, inr, ⊎_elim, arith}
+use Rattle.std.proofs.Common.{◌≡◌, ℕ, ◌+◌, ◌-◌, ◌*◌, ◌^◌, ◌<◌, ◌≤◌, List, length, refl, ap, inl, ⊎_elim, arith}
 use Rattle.std.proofs.lemmas.Bool.{cases_lt}
 use Rattle.vs_bytes.specs.Fields.{Little, bytes_of, number_of, with_number}
 use Rattle.vs_bytes.proofs.FieldLaws.{length-bytes_of, number_at-with_number, number_at-with_number_apart}

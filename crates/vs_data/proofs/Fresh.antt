@@ -1,11 +1,11 @@
 -- A block without lines: zeros under a header.
-use Rattle.std.proofs.Common.{◌≡◌, ℕ, zero, suc, ◌+◌, ◌-◌, ◌*◌, ◌^◌, ◌<◌, ◌≤◌, true, List, [], ◌∷◌, ◌++◌, length, take, drop, map, replicate, Some, Ok, refl, sym, ap, ◌∙◌, inr, subst, arith, length-append}
+use Rattle.std.proofs.Common.{◌≡◌, ℕ, suc, ◌-◌, ◌^◌, ◌<◌, ◌≤◌, List, [], ◌∷◌, ◌++◌, length, drop, map, replicate, Some, Ok, refl, sym, ap, ◌∙◌, inr, subst, arith, length-append}
 use Rattle.std.specs.List.{range_with_len}
-use Rattle.std.proofs.lemmas.List.{append_assoc, drop-replicate, length-replicate, take-replicate}
-use Rattle.vs_bytes.specs.Fields.{Little, bytes_of, field_at, number_at, number_of, with_field, with_number}
+use Rattle.std.proofs.lemmas.List.{drop-replicate, length-replicate}
+use Rattle.vs_bytes.specs.Fields.{Little, bytes_of, with_field, with_number}
 use Rattle.vs_bytes.proofs.FieldLaws.{length-bytes_of, length-with_number, number_at-with_number}
 use Rattle.vs_data.specs.declared.DataView.{DataView}
-use Rattle.vs_data.specs.Blocks.{count_in, each_line, end_at, header_of, id_bytes, is_line, line_at, lines_in, start_at, text_end_in, text_start_in, view_in}
+use Rattle.vs_data.specs.Blocks.{end_at, header_of, id_bytes, line_at, lines_in, text_start_in, view_in}
 use Rattle.vs_data.proofs.Headers.{HasHeader, header_view, header_written, same_id}
 use Rattle.vs_data.proofs.Lines.{lines_are}
 use Rattle.vs_data.proofs.Reading.{IsBlock, block_from_lines, has_view, view_answer, view_bounds}

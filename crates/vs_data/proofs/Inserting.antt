@@ -1,17 +1,17 @@
 -- A line that is put into a block: the text and the index open, and each line is one of the old ones or the new one.
-use Rattle.std.proofs.Common.{◌≡◌, ◌≢◌, ℕ, zero, suc, ◌+◌, ◌-◌, ◌*◌, ◌/◌, ◌%◌, ◌^◌, ◌<◌, ◌≤◌, true, map, List, [], ◌∷◌, ◌++◌, length, take, drop, Some, Ok, refl, sym, ap, ◌∙◌, inl, inr, subst, ⊎_elim, arith, length-append, add-one}
+use Rattle.std.proofs.Common.{◌≡◌, ◌≢◌, ℕ, zero, suc, ◌+◌, ◌-◌, ◌*◌, ◌/◌, ◌%◌, ◌^◌, ◌<◌, ◌≤◌, true, map, List, [], ◌∷◌, ◌++◌, length, take, drop, Some, Ok, sym, ap, ◌∙◌, inl, inr, subst, ⊎_elim, arith}
 use Rattle.std.specs.List.{All, insert, range_with_len}
 use Rattle.std.specs.Option.{option_map}
 use Rattle.std.proofs.lemmas.Bool.{cases_lt}
 use Rattle.vs_bytes.specs.Fields.{Little, bytes_of, field_at, number_at, number_of, with_field, with_number}
 use Rattle.vs_bytes.proofs.FieldLaws.{field_at-with_field, length-bytes_of, length-field_at, length-with_field, number_at-with_number, number_at-with_number_apart}
 use Rattle.vs_data.specs.declared.DataView.{DataView}
-use Rattle.vs_data.specs.Blocks.{KeepsFrame, count_in, each_line, end_at, entry_at, free_field, free_space, header_of, is_line, line_at, lines_in, mark_at, marks_in, start_at, text_end_in, text_start_in, view_in, view_of}
+use Rattle.vs_data.specs.Blocks.{KeepsFrame, count_in, each_line, end_at, entry_at, is_line, line_at, lines_in, mark_at, marks_in, start_at, text_end_in, text_start_in, view_in}
 use Rattle.vs_data.proofs.Entries.{EntriesMoved, entry_after, entry_before}
 use Rattle.vs_data.proofs.Headers.{HasHeader, header_view, same_id}
 use Rattle.vs_data.proofs.Lines.{lines_are}
 use Rattle.vs_data.proofs.Lists.{map-insert}
-use Rattle.vs_data.proofs.Reading.{EndsWithin, IsBlock, block_from_lines, ends_fall, ends_within, good_entry, lies_within, text_starts, view_answer, view_holds}
+use Rattle.vs_data.proofs.Reading.{EndsWithin, IsBlock, block_from_lines, ends_fall, ends_within, good_entry, lies_within, text_starts, view_answer}
 use Rattle.vs_data.proofs.Stored.{IsLine, MovedStart, SameLine, line_put, same_line, start_moves}
 use Rattle.vs_data.proofs.Moves.{Keeps, field_after, field_before, field_moved, kept_by_write, kept_in_more, kept_on}
 

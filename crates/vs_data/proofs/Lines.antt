@@ -1,13 +1,13 @@
 -- The lines of a block, and the space that they take: what the ends of the lines fall by.
-use Rattle.std.proofs.Common.{◌≡◌, ℕ, zero, suc, ◌+◌, ◌-◌, ◌*◌, ◌<◌, ◌≤◌, true, List, length, drop, Option, None, Some, Ok, Err, IsSomeAnd, refl, sym, ap, ◌∙◌, arith, length-drop, map, add-one, add-zero, zero-add, not, ◌==◌, ◌≢◌, slice_range, slice_get}
+use Rattle.std.proofs.Common.{◌≡◌, ℕ, zero, suc, ◌+◌, ◌-◌, ◌*◌, ◌<◌, ◌≤◌, true, List, length, drop, None, Some, Ok, Err, IsSomeAnd, refl, ap, ◌∙◌, arith, length-drop, map, add-one, add-zero, zero-add, not, ◌==◌, ◌≢◌, slice_range, slice_get}
 use Rattle.std.proofs.lemmas.List.{length-take-le}
 use Rattle.std.proofs.lemmas.List.FromFn.{length-map-range_with_len, sum_by-map-range_with_len_more}
-use Rattle.std.specs.List.{All, list_all, range_with_len, sum_by}
+use Rattle.std.specs.List.{All, list_all, range_with_len}
 use Rattle.std.proofs.lemmas.List.Sums.{AllPass-from_list_all}
 use Rattle.std.proofs.lemmas.Bool.Decides.{nat_tests}
 use Rattle.vs_data.specs.declared.DataView.{DataView}
 use Rattle.vs_data.specs.declared.DataErr.{DataErr}
-use Rattle.vs_data.specs.Blocks.{Measures, count_in, each_line, end_at, free_space, is_line, line_at, lines_in, space_of, start_at, text_end_in, text_start_in, view_in, view_of}
+use Rattle.vs_data.specs.Blocks.{Measures, count_in, each_line, end_at, is_line, line_at, lines_in, space_of, start_at, text_end_in, view_in}
 use Rattle.std.specs.Option.{option_and_then}
 use Rattle.vs_data.proofs.Reading.{IsBlock, LiesWithin, good_entry, has_view, lies_within, text_starts, view_bounds, view_holds}
 

@@ -1,6 +1,6 @@
 -- What a write of some bytes leaves around them, and what stands in their place: laws of fields.
-use Rattle.std.proofs.Common.{◌≡◌, ℕ, ◌+◌, ◌-◌, ◌<◌, ◌≤◌, ◌⊎◌, List, ◌++◌, length, take, drop, refl, sym, ap, ◌∙◌, arith, length-append, length-drop}
-use Rattle.std.proofs.lemmas.List.{append_assoc, drop_at, drop-drop, length-take-le, take_at, take-take}
+use Rattle.std.proofs.Common.{◌≡◌, ℕ, ◌+◌, ◌-◌, ◌≤◌, List, ◌++◌, length, take, drop, sym, ap, ◌∙◌, arith, length-append}
+use Rattle.std.proofs.lemmas.List.{append_assoc, drop-drop, length-take-le, take_at, take-take}
 use Rattle.vs_bytes.specs.Fields.{field_at, with_field}
 use Rattle.vs_bytes.proofs.FieldLaws.{drop-with_field, field_at-append_left, field_at-append_right, field_at-drop, field_at-take, length-field_at, length-with_field, take-with_field}
 

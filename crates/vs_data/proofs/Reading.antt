@@ -1,12 +1,11 @@
 -- What the answers of `bounds` and `read` say, as facts on numbers in place of tests.
-use Rattle.std.proofs.Common.{◌≡◌, ℕ, zero, suc, ◌+◌, ◌-◌, ◌*◌, ◌<◌, ◌≤◌, ◌^◌, ◌⊎◌, Bool, true, false, not, ◌==◌, nat_lt, List, [], ◌∷◌, length, Option, None, Some, Result, Ok, Err, refl, sym, ap, ◌∙◌, subst, arith, ⊎_elim, cond}
+use Rattle.std.proofs.Common.{◌≡◌, ℕ, zero, suc, ◌+◌, ◌*◌, ◌<◌, ◌≤◌, ◌⊎◌, Bool, true, false, not, List, length, Option, None, Some, Result, Ok, Err, refl, sym, ap, subst, arith, ⊎_elim, cond}
 use Rattle.std.proofs.lemmas.Bool.Decides.{nat_tests}
 use Rattle.std.proofs.lemmas.Bool.{cases_lt}
 use Rattle.std.specs.List.{find, range_with_len}
 use Rattle.vs_bytes.specs.Fields.{Little, number_at}
 use Rattle.vs_data.specs.declared.DataView.{DataView}
 use Rattle.vs_data.specs.declared.DataErr.{DataErr}
-use Rattle.vs_data.specs.declared.DataErr.TheVariants.{BadId, BadBounds, BadIndex}
 use Rattle.vs_data.specs.Blocks.{bounds_in, count_in, end_at, first_bad, is_good_entry, is_line, start_at, text_end_in, text_start_in, view_in, view_of, with_index}
 
 -- what `bounds` looks at

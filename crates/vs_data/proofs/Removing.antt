@@ -1,12 +1,12 @@
 -- A line that is taken out of a block: the text and the index close, and each line is one of the old ones.
-use Rattle.std.proofs.Common.{◌≡◌, ℕ, zero, suc, ◌+◌, ◌-◌, ◌*◌, ◌/◌, ◌%◌, ◌^◌, ◌<◌, ◌≤◌, true, map, List, length, take, drop, Some, Ok, refl, sym, ap, ◌∙◌, inl, inr, subst, ⊎_elim, arith}
+use Rattle.std.proofs.Common.{◌≡◌, ℕ, zero, suc, ◌+◌, ◌-◌, ◌*◌, ◌/◌, ◌%◌, ◌^◌, ◌<◌, ◌≤◌, map, List, length, take, drop, Some, Ok, refl, sym, ap, ◌∙◌, inl, inr, subst, ⊎_elim, arith}
 use Rattle.std.specs.List.{range_with_len, remove}
 use Rattle.std.specs.Option.{option_map}
 use Rattle.std.proofs.lemmas.Bool.{cases_lt}
 use Rattle.vs_bytes.specs.Fields.{Little, field_at, number_at, number_of, with_field}
 use Rattle.vs_bytes.proofs.FieldLaws.{length-field_at}
 use Rattle.vs_data.specs.declared.DataView.{DataView}
-use Rattle.vs_data.specs.Blocks.{KeepsFrame, count_in, each_line, end_at, entry_at, free_field, free_space, is_line, line_at, lines_in, mark_at, marks_in, start_at, text_end_in, text_start_in, view_in}
+use Rattle.vs_data.specs.Blocks.{KeepsFrame, count_in, each_line, end_at, entry_at, line_at, lines_in, mark_at, marks_in, start_at, text_end_in, text_start_in, view_in}
 use Rattle.vs_data.proofs.Entries.{EntriesMoved, entry_after, entry_before}
 use Rattle.vs_data.proofs.Headers.{HasHeader, header_view, same_id}
 use Rattle.vs_data.proofs.Lines.{lines_are}

@@ -1,13 +1,13 @@
 -- A block that is split: the first lines stay where they are, and the others are copied with their places moved.
-use Rattle.std.proofs.Common.{◌≡◌, ℕ, zero, suc, ◌+◌, ◌-◌, ◌*◌, ◌/◌, ◌%◌, ◌^◌, ◌<◌, ◌≤◌, ◌⊎◌, true, map, List, length, take, drop, Some, Ok, refl, sym, ap, ◌∙◌, inl, inr, subst, ⊎_elim, arith}
+use Rattle.std.proofs.Common.{◌≡◌, ℕ, zero, suc, ◌+◌, ◌-◌, ◌*◌, ◌/◌, ◌%◌, ◌^◌, ◌<◌, ◌≤◌, map, List, length, take, drop, Some, Ok, refl, sym, ap, ◌∙◌, inl, inr, subst, ⊎_elim, arith}
 use Rattle.std.specs.List.{range_with_len}
 use Rattle.std.specs.Option.{option_map}
 use Rattle.std.proofs.lemmas.Bool.{cases_lt}
 use Rattle.vs_bytes.specs.Fields.{Little, field_at, number_at, number_of, with_field}
 use Rattle.vs_bytes.proofs.FieldLaws.{length-field_at}
 use Rattle.vs_data.specs.declared.DataView.{DataView}
-use Rattle.vs_data.specs.Blocks.{KeepsFrame, count_in, each_line, end_at, entry_at, free_field, free_space, id_bytes, is_line, line_at, lines_in, mark_at, marks_in, start_at, text_end_in, text_start_in, view_in}
-use Rattle.vs_data.proofs.Entries.{EntriesMoved, entry_after, entry_before}
+use Rattle.vs_data.specs.Blocks.{HasRest, KeepsFrame, count_in, each_line, end_at, entry_at, id_bytes, line_at, lines_in, mark_at, marks_in, start_at, text_end_in, text_start_in, view_in}
+use Rattle.vs_data.proofs.Entries.{EntriesMoved, entry_after}
 use Rattle.vs_data.proofs.Headers.{HasHeader, header_view, same_id}
 use Rattle.vs_data.proofs.Lines.{lines_are}
 use Rattle.vs_data.proofs.Lists.{map-drop, map-take}
@@ -87,7 +87,7 @@ module _ (old new : List ℕ) (view : DataView) (from : ℕ) (has : FirstLines o
       }
 
 -- a block with lines from `from` on, whose text goes to the end of a block as long, where it begins at `to`
-pub record HasRest (old : List ℕ) (from to : ℕ) : Type 0 where
+pub record RestFits (old : List ℕ) (from to : ℕ) : Type 0 where
   pub block : IsBlock old
   pub within : from ≤ count_in old
   pub to_is : to + end_at old from ≡ length old + text_start_in old
@@ -101,7 +101,7 @@ pub record CopiesRest (old new : List ℕ) (from to : ℕ) : Type 0 where
   pub text : (place moved width : ℕ) → text_start_in old ≤ place → place + width ≤ end_at old from → moved + text_start_in old ≡ place + to
       → field_at new moved width ≡ field_at old place width
 
-module _ (old new : List ℕ) (from to : ℕ) (has : HasRest old from to) (copies : CopiesRest old new from to) where
+module _ (old new : List ℕ) (from to : ℕ) (has : RestFits old from to) (copies : CopiesRest old new from to) where
   rest_start : (k : ℕ) → from + k < count_in old → MovedStart (entry_at old (from + k)) (entry_at new k) (text_start_in old) to
   rest_start k within =
       let bounds = has.block.bounds in
@@ -164,7 +164,7 @@ module _ (old new : List ℕ) (from to : ℕ) (has : HasRest old from to) (copie
       ∙ map-drop (λ k. mark_at old k) (λ k. mark_at new k) (count_in old) from has.within (λ k within. (rest_line k within).mark)
 
 -- the index entries that are copied
-pub entries_copied : (old text index : List ℕ) (from to : ℕ) → HasRest old from to → length text ≡ length old
+pub entries_copied : (old text index : List ℕ) (from to : ℕ) → RestFits old from to → length text ≡ length old
     → index ≡ with_field text 24 (field_at old (24 + 4 * from) (4 * (count_in old - from)))
     → (k : ℕ) → from + k < count_in old → entry_at index k ≡ entry_at old (from + k)
 entries_copied old text index from to has long is k within =
@@ -184,7 +184,7 @@ pub record RestSteps (old fresh text index starts new : List ℕ) (view : DataVi
   pub header : HasHeader starts new view
   pub text_end : view.text_end ≡ length old
 
-pub copies_rest : (old fresh text index starts new : List ℕ) (view : DataView) (from to : ℕ) → HasRest old from to → RestSteps old fresh text index starts new view from to
+pub copies_rest : (old fresh text index starts new : List ℕ) (view : DataView) (from to : ℕ) → RestFits old from to → RestSteps old fresh text index starts new view from to
     → CopiesRest old new from to × (take 4 new ≡ take 4 fresh)
 copies_rest old fresh text index starts new view from to has steps =
     let n : ℕ = count_in old in
@@ -222,17 +222,9 @@ copies_rest old fresh text index starts new view from to has steps =
       kept.before ∙ (kept_in_more fresh text to (length old) 4 (length old) text_kept (omega arith) (omega arith)).before,
     )
 
--- what is said of the new block
-pub record Rest (old new : List ℕ) (view : DataView) (from : ℕ) : Type 0 where
-  pub is : view_in new ≡ Ok view
-  pub lines : lines_in new ≡ option_map (λ lines. drop from lines) (lines_in old)
-  pub marks : marks_in new ≡ drop from (marks_in old)
-  pub free : free_field new ≡ free_space view
-  pub front : take 4 new ≡ id_bytes
-
-pub rest_copied : (old fresh text index starts new : List ℕ) (before view : DataView) (from to : ℕ) → HasRest old from to → view_in old ≡ Ok before
+pub rest_copied : (old fresh text index starts new : List ℕ) (before view : DataView) (from to : ℕ) → RestFits old from to → view_in old ≡ Ok before
     → RestSteps old fresh text index starts new view from to → view.count ≡ count_in old - from → view.text_start ≡ to
-    → Rest old new view from
+    → HasRest old from new view
 rest_copied old fresh text index starts new before view from to has e steps count start =
     let both = copies_rest old fresh text index starts new view from to has steps in
     let copies = both.0 in
@@ -240,7 +232,10 @@ rest_copied old fresh text index starts new before view from to has e steps coun
     let block = rest_block old new from to has copies many (steps.header.start ∙ start) (same_id fresh new both.1 ∙ steps.id) in
     let is : view_in new ≡ Ok view = view_answer new block ∙ ap Ok (header_view starts new view steps.header) in
     record {
-      is = is;
+      count = count;
+      start = omega (arith, has.to_is);
+      end = steps.text_end;
+      answer = is;
       lines = lines_are new view is ∙ ap Some (rest_lines old new from to has copies many) ∙ sym (ap (option_map (λ lines. drop from lines)) (lines_are old before e));
       marks = rest_marks old new from to has copies many;
       free = steps.header.free;

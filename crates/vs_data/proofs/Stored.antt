@@ -1,12 +1,12 @@
 -- A line by its bytes alone, the zero byte among them, so that it is the same line wherever these bytes stand.
-use Rattle.std.proofs.Common.{◌≡◌, ◌≢◌, ℕ, ◌+◌, ◌-◌, ◌*◌, ◌/◌, ◌%◌, ◌^◌, ◌<◌, ◌≤◌, Bool, true, not, ◌&&◌, ◌==◌, nat_lt, List, [], ◌∷◌, ◌++◌, length, take, drop, slice_index, slice_range, refl, sym, ap, ◌∙◌, arith, length-append, length-drop}
+use Rattle.std.proofs.Common.{◌≡◌, ◌≢◌, ℕ, ◌+◌, ◌-◌, ◌/◌, ◌%◌, ◌^◌, ◌<◌, ◌≤◌, Bool, true, not, ◌&&◌, ◌==◌, nat_lt, List, [], ◌∷◌, ◌++◌, length, take, drop, slice_index, slice_range, refl, sym, ap, ◌∙◌, arith, length-append}
 use Rattle.std.specs.List.{All, list_all}
 use Rattle.std.proofs.lemmas.Bool.Decides.{nat_tests}
-use Rattle.std.proofs.lemmas.List.{get_or-drop, get_or-take, get_or_at, length-take-le, take_at, take-take}
+use Rattle.std.proofs.lemmas.List.{get_or-drop, get_or-take, get_or_at, take_at, take-take}
 use Rattle.std.proofs.lemmas.List.Sums.{list_all-from_AllPass}
 use Rattle.vs_bytes.specs.Fields.{field_at}
 use Rattle.vs_bytes.proofs.FieldLaws.{length-field_at}
-use Rattle.vs_data.specs.Blocks.{end_at, entry_at, is_line, line_at, mark_at, start_at}
+use Rattle.vs_data.specs.Blocks.{end_at, is_line, line_at, mark_at, start_at}
 
 -- the bytes end in a zero byte and have no other
 abbrev pub is_stored : List ℕ → Bool

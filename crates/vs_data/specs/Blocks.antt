@@ -1,5 +1,5 @@
 -- A data block: stored lines of a text. Places are bytes of the block, and lines are counted from 0.
-use Rattle.std.specs.Prelude.{◌≡◌, ◌≢◌, ℕ, zero, suc, ◌+◌, ◌-◌, ◌*◌, ◌/◌, ◌%◌, ◌^◌, ◌<◌, ◌≤◌, Bool, not, ◌&&◌, ◌||◌, if◌then◌else◌, ◌==◌, nat_le, nat_lt, List, [], ◌∷◌, ◌++◌, length, take, drop, map, slice_index, slice_range, Option, None, Some, Result, Ok, Err}
+use Rattle.std.specs.Prelude.{◌≡◌, ℕ, zero, suc, ◌+◌, ◌-◌, ◌*◌, ◌/◌, ◌%◌, ◌^◌, ◌<◌, ◌≤◌, Bool, not, ◌&&◌, ◌||◌, if◌then◌else◌, ◌==◌, nat_le, nat_lt, List, [], ◌∷◌, ◌++◌, length, take, drop, map, slice_index, slice_range, Option, None, Some, Result, Ok, Err}
 use Rattle.std.specs.Option.{option_map}
 use Rattle.std.specs.Result.{result_ok}
 use Rattle.std.specs.List.{find, list_all, range_with_len, sum_by}
@@ -127,6 +127,17 @@ abbrev pub header_of : DataView → List ℕ
 header_of view =
     bytes_of Little 4 (free_space view) ++ bytes_of Little 4 view.text_start ++ bytes_of Little 4 view.text_end
     ++ bytes_of Little 8 view.count
+
+-- a block with the lines of another from one line on, at its end
+pub record HasRest (old : List ℕ) (from : ℕ) (new : List ℕ) (view : DataView) : Type 0 where
+  pub count : view.count ≡ count_in old - from
+  pub start : view.text_start + end_at old from ≡ length old + text_start_in old
+  pub end : view.text_end ≡ length old
+  pub answer : view_in new ≡ Ok view
+  pub lines : lines_in new ≡ option_map (λ lines. drop from lines) (lines_in old)
+  pub marks : marks_in new ≡ drop from (marks_in old)
+  pub free : free_field new ≡ free_space view
+  pub front : take 4 new ≡ id_bytes
 
 -- the length of a block: whole pages, no more than a block of one line has
 pub record IsBlockLength (n : ℕ) : Type 0 where

@@ -9,7 +9,7 @@ ghost use Rattle.std.specs.Prelude.{◌≡◌, ◌≢◌, ◌+◌, ◌-◌, ◌*
 ghost use Rattle.std.specs.List.{All, insert, list_all, remove};
 ghost use Rattle.std.specs.Option.{option_and_then, option_map};
 ghost use Rattle.vs_bytes.specs.Fields.{Little, field_at, with_field, with_number};
-ghost use Rattle.vs_data.specs.Blocks.{IsBlockLength, KeepsFrame, Measures, bounds_in, end_at, entry_at, first_bad, free_field, free_space, header_of, id_bytes, is_good_entry, is_line, lines_in, marks_in, start_at, view_in};
+ghost use Rattle.vs_data.specs.Blocks.{HasRest, IsBlockLength, KeepsFrame, Measures, bounds_in, end_at, entry_at, first_bad, free_space, header_of, id_bytes, is_good_entry, is_line, lines_in, marks_in, start_at, view_in};
 
 use vs_bytes::{le_u16, le_u32, le_u64, put_le_u16, put_le_u32, put_le_u64};
 
@@ -38,12 +38,14 @@ pub struct DataView {
     pub text_end: u32,
 }
 
-/// Why bytes are no data block: another identifier, a header whose bounds do not hold, or an index entry that is not that of
-/// a line. `BadIndex` has the number of the first such line. docs/FORMATS.md, "Data blocks".
+/// Why bytes are no data block. docs/FORMATS.md, "Data blocks".
 #[derive(Clone, Copy, Debug, PartialEq, Eq)]
 pub enum DataErr {
+    /// The identifier differs, or there are fewer bytes than a header has.
     BadId,
+    /// Header, index, text and block do not end in this order, or there is text without lines.
     BadBounds,
+    /// This line is the first whose index entry is not that of a line.
     BadIndex(u32),
 }
 
@@ -95,7 +97,10 @@ fn open_text(block: &mut [u8], text_start: usize, end: usize, line: &[u8])
     requires order { text_start ≤ end }
     requires within { end ≤ length block.old }
     requires room { length line.now + 1 ≤ text_start }
-    ensures { let size = length line.now + 1 in let moved = with_field block.old (text_start - size) (field_at block.old text_start (end - text_start)) in block.new ≡ with_field moved (end - size) (line.now ++ 0 ∷ []) }
+    ensures { let size = length line.now + 1 in
+        let text = field_at block.old text_start (end - text_start) in
+        let moved = with_field block.old (text_start - size) text in
+        block.new ≡ with_field moved (end - size) (line.now ++ 0 ∷ []) }
 {
     let size = line.len() + 1;
     move_bytes(block, text_start, end, text_start - size);
@@ -107,7 +112,9 @@ fn open_text(block: &mut [u8], text_start: usize, end: usize, line: &[u8])
 fn open_index(block: &mut [u8], at: u32, count: u32, start: u32)
     requires order { at ≤ count }
     requires room { 24 + 4 * (count + 1) ≤ length block.old }
-    ensures { let moved = with_field block.old (24 + 4 * (at + 1)) (field_at block.old (24 + 4 * at) (4 * (count - at))) in block.new ≡ with_number Little 4 moved (24 + 4 * at) start }
+    ensures { let entries = field_at block.old (24 + 4 * at) (4 * (count - at)) in
+        let moved = with_field block.old (24 + 4 * (at + 1)) entries in
+        block.new ≡ with_number Little 4 moved (24 + 4 * at) start }
 {
     let place = entry_place(at);
     move_bytes(block, place, entry_place(count), place + 4);
@@ -118,7 +125,8 @@ fn open_index(block: &mut [u8], at: u32, count: u32, start: u32)
 fn close_index(block: &mut [u8], at: u32, count: u32)
     requires order { at < count }
     requires within { 24 + 4 * count ≤ length block.old }
-    ensures { block.new ≡ with_field block.old (24 + 4 * at) (field_at block.old (24 + 4 * (at + 1)) (4 * (count - 1 - at))) }
+    ensures { let entries = field_at block.old (24 + 4 * (at + 1)) (4 * (count - 1 - at)) in
+        block.new ≡ with_field block.old (24 + 4 * at) entries }
 {
     let place = entry_place(at);
     move_bytes(block, place + 4, entry_place(count), place);
@@ -246,7 +254,10 @@ impl DataView {
         requires at { at ≤ self.old.count }
         requires fits { length line.now + 5 ≤ free_space self.old }
         requires no_zero { All (λ byte. byte ≢ 0) line.now }
-        ensures header { self.new ≡ record self.old { count = self.old.count + 1; text_start = self.old.text_start - (length line.now + 1) } }
+        ensures header { self.new ≡ record self.old {
+          count = self.old.count + 1;
+          text_start = self.old.text_start - (length line.now + 1);
+        } }
         ensures view { view_in block.new ≡ Ok self.new }
         ensures lines { lines_in block.new ≡ option_map (λ lines. insert lines at line.now) (lines_in block.old) }
         ensures marks { marks_in block.new ≡ insert (marks_in block.old) at 0 }
@@ -268,7 +279,10 @@ impl DataView {
         requires view { view_in block.old ≡ Ok self.old }
         requires places { self.old.text_end ≤ 2 ^ 31 }
         requires at { at < self.old.count }
-        ensures header { self.new ≡ record self.old { count = self.old.count - 1; text_start = self.old.text_start + (end_at block.old at - start_at block.old at) } }
+        ensures header { self.new ≡ record self.old {
+          count = self.old.count - 1;
+          text_start = self.old.text_start + (end_at block.old at - start_at block.old at);
+        } }
         ensures view { view_in block.new ≡ Ok self.new }
         ensures lines { lines_in block.new ≡ option_map (λ lines. remove lines at) (lines_in block.old) }
         ensures marks { marks_in block.new ≡ remove (marks_in block.old) at }
@@ -302,12 +316,7 @@ impl DataView {
         ensures lines { lines_in block.new ≡ option_map (λ lines. take from lines) (lines_in block.old) }
         ensures marks { marks_in block.new ≡ take from (marks_in block.old) }
         ensures frame { KeepsFrame block.old block.new self.new }
-        ensures other_header { result ≡ record { count = self.old.count - from; text_start = length block.old - (end_at block.old from - self.old.text_start); text_end = length block.old } }
-        ensures other_view { view_in other.new ≡ Ok result }
-        ensures other_lines { lines_in other.new ≡ option_map (λ lines. drop from lines) (lines_in block.old) }
-        ensures other_marks { marks_in other.new ≡ drop from (marks_in block.old) }
-        ensures other_free { free_field other.new ≡ free_space result }
-        ensures other_front { take 4 other.new ≡ id_bytes }
+        ensures rest { HasRest block.old from other.new result }
     {
         let end = self.end(block, from);
         let rest = self.copy_rest(block, from, end, other);
@@ -324,12 +333,7 @@ impl DataView {
         requires end { end ≡ end_at block.now from }
         requires as_long { length other.old ≡ length block.now }
         requires length { IsBlockLength (length block.now) }
-        ensures header { result ≡ record { count = self.now.count - from; text_start = length block.now - (end - self.now.text_start); text_end = length block.now } }
-        ensures view { view_in other.new ≡ Ok result }
-        ensures lines { lines_in other.new ≡ option_map (λ lines. drop from lines) (lines_in block.now) }
-        ensures marks { marks_in other.new ≡ drop from (marks_in block.now) }
-        ensures free { free_field other.new ≡ free_space result }
-        ensures front { take 4 other.new ≡ id_bytes }
+        ensures { HasRest block.now from other.new result }
     {
         let fresh = DataView::fresh(other);
         let count = self.count - from;
@@ -342,7 +346,7 @@ impl DataView {
         let rest = DataView {
             count,
             text_start,
-            text_end: fresh.text_end,
+            ..fresh
         };
         rest.write_header(other);
         rest

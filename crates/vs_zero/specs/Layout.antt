@@ -16,6 +16,7 @@ identifier_field = record { at = 0; width = 2 }
 abbrev pub version_field : Field
 version_field = record { at = 2; width = 10 }
 
+-- the size of each page of the file, in bytes
 abbrev pub page_size_field : Field
 page_size_field = record { at = 12; width = 4 }
 
@@ -31,6 +32,7 @@ flags_field = record { at = 1006; width = 1 }
 abbrev pub dirty_field : Field
 dirty_field = record { at = 1007; width = 1 }
 
+-- 0x30313233 as a C `long`, 0x20212223 as an `int`, 0x1213 as a `short` and 0x55 as a `char`
 abbrev pub magic_long_field : Field
 magic_long_field = record { at = 1008; width = 8 }
 

@@ -74,17 +74,20 @@ name_of page = before_first (λ byte. byte == 0) (bytes_in file_name_field page)
 
 -- ---- writing
 
--- what one field is filled with; a text may be shorter than its field
+-- what one field is filled with, from its first byte on
 pub record Content : Type 0 where
   pub field : Field
   pub bytes : List ℕ
 
+-- a number, in all bytes of the field
 abbrev pub number : Field → ℕ → Content
 number field value = record { field = field; bytes = bytes_of Little field.width value }
 
+-- the byte of a field of one
 abbrev pub byte : Field → ℕ → Content
 byte field value = record { field = field; bytes = value ∷ [] }
 
+-- a text from the first byte of the field on
 abbrev pub text : Field → List ℕ → Content
 text field bytes = record { field = field; bytes = bytes }
 
@@ -98,6 +101,7 @@ file_contents zero name =
     ∷ byte dirty_field (if zero.dirty then 0x55 else 0)
     ∷ []
 
+-- the numbers that show byte order and widths
 abbrev pub magic_contents : List Content
 magic_contents =
     number magic_long_field 0x30313233
@@ -106,6 +110,7 @@ magic_contents =
     ∷ byte magic_char_field 0x55
     ∷ []
 
+-- what says of which sync of a pair the file is
 abbrev pub pair_contents : Pair → List Content
 pair_contents pair =
     text pair_tag_field (codes "VSWPAIR1")

@@ -1,5 +1,5 @@
 -- Each turn moves one entry, which was as the caller gave it.
-use Rattle.std.proofs.Common.{◌≡◌, ◌+◌, ◌*◌, ◌-◌, ◌%◌, ◌^◌, ◌<◌, ◌≤◌, ℕ, List, length, sym, ◌∙◌, arith}
+use Rattle.std.proofs.Common.{◌≡◌, ◌+◌, ◌*◌, ◌-◌, ◌%◌, ◌^◌, ◌<◌, ◌≤◌, ℕ, List, length, ◌∙◌, arith}
 use Rattle.vs_bytes.specs.Fields.{Little, number_at, with_number}
 use Rattle.vs_data.specs.Blocks.{entry_at, start_at}
 use Rattle.vs_data.proofs.Entries.{EntriesMoved, entry_after, none_moved, one_more_moved}

@@ -1,18 +1,18 @@
 -- Each step of the code is one of the steps that copy the last lines of a block.
-use Rattle.std.proofs.Common.{◌≡◌, ◌+◌, ◌-◌, ◌*◌, ◌%◌, ◌^◌, ◌<◌, ◌≤◌, ◌++◌, ℕ, List, Ok, length, take, drop, replicate, refl, sym, ap, ◌∙◌, arith, rules}
-use Rattle.vs_bytes.specs.Fields.{Little, field_at, number_at, with_field}
+use Rattle.std.proofs.Common.{◌≡◌, ◌+◌, ◌-◌, ◌*◌, ◌%◌, ◌^◌, ◌<◌, ◌≤◌, ℕ, List, Ok, length, take, drop, refl, ap, ◌∙◌, arith, rules}
+use Rattle.vs_bytes.specs.Fields.{field_at, with_field}
 use Rattle.vs_data.specs.declared.DataView.{DataView}
-use Rattle.vs_data.specs.Blocks.{IsBlockLength, count_in, end_at, entry_at, header_of, id_bytes, start_at, text_start_in, view_in}
+use Rattle.vs_data.specs.Blocks.{HasRest, IsBlockLength, count_in, end_at, entry_at, header_of, id_bytes, start_at, text_start_in, view_in}
 use Rattle.vs_data.proofs.Headers.{HasHeader, header_written}
 use Rattle.vs_data.proofs.Reading.{EndsWithin, HasView, bounds_hold, ends_fall, ends_within, has_view, lies_within, view_bounds, view_holds}
-use Rattle.vs_data.proofs.Splitting.{HasRest, Rest, RestSteps, entries_copied, rest_copied}
+use Rattle.vs_data.proofs.Splitting.{RestFits, entries_copied, rest_copied}
 use Rattle.vs_data.proofs.DataView.copy_rest.Goals as goal
 
 -- what the caller gives
 record Given (old : List ℕ) (view : DataView) (from end to : ℕ) : Type 0 where
   is : view_in old ≡ Ok view
   fields : HasView old view
-  has : HasRest old from to
+  has : RestFits old from to
   ends : EndsWithin old from
   end_is : end ≡ end_at old from
   to_is : to ≡ length old - (end - view.text_start)
@@ -80,7 +80,7 @@ module _ (old : List ℕ) (view : DataView) (from end to : ℕ) (g : Given old v
       → drop (24 + 4 * (view.count - from)) starts ≡ drop (24 + 4 * (view.count - from)) index
       → to < 2 ^ 32 → length old < 2 ^ 32
       → new ≡ with_field starts 4 (header_of after_view)
-      → Rest old new after_view from
+      → HasRest old from new after_view
   all_done fresh text index starts new view' fresh_long e front text_is text_long index_is index_long moved starts_long before after to_fits long_fits new_is =
       let bounds = g.fields.bounds in
       let header : HasHeader starts new after_view = rw new_is (header_written starts after_view (omega arith) (omega (arith, g.fields.count)) to_fits long_fits) in
@@ -171,11 +171,4 @@ returns c =
     let limit = c.requires.length.limit in
     let done = all_done c.args.block.now c.args.self.now c.args.from c.args.end to g c.fresh-fresh.new.block c.put_bytes.new.block c.put_bytes-2.new.block c.move_starts.new.block c.write_header.new.block c.fresh-fresh.result
     (omega arith) c.fresh-fresh.ensures.view front copied (omega arith) indexed (omega arith) moved (omega arith) c.move_starts.ensures.before c.move_starts.ensures.after (omega arith) (omega arith) written in
-    rw fresh_end (record {
-      header = refl;
-      view = done.is;
-      lines = done.lines;
-      marks = done.marks;
-      free = done.free;
-      front = done.front;
-    })
+    rw fresh_end done

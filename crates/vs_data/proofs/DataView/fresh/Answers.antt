@@ -1,7 +1,7 @@
 -- The block is zeros under the header of a view without lines.
-use Rattle.std.proofs.Common.{◌≡◌, ◌≤◌, ◌<◌, ◌^◌, ℕ, List, Ok, length, replicate, refl, sym, ap, ◌∙◌, arith, rules}
+use Rattle.std.proofs.Common.{◌≡◌, ◌≤◌, ◌<◌, ◌^◌, ℕ, List, length, replicate, refl, ap, ◌∙◌, arith, rules}
 use Rattle.vs_bytes.specs.Fields.{Little, with_field, with_number}
-use Rattle.vs_data.specs.Blocks.{header_of, view_in}
+use Rattle.vs_data.specs.Blocks.{header_of}
 use Rattle.vs_data.proofs.Fresh.{fresh_answer, fresh_bytes, fresh_lines, fresh_view, with_id}
 use Rattle.vs_data.proofs.DataView.fresh.Goals as goal
 

@@ -1,12 +1,12 @@
 -- Each step of the code is one of the steps that put a line into a block.
-use Rattle.std.proofs.Common.{◌≡◌, ◌≢◌, ◌+◌, ◌-◌, ◌*◌, ◌^◌, ◌<◌, ◌≤◌, ◌++◌, ◌∷◌, [], ℕ, suc, List, Ok, length, take, drop, refl, sym, ap, ◌∙◌, subst, arith, rules, length-append}
+use Rattle.std.proofs.Common.{◌≡◌, ◌≢◌, ◌+◌, ◌-◌, ◌*◌, ◌^◌, ◌<◌, ◌≤◌, ◌++◌, ◌∷◌, [], ℕ, suc, List, Ok, length, take, drop, refl, ◌∙◌, arith, length-append}
 use Rattle.std.specs.List.{All}
 use Rattle.vs_bytes.specs.Fields.{Little, field_at, with_field, with_number}
 use Rattle.vs_data.specs.declared.DataView.{DataView}
 use Rattle.vs_data.specs.Blocks.{count_in, end_at, entry_at, free_space, header_of, start_at, text_start_in, view_in}
 use Rattle.vs_data.proofs.Entries.{entry_before}
 use Rattle.vs_data.proofs.Headers.{HasHeader, header_written}
-use Rattle.vs_data.proofs.Inserting.{HasRoom, IndexOpened, InsertSteps, Inserted, TextOpened, index_opens, inserted, text_opens}
+use Rattle.vs_data.proofs.Inserting.{HasRoom, IndexOpened, Inserted, TextOpened, index_opens, inserted, text_opens}
 use Rattle.vs_data.proofs.Reading.{HasView, ends_within, has_view, lies_within, view_bounds, view_holds}
 use Rattle.vs_data.proofs.DataView.insert.Goals as goal
 

@@ -1,8 +1,5 @@
 -- The line lies within the text, and is what the list of lines has there.
-use Rattle.std.proofs.Common.{◌≡◌, ◌≢◌, ◌-◌, ℕ, List, Some, slice_get, slice_range, arith, rules}
-use Rattle.std.specs.List.{All}
-use Rattle.std.specs.Option.{option_and_then}
-use Rattle.vs_data.specs.Blocks.{end_at, lines_in, start_at}
+use Rattle.std.proofs.Common.{arith, rules}
 use Rattle.vs_data.proofs.Lines.{line_of_lines, no_zero_in_line}
 use Rattle.vs_data.proofs.Reading.{line_within, view_bounds}
 use Rattle.vs_data.proofs.DataView.line.Goals as goal

@@ -1,8 +1,7 @@
 -- `bounds` and the search of the index answer the two parts of what `read` answers.
-use Rattle.std.proofs.Common.{◌≡◌, Ok, Err, None, Some, refl, sym, ◌∙◌}
+use Rattle.std.proofs.Common.{None, Some, sym, ◌∙◌}
 use Rattle.std.proofs.lemmas.Result.{err_from_is_err_and}
 use Rattle.vs_data.specs.declared.DataErr.TheVariants.{BadIndex}
-use Rattle.vs_data.specs.Blocks.{view_in}
 use Rattle.vs_data.proofs.Lines.{measured, no_lines}
 use Rattle.vs_data.proofs.Reading.{view_found, view_refused}
 use Rattle.vs_data.proofs.DataView.read.Goals as goal

@@ -1,11 +1,11 @@
 -- Each step of the code is one of the steps that take a line out of a block.
-use Rattle.std.proofs.Common.{◌≡◌, ◌+◌, ◌-◌, ◌*◌, ◌%◌, ◌^◌, ◌<◌, ◌≤◌, ℕ, suc, List, Ok, length, take, drop, refl, sym, ap, ◌∙◌, arith, rules}
-use Rattle.vs_bytes.specs.Fields.{Little, field_at, with_field}
+use Rattle.std.proofs.Common.{◌≡◌, ◌+◌, ◌-◌, ◌*◌, ◌%◌, ◌^◌, ◌<◌, ◌≤◌, ℕ, suc, List, Ok, length, take, drop, refl, ap, ◌∙◌, arith}
+use Rattle.vs_bytes.specs.Fields.{field_at, with_field}
 use Rattle.vs_data.specs.declared.DataView.{DataView}
 use Rattle.vs_data.specs.Blocks.{count_in, end_at, entry_at, header_of, start_at, text_start_in, view_in}
 use Rattle.vs_data.proofs.Entries.{entry_before}
 use Rattle.vs_data.proofs.Headers.{HasHeader, header_written}
-use Rattle.vs_data.proofs.Removing.{HasLine, IndexClosed, RemoveSteps, Removed, TextClosed, index_closes, removed, text_closes}
+use Rattle.vs_data.proofs.Removing.{HasLine, IndexClosed, Removed, TextClosed, index_closes, removed, text_closes}
 use Rattle.vs_data.proofs.Reading.{HasView, LiesWithin, ends_fall, ends_within, has_view, lies_within, view_bounds, view_holds}
 use Rattle.vs_data.proofs.DataView.remove.Goals as goal
 

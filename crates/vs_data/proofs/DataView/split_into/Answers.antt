@@ -3,7 +3,7 @@ use Rattle.std.proofs.Common.{◌≡◌, ◌<◌, ◌≤◌, ◌^◌, ℕ, List,
 use Rattle.vs_bytes.specs.Fields.{with_field}
 use Rattle.vs_data.specs.declared.DataView.{DataView}
 use Rattle.vs_data.specs.Blocks.{end_at, header_of, view_in}
-use Rattle.vs_data.proofs.Headers.{HasHeader, header_written}
+use Rattle.vs_data.proofs.Headers.{header_written}
 use Rattle.vs_data.proofs.Reading.{has_view, view_bounds, view_holds}
 use Rattle.vs_data.proofs.Splitting.{FirstLines, first_frame, first_is, first_lines, first_marks}
 use Rattle.vs_data.proofs.DataView.split_into.Goals as goal

@@ -1,5 +1,5 @@
 -- The fields stand one after the other, so their writes are one write.
-use Rattle.std.proofs.Common.{◌≡◌, ℕ, ◌+◌, ◌≤◌, List, ◌++◌, length, ap, ◌∙◌, arith, length-append}
+use Rattle.std.proofs.Common.{◌≡◌, ℕ, ◌≤◌, List, ◌++◌, length, ap, ◌∙◌, arith, length-append}
 use Rattle.vs_bytes.specs.Fields.{Little, bytes_of, with_field, with_number}
 use Rattle.vs_bytes.proofs.FieldLaws.{length-bytes_of}
 use Rattle.vs_data.specs.declared.DataView.{DataView}

@@ -1,0 +1,4 @@
+pub mod MapsLemmas
+pub mod MemoryLemmas
+pub mod Runs
+pub mod TableLemmas

@@ -1,0 +1,4 @@
+pub mod Changes
+pub mod Maps
+pub mod Memory
+pub mod MemoryLaws

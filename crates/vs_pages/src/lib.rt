@@ -1,0 +1,19 @@
+//! Stores of pages: numbered blocks of 4,096 bytes that are changed, committed and rolled back.
+//!
+//! [`Pages`] says what every such store promises. [`MemPages`] keeps its pages in memory, and [`LentPages`] is the same
+//! store over a borrow of them. [`failing::FailingPages`] is for tests of what stands on a store.
+#![tactic(auto)]
+
+mod change;
+pub mod failing;
+mod lent;
+mod memory;
+mod page;
+mod pages;
+mod table;
+#[cfg(test)]
+mod tests;
+
+pub use lent::LentPages;
+pub use memory::MemPages;
+pub use pages::{PAGE_SIZE, PageErr, Pages};

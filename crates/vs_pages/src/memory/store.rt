@@ -1,0 +1,78 @@
+// Pages in memory as a store of pages.
+ghost use Rattle.std.specs.Prelude.{◌≡◌, true};
+ghost use Rattle.vs_pages.specs.Memory.{present_of, committed_of};
+ghost use Rattle.vs_pages.specs.MemoryLaws.{are_present, are_committed};
+
+use super::MemPages;
+use crate::{PageErr, Pages};
+use std::alloc::Global;
+
+impl Pages for MemPages {
+    ghost tells = { true };
+
+    ghost present = { present_of };
+
+    ghost committed = { committed_of };
+
+    ghost faults = { λ _. 0 };
+
+    ghost valid = { λ _. Unit {0} };
+
+    ghost stays = { λ _ _. Unit {0} };
+
+    ghost present_pages = { λ pages _ _. are_present pages };
+
+    ghost committed_pages = { λ pages _ _. are_committed pages };
+
+    ghost stays_itself = { λ _. tt };
+
+    ghost stays_on = { λ _ _ _ _ _. tt };
+
+    fn load(
+        &mut self,
+        _alloc: Global,
+        at: u64,
+        pages: u32,
+        into: &mut Vec<u8>,
+    ) -> Result<(), PageErr> {
+        self.copy_pages(at, pages, into)?;
+        Ok(())
+    }
+
+    fn touch(&mut self, alloc: Global, at: u64, pages: u32, bytes: &[u8]) -> Result<(), PageErr> {
+        let mark = self.changes.len();
+        let outcome = self.write_pages(alloc, at, pages, bytes);
+        self.settle(mark, outcome)
+    }
+
+    fn grow(&mut self, alloc: Global, pages: u32) -> Result<u64, PageErr> {
+        let at = self.vacant_run(pages).ok_or(PageErr::NoMemory)?;
+        let mark = self.changes.len();
+        let outcome = self.add_pages(alloc, at, pages);
+        self.settle(mark, outcome)?;
+        Ok(at)
+    }
+
+    fn free(&mut self, _alloc: Global, at: u64, pages: u32) -> Result<(), PageErr> {
+        let mark = self.changes.len();
+        let outcome = self.remove_pages(at, pages);
+        self.settle(mark, outcome)
+    }
+
+    fn count(&self) -> u64 {
+        self.table.count
+    }
+
+    fn commit(&mut self) {
+        self.changes.clear();
+    }
+
+    fn rollback(&mut self) {
+        self.undo_to(0);
+    }
+
+    // No caller can meet what the trait asks here, since this store tells its maps. So it asks for nothing.
+    fn damaged(&mut self)
+        ensures { self.new ≡ self.old }
+    {}
+}

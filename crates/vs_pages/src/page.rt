@@ -1,0 +1,36 @@
+// One page in memory.
+ghost use Rattle.std.specs.Prelude.{◌≡◌, IfOk, length};
+ghost use Rattle.vs_pages.specs.Maps.{zeros};
+
+use crate::PAGE_SIZE;
+use std::alloc::{AllocError, Global};
+
+#[derive(Drop)]
+pub struct Page {
+    pub bytes: Box<[u8; PAGE_SIZE]>,
+    ghost size: { length bytes.value ≡ 4096 },
+}
+
+impl Page {
+    pub fn zeros(alloc: Global) -> Result<Page, AllocError>
+        ensures { IfOk result (λ page. page.bytes.value ≡ zeros 1) }
+    {
+        let bytes = Box::new(alloc, [0; PAGE_SIZE])?;
+        Ok(Page { bytes })
+    }
+
+    pub fn of(alloc: Global, from: &[u8]) -> Result<Page, AllocError>
+        requires { length from.now ≡ 4096 }
+        ensures { IfOk result (λ page. page.bytes.value ≡ from.now) }
+    {
+        let mut page = Page::zeros(alloc)?;
+        page.bytes.copy_from_slice(from);
+        Ok(page)
+    }
+
+    pub fn as_slice(&self) -> &[u8]
+        ensures { result.now ≡ self.now.bytes.value }
+    {
+        &self.bytes[..]
+    }
+}

@@ -1,0 +1,170 @@
+// What a store of pages promises.
+ghost use Rattle.std.specs.Prelude.{◌≡◌, ◌+◌, ◌*◌, ◌^◌, ◌<◌, ◌≤◌, Bool, ℕ, Some, None, Err, IfOk, OnOk, OnErr, IsSome, IsTrue, length};
+ghost use Rattle.vs_faults.specs.Faults.{Rose};
+ghost use Rattle.vs_pages.specs.Maps.{Map, pages_at, put_pages, without, zeros, IsVacant, HasPages, ArePages};
+
+use std::alloc::{AllocError, AllocFailed, Global};
+
+/// The number of bytes of a page.
+pub const PAGE_SIZE: usize = 4096;
+
+/// Why a store of pages could not do what was asked of it.
+#[derive(Clone, Copy, Debug, PartialEq, Eq)]
+pub enum PageErr {
+    /// Memory was refused.
+    NoMemory,
+    /// What lies below the store failed, and the store's count of faults rose.
+    Failed,
+}
+
+impl From<AllocError> for PageErr {
+    ghost use Rattle.vs_pages.specs.declared.pages.PageErr.TheVariants.{NoMemory};
+
+    ghost from_gives = { λ _ e. e ≡ NoMemory };
+
+    fn from(_error: AllocError) -> Self {
+        PageErr::NoMemory
+    }
+}
+
+impl<T: Drop> From<AllocFailed<T>> for PageErr {
+    ghost use Rattle.vs_pages.specs.declared.pages.PageErr.TheVariants.{NoMemory};
+
+    ghost from_gives = { λ _ e. e ≡ NoMemory };
+
+    fn from(_error: AllocFailed<T>) -> Self {
+        PageErr::NoMemory
+    }
+}
+
+/// A store of pages, seen as a map from page number to 4,096 bytes: once as it is now, and once as it was last
+/// committed.
+///
+/// Page numbers are counted from 0, and neighbouring pages are named by the first number and how many they are. A store
+/// that does not tell its maps promises nothing of what its pages hold, and asks nothing of it.
+///
+/// Every call leaves the store valid and keeps its borrows. The count of faults never falls.
+pub trait Pages {
+    /// Whether stores of this type tell what their pages are.
+    ghost tells: { Bool };
+
+    /// The pages as they are now.
+    ghost present: { Self → Map };
+
+    /// The pages as they were at the last commit.
+    ghost committed: { Self → Map };
+
+    /// How many calls failed below the store.
+    ghost faults: { Self → ℕ };
+
+    /// What every call asks of the store and leaves.
+    ghost valid: { Self → Type 0 };
+
+    /// The second store is the first one some calls later, over the same borrows.
+    ghost stays: { Self → Self → Type 0 };
+
+    /// Makes `into` the bytes of `pages` neighbouring pages from `at` on.
+    ///
+    /// What `into` held before is gone, also after an error. A buffer that is used again takes no memory where it has
+    /// room for the pages.
+    fn load(
+        &mut self,
+        alloc: Global,
+        at: u64,
+        pages: u32,
+        into: &mut Vec<u8>,
+    ) -> Result<(), PageErr>
+        requires valid { valid self.old }
+        requires there { IsTrue tells → IsSome (pages_at (present self.old) at pages) }
+        ensures size { OnOk result (length into.new.items ≡ 4096 * pages) }
+        ensures loaded { OnOk result (IsTrue tells → pages_at (present self.old) at pages ≡ Some into.new.items) }
+        ensures present { IsTrue tells → present self.new ≡ present self.old }
+        ensures committed { IsTrue tells → committed self.new ≡ committed self.old }
+        ensures later { faults self.old ≤ faults self.new }
+        ensures failed { result ≡ Err PageErr.Failed → Rose (faults self.old) (faults self.new) }
+        ensures valid { valid self.new }
+        ensures stays { stays self.old self.new };
+
+    /// Writes `pages` neighbouring pages from `at` on, which are there already.
+    fn touch(&mut self, alloc: Global, at: u64, pages: u32, bytes: &[u8]) -> Result<(), PageErr>
+        requires valid { valid self.old }
+        requires there { IsTrue tells → IsSome (pages_at (present self.old) at pages) }
+        requires size { length bytes.now ≡ 4096 * pages }
+        ensures ok { OnOk result (IsTrue tells → present self.new ≡ put_pages (present self.old) at pages bytes.now) }
+        ensures err { OnErr result (IsTrue tells → present self.new ≡ present self.old) }
+        ensures committed { IsTrue tells → committed self.new ≡ committed self.old }
+        ensures later { faults self.old ≤ faults self.new }
+        ensures failed { result ≡ Err PageErr.Failed → Rose (faults self.old) (faults self.new) }
+        ensures valid { valid self.new }
+        ensures stays { stays self.old self.new };
+
+    /// Adds `pages` neighbouring pages of zeros, and gives the number of the first.
+    ///
+    /// All page numbers lie below 2^40, on a store that does not tell its maps too. A store that would pass this bound
+    /// answers `NoMemory`.
+    fn grow(&mut self, alloc: Global, pages: u32) -> Result<u64, PageErr>
+        requires valid { valid self.old }
+        ensures bound { IfOk result (λ at. at + pages ≤ 2 ^ 40) }
+        ensures vacant { IfOk result (λ at. IsTrue tells → IsVacant (present self.old) at pages) }
+        ensures ok { IfOk result (λ at. IsTrue tells → present self.new ≡ put_pages (present self.old) at pages (zeros pages)) }
+        ensures err { OnErr result (IsTrue tells → present self.new ≡ present self.old) }
+        ensures committed { IsTrue tells → committed self.new ≡ committed self.old }
+        ensures later { faults self.old ≤ faults self.new }
+        ensures failed { result ≡ Err PageErr.Failed → Rose (faults self.old) (faults self.new) }
+        ensures valid { valid self.new }
+        ensures stays { stays self.old self.new };
+
+    /// Takes `pages` neighbouring pages from `at` on out of the store.
+    fn free(&mut self, alloc: Global, at: u64, pages: u32) -> Result<(), PageErr>
+        requires valid { valid self.old }
+        requires there { IsTrue tells → IsSome (pages_at (present self.old) at pages) }
+        ensures ok { OnOk result (IsTrue tells → present self.new ≡ without (present self.old) at pages) }
+        ensures err { OnErr result (IsTrue tells → present self.new ≡ present self.old) }
+        ensures committed { IsTrue tells → committed self.new ≡ committed self.old }
+        ensures later { faults self.old ≤ faults self.new }
+        ensures failed { result ≡ Err PageErr.Failed → Rose (faults self.old) (faults self.new) }
+        ensures valid { valid self.new }
+        ensures stays { stays self.old self.new };
+
+    /// The number of pages, which takes no memory.
+    fn count(&self) -> u64
+        requires valid { valid self.now }
+        ensures { IsTrue tells → HasPages (present self.now) result };
+
+    /// Makes the pages as they are now the committed ones. Takes no memory.
+    fn commit(&mut self)
+        requires valid { valid self.old }
+        ensures present { IsTrue tells → present self.new ≡ present self.old }
+        ensures committed { IsTrue tells → committed self.new ≡ present self.old }
+        ensures faults { faults self.new ≡ faults self.old }
+        ensures valid { valid self.new }
+        ensures stays { stays self.old self.new };
+
+    /// Goes back to the committed pages. Takes no memory.
+    fn rollback(&mut self)
+        requires valid { valid self.old }
+        ensures present { IsTrue tells → present self.new ≡ committed self.old }
+        ensures committed { IsTrue tells → committed self.new ≡ committed self.old }
+        ensures faults { faults self.new ≡ faults self.old }
+        ensures valid { valid self.new }
+        ensures stays { stays self.old self.new };
+
+    /// Counts a fault: the caller found that bytes which were read back are not those that were written.
+    fn damaged(&mut self)
+        requires valid { valid self.old }
+        requires silent { IsTrue tells → ⊥ }
+        ensures rose { Rose (faults self.old) (faults self.new) }
+        ensures present { IsTrue tells → present self.new ≡ present self.old }
+        ensures committed { IsTrue tells → committed self.new ≡ committed self.old }
+        ensures later { faults self.old ≤ faults self.new }
+        ensures valid { valid self.new }
+        ensures stays { stays self.old self.new };
+
+    ghost present_pages: { (p : Self) → valid p → IsTrue tells → ArePages (present p) };
+
+    ghost committed_pages: { (p : Self) → valid p → IsTrue tells → ArePages (committed p) };
+
+    ghost stays_itself: { (p : Self) → stays p p };
+
+    ghost stays_on: { (p q r : Self) → stays p q → stays q r → stays p r };
+}
