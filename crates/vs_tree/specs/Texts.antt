@@ -1,0 +1,28 @@
+-- What a text that is kept in pages has.
+use Rattle.std.specs.Prelude.{◌≡◌, ℕ, ◌≤◌, List, length, Bool, IsTrue}
+use Rattle.vs_pages.specs.Maps.{Map}
+use Rattle.vs_text.specs.Text.{IsText, bytes_of, stored}
+use Rattle.vs_text.specs.Limits.{IsWithinLimits}
+use Rattle.vs_text.specs.declared.TheConstants.{MAX_LINES, MAX_TEXT_BYTES}
+use Rattle.vs_tree_laws.specs.Trees.{HasLines}
+use Rattle.vs_tree_blocks.specs.Blocks.{tree_format}
+use Rattle.vs_tree.specs.declared.texts.Extent.{Extent}
+
+-- The pages have this text: the lines of their tree are its stored form, and the numbers are its numbers.
+pub record HasText (m : Map) (extent : Extent) (text : List (List ℕ)) : Type 0 where
+  pub tree : HasLines tree_format m extent.height (stored text)
+  pub lines : length text ≡ extent.lines
+  pub bytes : bytes_of text ≡ extent.bytes
+  pub is_text : IsText text
+  pub within : IsWithinLimits text
+
+-- Where the pages are told they have a text with these numbers.
+pub record Fits (tells : Bool) (m : Map) (extent : Extent) : Type 0 where
+  pub few : extent.lines ≤ MAX_LINES
+  pub few_bytes : extent.bytes ≤ MAX_TEXT_BYTES
+  pub one : IsTrue tells → (text : List (List ℕ)) × HasText m extent text
+
+-- A store that tells has this text.
+pub record Tells (tells : Bool) (m : Map) (extent : Extent) (text : List (List ℕ)) : Type 0 where
+  pub told : IsTrue tells
+  pub has : HasText m extent text

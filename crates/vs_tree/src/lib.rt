@@ -1,0 +1,16 @@
+//! The text of a session as a tree of blocks in the pages of a store.
+#![tactic(auto)]
+
+mod change;
+mod runs;
+#[cfg(test)]
+mod tests;
+mod texts;
+mod tree;
+mod walk;
+
+pub use change::edit_tree;
+pub use runs::{Taken, put_lines, put_stored, take_lines};
+pub use texts::{Extent, splice_text};
+pub use tree::{LineTree, TreeStore};
+pub use walk::load_stored;

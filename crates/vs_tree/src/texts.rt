@@ -1,0 +1,166 @@
+// The text of the tree, spliced.
+ghost use Rattle.std.specs.Prelude.{◌≡◌, ◌≤◌, ◌<◌, ◌+◌, ◌-◌, ◌^◌, [], ℕ, List, All, Err, IfOk, IsTrue, length};
+ghost use Rattle.vs_faults.specs.Faults.{Rose};
+ghost use Rattle.vs_text.specs.Text.{IsText, bytes_of};
+ghost use Rattle.vs_text.specs.Limits.{IsShort};
+ghost use Rattle.vs_text.specs.declared.TheConstants.{MAX_LINES, MAX_TEXT_BYTES};
+ghost use Rattle.vs_edit.specs.Splices.{splice};
+ghost use Rattle.vs_tree.specs.Texts.{HasText, Fits};
+
+use crate::{put_lines, put_stored, take_lines};
+use std::alloc::Global;
+use vs_pages::{PageErr, Pages};
+use vs_text::Line;
+
+/// The numbers of a text in pages: the number of levels between block 1 and the data blocks, and the numbers of lines and
+/// bytes of the text, with one byte for each line end. The text without lines has the lines of one empty line in its tree.
+#[derive(Clone, Copy, Debug, PartialEq, Eq)]
+pub struct Extent {
+    pub height: u64,
+    pub lines: u64,
+    pub bytes: u64,
+}
+
+// The number of bytes of lines, with one for each line end.
+fn count_bytes(lines: &[Line]) -> u64
+    requires short { All IsShort lines.now }
+    requires few { length lines.now ≤ 2 ^ 24 }
+    ensures bytes { result ≡ bytes_of lines.now }
+    ensures bound { result ≤ 2 ^ 45 }
+    ensures lines { IsText lines.now }
+{
+    let mut bytes: u64 = 0;
+    for line in lines {
+        bytes += line.bytes().len() as u64 + 1;
+    }
+    bytes
+}
+
+// Puts lines into the text without lines.
+fn fill_text<P: Pages>(
+    alloc: Global,
+    pages: &mut P,
+    now: Extent,
+    new: &[Line],
+) -> Result<Extent, PageErr>
+    requires valid { P.valid pages.old }
+    requires fits { Fits P.tells (P.present pages.old) now }
+    requires empty { now.lines ≡ 0 }
+    requires few_lines { length new.now ≤ MAX_LINES }
+    requires short_lines { All IsShort new.now }
+    requires few_bytes { IsTrue P.tells → bytes_of new.now ≤ MAX_TEXT_BYTES }
+    ensures text { IfOk result (λ extent. IsTrue P.tells → HasText (P.present pages.new) extent new.now) }
+    ensures lines { IfOk result (λ extent. extent.lines ≡ length new.now) }
+    ensures committed { IsTrue P.tells → P.committed pages.new ≡ P.committed pages.old }
+    ensures later { P.faults pages.old ≤ P.faults pages.new }
+    ensures failed { result ≡ Err PageErr.Failed → Rose (P.faults pages.old) (P.faults pages.new) }
+    ensures valid { P.valid pages.new }
+    ensures stays { P.stays pages.old pages.new }
+{
+    if new.is_empty() {
+        return Ok(now);
+    }
+    let height = put_lines(alloc, pages, now.height, 0, new)?;
+    let taken = take_lines(alloc, pages, height, new.len() as u64, 1)?;
+    Ok(Extent {
+        height: taken.height,
+        lines: new.len() as u64,
+        bytes: count_bytes(new),
+    })
+}
+
+// Takes out all lines of a text that has lines.
+fn clear_text<P: Pages>(alloc: Global, pages: &mut P, now: Extent) -> Result<Extent, PageErr>
+    requires valid { P.valid pages.old }
+    requires fits { Fits P.tells (P.present pages.old) now }
+    requires full { 0 < now.lines }
+    ensures text { IfOk result (λ extent. IsTrue P.tells → HasText (P.present pages.new) extent []) }
+    ensures lines { IfOk result (λ extent. extent.lines ≡ 0) }
+    ensures committed { IsTrue P.tells → P.committed pages.new ≡ P.committed pages.old }
+    ensures later { P.faults pages.old ≤ P.faults pages.new }
+    ensures failed { result ≡ Err PageErr.Failed → Rose (P.faults pages.old) (P.faults pages.new) }
+    ensures valid { P.valid pages.new }
+    ensures stays { P.stays pages.old pages.new }
+{
+    let height = put_stored(alloc, pages, now.height, 0, &[])?;
+    let taken = take_lines(alloc, pages, height, 1, now.lines)?;
+    Ok(Extent {
+        height: taken.height,
+        lines: 0,
+        bytes: 0,
+    })
+}
+
+// Puts lines in place of others, where lines stay or come.
+fn replace_lines<P: Pages>(
+    alloc: Global,
+    pages: &mut P,
+    now: Extent,
+    top: u64,
+    old: u64,
+    new: &[Line],
+) -> Result<Extent, PageErr>
+    requires valid { P.valid pages.old }
+    requires fits { Fits P.tells (P.present pages.old) now }
+    requires full { 0 < now.lines }
+    requires within { top + old ≤ now.lines }
+    requires left { old < now.lines + length new.now }
+    requires few_lines { now.lines + length new.now ≤ MAX_LINES + old }
+    requires short_lines { All IsShort new.now }
+    requires few_bytes { IsTrue P.tells → (text : List (List ℕ)) → HasText (P.present pages.old) now text → bytes_of (splice text top old new.now) ≤ MAX_TEXT_BYTES }
+    ensures text { IfOk result (λ extent. IsTrue P.tells → (text : List (List ℕ)) → HasText (P.present pages.old) now text → HasText (P.present pages.new) extent (splice text top old new.now)) }
+    ensures lines { IfOk result (λ extent. extent.lines + old ≡ now.lines + length new.now) }
+    ensures committed { IsTrue P.tells → P.committed pages.new ≡ P.committed pages.old }
+    ensures later { P.faults pages.old ≤ P.faults pages.new }
+    ensures failed { result ≡ Err PageErr.Failed → Rose (P.faults pages.old) (P.faults pages.new) }
+    ensures valid { P.valid pages.new }
+    ensures stays { P.stays pages.old pages.new }
+{
+    let height = put_lines(alloc, pages, now.height, top, new)?;
+    let taken = take_lines(alloc, pages, height, top + new.len() as u64, old)?;
+    let Some(sum) = now.bytes.checked_add(count_bytes(new)) else {
+        pages.damaged();
+        return Err(PageErr::Failed);
+    };
+    let Some(bytes) = sum.checked_sub(taken.bytes) else {
+        pages.damaged();
+        return Err(PageErr::Failed);
+    };
+    Ok(Extent {
+        height: taken.height,
+        lines: now.lines + new.len() as u64 - old,
+        bytes,
+    })
+}
+
+/// Puts lines in place of `old` lines of the text from line `top` on, counted from 0, and gives its numbers then.
+pub fn splice_text<P: Pages>(
+    alloc: Global,
+    pages: &mut P,
+    now: Extent,
+    top: u64,
+    old: u64,
+    new: &[Line],
+) -> Result<Extent, PageErr>
+    requires valid { P.valid pages.old }
+    requires fits { Fits P.tells (P.present pages.old) now }
+    requires within { top + old ≤ now.lines }
+    requires few_lines { now.lines + length new.now ≤ MAX_LINES + old }
+    requires short_lines { All IsShort new.now }
+    requires few_bytes { IsTrue P.tells → (text : List (List ℕ)) → HasText (P.present pages.old) now text → bytes_of (splice text top old new.now) ≤ MAX_TEXT_BYTES }
+    ensures text { IfOk result (λ extent. IsTrue P.tells → (text : List (List ℕ)) → HasText (P.present pages.old) now text → HasText (P.present pages.new) extent (splice text top old new.now)) }
+    ensures lines { IfOk result (λ extent. extent.lines + old ≡ now.lines + length new.now) }
+    ensures committed { IsTrue P.tells → P.committed pages.new ≡ P.committed pages.old }
+    ensures later { P.faults pages.old ≤ P.faults pages.new }
+    ensures failed { result ≡ Err PageErr.Failed → Rose (P.faults pages.old) (P.faults pages.new) }
+    ensures valid { P.valid pages.new }
+    ensures stays { P.stays pages.old pages.new }
+{
+    if now.lines == 0 {
+        return fill_text(alloc, pages, now, new);
+    }
+    if new.is_empty() && old == now.lines {
+        return clear_text(alloc, pages, now);
+    }
+    replace_lines(alloc, pages, now, top, old, new)
+}

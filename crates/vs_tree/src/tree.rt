@@ -1,0 +1,241 @@
+// The tree of a text, and the store that it makes with pages.
+ghost use Rattle.std.specs.Prelude.{◌≡◌, ◌≤◌, ◌<◌, ◌+◌, [], ℕ, List, All, Err, IfOk, OnOk, IsTrue, IsSome, get_or, length, refl};
+ghost use Rattle.std.proofs.Common.{◌∙◌};
+ghost use Rattle.vs_faults.specs.Faults.{Rose};
+ghost use Rattle.vs_pages.specs.Maps.{pages_at};
+ghost use Rattle.vs_text.specs.Text.{IsLine, bytes_of};
+ghost use Rattle.vs_text.specs.Limits.{IsShort};
+ghost use Rattle.vs_text.specs.declared.TheConstants.{MAX_LINES, MAX_TEXT_BYTES};
+ghost use Rattle.vs_edit.specs.Splices.{splice};
+
+use crate::{Extent, load_stored, splice_text};
+use std::alloc::Global;
+use vs_edit::{LineStore, StoreErr};
+use vs_pages::{PageErr, Pages};
+use vs_text::{Line, MAX_LINE_BYTES, MAX_TEXT_BYTES, from_stored};
+use vs_tree_blocks::write_first;
+
+/// The text of a session as a tree of blocks in pages that are lent: its numbers as they are now, and as they were when the
+/// text was last committed.
+///
+/// Block 1 is the root and a pointer block. All data blocks lie as many levels below it as the tree's own height says, so no
+/// walk goes deeper than that, whatever a page holds. docs/FORMATS.md, Pointer blocks and Data blocks.
+#[derive(Clone, Copy, Debug, PartialEq, Eq)]
+pub struct LineTree {
+    pub present: Extent,
+    pub committed: Extent,
+}
+
+impl LineTree {
+    ghost use Rattle.vs_tree.specs.Texts.{HasText, Fits};
+
+    /// Writes the tree of the text without lines into the pages 1 and 2, and commits the pages.
+    pub fn new<P: Pages>(alloc: Global, pages: &mut P) -> Result<LineTree, PageErr>
+        requires valid { P.valid pages.old }
+        requires there { IsTrue P.tells → IsSome (pages_at (P.present pages.old) 1 2) }
+        ensures fits { IfOk result (λ tree. Fits P.tells (P.present pages.new) tree.present × Fits P.tells (P.committed pages.new) tree.committed) }
+        ensures text { IfOk result (λ tree. IsTrue P.tells → HasText (P.present pages.new) tree.present []) }
+        ensures empty { IfOk result (λ tree. (tree.present.lines ≡ 0) × (tree.present.bytes ≡ 0)) }
+        ensures later { P.faults pages.old ≤ P.faults pages.new }
+        ensures failed { result ≡ Err PageErr.Failed → Rose (P.faults pages.old) (P.faults pages.new) }
+        ensures valid { P.valid pages.new }
+        ensures stays { P.stays pages.old pages.new }
+    {
+        write_first(alloc, pages)?;
+        pages.commit();
+        let extent = Extent {
+            height: 1,
+            lines: 0,
+            bytes: 0,
+        };
+        Ok(LineTree {
+            present: extent,
+            committed: extent,
+        })
+    }
+
+    /// The number of lines.
+    pub fn len(&self) -> u64
+        ensures { result ≡ self.now.present.lines }
+    {
+        self.present.lines
+    }
+
+    /// The number of bytes, with one for each line end.
+    pub fn bytes(&self) -> u64
+        ensures { result ≡ self.now.present.bytes }
+    {
+        self.present.bytes
+    }
+
+    /// Makes `into` the bytes of a line, counted from 0. After an error it may hold anything.
+    pub fn line<P: Pages>(
+        &mut self,
+        alloc: Global,
+        pages: &mut P,
+        at: u64,
+        into: &mut Vec<u8>,
+    ) -> Result<(), PageErr>
+        requires valid { P.valid pages.old }
+        requires fits { Fits P.tells (P.present pages.old) self.old.present }
+        requires within { at < self.old.present.lines }
+        ensures line { OnOk result (IsTrue P.tells → (text : List (List ℕ)) → HasText (P.present pages.old) self.old.present text → into.new.items ≡ get_or text at []) }
+        ensures is_line { OnOk result (IsLine into.new.items) }
+        ensures is_short { OnOk result (IsShort into.new.items) }
+        ensures tree { self.new ≡ self.old }
+        ensures present { IsTrue P.tells → P.present pages.new ≡ P.present pages.old }
+        ensures committed { IsTrue P.tells → P.committed pages.new ≡ P.committed pages.old }
+        ensures later { P.faults pages.old ≤ P.faults pages.new }
+        ensures failed { result ≡ Err PageErr.Failed → Rose (P.faults pages.old) (P.faults pages.new) }
+        ensures valid { P.valid pages.new }
+        ensures stays { P.stays pages.old pages.new }
+    {
+        load_stored(alloc, pages, self.present.height, at, into)?;
+        from_stored(into);
+        if MAX_LINE_BYTES < into.len() as u64 {
+            pages.damaged();
+            return Err(PageErr::Failed);
+        }
+        Ok(())
+    }
+
+    /// Puts lines in place of `old` lines from line `top` on, counted from 0. After an error the tree may only be rolled back.
+    pub fn splice<P: Pages>(
+        &mut self,
+        alloc: Global,
+        pages: &mut P,
+        top: u64,
+        old: u64,
+        new: &[Line],
+    ) -> Result<(), PageErr>
+        requires valid { P.valid pages.old }
+        requires fits { Fits P.tells (P.present pages.old) self.old.present }
+        requires within { top + old ≤ self.old.present.lines }
+        requires few_lines { self.old.present.lines + length new.now ≤ MAX_LINES + old }
+        requires short_lines { All IsShort new.now }
+        requires few_bytes { IsTrue P.tells → (text : List (List ℕ)) → HasText (P.present pages.old) self.old.present text → bytes_of (splice text top old new.now) ≤ MAX_TEXT_BYTES }
+        ensures text { OnOk result (IsTrue P.tells → (text : List (List ℕ)) → HasText (P.present pages.old) self.old.present text → HasText (P.present pages.new) self.new.present (splice text top old new.now)) }
+        ensures fits { OnOk result (Fits P.tells (P.present pages.new) self.new.present) }
+        ensures lines { OnOk result (self.new.present.lines + old ≡ self.old.present.lines + length new.now) }
+        ensures kept { self.new.committed ≡ self.old.committed }
+        ensures committed { IsTrue P.tells → P.committed pages.new ≡ P.committed pages.old }
+        ensures later { P.faults pages.old ≤ P.faults pages.new }
+        ensures failed { result ≡ Err PageErr.Failed → Rose (P.faults pages.old) (P.faults pages.new) }
+        ensures valid { P.valid pages.new }
+        ensures stays { P.stays pages.old pages.new }
+    {
+        let present = splice_text(alloc, pages, self.present, top, old, new)?;
+        if MAX_TEXT_BYTES < present.bytes {
+            pages.damaged();
+            return Err(PageErr::Failed);
+        }
+        self.present = present;
+        Ok(())
+    }
+
+    /// Makes the numbers as they are now those of the last commit. The pages are committed beside it.
+    pub fn commit(&mut self)
+        ensures { self.new ≡ record { present = self.old.present; committed = self.old.present } }
+    {
+        self.committed = self.present;
+    }
+
+    /// Goes back to the numbers of the last commit. The pages are rolled back beside it.
+    pub fn rollback(&mut self)
+        ensures { self.new ≡ record { present = self.old.committed; committed = self.old.committed } }
+    {
+        self.present = self.committed;
+    }
+}
+
+/// A tree with its pages, as a store of one text.
+#[derive(Drop)]
+pub struct TreeStore<'t, P: Pages> {
+    pub tree: &'t mut LineTree,
+    pub pages: P,
+}
+
+impl<'t, P: Pages + Drop> LineStore for TreeStore<'t, P> {
+    ghost use Rattle.vs_tree.specs.Texts.{Tells, Fits};
+    ghost use Rattle.vs_tree.specs.Sames.{one_text};
+
+    ghost tells = { P.tells };
+
+    ghost has = { λ s text. Tells P.tells (P.present s.pages) s.tree.now.present text };
+
+    ghost had = { λ s text. Tells P.tells (P.committed s.pages) s.tree.now.committed text };
+
+    ghost lines = { λ s. s.tree.now.present.lines };
+
+    ghost bytes = { λ s. s.tree.now.present.bytes };
+
+    ghost had_lines = { λ s. s.tree.now.committed.lines };
+
+    ghost had_bytes = { λ s. s.tree.now.committed.bytes };
+
+    ghost faults = { λ s. P.faults s.pages };
+
+    ghost valid = { λ s. P.valid s.pages × Fits P.tells (P.present s.pages) s.tree.now.present × Fits P.tells (P.committed s.pages) s.tree.now.committed };
+
+    ghost safe = { λ s. P.valid s.pages × Fits P.tells (P.committed s.pages) s.tree.now.committed };
+
+    ghost stays = { λ a b. (b.tree.ghost_name ≡ a.tree.ghost_name) × P.stays a.pages b.pages };
+
+    ghost tells_one = { λ s v told. let r = v.1.one told in (r.0, record { told = told; has = r.1 }) };
+
+    ghost told_one = { λ s v told. let r = v.1.one told in (r.0, record { told = told; has = r.1 }) };
+
+    ghost has_one = { λ s a b h i. one_text (P.present s.pages) s.tree.now.present a b h.has i.has };
+
+    ghost has_lines = { λ s text h. h.has.lines };
+
+    ghost has_bytes = { λ s text h. h.has.bytes };
+
+    ghost has_text = { λ s text v h. h.has.is_text };
+
+    ghost has_within = { λ s text v h. h.has.within };
+
+    ghost few_lines = { λ s v. v.1.few };
+
+    ghost few_bytes = { λ s v. v.1.few_bytes };
+
+    ghost is_safe = { λ s v. (v.0, v.2) };
+
+    ghost stays_itself = { λ s. (refl, P.stays_itself s.pages) };
+
+    ghost stays_on = { λ p q r a b. (b.0 ∙ a.0, P.stays_on p.pages q.pages r.pages a.1 b.1) };
+
+    fn len(&self) -> u64 {
+        self.tree.len()
+    }
+
+    fn bytes(&self) -> u64 {
+        self.tree.bytes()
+    }
+
+    fn line(&mut self, alloc: Global, at: u64, into: &mut Vec<u8>) -> Result<(), StoreErr> {
+        match self.tree.line(alloc, &mut self.pages, at, into) {
+            Ok(()) => Ok(()),
+            Err(PageErr::NoMemory) => Err(StoreErr::NoMemory),
+            Err(PageErr::Failed) => Err(StoreErr::Failed),
+        }
+    }
+
+    fn splice(&mut self, alloc: Global, top: u64, old: u64, new: &[Line]) -> Result<(), StoreErr> {
+        match self.tree.splice(alloc, &mut self.pages, top, old, new) {
+            Ok(()) => Ok(()),
+            Err(PageErr::NoMemory) => Err(StoreErr::NoMemory),
+            Err(PageErr::Failed) => Err(StoreErr::Failed),
+        }
+    }
+
+    fn commit(&mut self) {
+        self.pages.commit();
+        self.tree.commit();
+    }
+
+    fn rollback(&mut self) {
+        self.pages.rollback();
+        self.tree.rollback();
+    }
+}

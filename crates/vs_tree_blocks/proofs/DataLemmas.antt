@@ -1,0 +1,213 @@
+-- What the calls that write data blocks leave, over plain variables.
+use Rattle.std.proofs.Common.{◌≡◌, ℕ, zero, suc, ◌+◌, ◌-◌, ◌/◌, ◌<◌, ◌≤◌, List, [], ◌∷◌, ◌++◌, length, take, drop, insert, remove, get_or, slice_get, Option, Some, None, Ok, IsSome, IsSomeAnd, nat_le, nat_lt, if◌then◌else◌, cond, Bool, true, false, sym, refl, ap, subst, ◌∙◌, arith, append-nil, length-take, length-drop, inl, inr}
+use Rattle.std.specs.Option.{option_map, option_and_then}
+use Rattle.std.proofs.lemmas.Grind.{common_steps}
+use Rattle.std.proofs.lemmas.Bool.Decides.{nat_tests}
+use Rattle.vs_pages.specs.Maps.{Map, span, pages_at, without}
+use Rattle.std.proofs.lemmas.Bool.{cases_eq}
+use Rattle.vs_data.specs.declared.DataView.{DataView}
+use Rattle.vs_data.specs.Blocks.{lines_in, view_in, Measures}
+use Rattle.vs_data.proofs.Lines.{measured}
+use Rattle.vs_data.proofs.Reading.{has_view, view_bounds}
+use Rattle.vs_tree_laws.specs.declared.entries.Entry.{Entry}
+use Rattle.vs_tree_laws.specs.Trees.{leaf, read_by}
+use Rattle.vs_tree_laws.specs.Changes.{Change, edited, Promise, Replaces, Wrote, Stored, Added, splice}
+use Rattle.vs_tree_laws.proofs.Writes.{put_leaf, new_leaf, kept_leaf, freed, promise_leaf, replaces_behind, replaces_before, wrote_leaves}
+use Rattle.vs_tree_laws.proofs.Shapes.{read_from}
+use Rattle.vs_tree_laws.proofs.Sums.{halves}
+use Rattle.vs_tree_laws.proofs.Splices.{splice_mid}
+use Rattle.vs_tree_blocks.specs.Blocks.{tree_format, data_lines, long_line, lines_at}
+
+pub one_page : (bytes : List ℕ) (pages : ℕ) → pages ≡ 1 → data_lines pages bytes ≡ lines_in bytes
+unfolding data_lines
+one_page bytes pages one = ap (λ n. if nat_le n 1 then lines_in bytes else long_line (lines_in bytes)) one
+
+abbrev entry_with : ℕ → ℕ → ℕ → Entry
+entry_with block pages lines = record { block = block; pages = pages; lines = lines }
+
+long_case : (b : Bool) (line : List ℕ) (ls : List (List ℕ)) → cond b (Some (line ∷ [])) None ≡ Some ls → (let o : Option (List (List ℕ)) = Some (line ∷ []) in o ≡ Some ls) × (length ls ≡ 1)
+long_case true line ls h = let e : line ∷ [] ≡ ls = cc in (h, sym (ap length e))
+long_case false line ls h = absurd (cc)
+
+several : (pages : ℕ) (o : Option (List (List ℕ))) → 2 ≤ pages → long_line o ≡ (if nat_le pages 1 then o else long_line o)
+several pages o many = grind (arith, nat_tests)
+
+long_same : (o : Option (List (List ℕ))) (ls : List (List ℕ)) → long_line o ≡ Some ls → (o ≡ Some ls) × (length ls ≡ 1)
+long_same None ls h = absurd (cc)
+long_same (Some []) ls h = absurd (cc)
+long_same (Some (line ∷ [])) ls h = long_case (nat_lt 4067 (length line)) line ls h
+long_same (Some (line ∷ more ∷ lines)) ls h = absurd (cc)
+
+only_case : (b : Bool) (o : Option (List (List ℕ))) (ls : List (List ℕ)) → cond b o (long_line o) ≡ Some ls → o ≡ Some ls
+only_case true o ls h = h
+only_case false o ls h = (long_same o ls h).0
+
+pub only_same : (bytes : List ℕ) (pages : ℕ) (ls : List (List ℕ)) → data_lines pages bytes ≡ Some ls → lines_in bytes ≡ Some ls
+unfolding data_lines
+only_same bytes pages ls h = only_case (nat_le pages 1) (lines_in bytes) ls h
+
+pub long_alone : (bytes : List ℕ) (pages : ℕ) (ls : List (List ℕ)) → 2 ≤ pages → data_lines pages bytes ≡ Some ls → length ls ≡ 1
+unfolding data_lines
+long_alone bytes pages ls many h = (long_same (lines_in bytes) ls (several pages (lines_in bytes) many ∙ h)).1
+
+pub long_reads : (bytes line : List ℕ) (pages : ℕ) → 2 ≤ pages → 4067 < length line → lines_in bytes ≡ Some (line ∷ []) → data_lines pages bytes ≡ Some (line ∷ [])
+unfolding data_lines
+long_reads bytes line pages many long is = sym (several pages (lines_in bytes) many) ∙ ap long_line is ∙ grind (arith, nat_tests)
+
+-- a block written in place
+pub wrote_place : (m n : Map) (block count : ℕ) (bytes : List ℕ) (ls : List (List ℕ)) (entries : List Entry) → Stored m n block 1 bytes → lines_in bytes ≡ Some ls → count ≡ length ls → entries ≡ record { block = block; pages = 1; lines = count } ∷ [] → Wrote tree_format m n (λ k. span block 1 k) 0 ls entries
+wrote_place m n block count bytes ls entries s reads count_is is =
+    wrote_leaves tree_format m n (λ k. span block 1 k) ls entries (leaf block 1 ls ∷ []) (put_leaf tree_format m n block 1 bytes ls s (omega arith) (one_page bytes 1 refl ∙ reads))
+    (is ∙ ap (λ (i : ℕ). entry_with block 1 i ∷ []) count_is) (append-nil ls)
+
+-- a block in two parts, the second in a new block
+pub wrote_parts : (m n1 n2 : Map) (block other i j : ℕ) (first second : List ℕ) (a b : List (List ℕ)) (entries : List Entry) → Stored m n1 block 1 first → lines_in first ≡ Some a → i ≡ length a → Added n1 n2 other 1 second → lines_in second ≡ Some b → j ≡ length b
+    → entries ≡ record { block = block; pages = 1; lines = i } ∷ record { block = other; pages = 1; lines = j } ∷ [] → Wrote tree_format m n2 (λ k. span block 1 k) 0 (a ++ b) entries
+wrote_parts m n1 n2 block other i j first second a b entries s reads_first i_is t reads_second j_is is =
+    wrote_leaves tree_format m n2 (λ k. span block 1 k) (a ++ b) entries (leaf block 1 a ∷ leaf other 1 b ∷ [])
+    (replaces_behind tree_format m n1 n2 0 (λ k. span block 1 k) (leaf block 1 a ∷ []) (leaf other 1 b ∷ []) (put_leaf tree_format m n1 block 1 first a s (omega arith) (one_page first 1 refl ∙ reads_first)) (new_leaf tree_format n1 n2 other 1 second b t (omega arith) (one_page second 1 refl ∙ reads_second)))
+    (is ∙ ap (λ (k : ℕ). entry_with block 1 k ∷ entry_with other 1 j ∷ []) i_is ∙ ap (λ (k : ℕ). entry_with block 1 (length a) ∷ entry_with other 1 k ∷ []) j_is) (ap (λ xs. a ++ xs) (append-nil b))
+
+-- a block left alone, and a new one before it
+pub wrote_before : (m n : Map) (block pages i : ℕ) (ls : List (List ℕ)) (line : List ℕ) (new : Entry) (entries : List Entry) → lines_at m block pages ≡ Some ls → 1 ≤ pages → i ≡ length ls → Replaces tree_format m n (λ k. 0) 0 (leaf new.block new.pages (line ∷ []) ∷ []) → new.lines ≡ 1
+    → entries ≡ new ∷ record { block = block; pages = pages; lines = i } ∷ [] → Wrote tree_format m n (λ k. span block pages k) 0 (line ∷ ls) entries
+wrote_before m n block pages i ls line new entries reads some i_is r one is =
+    wrote_leaves tree_format m n (λ k. span block pages k) (line ∷ ls) entries (leaf new.block new.pages (line ∷ []) ∷ leaf block pages ls ∷ [])
+    (replaces_before tree_format m m n 0 (λ k. span block pages k) (leaf block pages ls ∷ []) (leaf new.block new.pages (line ∷ []) ∷ []) (kept_leaf tree_format m block pages ls reads some) r)
+    (is ∙ ap (λ (k : ℕ). new ∷ entry_with block pages k ∷ []) i_is ∙ ap (λ (k : ℕ). entry_with new.block new.pages k ∷ entry_with block pages (length ls) ∷ []) one) (ap (λ xs. line ∷ xs) (append-nil ls))
+
+-- a block left alone, and a new one behind it
+pub wrote_behind : (m n : Map) (block pages i : ℕ) (ls : List (List ℕ)) (line : List ℕ) (new : Entry) (entries : List Entry) → lines_at m block pages ≡ Some ls → 1 ≤ pages → i ≡ length ls → Replaces tree_format m n (λ k. 0) 0 (leaf new.block new.pages (line ∷ []) ∷ []) → new.lines ≡ 1
+    → entries ≡ record { block = block; pages = pages; lines = i } ∷ new ∷ [] → Wrote tree_format m n (λ k. span block pages k) 0 (ls ++ line ∷ []) entries
+wrote_behind m n block pages i ls line new entries reads some i_is r one is =
+    wrote_leaves tree_format m n (λ k. span block pages k) (ls ++ line ∷ []) entries (leaf block pages ls ∷ leaf new.block new.pages (line ∷ []) ∷ [])
+    (replaces_behind tree_format m m n 0 (λ k. span block pages k) (leaf block pages ls ∷ []) (leaf new.block new.pages (line ∷ []) ∷ []) (kept_leaf tree_format m block pages ls reads some) r)
+    (is ∙ ap (λ (k : ℕ). entry_with block pages k ∷ new ∷ []) i_is ∙ ap (λ (k : ℕ). entry_with block pages (length ls) ∷ entry_with new.block new.pages k ∷ []) one) refl
+
+-- a block in two parts, and a new one between them
+pub wrote_between : (m n1 n2 n3 : Map) (block other i j : ℕ) (first second : List ℕ) (a b : List (List ℕ)) (line : List ℕ) (new : Entry) (entries : List Entry) → Stored m n1 block 1 first → lines_in first ≡ Some a → i ≡ length a
+    → Replaces tree_format n1 n2 (λ k. 0) 0 (leaf new.block new.pages (line ∷ []) ∷ []) → new.lines ≡ 1 → Added n2 n3 other 1 second → lines_in second ≡ Some b → j ≡ length b
+    → entries ≡ record { block = block; pages = 1; lines = i } ∷ new ∷ record { block = other; pages = 1; lines = j } ∷ [] → Wrote tree_format m n3 (λ k. span block 1 k) 0 (a ++ line ∷ b) entries
+wrote_between m n1 n2 n3 block other i j first second a b line new entries s reads_first i_is r one t reads_second j_is is =
+    let two = replaces_behind tree_format m n1 n2 0 (λ k. span block 1 k) (leaf block 1 a ∷ []) (leaf new.block new.pages (line ∷ []) ∷ []) (put_leaf tree_format m n1 block 1 first a s (omega arith) (one_page first 1 refl ∙ reads_first)) r in
+    wrote_leaves tree_format m n3 (λ k. span block 1 k) (a ++ line ∷ b) entries (leaf block 1 a ∷ leaf new.block new.pages (line ∷ []) ∷ leaf other 1 b ∷ [])
+    (replaces_behind tree_format m n2 n3 0 (λ k. span block 1 k) (leaf block 1 a ∷ leaf new.block new.pages (line ∷ []) ∷ []) (leaf other 1 b ∷ []) two (new_leaf tree_format n2 n3 other 1 second b t (omega arith) (one_page second 1 refl ∙ reads_second)))
+    (is ∙ ap (λ (k : ℕ). entry_with block 1 k ∷ new ∷ entry_with other 1 j ∷ []) i_is ∙ ap (λ (k : ℕ). entry_with block 1 (length a) ∷ new ∷ entry_with other 1 k ∷ []) j_is
+    ∙ ap (λ (k : ℕ). entry_with block 1 (length a) ∷ entry_with new.block new.pages k ∷ entry_with other 1 (length b) ∷ []) one) (ap (λ xs. a ++ line ∷ xs) (append-nil b))
+
+-- a block given back
+pub wrote_gone : (m n : Map) (block pages : ℕ) (ls : List (List ℕ)) (entries : List Entry) → n ≡ without m block pages → length ls ≡ 0 → entries ≡ [] → Wrote tree_format m n (λ k. span block pages k) 0 ls entries
+wrote_gone m n block pages [] entries is none empty = wrote_leaves tree_format m n (λ k. span block pages k) [] entries [] (freed tree_format m n block pages 0 (λ k. span block pages k) is (λ k. omega arith)) empty refl
+wrote_gone m n block pages (x ∷ ls) entries is none empty = absurd (omega arith)
+
+pub insert_splice : (ls : List (List ℕ)) (at : ℕ) (line : List ℕ) → insert ls at line ≡ splice ls at 0 (line ∷ [])
+insert_splice ls at line = grind (arith, common_steps)
+
+pub remove_splice : (ls : List (List ℕ)) (at : ℕ) → remove ls at ≡ splice ls at 1 []
+remove_splice ls at = grind (arith, common_steps)
+
+-- bytes that were loaded
+
+some_there : (o : Option (List (List ℕ))) → IsSome o → (ls : List (List ℕ)) × (o ≡ Some ls)
+some_there None h = absurd (cc)
+some_there (Some ls) h = (ls, refl)
+
+got : (ls : List (List ℕ)) (at : ℕ) (line : List ℕ) → slice_get ls at ≡ Some line → line ≡ get_or ls at []
+got [] at line h = absurd (cc)
+got (x ∷ ls) zero line h = cc
+got (x ∷ ls) (suc at) line h = got ls at line h
+
+pub lines_loaded : (o : Option (List ℕ)) (bytes : List ℕ) (pages : ℕ) (ls : List (List ℕ)) → o ≡ Some bytes → read_by (data_lines pages) o ≡ Some ls → lines_in bytes ≡ Some ls
+lines_loaded o bytes pages ls is reads = only_same bytes pages ls (sym (ap (λ p. read_by (data_lines pages) p) is) ∙ reads)
+
+pub lines_refused : (o : Option (List ℕ)) (bytes : List ℕ) (pages : ℕ) → o ≡ Some bytes → lines_in bytes ≡ None → IsSome (read_by (data_lines pages) o) → ⊥
+lines_refused o bytes pages is none there =
+    let r : (ls : List (List ℕ)) × (read_by (data_lines pages) o ≡ Some ls) = some_there (read_by (data_lines pages) o) there in
+    let e : Some r.0 ≡ None = sym (lines_loaded o bytes pages r.0 is r.1) ∙ none in cc
+
+count_same : (o : Option (List (List ℕ))) (view : DataView) (ls : List (List ℕ)) → IsSomeAnd o (Measures view) → o ≡ Some ls → length ls ≡ view.count
+count_same None view ls h is = absurd (cc)
+count_same (Some xs) view ls h is = let e : xs ≡ ls = cc in sym (ap length e) ∙ h.count
+
+-- a block has as many lines as its header counts
+pub count_is : (bytes : List ℕ) (view : DataView) (ls : List (List ℕ)) → view_in bytes ≡ Ok view → lines_in bytes ≡ Some ls → length ls ≡ view.count
+count_is bytes view ls reads is = count_same (lines_in bytes) view ls (measured bytes view reads) is
+
+-- the text of a block lies within it
+pub end_within : (bytes : List ℕ) (view : DataView) → view_in bytes ≡ Ok view → view.text_end ≤ length bytes
+end_within bytes view reads = let v = has_view bytes view (view_bounds bytes view reads) in omega (arith, v.end, v.bounds.within)
+
+pub line_at : (o : Option (List (List ℕ))) (ls : List (List ℕ)) (at : ℕ) (line : List ℕ) → o ≡ Some ls → option_and_then (λ xs. slice_get xs at) o ≡ Some line → line ≡ get_or ls at []
+line_at o ls at line is found = got ls at line (sym (ap (λ p. option_and_then (λ (xs : List (List ℕ)). slice_get xs at) p) is) ∙ found)
+
+pub alone_reads : (bytes line : List ℕ) (count : ℕ) → count ≡ (length line + 29 + 4095) / 4096 → lines_in bytes ≡ Some (line ∷ []) → data_lines count bytes ≡ Some (line ∷ [])
+alone_reads bytes line count is reads = elim (cases_eq count 1) [
+  | inl e ↦ one_page bytes count e ∙ reads
+  | inr ne ↦ long_reads bytes line count (omega arith) (omega arith) reads
+]
+
+-- a block of one page, read in the map
+pub page_read : (m : Map) (block : ℕ) (bytes : List ℕ) (ls : List (List ℕ)) → pages_at m block 1 ≡ Some bytes → lines_in bytes ≡ Some ls → lines_at m block 1 ≡ Some ls
+page_read m block bytes ls is reads = ap (λ o. read_by (data_lines 1) o) is ∙ one_page bytes 1 refl ∙ reads
+
+-- what an edit of the lines gives
+
+pub lines_after : (o n : Option (List (List ℕ))) (f : List (List ℕ) → List (List ℕ)) (ls : List (List ℕ)) → o ≡ Some ls → n ≡ option_map f o → n ≡ Some (f ls)
+lines_after o n f ls is now = now ∙ ap (λ p. option_map f p) is
+
+pub length-insert_line : (ls : List (List ℕ)) (at : ℕ) (line : List ℕ) → length (insert ls at line) ≡ length ls + 1
+length-insert_line ls at line = grind (arith, common_steps)
+
+pub length-remove_line : (ls : List (List ℕ)) (at : ℕ) → at < length ls → length (remove ls at) + 1 ≡ length ls
+length-remove_line ls at lt = grind (arith, common_steps)
+
+-- a line put into one of two halves is put into the whole
+pub insert_front : (ls : List (List ℕ)) (at half : ℕ) (line : List ℕ) → at ≤ half → half ≤ length ls → insert (take half ls) at line ++ drop half ls ≡ splice ls at 0 (line ∷ [])
+insert_front ls at half line le within =
+    ap (λ xs. xs ++ drop half ls) (insert_splice (take half ls) at line)
+    ∙ sym (splice_mid [] (take half ls) (drop half ls) (line ∷ []) at at 0 (omega arith) (omega (arith, length-take half ls)))
+    ∙ ap (λ xs. splice xs at 0 (line ∷ [])) (halves half ls)
+
+pub insert_back : (ls : List (List ℕ)) (at half : ℕ) (line : List ℕ) → half ≤ at → at ≤ length ls → take half ls ++ insert (drop half ls) (at - half) line ≡ splice ls at 0 (line ∷ [])
+insert_back ls at half line le within =
+    ap (λ xs. take half ls ++ xs) (insert_splice (drop half ls) (at - half) line ∙ sym (append-nil (splice (drop half ls) (at - half) 0 (line ∷ []))))
+    ∙ sym (splice_mid (take half ls) (drop half ls) [] (line ∷ []) at (at - half) 0 (omega (arith, length-take half ls)) (omega (arith, length-drop half ls)))
+    ∙ ap (λ xs. splice (take half ls ++ xs) at 0 (line ∷ [])) (append-nil (drop half ls)) ∙ ap (λ xs. splice xs at 0 (line ∷ [])) (halves half ls)
+
+pub insert_between : (ls : List (List ℕ)) (at : ℕ) (line : List ℕ) → take at ls ++ line ∷ drop at ls ≡ splice ls at 0 (line ∷ [])
+insert_between ls at line = insert_splice ls at line
+
+pub insert_first : (ls : List (List ℕ)) (at : ℕ) (line : List ℕ) → at ≡ 0 → line ∷ ls ≡ splice ls at 0 (line ∷ [])
+insert_first ls at line none = ap (λ k. splice ls k 0 (line ∷ [])) (sym none)
+
+pub insert_end : (ls : List (List ℕ)) (at : ℕ) (line : List ℕ) → at ≡ length ls → ls ++ line ∷ [] ≡ splice ls at 0 (line ∷ [])
+insert_end ls at line all = grind (arith, common_steps)
+
+pub remove_only : (ls : List (List ℕ)) (at : ℕ) → length ls ≡ 1 → at < 1 → length (splice ls at 1 []) ≡ 0
+remove_only ls at one lt = grind (arith, common_steps)
+
+-- a block of several pages has one line
+pub at_alone : (m : Map) (block pages : ℕ) (ls : List (List ℕ)) → 2 ≤ pages → lines_at m block pages ≡ Some ls → length ls ≡ 1
+at_alone m block pages ls many reads = let r = read_from (data_lines pages) (pages_at m block pages) ls reads in long_alone r.0 pages ls many r.2
+
+-- a block of one page has few lines
+pub count_small : (bytes : List ℕ) (view : DataView) → view_in bytes ≡ Ok view → length bytes ≡ 4096 → view.count ≤ 1024
+count_small bytes view reads size = let v = has_view bytes view (view_bounds bytes view reads) in omega (arith, v.count, v.bounds.index, v.bounds.text, v.bounds.within)
+
+-- what an edit of a block of one page gives the tree
+
+pub promise_page : (m m' n : Map) (block count at : ℕ) (bytes : List ℕ) (change : Change) (after : List (List ℕ) → List (List ℕ)) (entries : List Entry) → count ≡ 1 → m' ≡ m → pages_at m block 1 ≡ Some bytes
+    → ((lines : List (List ℕ)) → edited change lines at ≡ after lines) → ((lines : List (List ℕ)) → lines_in bytes ≡ Some lines → Wrote tree_format m' n (λ k. span block 1 k) 0 (after lines) entries) → Promise tree_format m n block count 0 at change entries
+promise_page m m' n block count at bytes change after entries one same loaded are wrote =
+    let P : ℕ → Type 0 = λ i. Promise tree_format m n block i 0 at change entries in
+    subst P (sym one) (promise_leaf tree_format m n block 1 at change entries (λ lines reads lt.
+    let Q : Map → Type 0 = λ f. Wrote tree_format f n (λ k. span block 1 k) 0 (after lines) entries in
+    let R : List (List ℕ) → Type 0 = λ xs. Wrote tree_format m n (λ k. span block 1 k) 0 xs entries in
+    subst R (sym (are lines)) (subst Q same (wrote lines (lines_loaded (pages_at m block 1) bytes 1 lines loaded reads)))))
+
+-- the same of a block of several pages, whose one line is the first
+pub promise_long : (m n : Map) (block count at : ℕ) (change : Change) (entries : List Entry) → 2 ≤ count → ((lines : List (List ℕ)) → lines_at m block count ≡ Some lines → Wrote tree_format m n (λ k. span block count k) 0 (edited change lines 0) entries) → Promise tree_format m n block count 0 at change entries
+promise_long m n block count at change entries many wrote = promise_leaf tree_format m n block count at change entries (λ lines reads lt.
+    let first : 0 ≡ at = omega (arith, at_alone m block count lines many reads) in
+    let R : ℕ → Type 0 = λ i. Wrote tree_format m n (λ k. span block count k) 0 (edited change lines i) entries in
+    subst R first (wrote lines reads))

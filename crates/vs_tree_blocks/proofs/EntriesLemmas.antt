@@ -1,0 +1,106 @@
+-- Entries as they are written are read back.
+use Rattle.std.proofs.Common.{◌≡◌, ℕ, zero, suc, ◌+◌, ◌<◌, ◌≤◌, List, [], ◌∷◌, ◌++◌, length, take, drop, map, insert, get_or, slice_get, Option, Some, None, Result, Ok, Err, is_ok, if◌then◌else◌, sym, refl, ap, ◌∙◌, arith, length-take}
+use Rattle.std.specs.List.{AllByRecursion}
+use Rattle.std.specs.Option.{option_and_then}
+use Rattle.std.proofs.lemmas.Grind.{common_steps}
+use Rattle.std.proofs.lemmas.List.{length-map, map-append}
+use Rattle.vs_ptr.specs.declared.PtrEntry.{PtrEntry}
+use Rattle.vs_ptr.specs.declared.PtrView.{PtrView}
+use Rattle.vs_ptr.specs.declared.PtrErr.{PtrErr}
+use Rattle.vs_ptr.specs.Blocks.{view_in, entry_of, slots_of, entries_of, entries_in}
+use Rattle.vs_ptr.proofs.Headers.{header_from_view}
+use Rattle.vs_ptr.proofs.Reading.{entries_there, entries_refused, length-entries_of}
+use Rattle.vs_tree_laws.specs.declared.entries.Entry.{Entry}
+use Rattle.vs_tree_blocks.specs.Blocks.{entry_read, entries_read, before, points_in, ptr_of}
+
+pub each-at : {X : Type 0} (P : X → Type 0) (xs : List X) (i : ℕ) (d : X) → i < length xs → AllByRecursion P xs → P (get_or xs i d)
+each-at P [] i d lt each = absurd (omega arith)
+each-at P (x ∷ xs) zero d lt each = each.0
+each-at P (x ∷ xs) (suc i) d lt each = each-at P xs i d (omega arith) each.1
+
+pub insert_last : {X : Type 0} (xs : List X) (i : ℕ) (x : X) → i ≡ length xs → insert xs i x ≡ xs ++ x ∷ []
+insert_last [] zero x e = refl
+insert_last [] (suc i) x e = absurd (omega arith)
+insert_last (y ∷ xs) zero x e = absurd (omega arith)
+insert_last (y ∷ xs) (suc i) x e = ap (λ ys. y ∷ ys) (insert_last xs i x (omega arith))
+
+-- one more entry written
+pub one_more : (es : List Entry) (i at : ℕ) (e d : Entry) → i < length es → at ≡ i → e ≡ get_or es i d → insert (map ptr_of (take i es)) at (ptr_of e) ≡ map ptr_of (take (i + 1) es)
+one_more es i at e d lt at_is is =
+    let n : length (map ptr_of (take i es)) ≡ i = length-map (take i es) ptr_of ∙ length-take i es ∙ omega arith in
+    let more : take (i + 1) es ≡ take i es ++ e ∷ [] = rw is (grind (arith, common_steps)) in
+    insert_last (map ptr_of (take i es)) at (ptr_of e) (omega (arith, n)) ∙ sym (ap (λ xs. map ptr_of xs) more ∙ map-append ptr_of (take i es) (e ∷ []))
+
+-- entries as they are written are read back
+pub read_written : (es : List Entry) → entries_read (map ptr_of es) ≡ Some es
+read_written [] = refl
+read_written (e ∷ es) = ap (λ o. before (Some e) o) (read_written es)
+
+pub points_written : (bytes : List ℕ) (es : List Entry) → entries_in bytes ≡ Some (map ptr_of es) → points_in bytes ≡ Some es
+unfolding points_in
+points_written bytes es is = ap (λ o. option_and_then entries_read o) is ∙ read_written es
+
+pub take_all : {X : Type 0} (xs : List X) (i : ℕ) → length xs ≤ i → take i xs ≡ xs
+take_all [] zero le = refl
+take_all [] (suc i) le = refl
+take_all (x ∷ xs) zero le = absurd (omega arith)
+take_all (x ∷ xs) (suc i) le = ap (λ ys. x ∷ ys) (take_all xs i (omega arith))
+
+-- a pointer block of one page has at most 127 entries
+pub few_entries : (bytes : List ℕ) (view : PtrView) → view_in bytes ≡ Ok view → length bytes ≡ 4096 → (length (entries_of bytes) ≡ view.count) × (view.count ≤ 127)
+few_entries bytes view reads size =
+    let header = header_from_view bytes view reads in
+    (length-entries_of bytes view reads, omega (arith, header.room))
+
+before_none : {X : Type 0} (o : Option X) (p : Option (List X)) → p ≡ None → before o p ≡ None
+before_none None p none = refl
+before_none (Some x) p none = ap (λ q. before (Some x) q) none
+
+record Both (o : Option Entry) (others_of : Option (List Entry)) (xs : List Entry) : Type 0 where
+  first : Entry
+  others : List Entry
+  first_is : o ≡ Some first
+  others_are : others_of ≡ Some others
+  all : xs ≡ first ∷ others
+
+both_read : (o : Option Entry) (p : Option (List Entry)) (xs : List Entry) → before o p ≡ Some xs → Both o p xs
+both_read None p xs is = absurd (cc)
+both_read (Some x) None xs is = absurd (cc)
+both_read (Some x) (Some ys) xs is = record { first = x; others = ys; first_is = refl; others_are = refl; all = cc }
+
+take_last : (es : List PtrEntry) (i n : ℕ) (e : PtrEntry) → n ≡ i + 1 → slice_get es i ≡ Some e → take n es ≡ take i es ++ e ∷ []
+take_last es i zero e is at = absurd (omega arith)
+take_last [] i (suc n) e is at = absurd (cc)
+take_last (f ∷ es) zero (suc n) e is at =
+    let same : f ≡ e = cc in
+    let none : n ≡ 0 = omega arith in
+    ap (λ k. f ∷ take k es) none ∙ ap (λ (x : PtrEntry). x ∷ []) same
+take_last (f ∷ es) (suc i) (suc n) e is at = ap (λ ys. f ∷ ys) (take_last es i n e (omega arith) at)
+
+entries_read_last : (es : List PtrEntry) (xs : List Entry) (e : PtrEntry) (x : Entry) → entries_read es ≡ Some xs → entry_read e ≡ Some x → entries_read (es ++ e ∷ []) ≡ Some (xs ++ x ∷ [])
+entries_read_last [] xs e x is last = let nil : [] ≡ xs = cc in ap (λ o. before o (Some [])) last ∙ ap (λ ys. Some (ys ++ x ∷ [])) nil
+entries_read_last (f ∷ es) xs e x is last =
+    let b : Both (entry_read f) (entries_read es) xs = both_read (entry_read f) (entries_read es) xs is in
+    ap (λ o. before (entry_read f) o) (entries_read_last es b.others e x b.others_are last) ∙ ap (λ o. before o (Some (b.others ++ x ∷ []))) b.first_is ∙ ap (λ ys. Some (ys ++ x ∷ [])) (sym b.all)
+
+-- one more entry read
+pub read_more : (es : List PtrEntry) (i : ℕ) (xs : List Entry) (e : PtrEntry) (x : Entry) → entries_read (take i es) ≡ Some xs → slice_get es i ≡ Some e → Some x ≡ entry_read e → entries_read (take (i + 1) es) ≡ Some (xs ++ x ∷ [])
+read_more es i xs e x is at last = ap entries_read (take_last es i (i + 1) e refl at) ∙ entries_read_last (take i es) xs e x is (sym last)
+
+-- an entry that cannot be read leaves none of the entries
+pub unread_none : (es : List PtrEntry) (i : ℕ) (e : PtrEntry) → slice_get es i ≡ Some e → None ≡ entry_read e → entries_read es ≡ None
+unread_none [] i e at none = absurd (cc)
+unread_none (f ∷ es) zero e at none = let same : f ≡ e = cc in ap (λ o. before o (entries_read es)) (ap entry_read same ∙ sym none)
+unread_none (f ∷ es) (suc i) e at none = ap (λ o. before (entry_read f) o) (unread_none es i e at none) ∙ before_none (entry_read f) None refl
+
+pub points_read : (bytes : List ℕ) (view : PtrView) (xs : List Entry) (i : ℕ) → view_in bytes ≡ Ok view → entries_read (take i (entries_of bytes)) ≡ Some xs → length (entries_of bytes) ≤ i → points_in bytes ≡ Some xs
+unfolding points_in
+points_read bytes view xs i reads is le = ap (λ o. option_and_then entries_read o) (entries_there bytes view reads) ∙ ap entries_read (sym (take_all (entries_of bytes) i le)) ∙ is
+
+pub points_unread : (bytes : List ℕ) (view : PtrView) → view_in bytes ≡ Ok view → entries_read (entries_of bytes) ≡ None → points_in bytes ≡ None
+unfolding points_in
+points_unread bytes view reads none = ap (λ o. option_and_then entries_read o) (entries_there bytes view reads) ∙ none
+
+pub points_refused : (bytes : List ℕ) (err : PtrErr) → view_in bytes ≡ Err err → points_in bytes ≡ None
+unfolding points_in
+points_refused bytes err reads = ap (λ o. option_and_then entries_read o) (entries_refused bytes err reads)

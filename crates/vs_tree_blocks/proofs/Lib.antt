@@ -1,0 +1,6 @@
+pub mod ChangesLemmas
+pub mod DataLemmas
+pub mod EntriesLemmas
+pub mod FirstLemmas
+pub mod Outcomes
+pub mod PointersLemmas

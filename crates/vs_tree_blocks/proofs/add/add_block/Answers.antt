@@ -1,0 +1,8 @@
+use Rattle.vs_tree_laws.proofs.Writes.{added, stored}
+use Rattle.vs_tree_blocks.proofs.add.add_block.Goals as goal
+
+pub touch-requires-clause-there : goal.touch-requires-clause-there
+touch-requires-clause-there g c = λ told. (c.in_ok-at.ensures.grown told).there
+
+pub returns-clause-added : goal.returns-clause-added
+returns-clause-added g c = λ told. added _ _ _ _ _ c.args.bytes.now (c.in_ok-at.ensures.grown told) (stored _ _ _ _ _ (c.in_ok-touch.ensures.ok told) c.requires.size)

@@ -1,0 +1,8 @@
+use Rattle.std.proofs.Common.{arith}
+use Rattle.vs_tree_laws.proofs.Writes.{stored}
+use Rattle.vs_tree_blocks.proofs.DataLemmas.{wrote_parts}
+use Rattle.vs_tree_blocks.proofs.data.write_parts.Goals as goal
+
+pub returns-clause-wrote : goal.returns-clause-wrote
+returns-clause-wrote g c = λ told a b reads_first front_is reads_second back_is.
+    wrote_parts _ _ _ c.args.block c.in_ok-other.other c.args.front c.args.back c.args.first.now c.args.second.now a b _ (stored _ _ _ _ c.args.first.now (c.in_ok-touch.ensures.ok told) (omega (arith, c.requires.first))) reads_first front_is (c.in_ok-other.ensures.added told) reads_second back_is c.in_ok-vec.ensures.items

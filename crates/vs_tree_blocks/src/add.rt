@@ -1,0 +1,49 @@
+// New blocks in pages.
+ghost use Rattle.std.specs.Prelude.{◌≡◌, ◌≤◌, ◌<◌, ◌*◌, ◌^◌, Err, IfOk, IsTrue, length};
+ghost use Rattle.vs_faults.specs.Faults.{Rose};
+ghost use Rattle.vs_tree_laws.specs.Changes.{Grown, Added};
+
+use std::alloc::Global;
+use vs_pages::{PageErr, Pages};
+
+// Makes room for a block of `count` pages. Page 0 is never part of a block: where a store gives it, it stays unused.
+fn grow_block<P: Pages>(alloc: Global, pages: &mut P, count: u32) -> Result<u64, PageErr>
+    requires valid { P.valid pages.old }
+    requires some { 1 ≤ count }
+    ensures grown { IfOk result (λ at. IsTrue P.tells → Grown (P.present pages.old) (P.present pages.new) at count) }
+    ensures bound { IfOk result (λ at. at < 2 ^ 40) }
+    ensures committed { IsTrue P.tells → P.committed pages.new ≡ P.committed pages.old }
+    ensures later { P.faults pages.old ≤ P.faults pages.new }
+    ensures failed { result ≡ Err PageErr.Failed → Rose (P.faults pages.old) (P.faults pages.new) }
+    ensures valid { P.valid pages.new }
+    ensures stays { P.stays pages.old pages.new }
+{
+    let at = pages.grow(alloc, count)?;
+    if at == 0 {
+        return pages.grow(alloc, count);
+    }
+    Ok(at)
+}
+
+/// Writes a new block of `count` pages, and gives the number of its first page, which is never page 0.
+pub fn add_block<P: Pages>(
+    alloc: Global,
+    pages: &mut P,
+    count: u32,
+    bytes: &[u8],
+) -> Result<u64, PageErr>
+    requires valid { P.valid pages.old }
+    requires some { 1 ≤ count }
+    requires size { length bytes.now ≡ 4096 * count }
+    ensures added { IfOk result (λ at. IsTrue P.tells → Added (P.present pages.old) (P.present pages.new) at count bytes.now) }
+    ensures bound { IfOk result (λ at. at < 2 ^ 40) }
+    ensures committed { IsTrue P.tells → P.committed pages.new ≡ P.committed pages.old }
+    ensures later { P.faults pages.old ≤ P.faults pages.new }
+    ensures failed { result ≡ Err PageErr.Failed → Rose (P.faults pages.old) (P.faults pages.new) }
+    ensures valid { P.valid pages.new }
+    ensures stays { P.stays pages.old pages.new }
+{
+    let at = grow_block(alloc, pages, count)?;
+    pages.touch(alloc, at, count, bytes)?;
+    Ok(at)
+}

@@ -1,0 +1,53 @@
+// The bytes of pointer blocks.
+ghost use Rattle.std.specs.Prelude.{◌≡◌, ◌≤◌, ◌<◌, ◌^◌, Some, None, IfOk, IfSome, OnErr, length};
+ghost use Rattle.std.specs.List.{AllByRecursion};
+ghost use Rattle.vs_tree_blocks.specs.Blocks.{IsNarrow, entry_read, points_in, ptr_of};
+
+use std::alloc::{AllocError, Global};
+use vs_pages::PAGE_SIZE;
+use vs_ptr::{PtrEntry, PtrView};
+use vs_tree_laws::Entry;
+
+// The entry as a pointer block has it.
+fn to_ptr(entry: &Entry) -> PtrEntry
+    requires { IsNarrow entry.now }
+    ensures { result ≡ ptr_of entry.now }
+{
+    PtrEntry {
+        block: entry.block as i64,
+        lines: entry.lines as i64,
+        old: 0,
+        pages: entry.pages as i32,
+    }
+}
+
+// The entry as the tree takes it; None where a number is negative.
+pub fn from_ptr(entry: &PtrEntry) -> Option<Entry>
+    ensures read { result ≡ entry_read entry.now }
+    ensures narrow { IfSome result IsNarrow }
+{
+    if entry.block < 0 || entry.pages < 0 || entry.lines < 0 {
+        return None;
+    }
+    Some(Entry {
+        block: entry.block as u64,
+        pages: entry.pages as u32,
+        lines: entry.lines as u64,
+    })
+}
+
+/// The bytes of a pointer block of one page with these entries.
+pub fn pointer_bytes(alloc: Global, entries: &[Entry]) -> Result<Vec<u8>, AllocError>
+    requires narrow { AllByRecursion IsNarrow entries.now }
+    requires few { length entries.now ≤ 127 }
+    ensures size { IfOk result (λ bytes. length bytes.items ≡ 4096) }
+    ensures entries { IfOk result (λ bytes. points_in bytes.items ≡ Some entries.now) }
+{
+    let mut bytes = vec![in alloc; 0u8; PAGE_SIZE]?;
+    let mut view = PtrView::fresh(&mut bytes);
+    for entry in entries {
+        let at = view.count;
+        view.insert(&mut bytes, at, &to_ptr(entry));
+    }
+    Ok(bytes)
+}

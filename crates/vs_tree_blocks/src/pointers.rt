@@ -1,0 +1,249 @@
+// Pointer blocks in pages.
+ghost use Rattle.std.specs.Prelude.{◌≡◌, ◌≤◌, ◌<◌, ◌+◌, ◌*◌, ◌^◌, ◌∷◌, [], ℕ, suc, List, Some, None, Err, IfOk, IfSome, IfNone, OnOk, IsTrue, IsSome, length};
+ghost use Rattle.std.specs.List.{AllByRecursion, flat_map};
+ghost use Rattle.vs_faults.specs.Faults.{Rose};
+ghost use Rattle.vs_pages.specs.Maps.{pages_at, one, total};
+ghost use Rattle.vs_tree_laws.specs.Places.{lines_below};
+ghost use Rattle.vs_tree_laws.specs.Trees.{Tree, lines_of, uses};
+ghost use Rattle.vs_tree_laws.specs.Changes.{Below, Wrote, pointer_entry};
+ghost use Rattle.vs_tree_blocks.specs.Blocks.{tree_format, entries_at, points_in, IsNarrow, IsListOf};
+
+use crate::add_block;
+use crate::bytes::{from_ptr, pointer_bytes};
+use std::alloc::{AllocError, Global};
+use vs_pages::{PageErr, Pages};
+use vs_ptr::PtrView;
+use vs_tree_laws::{Entry, count_lines};
+
+/// The greatest number of entries of a pointer block of one page. docs/FORMATS.md, Pointer blocks.
+const MOST_ENTRIES: usize = 127;
+
+// The entries of a pointer block; None where the bytes are no such block, or a number in it is negative.
+fn read_entries(alloc: Global, bytes: &[u8]) -> Result<Option<Vec<Entry>>, AllocError>
+    requires { length bytes.now ≡ 4096 }
+    ensures { IfOk result (IsListOf (points_in bytes.now)) }
+{
+    let Ok(view) = PtrView::read(bytes) else {
+        return Ok(None);
+    };
+    let mut entries = Vec::new(alloc);
+    for at in 0..view.count {
+        let Some(entry) = from_ptr(&view.entry(bytes, at)) else {
+            return Ok(None);
+        };
+        entries.push(entry)?;
+    }
+    Ok(Some(entries))
+}
+
+/// The entries of the pointer block at page `block`.
+pub fn load_entries<P: Pages>(
+    alloc: Global,
+    pages: &mut P,
+    block: u64,
+) -> Result<Vec<Entry>, PageErr>
+    requires valid { P.valid pages.old }
+    requires there { IsTrue P.tells → IsSome (entries_at (P.present pages.old) block) }
+    ensures entries { IfOk result (λ entries. IsTrue P.tells → entries_at (P.present pages.old) block ≡ Some entries.items) }
+    ensures narrow { IfOk result (λ entries. AllByRecursion IsNarrow entries.items) }
+    ensures few { IfOk result (λ entries. length entries.items ≤ 127) }
+    ensures present { IsTrue P.tells → P.present pages.new ≡ P.present pages.old }
+    ensures committed { IsTrue P.tells → P.committed pages.new ≡ P.committed pages.old }
+    ensures later { P.faults pages.old ≤ P.faults pages.new }
+    ensures failed { result ≡ Err PageErr.Failed → Rose (P.faults pages.old) (P.faults pages.new) }
+    ensures valid { P.valid pages.new }
+    ensures stays { P.stays pages.old pages.new }
+{
+    let mut bytes = Vec::new(alloc);
+    pages.load(alloc, block, 1, &mut bytes)?;
+    match read_entries(alloc, &bytes)? {
+        Some(entries) => Ok(entries),
+        None => {
+            pages.damaged();
+            Err(PageErr::Failed)
+        }
+    }
+}
+
+// The entry of a pointer block with these entries; None where they have too many lines for one.
+fn entry_above(block: u64, entries: &[Entry]) -> Option<Entry>
+    requires { block < 2 ^ 63 }
+    ensures some { IfSome result (λ above. above ≡ pointer_entry block (lines_below entries.now)) }
+    ensures narrow { IfSome result IsNarrow }
+    ensures none { IfNone result (2 ^ 63 ≤ lines_below entries.now) }
+{
+    let lines = count_lines(entries)?;
+    if lines > i64::MAX as u64 {
+        return None;
+    }
+    Some(Entry {
+        block,
+        pages: 1,
+        lines,
+    })
+}
+
+// Writes entries into a pointer block that has room for them.
+fn write_one<P: Pages>(
+    alloc: Global,
+    pages: &mut P,
+    block: u64,
+    entries: &[Entry],
+) -> Result<Vec<Entry>, PageErr>
+    requires valid { P.valid pages.old }
+    requires there { IsTrue P.tells → IsSome (pages_at (P.present pages.old) block 1) }
+    requires small { IsTrue P.tells → lines_below entries.now < 2 ^ 63 }
+    requires block { block < 2 ^ 63 }
+    requires narrow { AllByRecursion IsNarrow entries.now }
+    requires few { length entries.now ≤ 127 }
+    ensures wrote { IfOk result (λ above. IsTrue P.tells → (d : ℕ) (kids : List (Tree d)) → Below tree_format (P.present pages.old) block d kids entries.now → Wrote tree_format (P.present pages.old) (P.present pages.new) (λ k. one block k + total (λ u. uses d u k) kids) (suc d) (flat_map (λ u. lines_of d u) kids) above.items) }
+    ensures narrow { IfOk result (λ above. AllByRecursion IsNarrow above.items) }
+    ensures few { IfOk result (λ above. length above.items ≤ 3) }
+    ensures committed { IsTrue P.tells → P.committed pages.new ≡ P.committed pages.old }
+    ensures later { P.faults pages.old ≤ P.faults pages.new }
+    ensures failed { result ≡ Err PageErr.Failed → Rose (P.faults pages.old) (P.faults pages.new) }
+    ensures valid { P.valid pages.new }
+    ensures stays { P.stays pages.old pages.new }
+{
+    let Some(entry) = entry_above(block, entries) else {
+        pages.damaged();
+        return Err(PageErr::Failed);
+    };
+    let above = vec![in alloc; entry]?;
+    let bytes = pointer_bytes(alloc, entries)?;
+    pages.touch(alloc, block, 1, &bytes)?;
+    Ok(above)
+}
+
+// Writes the first half of entries, rounded up, into a pointer block and the second half into a new one.
+fn write_two<P: Pages>(
+    alloc: Global,
+    pages: &mut P,
+    block: u64,
+    entries: &[Entry],
+) -> Result<Vec<Entry>, PageErr>
+    requires valid { P.valid pages.old }
+    requires there { IsTrue P.tells → IsSome (pages_at (P.present pages.old) block 1) }
+    requires small { IsTrue P.tells → lines_below entries.now < 2 ^ 63 }
+    requires block { block < 2 ^ 63 }
+    requires narrow { AllByRecursion IsNarrow entries.now }
+    requires few { length entries.now ≤ 254 }
+    ensures wrote { IfOk result (λ above. IsTrue P.tells → (d : ℕ) (kids : List (Tree d)) → Below tree_format (P.present pages.old) block d kids entries.now → Wrote tree_format (P.present pages.old) (P.present pages.new) (λ k. one block k + total (λ u. uses d u k) kids) (suc d) (flat_map (λ u. lines_of d u) kids) above.items) }
+    ensures narrow { IfOk result (λ above. AllByRecursion IsNarrow above.items) }
+    ensures few { IfOk result (λ above. length above.items ≤ 3) }
+    ensures committed { IsTrue P.tells → P.committed pages.new ≡ P.committed pages.old }
+    ensures later { P.faults pages.old ≤ P.faults pages.new }
+    ensures failed { result ≡ Err PageErr.Failed → Rose (P.faults pages.old) (P.faults pages.new) }
+    ensures valid { P.valid pages.new }
+    ensures stays { P.stays pages.old pages.new }
+{
+    let half = entries.len() - entries.len() / 2;
+    let (first, second) = entries.split_at(half);
+    let bytes = pointer_bytes(alloc, first)?;
+    let more = pointer_bytes(alloc, second)?;
+    pages.touch(alloc, block, 1, &bytes)?;
+    let other = add_block(alloc, pages, 1, &more)?;
+    let Some(one) = entry_above(block, first) else {
+        pages.damaged();
+        return Err(PageErr::Failed);
+    };
+    let Some(two) = entry_above(other, second) else {
+        pages.damaged();
+        return Err(PageErr::Failed);
+    };
+    Ok(vec![in alloc; one, two]?)
+}
+
+/// Writes entries into the pointer block at page `block`, the second half of them into a new block where they are too
+/// many for one, and gives the entries that stand in place of the block's entry. Without entries the block is given back.
+pub fn write_pointers<P: Pages>(
+    alloc: Global,
+    pages: &mut P,
+    block: u64,
+    entries: Vec<Entry>,
+) -> Result<Vec<Entry>, PageErr>
+    requires valid { P.valid pages.old }
+    requires there { IsTrue P.tells → IsSome (pages_at (P.present pages.old) block 1) }
+    requires small { IsTrue P.tells → lines_below entries.items < 2 ^ 63 }
+    requires block { block < 2 ^ 63 }
+    requires narrow { AllByRecursion IsNarrow entries.items }
+    requires few { length entries.items ≤ 254 }
+    ensures wrote { IfOk result (λ above. IsTrue P.tells → (d : ℕ) (kids : List (Tree d)) → Below tree_format (P.present pages.old) block d kids entries.items → Wrote tree_format (P.present pages.old) (P.present pages.new) (λ k. one block k + total (λ u. uses d u k) kids) (suc d) (flat_map (λ u. lines_of d u) kids) above.items) }
+    ensures narrow { IfOk result (λ above. AllByRecursion IsNarrow above.items) }
+    ensures few { IfOk result (λ above. length above.items ≤ 3) }
+    ensures committed { IsTrue P.tells → P.committed pages.new ≡ P.committed pages.old }
+    ensures later { P.faults pages.old ≤ P.faults pages.new }
+    ensures failed { result ≡ Err PageErr.Failed → Rose (P.faults pages.old) (P.faults pages.new) }
+    ensures valid { P.valid pages.new }
+    ensures stays { P.stays pages.old pages.new }
+{
+    if entries.is_empty() {
+        pages.free(alloc, block, 1)?;
+        return Ok(Vec::new(alloc));
+    }
+    if entries.len() <= MOST_ENTRIES {
+        return write_one(alloc, pages, block, &entries);
+    }
+    write_two(alloc, pages, block, &entries)
+}
+
+// Moves each half of entries to a new block, the first half rounded up, and writes a block 1 that leads to these alone.
+fn lift_root<P: Pages>(alloc: Global, pages: &mut P, entries: &[Entry]) -> Result<(), PageErr>
+    requires valid { P.valid pages.old }
+    requires there { IsTrue P.tells → IsSome (pages_at (P.present pages.old) 1 1) }
+    requires small { IsTrue P.tells → lines_below entries.now < 2 ^ 63 }
+    requires narrow { AllByRecursion IsNarrow entries.now }
+    requires few { length entries.now ≤ 254 }
+    ensures wrote { OnOk result (IsTrue P.tells → (d : ℕ) (kids : List (Tree d)) → Below tree_format (P.present pages.old) 1 d kids entries.now → Wrote tree_format (P.present pages.old) (P.present pages.new) (λ k. one 1 k + total (λ u. uses d u k) kids) (suc (suc d)) (flat_map (λ u. lines_of d u) kids) (pointer_entry 1 (lines_below entries.now) ∷ [])) }
+    ensures committed { IsTrue P.tells → P.committed pages.new ≡ P.committed pages.old }
+    ensures later { P.faults pages.old ≤ P.faults pages.new }
+    ensures failed { result ≡ Err PageErr.Failed → Rose (P.faults pages.old) (P.faults pages.new) }
+    ensures valid { P.valid pages.new }
+    ensures stays { P.stays pages.old pages.new }
+{
+    let half = entries.len() - entries.len() / 2;
+    let (first, second) = entries.split_at(half);
+    let bytes = pointer_bytes(alloc, first)?;
+    let moved = add_block(alloc, pages, 1, &bytes)?;
+    let more = pointer_bytes(alloc, second)?;
+    let other = add_block(alloc, pages, 1, &more)?;
+    let Some(one) = entry_above(moved, first) else {
+        pages.damaged();
+        return Err(PageErr::Failed);
+    };
+    let Some(two) = entry_above(other, second) else {
+        pages.damaged();
+        return Err(PageErr::Failed);
+    };
+    let top = pointer_bytes(alloc, &[one, two])?;
+    pages.touch(alloc, 1, 1, &top)
+}
+
+/// Writes entries into block 1. Where they are too many, each half of them moves to a new block, and block 1 leads to
+/// these two alone. Gives the number of levels, 0 or 1, by which the tree is deeper then.
+pub fn write_root<P: Pages>(
+    alloc: Global,
+    pages: &mut P,
+    entries: Vec<Entry>,
+) -> Result<u64, PageErr>
+    requires valid { P.valid pages.old }
+    requires there { IsTrue P.tells → IsSome (pages_at (P.present pages.old) 1 1) }
+    requires small { IsTrue P.tells → lines_below entries.items < 2 ^ 63 }
+    requires narrow { AllByRecursion IsNarrow entries.items }
+    requires few { length entries.items ≤ 254 }
+    ensures wrote { IfOk result (λ more. IsTrue P.tells → (d : ℕ) (kids : List (Tree d)) → Below tree_format (P.present pages.old) 1 d kids entries.items → Wrote tree_format (P.present pages.old) (P.present pages.new) (λ k. one 1 k + total (λ u. uses d u k) kids) (more + suc d) (flat_map (λ u. lines_of d u) kids) (pointer_entry 1 (lines_below entries.items) ∷ [])) }
+    ensures more { IfOk result (λ more. more ≤ 1) }
+    ensures committed { IsTrue P.tells → P.committed pages.new ≡ P.committed pages.old }
+    ensures later { P.faults pages.old ≤ P.faults pages.new }
+    ensures failed { result ≡ Err PageErr.Failed → Rose (P.faults pages.old) (P.faults pages.new) }
+    ensures valid { P.valid pages.new }
+    ensures stays { P.stays pages.old pages.new }
+{
+    if entries.len() > MOST_ENTRIES {
+        lift_root(alloc, pages, &entries)?;
+        return Ok(1);
+    }
+    let bytes = pointer_bytes(alloc, &entries)?;
+    pages.touch(alloc, 1, 1, &bytes)?;
+    Ok(0)
+}

@@ -1,0 +1,7 @@
+pub mod Roots
+pub mod Shapes
+pub mod Splices
+pub mod Steps
+pub mod Sums
+pub mod Walks
+pub mod Writes
