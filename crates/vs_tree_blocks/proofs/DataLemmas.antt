@@ -38,6 +38,12 @@ long_same (Some []) ls h = absurd (cc)
 long_same (Some (line ∷ [])) ls h = long_case (nat_lt 4067 (length line)) line ls h
 long_same (Some (line ∷ more ∷ lines)) ls h = absurd (cc)
 
+long_only : (o : Option (List (List ℕ))) (ls : List (List ℕ)) → long_line o ≡ Some ls → (line : List ℕ) × (ls ≡ line ∷ []) × (4067 < length line)
+long_only None ls h = absurd (cc)
+long_only (Some []) ls h = absurd (cc)
+long_only (Some (line ∷ [])) ls h = (line, grind (arith, nat_tests), grind (arith, nat_tests))
+long_only (Some (line ∷ more ∷ lines)) ls h = absurd (cc)
+
 only_case : (b : Bool) (o : Option (List (List ℕ))) (ls : List (List ℕ)) → cond b o (long_line o) ≡ Some ls → o ≡ Some ls
 only_case true o ls h = h
 only_case false o ls h = (long_same o ls h).0
@@ -49,6 +55,11 @@ only_same bytes pages ls h = only_case (nat_le pages 1) (lines_in bytes) ls h
 pub long_alone : (bytes : List ℕ) (pages : ℕ) (ls : List (List ℕ)) → 2 ≤ pages → data_lines pages bytes ≡ Some ls → length ls ≡ 1
 unfolding data_lines
 long_alone bytes pages ls many h = (long_same (lines_in bytes) ls (several pages (lines_in bytes) many ∙ h)).1
+
+-- a block of several pages has one line, for which a page has no room
+pub long_one : (bytes : List ℕ) (pages : ℕ) (ls : List (List ℕ)) → 2 ≤ pages → data_lines pages bytes ≡ Some ls → (line : List ℕ) × (ls ≡ line ∷ []) × (4067 < length line)
+unfolding data_lines
+long_one bytes pages ls many h = long_only (lines_in bytes) ls (several pages (lines_in bytes) many ∙ h)
 
 pub long_reads : (bytes line : List ℕ) (pages : ℕ) → 2 ≤ pages → 4067 < length line → lines_in bytes ≡ Some (line ∷ []) → data_lines pages bytes ≡ Some (line ∷ [])
 unfolding data_lines

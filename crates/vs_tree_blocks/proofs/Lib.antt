@@ -4,3 +4,4 @@ pub mod EntriesLemmas
 pub mod FirstLemmas
 pub mod Outcomes
 pub mod PointersLemmas
+pub mod RunsLemmas

@@ -6,8 +6,8 @@ use Rattle.vs_tree_blocks.specs.declared.edit.Edit.TheVariants.{Before, After, R
 
 -- the change that an edit makes
 abbrev pub change_of : Edit → Change
-change_of (Before line) = record { skip = 0; gone = 0; new = line.now ∷ [] }
-change_of (After line) = record { skip = 1; gone = 0; new = line.now ∷ [] }
+change_of (Before run) = record { skip = 0; gone = 0; new = run.now }
+change_of (After run) = record { skip = 1; gone = 0; new = run.now }
 change_of Remove = record { skip = 0; gone = 1; new = [] }
 
 -- a line that may stand in a data block: it has no zero byte, and is not too long

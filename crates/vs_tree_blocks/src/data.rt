@@ -1,65 +1,20 @@
 // Data blocks in pages.
-ghost use Rattle.std.specs.Prelude.{◌≡◌, ◌≤◌, ◌<◌, ◌+◌, ◌*◌, ◌/◌, ◌^◌, ◌++◌, ◌∷◌, ◌⊎◌, [], ℕ, List, Some, None, Ok, Err, IfOk, OnOk, IfSome, IsTrue, IsSome, All, length, get_or, take, drop, insert, remove};
+ghost use Rattle.std.specs.Prelude.{◌≡◌, ◌≤◌, ◌<◌, ◌+◌, ◌*◌, ◌/◌, ◌^◌, ◌++◌, ◌∷◌, ◌⊎◌, [], ℕ, List, Some, None, Ok, Err, IfOk, OnOk, IfSome, IsTrue, IsSome, length, get_or, take, drop, remove};
 ghost use Rattle.std.specs.List.{AllByRecursion};
 ghost use Rattle.std.specs.Option.{option_map};
 ghost use Rattle.vs_faults.specs.Faults.{Rose};
 ghost use Rattle.vs_pages.specs.Maps.{pages_at, span};
-ghost use Rattle.vs_data.specs.Blocks.{lines_in, view_in, free_space};
-ghost use Rattle.vs_tree_laws.specs.Trees.{leaf};
-ghost use Rattle.vs_tree_laws.specs.Changes.{Above, Promise, Replaces, Wrote, edited, splice};
-ghost use Rattle.vs_tree_blocks.specs.Blocks.{tree_format, data_lines, lines_at, IsNarrow};
-ghost use Rattle.vs_tree_blocks.specs.Edits.{change_of, IsStored};
+ghost use Rattle.vs_data.specs.Blocks.{lines_in, view_in, free_space, space_of};
+ghost use Rattle.vs_tree_laws.specs.Changes.{Above, Promise, Wrote, edited, splice};
+ghost use Rattle.vs_tree_blocks.specs.Blocks.{tree_format, lines_at, IsNarrow};
+ghost use Rattle.vs_tree_blocks.specs.Edits.{change_of};
 ghost use Rattle.vs_tree_blocks.specs.Parts.{IsSplit};
 
-use crate::{Edit, add_block};
+use crate::{Edit, Run, add_block};
 use std::alloc::{AllocError, Global};
 use vs_data::DataView;
 use vs_pages::{PAGE_SIZE, PageErr, Pages};
 use vs_tree_laws::Entry;
-
-// The number of pages of a block for one line of this length alone.
-fn pages_for(len: usize) -> u32
-    requires { len ≤ 1048576 }
-    ensures { result ≡ (len + 29 + 4095) / 4096 }
-{
-    ((len + 29 + 4095) / PAGE_SIZE) as u32
-}
-
-// The bytes of a data block of so many pages with one line.
-pub fn line_bytes(alloc: Global, line: &[u8], count: u32) -> Result<Vec<u8>, AllocError>
-    requires stored { IsStored line.now }
-    requires count { count ≡ (length line.now + 29 + 4095) / 4096 }
-    ensures size { IfOk result (λ bytes. length bytes.items ≡ 4096 * count) }
-    ensures lines { IfOk result (λ bytes. lines_in bytes.items ≡ Some (line.now ∷ [])) }
-{
-    let mut bytes = vec![in alloc; 0u8; count as usize * PAGE_SIZE]?;
-    let mut view = DataView::fresh(&mut bytes);
-    view.insert(&mut bytes, 0, line);
-    Ok(bytes)
-}
-
-/// Adds a data block with one line, which has as many pages as the line needs.
-pub fn add_line<P: Pages>(alloc: Global, pages: &mut P, line: &[u8]) -> Result<Entry, PageErr>
-    requires valid { P.valid pages.old }
-    requires stored { IsStored line.now }
-    ensures added { IfOk result (λ new. IsTrue P.tells → Replaces tree_format (P.present pages.old) (P.present pages.new) (λ k. 0) 0 (leaf new.block new.pages (line.now ∷ []) ∷ [])) }
-    ensures one { IfOk result (λ new. new.lines ≡ 1) }
-    ensures narrow { IfOk result IsNarrow }
-    ensures committed { IsTrue P.tells → P.committed pages.new ≡ P.committed pages.old }
-    ensures later { P.faults pages.old ≤ P.faults pages.new }
-    ensures failed { result ≡ Err PageErr.Failed → Rose (P.faults pages.old) (P.faults pages.new) }
-    ensures valid { P.valid pages.new }
-    ensures stays { P.stays pages.old pages.new }
-{
-    let count = pages_for(line.len());
-    let bytes = line_bytes(alloc, line, count)?;
-    let block = add_block(alloc, pages, count, &bytes)?;
-    Ok(Entry {
-        block,
-        pages: count,
-        lines: 1,
-    })
-}
 
 // Loads a data block, and reads its header and index.
 fn load_data<P: Pages>(
@@ -119,28 +74,6 @@ pub fn load_line<P: Pages>(
     into.clear();
     into.extend_from_slice(view.line(&bytes, at as u32))?;
     Ok(())
-}
-
-// A data block of one page with a line put in.
-fn with_line(
-    alloc: Global,
-    view: DataView,
-    bytes: &[u8],
-    at: u32,
-    line: &[u8],
-) -> Result<Vec<u8>, AllocError>
-    requires view { view_in bytes.now ≡ Ok view }
-    requires size { length bytes.now ≡ 4096 }
-    requires at { at ≤ view.count }
-    requires fits { length line.now + 5 ≤ free_space view }
-    requires stored { IsStored line.now }
-    ensures size { IfOk result (λ now. length now.items ≡ 4096) }
-    ensures lines { IfOk result (λ now. lines_in now.items ≡ option_map (λ lines. insert lines at line.now) (lines_in bytes.now)) }
-{
-    let mut now = Vec::from_slice(alloc, bytes)?;
-    let mut whole = view;
-    whole.insert(&mut now, at, line);
-    Ok(now)
 }
 
 // A data block of one page with a line taken out.
@@ -265,7 +198,7 @@ fn put_whole<P: Pages>(
     view: DataView,
     bytes: &[u8],
     at: u32,
-    line: &[u8],
+    run: &Run,
 ) -> Result<Vec<Entry>, PageErr>
     requires valid { P.valid pages.old }
     requires block { block < 2 ^ 63 }
@@ -273,9 +206,8 @@ fn put_whole<P: Pages>(
     requires size { length bytes.now ≡ 4096 }
     requires view { view_in bytes.now ≡ Ok view }
     requires at { at ≤ view.count }
-    requires stored { IsStored line.now }
-    requires fits { length line.now + 5 ≤ free_space view }
-    ensures wrote { IfOk result (λ entries. IsTrue P.tells → (lines : List (List ℕ)) → lines_in bytes.now ≡ Some lines → Wrote tree_format (P.present pages.old) (P.present pages.new) (λ k. span block 1 k) 0 (splice lines at 0 (line.now ∷ [])) entries.items) }
+    requires fits { space_of run.now ≤ free_space view }
+    ensures wrote { IfOk result (λ entries. IsTrue P.tells → (lines : List (List ℕ)) → lines_in bytes.now ≡ Some lines → Wrote tree_format (P.present pages.old) (P.present pages.new) (λ k. span block 1 k) 0 (splice lines at 0 run.now) entries.items) }
     ensures narrow { IfOk result (λ entries. AllByRecursion IsNarrow entries.items) }
     ensures few { IfOk result (λ entries. length entries.items ≤ 3) }
     ensures committed { IsTrue P.tells → P.committed pages.new ≡ P.committed pages.old }
@@ -284,8 +216,8 @@ fn put_whole<P: Pages>(
     ensures valid { P.valid pages.new }
     ensures stays { P.stays pages.old pages.new }
 {
-    let now = with_line(alloc, view, bytes, at, line)?;
-    write_whole(alloc, pages, block, u64::from(view.count) + 1, &now)
+    let now = run.put_into(alloc, view, bytes, at)?;
+    write_whole(alloc, pages, block, u64::from(view.count) + run.len(), &now)
 }
 
 // Writes the two parts of a data block, with a line in the first.
@@ -295,7 +227,7 @@ fn put_front<P: Pages>(
     block: u64,
     parts: &Parts,
     at: u32,
-    line: &[u8],
+    run: &Run,
 ) -> Result<Vec<Entry>, PageErr>
     requires valid { P.valid pages.old }
     requires block { block < 2 ^ 63 }
@@ -305,9 +237,8 @@ fn put_front<P: Pages>(
     requires view { view_in parts.now.first.items ≡ Ok parts.now.front }
     requires second_view { view_in parts.now.second.items ≡ Ok parts.now.back }
     requires at { at ≤ parts.now.front.count }
-    requires fits { length line.now + 5 ≤ free_space parts.now.front }
-    requires stored { IsStored line.now }
-    ensures wrote { IfOk result (λ entries. IsTrue P.tells → (a b : List (List ℕ)) → lines_in parts.now.first.items ≡ Some a → parts.now.front.count ≡ length a → lines_in parts.now.second.items ≡ Some b → parts.now.back.count ≡ length b → Wrote tree_format (P.present pages.old) (P.present pages.new) (λ k. span block 1 k) 0 (insert a at line.now ++ b) entries.items) }
+    requires fits { space_of run.now ≤ free_space parts.now.front }
+    ensures wrote { IfOk result (λ entries. IsTrue P.tells → (a b : List (List ℕ)) → lines_in parts.now.first.items ≡ Some a → parts.now.front.count ≡ length a → lines_in parts.now.second.items ≡ Some b → parts.now.back.count ≡ length b → Wrote tree_format (P.present pages.old) (P.present pages.new) (λ k. span block 1 k) 0 (splice a at 0 run.now ++ b) entries.items) }
     ensures narrow { IfOk result (λ entries. AllByRecursion IsNarrow entries.items) }
     ensures few { IfOk result (λ entries. length entries.items ≤ 3) }
     ensures committed { IsTrue P.tells → P.committed pages.new ≡ P.committed pages.old }
@@ -316,8 +247,8 @@ fn put_front<P: Pages>(
     ensures valid { P.valid pages.new }
     ensures stays { P.stays pages.old pages.new }
 {
-    let now = with_line(alloc, parts.front, &parts.first, at, line)?;
-    let front = u64::from(parts.front.count) + 1;
+    let now = run.put_into(alloc, parts.front, &parts.first, at)?;
+    let front = u64::from(parts.front.count) + run.len();
     let back = u64::from(parts.back.count);
     write_parts(alloc, pages, block, front, &now, back, &parts.second)
 }
@@ -329,7 +260,7 @@ fn put_back<P: Pages>(
     block: u64,
     parts: &Parts,
     at: u32,
-    line: &[u8],
+    run: &Run,
 ) -> Result<Vec<Entry>, PageErr>
     requires valid { P.valid pages.old }
     requires block { block < 2 ^ 63 }
@@ -339,9 +270,8 @@ fn put_back<P: Pages>(
     requires view { view_in parts.now.second.items ≡ Ok parts.now.back }
     requires first_view { view_in parts.now.first.items ≡ Ok parts.now.front }
     requires at { at ≤ parts.now.back.count }
-    requires fits { length line.now + 5 ≤ free_space parts.now.back }
-    requires stored { IsStored line.now }
-    ensures wrote { IfOk result (λ entries. IsTrue P.tells → (a b : List (List ℕ)) → lines_in parts.now.first.items ≡ Some a → parts.now.front.count ≡ length a → lines_in parts.now.second.items ≡ Some b → parts.now.back.count ≡ length b → Wrote tree_format (P.present pages.old) (P.present pages.new) (λ k. span block 1 k) 0 (a ++ insert b at line.now) entries.items) }
+    requires fits { space_of run.now ≤ free_space parts.now.back }
+    ensures wrote { IfOk result (λ entries. IsTrue P.tells → (a b : List (List ℕ)) → lines_in parts.now.first.items ≡ Some a → parts.now.front.count ≡ length a → lines_in parts.now.second.items ≡ Some b → parts.now.back.count ≡ length b → Wrote tree_format (P.present pages.old) (P.present pages.new) (λ k. span block 1 k) 0 (a ++ splice b at 0 run.now) entries.items) }
     ensures narrow { IfOk result (λ entries. AllByRecursion IsNarrow entries.items) }
     ensures few { IfOk result (λ entries. length entries.items ≤ 3) }
     ensures committed { IsTrue P.tells → P.committed pages.new ≡ P.committed pages.old }
@@ -350,9 +280,9 @@ fn put_back<P: Pages>(
     ensures valid { P.valid pages.new }
     ensures stays { P.stays pages.old pages.new }
 {
-    let now = with_line(alloc, parts.back, &parts.second, at, line)?;
+    let now = run.put_into(alloc, parts.back, &parts.second, at)?;
     let front = u64::from(parts.front.count);
-    let back = u64::from(parts.back.count) + 1;
+    let back = u64::from(parts.back.count) + run.len();
     write_parts(alloc, pages, block, front, &parts.first, back, &now)
 }
 
@@ -362,15 +292,14 @@ fn write_between<P: Pages>(
     pages: &mut P,
     block: u64,
     parts: &Parts,
-    line: &[u8],
+    run: &Run,
 ) -> Result<Vec<Entry>, PageErr>
     requires valid { P.valid pages.old }
     requires block { block < 2 ^ 63 }
     requires there { IsTrue P.tells → IsSome (pages_at (P.present pages.old) block 1) }
     requires first { length parts.now.first.items ≡ 4096 }
     requires second { length parts.now.second.items ≡ 4096 }
-    requires stored { IsStored line.now }
-    ensures wrote { IfOk result (λ entries. IsTrue P.tells → (a b : List (List ℕ)) → lines_in parts.now.first.items ≡ Some a → parts.now.front.count ≡ length a → lines_in parts.now.second.items ≡ Some b → parts.now.back.count ≡ length b → Wrote tree_format (P.present pages.old) (P.present pages.new) (λ k. span block 1 k) 0 (a ++ line.now ∷ b) entries.items) }
+    ensures wrote { IfOk result (λ entries. IsTrue P.tells → (a b : List (List ℕ)) → lines_in parts.now.first.items ≡ Some a → parts.now.front.count ≡ length a → lines_in parts.now.second.items ≡ Some b → parts.now.back.count ≡ length b → Wrote tree_format (P.present pages.old) (P.present pages.new) (λ k. span block 1 k) 0 (a ++ (run.now ++ b)) entries.items) }
     ensures narrow { IfOk result (λ entries. AllByRecursion IsNarrow entries.items) }
     ensures few { IfOk result (λ entries. length entries.items ≤ 3) }
     ensures committed { IsTrue P.tells → P.committed pages.new ≡ P.committed pages.old }
@@ -380,7 +309,7 @@ fn write_between<P: Pages>(
     ensures stays { P.stays pages.old pages.new }
 {
     pages.touch(alloc, block, 1, &parts.first)?;
-    let new = add_line(alloc, pages, line)?;
+    let new = run.add(alloc, pages)?;
     let other = add_block(alloc, pages, 1, &parts.second)?;
     let one = Entry {
         block,
@@ -395,7 +324,7 @@ fn write_between<P: Pages>(
     Ok(vec![in alloc; one, new, two]?)
 }
 
-// Splits a data block between its lines, and puts a line there into a block of its own.
+// Splits a data block between its lines, and puts a run of lines there into a block of its own.
 fn put_between<P: Pages>(
     alloc: Global,
     pages: &mut P,
@@ -403,7 +332,7 @@ fn put_between<P: Pages>(
     view: DataView,
     bytes: &[u8],
     at: u32,
-    line: &[u8],
+    run: &Run,
 ) -> Result<Vec<Entry>, PageErr>
     requires valid { P.valid pages.old }
     requires block { block < 2 ^ 63 }
@@ -411,8 +340,7 @@ fn put_between<P: Pages>(
     requires size { length bytes.now ≡ 4096 }
     requires view { view_in bytes.now ≡ Ok view }
     requires at { at ≤ view.count }
-    requires stored { IsStored line.now }
-    ensures wrote { IfOk result (λ entries. IsTrue P.tells → (lines : List (List ℕ)) → lines_in bytes.now ≡ Some lines → Wrote tree_format (P.present pages.old) (P.present pages.new) (λ k. span block 1 k) 0 (splice lines at 0 (line.now ∷ [])) entries.items) }
+    ensures wrote { IfOk result (λ entries. IsTrue P.tells → (lines : List (List ℕ)) → lines_in bytes.now ≡ Some lines → Wrote tree_format (P.present pages.old) (P.present pages.new) (λ k. span block 1 k) 0 (splice lines at 0 run.now) entries.items) }
     ensures narrow { IfOk result (λ entries. AllByRecursion IsNarrow entries.items) }
     ensures few { IfOk result (λ entries. length entries.items ≤ 3) }
     ensures committed { IsTrue P.tells → P.committed pages.new ≡ P.committed pages.old }
@@ -422,10 +350,10 @@ fn put_between<P: Pages>(
     ensures stays { P.stays pages.old pages.new }
 {
     if at == 0 || at == view.count {
-        return put_beside(alloc, pages, block, view, bytes, at, line);
+        return put_beside(alloc, pages, block, view, bytes, at, run);
     }
     let parts = split_bytes(alloc, view, bytes, at)?;
-    write_between(alloc, pages, block, &parts, line)
+    write_between(alloc, pages, block, &parts, run)
 }
 
 // Puts a line into a block of its own before or behind a data block, which stays as it is.
@@ -436,7 +364,7 @@ fn put_beside<P: Pages>(
     view: DataView,
     bytes: &[u8],
     at: u32,
-    line: &[u8],
+    run: &Run,
 ) -> Result<Vec<Entry>, PageErr>
     requires valid { P.valid pages.old }
     requires block { block < 2 ^ 63 }
@@ -444,8 +372,7 @@ fn put_beside<P: Pages>(
     requires size { length bytes.now ≡ 4096 }
     requires view { view_in bytes.now ≡ Ok view }
     requires at { (at ≡ 0) ⊎ (at ≡ view.count) }
-    requires stored { IsStored line.now }
-    ensures wrote { IfOk result (λ entries. IsTrue P.tells → (lines : List (List ℕ)) → lines_in bytes.now ≡ Some lines → Wrote tree_format (P.present pages.old) (P.present pages.new) (λ k. span block 1 k) 0 (splice lines at 0 (line.now ∷ [])) entries.items) }
+    ensures wrote { IfOk result (λ entries. IsTrue P.tells → (lines : List (List ℕ)) → lines_in bytes.now ≡ Some lines → Wrote tree_format (P.present pages.old) (P.present pages.new) (λ k. span block 1 k) 0 (splice lines at 0 run.now) entries.items) }
     ensures narrow { IfOk result (λ entries. AllByRecursion IsNarrow entries.items) }
     ensures few { IfOk result (λ entries. length entries.items ≤ 3) }
     ensures committed { IsTrue P.tells → P.committed pages.new ≡ P.committed pages.old }
@@ -459,7 +386,7 @@ fn put_beside<P: Pages>(
         pages: 1,
         lines: u64::from(view.count),
     };
-    let new = add_line(alloc, pages, line)?;
+    let new = run.add(alloc, pages)?;
     if at == 0 {
         return Ok(vec![in alloc; new, kept]?);
     }
@@ -475,7 +402,7 @@ fn put_split<P: Pages>(
     view: DataView,
     bytes: &[u8],
     at: u32,
-    line: &[u8],
+    run: &Run,
 ) -> Result<Vec<Entry>, PageErr>
     requires valid { P.valid pages.old }
     requires block { block < 2 ^ 63 }
@@ -483,8 +410,7 @@ fn put_split<P: Pages>(
     requires size { length bytes.now ≡ 4096 }
     requires view { view_in bytes.now ≡ Ok view }
     requires at { at ≤ view.count }
-    requires stored { IsStored line.now }
-    ensures wrote { IfOk result (λ entries. IsTrue P.tells → (lines : List (List ℕ)) → lines_in bytes.now ≡ Some lines → Wrote tree_format (P.present pages.old) (P.present pages.new) (λ k. span block 1 k) 0 (splice lines at 0 (line.now ∷ [])) entries.items) }
+    ensures wrote { IfOk result (λ entries. IsTrue P.tells → (lines : List (List ℕ)) → lines_in bytes.now ≡ Some lines → Wrote tree_format (P.present pages.old) (P.present pages.new) (λ k. span block 1 k) 0 (splice lines at 0 run.now) entries.items) }
     ensures narrow { IfOk result (λ entries. AllByRecursion IsNarrow entries.items) }
     ensures few { IfOk result (λ entries. length entries.items ≤ 3) }
     ensures committed { IsTrue P.tells → P.committed pages.new ≡ P.committed pages.old }
@@ -495,24 +421,24 @@ fn put_split<P: Pages>(
 {
     let half = view.count - view.count / 2;
     let parts = split_bytes(alloc, view, bytes, half)?;
-    if at <= half && parts.front.fits(line.len()) {
-        return put_front(alloc, pages, block, &parts, at, line);
+    if at <= half && run.fits(parts.front) {
+        return put_front(alloc, pages, block, &parts, at, run);
     }
-    if at >= half && parts.back.fits(line.len()) {
-        return put_back(alloc, pages, block, &parts, at - half, line);
+    if at >= half && run.fits(parts.back) {
+        return put_back(alloc, pages, block, &parts, at - half, run);
     }
-    put_between(alloc, pages, block, view, bytes, at, line)
+    put_between(alloc, pages, block, view, bytes, at, run)
 }
 
 // Puts a line into a data block of one page.
-fn put_line<P: Pages>(
+fn put_run<P: Pages>(
     alloc: Global,
     pages: &mut P,
     block: u64,
     view: DataView,
     bytes: &[u8],
     at: u32,
-    line: &[u8],
+    run: &Run,
 ) -> Result<Vec<Entry>, PageErr>
     requires valid { P.valid pages.old }
     requires block { block < 2 ^ 63 }
@@ -520,8 +446,7 @@ fn put_line<P: Pages>(
     requires size { length bytes.now ≡ 4096 }
     requires view { view_in bytes.now ≡ Ok view }
     requires at { at ≤ view.count }
-    requires stored { IsStored line.now }
-    ensures wrote { IfOk result (λ entries. IsTrue P.tells → (lines : List (List ℕ)) → lines_in bytes.now ≡ Some lines → Wrote tree_format (P.present pages.old) (P.present pages.new) (λ k. span block 1 k) 0 (splice lines at 0 (line.now ∷ [])) entries.items) }
+    ensures wrote { IfOk result (λ entries. IsTrue P.tells → (lines : List (List ℕ)) → lines_in bytes.now ≡ Some lines → Wrote tree_format (P.present pages.old) (P.present pages.new) (λ k. span block 1 k) 0 (splice lines at 0 run.now) entries.items) }
     ensures narrow { IfOk result (λ entries. AllByRecursion IsNarrow entries.items) }
     ensures few { IfOk result (λ entries. length entries.items ≤ 3) }
     ensures committed { IsTrue P.tells → P.committed pages.new ≡ P.committed pages.old }
@@ -530,10 +455,10 @@ fn put_line<P: Pages>(
     ensures valid { P.valid pages.new }
     ensures stays { P.stays pages.old pages.new }
 {
-    if view.fits(line.len()) {
-        return put_whole(alloc, pages, block, view, bytes, at, line);
+    if run.fits(view) {
+        return put_whole(alloc, pages, block, view, bytes, at, run);
     }
-    put_split(alloc, pages, block, view, bytes, at, line)
+    put_split(alloc, pages, block, view, bytes, at, run)
 }
 
 // Takes a line out of a data block of one page. A block without lines is given back.
@@ -579,7 +504,7 @@ fn edit_long<P: Pages>(
     requires valid { P.valid pages.old }
     requires block { block < 2 ^ 63 }
     requires count { count < 2 ^ 31 }
-    requires stored { All IsStored (change_of edit).new }
+    requires few { length (change_of edit).new < 2 ^ 62 }
     requires there { IsTrue P.tells → (2 ≤ count) × IsSome (lines_at (P.present pages.old) block count) }
     ensures wrote { IfOk result (λ entries. IsTrue P.tells → (lines : List (List ℕ)) → lines_at (P.present pages.old) block count ≡ Some lines → Wrote tree_format (P.present pages.old) (P.present pages.new) (λ k. span block count k) 0 (edited (change_of edit.entry) lines 0) entries.items) }
     ensures narrow { IfOk result (λ entries. AllByRecursion IsNarrow entries.items) }
@@ -596,12 +521,12 @@ fn edit_long<P: Pages>(
         lines: 1,
     };
     match edit {
-        Edit::Before(line) => {
-            let new = add_line(alloc, pages, line)?;
+        Edit::Before(run) => {
+            let new = run.add(alloc, pages)?;
             Ok(vec![in alloc; new, kept]?)
         }
-        Edit::After(line) => {
-            let new = add_line(alloc, pages, line)?;
+        Edit::After(run) => {
+            let new = run.add(alloc, pages)?;
             Ok(vec![in alloc; kept, new]?)
         }
         Edit::Remove => {
@@ -624,7 +549,7 @@ pub fn edit_data<P: Pages>(
     requires valid { P.valid pages.old }
     requires block { block < 2 ^ 63 }
     requires count { count < 2 ^ 31 }
-    requires stored { All IsStored (change_of edit).new }
+    requires few { length (change_of edit).new < 2 ^ 62 }
     requires there { IsTrue P.tells → Above tree_format (P.present pages.old) block count 0 at }
     ensures wrote { IfOk result (λ entries. IsTrue P.tells → Promise tree_format (P.present pages.old) (P.present pages.new) block count 0 at (change_of edit.entry) entries.items) }
     ensures narrow { IfOk result (λ entries. AllByRecursion IsNarrow entries.items) }
@@ -646,8 +571,8 @@ pub fn edit_data<P: Pages>(
     }
     let place = at as u32;
     match edit {
-        Edit::Before(line) => put_line(alloc, pages, block, view, &bytes, place, line),
-        Edit::After(line) => put_line(alloc, pages, block, view, &bytes, place + 1, line),
+        Edit::Before(run) => put_run(alloc, pages, block, view, &bytes, place, run),
+        Edit::After(run) => put_run(alloc, pages, block, view, &bytes, place + 1, run),
         Edit::Remove => remove_line(alloc, pages, block, view, &bytes, place),
     }
 }

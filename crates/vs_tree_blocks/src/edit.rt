@@ -1,9 +1,10 @@
 // What is done at a line.
+use crate::Run;
 
-/// What is done at a line: a stored line is put in before it or after it, or it is taken out.
-#[derive(Clone, Copy, Debug)]
+/// What is done at a line: lines are put in before it or after it, or it is taken out.
+#[derive(Clone, Copy)]
 pub enum Edit<'a> {
-    Before(&'a [u8]),
-    After(&'a [u8]),
+    Before(&'a Run),
+    After(&'a Run),
     Remove,
 }

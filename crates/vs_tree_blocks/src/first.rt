@@ -5,8 +5,8 @@ ghost use Rattle.vs_pages.specs.Maps.{pages_at};
 ghost use Rattle.vs_tree_laws.specs.Trees.{HasLines};
 ghost use Rattle.vs_tree_blocks.specs.Blocks.{tree_format};
 
+use crate::Run;
 use crate::bytes::pointer_bytes;
-use crate::data::line_bytes;
 use std::alloc::Global;
 use vs_pages::{PageErr, Pages};
 use vs_tree_laws::Entry;
@@ -28,7 +28,7 @@ pub fn write_first<P: Pages>(alloc: Global, pages: &mut P) -> Result<(), PageErr
         lines: 1,
     };
     let mut bytes = pointer_bytes(alloc, &[entry])?;
-    let line = line_bytes(alloc, &[], 1)?;
-    bytes.extend_from_slice(&line)?;
+    let line = Run::of(alloc, &[])?;
+    bytes.extend_from_slice(line.bytes())?;
     pages.touch(alloc, 1, 2, &bytes)
 }

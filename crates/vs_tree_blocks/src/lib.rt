@@ -7,6 +7,7 @@ mod data;
 mod edit;
 mod first;
 mod pointers;
+mod run;
 
 pub use add::add_block;
 pub use bytes::pointer_bytes;
@@ -14,3 +15,4 @@ pub use data::{edit_data, load_line};
 pub use edit::Edit;
 pub use first::write_first;
 pub use pointers::{load_entries, write_pointers, write_root};
+pub use run::Run;

@@ -1,0 +1,152 @@
+-- A run's bytes are a data block, whose header tells what its lines take.
+use Rattle.std.proofs.Common.{◌≡◌, ℕ, ◌+◌, ◌-◌, ◌*◌, ◌/◌, ◌<◌, ◌≤◌, List, [], ◌∷◌, ◌++◌, length, take, drop, insert, get_or, slice_get, Option, Some, None, Ok, IsSomeAnd, nat_le, nat_lt, if◌then◌else◌, cond, Bool, true, false, refl, sym, ap, subst, ◌∙◌, arith, length-append, append_assoc, append-nil, length-take, length-drop, inl, inr}
+use Rattle.std.specs.Option.{option_map, option_and_then}
+use Rattle.std.proofs.lemmas.Bool.{cases_eq}
+use Rattle.std.proofs.lemmas.Grind.{common_steps}
+use Rattle.std.proofs.lemmas.List.Sums.{sum_by-cons, sum_by-append}
+use Rattle.vs_data.specs.declared.DataView.{DataView}
+use Rattle.vs_data.specs.Blocks.{lines_in, view_in, free_space, space_of, Measures}
+use Rattle.vs_data.proofs.Lines.{measured}
+use Rattle.vs_data.proofs.Reading.{has_view, view_bounds}
+use Rattle.vs_tree_laws.specs.Changes.{splice}
+use Rattle.vs_tree_laws.proofs.Splices.{splice_mid, length_splice}
+use Rattle.vs_tree_blocks.specs.Blocks.{data_lines}
+use Rattle.vs_tree_blocks.specs.Runs.{or_none, lines_within, IsRun}
+use Rattle.vs_tree_blocks.proofs.DataLemmas.{one_page, long_one, alone_reads, insert_splice, line_at}
+
+-- what the header tells of a block's lines
+pub record Told (bytes : List ℕ) (view : DataView) (lines : List (List ℕ)) : Type 0 where
+  pub lines_are : lines_in bytes ≡ Some lines
+  pub count : length lines ≡ view.count
+  pub space : 24 + space_of lines + free_space view ≡ view.text_end
+  pub index : 24 + 4 * view.count ≤ view.text_start
+  pub text : view.text_start ≤ view.text_end
+  pub within : view.text_end ≤ length bytes
+
+abbrev pub IsRead : DataView → Option (List (List ℕ)) → Type 0
+IsRead view o = (o ≡ Some (or_none o)) × Measures view (or_none o)
+
+is_read : (o : Option (List (List ℕ))) (view : DataView) → IsSomeAnd o (Measures view) → IsRead view o
+is_read None view h = absurd h
+is_read (Some ls) view h = (refl, h)
+
+pub told : (bytes : List ℕ) (view : DataView) → view_in bytes ≡ Ok view → Told bytes view (lines_within bytes)
+told bytes view is =
+    let v = has_view bytes view (view_bounds bytes view is) in
+    let r = is_read (lines_in bytes) view (measured bytes view is) in
+    record {
+      lines_are = r.0;
+      count = r.1.count;
+      space = r.1.space;
+      index = omega (arith, v.count, v.start, v.bounds.index);
+      text = omega (arith, v.start, v.end, v.bounds.text);
+      within = omega (arith, v.end, v.bounds.within);
+    }
+
+-- a block of several pages holds more than a page has room for
+pub wide : (bytes : List ℕ) (pages : ℕ) (ls : List (List ℕ)) → 2 ≤ pages → data_lines pages bytes ≡ Some ls → 4072 < space_of ls
+wide bytes pages ls many is =
+    let one : (line : List ℕ) × (ls ≡ line ∷ []) × (4067 < length line) = long_one bytes pages ls many is in
+    omega (arith, ap space_of one.1, sum_by-cons (λ (line : List ℕ). length line + 5) one.0 [], one.2)
+
+pub within_is : (bytes : List ℕ) (ls : List (List ℕ)) → lines_in bytes ≡ Some ls → lines_within bytes ≡ ls
+within_is bytes ls is = ap or_none is
+
+-- the run of one page, as its header tells
+pub record OnePage (bytes : List ℕ) (view : DataView) : Type 0 where
+  pub size : length bytes ≡ 4096
+  pub end : view.text_end ≡ 4096
+
+pub one_page_run : (bytes : List ℕ) (view : DataView) (pages : ℕ) → IsRun bytes view pages → pages ≡ 1 → OnePage bytes view
+one_page_run bytes view pages r one = record { size = omega (arith, r.size, one); end = omega (arith, r.end, r.size, one) }
+
+pub fits_one : (bytes : List ℕ) (view : DataView) (pages : ℕ) → IsRun bytes view pages → space_of (lines_within bytes) ≤ 4072 → pages ≡ 1
+fits_one bytes view pages r few = elim (cases_eq pages 1) [
+  | inl e ↦ e
+  | inr ne ↦ absurd (omega (arith, few, wide bytes pages (lines_within bytes) (omega (arith, r.some, ne)) r.reads))
+]
+
+-- the run of one line, in as many pages as it needs
+pub one_line : (bytes line : List ℕ) (view : DataView) (pages : ℕ) → length line ≤ 1048576 → pages ≡ (length line + 29 + 4095) / 4096 → view_in bytes ≡ Ok view → lines_in bytes ≡ Some (line ∷ []) → length bytes ≡ 4096 * pages → view.text_end ≡ 4096 * pages → IsRun bytes view pages
+one_line bytes line view pages short pages_is is lines size end =
+    record {
+      view_is = is;
+      reads = alone_reads bytes line pages pages_is lines ∙ ap (λ ls. Some ls) (sym (within_is bytes (line ∷ []) lines));
+      size = size;
+      end = end ∙ sym size;
+      some = omega (arith, pages_is);
+      few = omega (arith, pages_is, short);
+    }
+
+-- the run with a line more, in the one page that it has
+pub longer : (bytes : List ℕ) (ls : List (List ℕ)) (view : DataView) (pages : ℕ) → pages ≡ 1 → view_in bytes ≡ Ok view → lines_in bytes ≡ Some ls → length bytes ≡ 4096 → view.text_end ≡ 4096 → IsRun bytes view pages
+longer bytes ls view pages one is lines size end =
+    record {
+      view_is = is;
+      reads = one_page bytes pages one ∙ lines ∙ ap (λ xs. Some xs) (sym (within_is bytes ls lines));
+      size = omega (arith, one, size);
+      end = end ∙ sym size;
+      some = omega (arith, one);
+      few = omega (arith, one);
+    }
+
+pub space-behind : (ls : List (List ℕ)) (line : List ℕ) → space_of (ls ++ line ∷ []) ≡ space_of ls + (length line + 5)
+space-behind ls line = sum_by-append (λ (l : List ℕ). length l + 5) ls (line ∷ []) ∙ omega (arith, sum_by-cons (λ (l : List ℕ). length l + 5) line [])
+
+pub insert_behind : (ls : List (List ℕ)) (at : ℕ) (line : List ℕ) → at ≡ length ls → insert ls at line ≡ ls ++ line ∷ []
+insert_behind ls at line last = grind (arith, common_steps)
+
+-- a run's first lines were put into a block, and there is room for the others
+pub record Half (old now : List ℕ) (view whole : DataView) (run : List (List ℕ)) (at i : ℕ) : Type 0 where
+  pub view_is : view_in now ≡ Ok whole
+  pub size : length now ≡ 4096
+  pub count : whole.count ≡ view.count + i
+  pub room : space_of (drop i run) ≤ free_space whole
+  pub lines : lines_in now ≡ Some (splice (lines_within old) at 0 (take i run))
+
+abbrev pub IsNext : List (List ℕ) → ℕ → List ℕ → Type 0
+IsNext run i line = (take (i + 1) run ≡ take i run ++ line ∷ []) × (drop i run ≡ line ∷ drop (i + 1) run)
+
+next_in : (run : List (List ℕ)) (i : ℕ) (line : List ℕ) → i < length run → line ≡ get_or run i [] → IsNext run i line
+next_in run i line lt is = (rw is (grind (arith, common_steps)), rw is (grind (arith, common_steps)))
+
+-- the run's line at a number
+pub run_line : (o : Option (List (List ℕ))) (run : List (List ℕ)) (i : ℕ) (line : List ℕ) → i < length run → o ≡ Some run → option_and_then (λ ls. slice_get ls i) o ≡ Some line → IsNext run i line
+run_line o run i line lt is found = next_in run i line lt (line_at o run i line is found)
+
+put_more : (ls run : List (List ℕ)) (at i place : ℕ) (line : List ℕ) → at ≤ length ls → i < length run → place ≡ at + i → IsNext run i line → insert (splice ls at 0 (take i run)) place line ≡ splice ls at 0 (take (i + 1) run)
+put_more ls run at i place line le lt place_is next =
+    let front : List (List ℕ) = take at ls ++ take i run in
+    let n : length front ≡ at + i = omega (arith, length-append (take at ls) (take i run), length-take at ls, length-take i run) in
+    insert_splice (splice ls at 0 (take i run)) place line
+    ∙ splice_mid front [] (drop (at + 0) ls) (line ∷ []) place 0 0 (omega arith) (omega arith) ∙ rw next.0 (simp append_assoc)
+
+pub half_more : (old now next : List ℕ) (view whole after : DataView) (run : List (List ℕ)) (at i place : ℕ) (line : List ℕ) → Half old now view whole run at i → at ≤ length (lines_within old) → i < length run → place ≡ at + i → IsNext run i line
+    → view_in next ≡ Ok after → length next ≡ length now → after ≡ record whole { count = whole.count + 1; text_start = whole.text_start - (length line + 1) } → lines_in next ≡ option_map (λ ls. insert ls place line) (lines_in now) → Half old next view after run at (i + 1)
+half_more old now next view whole after run at i place line h le lt place_is next_is reads size header lines =
+    record {
+      view_is = reads;
+      size = size ∙ h.size;
+      count = omega (arith, h.count, ap (λ (v : DataView). v.count) header);
+      room = omega (arith, h.room, ap space_of next_is.1, sum_by-cons (λ (l : List ℕ). length l + 5) line (drop (i + 1) run), ap free_space header);
+      lines = lines ∙ ap (λ o. option_map (λ ls. insert ls place line) o) h.lines ∙ ap (λ xs. Some xs) (put_more (lines_within old) run at i place line le lt place_is next_is);
+    }
+
+pub half_none : (old now : List ℕ) (view : DataView) (run : List (List ℕ)) (at : ℕ) → now ≡ old → view_in old ≡ Ok view → length old ≡ 4096 → space_of run ≤ free_space view → Half old now view view run at 0
+half_none old now view run at same is size room =
+    let none : lines_within old ≡ splice (lines_within old) at 0 [] = grind (arith, common_steps) in
+    record {
+      view_is = ap view_in same ∙ is;
+      size = ap length same ∙ size;
+      count = omega arith;
+      room = room;
+      lines = ap lines_in same ∙ (told old view is).lines_are ∙ ap (λ ls. Some ls) none;
+    }
+
+pub half_room : (run : List (List ℕ)) (i : ℕ) (line : List ℕ) (free : ℕ) → IsNext run i line → space_of (drop i run) ≤ free → length line + 5 ≤ free
+half_room run i line free next room = omega (arith, room, ap space_of next.1, sum_by-cons (λ (l : List ℕ). length l + 5) line (drop (i + 1) run))
+
+pub half_all : (old now : List ℕ) (view whole : DataView) (run : List (List ℕ)) (at i : ℕ) → i ≡ length run → view_in old ≡ Ok view → Half old now view whole run at i → lines_in now ≡ option_map (λ ls. splice ls at 0 run) (lines_in old)
+half_all old now view whole run at i all is h =
+    let whole_run : take i run ≡ run = grind (arith, common_steps) in
+    h.lines ∙ ap (λ xs. Some (splice (lines_within old) at 0 xs)) whole_run ∙ sym (ap (λ o. option_map (λ ls. splice ls at 0 run) o) (told old view is).lines_are)

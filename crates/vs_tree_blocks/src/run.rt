@@ -1,0 +1,141 @@
+// Lines that are put in together.
+ghost use Rattle.std.specs.Prelude.{◌≡◌, ◌≤◌, ◌<◌, ◌+◌, ◌*◌, ◌/◌, ◌^◌, ◌↔◌, ◌++◌, ◌∷◌, [], ℕ, List, Some, Ok, Err, IfOk, IsTrue, length, false};
+ghost use Rattle.std.specs.Option.{option_map};
+ghost use Rattle.vs_faults.specs.Faults.{Rose};
+ghost use Rattle.vs_data.specs.Blocks.{lines_in, view_in, free_space, space_of};
+ghost use Rattle.vs_tree_laws.specs.Trees.{leaf};
+ghost use Rattle.vs_tree_laws.specs.Changes.{Replaces, splice};
+ghost use Rattle.vs_tree_blocks.specs.Blocks.{tree_format, IsNarrow};
+ghost use Rattle.vs_tree_blocks.specs.Edits.{IsStored};
+
+use crate::add_block;
+use std::alloc::{AllocError, Global};
+use std::marker::Model;
+use vs_data::DataView;
+use vs_pages::{PAGE_SIZE, PageErr, Pages};
+use vs_tree_laws::Entry;
+
+// The number of pages of a block for one line of this length alone.
+fn pages_for(len: usize) -> u32
+    requires { len ≤ 1048576 }
+    ensures { result ≡ (len + 29 + 4095) / 4096 }
+{
+    ((len + 29 + 4095) / PAGE_SIZE) as u32
+}
+
+/// Stored lines that are put in together: as many as a page has room for, or one line alone, which may be longer. They are
+/// kept as a data block of as many pages as that line needs, and seen as the list of them.
+#[derive(Drop)]
+pub struct Run {
+    bytes: Vec<u8>,
+    view: DataView,
+    pages: u32,
+}
+
+impl Model for Run {
+    ghost use Rattle.std.specs.Prelude.{ℕ, List};
+    ghost use Rattle.vs_tree_blocks.specs.Runs.{lines_within, IsRun};
+
+    ghost Value = { List (List ℕ) };
+
+    ghost view = { λ run. lines_within run.bytes.items };
+
+    ghost invariant = { λ run. IsRun run.bytes.items run.view run.pages };
+}
+
+impl Run {
+    /// The run of one stored line.
+    pub fn of(alloc: Global, line: &[u8]) -> Result<Run, AllocError>
+        requires { IsStored line.now }
+        ensures { IfOk result (λ run. run ≡ line.now ∷ []) }
+    {
+        let pages = pages_for(line.len());
+        let mut bytes = vec![in alloc; 0u8; pages as usize * PAGE_SIZE]?;
+        let mut view = DataView::fresh(&mut bytes);
+        view.insert(&mut bytes, 0, line);
+        Ok(Run { bytes, view, pages })
+    }
+
+    /// Puts a stored line behind the others where a page has room for all of them, and tells whether it did.
+    pub fn push(&mut self, line: &[u8]) -> bool
+        requires { IsStored line.now }
+        ensures room { IsTrue result ↔ (space_of self.old + (length line.now + 5) ≤ 4072) }
+        ensures put { IsTrue result → self.new ≡ self.old ++ line.now ∷ [] }
+        ensures left { result ≡ false → self.new ≡ self.old }
+    {
+        if self.pages != 1 || !self.view.fits(line.len()) {
+            return false;
+        }
+        let at = self.view.count;
+        self.view.insert(&mut self.bytes, at, line);
+        true
+    }
+
+    /// The number of lines.
+    pub fn len(&self) -> u64
+        ensures len { result ≡ length self.now }
+        ensures bound { result < 2 ^ 32 }
+    {
+        u64::from(self.view.count)
+    }
+
+    /// The lines as a data block.
+    pub fn bytes(&self) -> &[u8]
+        ensures lines { lines_in result.now ≡ Some self.now }
+        ensures page { space_of self.now ≤ 4072 → length result.now ≡ 4096 }
+    {
+        &self.bytes
+    }
+
+    /// Whether a data block with this header has room for the lines.
+    pub fn fits(&self, view: DataView) -> bool
+        ensures { IsTrue result ↔ (space_of self.now ≤ free_space view) }
+    {
+        let text = u64::from(self.view.text_end) - u64::from(self.view.text_start);
+        let index = u64::from(view.count) * 4 + 24;
+        text + 4 * self.len() <= u64::from(view.text_start).saturating_sub(index)
+    }
+
+    /// A copy of a data block of one page, with the lines before its line `at`, or last where `at` is its count.
+    pub fn put_into(
+        &self,
+        alloc: Global,
+        view: DataView,
+        bytes: &[u8],
+        at: u32,
+    ) -> Result<Vec<u8>, AllocError>
+        requires view { view_in bytes.now ≡ Ok view }
+        requires size { length bytes.now ≡ 4096 }
+        requires at { at ≤ view.count }
+        requires fits { space_of self.now ≤ free_space view }
+        ensures size { IfOk result (λ now. length now.items ≡ 4096) }
+        ensures lines { IfOk result (λ now. lines_in now.items ≡ option_map (λ lines. splice lines at 0 self.now) (lines_in bytes.now)) }
+    {
+        let mut now = Vec::from_slice(alloc, bytes)?;
+        let mut whole = view;
+        'lines: for line in 0..self.view.count {
+            whole.insert(&mut now, at + line, self.view.line(&self.bytes, line));
+        }
+        Ok(now)
+    }
+
+    /// Adds the lines as a data block of their own.
+    pub fn add<P: Pages>(&self, alloc: Global, pages: &mut P) -> Result<Entry, PageErr>
+        requires valid { P.valid pages.old }
+        ensures added { IfOk result (λ new. IsTrue P.tells → Replaces tree_format (P.present pages.old) (P.present pages.new) (λ k. 0) 0 (leaf new.block new.pages self.now ∷ [])) }
+        ensures lines { IfOk result (λ new. new.lines ≡ length self.now) }
+        ensures narrow { IfOk result IsNarrow }
+        ensures committed { IsTrue P.tells → P.committed pages.new ≡ P.committed pages.old }
+        ensures later { P.faults pages.old ≤ P.faults pages.new }
+        ensures failed { result ≡ Err PageErr.Failed → Rose (P.faults pages.old) (P.faults pages.new) }
+        ensures valid { P.valid pages.new }
+        ensures stays { P.stays pages.old pages.new }
+    {
+        let block = add_block(alloc, pages, self.pages, &self.bytes)?;
+        Ok(Entry {
+            block,
+            pages: self.pages,
+            lines: self.len(),
+        })
+    }
+}
