@@ -1,5 +1,5 @@
 -- What the calls that write data blocks leave, over plain variables.
-use Rattle.std.proofs.Common.{◌≡◌, ℕ, zero, suc, ◌+◌, ◌-◌, ◌/◌, ◌<◌, ◌≤◌, List, [], ◌∷◌, ◌++◌, length, take, drop, insert, remove, get_or, slice_get, Option, Some, None, Ok, IsSome, IsSomeAnd, nat_le, nat_lt, if◌then◌else◌, cond, Bool, true, false, sym, refl, ap, subst, ◌∙◌, arith, append-nil, length-take, length-drop, inl, inr}
+use Rattle.std.proofs.Common.{◌≡◌, ℕ, zero, suc, ◌+◌, ◌-◌, ◌/◌, ◌<◌, ◌≤◌, List, [], ◌∷◌, ◌++◌, length, take, drop, insert, remove, get_or, slice_get, Option, Some, None, Ok, IsSome, IsSomeAnd, nat_le, nat_lt, if◌then◌else◌, cond, Bool, true, false, sym, refl, ap, subst, ◌∙◌, arith, append-nil, append_assoc, length-take, length-drop, inl, inr}
 use Rattle.std.specs.Option.{option_map, option_and_then}
 use Rattle.std.proofs.lemmas.Grind.{common_steps}
 use Rattle.std.proofs.lemmas.Bool.Decides.{nat_tests}
@@ -15,7 +15,7 @@ use Rattle.vs_tree_laws.specs.Changes.{Change, edited, Promise, Replaces, Wrote,
 use Rattle.vs_tree_laws.proofs.Writes.{put_leaf, new_leaf, kept_leaf, freed, promise_leaf, replaces_behind, replaces_before, wrote_leaves}
 use Rattle.vs_tree_laws.proofs.Shapes.{read_from}
 use Rattle.vs_tree_laws.proofs.Sums.{halves}
-use Rattle.vs_tree_laws.proofs.Splices.{splice_mid}
+use Rattle.vs_tree_laws.proofs.Splices.{splice_mid, length_splice}
 use Rattle.vs_tree_blocks.specs.Blocks.{tree_format, data_lines, long_line, lines_at}
 
 pub one_page : (bytes : List ℕ) (pages : ℕ) → pages ≡ 1 → data_lines pages bytes ≡ lines_in bytes
@@ -80,31 +80,31 @@ wrote_parts m n1 n2 block other i j first second a b entries s reads_first i_is 
     (is ∙ ap (λ (k : ℕ). entry_with block 1 k ∷ entry_with other 1 j ∷ []) i_is ∙ ap (λ (k : ℕ). entry_with block 1 (length a) ∷ entry_with other 1 k ∷ []) j_is) (ap (λ xs. a ++ xs) (append-nil b))
 
 -- a block left alone, and a new one before it
-pub wrote_before : (m n : Map) (block pages i : ℕ) (ls : List (List ℕ)) (line : List ℕ) (new : Entry) (entries : List Entry) → lines_at m block pages ≡ Some ls → 1 ≤ pages → i ≡ length ls → Replaces tree_format m n (λ k. 0) 0 (leaf new.block new.pages (line ∷ []) ∷ []) → new.lines ≡ 1
-    → entries ≡ new ∷ record { block = block; pages = pages; lines = i } ∷ [] → Wrote tree_format m n (λ k. span block pages k) 0 (line ∷ ls) entries
-wrote_before m n block pages i ls line new entries reads some i_is r one is =
-    wrote_leaves tree_format m n (λ k. span block pages k) (line ∷ ls) entries (leaf new.block new.pages (line ∷ []) ∷ leaf block pages ls ∷ [])
-    (replaces_before tree_format m m n 0 (λ k. span block pages k) (leaf block pages ls ∷ []) (leaf new.block new.pages (line ∷ []) ∷ []) (kept_leaf tree_format m block pages ls reads some) r)
-    (is ∙ ap (λ (k : ℕ). new ∷ entry_with block pages k ∷ []) i_is ∙ ap (λ (k : ℕ). entry_with new.block new.pages k ∷ entry_with block pages (length ls) ∷ []) one) (ap (λ xs. line ∷ xs) (append-nil ls))
+pub wrote_before : (m n : Map) (block pages i : ℕ) (ls run : List (List ℕ)) (new : Entry) (entries : List Entry) → lines_at m block pages ≡ Some ls → 1 ≤ pages → i ≡ length ls → Replaces tree_format m n (λ k. 0) 0 (leaf new.block new.pages run ∷ []) → new.lines ≡ length run
+    → entries ≡ new ∷ record { block = block; pages = pages; lines = i } ∷ [] → Wrote tree_format m n (λ k. span block pages k) 0 (run ++ ls) entries
+wrote_before m n block pages i ls run new entries reads some i_is r count is =
+    wrote_leaves tree_format m n (λ k. span block pages k) (run ++ ls) entries (leaf new.block new.pages run ∷ leaf block pages ls ∷ [])
+    (replaces_before tree_format m m n 0 (λ k. span block pages k) (leaf block pages ls ∷ []) (leaf new.block new.pages run ∷ []) (kept_leaf tree_format m block pages ls reads some) r)
+    (is ∙ ap (λ (k : ℕ). new ∷ entry_with block pages k ∷ []) i_is ∙ ap (λ (k : ℕ). entry_with new.block new.pages k ∷ entry_with block pages (length ls) ∷ []) count) (ap (λ xs. run ++ xs) (append-nil ls))
 
 -- a block left alone, and a new one behind it
-pub wrote_behind : (m n : Map) (block pages i : ℕ) (ls : List (List ℕ)) (line : List ℕ) (new : Entry) (entries : List Entry) → lines_at m block pages ≡ Some ls → 1 ≤ pages → i ≡ length ls → Replaces tree_format m n (λ k. 0) 0 (leaf new.block new.pages (line ∷ []) ∷ []) → new.lines ≡ 1
-    → entries ≡ record { block = block; pages = pages; lines = i } ∷ new ∷ [] → Wrote tree_format m n (λ k. span block pages k) 0 (ls ++ line ∷ []) entries
-wrote_behind m n block pages i ls line new entries reads some i_is r one is =
-    wrote_leaves tree_format m n (λ k. span block pages k) (ls ++ line ∷ []) entries (leaf block pages ls ∷ leaf new.block new.pages (line ∷ []) ∷ [])
-    (replaces_behind tree_format m m n 0 (λ k. span block pages k) (leaf block pages ls ∷ []) (leaf new.block new.pages (line ∷ []) ∷ []) (kept_leaf tree_format m block pages ls reads some) r)
-    (is ∙ ap (λ (k : ℕ). entry_with block pages k ∷ new ∷ []) i_is ∙ ap (λ (k : ℕ). entry_with block pages (length ls) ∷ entry_with new.block new.pages k ∷ []) one) refl
+pub wrote_behind : (m n : Map) (block pages i : ℕ) (ls run : List (List ℕ)) (new : Entry) (entries : List Entry) → lines_at m block pages ≡ Some ls → 1 ≤ pages → i ≡ length ls → Replaces tree_format m n (λ k. 0) 0 (leaf new.block new.pages run ∷ []) → new.lines ≡ length run
+    → entries ≡ record { block = block; pages = pages; lines = i } ∷ new ∷ [] → Wrote tree_format m n (λ k. span block pages k) 0 (ls ++ run) entries
+wrote_behind m n block pages i ls run new entries reads some i_is r count is =
+    wrote_leaves tree_format m n (λ k. span block pages k) (ls ++ run) entries (leaf block pages ls ∷ leaf new.block new.pages run ∷ [])
+    (replaces_behind tree_format m m n 0 (λ k. span block pages k) (leaf block pages ls ∷ []) (leaf new.block new.pages run ∷ []) (kept_leaf tree_format m block pages ls reads some) r)
+    (is ∙ ap (λ (k : ℕ). entry_with block pages k ∷ new ∷ []) i_is ∙ ap (λ (k : ℕ). entry_with block pages (length ls) ∷ entry_with new.block new.pages k ∷ []) count) (ap (λ xs. ls ++ xs) (append-nil run))
 
 -- a block in two parts, and a new one between them
-pub wrote_between : (m n1 n2 n3 : Map) (block other i j : ℕ) (first second : List ℕ) (a b : List (List ℕ)) (line : List ℕ) (new : Entry) (entries : List Entry) → Stored m n1 block 1 first → lines_in first ≡ Some a → i ≡ length a
-    → Replaces tree_format n1 n2 (λ k. 0) 0 (leaf new.block new.pages (line ∷ []) ∷ []) → new.lines ≡ 1 → Added n2 n3 other 1 second → lines_in second ≡ Some b → j ≡ length b
-    → entries ≡ record { block = block; pages = 1; lines = i } ∷ new ∷ record { block = other; pages = 1; lines = j } ∷ [] → Wrote tree_format m n3 (λ k. span block 1 k) 0 (a ++ line ∷ b) entries
-wrote_between m n1 n2 n3 block other i j first second a b line new entries s reads_first i_is r one t reads_second j_is is =
-    let two = replaces_behind tree_format m n1 n2 0 (λ k. span block 1 k) (leaf block 1 a ∷ []) (leaf new.block new.pages (line ∷ []) ∷ []) (put_leaf tree_format m n1 block 1 first a s (omega arith) (one_page first 1 refl ∙ reads_first)) r in
-    wrote_leaves tree_format m n3 (λ k. span block 1 k) (a ++ line ∷ b) entries (leaf block 1 a ∷ leaf new.block new.pages (line ∷ []) ∷ leaf other 1 b ∷ [])
-    (replaces_behind tree_format m n2 n3 0 (λ k. span block 1 k) (leaf block 1 a ∷ leaf new.block new.pages (line ∷ []) ∷ []) (leaf other 1 b ∷ []) two (new_leaf tree_format n2 n3 other 1 second b t (omega arith) (one_page second 1 refl ∙ reads_second)))
+pub wrote_between : (m n1 n2 n3 : Map) (block other i j : ℕ) (first second : List ℕ) (a b run : List (List ℕ)) (new : Entry) (entries : List Entry) → Stored m n1 block 1 first → lines_in first ≡ Some a → i ≡ length a
+    → Replaces tree_format n1 n2 (λ k. 0) 0 (leaf new.block new.pages run ∷ []) → new.lines ≡ length run → Added n2 n3 other 1 second → lines_in second ≡ Some b → j ≡ length b
+    → entries ≡ record { block = block; pages = 1; lines = i } ∷ new ∷ record { block = other; pages = 1; lines = j } ∷ [] → Wrote tree_format m n3 (λ k. span block 1 k) 0 (a ++ (run ++ b)) entries
+wrote_between m n1 n2 n3 block other i j first second a b run new entries s reads_first i_is r count t reads_second j_is is =
+    let two = replaces_behind tree_format m n1 n2 0 (λ k. span block 1 k) (leaf block 1 a ∷ []) (leaf new.block new.pages run ∷ []) (put_leaf tree_format m n1 block 1 first a s (omega arith) (one_page first 1 refl ∙ reads_first)) r in
+    wrote_leaves tree_format m n3 (λ k. span block 1 k) (a ++ (run ++ b)) entries (leaf block 1 a ∷ leaf new.block new.pages run ∷ leaf other 1 b ∷ [])
+    (replaces_behind tree_format m n2 n3 0 (λ k. span block 1 k) (leaf block 1 a ∷ leaf new.block new.pages run ∷ []) (leaf other 1 b ∷ []) two (new_leaf tree_format n2 n3 other 1 second b t (omega arith) (one_page second 1 refl ∙ reads_second)))
     (is ∙ ap (λ (k : ℕ). entry_with block 1 k ∷ new ∷ entry_with other 1 j ∷ []) i_is ∙ ap (λ (k : ℕ). entry_with block 1 (length a) ∷ new ∷ entry_with other 1 k ∷ []) j_is
-    ∙ ap (λ (k : ℕ). entry_with block 1 (length a) ∷ entry_with new.block new.pages k ∷ entry_with other 1 (length b) ∷ []) one) (ap (λ xs. a ++ line ∷ xs) (append-nil b))
+    ∙ ap (λ (k : ℕ). entry_with block 1 (length a) ∷ entry_with new.block new.pages k ∷ entry_with other 1 (length b) ∷ []) count) (ap (λ xs. a ++ (run ++ xs)) (append-nil b))
 
 -- a block given back
 pub wrote_gone : (m n : Map) (block pages : ℕ) (ls : List (List ℕ)) (entries : List Entry) → n ≡ without m block pages → length ls ≡ 0 → entries ≡ [] → Wrote tree_format m n (λ k. span block pages k) 0 ls entries
@@ -166,33 +166,32 @@ page_read m block bytes ls is reads = ap (λ o. read_by (data_lines 1) o) is ∙
 pub lines_after : (o n : Option (List (List ℕ))) (f : List (List ℕ) → List (List ℕ)) (ls : List (List ℕ)) → o ≡ Some ls → n ≡ option_map f o → n ≡ Some (f ls)
 lines_after o n f ls is now = now ∙ ap (λ p. option_map f p) is
 
-pub length-insert_line : (ls : List (List ℕ)) (at : ℕ) (line : List ℕ) → length (insert ls at line) ≡ length ls + 1
-length-insert_line ls at line = grind (arith, common_steps)
+pub length-put : (ls run : List (List ℕ)) (at : ℕ) → at ≤ length ls → length (splice ls at 0 run) ≡ length ls + length run
+length-put ls run at le = omega (arith, length_splice ls run at 0 (omega arith))
 
 pub length-remove_line : (ls : List (List ℕ)) (at : ℕ) → at < length ls → length (remove ls at) + 1 ≡ length ls
 length-remove_line ls at lt = grind (arith, common_steps)
 
--- a line put into one of two halves is put into the whole
-pub insert_front : (ls : List (List ℕ)) (at half : ℕ) (line : List ℕ) → at ≤ half → half ≤ length ls → insert (take half ls) at line ++ drop half ls ≡ splice ls at 0 (line ∷ [])
-insert_front ls at half line le within =
-    ap (λ xs. xs ++ drop half ls) (insert_splice (take half ls) at line)
-    ∙ sym (splice_mid [] (take half ls) (drop half ls) (line ∷ []) at at 0 (omega arith) (omega (arith, length-take half ls)))
-    ∙ ap (λ xs. splice xs at 0 (line ∷ [])) (halves half ls)
+-- a run put into one of two halves is put into the whole
+pub put_in_front : (ls run : List (List ℕ)) (at half : ℕ) → at ≤ half → half ≤ length ls → splice (take half ls) at 0 run ++ drop half ls ≡ splice ls at 0 run
+put_in_front ls run at half le within =
+    sym (splice_mid [] (take half ls) (drop half ls) run at at 0 (omega arith) (omega (arith, length-take half ls)))
+    ∙ ap (λ xs. splice xs at 0 run) (halves half ls)
 
-pub insert_back : (ls : List (List ℕ)) (at half : ℕ) (line : List ℕ) → half ≤ at → at ≤ length ls → take half ls ++ insert (drop half ls) (at - half) line ≡ splice ls at 0 (line ∷ [])
-insert_back ls at half line le within =
-    ap (λ xs. take half ls ++ xs) (insert_splice (drop half ls) (at - half) line ∙ sym (append-nil (splice (drop half ls) (at - half) 0 (line ∷ []))))
-    ∙ sym (splice_mid (take half ls) (drop half ls) [] (line ∷ []) at (at - half) 0 (omega (arith, length-take half ls)) (omega (arith, length-drop half ls)))
-    ∙ ap (λ xs. splice (take half ls ++ xs) at 0 (line ∷ [])) (append-nil (drop half ls)) ∙ ap (λ xs. splice xs at 0 (line ∷ [])) (halves half ls)
+pub put_in_back : (ls run : List (List ℕ)) (at half : ℕ) → half ≤ at → at ≤ length ls → take half ls ++ splice (drop half ls) (at - half) 0 run ≡ splice ls at 0 run
+put_in_back ls run at half le within =
+    ap (λ xs. take half ls ++ xs) (sym (append-nil (splice (drop half ls) (at - half) 0 run)))
+    ∙ sym (splice_mid (take half ls) (drop half ls) [] run at (at - half) 0 (omega (arith, length-take half ls)) (omega (arith, length-drop half ls)))
+    ∙ ap (λ xs. splice (take half ls ++ xs) at 0 run) (append-nil (drop half ls)) ∙ ap (λ xs. splice xs at 0 run) (halves half ls)
 
-pub insert_between : (ls : List (List ℕ)) (at : ℕ) (line : List ℕ) → take at ls ++ line ∷ drop at ls ≡ splice ls at 0 (line ∷ [])
-insert_between ls at line = insert_splice ls at line
+pub put_between : (ls run : List (List ℕ)) (at : ℕ) → take at ls ++ (run ++ drop at ls) ≡ splice ls at 0 run
+put_between ls run at = let same : at ≡ at + 0 = omega arith in sym (append_assoc (take at ls) run (drop at ls)) ∙ ap (λ k. take at ls ++ run ++ drop k ls) same
 
-pub insert_first : (ls : List (List ℕ)) (at : ℕ) (line : List ℕ) → at ≡ 0 → line ∷ ls ≡ splice ls at 0 (line ∷ [])
-insert_first ls at line none = ap (λ k. splice ls k 0 (line ∷ [])) (sym none)
+pub put_first : (ls run : List (List ℕ)) (at : ℕ) → at ≡ 0 → run ++ ls ≡ splice ls at 0 run
+put_first ls run at none = ap (λ k. splice ls k 0 run) (sym none)
 
-pub insert_end : (ls : List (List ℕ)) (at : ℕ) (line : List ℕ) → at ≡ length ls → ls ++ line ∷ [] ≡ splice ls at 0 (line ∷ [])
-insert_end ls at line all = grind (arith, common_steps)
+pub put_last : (ls run : List (List ℕ)) (at : ℕ) → at ≡ length ls → ls ++ run ≡ splice ls at 0 run
+put_last ls run at all = grind (arith, common_steps)
 
 pub remove_only : (ls : List (List ℕ)) (at : ℕ) → length ls ≡ 1 → at < 1 → length (splice ls at 1 []) ≡ 0
 remove_only ls at one lt = grind (arith, common_steps)

@@ -521,12 +521,12 @@ fn edit_long<P: Pages>(
         lines: 1,
     };
     match edit {
-        Edit::Before(run) => {
-            let new = run.add(alloc, pages)?;
+        Edit::Before(lines) => {
+            let new = lines.add(alloc, pages)?;
             Ok(vec![in alloc; new, kept]?)
         }
-        Edit::After(run) => {
-            let new = run.add(alloc, pages)?;
+        Edit::After(lines) => {
+            let new = lines.add(alloc, pages)?;
             Ok(vec![in alloc; kept, new]?)
         }
         Edit::Remove => {
@@ -571,8 +571,8 @@ pub fn edit_data<P: Pages>(
     }
     let place = at as u32;
     match edit {
-        Edit::Before(run) => put_run(alloc, pages, block, view, &bytes, place, run),
-        Edit::After(run) => put_run(alloc, pages, block, view, &bytes, place + 1, run),
+        Edit::Before(lines) => put_run(alloc, pages, block, view, &bytes, place, lines),
+        Edit::After(lines) => put_run(alloc, pages, block, view, &bytes, place + 1, lines),
         Edit::Remove => remove_line(alloc, pages, block, view, &bytes, place),
     }
 }

@@ -41,19 +41,19 @@ returns-then-count-ne1-clause-wrote g c = if_ok_weaker c.edit_long.result _ _
     c.edit_long.ensures.wrote
 
 pub returns-in-Before-clause-wrote : goal.returns-in-Before-clause-wrote
-returns-in-Before-clause-wrote g c = if_ok_weaker c.put_line.result _ _
+returns-in-Before-clause-wrote g c = if_ok_weaker c.put_run.result _ _
     (λ (entries : Vec Entry Global) wrote told.
     let place : c.args.at + 0 ≡ c.args.at = omega arith in
-    promise_page _ (g.P.Pages.present c.load_data.new.pages) _ c.args.block c.args.count c.args.at c.deref.result.now (change_of c.args.edit) (λ lines. splice lines c.args.at 0 (c.in-Before.line.now ∷ [])) entries.items (omega (arith, c.if-count-ne1.false)) (c.load_data.ensures.present told) (c.in_ok-view.ensures.loaded told ∙ ap (λ (b : List ℕ). Some b) (sym c.deref.ensures.value))
-    (λ lines. ap (λ (e : Edit). edited (change_of e) lines c.args.at) c.in-Before.is ∙ ap (λ (k : ℕ). splice lines k 0 (c.in-Before.line.now ∷ [])) place) (wrote told))
-    c.put_line.ensures.wrote
+    promise_page _ (g.P.Pages.present c.load_data.new.pages) _ c.args.block c.args.count c.args.at c.deref.result.now (change_of c.args.edit) (λ lines. splice lines c.args.at 0 c.in-Before.lines.now) entries.items (omega (arith, c.if-count-ne1.false)) (c.load_data.ensures.present told) (c.in_ok-view.ensures.loaded told ∙ ap (λ (b : List ℕ). Some b) (sym c.deref.ensures.value))
+    (λ lines. ap (λ (e : Edit). edited (change_of e) lines c.args.at) c.in-Before.is ∙ ap (λ (k : ℕ). splice lines k 0 c.in-Before.lines.now) place) (wrote told))
+    c.put_run.ensures.wrote
 
 pub returns-in-After-clause-wrote : goal.returns-in-After-clause-wrote
-returns-in-After-clause-wrote g c = if_ok_weaker c.put_line-in-After.result _ _
+returns-in-After-clause-wrote g c = if_ok_weaker c.put_run-in-After.result _ _
     (λ (entries : Vec Entry Global) wrote told.
-    promise_page _ (g.P.Pages.present c.load_data.new.pages) _ c.args.block c.args.count c.args.at c.deref-in-After.result.now (change_of c.args.edit) (λ lines. splice lines (c.args.at + 1) 0 (c.in-After.line.now ∷ [])) entries.items (omega (arith, c.if-count-ne1.false)) (c.load_data.ensures.present told) (c.in_ok-view.ensures.loaded told ∙ ap (λ (b : List ℕ). Some b) (sym c.deref-in-After.ensures.value))
+    promise_page _ (g.P.Pages.present c.load_data.new.pages) _ c.args.block c.args.count c.args.at c.deref-in-After.result.now (change_of c.args.edit) (λ lines. splice lines (c.args.at + 1) 0 c.in-After.lines.now) entries.items (omega (arith, c.if-count-ne1.false)) (c.load_data.ensures.present told) (c.in_ok-view.ensures.loaded told ∙ ap (λ (b : List ℕ). Some b) (sym c.deref-in-After.ensures.value))
     (λ lines. ap (λ (e : Edit). edited (change_of e) lines c.args.at) c.in-After.is) (wrote told))
-    c.put_line-in-After.ensures.wrote
+    c.put_run-in-After.ensures.wrote
 
 pub returns-clause-wrote : goal.returns-clause-wrote
 returns-clause-wrote g c = if_ok_weaker c.remove_line.result _ _

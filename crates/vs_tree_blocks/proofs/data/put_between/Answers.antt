@@ -7,17 +7,17 @@ use Rattle.vs_tree_laws.specs.declared.entries.Entry.{Entry}
 use Rattle.vs_tree_laws.specs.Changes.{Wrote}
 use Rattle.vs_tree_blocks.specs.Blocks.{tree_format}
 use Rattle.vs_tree_blocks.proofs.Outcomes.{if_ok_weaker}
-use Rattle.vs_tree_blocks.proofs.DataLemmas.{count_is, lines_after, insert_between}
+use Rattle.vs_tree_blocks.proofs.DataLemmas.{count_is, lines_after, put_between}
 use Rattle.vs_tree_blocks.proofs.data.put_between.Goals as goal
 
 pub returns-clause-wrote : goal.returns-clause-wrote
 returns-clause-wrote g c = if_ok_weaker c.write_between.result _ _
     (λ (entries : Vec Entry Global) wrote told lines reads.
-    let at = c.args.at in let line = c.args.line.now in
+    let at = c.args.at in let run = c.args.run.now in
     let s = c.in_ok-parts.ensures in
     let count = count_is c.args.bytes.now c.args.view lines c.requires.view reads in
     let first = lines_after (lines_in c.args.bytes.now) (lines_in c.in_ok-parts.parts.first.items) (λ xs. take at xs) lines reads s.first_lines in
     let second = lines_after (lines_in c.args.bytes.now) (lines_in c.in_ok-parts.parts.second.items) (λ xs. drop at xs) lines reads s.second_lines in
-    subst (λ (xs : List (List ℕ)). Wrote tree_format (g.P.Pages.present c.args.pages.now) (g.P.Pages.present c.write_between.new.pages) (λ k. span c.args.block 1 k) 0 xs entries.items) (insert_between lines at line)
+    subst (λ (xs : List (List ℕ)). Wrote tree_format (g.P.Pages.present c.args.pages.now) (g.P.Pages.present c.write_between.new.pages) (λ k. span c.args.block 1 k) 0 xs entries.items) (put_between lines run at)
     (wrote told (take at lines) (drop at lines) first (omega (arith, s.first_count, length-take at lines, count, c.requires.at)) second (omega (arith, s.second_count, length-drop at lines, count))))
     c.write_between.ensures.wrote

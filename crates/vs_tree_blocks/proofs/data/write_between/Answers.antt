@@ -5,6 +5,6 @@ use Rattle.vs_tree_blocks.proofs.data.write_between.Goals as goal
 
 pub returns-clause-wrote : goal.returns-clause-wrote
 returns-clause-wrote g c = λ told a b reads_a a_is reads_b b_is.
-    wrote_between _ _ _ _ c.args.block c.in_ok-other.other c.from.result c.from-2.result c.args.parts.now.first.items c.args.parts.now.second.items a b c.args.line.now c.in_ok-new.new _
+    wrote_between _ _ _ _ c.args.block c.in_ok-other.other c.from.result c.from-2.result c.args.parts.now.first.items c.args.parts.now.second.items a b c.args.run.now c.in_ok-new.new _
     (stored_as _ _ _ _ _ (c.in_ok-touch.ensures.ok told) c.deref.ensures.value c.requires.first) reads_a (omega (arith, c.from.ensures, a_is))
-    (c.in_ok-new.ensures.added told) c.in_ok-new.ensures.one (added_as _ _ _ _ _ _ (c.in_ok-other.ensures.added told) c.deref-2.ensures.value) reads_b (omega (arith, c.from-2.ensures, b_is)) c.in_ok-vec.ensures.items
+    (c.in_ok-new.ensures.added told) c.in_ok-new.ensures.lines (added_as _ _ _ _ _ _ (c.in_ok-other.ensures.added told) c.deref-2.ensures.value) reads_b (omega (arith, c.from-2.ensures, b_is)) c.in_ok-vec.ensures.items

@@ -1,5 +1,6 @@
-use Rattle.std.proofs.Common.{◌≡◌, ℕ, List, ◌++◌, ap, ◌∙◌, arith}
+use Rattle.std.proofs.Common.{◌≡◌, ℕ, List, [], ◌∷◌, ◌++◌, Some, length, ap, ◌∙◌, arith}
 use Rattle.std.proofs.lemmas.Result.{on_ok_weaker}
+use Rattle.vs_data.specs.Blocks.{lines_in, space_of}
 use Rattle.vs_tree_blocks.proofs.FirstLemmas.{first_lines}
 use Rattle.vs_tree_blocks.proofs.first.write_first.Goals as goal
 
@@ -7,7 +8,8 @@ pub returns-clause-wrote : goal.returns-clause-wrote
 returns-clause-wrote g c = on_ok_weaker c.touch.result
     (λ ok told.
     let pointer : List ℕ = c.in_ok-bytes.bytes.items in
-    let line : List ℕ = c.in_ok-line.line.items in
-    let both : c.deref-2.result.now ≡ pointer ++ line = c.deref-2.ensures.value ∙ c.in_ok-extend_from_slice.ensures.items ∙ ap (λ xs. pointer ++ xs) c.deref.ensures.value in
-    first_lines _ _ pointer line c.deref-2.result.now (ok told) both c.in_ok-bytes.ensures.size (omega (arith, c.in_ok-line.ensures.size)) c.in_ok-bytes.ensures.entries c.in_ok-line.ensures.lines)
+    let line : List ℕ = c.bytes.result.now in
+    let both : c.deref.result.now ≡ pointer ++ line = c.deref.ensures.value ∙ c.in_ok-extend_from_slice.ensures.items in
+    let size : length line ≡ 4096 = c.bytes.ensures.page (omega (arith, ap space_of c.in_ok-line.ensures)) in
+    first_lines _ _ pointer line c.deref.result.now (ok told) both c.in_ok-bytes.ensures.size size c.in_ok-bytes.ensures.entries (c.bytes.ensures.lines ∙ ap (λ ls. Some ls) c.in_ok-line.ensures))
     c.touch.ensures.ok
