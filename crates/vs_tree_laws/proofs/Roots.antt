@@ -8,7 +8,7 @@ use Rattle.vs_pages.specs.Maps.{Map, HasPages, lacks, one, total, pages_at}
 use Rattle.vs_tree_laws.specs.declared.entries.Entry.{Entry}
 use Rattle.vs_tree_laws.specs.declared.entries.Place.{Place}
 use Rattle.vs_tree_laws.specs.Trees.{Format, read_by, Tree, lines_of, uses, entry_of, IsTree, HasLines}
-use Rattle.vs_tree_laws.specs.Changes.{Change, IsChange, edited, Above, Leads, Promise, Wrote, Below, Stored, Added, pointer_entry}
+use Rattle.vs_tree_laws.specs.Changes.{Change, Takes, edited, Above, Leads, Promise, Wrote, Below, Stored, Added, pointer_entry}
 use Rattle.vs_tree_laws.specs.Places.{IsPlace, lines_below}
 use Rattle.vs_pages.proofs.MapsLemmas.{one-same, one-other}
 use Rattle.vs_tree_laws.proofs.Sums.{total-append, halves}
@@ -113,18 +113,19 @@ pub not_flat : (c : Format) (m : Map) (depth : ℕ) (lines : List (List ℕ)) �
 not_flat c m depth lines has none = omega (arith, has.deep, none)
 
 -- The lines after a change: a child of the root was changed, and then the root was written.
-pub lines_edited : (c : Format) (m n1 n2 : Map) (height more at : ℕ) (change : Change) (lines : List (List ℕ)) (es es1 mid : List Entry) (place : Place) → HasLines c m height lines → at < length lines → length lines < 2 ^ 62 → IsChange change
+pub lines_edited : (c : Format) (m n1 n2 : Map) (height more at bytes : ℕ) (change : Change) (lines : List (List ℕ)) (es es1 mid : List Entry) (place : Place) → HasLines c m height lines → at < length lines → length lines < 2 ^ 62
     → read_by c.entries (pages_at m 1 1) ≡ Some es → IsPlace es at place → mid ≡ take place.index es ++ (es1 ++ drop (place.index + 1) es)
-    → Promise c m n1 place.entry.block place.entry.pages (height - 1) place.rest change es1
+    → Promise c m n1 place.entry.block place.entry.pages (height - 1) place.rest bytes change es1
     → ((d : ℕ) (kids : List (Tree d)) → Below c n1 1 d kids mid → Wrote c n1 n2 (λ k. one 1 k + total (λ u. uses d u k) kids) (more + suc d) (flat_map (λ u. lines_of d u) kids) (pointer_entry 1 (lines_below mid) ∷ []))
-    → HasLines c n2 (height + more) (edited change lines at)
+    → HasLines c n2 (height + more) (edited change lines at) × Takes change lines at bytes
 unfolding first_above
-lines_edited c m n1 n2 height more at change lines es es1 mid place has within small ok reads is mid_is promise up =
+lines_edited c m n1 n2 height more at bytes change lines es es1 mid place has within small reads is mid_is promise up =
     let a : Above c m 1 1 height at = first_above c m height at lines has within small in
-    let w : Wrote c m n2 (λ k. uses height has.tree k) (more + height) (edited change (lines_of height has.tree) at) (pointer_entry 1 (lines_below mid) ∷ []) =
-    edited_root c m n1 n2 height more at change es es1 mid (pointer_entry 1 (lines_below mid) ∷ []) place (not_flat c m height lines has) ok reads is mid_is promise
+    let w : Wrote c m n2 (λ k. uses height has.tree k) (more + height) (edited change (lines_of height has.tree) at) (pointer_entry 1 (lines_below mid) ∷ []) × Takes change (lines_of height has.tree) at bytes =
+    edited_root c m n1 n2 height more at bytes change es es1 mid (pointer_entry 1 (lines_below mid) ∷ []) place (not_flat c m height lines has) reads is mid_is promise
     (λ e kids deep below. let P : ℕ → Type 0 = λ k. Wrote c n1 n2 (λ j. one 1 j + total (λ u. uses e u j) kids) (more + k) (flat_map (λ u. lines_of e u) kids) (pointer_entry 1 (lines_below mid) ∷ []) in subst P (sym deep) (up e kids below)) a in
     let turn : more + height ≡ height + more = omega arith in
     let P : List (List ℕ) → Type 0 = λ xs. Wrote c m n2 (λ k. uses height has.tree k) (more + height) (edited change xs at) (pointer_entry 1 (lines_below mid) ∷ []) in
     let Q : ℕ → Type 0 = λ k. HasLines c n2 k (edited change lines at) in
-    subst Q turn (lines_wrote c m n2 height (more + height) (lines_below mid) lines (edited change lines at) has (omega (arith, has.deep)) (subst P has.lines_are w))
+    let T : List (List ℕ) → Type 0 = λ xs. Takes change xs at bytes in
+    (subst Q turn (lines_wrote c m n2 height (more + height) (lines_below mid) lines (edited change lines at) has (omega (arith, has.deep)) (subst P has.lines_are w.0)), subst T has.lines_are w.1)

@@ -9,30 +9,34 @@ use Rattle.vs_pages.specs.Maps.{Map, lacks, one, total, joined, pages_at}
 use Rattle.vs_tree_laws.specs.declared.entries.Entry.{Entry}
 use Rattle.vs_tree_laws.specs.declared.entries.Place.{Place}
 use Rattle.vs_tree_laws.specs.Trees.{Format, read_by, Tree, lines_of, uses, entry_of, IsTree, Stands}
-use Rattle.vs_tree_laws.specs.Changes.{Change, IsChange, edited, Above, Leads, Wrote, Below, Promise}
+use Rattle.vs_tree_laws.specs.Changes.{Change, Takes, edited, Above, Leads, Wrote, Changed, Below, Promise}
 use Rattle.vs_tree_laws.specs.Places.{IsPlace, lines_below}
 use Rattle.vs_pages.proofs.MapsLemmas.{one-same}
 use Rattle.vs_tree_laws.proofs.Sums.{total-append}
 use Rattle.vs_tree_laws.proofs.Shapes.{read_from, each-append, each-front, each-back, unused_each, each_kept, lacks_cases, room}
 use Rattle.vs_tree_laws.proofs.Walks.{Child, above_lines, child_of, lines_below_kids, lines_cut}
-use Rattle.vs_tree_laws.proofs.Splices.{take_past, drop_past, edited_mid, length_edited}
+use Rattle.vs_tree_laws.proofs.Splices.{take_past, drop_past, edited_mid, taken_mid, length_edited}
 
 -- what the change of one child leaves of the trees below a block
-record Inside (c : Format) (m n : Map) (block at : ℕ) (change : Change) (e : ℕ) (kids : List (Tree e)) (mid : List Entry) : Type 0 where
+record Inside (c : Format) (m n : Map) (block at bytes : ℕ) (change : Change) (e : ℕ) (kids : List (Tree e)) (mid : List Entry) : Type 0 where
   now : List (Tree e)
   below : Below c n block e now mid
   same : n block ≡ m block
   lines : flat_map (λ u. lines_of e u) now ≡ edited change (flat_map (λ u. lines_of e u) kids) at
+  takes : Takes change (flat_map (λ u. lines_of e u) kids) at bytes
   fresh : (k : ℕ) → total (λ u. uses e u k) now ≤ total (λ u. uses e u k) kids + (lacks (m k) - one 0 k)
   rest : (k : ℕ) → total (λ u. uses e u k) kids ≡ 0 → lacks (m k) ≡ 0 → n k ≡ m k
 
 -- the child's result, in place
-inside : (c : Format) (m n : Map) (block at : ℕ) (change : Change) (e : ℕ) (kids : List (Tree e)) (es es1 mid : List Entry) (place : Place) (child : Child e kids at place) → IsChange change
+inside : (c : Format) (m n : Map) (block at bytes : ℕ) (change : Change) (e : ℕ) (kids : List (Tree e)) (es es1 mid : List Entry) (place : Place) (child : Child e kids at place)
     → AllByRecursion (λ u. IsTree c e m u) kids → ((k : ℕ) → (one block k + total (λ u. uses e u k) kids) + lacks (m k) ≤ 1) → es ≡ map (λ u. entry_of e u) kids
     → mid ≡ take place.index es ++ (es1 ++ drop (place.index + 1) es)
-    → Wrote c m n (λ k. uses e child.child k) e (edited change (lines_of e child.child) place.rest) es1
-    → Inside c m n block at change e kids mid
-inside c m n block at change e kids es es1 mid place child ok each free is mid_is w =
+    → Changed c m n e child.child place.rest bytes change es1
+    → Inside c m n block at bytes change e kids mid
+inside c m n block at bytes change e kids es es1 mid place child each free is mid_is changed =
+    let w = changed.wrote in
+    let all : flat_map (λ u. lines_of e u) child.before ++ (lines_of e child.child ++ flat_map (λ u. lines_of e u) child.after) ≡ flat_map (λ u. lines_of e u) kids = sym (ap (λ us. flat_map (λ u. lines_of e u) us) child.cut ∙ lines_cut e child.before child.child child.after) in
+    let T : List (List ℕ) → Type 0 = λ xs. Takes change xs at bytes in
     let f : Tree e → Entry = λ u. entry_of e u in
     let ls : Tree e → List (List ℕ) = λ u. lines_of e u in
     let sums : (k : ℕ) → total (λ u. uses e u k) kids ≡ total (λ u. uses e u k) child.before + (uses e child.child k + total (λ u. uses e u k) child.after) = λ k. ap (λ us. total (λ u. uses e u k) us) child.cut ∙ total-append (λ u. uses e u k) child.before (child.child ∷ child.after) in
@@ -58,8 +62,8 @@ inside c m n block at change e kids es es1 mid place child ok each free is mid_i
       };
       same = w.replaces.rest block (omega (arith, sums block, free block, one-same block)) here;
       lines = flat_map-append ls child.before (w.trees ++ child.after) ∙ ap (λ xs. flat_map ls child.before ++ xs) (flat_map-append ls w.trees child.after ∙ ap (λ xs. xs ++ flat_map ls child.after) w.lines_are)
-          ∙ sym (edited_mid change (flat_map ls child.before) (ls child.child) (flat_map ls child.after) at place.rest ok child.sum child.rest)
-          ∙ ap (λ xs. edited change xs at) (sym (ap (λ us. flat_map ls us) child.cut ∙ lines_cut e child.before child.child child.after));
+          ∙ sym (edited_mid change (flat_map ls child.before) (ls child.child) (flat_map ls child.after) at place.rest child.sum changed.takes.within) ∙ ap (λ xs. edited change xs at) all;
+      takes = subst T all (taken_mid change (flat_map ls child.before) (ls child.child) (flat_map ls child.after) at place.rest bytes child.sum changed.takes);
       fresh = λ k. omega (arith, now_sums k, sums k, w.replaces.fresh k);
       rest = λ k z there. w.replaces.rest k (omega (arith, sums k)) there;
     }
@@ -113,33 +117,33 @@ above_place c m block pages zero at es some has le a = some refl
 above_place c m block pages (suc e) at es some has le a =
     omega (arith, a.within, le, ap lines_below (entries_same c m block pages e a.tree es a.stands has), lines_below_kids e a.tree.1)
 
-inside_child : (c : Format) (m n : Map) (block pages at : ℕ) (change : Change) (e : ℕ) (a : Above c m block pages (suc e) at) (es es1 mid : List Entry) (place : Place) → IsChange change
-    → read_by c.entries (pages_at m block 1) ≡ Some es → IsPlace es at place → mid ≡ take place.index es ++ (es1 ++ drop (place.index + 1) es) → Promise c m n place.entry.block place.entry.pages e place.rest change es1 → Inside c m n block at change e a.tree.1 mid
+inside_child : (c : Format) (m n : Map) (block pages at bytes : ℕ) (change : Change) (e : ℕ) (a : Above c m block pages (suc e) at) (es es1 mid : List Entry) (place : Place)
+    → read_by c.entries (pages_at m block 1) ≡ Some es → IsPlace es at place → mid ≡ take place.index es ++ (es1 ++ drop (place.index + 1) es) → Promise c m n place.entry.block place.entry.pages e place.rest bytes change es1 → Inside c m n block at bytes change e a.tree.1 mid
 unfolding child_above
-inside_child c m n block pages at change e a es es1 mid place ok has is mid_is promise =
+inside_child c m n block pages at bytes change e a es es1 mid place has is mid_is promise =
     let child : (es ≡ map (λ u. entry_of e u) a.tree.1) × Child e a.tree.1 at place = inner_child c m block pages at e a.tree es place a.stands has is in
-    inside c m n block at change e a.tree.1 es es1 mid place child.1 ok a.stands.tree.1 (λ k. omega (arith, room c (suc e) m block pages a.tree k a.stands, ap (λ b. one b k) a.stands.root)) child.0 mid_is
+    inside c m n block at bytes change e a.tree.1 es es1 mid place child.1 a.stands.tree.1 (λ k. omega (arith, room c (suc e) m block pages a.tree k a.stands, ap (λ b. one b k) a.stands.root)) child.0 mid_is
     (promise (child_above c m block pages at e a.tree place a.stands a.small child.1))
 
-less_promise : (c : Format) (m n : Map) (block pages e at : ℕ) (change : Change) (es : List Entry) → Promise c m n block pages (suc e - 1) at change es → Promise c m n block pages e at change es
-less_promise c m n block pages e at change es promise =
+less_promise : (c : Format) (m n : Map) (block pages e at bytes : ℕ) (change : Change) (es : List Entry) → Promise c m n block pages (suc e - 1) at bytes change es → Promise c m n block pages e at bytes change es
+less_promise c m n block pages e at bytes change es promise =
     let less : suc e - 1 ≡ e = omega arith in
-    let P : ℕ → Type 0 = λ d. Promise c m n block pages d at change es in subst P less promise
+    let P : ℕ → Type 0 = λ d. Promise c m n block pages d at bytes change es in subst P less promise
 
 -- after the change of the child: the block is as before, and the lines can be counted
-pub pointers_there : (c : Format) (m n : Map) (block pages depth at : ℕ) (change : Change) (es es1 mid : List Entry) (place : Place) → (depth ≡ 0 → ⊥) → IsChange change
+pub pointers_there : (c : Format) (m n : Map) (block pages depth at bytes : ℕ) (change : Change) (es es1 mid : List Entry) (place : Place) → (depth ≡ 0 → ⊥) → length change.new < 2 ^ 62
     → read_by c.entries (pages_at m block 1) ≡ Some es → IsPlace es at place → mid ≡ take place.index es ++ (es1 ++ drop (place.index + 1) es)
-    → Promise c m n place.entry.block place.entry.pages (depth - 1) place.rest change es1 → Above c m block pages depth at → (n block ≡ m block) × (lines_below mid < 2 ^ 63)
-pointers_there c m n block pages zero at change es es1 mid place some ok has is mid_is promise a = absurd (some refl)
-pointers_there c m n block pages (suc e) at change es es1 mid place some ok has is mid_is promise a =
-    let i : Inside c m n block at change e a.tree.1 mid = inside_child c m n block pages at change e a es es1 mid place ok has is mid_is (less_promise c m n place.entry.block place.entry.pages e place.rest change es1 promise) in
-    (i.same, omega (arith, ap lines_below i.below.entries_are, lines_below_kids e i.now, ap length i.lines, length_edited change (lines_of (suc e) a.tree) at ok a.within, a.small, ok.few))
+    → Promise c m n place.entry.block place.entry.pages (depth - 1) place.rest bytes change es1 → Above c m block pages depth at → (n block ≡ m block) × (lines_below mid < 2 ^ 63)
+pointers_there c m n block pages zero at bytes change es es1 mid place some few has is mid_is promise a = absurd (some refl)
+pointers_there c m n block pages (suc e) at bytes change es es1 mid place some few has is mid_is promise a =
+    let i : Inside c m n block at bytes change e a.tree.1 mid = inside_child c m n block pages at bytes change e a es es1 mid place has is mid_is (less_promise c m n place.entry.block place.entry.pages e place.rest bytes change es1 promise) in
+    (i.same, omega (arith, ap lines_below i.below.entries_are, lines_below_kids e i.now, ap length i.lines, length_edited change (lines_of (suc e) a.tree) at bytes i.takes, a.small, few))
 
 -- two steps of writing, one after the other
-both_steps : (c : Format) (m n1 n2 : Map) (block pages at : ℕ) (change : Change) (e d : ℕ) (a : Above c m block pages (suc e) at) (mid es2 : List Entry) → (i : Inside c m n1 block at change e a.tree.1 mid)
+both_steps : (c : Format) (m n1 n2 : Map) (block pages at bytes : ℕ) (change : Change) (e d : ℕ) (a : Above c m block pages (suc e) at) (mid es2 : List Entry) → (i : Inside c m n1 block at bytes change e a.tree.1 mid)
     → Wrote c n1 n2 (λ k. one block k + total (λ u. uses e u k) i.now) d (flat_map (λ u. lines_of e u) i.now) es2
     → Wrote c m n2 (λ k. uses (suc e) a.tree k) d (edited change (lines_of (suc e) a.tree) at) es2
-both_steps c m n1 n2 block pages at change e d a mid es2 i w = record {
+both_steps c m n1 n2 block pages at bytes change e d a mid es2 i w = record {
   trees = w.trees;
   entries_are = w.entries_are;
   replaces = record {
@@ -164,26 +168,26 @@ both_steps c m n1 n2 block pages at change e d a mid es2 i w = record {
 }
 
 -- a pointer block is written over what the change of a child left
-pub edited_pointers : (c : Format) (m n1 n2 : Map) (block pages depth at : ℕ) (change : Change) (es es1 mid es2 : List Entry) (place : Place) → (depth ≡ 0 → ⊥) → IsChange change
+pub edited_pointers : (c : Format) (m n1 n2 : Map) (block pages depth at bytes : ℕ) (change : Change) (es es1 mid es2 : List Entry) (place : Place) → (depth ≡ 0 → ⊥)
     → read_by c.entries (pages_at m block 1) ≡ Some es → IsPlace es at place → mid ≡ take place.index es ++ (es1 ++ drop (place.index + 1) es)
-    → Promise c m n1 place.entry.block place.entry.pages (depth - 1) place.rest change es1
+    → Promise c m n1 place.entry.block place.entry.pages (depth - 1) place.rest bytes change es1
     → ((d : ℕ) (kids : List (Tree d)) → Below c n1 block d kids mid → Wrote c n1 n2 (λ k. one block k + total (λ u. uses d u k) kids) (suc d) (flat_map (λ u. lines_of d u) kids) es2)
-    → Promise c m n2 block pages depth at change es2
-edited_pointers c m n1 n2 block pages zero at change es es1 mid es2 place some ok has is mid_is promise up a = absurd (some refl)
-edited_pointers c m n1 n2 block pages (suc e) at change es es1 mid es2 place some ok has is mid_is promise up a =
-    let i : Inside c m n1 block at change e a.tree.1 mid = inside_child c m n1 block pages at change e a es es1 mid place ok has is mid_is (less_promise c m n1 place.entry.block place.entry.pages e place.rest change es1 promise) in
-    both_steps c m n1 n2 block pages at change e (suc e) a mid es2 i (up e i.now i.below)
+    → Promise c m n2 block pages depth at bytes change es2
+edited_pointers c m n1 n2 block pages zero at bytes change es es1 mid es2 place some has is mid_is promise up a = absurd (some refl)
+edited_pointers c m n1 n2 block pages (suc e) at bytes change es es1 mid es2 place some has is mid_is promise up a =
+    let i : Inside c m n1 block at bytes change e a.tree.1 mid = inside_child c m n1 block pages at bytes change e a es es1 mid place has is mid_is (less_promise c m n1 place.entry.block place.entry.pages e place.rest bytes change es1 promise) in
+    record { wrote = both_steps c m n1 n2 block pages at bytes change e (suc e) a mid es2 i (up e i.now i.below); takes = i.takes }
 
 -- the same at the root, whose tree may be one deeper afterwards
-pub edited_root : (c : Format) (m n1 n2 : Map) (depth more at : ℕ) (change : Change) (es es1 mid es2 : List Entry) (place : Place) → (depth ≡ 0 → ⊥) → IsChange change
+pub edited_root : (c : Format) (m n1 n2 : Map) (depth more at bytes : ℕ) (change : Change) (es es1 mid es2 : List Entry) (place : Place) → (depth ≡ 0 → ⊥)
     → read_by c.entries (pages_at m 1 1) ≡ Some es → IsPlace es at place → mid ≡ take place.index es ++ (es1 ++ drop (place.index + 1) es)
-    → Promise c m n1 place.entry.block place.entry.pages (depth - 1) place.rest change es1
+    → Promise c m n1 place.entry.block place.entry.pages (depth - 1) place.rest bytes change es1
     → ((e : ℕ) (kids : List (Tree e)) → depth ≡ suc e → Below c n1 1 e kids mid → Wrote c n1 n2 (λ k. one 1 k + total (λ u. uses e u k) kids) (more + depth) (flat_map (λ u. lines_of e u) kids) es2)
-    → (a : Above c m 1 1 depth at) → Wrote c m n2 (λ k. uses depth a.tree k) (more + depth) (edited change (lines_of depth a.tree) at) es2
-edited_root c m n1 n2 zero more at change es es1 mid es2 place some ok has is mid_is promise up a = absurd (some refl)
-edited_root c m n1 n2 (suc e) more at change es es1 mid es2 place some ok has is mid_is promise up a =
-    let i : Inside c m n1 1 at change e a.tree.1 mid = inside_child c m n1 1 1 at change e a es es1 mid place ok has is mid_is (less_promise c m n1 place.entry.block place.entry.pages e place.rest change es1 promise) in
-    both_steps c m n1 n2 1 1 at change e (more + suc e) a mid es2 i (up e i.now refl i.below)
+    → (a : Above c m 1 1 depth at) → Wrote c m n2 (λ k. uses depth a.tree k) (more + depth) (edited change (lines_of depth a.tree) at) es2 × Takes change (lines_of depth a.tree) at bytes
+edited_root c m n1 n2 zero more at bytes change es es1 mid es2 place some has is mid_is promise up a = absurd (some refl)
+edited_root c m n1 n2 (suc e) more at bytes change es es1 mid es2 place some has is mid_is promise up a =
+    let i : Inside c m n1 1 at bytes change e a.tree.1 mid = inside_child c m n1 1 1 at bytes change e a es es1 mid place has is mid_is (less_promise c m n1 place.entry.block place.entry.pages e place.rest bytes change es1 promise) in
+    (both_steps c m n1 n2 1 1 at bytes change e (more + suc e) a mid es2 i (up e i.now refl i.below), i.takes)
 
 get_or_mid : (a b c : List (List ℕ)) (i : ℕ) → i < length b → get_or (a ++ (b ++ c)) (length a + i) [] ≡ get_or b i []
 get_or_mid a b c i lt = grind (arith, common_steps)

@@ -7,7 +7,7 @@ use Rattle.std.proofs.lemmas.List.Concat.{flat_map-append}
 use Rattle.vs_pages.specs.Maps.{Map, lacks, one, total, span, pages_at, put_pages, without, IsVacant}
 use Rattle.vs_tree_laws.specs.declared.entries.Entry.{Entry}
 use Rattle.vs_tree_laws.specs.Trees.{Format, read_by, Leaf, leaf, Tree, lines_of, uses, entry_of, IsTree}
-use Rattle.vs_tree_laws.specs.Changes.{Change, edited, Promise, Replaces, Wrote, Below, Stored, Added, Grown, pointer_entry}
+use Rattle.vs_tree_laws.specs.Changes.{Change, Takes, edited, Promise, Replaces, Wrote, Below, Stored, Added, Grown, pointer_entry}
 use Rattle.vs_tree_laws.specs.Places.{lines_below}
 use Rattle.vs_pages.proofs.MapsLemmas.{one-other, put_pages-other, pages_at-put_pages, without-other, span-below, span-first, lacks-grown, lacks-most}
 use Rattle.vs_tree_laws.proofs.Sums.{total-append, halves}
@@ -224,13 +224,13 @@ pub wrote_leaves : (c : Format) (m n : Map) (old : ℕ → ℕ) (lines : List (L
 wrote_leaves c m n old lines entries us r es ls = record { trees = us; entries_are = es; replaces = r; lines_are = ls }
 
 -- what is said of the lines of a data block holds of the tree that it is
-pub promise_leaf : (c : Format) (m n : Map) (block pages at : ℕ) (change : Change) (es : List Entry)
-    → ((lines : List (List ℕ)) → read_by (c.lines pages) (pages_at m block pages) ≡ Some lines → at < length lines → Wrote c m n (λ k. span block pages k) 0 (edited change lines at) es) → Promise c m n block pages 0 at change es
-promise_leaf c m n block pages at change es wrote a =
-    let w : Wrote c m n (λ k. span block pages k) 0 (edited change a.tree.lines at) es = wrote a.tree.lines (above_lines c m block pages at a).0 a.within in
+pub promise_leaf : (c : Format) (m n : Map) (block pages at bytes : ℕ) (change : Change) (es : List Entry)
+    → ((lines : List (List ℕ)) → read_by (c.lines pages) (pages_at m block pages) ≡ Some lines → at < length lines → Wrote c m n (λ k. span block pages k) 0 (edited change lines at) es × Takes change lines at bytes) → Promise c m n block pages 0 at bytes change es
+promise_leaf c m n block pages at bytes change es wrote a =
+    let w : Wrote c m n (λ k. span block pages k) 0 (edited change a.tree.lines at) es × Takes change a.tree.lines at bytes = wrote a.tree.lines (above_lines c m block pages at a).0 a.within in
     let P : ℕ → Type 0 = λ b. Wrote c m n (λ k. span b pages k) 0 (edited change a.tree.lines at) es in
     let Q : ℕ → Type 0 = λ i. Wrote c m n (λ k. span a.tree.page i k) 0 (edited change a.tree.lines at) es in
-    subst Q (sym a.stands.wide) (subst P (sym a.stands.root) w)
+    record { wrote = subst Q (sym a.stands.wide) (subst P (sym a.stands.root) w.0); takes = w.1 }
 
 -- a data block that is left alone
 pub kept_leaf : (c : Format) (m : Map) (block pages : ℕ) (lines : List (List ℕ)) → read_by (c.lines pages) (pages_at m block pages) ≡ Some lines → 1 ≤ pages → Replaces c m m (λ k. span block pages k) 0 (leaf block pages lines ∷ [])

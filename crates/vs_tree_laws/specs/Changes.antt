@@ -1,6 +1,7 @@
 -- What a change leaves of the lines of a tree, and of the blocks below one block.
 use Rattle.std.specs.Prelude.{◌≡◌, ℕ, ◌+◌, ◌-◌, ◌^◌, ◌<◌, ◌≤◌, List, [], ◌++◌, length, map, take, drop, get_or, Some, IsSome}
 use Rattle.std.specs.List.{flat_map, AllByRecursion}
+use Rattle.vs_text.specs.Text.{bytes_of}
 use Rattle.vs_pages.specs.Maps.{Map, lacks, one, total, span, pages_at, IsVacant}
 use Rattle.vs_tree_laws.specs.declared.entries.Entry.{Entry}
 use Rattle.vs_tree_laws.specs.Trees.{Format, Tree, lines_of, uses, entry_of, IsTree, Stands}
@@ -9,19 +10,23 @@ use Rattle.vs_tree_laws.specs.Trees.{Format, Tree, lines_of, uses, entry_of, IsT
 abbrev pub splice : List (List ℕ) → ℕ → ℕ → List (List ℕ) → List (List ℕ)
 splice lines top old new = take top lines ++ new ++ drop (top + old) lines
 
--- A change at a line: new lines before it or, where one is skipped, after it, or in its place.
+-- A change at a line: new lines before it or, where one is skipped, after it, or in place of so many.
 pub record Change : Type 0 where
   pub skip : ℕ
   pub gone : ℕ
   pub new : List (List ℕ)
 
--- the change concerns one line alone, and puts in few
-pub record IsChange (change : Change) : Type 0 where
-  pub near : change.skip + change.gone ≤ 1
-  pub few : length change.new < 2 ^ 62
-
 abbrev pub edited : Change → List (List ℕ) → ℕ → List (List ℕ)
 edited change lines at = splice lines (at + change.skip) change.gone change.new
+
+-- the lines that a change at a line takes out
+abbrev pub taken : Change → List (List ℕ) → ℕ → List (List ℕ)
+taken change lines at = take change.gone (drop (at + change.skip) lines)
+
+-- a change at a line takes out lines that are there, which have so many bytes
+pub record Takes (change : Change) (lines : List (List ℕ)) (at bytes : ℕ) : Type 0 where
+  pub within : at + (change.skip + change.gone) ≤ length lines
+  pub bytes_are : bytes ≡ bytes_of (taken change lines at)
 
 -- A tree of this depth stands below the block, and the line lies in it.
 pub record Above (c : Format) (m : Map) (block pages depth at : ℕ) : Type 0 where
@@ -65,9 +70,14 @@ pub record Added (m n : Map) (at pages : ℕ) (bytes : List ℕ) : Type 0 where
   pub fresh : (k : ℕ) → span at pages k ≤ lacks (m k) - one 0 k
   pub rest : (k : ℕ) → lacks (m k) ≡ 0 → n k ≡ m k
 
--- With these entries, what stands below the block afterwards has the changed lines.
-abbrev pub Promise : Format → Map → Map → ℕ → ℕ → ℕ → ℕ → Change → List Entry → Type 0
-Promise c m n block pages depth at change entries = (a : Above c m block pages depth at) → Wrote c m n (λ k. uses depth a.tree k) depth (edited change (lines_of depth a.tree) at) entries
+-- What a change leaves of a tree: trees with these entries have the changed lines.
+pub record Changed (c : Format) (m n : Map) (d : ℕ) (t : Tree d) (at bytes : ℕ) (change : Change) (entries : List Entry) : Type 0 where
+  pub wrote : Wrote c m n (λ k. uses d t k) d (edited change (lines_of d t) at) entries
+  pub takes : Takes change (lines_of d t) at bytes
+
+-- What stands below the block was changed so.
+abbrev pub Promise : Format → Map → Map → ℕ → ℕ → ℕ → ℕ → ℕ → Change → List Entry → Type 0
+Promise c m n block pages depth at bytes change entries = (a : Above c m block pages depth at) → Changed c m n depth a.tree at bytes change entries
 
 -- the entry of a pointer block
 abbrev pub pointer_entry : ℕ → ℕ → Entry
