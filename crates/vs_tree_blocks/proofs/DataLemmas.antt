@@ -3,6 +3,7 @@ use Rattle.std.proofs.Common.{◌≡◌, ℕ, zero, suc, ◌+◌, ◌-◌, ◌/�
 use Rattle.std.specs.Option.{option_map, option_and_then}
 use Rattle.std.proofs.lemmas.Grind.{common_steps}
 use Rattle.std.proofs.lemmas.Bool.Decides.{nat_tests}
+use Rattle.vs_text.specs.Text.{bytes_of}
 use Rattle.vs_pages.specs.Maps.{Map, span, pages_at, without}
 use Rattle.std.proofs.lemmas.Bool.{cases_eq}
 use Rattle.vs_data.specs.declared.DataView.{DataView}
@@ -11,7 +12,7 @@ use Rattle.vs_data.proofs.Lines.{measured}
 use Rattle.vs_data.proofs.Reading.{has_view, view_bounds}
 use Rattle.vs_tree_laws.specs.declared.entries.Entry.{Entry}
 use Rattle.vs_tree_laws.specs.Trees.{leaf, read_by}
-use Rattle.vs_tree_laws.specs.Changes.{Change, edited, Promise, Replaces, Wrote, Stored, Added, splice}
+use Rattle.vs_tree_laws.specs.Changes.{Change, Takes, edited, Promise, Replaces, Wrote, Stored, Added, splice}
 use Rattle.vs_tree_laws.proofs.Writes.{put_leaf, new_leaf, kept_leaf, freed, promise_leaf, replaces_behind, replaces_before, wrote_leaves}
 use Rattle.vs_tree_laws.proofs.Shapes.{read_from}
 use Rattle.vs_tree_laws.proofs.Sums.{halves}
@@ -114,9 +115,6 @@ wrote_gone m n block pages (x ∷ ls) entries is none empty = absurd (omega arit
 pub insert_splice : (ls : List (List ℕ)) (at : ℕ) (line : List ℕ) → insert ls at line ≡ splice ls at 0 (line ∷ [])
 insert_splice ls at line = grind (arith, common_steps)
 
-pub remove_splice : (ls : List (List ℕ)) (at : ℕ) → remove ls at ≡ splice ls at 1 []
-remove_splice ls at = grind (arith, common_steps)
-
 -- bytes that were loaded
 
 some_there : (o : Option (List (List ℕ))) → IsSome o → (ls : List (List ℕ)) × (o ≡ Some ls)
@@ -169,9 +167,6 @@ lines_after o n f ls is now = now ∙ ap (λ p. option_map f p) is
 pub length-put : (ls run : List (List ℕ)) (at : ℕ) → at ≤ length ls → length (splice ls at 0 run) ≡ length ls + length run
 length-put ls run at le = omega (arith, length_splice ls run at 0 (omega arith))
 
-pub length-remove_line : (ls : List (List ℕ)) (at : ℕ) → at < length ls → length (remove ls at) + 1 ≡ length ls
-length-remove_line ls at lt = grind (arith, common_steps)
-
 -- a run put into one of two halves is put into the whole
 pub put_in_front : (ls run : List (List ℕ)) (at half : ℕ) → at ≤ half → half ≤ length ls → splice (take half ls) at 0 run ++ drop half ls ≡ splice ls at 0 run
 put_in_front ls run at half le within =
@@ -193,8 +188,8 @@ put_first ls run at none = ap (λ k. splice ls k 0 run) (sym none)
 pub put_last : (ls run : List (List ℕ)) (at : ℕ) → at ≡ length ls → ls ++ run ≡ splice ls at 0 run
 put_last ls run at all = grind (arith, common_steps)
 
-pub remove_only : (ls : List (List ℕ)) (at : ℕ) → length ls ≡ 1 → at < 1 → length (splice ls at 1 []) ≡ 0
-remove_only ls at one lt = grind (arith, common_steps)
+pub none_left : (ls : List (List ℕ)) (at count : ℕ) → at + count ≤ length ls → count ≡ length ls → length (splice ls at count []) ≡ 0
+none_left ls at count within all = omega (arith, length_splice ls [] at count within)
 
 -- a block of several pages has one line
 pub at_alone : (m : Map) (block pages : ℕ) (ls : List (List ℕ)) → 2 ≤ pages → lines_at m block pages ≡ Some ls → length ls ≡ 1
@@ -206,18 +201,24 @@ count_small bytes view reads size = let v = has_view bytes view (view_bounds byt
 
 -- what an edit of a block of one page gives the tree
 
-pub promise_page : (m m' n : Map) (block count at : ℕ) (bytes : List ℕ) (change : Change) (after : List (List ℕ) → List (List ℕ)) (entries : List Entry) → count ≡ 1 → m' ≡ m → pages_at m block 1 ≡ Some bytes
-    → ((lines : List (List ℕ)) → edited change lines at ≡ after lines) → ((lines : List (List ℕ)) → lines_in bytes ≡ Some lines → Wrote tree_format m' n (λ k. span block 1 k) 0 (after lines) entries) → Promise tree_format m n block count 0 at change entries
-promise_page m m' n block count at bytes change after entries one same loaded are wrote =
-    let P : ℕ → Type 0 = λ i. Promise tree_format m n block i 0 at change entries in
-    subst P (sym one) (promise_leaf tree_format m n block 1 at change entries (λ lines reads lt.
+pub promise_page : (m m' n : Map) (block count at bytes : ℕ) (old : List ℕ) (change : Change) (after : List (List ℕ) → List (List ℕ)) (entries : List Entry) → count ≡ 1 → m' ≡ m → pages_at m block 1 ≡ Some old
+    → ((lines : List (List ℕ)) → edited change lines at ≡ after lines) → ((lines : List (List ℕ)) → lines_in old ≡ Some lines → Wrote tree_format m' n (λ k. span block 1 k) 0 (after lines) entries)
+    → ((lines : List (List ℕ)) → lines_in old ≡ Some lines → at < length lines → Takes change lines at bytes) → Promise tree_format m n block count 0 at bytes change entries
+promise_page m m' n block count at bytes old change after entries one same loaded are wrote takes =
+    let P : ℕ → Type 0 = λ i. Promise tree_format m n block i 0 at bytes change entries in
+    subst P (sym one) (promise_leaf tree_format m n block 1 at bytes change entries (λ lines reads lt.
     let Q : Map → Type 0 = λ f. Wrote tree_format f n (λ k. span block 1 k) 0 (after lines) entries in
     let R : List (List ℕ) → Type 0 = λ xs. Wrote tree_format m n (λ k. span block 1 k) 0 xs entries in
-    subst R (sym (are lines)) (subst Q same (wrote lines (lines_loaded (pages_at m block 1) bytes 1 lines loaded reads)))))
+    let is = lines_loaded (pages_at m block 1) old 1 lines loaded reads in
+    (subst R (sym (are lines)) (subst Q same (wrote lines is)), takes lines is lt)))
 
 -- the same of a block of several pages, whose one line is the first
-pub promise_long : (m n : Map) (block count at : ℕ) (change : Change) (entries : List Entry) → 2 ≤ count → ((lines : List (List ℕ)) → lines_at m block count ≡ Some lines → Wrote tree_format m n (λ k. span block count k) 0 (edited change lines 0) entries) → Promise tree_format m n block count 0 at change entries
-promise_long m n block count at change entries many wrote = promise_leaf tree_format m n block count at change entries (λ lines reads lt.
+pub promise_long : (m n : Map) (block count at bytes : ℕ) (change : Change) (entries : List Entry) → 2 ≤ count
+    → ((lines : List (List ℕ)) → lines_at m block count ≡ Some lines → Wrote tree_format m n (λ k. span block count k) 0 (edited change lines 0) entries × Takes change lines 0 bytes) → Promise tree_format m n block count 0 at bytes change entries
+promise_long m n block count at bytes change entries many wrote = promise_leaf tree_format m n block count at bytes change entries (λ lines reads lt.
     let first : 0 ≡ at = omega (arith, at_alone m block count lines many reads) in
-    let R : ℕ → Type 0 = λ i. Wrote tree_format m n (λ k. span block count k) 0 (edited change lines i) entries in
+    let R : ℕ → Type 0 = λ i. Wrote tree_format m n (λ k. span block count k) 0 (edited change lines i) entries × Takes change lines i bytes in
     subst R first (wrote lines reads))
+
+pub takes_none : (change : Change) (lines : List (List ℕ)) (at bytes : ℕ) → change.gone ≡ 0 → at + change.skip ≤ length lines → bytes ≡ 0 → Takes change lines at bytes
+takes_none change lines at bytes none within empty = record { within = omega arith; bytes_are = empty ∙ sym (ap (λ n. bytes_of (take n (drop (at + change.skip) lines))) none) }

@@ -1,7 +1,9 @@
 pub mod ChangesLemmas
 pub mod DataLemmas
+pub mod EditedLemmas
 pub mod EntriesLemmas
 pub mod FirstLemmas
+pub mod GoneLemmas
 pub mod Outcomes
 pub mod PointersLemmas
 pub mod RunsLemmas

@@ -1,14 +1,26 @@
 -- Changes at a line, as the code is given them.
-use Rattle.std.specs.Prelude.{◌≢◌, ℕ, ◌≤◌, List, [], ◌∷◌, length, All}
+use Rattle.std.specs.Prelude.{◌≡◌, ◌≢◌, ℕ, ◌^◌, ◌<◌, ◌≤◌, List, [], length, All}
 use Rattle.vs_tree_laws.specs.Changes.{Change}
 use Rattle.vs_tree_blocks.specs.declared.edit.Edit.{Edit}
 use Rattle.vs_tree_blocks.specs.declared.edit.Edit.TheVariants.{Before, After, Remove}
 
--- the change that an edit makes
-abbrev pub change_of : Edit → Change
-change_of (Before run) = record { skip = 0; gone = 0; new = run.now }
-change_of (After run) = record { skip = 1; gone = 0; new = run.now }
-change_of Remove = record { skip = 0; gone = 1; new = [] }
+-- the change that an edit makes, where it takes out so many lines
+abbrev pub change_of : Edit → ℕ → Change
+change_of (Before run) gone = record { skip = 0; gone = gone; new = run.now }
+change_of (After run) gone = record { skip = 1; gone = gone; new = run.now }
+change_of (Remove most) gone = record { skip = 0; gone = gone; new = [] }
+
+-- an edit that puts in few lines, or takes out some
+abbrev pub IsEdit : Edit → Type 0
+IsEdit (Before run) = length run.now < 2 ^ 62
+IsEdit (After run) = length run.now < 2 ^ 62
+IsEdit (Remove most) = 0 < most
+
+-- how many lines an edit may take out
+abbrev pub MayTake : Edit → ℕ → Type 0
+MayTake (Before run) gone = gone ≡ 0
+MayTake (After run) gone = gone ≡ 0
+MayTake (Remove most) gone = (0 < gone) × (gone ≤ most)
 
 -- a line that may stand in a data block: it has no zero byte, and is not too long
 pub record IsStored (line : List ℕ) : Type 0 where

@@ -1,16 +1,17 @@
 // Data blocks in pages.
-ghost use Rattle.std.specs.Prelude.{◌≡◌, ◌≤◌, ◌<◌, ◌+◌, ◌*◌, ◌/◌, ◌^◌, ◌++◌, ◌∷◌, ◌⊎◌, [], ℕ, List, Some, None, Ok, Err, IfOk, OnOk, IfSome, IsTrue, IsSome, length, get_or, take, drop, remove};
+ghost use Rattle.std.specs.Prelude.{◌≡◌, ◌≤◌, ◌<◌, ◌+◌, ◌*◌, ◌/◌, ◌^◌, ◌++◌, ◌∷◌, ◌⊎◌, [], ℕ, List, Some, None, Ok, Err, IfOk, OnOk, IfSome, IsTrue, IsSome, length, get_or, take, drop, ◌-◌};
 ghost use Rattle.std.specs.List.{AllByRecursion};
 ghost use Rattle.std.specs.Option.{option_map};
 ghost use Rattle.vs_faults.specs.Faults.{Rose};
+ghost use Rattle.vs_text.specs.Text.{bytes_of};
 ghost use Rattle.vs_pages.specs.Maps.{pages_at, span};
 ghost use Rattle.vs_data.specs.Blocks.{lines_in, view_in, free_space, space_of};
-ghost use Rattle.vs_tree_laws.specs.Changes.{Above, Promise, Wrote, edited, splice};
+ghost use Rattle.vs_tree_laws.specs.Changes.{Above, Promise, Takes, Wrote, edited, splice};
 ghost use Rattle.vs_tree_blocks.specs.Blocks.{tree_format, lines_at, IsNarrow};
-ghost use Rattle.vs_tree_blocks.specs.Edits.{change_of};
+ghost use Rattle.vs_tree_blocks.specs.Edits.{change_of, IsEdit, MayTake};
 ghost use Rattle.vs_tree_blocks.specs.Parts.{IsSplit};
 
-use crate::{Edit, Run, add_block};
+use crate::{Edit, Edited, Gone, Run, add_block};
 use std::alloc::{AllocError, Global};
 use vs_data::DataView;
 use vs_pages::{PAGE_SIZE, PageErr, Pages};
@@ -76,18 +77,39 @@ pub fn load_line<P: Pages>(
     Ok(())
 }
 
-// A data block of one page with a line taken out.
-fn without_line(alloc: Global, view: DataView, bytes: &[u8], at: u32) -> Result<Vec<u8>, AllocError>
+// A data block of one page.
+#[derive(Drop)]
+struct Page {
+    view: DataView,
+    bytes: Vec<u8>,
+}
+
+// A copy of a data block of one page, without so many of its lines from one on.
+fn without_lines(
+    alloc: Global,
+    view: DataView,
+    bytes: &[u8],
+    at: u32,
+    count: u32,
+) -> Result<Page, AllocError>
     requires view { view_in bytes.now ≡ Ok view }
     requires size { length bytes.now ≡ 4096 }
-    requires at { at < view.count }
-    ensures size { IfOk result (λ now. length now.items ≡ 4096) }
-    ensures lines { IfOk result (λ now. lines_in now.items ≡ option_map (λ lines. remove lines at) (lines_in bytes.now)) }
+    requires within { at + count ≤ view.count }
+    ensures view { IfOk result (λ page. view_in page.bytes.items ≡ Ok page.view) }
+    ensures size { IfOk result (λ page. length page.bytes.items ≡ 4096) }
+    ensures end { IfOk result (λ page. page.view.text_end ≡ view.text_end) }
+    ensures count { IfOk result (λ page. page.view.count + count ≡ view.count) }
+    ensures lines { IfOk result (λ page. lines_in page.bytes.items ≡ option_map (λ lines. splice lines at count []) (lines_in bytes.now)) }
 {
     let mut now = Vec::from_slice(alloc, bytes)?;
     let mut whole = view;
-    whole.remove(&mut now, at);
-    Ok(now)
+    'lines: for _gone in 0..count {
+        whole.remove(&mut now, at);
+    }
+    Ok(Page {
+        view: whole,
+        bytes: now,
+    })
 }
 
 // A data block of one page in two parts.
@@ -461,36 +483,91 @@ fn put_run<P: Pages>(
     put_split(alloc, pages, block, view, bytes, at, run)
 }
 
-// Takes a line out of a data block of one page. A block without lines is given back.
-fn remove_line<P: Pages>(
+// Takes so many lines out of a data block of one page. A block without lines is given back.
+fn remove_lines<P: Pages>(
     alloc: Global,
     pages: &mut P,
     block: u64,
     view: DataView,
     bytes: &[u8],
     at: u32,
-) -> Result<Vec<Entry>, PageErr>
+    count: u32,
+) -> Result<Edited, PageErr>
     requires valid { P.valid pages.old }
     requires block { block < 2 ^ 63 }
     requires there { IsTrue P.tells → pages_at (P.present pages.old) block 1 ≡ Some bytes.now }
     requires size { length bytes.now ≡ 4096 }
     requires view { view_in bytes.now ≡ Ok view }
-    requires at { at < view.count }
-    ensures wrote { IfOk result (λ entries. IsTrue P.tells → (lines : List (List ℕ)) → lines_in bytes.now ≡ Some lines → Wrote tree_format (P.present pages.old) (P.present pages.new) (λ k. span block 1 k) 0 (splice lines at 1 []) entries.items) }
-    ensures narrow { IfOk result (λ entries. AllByRecursion IsNarrow entries.items) }
-    ensures few { IfOk result (λ entries. length entries.items ≤ 3) }
+    requires within { at + count ≤ view.count }
+    ensures wrote { IfOk result (λ after. IsTrue P.tells → (lines : List (List ℕ)) → lines_in bytes.now ≡ Some lines → Wrote tree_format (P.present pages.old) (P.present pages.new) (λ k. span block 1 k) 0 (splice lines at count []) after.entries.items) }
+    ensures gone { IfOk result (λ after. after.gone.lines ≡ count) }
+    ensures bytes { IfOk result (λ after. (lines : List (List ℕ)) → lines_in bytes.now ≡ Some lines → after.gone.bytes ≡ bytes_of (take count (drop at lines))) }
+    ensures narrow { IfOk result (λ after. AllByRecursion IsNarrow after.entries.items) }
+    ensures few { IfOk result (λ after. length after.entries.items ≤ 3) }
     ensures committed { IsTrue P.tells → P.committed pages.new ≡ P.committed pages.old }
     ensures later { P.faults pages.old ≤ P.faults pages.new }
     ensures failed { result ≡ Err PageErr.Failed → Rose (P.faults pages.old) (P.faults pages.new) }
     ensures valid { P.valid pages.new }
     ensures stays { P.stays pages.old pages.new }
 {
-    if view.count == 1 {
+    if count == view.count {
         pages.free(alloc, block, 1)?;
-        return Ok(Vec::new(alloc));
+        return Ok(Edited {
+            entries: Vec::new(alloc),
+            gone: text_of(view),
+        });
     }
-    let now = without_line(alloc, view, bytes, at)?;
-    write_whole(alloc, pages, block, u64::from(view.count) - 1, &now)
+    let left = without_lines(alloc, view, bytes, at, count)?;
+    let entries = write_whole(alloc, pages, block, u64::from(left.view.count), &left.bytes)?;
+    Ok(Edited {
+        entries,
+        gone: Gone {
+            lines: u64::from(count),
+            bytes: u64::from(left.view.text_start) - u64::from(view.text_start),
+        },
+    })
+}
+
+// All lines of a data block.
+fn text_of(view: DataView) -> Gone
+    requires { view.text_start ≤ view.text_end }
+    ensures { result ≡ record { lines = view.count; bytes = view.text_end - view.text_start } }
+{
+    Gone {
+        lines: u64::from(view.count),
+        bytes: u64::from(view.text_end) - u64::from(view.text_start),
+    }
+}
+
+// Takes out the one line of a data block of several pages, which is given back.
+fn remove_long<P: Pages>(
+    alloc: Global,
+    pages: &mut P,
+    block: u64,
+    count: u32,
+) -> Result<Edited, PageErr>
+    requires valid { P.valid pages.old }
+    requires there { IsTrue P.tells → (2 ≤ count) × IsSome (lines_at (P.present pages.old) block count) }
+    ensures wrote { IfOk result (λ after. IsTrue P.tells → (lines : List (List ℕ)) → lines_at (P.present pages.old) block count ≡ Some lines → Wrote tree_format (P.present pages.old) (P.present pages.new) (λ k. span block count k) 0 (splice lines 0 1 []) after.entries.items) }
+    ensures gone { IfOk result (λ after. after.gone.lines ≡ 1) }
+    ensures bytes { IfOk result (λ after. IsTrue P.tells → (lines : List (List ℕ)) → lines_at (P.present pages.old) block count ≡ Some lines → after.gone.bytes ≡ bytes_of lines) }
+    ensures none { IfOk result (λ after. after.entries.items ≡ []) }
+    ensures committed { IsTrue P.tells → P.committed pages.new ≡ P.committed pages.old }
+    ensures later { P.faults pages.old ≤ P.faults pages.new }
+    ensures failed { result ≡ Err PageErr.Failed → Rose (P.faults pages.old) (P.faults pages.new) }
+    ensures valid { P.valid pages.new }
+    ensures stays { P.stays pages.old pages.new }
+{
+    let mut bytes = Vec::new(alloc);
+    let view = load_data(alloc, pages, block, count, &mut bytes)?;
+    pages.free(alloc, block, count)?;
+    Ok(Edited {
+        entries: Vec::new(alloc),
+        gone: Gone {
+            lines: 1,
+            bytes: text_of(view).bytes,
+        },
+    })
 }
 
 // Edits a data block of several pages, which holds one line: a new line gets a block of its own beside it.
@@ -500,15 +577,18 @@ fn edit_long<P: Pages>(
     block: u64,
     count: u32,
     edit: Edit<'_>,
-) -> Result<Vec<Entry>, PageErr>
+) -> Result<Edited, PageErr>
     requires valid { P.valid pages.old }
     requires block { block < 2 ^ 63 }
     requires count { count < 2 ^ 31 }
-    requires few { length (change_of edit).new < 2 ^ 62 }
+    requires edit { IsEdit edit }
     requires there { IsTrue P.tells → (2 ≤ count) × IsSome (lines_at (P.present pages.old) block count) }
-    ensures wrote { IfOk result (λ entries. IsTrue P.tells → (lines : List (List ℕ)) → lines_at (P.present pages.old) block count ≡ Some lines → Wrote tree_format (P.present pages.old) (P.present pages.new) (λ k. span block count k) 0 (edited (change_of edit.entry) lines 0) entries.items) }
-    ensures narrow { IfOk result (λ entries. AllByRecursion IsNarrow entries.items) }
-    ensures few { IfOk result (λ entries. length entries.items ≤ 3) }
+    ensures wrote { IfOk result (λ after. IsTrue P.tells → (lines : List (List ℕ)) → lines_at (P.present pages.old) block count ≡ Some lines →
+        Wrote tree_format (P.present pages.old) (P.present pages.new) (λ k. span block count k) 0 (edited (change_of edit.entry after.gone.lines) lines 0) after.entries.items
+        × Takes (change_of edit.entry after.gone.lines) lines 0 after.gone.bytes) }
+    ensures may_take { IfOk result (λ after. MayTake edit.entry after.gone.lines) }
+    ensures narrow { IfOk result (λ after. AllByRecursion IsNarrow after.entries.items) }
+    ensures few { IfOk result (λ after. length after.entries.items ≤ 3) }
     ensures committed { IsTrue P.tells → P.committed pages.new ≡ P.committed pages.old }
     ensures later { P.faults pages.old ≤ P.faults pages.new }
     ensures failed { result ≡ Err PageErr.Failed → Rose (P.faults pages.old) (P.faults pages.new) }
@@ -523,16 +603,13 @@ fn edit_long<P: Pages>(
     match edit {
         Edit::Before(lines) => {
             let new = lines.add(alloc, pages)?;
-            Ok(vec![in alloc; new, kept]?)
+            Ok(Edited::with(vec![in alloc; new, kept]?))
         }
         Edit::After(lines) => {
             let new = lines.add(alloc, pages)?;
-            Ok(vec![in alloc; kept, new]?)
+            Ok(Edited::with(vec![in alloc; kept, new]?))
         }
-        Edit::Remove => {
-            pages.free(alloc, block, count)?;
-            Ok(Vec::new(alloc))
-        }
+        Edit::Remove(_most) => remove_long(alloc, pages, block, count),
     }
 }
 
@@ -545,15 +622,16 @@ pub fn edit_data<P: Pages>(
     count: u32,
     at: u64,
     edit: Edit<'_>,
-) -> Result<Vec<Entry>, PageErr>
+) -> Result<Edited, PageErr>
     requires valid { P.valid pages.old }
     requires block { block < 2 ^ 63 }
     requires count { count < 2 ^ 31 }
-    requires few { length (change_of edit).new < 2 ^ 62 }
+    requires edit { IsEdit edit }
     requires there { IsTrue P.tells → Above tree_format (P.present pages.old) block count 0 at }
-    ensures wrote { IfOk result (λ entries. IsTrue P.tells → Promise tree_format (P.present pages.old) (P.present pages.new) block count 0 at (change_of edit.entry) entries.items) }
-    ensures narrow { IfOk result (λ entries. AllByRecursion IsNarrow entries.items) }
-    ensures few { IfOk result (λ entries. length entries.items ≤ 3) }
+    ensures wrote { IfOk result (λ after. IsTrue P.tells → Promise tree_format (P.present pages.old) (P.present pages.new) block count 0 at after.gone.bytes (change_of edit.entry after.gone.lines) after.entries.items) }
+    ensures may_take { IfOk result (λ after. MayTake edit.entry after.gone.lines) }
+    ensures narrow { IfOk result (λ after. AllByRecursion IsNarrow after.entries.items) }
+    ensures few { IfOk result (λ after. length after.entries.items ≤ 3) }
     ensures committed { IsTrue P.tells → P.committed pages.new ≡ P.committed pages.old }
     ensures later { P.faults pages.old ≤ P.faults pages.new }
     ensures failed { result ≡ Err PageErr.Failed → Rose (P.faults pages.old) (P.faults pages.new) }
@@ -571,8 +649,18 @@ pub fn edit_data<P: Pages>(
     }
     let place = at as u32;
     match edit {
-        Edit::Before(lines) => put_run(alloc, pages, block, view, &bytes, place, lines),
-        Edit::After(lines) => put_run(alloc, pages, block, view, &bytes, place + 1, lines),
-        Edit::Remove => remove_line(alloc, pages, block, view, &bytes, place),
+        Edit::Before(lines) => {
+            let entries = put_run(alloc, pages, block, view, &bytes, place, lines)?;
+            Ok(Edited::with(entries))
+        }
+        Edit::After(lines) => {
+            let entries = put_run(alloc, pages, block, view, &bytes, place + 1, lines)?;
+            Ok(Edited::with(entries))
+        }
+        Edit::Remove(most) => {
+            let left = view.count - place;
+            let gone = u64::from(left).min(most) as u32;
+            remove_lines(alloc, pages, block, view, &bytes, place, gone)
+        }
     }
 }

@@ -1,32 +1,57 @@
-use Rattle.std.proofs.Common.{ℕ, List, [], sym, ap, subst, ◌∙◌, arith}
+use Rattle.std.proofs.Common.{◌≡◌, ℕ, ◌+◌, ◌≤◌, List, [], Some, IsTrue, length, take, sym, ap, subst, ◌∙◌, arith}
+use Rattle.std.proofs.lemmas.Grind.{common_steps}
+use Rattle.vs_text.specs.Text.{bytes_of}
 use Rattle.vs_pages.specs.Maps.{span}
 use Rattle.vs_tree_laws.specs.Changes.{Wrote, edited, splice}
 use Rattle.vs_tree_blocks.specs.declared.edit.Edit.{Edit}
+use Rattle.vs_tree_blocks.specs.declared.edit.Edited.{Edited}
 use Rattle.vs_tree_blocks.specs.Edits.{change_of}
-use Rattle.vs_tree_blocks.specs.Blocks.{tree_format}
-use Rattle.vs_tree_blocks.proofs.DataLemmas.{wrote_before, wrote_behind, wrote_gone, put_last, remove_only}
-use Rattle.vs_tree_blocks.proofs.DataLemmas.{at_alone}
+use Rattle.vs_tree_blocks.specs.Blocks.{tree_format, lines_at}
+use Rattle.vs_tree_blocks.proofs.Outcomes.{if_ok_both}
+use Rattle.vs_tree_blocks.proofs.DataLemmas.{wrote_before, wrote_behind, at_alone, put_last}
+use Rattle.vs_tree_blocks.proofs.EditedLemmas.{wrote_with, none_taken, takes_some, removed}
 use Rattle.vs_tree_blocks.proofs.data.edit_long.Goals as goal
 
 pub returns-in_ok-vec-in-Before-clause-wrote : goal.returns-in_ok-vec-in-Before-clause-wrote
 returns-in_ok-vec-in-Before-clause-wrote g c = λ told lines reads.
     let r = c.requires.there told in
     let one = at_alone _ c.args.block c.args.count lines r.0 reads in
-    let same = ap (λ (e : Edit). edited (change_of e) lines 0) c.in-Before.is in
-    subst (λ (xs : List (List ℕ)). Wrote tree_format (g.P.Pages.present c.args.pages.now) (g.P.Pages.present c.add.new.pages) (λ k. span c.args.block c.args.count k) 0 xs c.in_ok-vec-in-Before.field-0.items) (sym same)
-    (wrote_before _ _ c.args.block c.args.count 1 lines c.in-Before.lines.now c.in_ok-new-in-Before.new _ reads (omega (arith, r.0)) (sym one) (c.in_ok-new-in-Before.ensures.added told) c.in_ok-new-in-Before.ensures.lines c.in_ok-vec-in-Before.ensures.items)
+    let run = c.in-Before.lines.now in
+    let same = ap (λ (e : Edit). edited (change_of e 0) lines 0) c.in-Before.is in
+    (
+      wrote_with _ _ c.args.block c.args.count 0 c.args.edit lines c.in_ok-vec-in-Before.field-0 c.with.result c.with.ensures
+          (subst (λ (xs : List (List ℕ)). Wrote tree_format (g.P.Pages.present c.args.pages.now) (g.P.Pages.present c.add.new.pages) (λ k. span c.args.block c.args.count k) 0 xs c.in_ok-vec-in-Before.field-0.items) (sym same)
+          (wrote_before _ _ c.args.block c.args.count 1 lines run c.in_ok-new-in-Before.new _ reads (omega (arith, r.0)) (sym one) (c.in_ok-new-in-Before.ensures.added told) c.in_ok-new-in-Before.ensures.lines c.in_ok-vec-in-Before.ensures.items)),
+      none_taken c.args.edit lines 0 c.in_ok-vec-in-Before.field-0 c.with.result c.with.ensures (omega (arith, ap (λ (e : Edit). (change_of e 0).skip) c.in-Before.is)),
+    )
 
 pub returns-in_ok-vec-in-After-clause-wrote : goal.returns-in_ok-vec-in-After-clause-wrote
 returns-in_ok-vec-in-After-clause-wrote g c = λ told lines reads.
     let r = c.requires.there told in
     let one = at_alone _ c.args.block c.args.count lines r.0 reads in
     let run = c.in-After.lines.now in
-    subst (λ (xs : List (List ℕ)). Wrote tree_format (g.P.Pages.present c.args.pages.now) (g.P.Pages.present c.add-in-After.new.pages) (λ k. span c.args.block c.args.count k) 0 xs c.in_ok-vec-in-After.field-0.items) (put_last lines run 1 (sym one) ∙ sym (ap (λ (e : Edit). edited (change_of e) lines 0) c.in-After.is))
-    (wrote_behind _ _ c.args.block c.args.count 1 lines run c.in_ok-new-in-After.new _ reads (omega (arith, r.0)) (sym one) (c.in_ok-new-in-After.ensures.added told) c.in_ok-new-in-After.ensures.lines c.in_ok-vec-in-After.ensures.items)
+    let same = ap (λ (e : Edit). edited (change_of e 0) lines 0) c.in-After.is in
+    (
+      wrote_with _ _ c.args.block c.args.count 0 c.args.edit lines c.in_ok-vec-in-After.field-0 c.with-in-After.result c.with-in-After.ensures
+          (subst (λ (xs : List (List ℕ)). Wrote tree_format (g.P.Pages.present c.args.pages.now) (g.P.Pages.present c.add-in-After.new.pages) (λ k. span c.args.block c.args.count k) 0 xs c.in_ok-vec-in-After.field-0.items) (put_last lines run 1 (sym one) ∙ sym same)
+          (wrote_behind _ _ c.args.block c.args.count 1 lines run c.in_ok-new-in-After.new _ reads (omega (arith, r.0)) (sym one) (c.in_ok-new-in-After.ensures.added told) c.in_ok-new-in-After.ensures.lines c.in_ok-vec-in-After.ensures.items)),
+      none_taken c.args.edit lines 0 c.in_ok-vec-in-After.field-0 c.with-in-After.result c.with-in-After.ensures (omega (arith, one, ap (λ (e : Edit). (change_of e 0).skip) c.in-After.is)),
+    )
 
-pub returns-in_ok-free-in-Remove-clause-wrote : goal.returns-in_ok-free-in-Remove-clause-wrote
-returns-in_ok-free-in-Remove-clause-wrote g c = λ told lines reads.
+take_one : (ls : List (List ℕ)) → length ls ≡ 1 → ls ≡ take 1 ls
+take_one ls one = grind (arith, common_steps)
+
+pub returns-in-Remove-clause-wrote : goal.returns-in-Remove-clause-wrote
+returns-in-Remove-clause-wrote g c =
+    let gone : Edited → Type 0 = λ after. after.gone.lines ≡ 1 in
+    let bytes : Edited → Type 0 = λ after. IsTrue g.P.Pages.tells → (lines : List (List ℕ)) → lines_at (g.P.Pages.present c.args.pages.now) c.args.block c.args.count ≡ Some lines → after.gone.bytes ≡ bytes_of lines in
+    if_ok_both c.remove_long.result _ (λ after. gone after × bytes after) _
+    (λ (after : Edited) wrote took told lines reads.
     let r = c.requires.there told in
     let one = at_alone _ c.args.block c.args.count lines r.0 reads in
-    subst (λ (xs : List (List ℕ)). Wrote tree_format (g.P.Pages.present c.args.pages.now) (g.P.Pages.present c.free.new.self) (λ k. span c.args.block c.args.count k) 0 xs c.new.result.items) (sym (ap (λ (e : Edit). edited (change_of e) lines 0) c.in-Remove.is))
-    (wrote_gone _ _ c.args.block c.args.count (splice lines 0 1 []) _ (c.in_ok-free-in-Remove.ensures.ok told) (remove_only lines 0 one (omega arith)) c.new.ensures.items)
+    let most = c.in-Remove._most in
+    (
+      subst (λ (xs : List (List ℕ)). Wrote tree_format (g.P.Pages.present c.args.pages.now) (g.P.Pages.present c.remove_long.new.pages) (λ k. span c.args.block c.args.count k) 0 xs after.entries.items) (sym (removed c.args.edit most lines 0 after.gone.lines 1 c.in-Remove.is took.0)) (wrote told lines reads),
+      takes_some c.args.edit most lines 0 after.gone.lines 1 after.gone.bytes c.in-Remove.is took.0 (omega (arith, one)) (took.1 told lines reads ∙ ap bytes_of (take_one lines one)),
+    ))
+    c.remove_long.ensures.wrote (if_ok_both c.remove_long.result gone bytes _ (λ after a b. (a, b)) c.remove_long.ensures.gone c.remove_long.ensures.bytes)
