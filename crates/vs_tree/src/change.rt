@@ -1,19 +1,18 @@
 // A change at one line of the tree.
-ghost use Rattle.std.specs.Prelude.{◌≡◌, ◌≤◌, ◌<◌, ◌^◌, ℕ, List, All, Err, IfOk, IsTrue, length};
+ghost use Rattle.std.specs.Prelude.{◌≡◌, ◌≤◌, ◌<◌, ◌^◌, ℕ, List, Err, IfOk, IsTrue, length};
 ghost use Rattle.std.specs.List.{AllByRecursion};
 ghost use Rattle.vs_faults.specs.Faults.{Rose};
 ghost use Rattle.vs_tree_laws.specs.Trees.{HasLines};
-ghost use Rattle.vs_tree_laws.specs.Changes.{Above, Promise, edited};
+ghost use Rattle.vs_tree_laws.specs.Changes.{Above, Promise, Takes, edited};
 ghost use Rattle.vs_tree_blocks.specs.Blocks.{tree_format, IsNarrow};
-ghost use Rattle.vs_tree_blocks.specs.Edits.{change_of, IsStored};
+ghost use Rattle.vs_tree_blocks.specs.Edits.{change_of, IsEdit, MayTake};
 
 use std::alloc::Global;
 use vs_pages::{PageErr, Pages};
-use vs_tree_blocks::{Edit, edit_data, load_entries, write_pointers, write_root};
-use vs_tree_laws::{Entry, find_place, replace_entry};
+use vs_tree_blocks::{Edit, Edited, Gone, edit_data, load_entries, write_pointers, write_root};
+use vs_tree_laws::{find_place, replace_entry};
 
-// Edits the lines below a block of `count` pages, whose data blocks lie `depth` levels below it, and gives the entries that
-// stand in place of the block's entry.
+// Edits the lines below a block of `count` pages, whose data blocks lie `depth` levels below it.
 fn edit_below<P: Pages>(
     alloc: Global,
     pages: &mut P,
@@ -22,15 +21,16 @@ fn edit_below<P: Pages>(
     count: u32,
     at: u64,
     edit: Edit<'_>,
-) -> Result<Vec<Entry>, PageErr>
+) -> Result<Edited, PageErr>
     requires valid { P.valid pages.old }
     requires block { block < 2 ^ 63 }
     requires count { count < 2 ^ 31 }
-    requires stored { All IsStored (change_of edit).new }
+    requires edit { IsEdit edit }
     requires there { IsTrue P.tells → Above tree_format (P.present pages.old) block count depth at }
-    ensures wrote { IfOk result (λ entries. IsTrue P.tells → Promise tree_format (P.present pages.old) (P.present pages.new) block count depth at (change_of edit.entry) entries.items) }
-    ensures narrow { IfOk result (λ entries. AllByRecursion IsNarrow entries.items) }
-    ensures few { IfOk result (λ entries. length entries.items ≤ 3) }
+    ensures wrote { IfOk result (λ after. IsTrue P.tells → Promise tree_format (P.present pages.old) (P.present pages.new) block count depth at after.gone.bytes (change_of edit.entry after.gone.lines) after.entries.items) }
+    ensures may_take { IfOk result (λ after. MayTake edit.entry after.gone.lines) }
+    ensures narrow { IfOk result (λ after. AllByRecursion IsNarrow after.entries.items) }
+    ensures few { IfOk result (λ after. length after.entries.items ≤ 3) }
     ensures committed { IsTrue P.tells → P.committed pages.new ≡ P.committed pages.old }
     ensures later { P.faults pages.old ≤ P.faults pages.new }
     ensures failed { result ≡ Err PageErr.Failed → Rose (P.faults pages.old) (P.faults pages.new) }
@@ -55,23 +55,35 @@ fn edit_below<P: Pages>(
         place.rest,
         edit,
     )?;
-    let all = replace_entry(alloc, &entries, place.index, &below)?;
-    write_pointers(alloc, pages, block, all)
+    let all = replace_entry(alloc, &entries, place.index, &below.entries)?;
+    let above = write_pointers(alloc, pages, block, all)?;
+    Ok(Edited {
+        entries: above,
+        gone: below.gone,
+    })
 }
 
-/// Edits the tree, whose data blocks lie `height` levels below block 1, at one of its lines, counted from 0, and gives the
-/// height that it has then.
+/// What an edit leaves of the tree: its height, and the lines that were taken out.
+#[derive(Clone, Copy, Debug, PartialEq, Eq)]
+pub struct EditedTree {
+    pub height: u64,
+    pub gone: Gone,
+}
+
+/// Edits the tree, whose data blocks lie `height` levels below block 1, at one of its lines, counted from 0.
 pub fn edit_tree<P: Pages>(
     alloc: Global,
     pages: &mut P,
     height: u64,
     at: u64,
     edit: Edit<'_>,
-) -> Result<u64, PageErr>
+) -> Result<EditedTree, PageErr>
     requires valid { P.valid pages.old }
-    requires stored { All IsStored (change_of edit).new }
+    requires edit { IsEdit edit }
     requires there { IsTrue P.tells → (lines : List (List ℕ)) × HasLines tree_format (P.present pages.old) height lines × (at < length lines) × (length lines < 2 ^ 62) }
-    ensures edited { IfOk result (λ higher. IsTrue P.tells → (lines : List (List ℕ)) → HasLines tree_format (P.present pages.old) height lines → at < length lines → length lines < 2 ^ 62 → HasLines tree_format (P.present pages.new) higher (edited (change_of edit.entry) lines at)) }
+    ensures edited { IfOk result (λ after. IsTrue P.tells → (lines : List (List ℕ)) → HasLines tree_format (P.present pages.old) height lines → at < length lines → length lines < 2 ^ 62 →
+        HasLines tree_format (P.present pages.new) after.height (edited (change_of edit.entry after.gone.lines) lines at) × Takes (change_of edit.entry after.gone.lines) lines at after.gone.bytes) }
+    ensures may_take { IfOk result (λ after. MayTake edit.entry after.gone.lines) }
     ensures committed { IsTrue P.tells → P.committed pages.new ≡ P.committed pages.old }
     ensures later { P.faults pages.old ≤ P.faults pages.new }
     ensures failed { result ≡ Err PageErr.Failed → Rose (P.faults pages.old) (P.faults pages.new) }
@@ -97,7 +109,10 @@ pub fn edit_tree<P: Pages>(
         place.rest,
         edit,
     )?;
-    let all = replace_entry(alloc, &entries, place.index, &below)?;
+    let all = replace_entry(alloc, &entries, place.index, &below.entries)?;
     let more = write_root(alloc, pages, all)?;
-    Ok(height + more)
+    Ok(EditedTree {
+        height: height + more,
+        gone: below.gone,
+    })
 }

@@ -9,8 +9,8 @@ mod texts;
 mod tree;
 mod walk;
 
-pub use change::edit_tree;
-pub use runs::{Taken, put_lines, put_stored, take_lines};
+pub use change::{EditedTree, edit_tree};
+pub use runs::{Taken, put_lines, put_run, take_lines};
 pub use texts::{Extent, splice_text};
 pub use tree::{LineTree, TreeStore};
 pub use walk::load_stored;

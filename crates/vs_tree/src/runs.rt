@@ -1,32 +1,55 @@
-// Runs of lines that are put into the tree or taken out, one line at a time.
-ghost use Rattle.std.specs.Prelude.{◌≡◌, ◌≤◌, ◌<◌, ◌+◌, ◌^◌, ◌∷◌, [], ℕ, List, All, Err, IfOk, IsTrue, length};
+// Runs of lines that are put into the tree or taken out, a data block at a time.
+ghost use Rattle.std.specs.Prelude.{◌≡◌, ◌≤◌, ◌<◌, ◌+◌, ◌^◌, ◌∷◌, [], ℕ, List, All, Err, IfOk, IsTrue, get_or, length, map, take};
 ghost use Rattle.vs_faults.specs.Faults.{Rose};
-ghost use Rattle.vs_text.specs.Text.{bytes_of};
+ghost use Rattle.vs_text.specs.Text.{bytes_of, stored_line};
 ghost use Rattle.vs_text.specs.Limits.{IsShort};
 ghost use Rattle.vs_tree_laws.specs.Trees.{HasLines};
 ghost use Rattle.vs_tree_laws.specs.Changes.{splice};
 ghost use Rattle.vs_tree_blocks.specs.Blocks.{tree_format};
-ghost use Rattle.vs_tree_blocks.specs.Edits.{IsStored};
+ghost use Rattle.vs_data.specs.Blocks.{space_of};
 ghost use Rattle.vs_tree.specs.Runs.{IsPlaceIn, IsRunIn, with_lines, without_lines, run_of};
 
-use crate::{edit_tree, load_stored};
-use std::alloc::Global;
+use crate::edit_tree;
+use std::alloc::{AllocError, Global};
 use vs_pages::{PageErr, Pages};
 use vs_text::{Line, to_stored};
-use vs_tree_blocks::Edit;
+use vs_tree_blocks::{Edit, Run};
 
-/// Puts a stored line before the line at `at`, or last where `at` is the number of lines, and gives the tree's height then.
-pub fn put_stored<P: Pages>(
+// The first lines of some, in their stored form: as many as a page has room for, and at least one.
+fn fill_run(alloc: Global, lines: &[Line]) -> Result<Run, AllocError>
+    requires some { 0 < length lines.now }
+    requires short { All IsShort lines.now }
+    ensures run { IfOk result (λ run. run ≡ map stored_line (take (length run) lines.now)) }
+    ensures some { IfOk result (λ run. 0 < length run) }
+    ensures within { IfOk result (λ run. length run ≤ length lines.now) }
+    ensures full { IfOk result (λ run. length run < length lines.now → 4072 < space_of run + (length (get_or lines.now (length run) []) + 5)) }
+{
+    let mut bytes = Vec::from_slice(alloc, lines[0].bytes())?;
+    to_stored(&mut bytes);
+    let mut run = Run::of(alloc, &bytes)?;
+    'lines: for line in &lines[1..] {
+        bytes.clear();
+        bytes.extend_from_slice(line.bytes())?;
+        to_stored(&mut bytes);
+        if !run.push(&bytes) {
+            return Ok(run);
+        }
+    }
+    Ok(run)
+}
+
+/// Puts a run of lines before the line at `at`, or last where `at` is the number of lines, and gives the tree's height then.
+pub fn put_run<P: Pages>(
     alloc: Global,
     pages: &mut P,
     height: u64,
     at: u64,
-    line: &[u8],
+    run: &Run,
 ) -> Result<u64, PageErr>
     requires valid { P.valid pages.old }
-    requires stored { IsStored line.now }
+    requires few { length run.now < 2 ^ 62 }
     requires there { IsTrue P.tells → (lines : List (List ℕ)) × HasLines tree_format (P.present pages.old) height lines × IsPlaceIn lines at }
-    ensures put { IfOk result (λ higher. IsTrue P.tells → (lines : List (List ℕ)) → HasLines tree_format (P.present pages.old) height lines → IsPlaceIn lines at → HasLines tree_format (P.present pages.new) higher (splice lines at 0 (line.now ∷ []))) }
+    ensures put { IfOk result (λ higher. IsTrue P.tells → (lines : List (List ℕ)) → HasLines tree_format (P.present pages.old) height lines → IsPlaceIn lines at → HasLines tree_format (P.present pages.new) higher (splice lines at 0 run.now)) }
     ensures committed { IsTrue P.tells → P.committed pages.new ≡ P.committed pages.old }
     ensures later { P.faults pages.old ≤ P.faults pages.new }
     ensures failed { result ≡ Err PageErr.Failed → Rose (P.faults pages.old) (P.faults pages.new) }
@@ -34,9 +57,11 @@ pub fn put_stored<P: Pages>(
     ensures stays { P.stays pages.old pages.new }
 {
     if at == 0 {
-        return edit_tree(alloc, pages, height, 0, Edit::Before(line));
+        let before = edit_tree(alloc, pages, height, 0, Edit::Before(run))?;
+        return Ok(before.height);
     }
-    edit_tree(alloc, pages, height, at - 1, Edit::After(line))
+    let after = edit_tree(alloc, pages, height, at - 1, Edit::After(run))?;
+    Ok(after.height)
 }
 
 /// Puts lines before the line at `at`, or last where `at` is the number of lines, and gives the tree's height then.
@@ -59,12 +84,11 @@ pub fn put_lines<P: Pages>(
     ensures stays { P.stays pages.old pages.new }
 {
     let mut higher = height;
-    let mut place = at;
-    'lines: for line in new {
-        let mut bytes = Vec::from_slice(alloc, line.bytes())?;
-        to_stored(&mut bytes);
-        higher = put_stored(alloc, pages, higher, place, &bytes)?;
-        place += 1;
+    let mut put = 0;
+    'runs: while put < new.len() {
+        let run = fill_run(alloc, &new[put..])?;
+        higher = put_run(alloc, pages, higher, at + put as u64, &run)?;
+        put += run.len() as usize;
     }
     Ok(higher)
 }
@@ -97,15 +121,16 @@ pub fn take_lines<P: Pages>(
 {
     let mut higher = height;
     let mut bytes: u64 = 0;
-    let mut line = Vec::new(alloc);
-    'gone: for _taken in 0..count {
-        load_stored(alloc, pages, higher, at, &mut line)?;
-        let Some(sum) = bytes.checked_add(line.len() as u64 + 1) else {
+    let mut gone: u64 = 0;
+    'gone: while gone < count {
+        let after = edit_tree(alloc, pages, higher, at, Edit::Remove(count - gone))?;
+        let Some(sum) = bytes.checked_add(after.gone.bytes) else {
             pages.damaged();
             return Err(PageErr::Failed);
         };
         bytes = sum;
-        higher = edit_tree(alloc, pages, higher, at, Edit::Remove)?;
+        higher = after.height;
+        gone += after.gone.lines;
     }
     Ok(Taken {
         height: higher,

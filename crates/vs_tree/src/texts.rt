@@ -7,10 +7,11 @@ ghost use Rattle.vs_text.specs.declared.TheConstants.{MAX_LINES, MAX_TEXT_BYTES}
 ghost use Rattle.vs_edit.specs.Splices.{splice};
 ghost use Rattle.vs_tree.specs.Texts.{HasText, Fits};
 
-use crate::{put_lines, put_stored, take_lines};
+use crate::{put_lines, put_run, take_lines};
 use std::alloc::Global;
 use vs_pages::{PageErr, Pages};
 use vs_text::Line;
+use vs_tree_blocks::Run;
 
 /// The numbers of a text in pages: the number of levels between block 1 and the data blocks, and the numbers of lines and
 /// bytes of the text, with one byte for each line end. The text without lines has the lines of one empty line in its tree.
@@ -82,7 +83,8 @@ fn clear_text<P: Pages>(alloc: Global, pages: &mut P, now: Extent) -> Result<Ext
     ensures valid { P.valid pages.new }
     ensures stays { P.stays pages.old pages.new }
 {
-    let height = put_stored(alloc, pages, now.height, 0, &[])?;
+    let empty = Run::of(alloc, &[])?;
+    let height = put_run(alloc, pages, now.height, 0, &empty)?;
     let taken = take_lines(alloc, pages, height, 1, now.lines)?;
     Ok(Extent {
         height: taken.height,

@@ -1,4 +1,4 @@
-use Rattle.std.proofs.Common.{◌≡◌, ℕ, ◌-◌, ◌≤◌, List, is_some, IsTrue, IfOk, arith, rules, sym, ap, subst}
+use Rattle.std.proofs.Common.{◌≡◌, ℕ, ◌-◌, ◌≤◌, List, is_some, IsTrue, IfOk, arith, refl, rules, sym, ap, subst}
 use Rattle.std.specs.Prelude.{Vec}
 use Rattle.std.specs.declared.alloc.Global.{Global}
 use Rattle.vs_pages.specs.Maps.{Map}
@@ -10,13 +10,14 @@ use Rattle.vs_tree_laws.proofs.Walks.{place_each}
 use Rattle.vs_tree_laws.proofs.Steps.{above_down, above_entries, above_place, edited_pointers, pointers_there, pointers_read}
 use Rattle.vs_tree_blocks.specs.Blocks.{tree_format, IsNarrow}
 use Rattle.vs_tree_blocks.specs.Edits.{change_of}
-use Rattle.vs_tree_blocks.proofs.ChangesLemmas.{is_change}
-use Rattle.vs_tree_blocks.proofs.Outcomes.{if_ok_weaker}
+use Rattle.vs_tree_blocks.specs.declared.edit.Edited.{Edited}
+use Rattle.vs_tree_blocks.proofs.ChangesLemmas.{few_new}
+use Rattle.vs_tree.proofs.ChangeLemmas.{promised}
 use Rattle.vs_tree.proofs.change.+edit_below.Goals as goal
 
 pub returns-then-depth-eq0-clause-wrote : goal.returns-then-depth-eq0-clause-wrote
 returns-then-depth-eq0-clause-wrote g t c =
-    let P : ℕ → Type 0 = λ d. IfOk c.edit_data.result (λ entries. IsTrue g.P.Pages.tells → Promise tree_format (g.P.Pages.present c.args.pages.now) (g.P.Pages.present c.edit_data.new.pages) c.args.block c.args.count d c.args.at (change_of c.args.edit) entries.items) in
+    let P : ℕ → Type 0 = λ d. IfOk c.edit_data.result (λ (after : Edited). IsTrue g.P.Pages.tells → Promise tree_format (g.P.Pages.present c.args.pages.now) (g.P.Pages.present c.edit_data.new.pages) c.args.block c.args.count d c.args.at after.gone.bytes (change_of c.args.edit after.gone.lines) after.entries.items) in
     let none : c.args.depth ≡ 0 = c.if-depth-eq0.true in
     subst P (sym none) c.edit_data.ensures.wrote
 
@@ -39,7 +40,7 @@ edit_below-requires g t c = λ κs within. (
         (
           (place_each IsNarrow c.in_ok-entries.entries.items _ c.args.at c.in-Some.place c.deref.ensures.value c.in-Some.ensures.some c.in_ok-entries.ensures.narrow).pages,
           (
-            c.requires.stored,
+            c.requires.edit,
             λ told.
                 let here = above_down _ _ _ _ c.args.depth _ c.in_ok-entries.entries.items c.in-Some.place c.if-depth-eq0.false (c.in_ok-entries.ensures.entries told) (subst (λ (es : List Entry). IsPlace es c.args.at c.in-Some.place) c.deref.ensures.value c.in-Some.ensures.some) (c.requires.there told) in
                 let P : Map → Type 0 = λ m. Above tree_format m c.in-Some.place.entry.block c.in-Some.place.entry.pages (c.args.depth - 1) c.in-Some.place.rest in
@@ -55,33 +56,31 @@ pub write_pointers-requires-clause-there : goal.write_pointers-requires-clause-t
 write_pointers-requires-clause-there g t c = λ told.
     let is = subst (λ (es : List Entry). IsPlace es c.args.at c.in-Some.place) c.deref.ensures.value c.in-Some.ensures.some in
     let mid = rw (c.deref-2.ensures.value, c.deref-3.ensures.value) at c.in_ok-all.ensures in
-    let promise = subst (λ (m : Map). Promise tree_format m (g.P.Pages.present c.edit_below.new.pages) c.in-Some.place.entry.block c.in-Some.place.entry.pages (c.args.depth - 1) c.in-Some.place.rest (change_of c.args.edit) c.in_ok-below.below.items) (c.load_entries.ensures.present told) (c.in_ok-below.ensures.wrote told) in
-    let r = pointers_there _ _ _ _ _ c.args.depth _ (change_of c.args.edit) c.in_ok-entries.entries.items c.in_ok-below.below.items c.in_ok-all.all.items c.in-Some.place c.if-depth-eq0.false (is_change c.args.edit) (c.in_ok-entries.ensures.entries told) is mid promise (c.requires.there told) in
+    let promise = promised _ _ _ _ _ _ _ _ _ _ _ (c.load_entries.ensures.present told) refl (c.in_ok-below.ensures.wrote told) in
+    let r = pointers_there _ _ _ _ _ c.args.depth _ c.in_ok-below.below.gone.bytes (change_of c.args.edit c.in_ok-below.below.gone.lines) c.in_ok-entries.entries.items c.in_ok-below.below.entries.items c.in_ok-all.all.items c.in-Some.place c.if-depth-eq0.false (few_new c.args.edit _ c.requires.edit) (c.in_ok-entries.ensures.entries told) is mid promise (c.requires.there told) in
     pointers_read _ _ (g.P.Pages.present c.edit_below.new.pages) _ _ c.args.depth _ c.if-depth-eq0.false (c.requires.there told) r.0
 
 pub write_pointers-requires-clause-small : goal.write_pointers-requires-clause-small
 write_pointers-requires-clause-small g t c = λ told.
     let is = subst (λ (es : List Entry). IsPlace es c.args.at c.in-Some.place) c.deref.ensures.value c.in-Some.ensures.some in
     let mid = rw (c.deref-2.ensures.value, c.deref-3.ensures.value) at c.in_ok-all.ensures in
-    let promise = subst (λ (m : Map). Promise tree_format m (g.P.Pages.present c.edit_below.new.pages) c.in-Some.place.entry.block c.in-Some.place.entry.pages (c.args.depth - 1) c.in-Some.place.rest (change_of c.args.edit) c.in_ok-below.below.items) (c.load_entries.ensures.present told) (c.in_ok-below.ensures.wrote told) in
-    let r = pointers_there _ _ _ _ _ c.args.depth _ (change_of c.args.edit) c.in_ok-entries.entries.items c.in_ok-below.below.items c.in_ok-all.all.items c.in-Some.place c.if-depth-eq0.false (is_change c.args.edit) (c.in_ok-entries.ensures.entries told) is mid promise (c.requires.there told) in
+    let promise = promised _ _ _ _ _ _ _ _ _ _ _ (c.load_entries.ensures.present told) refl (c.in_ok-below.ensures.wrote told) in
+    let r = pointers_there _ _ _ _ _ c.args.depth _ c.in_ok-below.below.gone.bytes (change_of c.args.edit c.in_ok-below.below.gone.lines) c.in_ok-entries.entries.items c.in_ok-below.below.entries.items c.in_ok-all.all.items c.in-Some.place c.if-depth-eq0.false (few_new c.args.edit _ c.requires.edit) (c.in_ok-entries.ensures.entries told) is mid promise (c.requires.there told) in
     r.1
 
 pub write_pointers-requires-clause-narrow : goal.write_pointers-requires-clause-narrow
 write_pointers-requires-clause-narrow g t c =
     let mid = rw (c.deref-2.ensures.value, c.deref-3.ensures.value) at c.in_ok-all.ensures in
-    each-replaced IsNarrow c.in-Some.place.index c.in_ok-entries.entries.items c.in_ok-below.below.items c.in_ok-all.all.items mid c.in_ok-entries.ensures.narrow c.in_ok-below.ensures.narrow
+    each-replaced IsNarrow c.in-Some.place.index c.in_ok-entries.entries.items c.in_ok-below.below.entries.items c.in_ok-all.all.items mid c.in_ok-entries.ensures.narrow c.in_ok-below.ensures.narrow
 
 pub write_pointers-requires-clause-few : goal.write_pointers-requires-clause-few
 write_pointers-requires-clause-few g t c =
     let mid = rw (c.deref-2.ensures.value, c.deref-3.ensures.value) at c.in_ok-all.ensures in
-    omega (arith, length-replaced c.in-Some.place.index c.in_ok-entries.entries.items c.in_ok-below.below.items c.in_ok-all.all.items mid, c.in_ok-entries.ensures.few, c.in_ok-below.ensures.few)
+    omega (arith, length-replaced c.in-Some.place.index c.in_ok-entries.entries.items c.in_ok-below.below.entries.items c.in_ok-all.all.items mid, c.in_ok-entries.ensures.few, c.in_ok-below.ensures.few)
 
 pub returns-clause-wrote : goal.returns-clause-wrote
-returns-clause-wrote g t c = if_ok_weaker c.write_pointers.result _ _
-    (λ (entries : Vec Entry Global) wrote told.
+returns-clause-wrote g t c = λ told.
     let is = subst (λ (es : List Entry). IsPlace es c.args.at c.in-Some.place) c.deref.ensures.value c.in-Some.ensures.some in
     let mid = rw (c.deref-2.ensures.value, c.deref-3.ensures.value) at c.in_ok-all.ensures in
-    let promise = subst (λ (m : Map). Promise tree_format m (g.P.Pages.present c.edit_below.new.pages) c.in-Some.place.entry.block c.in-Some.place.entry.pages (c.args.depth - 1) c.in-Some.place.rest (change_of c.args.edit) c.in_ok-below.below.items) (c.load_entries.ensures.present told) (c.in_ok-below.ensures.wrote told) in
-    edited_pointers _ _ _ _ _ _ c.args.depth _ (change_of c.args.edit) c.in_ok-entries.entries.items c.in_ok-below.below.items c.in_ok-all.all.items entries.items c.in-Some.place c.if-depth-eq0.false (is_change c.args.edit) (c.in_ok-entries.ensures.entries told) is mid promise (wrote told))
-    c.write_pointers.ensures.wrote
+    let promise = promised _ _ _ _ _ _ _ _ _ _ _ (c.load_entries.ensures.present told) refl (c.in_ok-below.ensures.wrote told) in
+    edited_pointers _ _ _ _ _ _ c.args.depth _ c.in_ok-below.below.gone.bytes (change_of c.args.edit c.in_ok-below.below.gone.lines) c.in_ok-entries.entries.items c.in_ok-below.below.entries.items c.in_ok-all.all.items c.in_ok-above.above.items c.in-Some.place c.if-depth-eq0.false (c.in_ok-entries.ensures.entries told) is mid promise (c.in_ok-above.ensures.wrote told)

@@ -9,7 +9,8 @@ use Rattle.vs_tree_laws.proofs.Steps.{above_down, above_entries, above_place, po
 use Rattle.vs_tree_laws.proofs.Roots.{first_above, depth_short, not_flat, lines_edited}
 use Rattle.vs_tree_blocks.specs.Blocks.{tree_format, IsNarrow}
 use Rattle.vs_tree_blocks.specs.Edits.{change_of}
-use Rattle.vs_tree_blocks.proofs.ChangesLemmas.{is_change}
+use Rattle.vs_tree_blocks.proofs.ChangesLemmas.{few_new}
+use Rattle.vs_tree.proofs.ChangeLemmas.{promised}
 use Rattle.vs_tree.proofs.change.edit_tree.Goals as goal
 
 pub damaged-requires-clause-silent : goal.damaged-requires-clause-silent
@@ -36,39 +37,36 @@ pub write_root-requires-clause-there : goal.write_root-requires-clause-there
 write_root-requires-clause-there g c = λ told. let r = c.requires.there told in
     let is = subst (λ (es : List Entry). IsPlace es c.args.at c.in-Some.place) c.deref.ensures.value c.in-Some.ensures.some in
     let mid = rw (c.deref-2.ensures.value, c.deref-3.ensures.value) at c.in_ok-all.ensures in
-    let lower = subst (λ (m : Map). Promise tree_format m (g.P.Pages.present c.edit_below.new.pages) c.in-Some.place.entry.block c.in-Some.place.entry.pages c.saturating_sub.result c.in-Some.place.rest (change_of c.args.edit) c.in_ok-below.below.items) (c.load_entries.ensures.present told) (c.in_ok-below.ensures.wrote told) in
-    let promise = subst (λ (d : ℕ). Promise tree_format (g.P.Pages.present c.args.pages.now) (g.P.Pages.present c.edit_below.new.pages) c.in-Some.place.entry.block c.in-Some.place.entry.pages d c.in-Some.place.rest (change_of c.args.edit) c.in_ok-below.below.items) c.saturating_sub.ensures lower in
+    let promise = promised _ _ _ _ _ _ _ _ _ _ _ (c.load_entries.ensures.present told) c.saturating_sub.ensures (c.in_ok-below.ensures.wrote told) in
     let above = first_above _ _ _ c.args.at _ r.1 r.2 r.3 in
-    let p = pointers_there _ _ _ _ _ c.args.height _ (change_of c.args.edit) c.in_ok-entries.entries.items c.in_ok-below.below.items c.in_ok-all.all.items c.in-Some.place (not_flat _ _ _ _ r.1) (is_change c.args.edit) (c.in_ok-entries.ensures.entries told) is mid promise above in
+    let p = pointers_there _ _ _ _ _ c.args.height _ c.in_ok-below.below.gone.bytes (change_of c.args.edit c.in_ok-below.below.gone.lines) c.in_ok-entries.entries.items c.in_ok-below.below.entries.items c.in_ok-all.all.items c.in-Some.place (not_flat _ _ _ _ r.1) (few_new c.args.edit _ c.requires.edit) (c.in_ok-entries.ensures.entries told) is mid promise above in
     pointers_read _ _ (g.P.Pages.present c.edit_below.new.pages) _ _ c.args.height _ (not_flat _ _ _ _ r.1) above p.0
 
 pub write_root-requires-clause-small : goal.write_root-requires-clause-small
 write_root-requires-clause-small g c = λ told. let r = c.requires.there told in
     let is = subst (λ (es : List Entry). IsPlace es c.args.at c.in-Some.place) c.deref.ensures.value c.in-Some.ensures.some in
     let mid = rw (c.deref-2.ensures.value, c.deref-3.ensures.value) at c.in_ok-all.ensures in
-    let lower = subst (λ (m : Map). Promise tree_format m (g.P.Pages.present c.edit_below.new.pages) c.in-Some.place.entry.block c.in-Some.place.entry.pages c.saturating_sub.result c.in-Some.place.rest (change_of c.args.edit) c.in_ok-below.below.items) (c.load_entries.ensures.present told) (c.in_ok-below.ensures.wrote told) in
-    let promise = subst (λ (d : ℕ). Promise tree_format (g.P.Pages.present c.args.pages.now) (g.P.Pages.present c.edit_below.new.pages) c.in-Some.place.entry.block c.in-Some.place.entry.pages d c.in-Some.place.rest (change_of c.args.edit) c.in_ok-below.below.items) c.saturating_sub.ensures lower in
+    let promise = promised _ _ _ _ _ _ _ _ _ _ _ (c.load_entries.ensures.present told) c.saturating_sub.ensures (c.in_ok-below.ensures.wrote told) in
     let above = first_above _ _ _ c.args.at _ r.1 r.2 r.3 in
-    let p = pointers_there _ _ _ _ _ c.args.height _ (change_of c.args.edit) c.in_ok-entries.entries.items c.in_ok-below.below.items c.in_ok-all.all.items c.in-Some.place (not_flat _ _ _ _ r.1) (is_change c.args.edit) (c.in_ok-entries.ensures.entries told) is mid promise above in
+    let p = pointers_there _ _ _ _ _ c.args.height _ c.in_ok-below.below.gone.bytes (change_of c.args.edit c.in_ok-below.below.gone.lines) c.in_ok-entries.entries.items c.in_ok-below.below.entries.items c.in_ok-all.all.items c.in-Some.place (not_flat _ _ _ _ r.1) (few_new c.args.edit _ c.requires.edit) (c.in_ok-entries.ensures.entries told) is mid promise above in
     p.1
 
 pub write_root-requires-clause-narrow : goal.write_root-requires-clause-narrow
 write_root-requires-clause-narrow g c =
     let mid = rw (c.deref-2.ensures.value, c.deref-3.ensures.value) at c.in_ok-all.ensures in
-    each-replaced IsNarrow c.in-Some.place.index c.in_ok-entries.entries.items c.in_ok-below.below.items c.in_ok-all.all.items mid c.in_ok-entries.ensures.narrow c.in_ok-below.ensures.narrow
+    each-replaced IsNarrow c.in-Some.place.index c.in_ok-entries.entries.items c.in_ok-below.below.entries.items c.in_ok-all.all.items mid c.in_ok-entries.ensures.narrow c.in_ok-below.ensures.narrow
 
 pub write_root-requires-clause-few : goal.write_root-requires-clause-few
 write_root-requires-clause-few g c =
     let mid = rw (c.deref-2.ensures.value, c.deref-3.ensures.value) at c.in_ok-all.ensures in
-    omega (arith, length-replaced c.in-Some.place.index c.in_ok-entries.entries.items c.in_ok-below.below.items c.in_ok-all.all.items mid, c.in_ok-entries.ensures.few, c.in_ok-below.ensures.few)
+    omega (arith, length-replaced c.in-Some.place.index c.in_ok-entries.entries.items c.in_ok-below.below.entries.items c.in_ok-all.all.items mid, c.in_ok-entries.ensures.few, c.in_ok-below.ensures.few)
 
 pub returns-clause-edited : goal.returns-clause-edited
 returns-clause-edited g c = λ told lines has within small.
     let is = subst (λ (es : List Entry). IsPlace es c.args.at c.in-Some.place) c.deref.ensures.value c.in-Some.ensures.some in
     let mid = rw (c.deref-2.ensures.value, c.deref-3.ensures.value) at c.in_ok-all.ensures in
-    let lower = subst (λ (m : Map). Promise tree_format m (g.P.Pages.present c.edit_below.new.pages) c.in-Some.place.entry.block c.in-Some.place.entry.pages c.saturating_sub.result c.in-Some.place.rest (change_of c.args.edit) c.in_ok-below.below.items) (c.load_entries.ensures.present told) (c.in_ok-below.ensures.wrote told) in
-    let promise = subst (λ (d : ℕ). Promise tree_format (g.P.Pages.present c.args.pages.now) (g.P.Pages.present c.edit_below.new.pages) c.in-Some.place.entry.block c.in-Some.place.entry.pages d c.in-Some.place.rest (change_of c.args.edit) c.in_ok-below.below.items) c.saturating_sub.ensures lower in
-    lines_edited _ _ _ _ c.args.height c.in_ok-more.more c.args.at (change_of c.args.edit) lines c.in_ok-entries.entries.items c.in_ok-below.below.items c.in_ok-all.all.items c.in-Some.place has within small (is_change c.args.edit) (c.in_ok-entries.ensures.entries told) is mid promise (c.in_ok-more.ensures.wrote told)
+    let promise = promised _ _ _ _ _ _ _ _ _ _ _ (c.load_entries.ensures.present told) c.saturating_sub.ensures (c.in_ok-below.ensures.wrote told) in
+    lines_edited _ _ _ _ c.args.height c.in_ok-more.more c.args.at c.in_ok-below.below.gone.bytes (change_of c.args.edit c.in_ok-below.below.gone.lines) lines c.in_ok-entries.entries.items c.in_ok-below.below.entries.items c.in_ok-all.all.items c.in-Some.place has within small (c.in_ok-entries.ensures.entries told) is mid promise (c.in_ok-more.ensures.wrote told)
 
 pub edit_below-requires-clause-block : goal.edit_below-requires-clause-block
 edit_below-requires-clause-block g c = (place_each IsNarrow c.in_ok-entries.entries.items _ c.args.at c.in-Some.place c.deref.ensures.value c.in-Some.ensures.some c.in_ok-entries.ensures.narrow).block
