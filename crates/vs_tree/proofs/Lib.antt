@@ -1,3 +1,4 @@
 pub mod ChangeLemmas
+pub mod FillLemmas
 pub mod Rounds
 pub mod StoredLemmas

@@ -1,11 +1,13 @@
--- Lines put in or taken out one at a time.
-use Rattle.std.proofs.Common.{◌≡◌, ℕ, ◌+◌, ◌<◌, ◌≤◌, List, [], ◌∷◌, ◌++◌, length, get_or, take, drop, map, sym, ap, subst, ◌∙◌, inl, inr, arith, length-append, append_assoc, length-take}
+-- Lines put in or taken out a run at a time.
+use Rattle.std.proofs.Common.{◌≡◌, ℕ, ◌+◌, ◌-◌, ◌<◌, ◌≤◌, List, [], ◌∷◌, ◌++◌, length, get_or, take, drop, map, sym, ap, subst, ◌∙◌, inl, inr, arith, length-append, append_assoc, length-take, length-drop}
 use Rattle.std.proofs.lemmas.Grind.{common_steps}
 use Rattle.std.proofs.lemmas.Bool.{cases_eq}
 use Rattle.std.proofs.lemmas.List.{get_or_default, length-map, map-append}
 use Rattle.vs_text.specs.Text.{bytes_of, stored_line}
 use Rattle.vs_tree_laws.specs.Changes.{splice}
-use Rattle.vs_tree_laws.proofs.Splices.{splice_mid, length_splice}
+use Rattle.vs_tree_laws.proofs.Splices.{splice_mid, length_splice, take_past, drop_past}
+use Rattle.vs_tree_laws.proofs.Sums.{halves}
+use Rattle.vs_tree_blocks.proofs.GoneLemmas.{drop_both}
 use Rattle.vs_tree.specs.Runs.{with_lines, without_lines, run_of}
 
 length_some : (new : List (List ℕ)) (i : ℕ) → i ≤ length new → length (map stored_line (take i new)) ≡ i
@@ -14,48 +16,50 @@ length_some new i le = length-map (take i new) stored_line ∙ length-take i new
 pub length_with : (lines new : List (List ℕ)) (at i : ℕ) → at ≤ length lines → i ≤ length new → length (with_lines lines at (take i new)) ≡ length lines + i
 length_with lines new at i le few = omega (arith, length_some new i few, length_splice lines (map stored_line (take i new)) at 0 (omega arith))
 
--- one more line put in
-pub put_next : (lines new : List (List ℕ)) (at i place : ℕ) (line stored : List ℕ) → at ≤ length lines → i < length new → place ≡ at + i → line ≡ get_or new i [] → stored ≡ stored_line line
-    → splice (with_lines lines at (take i new)) place 0 (stored ∷ []) ≡ with_lines lines at (take (i + 1) new)
-put_next lines new at i place line stored le lt place_is line_is stored_is =
+-- the first elements, and then some of those after them
+take_both : {X : Type 0} (xs : List X) (i n : ℕ) → i ≤ length xs → take (i + n) xs ≡ take i xs ++ take n (drop i xs)
+take_both xs i n le = ap (λ ys. take (i + n) ys) (sym (halves i xs)) ∙ take_past (take i xs) (drop i xs) (i + n) n (omega (arith, length-take i xs))
+
+-- one more run put in
+pub put_next : (lines new run : List (List ℕ)) (at i place n : ℕ) → at ≤ length lines → i ≤ length new → place ≡ at + i → run ≡ map stored_line (take n (drop i new))
+    → splice (with_lines lines at (take i new)) place 0 run ≡ with_lines lines at (take (i + n) new)
+put_next lines new run at i place n le within place_is run_is =
     let some : List (List ℕ) = map stored_line (take i new) in
     let front : List (List ℕ) = take at lines ++ some in
-    let n : length front ≡ at + i = omega (arith, length-append (take at lines) some, length-take at lines, length_some new i (omega arith)) in
-    let more : take (i + 1) new ≡ take i new ++ line ∷ [] = rw line_is (grind (arith, common_steps)) in
-    let all : map stored_line (take (i + 1) new) ≡ some ++ stored ∷ [] = ap (λ xs. map stored_line xs) more ∙ map-append stored_line (take i new) (line ∷ []) ∙ ap (λ (x : List ℕ). some ++ x ∷ []) (sym stored_is) in
-    splice_mid front [] (drop (at + 0) lines) (stored ∷ []) place 0 0 (omega arith) (omega arith) ∙ rw all (simp append_assoc)
-
-drop_one : (lines : List (List ℕ)) (k : ℕ) → k < length lines → drop k lines ≡ get_or lines k [] ∷ drop (k + 1) lines
-drop_one lines k lt = grind (arith, common_steps)
+    let size : length front ≡ at + i = omega (arith, length-append (take at lines) some, length-take at lines, length_some new i within) in
+    let all : map stored_line (take (i + n) new) ≡ some ++ run = ap (λ xs. map stored_line xs) (take_both new i n within) ∙ map-append stored_line (take i new) (take n (drop i new)) ∙ ap (λ xs. some ++ xs) (sym run_is) in
+    splice_mid front [] (drop (at + 0) lines) run place 0 0 (omega arith) (omega arith) ∙ rw all (simp append_assoc)
 
 pub length_without : (lines : List (List ℕ)) (at i : ℕ) → at + i ≤ length lines → length (without_lines lines at i) + i ≡ length lines
 length_without lines at i le = omega (arith, length_splice lines [] at i le)
 
--- the next line to be taken out
-pub next_line : (lines : List (List ℕ)) (at i : ℕ) → at + i < length lines → get_or (without_lines lines at i) at [] ≡ get_or lines (at + i) []
-next_line lines at i lt =
-    let one : drop (at + i) lines ≡ get_or lines (at + i) [] ∷ drop (at + i + 1) lines = drop_one lines (at + i) lt in
-    let n : length (take at lines) ≡ at = omega (arith, length-take at lines) in
-    ap (λ xs. get_or ((take at lines ++ []) ++ xs) at []) one ∙ grind (arith, common_steps)
+-- what is left behind the lines taken out
+behind : (lines : List (List ℕ)) (at i : ℕ) → at + i ≤ length lines → drop (at + 0) (without_lines lines at i) ≡ drop (at + i) lines
+behind lines at i le = drop_past (take at lines ++ []) (drop (at + i) lines) (at + 0) 0 (omega (arith, length-append (take at lines) [], length-take at lines))
 
--- one more line taken out
-pub take_next : (lines : List (List ℕ)) (at i : ℕ) → at + i < length lines → splice (without_lines lines at i) (at + 0) 1 [] ≡ without_lines lines at (i + 1)
-take_next lines at i lt =
+-- one more run taken out
+pub take_next : (lines : List (List ℕ)) (at i n : ℕ) → at + (i + n) ≤ length lines → splice (without_lines lines at i) (at + 0) n [] ≡ without_lines lines at (i + n)
+take_next lines at i n le =
     let front : List (List ℕ) = take at lines ++ [] in
-    let n : length front ≡ at = omega (arith, length-append (take at lines) [], length-take at lines) in
-    let one : drop (at + i) lines ≡ get_or lines (at + i) [] ∷ drop (at + i + 1) lines = drop_one lines (at + i) lt in
-    let k : at + i + 1 ≡ at + (i + 1) = omega arith in
-    ap (λ xs. splice (front ++ xs) (at + 0) 1 []) one ∙ splice_mid front (get_or lines (at + i) [] ∷ []) (drop (at + i + 1) lines) [] (at + 0) 0 1 (omega arith) (omega arith) ∙ ap (λ j. front ++ drop j lines) k
+    let mid : List (List ℕ) = take n (drop (at + i) lines) in
+    let back : List (List ℕ) = drop (at + (i + n)) lines in
+    let front_size : length front ≡ at = omega (arith, length-append (take at lines) [], length-take at lines) in
+    let mid_size : length mid ≡ n = omega (arith, length-take n (drop (at + i) lines), length-drop (at + i) lines) in
+    let far : at + (i + n) ≡ at + i + n = omega arith in
+    let rest : back ≡ drop n (drop (at + i) lines) = ap (λ k. drop k lines) far ∙ drop_both lines (at + i) n (omega arith) in
+    let whole : drop (at + i) lines ≡ mid ++ back = sym (halves n (drop (at + i) lines)) ∙ ap (λ xs. mid ++ xs) (sym rest) in
+    let none : splice mid 0 n [] ≡ [] = grind (arith, common_steps) in
+    ap (λ xs. splice (front ++ xs) (at + 0) n []) whole ∙ splice_mid front mid back [] (at + 0) 0 n (omega arith) (omega arith) ∙ ap (λ xs. front ++ (xs ++ back)) none
 
 pub bytes_of-append : (a b : List (List ℕ)) → bytes_of (a ++ b) ≡ bytes_of a + bytes_of b
 bytes_of-append [] b = omega arith
 bytes_of-append (x ∷ a) b = omega (arith, bytes_of-append a b)
 
--- the bytes of one line more
-pub bytes_next : (lines : List (List ℕ)) (at i : ℕ) → at + i < length lines → bytes_of (run_of lines at (i + 1)) ≡ bytes_of (run_of lines at i) + (length (get_or lines (at + i) []) + 1)
-bytes_next lines at i lt =
-    let more : take (i + 1) (drop at lines) ≡ take i (drop at lines) ++ get_or lines (at + i) [] ∷ [] = grind (arith, common_steps) in
-    ap bytes_of more ∙ omega (arith, bytes_of-append (take i (drop at lines)) (get_or lines (at + i) [] ∷ []))
+-- the bytes of one run more
+pub bytes_next : (lines : List (List ℕ)) (at i n : ℕ) → at + (i + n) ≤ length lines → bytes_of (run_of lines at (i + n)) ≡ bytes_of (run_of lines at i) + bytes_of (take n (drop (at + 0) (without_lines lines at i)))
+bytes_next lines at i n le =
+    let same : take n (drop (at + 0) (without_lines lines at i)) ≡ take n (drop i (drop at lines)) = ap (λ xs. take n xs) (behind lines at i (omega arith) ∙ drop_both lines at i (omega arith)) in
+    ap bytes_of (take_both (drop at lines) i n (omega (arith, length-drop at lines))) ∙ omega (arith, bytes_of-append (take i (drop at lines)) (take n (drop i (drop at lines))), ap bytes_of same)
 
 -- a run has at most the bytes of all lines
 pub bytes_run : (lines : List (List ℕ)) (at i : ℕ) → bytes_of (run_of lines at i) ≤ bytes_of lines
@@ -81,3 +85,6 @@ each_more P lines i line lt is below here k d small = elim (cases_eq k i) [
   | inl e ↦ subst P (is ∙ get_or_default lines i [] d lt ∙ ap (λ j. get_or lines j d) (sym e)) here
   | inr ne ↦ below k d (omega arith)
 ]
+
+pub rest_of : (xs : List (List ℕ)) (i : ℕ) → take (length xs - i) (drop i xs) ≡ drop i xs
+rest_of xs i = grind (arith, common_steps)

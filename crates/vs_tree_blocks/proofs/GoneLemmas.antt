@@ -74,7 +74,7 @@ bytes_of-append : (a b : List (List ℕ)) → bytes_of (a ++ b) ≡ bytes_of a +
 bytes_of-append [] b = omega arith
 bytes_of-append (x ∷ a) b = omega (arith, bytes_of-append a b)
 
-drop_both : (ls : List (List ℕ)) (at count : ℕ) → at ≤ length ls → drop (at + count) ls ≡ drop count (drop at ls)
+pub drop_both : (ls : List (List ℕ)) (at count : ℕ) → at ≤ length ls → drop (at + count) ls ≡ drop count (drop at ls)
 drop_both ls at count le = sym (ap (λ xs. drop (at + count) xs) (halves at ls)) ∙ drop_past (take at ls) (drop at ls) (at + count) count (omega (arith, length-take at ls))
 
 -- a text's bytes are those of the lines taken out and of the others

@@ -1,16 +1,19 @@
-use Rattle.std.proofs.Common.{◌≡◌, ℕ, ◌+◌, ◌^◌, ◌<◌, ◌≤◌, List, IsTrue, length, take}
+use Rattle.std.proofs.Common.{◌≡◌, ℕ, ◌+◌, ◌-◌, ◌^◌, ◌<◌, ◌≤◌, List, IsTrue, length, take}
 use Rattle.vs_tree_laws.specs.Trees.{HasLines}
 use Rattle.vs_tree_blocks.specs.Blocks.{tree_format}
 use Rattle.vs_tree.specs.Runs.{IsPlaceIn, with_lines}
 use Rattle.vs_tree.proofs.runs.put_lines.Given as goal
 
-abbrev pub invariant-lines : goal.invariant-lines
-invariant-lines g l = record {
-  place : l.place ≡ l.at + l.line-index;
+abbrev pub invariant-runs : goal.invariant-runs
+invariant-runs g l = record {
+  within : l.put ≤ length l.new;
   put : IsTrue g.P.Pages.tells → (lines : List (List ℕ)) → HasLines tree_format (g.P.Pages.present l.fn.pages) l.height lines → IsPlaceIn lines l.at → length lines + length l.new < 2 ^ 61
-      → HasLines tree_format (g.P.Pages.present l.pages) l.higher (with_lines lines l.at (take l.line-index l.new));
+      → HasLines tree_format (g.P.Pages.present l.pages) l.higher (with_lines lines l.at (take l.put l.new));
   committed : IsTrue g.P.Pages.tells → g.P.Pages.committed l.pages ≡ g.P.Pages.committed l.fn.pages;
   later : g.P.Pages.faults l.fn.pages ≤ g.P.Pages.faults l.pages;
   valid : g.P.Pages.valid l.pages;
   stays : g.P.Pages.stays l.fn.pages l.pages;
 }
+
+abbrev pub decreases-runs : goal.decreases-runs
+decreases-runs g l = length l.new - l.put

@@ -1,4 +1,4 @@
-use Rattle.std.proofs.Common.{◌≡◌, ℕ, ◌≤◌, List, IsTrue}
+use Rattle.std.proofs.Common.{◌≡◌, ℕ, ◌-◌, ◌≤◌, List, IsTrue}
 use Rattle.vs_text.specs.Text.{bytes_of}
 use Rattle.vs_tree_laws.specs.Trees.{HasLines}
 use Rattle.vs_tree_blocks.specs.Blocks.{tree_format}
@@ -7,10 +7,14 @@ use Rattle.vs_tree.proofs.runs.take_lines.Given as goal
 
 abbrev pub invariant-gone : goal.invariant-gone
 invariant-gone g l = record {
+  within : l.gone ≤ l.count;
   taken : IsTrue g.P.Pages.tells → (lines : List (List ℕ)) → HasLines tree_format (g.P.Pages.present l.fn.pages) l.height lines → IsRunIn lines l.at l.count
-      → HasLines tree_format (g.P.Pages.present l.pages) l.higher (without_lines lines l.at l._taken) × (l.bytes ≡ bytes_of (run_of lines l.at l._taken));
+      → HasLines tree_format (g.P.Pages.present l.pages) l.higher (without_lines lines l.at l.gone) × (l.bytes ≡ bytes_of (run_of lines l.at l.gone));
   committed : IsTrue g.P.Pages.tells → g.P.Pages.committed l.pages ≡ g.P.Pages.committed l.fn.pages;
   later : g.P.Pages.faults l.fn.pages ≤ g.P.Pages.faults l.pages;
   valid : g.P.Pages.valid l.pages;
   stays : g.P.Pages.stays l.fn.pages l.pages;
 }
+
+abbrev pub decreases-gone : goal.decreases-gone
+decreases-gone g l = l.count - l.gone

@@ -14,18 +14,20 @@ size text = omega (arith, length-splice (stored text) 0 0 (omega arith) ([] ∷ 
 run : (text : List (List ℕ)) (n : ℕ) → length text ≡ n → length text < 2 ^ 60 → bytes_of text < 2 ^ 62 → IsRunIn (splice (stored text) 0 0 ([] ∷ [])) 1 n
 run text n is small short = record { within = omega (arith, size text, length-stored text); small = omega (arith, size text, stored-most text); short = omega (arith, bytes_of-stored_text text) }
 
-pub put_stored-requires-clause-there : goal.put_stored-requires-clause-there
-put_stored-requires-clause-there g c = λ told. let r = c.requires.fits.one told in
+pub put_run-requires-clause-there : goal.put_run-requires-clause-there
+put_run-requires-clause-there g c = λ told. let r = c.requires.fits.one told in
     (stored r.0, r.1.tree, place_in r.0 0 (omega arith) (omega (arith, r.1.within.few_lines)))
 
 pub take_lines-requires-clause-there : goal.take_lines-requires-clause-there
 take_lines-requires-clause-there g c = λ told. let r = c.requires.fits.one told in
-    let put = c.in_ok-height.ensures.put told (stored r.0) r.1.tree (place_in r.0 0 (omega arith) (omega (arith, r.1.within.few_lines))) in
+    let put = subst (λ (run : List (List ℕ)). HasLines tree_format (g.P.Pages.present c.put_run.new.pages) c.in_ok-height.height (splice (stored r.0) 0 0 run)) c.in_ok-empty.ensures
+    (c.in_ok-height.ensures.put told (stored r.0) r.1.tree (place_in r.0 0 (omega arith) (omega (arith, r.1.within.few_lines)))) in
     (splice (stored r.0) 0 0 ([] ∷ []), put, run r.0 c.args.now.lines r.1.lines (omega (arith, r.1.within.few_lines)) (omega (arith, r.1.within.few_bytes)))
 
 pub returns-clause-text : goal.returns-clause-text
 returns-clause-text g c = λ told. let r = c.requires.fits.one told in
-    let put = c.in_ok-height.ensures.put told (stored r.0) r.1.tree (place_in r.0 0 (omega arith) (omega (arith, r.1.within.few_lines))) in
+    let put = subst (λ (run : List (List ℕ)). HasLines tree_format (g.P.Pages.present c.put_run.new.pages) c.in_ok-height.height (splice (stored r.0) 0 0 run)) c.in_ok-empty.ensures
+    (c.in_ok-height.ensures.put told (stored r.0) r.1.tree (place_in r.0 0 (omega arith) (omega (arith, r.1.within.few_lines)))) in
     let taken = c.in_ok-taken.ensures.taken told (splice (stored r.0) 0 0 ([] ∷ [])) put (run r.0 c.args.now.lines r.1.lines (omega (arith, r.1.within.few_lines)) (omega (arith, r.1.within.few_bytes))) in
     let P : List (List ℕ) → Type 0 = λ xs. HasLines tree_format (g.P.Pages.present c.take_lines.new.pages) c.in_ok-taken.taken.height xs in
     record {
