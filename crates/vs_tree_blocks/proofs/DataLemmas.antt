@@ -1,5 +1,5 @@
 -- What the calls that write data blocks leave, over plain variables.
-use Rattle.std.proofs.Common.{◌≡◌, ℕ, zero, suc, ◌+◌, ◌-◌, ◌/◌, ◌<◌, ◌≤◌, List, [], ◌∷◌, ◌++◌, length, take, drop, insert, remove, get_or, slice_get, Option, Some, None, Ok, IsSome, IsSomeAnd, nat_le, nat_lt, if◌then◌else◌, cond, Bool, true, false, sym, refl, ap, subst, ◌∙◌, arith, append-nil, append_assoc, length-take, length-drop, inl, inr}
+use Rattle.std.proofs.Common.{◌≡◌, ℕ, zero, suc, ◌+◌, ◌-◌, ◌/◌, ◌<◌, ◌≤◌, List, [], ◌∷◌, ◌++◌, length, take, drop, insert, get_or, slice_get, Option, Some, None, Ok, IsSome, IsSomeAnd, nat_le, nat_lt, if◌then◌else◌, cond, Bool, true, false, sym, refl, ap, subst, ◌∙◌, arith, append-nil, append_assoc, length-take, length-drop, inl, inr}
 use Rattle.std.specs.Option.{option_map, option_and_then}
 use Rattle.std.proofs.lemmas.Grind.{common_steps}
 use Rattle.std.proofs.lemmas.Bool.Decides.{nat_tests}

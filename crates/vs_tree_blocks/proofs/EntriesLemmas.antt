@@ -1,5 +1,5 @@
 -- Entries as they are written are read back.
-use Rattle.std.proofs.Common.{◌≡◌, ℕ, zero, suc, ◌+◌, ◌<◌, ◌≤◌, List, [], ◌∷◌, ◌++◌, length, take, drop, map, insert, get_or, slice_get, Option, Some, None, Result, Ok, Err, is_ok, if◌then◌else◌, sym, refl, ap, ◌∙◌, arith, length-take}
+use Rattle.std.proofs.Common.{◌≡◌, ℕ, zero, suc, ◌+◌, ◌<◌, ◌≤◌, List, [], ◌∷◌, ◌++◌, length, take, map, insert, get_or, slice_get, Option, Some, None, Ok, Err, sym, refl, ap, ◌∙◌, arith, length-take}
 use Rattle.std.specs.List.{AllByRecursion}
 use Rattle.std.specs.Option.{option_and_then}
 use Rattle.std.proofs.lemmas.Grind.{common_steps}
@@ -7,7 +7,7 @@ use Rattle.std.proofs.lemmas.List.{length-map, map-append}
 use Rattle.vs_ptr.specs.declared.PtrEntry.{PtrEntry}
 use Rattle.vs_ptr.specs.declared.PtrView.{PtrView}
 use Rattle.vs_ptr.specs.declared.PtrErr.{PtrErr}
-use Rattle.vs_ptr.specs.Blocks.{view_in, entry_of, slots_of, entries_of, entries_in}
+use Rattle.vs_ptr.specs.Blocks.{view_in, entries_of, entries_in}
 use Rattle.vs_ptr.proofs.Headers.{header_from_view}
 use Rattle.vs_ptr.proofs.Reading.{entries_there, entries_refused, length-entries_of}
 use Rattle.vs_tree_laws.specs.declared.entries.Entry.{Entry}

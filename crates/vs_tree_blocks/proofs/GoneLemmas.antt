@@ -1,5 +1,5 @@
 -- Lines taken out of a block of one page: the text's start moves up by their bytes.
-use Rattle.std.proofs.Common.{◌≡◌, ℕ, ◌+◌, ◌-◌, ◌*◌, ◌<◌, ◌≤◌, List, [], ◌∷◌, ◌++◌, length, take, drop, get_or, remove, Option, Some, Ok, refl, sym, ap, ◌∙◌, arith, length-append, length-take, append-nil}
+use Rattle.std.proofs.Common.{◌≡◌, ℕ, ◌+◌, ◌-◌, ◌*◌, ◌<◌, ◌≤◌, List, [], ◌∷◌, ◌++◌, length, take, drop, get_or, remove, Option, Some, Ok, refl, sym, ap, ◌∙◌, arith, length-append, length-take}
 use Rattle.std.specs.Option.{option_map}
 use Rattle.std.proofs.lemmas.Grind.{common_steps}
 use Rattle.std.proofs.lemmas.List.Sums.{sum_by-cons}
@@ -10,7 +10,7 @@ use Rattle.vs_tree_laws.specs.Changes.{splice}
 use Rattle.vs_tree_laws.proofs.Splices.{splice_mid, drop_past}
 use Rattle.vs_tree_laws.proofs.Sums.{halves}
 use Rattle.vs_tree_blocks.specs.Runs.{lines_within}
-use Rattle.vs_tree_blocks.proofs.RunsLemmas.{Told, told, within_is}
+use Rattle.vs_tree_blocks.proofs.RunsLemmas.{told, within_is}
 
 -- some lines were taken out of a block
 pub record Left (old now : List ℕ) (view whole : DataView) (at i : ℕ) : Type 0 where

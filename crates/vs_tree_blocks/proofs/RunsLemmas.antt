@@ -1,5 +1,5 @@
 -- A run's bytes are a data block, whose header tells what its lines take.
-use Rattle.std.proofs.Common.{◌≡◌, ℕ, ◌+◌, ◌-◌, ◌*◌, ◌/◌, ◌<◌, ◌≤◌, List, [], ◌∷◌, ◌++◌, length, take, drop, insert, get_or, slice_get, Option, Some, None, Ok, IsSomeAnd, nat_le, nat_lt, if◌then◌else◌, cond, Bool, true, false, refl, sym, ap, subst, ◌∙◌, arith, length-append, append_assoc, append-nil, length-take, length-drop, inl, inr}
+use Rattle.std.proofs.Common.{◌≡◌, ℕ, ◌+◌, ◌-◌, ◌*◌, ◌/◌, ◌<◌, ◌≤◌, List, [], ◌∷◌, ◌++◌, length, take, drop, insert, get_or, slice_get, Option, Some, None, Ok, IsSomeAnd, refl, sym, ap, ◌∙◌, arith, length-append, append_assoc, length-take, inl, inr}
 use Rattle.std.specs.Option.{option_map, option_and_then}
 use Rattle.std.proofs.lemmas.Bool.{cases_eq}
 use Rattle.std.proofs.lemmas.Grind.{common_steps}
@@ -9,7 +9,7 @@ use Rattle.vs_data.specs.Blocks.{lines_in, view_in, free_space, space_of, Measur
 use Rattle.vs_data.proofs.Lines.{measured}
 use Rattle.vs_data.proofs.Reading.{has_view, view_bounds}
 use Rattle.vs_tree_laws.specs.Changes.{splice}
-use Rattle.vs_tree_laws.proofs.Splices.{splice_mid, length_splice}
+use Rattle.vs_tree_laws.proofs.Splices.{splice_mid}
 use Rattle.vs_tree_blocks.specs.Blocks.{data_lines}
 use Rattle.vs_tree_blocks.specs.Runs.{or_none, lines_within, IsRun}
 use Rattle.vs_tree_blocks.proofs.DataLemmas.{one_page, long_one, alone_reads, insert_splice, line_at}

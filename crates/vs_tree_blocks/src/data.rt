@@ -512,8 +512,9 @@ fn remove_lines<P: Pages>(
 {
     if count == view.count {
         pages.free(alloc, block, 1)?;
+        let entries = Vec::new(alloc);
         return Ok(Edited {
-            entries: Vec::new(alloc),
+            entries,
             gone: text_of(view),
         });
     }

@@ -1,7 +1,7 @@
 -- A change of lines that lie within others.
-use Rattle.std.proofs.Common.{◌≡◌, ℕ, zero, suc, ◌+◌, ◌<◌, ◌≤◌, List, [], ◌∷◌, ◌++◌, length, take, drop, ap, sym, ◌∙◌, refl, arith, length-append, append_assoc, length-take, length-drop}
+use Rattle.std.proofs.Common.{◌≡◌, ℕ, zero, suc, ◌+◌, ◌≤◌, List, [], ◌∷◌, ◌++◌, length, take, drop, ap, sym, ◌∙◌, refl, arith, length-append, append_assoc, length-take, length-drop}
 use Rattle.vs_text.specs.Text.{bytes_of}
-use Rattle.vs_tree_laws.specs.Changes.{splice, Change, Takes, edited, taken}
+use Rattle.vs_tree_laws.specs.Changes.{splice, Change, Takes, edited}
 
 pub take_past : {X : Type 0} (a xs : List X) (n i : ℕ) → n ≡ length a + i → take n (a ++ xs) ≡ a ++ take i xs
 take_past [] xs n i e = ap (λ k. take k xs) (omega arith)

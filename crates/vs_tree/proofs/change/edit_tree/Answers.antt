@@ -1,7 +1,7 @@
 use Rattle.std.proofs.Common.{◌≡◌, ℕ, ◌-◌, ◌≤◌, List, is_some, arith, sym, ap, subst}
 use Rattle.vs_pages.specs.Maps.{Map}
 use Rattle.vs_tree_laws.specs.declared.entries.Entry.{Entry}
-use Rattle.vs_tree_laws.specs.Changes.{Above, Promise}
+use Rattle.vs_tree_laws.specs.Changes.{Above}
 use Rattle.vs_tree_laws.specs.Places.{IsPlace, lines_below}
 use Rattle.vs_tree_laws.proofs.Shapes.{each-replaced, length-replaced}
 use Rattle.vs_tree_laws.proofs.Walks.{place_each}

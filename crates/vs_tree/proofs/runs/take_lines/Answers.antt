@@ -1,9 +1,9 @@
-use Rattle.std.proofs.Common.{◌≡◌, ℕ, ◌+◌, ◌<◌, ◌≤◌, List, length, refl, sym, ap, subst, ◌∙◌, arith}
+use Rattle.std.proofs.Common.{◌≡◌, ℕ, ◌+◌, ◌≤◌, List, length, ap, subst, ◌∙◌, arith}
 use Rattle.vs_text.specs.Text.{bytes_of}
 use Rattle.vs_tree_laws.specs.Trees.{HasLines}
 use Rattle.vs_tree_blocks.specs.Blocks.{tree_format}
 use Rattle.vs_tree.specs.Runs.{without_lines, run_of}
-use Rattle.vs_tree.proofs.Rounds.{length_without, take_next, bytes_next, bytes_run, without_none}
+use Rattle.vs_tree.proofs.Rounds.{length_without, take_next, bytes_next, bytes_run}
 use Rattle.vs_tree.proofs.runs.take_lines.Goals as goal
 
 pub edit_tree-requires-clause-there : goal.edit_tree-requires-clause-there
@@ -30,8 +30,7 @@ gone-preserved g c =
           let n = length_without lines c.args.at c.gone.gone (omega (arith, run.within, inv.within)) in
           let here = inv.taken told lines has run in
           let after = c.in_ok-after.ensures.edited told (without_lines lines c.args.at c.gone.gone) here.0 (omega (arith, n, run.within, c.gone-test.true)) (omega (arith, n, run.small)) in
-          let inside : c.args.at + (c.gone.gone + gone) ≤ length lines = omega (arith, run.within, c.in_ok-after.ensures.may_take.1) in
-          (
+          let inside : c.args.at + (c.gone.gone + gone) ≤ length lines = omega (arith, run.within, c.in_ok-after.ensures.may_take.1) in (
             subst (λ (xs : List (List ℕ)). HasLines tree_format (g.P.Pages.present c.edit_tree.new.pages) c.in_ok-after.after.height xs) (take_next lines c.args.at c.gone.gone gone inside) after.0,
             omega (arith, here.1, after.1.bytes_are, bytes_next lines c.args.at c.gone.gone gone inside, c.in-Some.ensures),
           );

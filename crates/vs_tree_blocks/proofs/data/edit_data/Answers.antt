@@ -1,7 +1,4 @@
-use Rattle.std.proofs.Common.{◌≡◌, ℕ, ◌+◌, List, [], ◌∷◌, Some, IsSome, is_some, take, drop, sym, ap, subst, ◌∙◌, arith}
-use Rattle.std.specs.Prelude.{Vec}
-use Rattle.std.specs.declared.alloc.Global.{Global}
-use Rattle.vs_tree_laws.specs.declared.entries.Entry.{Entry}
+use Rattle.std.proofs.Common.{◌≡◌, ℕ, ◌+◌, List, [], Some, IsSome, is_some, take, drop, sym, ap, subst, ◌∙◌, arith}
 use Rattle.vs_tree_laws.specs.Changes.{Wrote, edited, splice}
 use Rattle.vs_tree_blocks.specs.declared.edit.Edit.{Edit}
 use Rattle.vs_tree_blocks.specs.declared.edit.Edited.{Edited}

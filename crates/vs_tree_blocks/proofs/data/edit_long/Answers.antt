@@ -1,8 +1,8 @@
-use Rattle.std.proofs.Common.{◌≡◌, ℕ, ◌+◌, ◌≤◌, List, [], Some, IsTrue, length, take, sym, ap, subst, ◌∙◌, arith}
+use Rattle.std.proofs.Common.{◌≡◌, ℕ, List, Some, IsTrue, length, take, sym, ap, subst, ◌∙◌, arith}
 use Rattle.std.proofs.lemmas.Grind.{common_steps}
 use Rattle.vs_text.specs.Text.{bytes_of}
 use Rattle.vs_pages.specs.Maps.{span}
-use Rattle.vs_tree_laws.specs.Changes.{Wrote, edited, splice}
+use Rattle.vs_tree_laws.specs.Changes.{Wrote, edited}
 use Rattle.vs_tree_blocks.specs.declared.edit.Edit.{Edit}
 use Rattle.vs_tree_blocks.specs.declared.edit.Edited.{Edited}
 use Rattle.vs_tree_blocks.specs.Edits.{change_of}
@@ -17,8 +17,7 @@ returns-in_ok-vec-in-Before-clause-wrote g c = λ told lines reads.
     let r = c.requires.there told in
     let one = at_alone _ c.args.block c.args.count lines r.0 reads in
     let run = c.in-Before.lines.now in
-    let same = ap (λ (e : Edit). edited (change_of e 0) lines 0) c.in-Before.is in
-    (
+    let same = ap (λ (e : Edit). edited (change_of e 0) lines 0) c.in-Before.is in (
       wrote_with _ _ c.args.block c.args.count 0 c.args.edit lines c.in_ok-vec-in-Before.field-0 c.with.result c.with.ensures
           (subst (λ (xs : List (List ℕ)). Wrote tree_format (g.P.Pages.present c.args.pages.now) (g.P.Pages.present c.add.new.pages) (λ k. span c.args.block c.args.count k) 0 xs c.in_ok-vec-in-Before.field-0.items) (sym same)
           (wrote_before _ _ c.args.block c.args.count 1 lines run c.in_ok-new-in-Before.new _ reads (omega (arith, r.0)) (sym one) (c.in_ok-new-in-Before.ensures.added told) c.in_ok-new-in-Before.ensures.lines c.in_ok-vec-in-Before.ensures.items)),
@@ -30,8 +29,7 @@ returns-in_ok-vec-in-After-clause-wrote g c = λ told lines reads.
     let r = c.requires.there told in
     let one = at_alone _ c.args.block c.args.count lines r.0 reads in
     let run = c.in-After.lines.now in
-    let same = ap (λ (e : Edit). edited (change_of e 0) lines 0) c.in-After.is in
-    (
+    let same = ap (λ (e : Edit). edited (change_of e 0) lines 0) c.in-After.is in (
       wrote_with _ _ c.args.block c.args.count 0 c.args.edit lines c.in_ok-vec-in-After.field-0 c.with-in-After.result c.with-in-After.ensures
           (subst (λ (xs : List (List ℕ)). Wrote tree_format (g.P.Pages.present c.args.pages.now) (g.P.Pages.present c.add-in-After.new.pages) (λ k. span c.args.block c.args.count k) 0 xs c.in_ok-vec-in-After.field-0.items) (put_last lines run 1 (sym one) ∙ sym same)
           (wrote_behind _ _ c.args.block c.args.count 1 lines run c.in_ok-new-in-After.new _ reads (omega (arith, r.0)) (sym one) (c.in_ok-new-in-After.ensures.added told) c.in_ok-new-in-After.ensures.lines c.in_ok-vec-in-After.ensures.items)),
@@ -49,8 +47,7 @@ returns-in-Remove-clause-wrote g c =
     (λ (after : Edited) wrote took told lines reads.
     let r = c.requires.there told in
     let one = at_alone _ c.args.block c.args.count lines r.0 reads in
-    let most = c.in-Remove._most in
-    (
+    let most = c.in-Remove._most in (
       subst (λ (xs : List (List ℕ)). Wrote tree_format (g.P.Pages.present c.args.pages.now) (g.P.Pages.present c.remove_long.new.pages) (λ k. span c.args.block c.args.count k) 0 xs after.entries.items) (sym (removed c.args.edit most lines 0 after.gone.lines 1 c.in-Remove.is took.0)) (wrote told lines reads),
       takes_some c.args.edit most lines 0 after.gone.lines 1 after.gone.bytes c.in-Remove.is took.0 (omega (arith, one)) (took.1 told lines reads ∙ ap bytes_of (take_one lines one)),
     ))

@@ -1,4 +1,4 @@
-use Rattle.std.proofs.Common.{◌≡◌, ◌≤◌, ℕ, List, [], Some, length, take, drop, ap, sym, subst, ◌∙◌, arith}
+use Rattle.std.proofs.Common.{[], ap, ◌∙◌, arith}
 use Rattle.vs_data.specs.Blocks.{lines_in}
 use Rattle.vs_text.specs.Text.{bytes_of}
 use Rattle.vs_tree_laws.specs.Changes.{splice}
@@ -16,7 +16,7 @@ text_of-requires g c = (told c.args.bytes.now c.args.view c.requires.view).text
 pub returns-then-count-view-clause-wrote : goal.returns-then-count-view-clause-wrote
 returns-then-count-view-clause-wrote g c = λ told-pages lines reads.
     let count = count_is c.args.bytes.now c.args.view lines c.requires.view reads in
-    wrote_gone _ _ c.args.block 1 (splice lines c.args.at c.args.count []) _ (c.in_ok-free.ensures.ok told-pages) (none_left lines c.args.at c.args.count (omega (arith, count, c.requires.within)) (omega (arith, count, c.if-count-view.true))) c.new.ensures.items
+    wrote_gone _ _ c.args.block 1 (splice lines c.args.at c.args.count []) _ (c.in_ok-free.ensures.ok told-pages) (none_left lines c.args.at c.args.count (omega (arith, count, c.requires.within)) (omega (arith, count, c.if-count-view.true))) c.new-entries.ensures.items
 
 pub returns-then-count-view-clause-bytes : goal.returns-then-count-view-clause-bytes
 returns-then-count-view-clause-bytes g c = λ lines reads.

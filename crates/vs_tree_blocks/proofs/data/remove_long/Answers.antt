@@ -1,11 +1,8 @@
-use Rattle.std.proofs.Common.{◌≡◌, ◌≤◌, ℕ, List, [], Some, length, take, drop, ap, sym, subst, ◌∙◌, arith}
-use Rattle.vs_data.specs.Blocks.{lines_in}
+use Rattle.std.proofs.Common.{[], ap, sym, ◌∙◌, arith}
 use Rattle.vs_pages.specs.Maps.{Map, without}
 use Rattle.vs_tree_blocks.proofs.RunsLemmas.{told}
-use Rattle.vs_text.specs.Text.{bytes_of}
 use Rattle.vs_tree_laws.specs.Changes.{splice}
 use Rattle.vs_tree_blocks.specs.declared.edit.Gone.{Gone}
-use Rattle.vs_tree_blocks.specs.Runs.{lines_within}
 use Rattle.vs_tree_blocks.proofs.DataLemmas.{wrote_gone, at_alone, none_left, lines_loaded}
 use Rattle.vs_tree_blocks.proofs.GoneLemmas.{text_bytes}
 use Rattle.vs_tree_blocks.proofs.data.remove_long.Goals as goal

@@ -1,6 +1,6 @@
-use Rattle.std.proofs.Common.{◌≡◌, ℕ, List, [], ◌∷◌, ◌++◌, Some, length, ap, ◌∙◌, arith}
+use Rattle.std.proofs.Common.{◌≡◌, ℕ, List, ◌++◌, Some, length, ap, ◌∙◌, arith}
 use Rattle.std.proofs.lemmas.Result.{on_ok_weaker}
-use Rattle.vs_data.specs.Blocks.{lines_in, space_of}
+use Rattle.vs_data.specs.Blocks.{space_of}
 use Rattle.vs_tree_blocks.proofs.FirstLemmas.{first_lines}
 use Rattle.vs_tree_blocks.proofs.first.write_first.Goals as goal
 

@@ -1,6 +1,6 @@
 use Rattle.std.proofs.Common.{Some, ap, ◌∙◌, arith}
 use Rattle.vs_data.specs.Blocks.{lines_in, space_of}
-use Rattle.vs_tree_blocks.proofs.RunsLemmas.{told, fits_one, one_page_run}
+use Rattle.vs_tree_blocks.proofs.RunsLemmas.{told, fits_one}
 use Rattle.vs_tree_blocks.proofs.run.Run.bytes.Goals as goal
 
 pub returns-clause-lines : goal.returns-clause-lines

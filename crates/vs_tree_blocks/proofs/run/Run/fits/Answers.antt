@@ -1,4 +1,4 @@
-use Rattle.std.proofs.Common.{length, ap, arith}
+use Rattle.std.proofs.Common.{ap, arith}
 use Rattle.std.proofs.lemmas.Bool.Decides.{nat_tests}
 use Rattle.vs_data.specs.Blocks.{space_of}
 use Rattle.vs_tree_blocks.proofs.RunsLemmas.{told}

@@ -1,12 +1,12 @@
-use Rattle.std.proofs.Common.{◌≡◌, ◌+◌, ◌<◌, List, Some, ℕ, length, insert, sym, ap, subst, ◌∙◌, arith}
+use Rattle.std.proofs.Common.{◌≡◌, ◌+◌, ◌<◌, List, ℕ, length, insert, sym, ap, subst, ◌∙◌, arith}
 use Rattle.std.specs.Option.{option_map}
 use Rattle.std.specs.Vec.{with_items}
 use Rattle.std.proofs.lemmas.List.{with_items_is}
-use Rattle.vs_data.specs.Blocks.{lines_in, view_in, space_of}
+use Rattle.vs_data.specs.Blocks.{lines_in, space_of}
 use Rattle.vs_tree_laws.specs.Changes.{splice}
 use Rattle.vs_tree_blocks.specs.Runs.{lines_within}
 use Rattle.vs_tree_blocks.proofs.DataLemmas.{end_within}
-use Rattle.vs_tree_blocks.proofs.RunsLemmas.{Half, IsNext, told, run_line, half_none, half_more, half_room, half_all}
+use Rattle.vs_tree_blocks.proofs.RunsLemmas.{Half, told, run_line, half_none, half_more, half_room, half_all}
 use Rattle.vs_tree_blocks.proofs.run.Run.put_into.Goals as goal
 
 pub lines-init : goal.lines-init
