@@ -1,4 +1,4 @@
-use Rattle.std.proofs.Common.{◌≡◌, ℕ, ◌-◌, ◌++◌, List, [], length, take, drop, get_or, sym, ap, ◌∙◌, arith, append-nil}
+use Rattle.std.proofs.Common.{◌≡◌, ◌-◌, ◌++◌, [], length, take, drop, get_or, sym, ap, ◌∙◌, arith, append-nil}
 use Rattle.vs_data.specs.Blocks.{lines_in}
 use Rattle.vs_tree_blocks.proofs.DataLemmas.{count_is, line_at}
 use Rattle.vs_tree.specs.Reads.{file_of_stored}

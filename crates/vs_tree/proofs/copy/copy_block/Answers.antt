@@ -1,5 +1,5 @@
-use Rattle.std.proofs.Common.{◌≡◌, ℕ, ◌+◌, ◌-◌, ◌≤◌, ◌++◌, List, Some, IsSome, is_some, length, take, drop, sym, ap, subst, ◌∙◌, arith}
-use Rattle.vs_pages.specs.Maps.{Map, pages_at}
+use Rattle.std.proofs.Common.{◌≡◌, ℕ, ◌+◌, ◌-◌, ◌≤◌, ◌++◌, Some, IsSome, is_some, length, take, drop, sym, ap, subst, ◌∙◌, arith}
+use Rattle.vs_pages.specs.Maps.{Map}
 use Rattle.vs_data.specs.Blocks.{lines_in}
 use Rattle.vs_tree_blocks.specs.Blocks.{lines_at}
 use Rattle.vs_tree_blocks.proofs.DataLemmas.{lines_loaded, count_is}

@@ -1,4 +1,4 @@
-use Rattle.std.proofs.Common.{◌≡◌, ℕ, ◌+◌, ◌-◌, ◌++◌, List, take, drop, refl, sym, ap, subst, ◌∙◌, arith, append-nil}
+use Rattle.std.proofs.Common.{◌≡◌, ◌+◌, ◌-◌, ◌++◌, take, drop, refl, sym, ap, subst, ◌∙◌, arith, append-nil}
 use Rattle.vs_pages.specs.Maps.{Map}
 use Rattle.vs_tree_laws.specs.Trees.{HasLines}
 use Rattle.vs_tree_blocks.specs.Blocks.{tree_format}

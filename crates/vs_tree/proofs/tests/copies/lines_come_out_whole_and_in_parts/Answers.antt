@@ -1,4 +1,4 @@
-use Rattle.std.proofs.Common.{◌≡◌, ◌≤◌, ℕ, List, [], ◌++◌, length, refl, sym, ap, subst, IsSome, arith}
+use Rattle.std.proofs.Common.{refl, sym, subst, IsSome}
 use Rattle.vs_pages.specs.Maps.{Map, pages_at}
 use Rattle.vs_tree.proofs.tests.copies.lines_come_out_whole_and_in_parts.Goals as goal
 

@@ -1,4 +1,4 @@
-use Rattle.std.proofs.Common.{◌≡◌, ap, ◌∙◌}
+use Rattle.std.proofs.Common.{ap, ◌∙◌}
 use Rattle.vs_tree.specs.Texts.{Fits}
 use Rattle.vs_tree.specs.declared.tree.LineTree.{LineTree}
 use Rattle.vs_tree.proofs.Kept.{fits_kept}

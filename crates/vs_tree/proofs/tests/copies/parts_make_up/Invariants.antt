@@ -1,4 +1,4 @@
-use Rattle.std.proofs.Common.{◌≡◌, length}
+use Rattle.std.proofs.Common.{◌≡◌}
 use Rattle.vs_tree.specs.Texts.{Fits}
 use Rattle.vs_tree.proofs.tests.copies.parts_make_up.Given as goal
 
