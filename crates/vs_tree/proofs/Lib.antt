@@ -1,3 +1,4 @@
+pub mod Added
 pub mod Copies
 pub mod Kept
 pub mod Rounds

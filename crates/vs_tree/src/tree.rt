@@ -7,6 +7,7 @@ ghost use Rattle.vs_text.specs.Text.{IsLine, bytes_of, file_of};
 ghost use Rattle.vs_text.specs.Limits.{IsShort};
 ghost use Rattle.vs_text.specs.declared.TheConstants.{MAX_LINES, MAX_TEXT_BYTES};
 ghost use Rattle.vs_edit.specs.Splices.{splice};
+ghost use Rattle.vs_tree.specs.Reads.{AddsLines};
 
 use crate::{Extent, copy_stored, load_stored, splice_text};
 use std::alloc::Global;
@@ -115,6 +116,7 @@ impl LineTree {
         requires fits { Fits P.tells (P.present pages.old) self.old.present }
         requires within { at + count ≤ self.old.present.lines }
         ensures lines { OnOk result (IsTrue P.tells → (text : List (List ℕ)) → HasText (P.present pages.old) self.old.present text → into.new.items ≡ into.old.items ++ file_of (take count (drop at text))) }
+        ensures adds { OnOk result (AddsLines into.old.items into.new.items count) }
         ensures tree { self.new ≡ self.old }
         ensures present { IsTrue P.tells → P.present pages.new ≡ P.present pages.old }
         ensures committed { IsTrue P.tells → P.committed pages.new ≡ P.committed pages.old }
