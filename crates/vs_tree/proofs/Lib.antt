@@ -1,4 +1,7 @@
+pub mod Added
 pub mod ChangeLemmas
+pub mod Copies
 pub mod FillLemmas
+pub mod Kept
 pub mod Rounds
 pub mod StoredLemmas

@@ -17,8 +17,8 @@ use vs_data::DataView;
 use vs_pages::{PAGE_SIZE, PageErr, Pages};
 use vs_tree_laws::Entry;
 
-// Loads a data block, and reads its header and index.
-fn load_data<P: Pages>(
+/// Makes `bytes` the data block of `count` pages from page `block` on, and reads its header and index.
+pub fn load_data<P: Pages>(
     alloc: Global,
     pages: &mut P,
     block: u64,
