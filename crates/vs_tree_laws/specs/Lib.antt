@@ -1,4 +1,6 @@
 pub mod Changes
+pub mod Depths
 pub mod Places
+pub mod Reads
 pub mod Sames
 pub mod Trees
