@@ -1,6 +1,8 @@
 // The tree over pages in memory: how many pages lines take, and when the root grows.
 ghost use Rattle.std.specs.Prelude.{OnOk};
 
+mod copies;
+
 use crate::{LineTree, TreeStore};
 use std::alloc::Global;
 use std::test::Fail;

@@ -11,7 +11,7 @@ mod pointers;
 
 pub use add::add_block;
 pub use bytes::pointer_bytes;
-pub use data::{edit_data, load_line};
+pub use data::{edit_data, load_data, load_line};
 pub use depths::has_one_list;
 pub use edit::Edit;
 pub use first::write_first;

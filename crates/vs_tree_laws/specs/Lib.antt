@@ -4,3 +4,4 @@ pub mod Places
 pub mod Reads
 pub mod Sames
 pub mod Trees
+pub mod Ways
