@@ -1,5 +1,5 @@
 -- How long texts are: a file of at most 2^20 bytes is within each limit, and lines that are put in add their own length.
-use Rattle.std.proofs.Common.{◌≡◌, ℕ, Option, Some, None, IfSome, is_some, ◌≤◌, ◌+◌, ◌^◌, Bool, true, false, List, [], ◌∷◌, ◌++◌, length, take, drop, All, Ok, Err, IsErrAnd, IsErrOf, refl, sym, ap, ◌∙◌, arith}
+use Rattle.std.proofs.Common.{◌≡◌, ℕ, Option, Some, None, IfSome, is_some, ◌≤◌, ◌+◌, ◌^◌, Bool, true, false, List, [], ◌∷◌, ◌++◌, length, take, drop, Ok, Err, IsErrAnd, IsErrOf, refl, sym, ap, ◌∙◌, arith}
 use Rattle.std.proofs.lemmas.List.{length-append, take-append-drop, take_all}
 use Rattle.std.proofs.lemmas.List.Elements.{All-from_recursion}
 use Rattle.std.proofs.lemmas.Bool.{true≢false}
@@ -8,7 +8,7 @@ use Rattle.std.specs.List.{AllByRecursion}
 use Rattle.std.specs.Result.{result_err}
 use Rattle.std.specs.declared.result.Result.{Result}
 use Rattle.vs_text.specs.Text.{lines_of, bytes_of}
-use Rattle.vs_text.specs.Limits.{IsShort, IsWithinLimits, IsRefusal}
+use Rattle.vs_text.specs.Limits.{IsShort, IsRefusal}
 use Rattle.vs_text.specs.declared.error.TextErr.{TextErr}
 use Rattle.vs_text.specs.declared.error.TextErr.TheVariants as text
 use Rattle.vs_text.proofs.FileForm.{bytes_of-append}

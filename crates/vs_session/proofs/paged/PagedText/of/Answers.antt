@@ -1,4 +1,4 @@
-use Rattle.std.proofs.Common.{◌≡◌, List, ℕ, [], refl, sym, ap, subst, IsSome, ◌∙◌, arith}
+use Rattle.std.proofs.Common.{◌≡◌, [], refl, sym, subst, IsSome, arith}
 use Rattle.std.proofs.lemmas.Grind.{common_steps}
 use Rattle.vs_pages.specs.Maps.{Map, pages_at}
 use Rattle.vs_pages.specs.Memory.{present_of}

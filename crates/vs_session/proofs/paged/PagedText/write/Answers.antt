@@ -1,6 +1,5 @@
-use Rattle.std.proofs.Common.{◌≡◌, List, ℕ, length, take, drop, refl, ap, ◌∙◌, arith}
+use Rattle.std.proofs.Common.{◌≡◌, List, ℕ, length, take, drop, refl, arith}
 use Rattle.std.proofs.lemmas.Grind.{common_steps}
-use Rattle.vs_text.specs.Text.{file_of}
 use Rattle.vs_pages.specs.Memory.{present_of}
 use Rattle.vs_tree.specs.TextIn.{text_in}
 use Rattle.vs_session.proofs.PagedLemmas.{text_had}

@@ -1,6 +1,6 @@
-use Rattle.std.proofs.Common.{◌≡◌, ◌≤◌, ◌^◌, List, ℕ, length, arith, ap, ◌∙◌, Some, string_bytes}
+use Rattle.std.proofs.Common.{◌≡◌, ◌≤◌, ◌^◌, List, ℕ, length, arith, ap, string_bytes}
 use Rattle.std.proofs.lemmas.Grind.{common_steps}
-use Rattle.vs_host.specs.World.{Scene, content_of}
+use Rattle.vs_host.specs.World.{Scene}
 use Rattle.vs_text.specs.Text.{lines_of}
 use Rattle.vs_session.proofs.Sizes.{file_sizes, no_limit, content_read, file_opened}
 use Rattle.vs_session.proofs.session.Session.open.Goals as goal
