@@ -1,5 +1,5 @@
 -- The lines that a map has below a block, as a function.
-use Rattle.std.proofs.Common.{◌≡◌, ℕ, zero, suc, List, [], ◌∷◌, ◌++◌, map, unwrap_or, Option, Some, sym, refl, ap, ◌∙◌}
+use Rattle.std.proofs.Common.{◌≡◌, ℕ, zero, suc, List, [], ◌∷◌, ◌++◌, map, unwrap_or, Option, sym, refl, ap, ◌∙◌}
 use Rattle.std.specs.List.{flat_map, AllByRecursion}
 use Rattle.vs_pages.specs.Maps.{Map, pages_at}
 use Rattle.vs_tree_laws.specs.declared.entries.Entry.{Entry}
