@@ -1,6 +1,6 @@
 -- How long texts are: a file of at most 2^20 bytes is within each limit, and lines that are put in add their own length.
-use Rattle.std.proofs.Common.{◌≡◌, ℕ, ◌≤◌, ◌+◌, ◌^◌, Bool, true, false, List, [], ◌∷◌, ◌++◌, length, take, drop, All, Ok, Err, IsErrAnd, IsErrOf, refl, sym, ap, ◌∙◌, arith}
-use Rattle.std.proofs.lemmas.List.{length-append, take-append-drop}
+use Rattle.std.proofs.Common.{◌≡◌, ℕ, Option, Some, None, IfSome, is_some, ◌≤◌, ◌+◌, ◌^◌, Bool, true, false, List, [], ◌∷◌, ◌++◌, length, take, drop, Ok, Err, IsErrAnd, IsErrOf, refl, sym, ap, ◌∙◌, arith}
+use Rattle.std.proofs.lemmas.List.{length-append, take-append-drop, take_all}
 use Rattle.std.proofs.lemmas.List.Elements.{All-from_recursion}
 use Rattle.std.proofs.lemmas.Bool.{true≢false}
 use Rattle.std.proofs.lemmas.Option.{same_Some}
@@ -8,7 +8,7 @@ use Rattle.std.specs.List.{AllByRecursion}
 use Rattle.std.specs.Result.{result_err}
 use Rattle.std.specs.declared.result.Result.{Result}
 use Rattle.vs_text.specs.Text.{lines_of, bytes_of}
-use Rattle.vs_text.specs.Limits.{IsShort, IsWithinLimits, IsRefusal}
+use Rattle.vs_text.specs.Limits.{IsShort, IsRefusal}
 use Rattle.vs_text.specs.declared.error.TextErr.{TextErr}
 use Rattle.vs_text.specs.declared.error.TextErr.TheVariants as text
 use Rattle.vs_text.proofs.FileForm.{bytes_of-append}
@@ -17,6 +17,7 @@ use Rattle.vs_text.proofs.TextLimits.{within_not_refused}
 use Rattle.vs_session.specs.Machine.{with_lines}
 use Rattle.vs_session.specs.Early.{GrowsBy}
 use Rattle.vs_session.specs.Open.{open_error}
+use Rattle.vs_session.specs.Session.{Opened, opened}
 use Rattle.vs_session.specs.declared.session.OpenErr.{OpenErr}
 use Rattle.vs_session.specs.declared.session.OpenErr.TheVariants as opening
 
@@ -63,3 +64,21 @@ no_limit (Ok x) file error size small refused is limit = is
 no_limit (Err e) file error size small refused is limit =
     let found : e ≡ opening.TextLimit size = same_Some e (opening.TextLimit size) (ap result_err limit) in
     true≢false (sym (ap is_limit (sym is ∙ found)) ∙ ap (λ e. is_limit (open_error e)) (file_fits file error small refused))
+
+-- a file that was there, with this size, and of which as many bytes were read
+pub content_read : (a b c : Option (List ℕ)) (there : Bool) (size room : ℕ) (into file : List ℕ) → b ≡ a → c ≡ b → there ≡ is_some a → there ≡ true → IfSome b (λ bytes. size ≡ length bytes)
+    → IfSome c (λ bytes. into ≡ take room bytes) → room ≡ size → into ≡ file → (a ≡ Some file) × (size ≡ length file)
+content_read None b c there size room into file e f has is known read whole same = absurd (cc)
+content_read (Some x) None c there size room into file e f has is known read whole same = absurd (cc)
+content_read (Some x) (Some y) None there size room into file e f has is known read whole same = absurd (cc)
+content_read (Some x) (Some y) (Some z) there size room into file e f has is known read whole same =
+    let first : y ≡ x = cc in
+    let second : z ≡ y = cc in
+    let all : take room z ≡ z = take_all room z (omega (arith, ap (λ (l : List ℕ). length l) second)) in
+    let whole_file : x ≡ file = cc in
+    (ap (λ (l : List ℕ). Some l) whole_file, known ∙ ap (λ (l : List ℕ). length l) (first ∙ whole_file))
+
+-- a session whose parts are those of the file is the one that opens it
+pub file_opened : (name kept : List ℕ) (text : List (List ℕ)) (lines : ℕ) (file : List ℕ) (size : ℕ) (content : Option (List ℕ)) → content ≡ Some file → kept ≡ name → lines ≡ length text → size ≡ length file → text ≡ lines_of file
+    → (let session : Opened = record { name = kept; found = Some (lines, size); state = record { text = text; last = 0 } } in session ≡ opened name content)
+file_opened name kept text lines file size content there same count size_is is = rw (there, same, count, size_is, is) refl

@@ -1,6 +1,7 @@
 -- What the commands and marks of the session mean.
-use Rattle.std.specs.Prelude.{ℕ, List, [], ◌≡◌, ◌≤◌, ◌+◌, ⊤, length}
+use Rattle.std.specs.Prelude.{ℕ, List, [], ◌≡◌, ◌≤◌, ◌+◌, ⊤, length, All}
 use Rattle.vs_text.specs.Text.{bytes_of}
+use Rattle.vs_text.specs.Limits.{IsShort}
 use Rattle.vs_session.specs.declared.command.Early.{Early}
 use Rattle.vs_session.specs.declared.command.Early.TheVariants as early
 use Rattle.vs_session.specs.declared.command.Outcome.{Outcome}
@@ -31,8 +32,9 @@ block_in early.PrintAll = []
 block_in early.Other = []
 block_in early.NoMemory = []
 
--- two texts together are within the limits of one
+-- two texts together are within the limits of one, and the lines of the second are
 pub record FitsWith (text more : List (List ℕ)) : Type 0 where
+  pub short : All IsShort more
   pub lines : length text + length more ≤ 4000000
   pub bytes : bytes_of text + bytes_of more ≤ 268435456
 

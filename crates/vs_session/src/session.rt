@@ -10,11 +10,12 @@ ghost use Rattle.vs_session.specs.Script.Command.{Append, PrintAll};
 ghost use Rattle.vs_session.specs.Early.{IsHanded, outcome_of, block_in, FitsWith, GrowsBy};
 
 use crate::command::{Early, Mark, Outcome};
+use crate::paged::PagedText;
 use crate::reply::Reply;
 use std::alloc::{AllocError, Global};
 use std::marker::Model;
 use vs_host::{Failed, Host};
-use vs_text::{Text, TextErr, read_text, write_text};
+use vs_text::{Text, TextErr, read_text};
 
 /// Bytes of the longest file that is opened.
 const FILE_LIMIT: u64 = 1_048_576;
@@ -70,7 +71,7 @@ impl From<Failed> for OpenErr {
 pub struct Session {
     name: String,
     found: Option<(u64, u64)>,
-    text: Text,
+    text: PagedText,
     last: u64,
 }
 
@@ -112,7 +113,7 @@ impl Session {
             return Ok(Session {
                 name: kept,
                 found: None,
-                text: Text::of(Vec::new(alloc)),
+                text: PagedText::of(alloc, &[])?,
                 last: 0,
             });
         }
@@ -122,10 +123,11 @@ impl Session {
         }
         let mut bytes = vec![in alloc; 0u8; size as usize]?;
         host.read_at(name, 0, &mut bytes)?;
-        let text = read_text(alloc, &bytes)?;
+        let read = read_text(alloc, &bytes)?;
+        let text = PagedText::of(alloc, read.lines())?;
         Ok(Session {
             name: kept,
-            found: Some((text.lines().len() as u64, size)),
+            found: Some((text.len(), size)),
             text,
             last: 0,
         })
@@ -166,7 +168,7 @@ impl Session {
         }
     }
 
-    fn answer(&mut self, alloc: Global, early: &Early) -> Result<Reply, TextErr>
+    fn answer(&mut self, alloc: Global, early: &Early) -> Result<Reply, AllocError>
         requires size { FitsWith self.old.state.text (block_in early.now) }
         ensures reply { IfOk result (λ reply. (command : Command) → IsHanded early.now command →
             reply ≡ done_reply self.old.state.last (meaning_of self.old.state.text command)) }
@@ -181,20 +183,21 @@ impl Session {
             Early::Append { at, lines } => self.append(alloc, *at, lines),
             Early::PrintAll => self.print_all(alloc),
             Early::Other => Ok(Reply::refuses(b"E492: Not an editor command")),
-            Early::NoMemory => Err(TextErr::NoMemory),
+            Early::NoMemory => Err(AllocError),
         }
     }
 
-    fn print_all(&self, alloc: Global) -> Result<Reply, TextErr>
-        ensures { IfOk result (λ reply. reply ≡ done_reply self.now.state.last (meaning_of self.now.state.text PrintAll)) }
+    fn print_all(&mut self, alloc: Global) -> Result<Reply, AllocError>
+        ensures reply { IfOk result (λ reply. reply ≡ done_reply self.old.state.last (meaning_of self.old.state.text PrintAll)) }
+        ensures same { self.new ≡ self.old }
     {
-        if self.text.lines().is_empty() {
+        if self.text.is_empty() {
             return Ok(Reply::refuses(b"E16: Invalid range"));
         }
-        Ok(Reply::printed(write_text(alloc, &self.text)?))
+        Ok(Reply::printed(self.text.write(alloc)?))
     }
 
-    fn append(&mut self, alloc: Global, at: u64, lines: &Text) -> Result<Reply, TextErr>
+    fn append(&mut self, alloc: Global, at: u64, lines: &Text) -> Result<Reply, AllocError>
         requires size { FitsWith self.old.state.text lines.now }
         ensures reply { IfOk result (λ reply. reply ≡ done_reply self.old.state.last (meaning_of self.old.state.text (Append at lines.now))) }
         ensures state { OnOk result (self.new.state ≡ done_state self.old.state (meaning_of self.old.state.text (Append at lines.now))) }
@@ -202,9 +205,9 @@ impl Session {
         ensures grows { GrowsBy lines.now self.old.state.text self.new.state.text }
         ensures err { OnErr result (self.new.state ≡ self.old.state) }
     {
-        let count = self.text.lines().len();
+        let count = self.text.len();
         let place = if count == 0 && at == 1 { 0 } else { at };
-        if (count as u64) < place {
+        if count < place {
             return Ok(Reply::refuses(b"E16: Invalid range"));
         }
         let added = lines.lines();
@@ -214,8 +217,8 @@ impl Session {
         if GREATEST_CHANGE <= self.last {
             return Ok(Reply::refuses(b"change numbers used up"));
         }
-        self.text.put_lines(place as usize, added)?;
+        self.text.put_lines(alloc, place, added)?;
         self.last += 1;
-        Ok(Reply::change(self.last, (count + added.len()) as u64))
+        Ok(Reply::change(self.last, count + added.len() as u64))
     }
 }

@@ -1,9 +1,10 @@
 // Reads a script command by command: docs/COMMANDS.md, "Scripts".
-ghost use Rattle.std.specs.Prelude.{◌≡◌, ◌<◌, ◌≤◌, ◌+◌, ◌*◌, ◌++◌, ◌∷◌, [], None, List, ℕ, length, false, true, IfOk, OnOk, OnErr, IfErr, IsErrOf, IsSome, IfSome, IsTrue};
+ghost use Rattle.std.specs.Prelude.{◌≡◌, ◌<◌, ◌≤◌, ◌+◌, ◌*◌, ◌++◌, ◌∷◌, [], None, List, ℕ, length, false, true, IfOk, OnOk, OnErr, IfErr, IsErrOf, IsSome, IfSome, IsTrue, All};
 ghost use Rattle.std.specs.List.{list_all};
 ghost use Rattle.vs_faults.specs.Faults.{Rose};
 ghost use Rattle.vs_host.specs.World.{ChangesScript};
 ghost use Rattle.vs_text.specs.Text.{IsLine, bytes_of};
+ghost use Rattle.vs_text.specs.Limits.{IsShort};
 ghost use Rattle.vs_session.specs.Script.{whole_block, kind_of, is_dot, is_digit, number_of};
 ghost use Rattle.vs_top.specs.Ahead.{lines_ahead, commands_ahead, whole_lines, turns, TakesBlock, TakesCommand, TakesNone, CountsTaken, HasSeen, Stops, whole_commands};
 ghost use Rattle.vs_session.specs.Early.{block_in};
@@ -74,6 +75,7 @@ fn add_line(alloc: Global, lines: &mut Vec<Line>, line: &[u8]) -> Result<(), Tex
     requires { IsLine line.now }
     ensures ok { OnOk result (lines.new.items ≡ lines.old.items ++ line.now ∷ []) }
     ensures err { OnErr result (lines.new.items ≡ lines.old.items) }
+    ensures all_short { All IsShort lines.old.items → All IsShort lines.new.items }
 {
     lines.push(Line::of(alloc, line)?)?;
     Ok(())
@@ -85,6 +87,7 @@ fn loses(alloc: Global, lines: &mut Vec<Line>, lost: bool, line: &[u8]) -> bool
     ensures kept { result ≡ false → (lost ≡ false) × (lines.new.items ≡ lines.old.items ++ line.now ∷ []) }
     ensures few { length lines.new.items ≤ length lines.old.items + 1 }
     ensures short { bytes_of lines.new.items ≤ bytes_of lines.old.items + length line.now + 1 }
+    ensures all_short { All IsShort lines.old.items → All IsShort lines.new.items }
 {
     if lost {
         return true;
@@ -120,6 +123,7 @@ impl ScriptReader {
         ensures counts { OnOk result (IsTrue (S.tells).script → CountsTaken self.old self.new (S.scene host.old) (S.scene host.new)) }
         ensures lines { IfOk result (λ found. IfSome found (λ lines. length lines + turns self.new ≤ turns self.old)) }
         ensures bytes { IfOk result (λ found. IfSome found (λ lines. bytes_of lines + 2 * turns self.new ≤ 2 * turns self.old)) }
+        ensures short { IfOk result (λ found. IfSome found (λ lines. All IsShort lines)) }
         ensures turns { OnOk result (turns self.new ≤ turns self.old) }
         ensures failed { IsErrOf result ScriptErr.Failed → Rose (S.scene host.old).script_faults (S.scene host.new).script_faults }
         ensures faults { (S.scene host.old).script_faults ≤ (S.scene host.new).script_faults }
@@ -153,6 +157,7 @@ impl ScriptReader {
         ensures counts { OnOk result (IsTrue (S.tells).script → CountsTaken self.old self.new (S.scene host.old) (S.scene host.new)) }
         ensures lines { IfOk result (λ found. IfSome found (λ early. length (block_in early) + turns self.new < turns self.old)) }
         ensures bytes { IfOk result (λ found. IfSome found (λ early. bytes_of (block_in early) + 2 * turns self.new ≤ 2 * turns self.old)) }
+        ensures short { IfOk result (λ found. IfSome found (λ early. All IsShort (block_in early))) }
         ensures failed { IsErrOf result ScriptErr.Failed → Rose (S.scene host.old).script_faults (S.scene host.new).script_faults }
         ensures faults { (S.scene host.old).script_faults ≤ (S.scene host.new).script_faults }
         ensures frame { ChangesScript (S.scene host.old) (S.scene host.new) }

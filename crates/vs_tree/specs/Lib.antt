@@ -1,4 +1,5 @@
 pub mod Reads
 pub mod Runs
 pub mod Sames
+pub mod TextIn
 pub mod Texts

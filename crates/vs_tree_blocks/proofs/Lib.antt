@@ -4,6 +4,7 @@ pub mod EditedLemmas
 pub mod EntriesLemmas
 pub mod FirstLemmas
 pub mod GoneLemmas
+pub mod OneList
 pub mod Outcomes
 pub mod PointersLemmas
 pub mod RunsLemmas

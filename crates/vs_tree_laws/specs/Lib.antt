@@ -1,5 +1,7 @@
 pub mod Changes
+pub mod Depths
 pub mod Places
+pub mod Reads
 pub mod Sames
 pub mod Trees
 pub mod Ways

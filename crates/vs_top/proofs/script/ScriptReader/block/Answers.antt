@@ -29,6 +29,7 @@ lines-preserved g c =
       counts = λ tells. grind (arith, common_steps, c.lines.invariant.counts tells, c.in_ok-next_line.ensures.counts tells);
       turns = grind (arith, common_steps);
       bytes = grind (arith, common_steps);
+      short = c.loses-lost.ensures.all_short c.lines.invariant.short;
       faults = grind (arith, common_steps);
       frame = grind (arith, common_steps);
     }

@@ -1,6 +1,7 @@
-use Rattle.std.proofs.Common.{◌≡◌, ◌≤◌, IsTrue, ◌+◌, ◌*◌, length, ℕ, List, [], false}
+use Rattle.std.proofs.Common.{◌≡◌, ◌≤◌, IsTrue, ◌+◌, ◌*◌, length, ℕ, List, [], false, All}
 use Rattle.vs_session.specs.Script.{block_of, whole_block}
 use Rattle.vs_text.specs.Text.{bytes_of}
+use Rattle.vs_text.specs.Limits.{IsShort}
 use Rattle.vs_host.specs.World.{ChangesScript}
 use Rattle.vs_top.specs.Ahead.{CountsTaken, HasSeen, GoesOn, whole_lines, turns, lines_ahead}
 use Rattle.vs_top.proofs.Stopping.{InBlock}
@@ -12,6 +13,7 @@ invariant-lines g l = record {
   ended : IsTrue (g.S.World.tells).script → HasSeen l.self (g.S.World.scene l.host);
   counts : IsTrue (g.S.World.tells).script → CountsTaken l.initial.self l.self (g.S.World.scene l.initial.host) (g.S.World.scene l.host);
   bytes : bytes_of l.lines.items + 2 * turns l.self ≤ 2 * turns l.initial.self;
+  short : All IsShort l.lines.items;
   turns : length l.lines.items + turns l.self ≤ turns l.initial.self;
   faults : (g.S.World.scene l.initial.host).script_faults ≤ (g.S.World.scene l.host).script_faults;
   frame : ChangesScript (g.S.World.scene l.initial.host) (g.S.World.scene l.host);
