@@ -1,4 +1,8 @@
 // The tree over pages in memory: how many pages lines take, and when the root grows.
+mod failing;
+mod generated;
+mod splices;
+
 ghost use Rattle.std.specs.Prelude.{OnOk};
 
 use crate::{LineTree, TreeStore};

@@ -1,0 +1,142 @@
+// A load, carried out.
+ghost use Rattle.std.specs.Prelude.{◌≡◌, ◌+◌, IfOk, OnOk, length, vec_len};
+ghost use Rattle.vs_load.specs.Loads.{lines_after};
+
+use crate::error::LoadErr;
+use crate::words::Load;
+use std::alloc::{AllocError, Global};
+use std::fmt;
+use vs_edit::{LineStore, StoreErr, allows_splice, splice_or_rollback};
+use vs_pages::MemPages;
+use vs_text::Line;
+use vs_tree::{LineTree, TreeStore};
+
+// The number of bytes of a line, which are 40 with its end.
+const LINE_BYTES: usize = 39;
+
+// The number of lines that a file is loaded by.
+const RUN_LINES: usize = 10_000;
+
+/// What there is at the end of a load, and the sum of all bytes that were read, modulo 2^64.
+#[derive(Clone, Copy, Debug, PartialEq, Eq)]
+pub struct Counts {
+    pub lines: u64,
+    pub bytes: u64,
+    pub sum: u64,
+}
+
+impl fmt::Display for Counts {
+    fn fmt<W: fmt::Write>(&self, f: &mut fmt::Formatter<W>) -> fmt::Result {
+        write!(f, "{} lines, {} bytes, sum {}", self.lines, self.bytes, self.sum)
+    }
+}
+
+fn sample_lines(alloc: Global, count: usize) -> Result<Vec<Line>, AllocError>
+    ensures { IfOk result (λ lines. vec_len lines ≡ count) }
+{
+    let mut lines = Vec::with_capacity(alloc, count)?;
+    for _ in 0..count {
+        let bytes = vec![in alloc; b'x'; LINE_BYTES]?;
+        lines.push(Line::from_vec(bytes))?;
+    }
+    Ok(lines)
+}
+
+// Puts lines before the line at a place, and commits.
+fn put<S: LineStore>(
+    alloc: Global,
+    store: &mut S,
+    at: u64,
+    lines: &[Line],
+) -> Result<(), LoadErr>
+    requires { S.valid store.old }
+    ensures lines { OnOk result (S.lines store.new ≡ S.lines store.old + length lines.now) }
+    ensures valid { S.valid store.new }
+{
+    if !allows_splice(store, at, 0, lines) {
+        return Err(LoadErr::TooLarge);
+    }
+    splice_or_rollback(alloc, store, at, 0, lines)?;
+    store.commit();
+    Ok(())
+}
+
+// Puts lines behind the last one, as many at a time as a file is loaded by.
+fn fill<S: LineStore>(alloc: Global, store: &mut S, count: u64) -> Result<(), LoadErr>
+    requires { S.valid store.old }
+    ensures lines { OnOk result (S.lines store.new ≡ S.lines store.old + count) }
+    ensures valid { S.valid store.new }
+{
+    let lines = sample_lines(alloc, RUN_LINES)?;
+    let mut left = count;
+    while left > 0 {
+        let run = left.min(RUN_LINES as u64);
+        let end = store.len();
+        put(alloc, store, end, &lines[..run as usize])?;
+        left -= run;
+    }
+    Ok(())
+}
+
+// Puts single lines into the middle.
+fn append<S: LineStore>(alloc: Global, store: &mut S, count: u64) -> Result<(), LoadErr>
+    requires { S.valid store.old }
+    ensures lines { OnOk result (S.lines store.new ≡ S.lines store.old + count) }
+    ensures valid { S.valid store.new }
+{
+    let line = sample_lines(alloc, 1)?;
+    for _ in 0..count {
+        let middle = store.len() / 2;
+        put(alloc, store, middle, &line)?;
+    }
+    Ok(())
+}
+
+// Reads all lines, and gives the sum of their bytes.
+fn read<S: LineStore>(alloc: Global, store: &mut S) -> Result<u64, StoreErr>
+    requires { S.valid store.old }
+    ensures lines { S.lines store.new ≡ S.lines store.old }
+    ensures valid { S.valid store.new }
+{
+    let mut sum: u64 = 0;
+    let mut line = Vec::new(alloc);
+    for at in 0..store.len() {
+        store.line(alloc, at, &mut line)?;
+        for byte in &line {
+            sum = sum.wrapping_add(*byte as u64);
+        }
+    }
+    Ok(sum)
+}
+
+fn carry_out<S: LineStore>(alloc: Global, store: &mut S, load: Load) -> Result<Counts, LoadErr>
+    requires { S.valid store.old }
+    ensures { IfOk result (λ counts. counts.lines ≡ S.lines store.old + lines_after load) }
+{
+    match load {
+        Load::Fill(lines) => fill(alloc, store, lines)?,
+        Load::Append(lines, more) => {
+            fill(alloc, store, lines)?;
+            append(alloc, store, more)?;
+        }
+    }
+    let sum = read(alloc, store)?;
+    Ok(Counts {
+        lines: store.len(),
+        bytes: store.bytes(),
+        sum,
+    })
+}
+
+/// Carries a load out over a tree of its own.
+pub fn run(alloc: Global, load: Load) -> Result<Counts, LoadErr>
+    ensures { IfOk result (λ counts. counts.lines ≡ lines_after load) }
+{
+    let mut memory = MemPages::new(alloc)?;
+    let mut tree = LineTree::new(alloc, &mut memory)?;
+    let mut store = TreeStore {
+        tree: &mut tree,
+        pages: memory,
+    };
+    carry_out(alloc, &mut store, load)
+}
