@@ -27,7 +27,11 @@ pub struct Counts {
 
 impl fmt::Display for Counts {
     fn fmt<W: fmt::Write>(&self, f: &mut fmt::Formatter<W>) -> fmt::Result {
-        write!(f, "{} lines, {} bytes, sum {}", self.lines, self.bytes, self.sum)
+        write!(
+            f,
+            "{} lines, {} bytes, sum {}",
+            self.lines, self.bytes, self.sum
+        )
     }
 }
 
@@ -43,12 +47,7 @@ fn sample_lines(alloc: Global, count: usize) -> Result<Vec<Line>, AllocError>
 }
 
 // Puts lines before the line at a place, and commits.
-fn put<S: LineStore>(
-    alloc: Global,
-    store: &mut S,
-    at: u64,
-    lines: &[Line],
-) -> Result<(), LoadErr>
+fn put<S: LineStore>(alloc: Global, store: &mut S, at: u64, lines: &[Line]) -> Result<(), LoadErr>
     requires { S.valid store.old }
     ensures lines { OnOk result (S.lines store.new ≡ S.lines store.old + length lines.now) }
     ensures valid { S.valid store.new }

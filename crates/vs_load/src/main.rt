@@ -8,15 +8,14 @@ mod words;
 use error::LoadErr;
 use load::run;
 use std::alloc::AllocError;
-use std::env;
-use std::io;
 use std::process::ExitCode;
+use std::{env, io};
 use words::Load;
 
 const USAGE: &str = "usage: vs_load fill LINES | append LINES MORE";
 
 /// The words behind the program's name.
-fn words(rt: &HostRuntime) -> io::Result<Vec<String>> {
+fn given_words(rt: &HostRuntime) -> io::Result<Vec<String>> {
     let mut words = Vec::new(rt.alloc());
     for word in env::args(rt)?.skip(1) {
         words.push(word)?;
@@ -37,7 +36,7 @@ fn answer(rt: &HostRuntime, load: Load) -> u8 {
 }
 
 fn main(rt: HostRuntime) -> ExitCode {
-    let Ok(words) = words(&rt) else {
+    let Ok(words) = given_words(&rt) else {
         return ExitCode::from(1);
     };
     let Some(load) = Load::of(words.as_slice()) else {

@@ -72,7 +72,7 @@ fn play_all<S: LineStore, T: LineStore>(
     ensures tree { S.valid tree.new }
     ensures plain { T.valid plain.new }
 {
-    let mut numbers = Numbers(1);
+    let mut numbers = Numbers(3);
     let mut refused = 0u64;
     for call in 0..calls {
         if play(rt, alloc, tree, plain, &mut numbers).is_err() {

@@ -49,7 +49,7 @@ impl Numbers {
     // A splice of a text of so many lines; a few take out all of them.
     pub fn splice(&mut self, alloc: Global, len: u64) -> Result<Splice, AllocError> {
         let new = self.lines(alloc)?;
-        if self.below(300) == 0 {
+        if self.below(1_000) == 0 {
             return Ok(Splice {
                 top: 0,
                 old: len,
