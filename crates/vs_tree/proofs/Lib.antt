@@ -1,2 +1,4 @@
+pub mod Copies
+pub mod Kept
 pub mod Rounds
 pub mod StoredLemmas

@@ -8,7 +8,8 @@ use Rattle.vs_tree.specs.declared.texts.Extent.{Extent}
 use Rattle.vs_tree.specs.Texts.{HasText}
 use Rattle.vs_text.proofs.StoredForm.{plain_line-stored_line}
 
-each_line : (text : List (List ℕ)) → IsText text → map plain_line (map stored_line text) ≡ text
+-- the stored form leads back to the lines
+pub each_line : (text : List (List ℕ)) → IsText text → map plain_line (map stored_line text) ≡ text
 each_line [] is = refl
 each_line (line ∷ text) is = ap (λ x. x ∷ map plain_line (map stored_line text)) (plain_line-stored_line line (is 0 [] (omega arith))) ∙ ap (λ xs. line ∷ xs) (each_line text (λ k d lt. is (suc k) d (omega arith)))
 

@@ -2,6 +2,7 @@
 #![tactic(auto)]
 
 mod change;
+mod copy;
 mod runs;
 #[cfg(test)]
 mod tests;
@@ -10,7 +11,8 @@ mod tree;
 mod walk;
 
 pub use change::edit_tree;
+pub use copy::copy_stored;
 pub use runs::{Taken, put_lines, put_stored, take_lines};
 pub use texts::{Extent, splice_text};
 pub use tree::{LineTree, TreeStore};
-pub use walk::load_stored;
+pub use walk::{Found, find_line, load_stored};

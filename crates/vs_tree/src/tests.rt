@@ -5,6 +5,8 @@ mod splices;
 
 ghost use Rattle.std.specs.Prelude.{OnOk};
 
+mod copies;
+
 use crate::{LineTree, TreeStore};
 use std::alloc::Global;
 use std::test::Fail;

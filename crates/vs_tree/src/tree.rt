@@ -1,14 +1,14 @@
 // The tree of a text, and the store that it makes with pages.
-ghost use Rattle.std.specs.Prelude.{◌≡◌, ◌≤◌, ◌<◌, ◌+◌, [], ℕ, List, All, Err, IfOk, OnOk, IsTrue, IsSome, get_or, length, refl};
+ghost use Rattle.std.specs.Prelude.{◌≡◌, ◌≤◌, ◌<◌, ◌+◌, ◌++◌, [], ℕ, List, All, Err, IfOk, OnOk, IsTrue, IsSome, get_or, length, take, drop, refl};
 ghost use Rattle.std.proofs.Common.{◌∙◌};
 ghost use Rattle.vs_faults.specs.Faults.{Rose};
 ghost use Rattle.vs_pages.specs.Maps.{pages_at};
-ghost use Rattle.vs_text.specs.Text.{IsLine, bytes_of};
+ghost use Rattle.vs_text.specs.Text.{IsLine, bytes_of, file_of};
 ghost use Rattle.vs_text.specs.Limits.{IsShort};
 ghost use Rattle.vs_text.specs.declared.TheConstants.{MAX_LINES, MAX_TEXT_BYTES};
 ghost use Rattle.vs_edit.specs.Splices.{splice};
 
-use crate::{Extent, load_stored, splice_text};
+use crate::{Extent, copy_stored, load_stored, splice_text};
 use std::alloc::Global;
 use vs_edit::{LineStore, StoreErr};
 use vs_pages::{PageErr, Pages};
@@ -97,6 +97,33 @@ impl LineTree {
             return Err(PageErr::Failed);
         }
         Ok(())
+    }
+
+    /// Appends `count` lines from line `at` on to `into`, each followed by byte 10; lines are counted from 0. After an error
+    /// `into` may hold anything.
+    ///
+    /// Each data block is read once for all its lines. A caller who knows how many bytes come can reserve them before.
+    pub fn copy_lines<P: Pages>(
+        &mut self,
+        alloc: Global,
+        pages: &mut P,
+        at: u64,
+        count: u64,
+        into: &mut Vec<u8>,
+    ) -> Result<(), PageErr>
+        requires valid { P.valid pages.old }
+        requires fits { Fits P.tells (P.present pages.old) self.old.present }
+        requires within { at + count ≤ self.old.present.lines }
+        ensures lines { OnOk result (IsTrue P.tells → (text : List (List ℕ)) → HasText (P.present pages.old) self.old.present text → into.new.items ≡ into.old.items ++ file_of (take count (drop at text))) }
+        ensures tree { self.new ≡ self.old }
+        ensures present { IsTrue P.tells → P.present pages.new ≡ P.present pages.old }
+        ensures committed { IsTrue P.tells → P.committed pages.new ≡ P.committed pages.old }
+        ensures later { P.faults pages.old ≤ P.faults pages.new }
+        ensures failed { result ≡ Err PageErr.Failed → Rose (P.faults pages.old) (P.faults pages.new) }
+        ensures valid { P.valid pages.new }
+        ensures stays { P.stays pages.old pages.new }
+    {
+        copy_stored(alloc, pages, self.present.height, at, count, into)
     }
 
     /// Puts lines in place of `old` lines from line `top` on, counted from 0. After an error the tree may only be rolled back.

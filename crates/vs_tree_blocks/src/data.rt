@@ -61,8 +61,8 @@ pub fn add_line<P: Pages>(alloc: Global, pages: &mut P, line: &[u8]) -> Result<E
     })
 }
 
-// Loads a data block, and reads its header and index.
-fn load_data<P: Pages>(
+/// Makes `bytes` the data block of `count` pages from page `block` on, and reads its header and index.
+pub fn load_data<P: Pages>(
     alloc: Global,
     pages: &mut P,
     block: u64,

@@ -10,7 +10,7 @@ mod pointers;
 
 pub use add::add_block;
 pub use bytes::pointer_bytes;
-pub use data::{edit_data, load_line};
+pub use data::{edit_data, load_data, load_line};
 pub use edit::Edit;
 pub use first::write_first;
 pub use pointers::{load_entries, write_pointers, write_root};

@@ -1,5 +1,5 @@
 -- The root of a tree before and after a change.
-use Rattle.std.proofs.Common.{◌≡◌, ℕ, suc, ◌+◌, ◌-◌, ◌^◌, ◌<◌, ◌≤◌, List, [], ◌∷◌, ◌++◌, length, take, drop, get_or, map, Some, sym, refl, ap, subst, ◌∙◌, inl, inr, arith}
+use Rattle.std.proofs.Common.{◌≡◌, ℕ, suc, ◌+◌, ◌-◌, ◌^◌, ◌<◌, ◌≤◌, List, [], ◌∷◌, ◌++◌, length, take, drop, map, Some, sym, refl, ap, subst, ◌∙◌, inl, inr, arith}
 use Rattle.std.specs.List.{flat_map, AllByRecursion}
 use Rattle.std.proofs.lemmas.List.{append-nil}
 use Rattle.std.proofs.lemmas.List.Concat.{flat_map-append}
@@ -8,8 +8,9 @@ use Rattle.vs_pages.specs.Maps.{Map, HasPages, lacks, one, total, pages_at}
 use Rattle.vs_tree_laws.specs.declared.entries.Entry.{Entry}
 use Rattle.vs_tree_laws.specs.declared.entries.Place.{Place}
 use Rattle.vs_tree_laws.specs.Trees.{Format, read_by, Tree, lines_of, uses, entry_of, IsTree, HasLines}
-use Rattle.vs_tree_laws.specs.Changes.{Change, IsChange, edited, Above, Leads, Promise, Wrote, Below, Stored, Added, pointer_entry}
+use Rattle.vs_tree_laws.specs.Changes.{Change, IsChange, edited, Above, Promise, Wrote, Below, Stored, Added, pointer_entry}
 use Rattle.vs_tree_laws.specs.Places.{IsPlace, lines_below}
+use Rattle.vs_tree_laws.specs.Ways.{Leads}
 use Rattle.vs_pages.proofs.MapsLemmas.{one-same, one-other}
 use Rattle.vs_tree_laws.proofs.Sums.{total-append, halves}
 use Rattle.vs_tree_laws.proofs.Shapes.{each-front, each-back, unused_each, each_kept, pages_kept, lacks_cases, room, depth_below}
@@ -104,9 +105,15 @@ wrote_deeper c n1 n2 n3 n4 moved other d i kids es first second top below here a
     }
 
 -- a walk to a line begins at block 1
-pub leads_first : (c : Format) (m : Map) (depth at : ℕ) (lines : List (List ℕ)) → HasLines c m depth lines → at < length lines → length lines < 2 ^ 62 → Leads c m 1 1 depth at (get_or lines at [])
+pub leads_first : (c : Format) (m : Map) (depth at : ℕ) (lines : List (List ℕ)) → HasLines c m depth lines → at < length lines → length lines < 2 ^ 62 → Leads c m 1 1 depth at lines at
 unfolding first_above
-leads_first c m depth at lines has within small = record { above = first_above c m depth at lines has within small; found = ap (λ xs. get_or xs at []) has.lines_are }
+leads_first c m depth at lines has within small = record {
+  above = first_above c m depth at lines has within small;
+  before = [];
+  after = [];
+  cut = sym has.lines_are ∙ sym (append-nil (lines_of depth has.tree));
+  place = omega arith;
+}
 
 -- block 1 is a pointer block
 pub not_flat : (c : Format) (m : Map) (depth : ℕ) (lines : List (List ℕ)) → HasLines c m depth lines → depth ≡ 0 → ⊥

@@ -1,16 +1,16 @@
 -- One step of a change, on the way back from a block to the block above it.
-use Rattle.std.proofs.Common.{◌≡◌, ℕ, zero, suc, ◌+◌, ◌-◌, ◌^◌, ◌<◌, ◌≤◌, List, [], ◌∷◌, ◌++◌, length, take, drop, get_or, map, Some, IsSome, is_some, sym, refl, ap, subst, ◌∙◌, inl, inr, arith, length-append}
+use Rattle.std.proofs.Common.{◌≡◌, ℕ, zero, suc, ◌+◌, ◌-◌, ◌^◌, ◌<◌, ◌≤◌, List, [], ◌∷◌, ◌++◌, length, take, drop, map, Some, IsSome, is_some, sym, refl, ap, subst, ◌∙◌, inl, inr, arith, append_assoc, length-append}
 use Rattle.std.specs.List.{flat_map, AllByRecursion}
 use Rattle.std.proofs.lemmas.Bool.{cases_eq}
-use Rattle.std.proofs.lemmas.Grind.{common_steps}
 use Rattle.std.proofs.lemmas.List.{length-map, map-append, append-nil}
 use Rattle.std.proofs.lemmas.List.Concat.{flat_map-append}
 use Rattle.vs_pages.specs.Maps.{Map, lacks, one, total, joined, pages_at}
 use Rattle.vs_tree_laws.specs.declared.entries.Entry.{Entry}
 use Rattle.vs_tree_laws.specs.declared.entries.Place.{Place}
 use Rattle.vs_tree_laws.specs.Trees.{Format, read_by, Tree, lines_of, uses, entry_of, IsTree, Stands}
-use Rattle.vs_tree_laws.specs.Changes.{Change, IsChange, edited, Above, Leads, Wrote, Below, Promise}
+use Rattle.vs_tree_laws.specs.Changes.{Change, IsChange, edited, Above, Wrote, Below, Promise}
 use Rattle.vs_tree_laws.specs.Places.{IsPlace, lines_below}
+use Rattle.vs_tree_laws.specs.Ways.{Leads, HasLine}
 use Rattle.vs_pages.proofs.MapsLemmas.{one-same}
 use Rattle.vs_tree_laws.proofs.Sums.{total-append}
 use Rattle.vs_tree_laws.proofs.Shapes.{read_from, each-append, each-front, each-back, unused_each, each_kept, lacks_cases, room}
@@ -185,31 +185,42 @@ edited_root c m n1 n2 (suc e) more at change es es1 mid es2 place some ok has is
     let i : Inside c m n1 1 at change e a.tree.1 mid = inside_child c m n1 1 1 at change e a es es1 mid place ok has is mid_is (less_promise c m n1 place.entry.block place.entry.pages e place.rest change es1 promise) in
     both_steps c m n1 n2 1 1 at change e (more + suc e) a mid es2 i (up e i.now refl i.below)
 
-get_or_mid : (a b c : List (List ℕ)) (i : ℕ) → i < length b → get_or (a ++ (b ++ c)) (length a + i) [] ≡ get_or b i []
-get_or_mid a b c i lt = grind (arith, common_steps)
+regroup : (a b c d e : List (List ℕ)) → a ++ ((b ++ (c ++ d)) ++ e) ≡ (a ++ b) ++ (c ++ (d ++ e))
+regroup a b c d e = simp append_assoc
 
 -- a walk to a line, one block further down
-pub leads_down : (c : Format) (m : Map) (block pages depth at : ℕ) (line : List ℕ) (es : List Entry) (place : Place) → (depth ≡ 0 → ⊥) → read_by c.entries (pages_at m block 1) ≡ Some es → IsPlace es at place → Leads c m block pages depth at line → Leads c m place.entry.block place.entry.pages (depth - 1) place.rest line
+pub leads_down : (c : Format) (m : Map) (block pages depth rest : ℕ) (lines : List (List ℕ)) (at : ℕ) (es : List Entry) (place : Place) → (depth ≡ 0 → ⊥) → read_by c.entries (pages_at m block 1) ≡ Some es → IsPlace es rest place
+    → Leads c m block pages depth rest lines at → Leads c m place.entry.block place.entry.pages (depth - 1) place.rest lines at
 unfolding child_above
-leads_down c m block pages zero at line es place some has is l = absurd (some refl)
-leads_down c m block pages (suc e) at line es place some has is l =
+leads_down c m block pages zero rest lines at es place some has is l = absurd (some refl)
+leads_down c m block pages (suc e) rest lines at es place some has is l =
     let less : e ≡ suc e - 1 = omega arith in
-    let P : ℕ → Type 0 = λ d. Leads c m place.entry.block place.entry.pages d place.rest line in
-    let child : (es ≡ map (λ u. entry_of e u) l.above.tree.1) × Child e l.above.tree.1 at place = inner_child c m block pages at e l.above.tree es place l.above.stands has is in
-    let before : List (List ℕ) = flat_map (λ u. lines_of e u) child.1.before in
-    let after : List (List ℕ) = flat_map (λ u. lines_of e u) child.1.after in
-    let all : lines_of (suc e) l.above.tree ≡ before ++ (lines_of e child.1.child ++ after) = ap (λ us. flat_map (λ u. lines_of e u) us) child.1.cut ∙ lines_cut e child.1.before child.1.child child.1.after in
+    let P : ℕ → Type 0 = λ d. Leads c m place.entry.block place.entry.pages d place.rest lines at in
+    let child : (es ≡ map (λ u. entry_of e u) l.above.tree.1) × Child e l.above.tree.1 rest place = inner_child c m block pages rest e l.above.tree es place l.above.stands has is in
+    let front : List (List ℕ) = flat_map (λ u. lines_of e u) child.1.before in
+    let here : List (List ℕ) = lines_of e child.1.child in
+    let back : List (List ℕ) = flat_map (λ u. lines_of e u) child.1.after in
+    let all : lines_of (suc e) l.above.tree ≡ front ++ (here ++ back) = ap (λ us. flat_map (λ u. lines_of e u) us) child.1.cut ∙ lines_cut e child.1.before child.1.child child.1.after in
     subst P less (record {
-      above = child_above c m block pages at e l.above.tree place l.above.stands l.above.small child.1;
-      found = sym (get_or_mid before (lines_of e child.1.child) after place.rest child.1.rest)
-          ∙ ap (λ n. get_or (before ++ (lines_of e child.1.child ++ after)) n []) (sym child.1.sum)
-          ∙ ap (λ xs. get_or xs at []) (sym all) ∙ l.found;
+      above = child_above c m block pages rest e l.above.tree place l.above.stands l.above.small child.1;
+      before = l.before ++ front;
+      after = back ++ l.after;
+      cut = l.cut ∙ ap (λ xs. l.before ++ (xs ++ l.after)) all ∙ regroup l.before front here back l.after;
+      place = omega (arith, l.place, child.1.sum, length-append l.before front);
     })
 
 -- at the end of the walk the line is in the data block
-pub leads_lines : (c : Format) (m : Map) (block pages depth at : ℕ) (line : List ℕ) → depth ≡ 0 → Leads c m block pages depth at line → (lines : List (List ℕ)) × (read_by (c.lines pages) (pages_at m block pages) ≡ Some lines) × (at < length lines) × (get_or lines at [] ≡ line)
-leads_lines c m block pages zero at line none l = (l.above.tree.lines, (above_lines c m block pages at l.above).0, l.above.within, l.found)
-leads_lines c m block pages (suc e) at line none l = absurd (omega arith)
+pub leads_line : (c : Format) (m : Map) (block pages depth rest : ℕ) (lines : List (List ℕ)) (at : ℕ) → depth ≡ 0 → Leads c m block pages depth rest lines at → HasLine c m lines at block pages rest
+leads_line c m block pages zero rest lines at none l = record {
+  here = l.above.tree.lines;
+  before = l.before;
+  after = l.after;
+  reads = (above_lines c m block pages rest l.above).0;
+  cut = l.cut;
+  place = l.place;
+  within = l.above.within;
+}
+leads_line c m block pages (suc e) rest lines at none l = absurd (omega arith)
 
 -- what is there of a pointer block after the change of a child
 pub pointers_read : (c : Format) (m n : Map) (block pages depth at : ℕ) → (depth ≡ 0 → ⊥) → Above c m block pages depth at → n block ≡ m block → IsSome (pages_at n block 1)

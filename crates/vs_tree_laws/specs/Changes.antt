@@ -1,5 +1,5 @@
 -- What a change leaves of the lines of a tree, and of the blocks below one block.
-use Rattle.std.specs.Prelude.{◌≡◌, ℕ, ◌+◌, ◌-◌, ◌^◌, ◌<◌, ◌≤◌, List, [], ◌++◌, length, map, take, drop, get_or, Some, IsSome}
+use Rattle.std.specs.Prelude.{◌≡◌, ℕ, ◌+◌, ◌-◌, ◌^◌, ◌<◌, ◌≤◌, List, [], ◌++◌, length, map, take, drop, Some, IsSome}
 use Rattle.std.specs.List.{flat_map, AllByRecursion}
 use Rattle.vs_pages.specs.Maps.{Map, lacks, one, total, span, pages_at, IsVacant}
 use Rattle.vs_tree_laws.specs.declared.entries.Entry.{Entry}
@@ -29,11 +29,6 @@ pub record Above (c : Format) (m : Map) (block pages depth at : ℕ) : Type 0 wh
   pub stands : Stands c m block pages depth tree
   pub within : at < length (lines_of depth tree)
   pub small : length (lines_of depth tree) < 2 ^ 62
-
--- A walk to a line stands at a block above it.
-pub record Leads (c : Format) (m : Map) (block pages depth at : ℕ) (line : List ℕ) : Type 0 where
-  pub above : Above c m block pages depth at
-  pub found : get_or (lines_of depth above.tree) at [] ≡ line
 
 -- These trees stand in the map n in place of what used the pages of the map m so often. Else they use only pages that were not there, and not page 0; all else that was there is as before.
 pub record Replaces (c : Format) (m n : Map) (old : ℕ → ℕ) (d : ℕ) (us : List (Tree d)) : Type 0 where

@@ -1,0 +1,10 @@
+use Rattle.std.proofs.Common.{◌≡◌}
+use Rattle.vs_tree.specs.Texts.{Fits}
+use Rattle.vs_tree.proofs.tests.copies.parts_make_up.Given as goal
+
+abbrev pub invariant-parts : goal.invariant-parts
+invariant-parts g l = record {
+  tree : l.tree ≡ l.fn.tree;
+  fits : Fits g.P.Pages.tells (g.P.Pages.present l.pages) l.tree.present;
+  valid : g.P.Pages.valid l.pages;
+}
