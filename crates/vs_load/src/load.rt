@@ -1,13 +1,14 @@
 // A load, carried out.
 ghost use Rattle.std.specs.Prelude.{◌≡◌, ◌+◌, IfOk, OnOk, length, vec_len};
+ghost use Rattle.vs_tree.specs.Texts.{Fits};
 ghost use Rattle.vs_load.specs.Loads.{lines_after};
 
 use crate::error::LoadErr;
 use crate::words::Load;
 use std::alloc::{AllocError, Global};
 use std::fmt;
-use vs_edit::{LineStore, StoreErr, allows_splice, splice_or_rollback};
-use vs_pages::MemPages;
+use vs_edit::{LineStore, allows_splice, splice_or_rollback};
+use vs_pages::{MemPages, PageErr, Pages};
 use vs_text::Line;
 use vs_tree::{LineTree, TreeStore};
 
@@ -15,9 +16,12 @@ use vs_tree::{LineTree, TreeStore};
 const LINE_BYTES: usize = 39;
 
 // The number of lines that a file is loaded by.
-const RUN_LINES: usize = 10_000;
+const FILL_LINES: u64 = 10_000;
 
-/// What there is at the end of a load, and the sum of all bytes that were read, modulo 2^64.
+// The number of lines that are read at once.
+const READ_LINES: u64 = 1_000;
+
+/// What there is at the end of a load, and the sum of all bytes that were read, with line ends, modulo 2^64.
 #[derive(Clone, Copy, Debug, PartialEq, Eq)]
 pub struct Counts {
     pub lines: u64,
@@ -66,10 +70,10 @@ fn fill<S: LineStore>(alloc: Global, store: &mut S, count: u64) -> Result<(), Lo
     ensures lines { OnOk result (S.lines store.new ≡ S.lines store.old + count) }
     ensures valid { S.valid store.new }
 {
-    let lines = sample_lines(alloc, RUN_LINES)?;
+    let lines = sample_lines(alloc, FILL_LINES as usize)?;
     let mut left = count;
     while left > 0 {
-        let run = left.min(RUN_LINES as u64);
+        let run = left.min(FILL_LINES);
         let end = store.len();
         put(alloc, store, end, &lines[..run as usize])?;
         left -= run;
@@ -91,40 +95,45 @@ fn append<S: LineStore>(alloc: Global, store: &mut S, count: u64) -> Result<(), 
     Ok(())
 }
 
-// Reads all lines, and gives the sum of their bytes.
-fn read<S: LineStore>(alloc: Global, store: &mut S) -> Result<u64, StoreErr>
-    requires { S.valid store.old }
-    ensures lines { S.lines store.new ≡ S.lines store.old }
-    ensures valid { S.valid store.new }
+fn sum_of(bytes: &[u8]) -> u64 {
+    let mut sum: u64 = 0;
+    for byte in bytes {
+        sum = sum.wrapping_add(u64::from(*byte));
+    }
+    sum
+}
+
+// Reads all lines, some at a time, and gives the sum of their bytes and line ends.
+fn read<P: Pages>(alloc: Global, tree: &mut LineTree, pages: &mut P) -> Result<u64, PageErr>
+    requires valid { P.valid pages.old }
+    requires fits { Fits P.tells (P.present pages.old) tree.old.present }
 {
     let mut sum: u64 = 0;
-    let mut line = Vec::new(alloc);
-    for at in 0..store.len() {
-        store.line(alloc, at, &mut line)?;
-        for byte in &line {
-            sum = sum.wrapping_add(*byte as u64);
-        }
+    let mut run = Vec::new(alloc);
+    let mut left = tree.len();
+    while left > 0 {
+        let count = left.min(READ_LINES);
+        run.clear();
+        tree.copy_lines(alloc, pages, tree.len() - left, count, &mut run)?;
+        sum = sum.wrapping_add(sum_of(&run));
+        left -= count;
     }
     Ok(sum)
 }
 
-fn carry_out<S: LineStore>(alloc: Global, store: &mut S, load: Load) -> Result<Counts, LoadErr>
+// Puts the lines of a load into a store.
+fn put_all<S: LineStore>(alloc: Global, store: &mut S, load: Load) -> Result<(), LoadErr>
     requires { S.valid store.old }
-    ensures { IfOk result (λ counts. counts.lines ≡ S.lines store.old + lines_after load) }
+    ensures lines { OnOk result (S.lines store.new ≡ S.lines store.old + lines_after load) }
+    ensures valid { S.valid store.new }
 {
     match load {
-        Load::Fill(lines) => fill(alloc, store, lines)?,
+        Load::Fill(lines) => fill(alloc, store, lines),
         Load::Append(lines, more) => {
             fill(alloc, store, lines)?;
-            append(alloc, store, more)?;
+            append(alloc, store, more)
         }
     }
-    let sum = read(alloc, store)?;
-    Ok(Counts {
-        lines: store.len(),
-        bytes: store.bytes(),
-        sum,
-    })
 }
 
 /// Carries a load out over a tree of its own.
@@ -137,5 +146,10 @@ pub fn run(alloc: Global, load: Load) -> Result<Counts, LoadErr>
         tree: &mut tree,
         pages: memory,
     };
-    carry_out(alloc, &mut store, load)
+    put_all(alloc, &mut store, load)?;
+    let lines = store.len();
+    let bytes = store.bytes();
+    let TreeStore { tree, mut pages } = store;
+    let sum = read(alloc, tree, &mut pages)?;
+    Ok(Counts { lines, bytes, sum })
 }

@@ -1,11 +1,10 @@
 // The tree over pages in memory: how many pages lines take, and when the root grows.
-mod failing;
-mod generated;
-mod splices;
-
 ghost use Rattle.std.specs.Prelude.{OnOk};
 
 mod copies;
+mod failing;
+mod generated;
+mod splices;
 
 use crate::{LineTree, TreeStore};
 use std::alloc::Global;
