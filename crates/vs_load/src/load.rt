@@ -1,7 +1,8 @@
 // A load, carried out.
-ghost use Rattle.std.specs.Prelude.{◌≡◌, ◌+◌, IfOk, OnOk, length, vec_len};
-ghost use Rattle.vs_tree.specs.Texts.{Fits};
-ghost use Rattle.vs_load.specs.Loads.{lines_after};
+ghost use Rattle.std.specs.Prelude.{◌≡◌, ◌+◌, ◌*◌, ◌%◌, ◌^◌, ℕ, List, IfOk, OnOk, IsTrue, sum};
+ghost use Rattle.vs_edit.specs.Splices.{splice};
+ghost use Rattle.vs_tree.specs.Texts.{HasText, Fits};
+ghost use Rattle.vs_load.specs.Loads.{samples, lines_after, counts_of};
 
 use crate::error::LoadErr;
 use crate::words::Load;
@@ -40,7 +41,7 @@ impl fmt::Display for Counts {
 }
 
 fn sample_lines(alloc: Global, count: usize) -> Result<Vec<Line>, AllocError>
-    ensures { IfOk result (λ lines. vec_len lines ≡ count) }
+    ensures { IfOk result (λ lines. lines.items ≡ samples count) }
 {
     let mut lines = Vec::with_capacity(alloc, count)?;
     for _ in 0..count {
@@ -53,7 +54,7 @@ fn sample_lines(alloc: Global, count: usize) -> Result<Vec<Line>, AllocError>
 // Puts lines before the line at a place, and commits.
 fn put<S: LineStore>(alloc: Global, store: &mut S, at: u64, lines: &[Line]) -> Result<(), LoadErr>
     requires { S.valid store.old }
-    ensures lines { OnOk result (S.lines store.new ≡ S.lines store.old + length lines.now) }
+    ensures text { OnOk result ((text : List (List ℕ)) → S.has store.old text → S.has store.new (splice text at 0 lines.now)) }
     ensures valid { S.valid store.new }
 {
     if !allows_splice(store, at, 0, lines) {
@@ -67,16 +68,16 @@ fn put<S: LineStore>(alloc: Global, store: &mut S, at: u64, lines: &[Line]) -> R
 // Puts lines behind the last one, as many at a time as a file is loaded by.
 fn fill<S: LineStore>(alloc: Global, store: &mut S, count: u64) -> Result<(), LoadErr>
     requires { S.valid store.old }
-    ensures lines { OnOk result (S.lines store.new ≡ S.lines store.old + count) }
+    ensures text { OnOk result ((n : ℕ) → S.has store.old (samples n) → S.has store.new (samples (n + count))) }
     ensures valid { S.valid store.new }
 {
     let lines = sample_lines(alloc, FILL_LINES as usize)?;
-    let mut left = count;
-    while left > 0 {
-        let run = left.min(FILL_LINES);
+    let mut done = 0;
+    while done < count {
+        let run = (count - done).min(FILL_LINES);
         let end = store.len();
         put(alloc, store, end, &lines[..run as usize])?;
-        left -= run;
+        done += run;
     }
     Ok(())
 }
@@ -84,7 +85,7 @@ fn fill<S: LineStore>(alloc: Global, store: &mut S, count: u64) -> Result<(), Lo
 // Puts single lines into the middle.
 fn append<S: LineStore>(alloc: Global, store: &mut S, count: u64) -> Result<(), LoadErr>
     requires { S.valid store.old }
-    ensures lines { OnOk result (S.lines store.new ≡ S.lines store.old + count) }
+    ensures text { OnOk result ((n : ℕ) → S.has store.old (samples n) → S.has store.new (samples (n + count))) }
     ensures valid { S.valid store.new }
 {
     let line = sample_lines(alloc, 1)?;
@@ -95,7 +96,9 @@ fn append<S: LineStore>(alloc: Global, store: &mut S, count: u64) -> Result<(), 
     Ok(())
 }
 
-fn sum_of(bytes: &[u8]) -> u64 {
+fn sum_of(bytes: &[u8]) -> u64
+    ensures { result ≡ sum bytes.now % 2 ^ 64 }
+{
     let mut sum: u64 = 0;
     for byte in bytes {
         sum = sum.wrapping_add(u64::from(*byte));
@@ -107,16 +110,17 @@ fn sum_of(bytes: &[u8]) -> u64 {
 fn read<P: Pages>(alloc: Global, tree: &mut LineTree, pages: &mut P) -> Result<u64, PageErr>
     requires valid { P.valid pages.old }
     requires fits { Fits P.tells (P.present pages.old) tree.old.present }
+    ensures { IfOk result (λ sum. IsTrue P.tells → (n : ℕ) → HasText (P.present pages.old) tree.old.present (samples n) → sum ≡ 4690 * n) }
 {
     let mut sum: u64 = 0;
     let mut run = Vec::new(alloc);
-    let mut left = tree.len();
-    while left > 0 {
-        let count = left.min(READ_LINES);
+    let mut done = 0;
+    while done < tree.len() {
+        let count = (tree.len() - done).min(READ_LINES);
         run.clear();
-        tree.copy_lines(alloc, pages, tree.len() - left, count, &mut run)?;
+        tree.copy_lines(alloc, pages, done, count, &mut run)?;
         sum = sum.wrapping_add(sum_of(&run));
-        left -= count;
+        done += count;
     }
     Ok(sum)
 }
@@ -124,7 +128,7 @@ fn read<P: Pages>(alloc: Global, tree: &mut LineTree, pages: &mut P) -> Result<u
 // Puts the lines of a load into a store.
 fn put_all<S: LineStore>(alloc: Global, store: &mut S, load: Load) -> Result<(), LoadErr>
     requires { S.valid store.old }
-    ensures lines { OnOk result (S.lines store.new ≡ S.lines store.old + lines_after load) }
+    ensures text { OnOk result ((n : ℕ) → S.has store.old (samples n) → S.has store.new (samples (n + lines_after load))) }
     ensures valid { S.valid store.new }
 {
     match load {
@@ -138,7 +142,7 @@ fn put_all<S: LineStore>(alloc: Global, store: &mut S, load: Load) -> Result<(),
 
 /// Carries a load out over a tree of its own.
 pub fn run(alloc: Global, load: Load) -> Result<Counts, LoadErr>
-    ensures { IfOk result (λ counts. counts.lines ≡ lines_after load) }
+    ensures { IfOk result (λ counts. counts ≡ counts_of (lines_after load)) }
 {
     let mut memory = MemPages::new(alloc)?;
     let mut tree = LineTree::new(alloc, &mut memory)?;

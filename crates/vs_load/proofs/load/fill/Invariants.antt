@@ -1,9 +1,13 @@
-use Rattle.std.proofs.Common.{◌≡◌, ◌+◌}
+use Rattle.std.proofs.Common.{ℕ, ◌+◌, ◌-◌, ◌≤◌}
+use Rattle.vs_load.specs.Loads.{samples}
 use Rattle.vs_load.proofs.load.fill.Given as goal
 
-abbrev pub invariant-loop-left : goal.invariant-loop-left
-invariant-loop-left g l =
-    g.S.LineStore.valid l.store × (g.S.LineStore.lines l.store + l.left ≡ g.S.LineStore.lines l.fn.store + l.count)
+abbrev pub invariant-loop-done : goal.invariant-loop-done
+invariant-loop-done g l = record {
+  valid : g.S.LineStore.valid l.store;
+  text : (n : ℕ) → g.S.LineStore.has l.fn.store (samples n) → g.S.LineStore.has l.store (samples (n + l.done));
+  within : l.done ≤ l.count;
+}
 
-abbrev pub decreases-loop-left : goal.decreases-loop-left
-decreases-loop-left g l = l.left
+abbrev pub decreases-loop-done : goal.decreases-loop-done
+decreases-loop-done g l = l.count - l.done
