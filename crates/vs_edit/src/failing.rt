@@ -1,11 +1,11 @@
 //! A store for tests, one call of which fails.
-ghost use Rattle.std.specs.Prelude.{◌≡◌, ◌+◌, ◌≤◌, ◌^◌, ◌↔◌, IsTrue, min};
+ghost use Rattle.std.specs.Prelude.{◌≡◌, ◌+◌, ◌≤◌, ◌↔◌, IsTrue, min};
 ghost use Rattle.vs_faults.specs.Faults.{Rose};
-ghost use Rattle.vs_text.specs.Text.{bytes_of};
 
+use crate::room::has_room;
 use crate::{LineStore, StoreErr};
 use std::alloc::Global;
-use vs_text::{Line, MAX_TEXT_BYTES};
+use vs_text::Line;
 
 /// Wraps a store, tells none of its texts, and fails one call.
 ///
@@ -133,15 +133,4 @@ impl<S: LineStore> LineStore for FailingStore<S> {
     fn rollback(&mut self) {
         self.store.rollback();
     }
-}
-
-// Whether a text of so many bytes has room for new lines as well.
-pub(crate) fn has_room(bytes: u64, new: &[Line]) -> bool
-    ensures { IsTrue result → bytes + bytes_of new.now ≤ MAX_TEXT_BYTES }
-{
-    let mut sum = bytes;
-    for line in new {
-        sum = sum.saturating_add(line.bytes().len() as u64 + 1);
-    }
-    sum <= MAX_TEXT_BYTES
 }

@@ -5,11 +5,13 @@
 
 pub mod failing;
 mod generic;
+mod room;
 mod store;
 #[cfg(test)]
 mod tests;
 mod vec_store;
 
 pub use generic::{splice_or_rollback, text_of};
+pub use room::allows_splice;
 pub use store::{LineStore, StoreErr};
 pub use vec_store::VecStore;

@@ -1,23 +1,11 @@
-ghost use Rattle.std.specs.Prelude.{◌+◌, ◌<◌, ◌≤◌, All, IsTrue, length};
-ghost use Rattle.vs_text.specs.Limits.{IsShort};
+ghost use Rattle.std.specs.Prelude.{◌+◌, ◌<◌, ◌≤◌, length};
 
-use crate::failing::{FailingStore, has_room};
-use crate::{LineStore, StoreErr, VecStore, splice_or_rollback, text_of};
+use crate::failing::FailingStore;
+use crate::{LineStore, StoreErr, VecStore, allows_splice, splice_or_rollback, text_of};
 use std::alloc::{AllocError, Global};
 use std::process::Abort;
 use std::test::Fail;
-use vs_text::{Line, MAX_LINE_BYTES, MAX_LINES, Text, from_stored, write_text};
-
-fn are_short(lines: &[Line]) -> bool
-    ensures { IsTrue result → All IsShort lines.now }
-{
-    for line in lines {
-        if line.bytes().len() as u64 > MAX_LINE_BYTES {
-            return false;
-        }
-    }
-    true
-}
+use vs_text::{Line, Text, from_stored, write_text};
 
 // Splices where all that a splice asks for holds.
 fn splice_if_allowed<S: LineStore>(
@@ -30,12 +18,7 @@ fn splice_if_allowed<S: LineStore>(
     requires { S.valid store.old }
     ensures { S.valid store.new }
 {
-    let len = store.len();
-    let count = new.len() as u64;
-    if count > MAX_LINES || old > len || top > len - old || len - old > MAX_LINES - count {
-        return Ok(false);
-    }
-    if !are_short(new) || !has_room(store.bytes(), new) {
+    if !allows_splice(store, top, old, new) {
         return Ok(false);
     }
     splice_or_rollback(alloc, store, top, old, new)?;

@@ -2,6 +2,9 @@
 ghost use Rattle.std.specs.Prelude.{OnOk};
 
 mod copies;
+mod failing;
+mod generated;
+mod splices;
 
 use crate::{LineTree, TreeStore};
 use std::alloc::Global;

@@ -10,4 +10,4 @@ splice-requires-clause-few_bytes g c = λ text has.
     let bytes = g.met.S.LineStore.has_bytes store text has in
     let same : g.S.LineStore.lines store ≡ g.S.LineStore.lines c.args.self.now.store = cc in
     let within : c.args.top + c.args.old ≤ length text = omega (arith, lines, same) in
-    omega (arith, bytes, c.has_room.ensures c.if-not-has_room.false, bytes_of-splice_le text c.args.new.now c.args.top c.args.old within)
+    omega (arith, bytes, c.has_room.ensures.0 c.if-not-has_room.false, bytes_of-splice_le text c.args.new.now c.args.top c.args.old within)

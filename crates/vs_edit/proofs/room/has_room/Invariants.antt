@@ -1,6 +1,6 @@
 use Rattle.std.proofs.Common.{◌≡◌, ◌+◌, ◌-◌, ◌^◌, min, drop}
 use Rattle.vs_text.specs.Text.{bytes_of}
-use Rattle.vs_edit.proofs.failing.has_room.Given as goal
+use Rattle.vs_edit.proofs.room.has_room.Given as goal
 
 abbrev pub invariant-loop-line : goal.invariant-loop-line
 invariant-loop-line l =

@@ -1,9 +1,8 @@
 use Rattle.std.proofs.Common.{◌≤◌, ap, arith, length, subst}
-use Rattle.std.proofs.lemmas.List.{take_all}
 use Rattle.std.proofs.lemmas.List.Elements.{All-more}
 use Rattle.vs_text.specs.Limits.{IsShort}
 use Rattle.vs_text.specs.declared.TheConstants.{MAX_LINE_BYTES}
-use Rattle.vs_edit.proofs.tests.are_short.Goals as goal
+use Rattle.vs_edit.proofs.room.are_short.Goals as goal
 
 pub loop-line-preserved : goal.loop-line-preserved
 loop-line-preserved c =
@@ -11,5 +10,3 @@ loop-line-preserved c =
     let short : length line ≤ MAX_LINE_BYTES = omega (arith, ap length c.bytes.ensures.bytes) in
     All-more IsShort c.args.lines.now c.loop-line.line-index line c.loop-line-test.true c.loop-line.invariant (subst IsShort c.line-item.is short)
 
-pub returns : goal.returns
-returns c = λ _. rw (take_all c.loop-line.line-index c.args.lines.now c.loop-line-test.false) at c.loop-line.invariant

@@ -1,0 +1,46 @@
+// Whether a splice may be asked for.
+ghost use Rattle.std.specs.Prelude.{◌≡◌, ◌+◌, ◌≤◌, ◌↔◌, List, ℕ, All, IsTrue, length};
+ghost use Rattle.vs_text.specs.Text.{bytes_of};
+ghost use Rattle.vs_text.specs.Limits.{IsShort};
+ghost use Rattle.vs_text.specs.declared.TheConstants.{MAX_LINES, MAX_TEXT_BYTES};
+ghost use Rattle.vs_edit.specs.Splices.{splice, HasRoom};
+
+use crate::LineStore;
+use vs_text::{Line, MAX_LINE_BYTES, MAX_LINES, MAX_TEXT_BYTES};
+
+fn are_short(lines: &[Line]) -> bool
+    ensures { IsTrue result ↔ All IsShort lines.now }
+{
+    for line in lines {
+        if line.bytes().len() as u64 > MAX_LINE_BYTES {
+            return false;
+        }
+    }
+    true
+}
+
+// Whether a text of so many bytes has room for new lines as well.
+pub(crate) fn has_room(bytes: u64, new: &[Line]) -> bool
+    ensures { IsTrue result ↔ (bytes + bytes_of new.now ≤ MAX_TEXT_BYTES) }
+{
+    let mut sum = bytes;
+    for line in new {
+        sum = sum.saturating_add(line.bytes().len() as u64 + 1);
+    }
+    sum <= MAX_TEXT_BYTES
+}
+
+/// Whether a splice is allowed, however few bytes it takes out: its lines lie within the text, and there is room for the new
+/// ones.
+pub fn allows_splice<S: LineStore>(store: &S, top: u64, old: u64, new: &[Line]) -> bool
+    requires { S.valid store.now }
+    ensures room { IsTrue result ↔ HasRoom (S.lines store.now) (S.bytes store.now) top old new.now }
+    ensures few_bytes { IsTrue result → (text : List (List ℕ)) → S.has store.now text → bytes_of (splice text top old new.now) ≤ MAX_TEXT_BYTES }
+{
+    let len = store.len();
+    let count = new.len() as u64;
+    if count > MAX_LINES || old > len || top > len - old || len - old > MAX_LINES - count {
+        return false;
+    }
+    are_short(new) && has_room(store.bytes(), new)
+}

@@ -1,0 +1,9 @@
+use Rattle.std.proofs.Common.{ℕ, ◌+◌}
+use Rattle.vs_load.specs.Loads.{samples}
+use Rattle.vs_load.proofs.load.append.Given as goal
+
+abbrev pub invariant-loop : goal.invariant-loop
+invariant-loop g l = record {
+  valid : g.S.LineStore.valid l.store;
+  text : (n : ℕ) → g.S.LineStore.has l.fn.store (samples n) → g.S.LineStore.has l.store (samples (n + l.counter));
+}

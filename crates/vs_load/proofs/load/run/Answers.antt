@@ -1,0 +1,24 @@
+use Rattle.std.proofs.Common.{◌≡◌, ℕ, ◌+◌, ◌*◌, refl, sym, subst, IsSome, arith}
+use Rattle.std.proofs.lemmas.List.{length-replicate}
+use Rattle.vs_pages.specs.Maps.{Map, pages_at}
+use Rattle.vs_pages.specs.Memory.{present_of}
+use Rattle.vs_tree.specs.Texts.{HasText}
+use Rattle.vs_load.specs.Loads.{sample, samples, lines_after}
+use Rattle.vs_load.proofs.Samples.{bytes_of-samples}
+use Rattle.vs_load.proofs.load.run.Goals as goal
+
+pub new-requires-2-clause-there : goal.new-requires-2-clause-there
+new-requires-2-clause-there c = λ _. subst (λ (m : Map). IsSome (pages_at m 1 2)) (sym c.in_ok-memory.ensures.present) refl
+
+pub returns : goal.returns
+returns c =
+    let n = lines_after c.args.load in
+    let store = c.put_all.new.store in
+    let put = c.in_ok-put_all.ensures.text 0 (record { told = refl; has = c.in_ok-tree.ensures.text refl }) in
+    let all : 0 + n ≡ n = omega arith in
+    let has : HasText (present_of store.pages) store.tree.now.present (samples n) =
+    subst (λ (k : ℕ). HasText (present_of store.pages) store.tree.now.present (samples k)) all put.has in
+    let lines : c.len-lines.result ≡ n = omega (arith, c.len-lines.ensures, has.lines, length-replicate n sample) in
+    let bytes : c.bytes-bytes.result ≡ 40 * n = omega (arith, c.bytes-bytes.ensures, has.bytes, bytes_of-samples n) in
+    let sum : c.in_ok-sum.sum ≡ 4690 * n = c.in_ok-sum.ensures refl n has in
+    cc (lines, bytes, sum)

@@ -1,0 +1,24 @@
+// The words of the command line.
+ghost use Rattle.std.specs.Prelude.{◌≡◌, IfSome};
+
+/// What is done with an empty tree.
+#[derive(Clone, Copy, Debug, PartialEq, Eq)]
+pub enum Load {
+    /// So many lines are put in, as a file is loaded.
+    Fill(u64),
+    /// So many lines are put in, and then so many more in the middle, one after another.
+    Append(u64, u64),
+}
+
+impl Load {
+    /// The load that these words name; None where they are no load.
+    pub fn of(words: &[String]) -> Option<Load> {
+        match words {
+            [verb, lines] if verb.as_str() == "fill" => Some(Load::Fill(lines.parse().ok()?)),
+            [verb, lines, more] if verb.as_str() == "append" => {
+                Some(Load::Append(lines.parse().ok()?, more.parse().ok()?))
+            }
+            _ => None,
+        }
+    }
+}
