@@ -41,33 +41,40 @@ is_dot (byte ∷ []) = byte == 46
 is_dot (byte ∷ next ∷ rest) = false
 
 abbrev mutual
-  -- the commands of a script's lines
-  pub commands_of : List (List ℕ) → List Command
-  commands_of [] = []
-  commands_of (line ∷ lines) = elim (kind_of line) [
-    | Empty ↦ commands_of lines
-    | TakesBlock at ↦ block_of at [] lines
-    | Prints ↦ PrintAll ∷ commands_of lines
-    | Unknown ↦ Other ∷ commands_of lines
+  -- the commands of a script's lines, where this is made of a block without a dot behind it
+  pub commands_by : (ℕ → List (List ℕ) → List Command) → List (List ℕ) → List Command
+  commands_by unended [] = []
+  commands_by unended (line ∷ lines) = elim (kind_of line) [
+    | Empty ↦ commands_by unended lines
+    | TakesBlock at ↦ block_by unended at [] lines
+    | Prints ↦ PrintAll ∷ commands_by unended lines
+    | Unknown ↦ Other ∷ commands_by unended lines
   ]
 
-  -- a block goes on up to its dot, or to the script's end
-  pub block_of : ℕ → List (List ℕ) → List (List ℕ) → List Command
-  block_of at block [] = Append at block ∷ []
-  block_of at block (line ∷ lines) = if is_dot line then Append at block ∷ commands_of lines else block_of at (block ++ line ∷ []) lines
+  -- a block goes on up to its dot
+  pub block_by : (ℕ → List (List ℕ) → List Command) → ℕ → List (List ℕ) → List (List ℕ) → List Command
+  block_by unended at block [] = unended at block
+  block_by unended at block (line ∷ lines) =
+      if is_dot line then Append at block ∷ commands_by unended lines else block_by unended at (block ++ line ∷ []) lines
 
-abbrev mutual
-  -- the commands that are whole in the first lines of a script, whatever follows
-  pub whole_of : List (List ℕ) → List Command
-  whole_of [] = []
-  whole_of (line ∷ lines) = elim (kind_of line) [
-    | Empty ↦ whole_of lines
-    | TakesBlock at ↦ whole_block at [] lines
-    | Prints ↦ PrintAll ∷ whole_of lines
-    | Unknown ↦ Other ∷ whole_of lines
-  ]
+-- at the script's end a block ends too
+abbrev pub at_end : ℕ → List (List ℕ) → List Command
+at_end at block = Append at block ∷ []
 
-  -- a block is whole with its dot
-  pub whole_block : ℕ → List (List ℕ) → List (List ℕ) → List Command
-  whole_block at block [] = []
-  whole_block at block (line ∷ lines) = if is_dot line then Append at block ∷ whole_of lines else whole_block at (block ++ line ∷ []) lines
+-- the commands of a script's lines
+abbrev pub commands_of : List (List ℕ) → List Command
+commands_of lines = commands_by at_end lines
+
+abbrev pub block_of : ℕ → List (List ℕ) → List (List ℕ) → List Command
+block_of at block lines = block_by at_end at block lines
+
+-- where more may come, a block without its dot is no command yet
+abbrev pub not_yet : ℕ → List (List ℕ) → List Command
+not_yet at block = []
+
+-- the commands that are whole in the first lines of a script, whatever follows
+abbrev pub whole_of : List (List ℕ) → List Command
+whole_of lines = commands_by not_yet lines
+
+abbrev pub whole_block : ℕ → List (List ℕ) → List (List ℕ) → List Command
+whole_block at block lines = block_by not_yet at block lines

@@ -10,7 +10,7 @@ use Rattle.std.specs.declared.result.Result.{Result}
 use Rattle.vs_host.specs.World.{Scene}
 use Rattle.vs_text.specs.Text.{IsLine}
 use Rattle.vs_top.proofs.Lines.{whole_lines-line, whole_lines_none}
-use Rattle.vs_session.specs.Script.{Command, kind_of, is_dot, commands_of, block_of, whole_of, whole_block}
+use Rattle.vs_session.specs.Script.{Command, kind_of, is_dot, commands_by, block_by, commands_of, block_of, whole_of, whole_block}
 use Rattle.vs_session.specs.Script.Command.{Append, PrintAll, Other}
 use Rattle.vs_session.specs.Script.Kind.{Empty, Prints, Unknown, TakesBlock}
 use Rattle.vs_top.specs.declared.script.ScriptErr.{ScriptErr}
@@ -136,22 +136,22 @@ goes_on_in f g old new before after scene one same =
     record { open_before = one.open_before; fresh = one.fresh; script = rw same one.script; count = one.count; each = one.each }
 
 pub whole_goes : (all lines : List (List ℕ)) (line : List ℕ) (at : ℕ) → is_dot line ≡ false → whole_block at all (line ∷ lines) ≡ whole_block at (all ++ line ∷ []) lines
-whole_goes all lines line at plain = rw (whole_block, plain) refl
+whole_goes all lines line at plain = rw (block_by, plain) refl
 
 pub whole_dot : (all lines : List (List ℕ)) (line : List ℕ) (at : ℕ) → is_dot line ≡ true → whole_block at all (line ∷ lines) ≡ Append at all ∷ whole_of lines
-whole_dot all lines line at dot = rw (whole_block, dot) refl
+whole_dot all lines line at dot = rw (block_by, dot) refl
 
 pub whole_empty : (lines : List (List ℕ)) (line : List ℕ) → Empty ≡ kind_of line → whole_of (line ∷ lines) ≡ whole_of lines
-whole_empty lines line kind = rw (sym kind, whole_of) refl
+whole_empty lines line kind = rw (sym kind, commands_by) refl
 
 pub whole_prints : (lines : List (List ℕ)) (line : List ℕ) → Prints ≡ kind_of line → whole_of (line ∷ lines) ≡ PrintAll ∷ whole_of lines
-whole_prints lines line kind = rw (sym kind, whole_of) refl
+whole_prints lines line kind = rw (sym kind, commands_by) refl
 
 pub whole_other : (lines : List (List ℕ)) (line : List ℕ) → Unknown ≡ kind_of line → whole_of (line ∷ lines) ≡ Other ∷ whole_of lines
-whole_other lines line kind = rw (sym kind, whole_of) refl
+whole_other lines line kind = rw (sym kind, commands_by) refl
 
 pub whole_takes : (lines : List (List ℕ)) (line : List ℕ) (at : ℕ) → TakesBlock at ≡ kind_of line → whole_of (line ∷ lines) ≡ whole_block at [] lines
-whole_takes lines line at kind = rw (sym kind, whole_of) refl
+whole_takes lines line at kind = rw (sym kind, commands_by) refl
 
 -- a reader that goes on by a line
 pub goes_line : {X : Type 0} (f : List ℕ → X) (k h : List (List ℕ) → X) (line : List ℕ) (old mid new : Ahead) (before between after : Scene) → GoesOn f (λ bytes. k (whole_lines bytes)) old mid before between
@@ -194,7 +194,7 @@ block_ends lost kept found false line old now new before mid after so_far is non
     }
 
 dot_ends : (block lines : List (List ℕ)) (line : List ℕ) (at : ℕ) → is_dot line ≡ true → block_of at block (line ∷ lines) ≡ Append at block ∷ commands_of lines
-dot_ends block lines line at dot = rw (block_of, dot) refl
+dot_ends block lines line at dot = rw (block_by, dot) refl
 
 -- a block ended in its dot
 pub block_dotted : (lost : Bool) (kept : List (List ℕ)) (found : Option (List (List ℕ))) (more : Bool) (line : List ℕ) (old now new : Ahead) (before mid after : Scene)
@@ -251,10 +251,10 @@ block_command early at true line found old now next new before mid between after
     }
 
 pub prints_meant : (line : List ℕ) → Prints ≡ kind_of line → (lines : List (List ℕ)) → commands_of (line ∷ lines) ≡ PrintAll ∷ commands_of lines
-prints_meant line kind lines = rw (sym kind, commands_of) refl
+prints_meant line kind lines = rw (sym kind, commands_by) refl
 
 pub other_meant : (line : List ℕ) → Unknown ≡ kind_of line → (lines : List (List ℕ)) → commands_of (line ∷ lines) ≡ Other ∷ commands_of lines
-other_meant line kind lines = rw (sym kind, commands_of) refl
+other_meant line kind lines = rw (sym kind, commands_by) refl
 
 pub kept_some : (found : Option (List (List ℕ))) (text lines : List (List ℕ)) → found ≡ Some text → IfSome found (λ text. text ≡ lines) → lines ≡ text
 kept_some found text lines is kept = sym (rw is at kept)
