@@ -2,7 +2,7 @@
 #![tactic(auto)]
 
 pub mod command;
-pub mod paged;
+mod paged;
 pub mod reply;
 pub mod session;
 

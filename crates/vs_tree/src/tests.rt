@@ -9,9 +9,9 @@ mod splices;
 use crate::{LineTree, TreeStore};
 use std::alloc::Global;
 use std::test::Fail;
-use vs_edit::{LineStore, StoreErr};
+use vs_edit::{LineStore, StoreErr, allows_splice};
 use vs_pages::{MemPages, Pages};
-use vs_text::{Line, MAX_LINE_BYTES, MAX_LINES, MAX_TEXT_BYTES};
+use vs_text::Line;
 
 // Puts a line of so many bytes behind the last one, where all that a splice asks for holds.
 fn push_line<S: LineStore>(alloc: Global, store: &mut S, size: u64) -> Result<bool, StoreErr>
@@ -19,13 +19,10 @@ fn push_line<S: LineStore>(alloc: Global, store: &mut S, size: u64) -> Result<bo
     ensures { OnOk result (S.valid store.new) }
 {
     let len = store.len();
-    if size > MAX_LINE_BYTES || len >= MAX_LINES {
-        return Ok(false);
-    }
-    if store.bytes() + size + 1 > MAX_TEXT_BYTES {
-        return Ok(false);
-    }
     let new = [Line::from_vec(vec![in alloc; b'x'; size as usize]?)];
+    if !allows_splice(store, len, 0, &new) {
+        return Ok(false);
+    }
     store.splice(alloc, len, 0, &new)?;
     Ok(true)
 }
