@@ -1,5 +1,5 @@
 // The tree over pages in memory: how many pages lines take, and when the root grows.
-ghost use Rattle.std.specs.Prelude.{OnOk};
+ghost use Rattle.std.specs.Prelude.{◌≡◌, false, OnOk};
 
 mod copies;
 mod failing;
@@ -10,8 +10,11 @@ use crate::{LineTree, TreeStore};
 use std::alloc::Global;
 use std::test::Fail;
 use vs_edit::{LineStore, StoreErr, allows_splice};
-use vs_pages::{MemPages, Pages};
+use vs_pages::failing::FailingPages;
+use vs_pages::{MemPages, PageErr, Pages};
 use vs_text::Line;
+use vs_tree_blocks::{load_data, load_entries};
+use vs_tree_laws::{Entry, count_lines};
 
 // Puts a line of so many bytes behind the last one, where all that a splice asks for holds.
 fn push_line<S: LineStore>(alloc: Global, store: &mut S, size: u64) -> Result<bool, StoreErr>
@@ -66,22 +69,51 @@ fn lines_take_the_pages_that_the_layout_says(rt: HostRuntime) -> Result<(), Fail
     Ok(())
 }
 
+// The number of data blocks of one page with one line each below the pointer blocks that the root leads to.
+fn count_single_lines<P: Pages>(
+    alloc: Global,
+    pages: &mut P,
+    root: &[Entry],
+) -> Result<u64, PageErr>
+    requires told { P.tells ≡ false }
+    requires valid { P.valid pages.old }
+    ensures { P.valid pages.new }
+{
+    let mut count = 0u64;
+    let mut bytes = Vec::new(alloc);
+    for above in root {
+        for entry in load_entries(alloc, pages, above.block)? {
+            let view = load_data(alloc, pages, entry.block, 1, &mut bytes)?;
+            if entry.pages == 1 && entry.lines == 1 && view.count == 1 {
+                count = count.saturating_add(1);
+            }
+        }
+    }
+    Ok(count)
+}
+
+// Pages that do not tell what they hold may be asked for any block.
 #[test]
 fn the_root_grows_behind_127_blocks(rt: HostRuntime) -> Result<(), Fail> {
     let alloc = rt.alloc();
-    let mut memory = MemPages::new(alloc)?;
-    let mut tree = LineTree::new(alloc, &mut memory)?;
+    let mut pages = FailingPages::<false>::new(MemPages::new(alloc)?);
+    let mut tree = LineTree::new(alloc, &mut pages)?;
     let mut store = TreeStore {
         tree: &mut tree,
-        pages: memory,
+        pages,
     };
     assert!(rt; push_lines(alloc, &mut store, 127, 4_067)?);
     assert_eq!(rt; store.tree.present.height, 1);
     assert_eq!(rt; store.pages.count(), 2 + 127);
+    assert_eq!(rt; load_entries(alloc, &mut store.pages, 1)?.len(), 127);
+
     assert!(rt; push_line(alloc, &mut store, 4_067)?);
     assert_eq!(rt; store.tree.present.height, 2);
     assert_eq!(rt; store.pages.count(), 2 + 2 + 128);
-    assert_eq!(rt; store.len(), 128);
+    let root = load_entries(alloc, &mut store.pages, 1)?;
+    assert_eq!(rt; count_lines(&root), Some(128));
+    assert_eq!(rt; count_single_lines(alloc, &mut store.pages, &root)?, 128);
+
     store.rollback();
     assert_eq!(rt; store.len(), 0);
     assert_eq!(rt; store.pages.count(), 3);
