@@ -22,7 +22,7 @@ const FILL_LINES: u64 = 10_000;
 // The number of lines that are read at once.
 const READ_LINES: u64 = 1_000;
 
-/// What there is at the end of a load, and the sum of all bytes that were read, with line ends, modulo 2^64.
+/// What there is at the end of a load, and the sum of all bytes that were read, with line ends.
 #[derive(Clone, Copy, Debug, PartialEq, Eq)]
 pub struct Counts {
     pub lines: u64,

@@ -36,8 +36,12 @@ fn answer(rt: &HostRuntime, load: Load) -> u8 {
 }
 
 fn main(rt: HostRuntime) -> ExitCode {
-    let Ok(words) = given_words(&rt) else {
-        return ExitCode::from(1);
+    let words = match given_words(&rt) {
+        Ok(words) => words,
+        Err(error) => {
+            let _ = eprintln!(rt; "vs_load: {error}");
+            return ExitCode::from(1);
+        }
     };
     let Some(load) = Load::of(words.as_slice()) else {
         let _ = eprintln!(rt; "{USAGE}");

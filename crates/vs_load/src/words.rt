@@ -1,5 +1,4 @@
 // The words of the command line.
-ghost use Rattle.std.specs.Prelude.{◌≡◌, IfSome};
 
 /// What is done with an empty tree.
 #[derive(Clone, Copy, Debug, PartialEq, Eq)]

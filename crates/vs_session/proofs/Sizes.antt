@@ -1,11 +1,8 @@
 -- How long texts are: a file of at most 2^20 bytes is within each limit, and lines that are put in add their own length.
-use Rattle.std.proofs.Common.{◌≡◌, ℕ, Option, Some, None, IfSome, is_some, ◌≤◌, ◌+◌, ◌^◌, Bool, true, false, List, [], ◌∷◌, ◌++◌, length, take, drop, Ok, Err, IsErrAnd, IsErrOf, refl, sym, ap, ◌∙◌, arith}
+use Rattle.std.proofs.Common.{◌≡◌, ℕ, Option, Some, None, IfSome, is_some, ◌≤◌, ◌+◌, ◌^◌, Bool, true, List, [], ◌∷◌, ◌++◌, length, take, drop, Ok, Err, IsErrAnd, IsOk, OnOk, OnErr, refl, sym, ap, ◌∙◌, arith}
 use Rattle.std.proofs.lemmas.List.{length-append, take-append-drop, take_all}
 use Rattle.std.proofs.lemmas.List.Elements.{All-from_recursion}
-use Rattle.std.proofs.lemmas.Bool.{true≢false}
-use Rattle.std.proofs.lemmas.Option.{same_Some}
 use Rattle.std.specs.List.{AllByRecursion}
-use Rattle.std.specs.Result.{result_err}
 use Rattle.std.specs.declared.result.Result.{Result}
 use Rattle.vs_text.specs.Text.{lines_of, bytes_of}
 use Rattle.vs_text.specs.Limits.{IsShort, IsRefusal}
@@ -53,17 +50,10 @@ file_fits file error small refused =
       few_bytes = omega (arith, sizes.1);
     }) refused
 
-abbrev is_limit : OpenErr → Bool
-is_limit (opening.TextLimit size) = true
-is_limit opening.Failed = false
-is_limit opening.NoMemory = false
-
-pub no_limit : {T : Type 0} (r : Result T OpenErr) (file : List ℕ) (error : TextErr) (size : ℕ) → length file ≤ 2 ^ 20 → IsRefusal (lines_of file) error
-    → IsErrAnd r (λ e. e ≡ open_error error) → IsErrOf r (opening.TextLimit size) → ⊥
-no_limit (Ok x) file error size small refused is limit = is
-no_limit (Err e) file error size small refused is limit =
-    let found : e ≡ opening.TextLimit size = same_Some e (opening.TextLimit size) (ap result_err limit) in
-    true≢false (sym (ap is_limit (sym is ∙ found)) ∙ ap (λ e. is_limit (open_error e)) (file_fits file error small refused))
+-- and so only want of memory comes of it
+pub only_memory : {T : Type 0} (r : Result T OpenErr) (file : List ℕ) (error : TextErr) → length file ≤ 2 ^ 20 → IsRefusal (lines_of file) error → IsErrAnd r (λ e. e ≡ open_error error) → OnErr r (r ≡ Err opening.NoMemory)
+only_memory (Ok x) file error small refused is = tt
+only_memory (Err e) file error small refused is = ap (λ (e : OpenErr). Err e) (is ∙ ap open_error (file_fits file error small refused))
 
 -- a file that was there, with this size, and of which as many bytes were read
 pub content_read : (a b c : Option (List ℕ)) (there : Bool) (size room : ℕ) (into file : List ℕ) → b ≡ a → c ≡ b → there ≡ is_some a → there ≡ true → IfSome b (λ bytes. size ≡ length bytes)
@@ -82,3 +72,8 @@ content_read (Some x) (Some y) (Some z) there size room into file e f has is kno
 pub file_opened : (name kept : List ℕ) (text : List (List ℕ)) (lines : ℕ) (file : List ℕ) (size : ℕ) (content : Option (List ℕ)) → content ≡ Some file → kept ≡ name → lines ≡ length text → size ≡ length file → text ≡ lines_of file
     → (let session : Opened = record { name = kept; found = Some (lines, size); state = record { text = text; last = 0 } } in session ≡ opened name content)
 file_opened name kept text lines file size content there same count size_is is = rw (there, same, count, size_is, is) refl
+
+-- what a call says of its success
+pub told_by : {T E : Type 0} (r : Result T E) (P : Type 0) → IsOk r → OnOk r P → P
+told_by (Ok x) P is told = told
+told_by (Err e) P is told = absurd (cc)

@@ -32,7 +32,7 @@ block_in early.PrintAll = []
 block_in early.Other = []
 block_in early.NoMemory = []
 
--- two texts together are within the limits of one, and the lines of the second are
+-- two texts together are within the limits of one, and so is each line of the second
 pub record FitsWith (text more : List (List ℕ)) : Type 0 where
   pub short : All IsShort more
   pub lines : length text + length more ≤ 4000000

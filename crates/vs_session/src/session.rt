@@ -3,7 +3,7 @@ ghost use Rattle.std.specs.Prelude.{◌≡◌, ◌<◌, ◌≤◌, ◌+◌, ◌^
 ghost use Rattle.vs_faults.specs.Faults.{Rose};
 ghost use Rattle.vs_host.specs.Names.{is_allowed};
 ghost use Rattle.vs_host.specs.World.{content_of, ReadsFolder, ChangesClock};
-ghost use Rattle.vs_text.specs.Text.{bytes_of};
+ghost use Rattle.vs_text.specs.Text.{bytes_of, lines_of};
 ghost use Rattle.vs_session.specs.Machine.{reply_of, state_after, opening_of, done_reply, done_state, meaning_of};
 ghost use Rattle.vs_session.specs.Script.{Command};
 ghost use Rattle.vs_session.specs.Script.Command.{Append, PrintAll};
@@ -93,6 +93,16 @@ pub struct Step {
     pub reply: Reply,
 }
 
+// The text of a file that is not too long.
+fn text_of_file(alloc: Global, file: &[u8]) -> Result<PagedText, OpenErr>
+    requires { length file.now ≤ 2 ^ 20 }
+    ensures text { IfOk result (λ text. text ≡ lines_of file.now) }
+    ensures error { OnErr result (result ≡ Err OpenErr.NoMemory) }
+{
+    let text = read_text(alloc, file)?;
+    Ok(PagedText::of(alloc, text.lines())?)
+}
+
 impl Session {
     ghost use Rattle.vs_session.specs.Session.{opened};
 
@@ -123,8 +133,7 @@ impl Session {
         }
         let mut bytes = vec![in alloc; 0u8; size as usize]?;
         host.read_at(name, 0, &mut bytes)?;
-        let read = read_text(alloc, &bytes)?;
-        let text = PagedText::of(alloc, read.lines())?;
+        let text = text_of_file(alloc, &bytes)?;
         Ok(Session {
             name: kept,
             found: Some((text.len(), size)),

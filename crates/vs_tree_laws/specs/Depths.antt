@@ -1,10 +1,9 @@
 -- A map has one list of lines below block 1, however deep its data blocks are taken to lie.
-use Rattle.std.proofs.Common.{◌≡◌, ℕ, zero, suc, List, [], ◌∷◌, ◌++◌, map, Option, None, Some, sym, refl, ap, ◌∙◌}
-use Rattle.std.specs.List.{flat_map, AllByRecursion}
+use Rattle.std.proofs.Common.{◌≡◌, ℕ, zero, suc, List, map, Option, None, Some, sym, refl, ap, ◌∙◌}
 use Rattle.vs_pages.specs.Maps.{Map, pages_at}
 use Rattle.vs_tree_laws.specs.declared.entries.Entry.{Entry}
 use Rattle.vs_tree_laws.specs.Trees.{Format, read_by, Tree, Leaf, root_of, width_of, lines_of, entry_of, IsTree, HasLines}
-use Rattle.vs_tree_laws.specs.Sames.{same_lines}
+use Rattle.vs_tree_laws.specs.Sames.{same_below, same_lines}
 
 -- No bytes are both a data block of one page and a pointer block.
 abbrev pub AreApart : Format → Type 0
@@ -23,16 +22,6 @@ no_leaf : (c : Format) → AreApart c → (d : ℕ) (m : Map) (t : Leaf) (u : Tr
 no_leaf c apart d m t u a b root wide =
     let here : read_by (c.lines 1) (pages_at m u.0 1) ≡ Some t.lines = sym (ap (λ n. read_by (c.lines n) (pages_at m t.page n)) wide ∙ ap (λ p. read_by (c.lines 1) (pages_at m p 1)) root) ∙ a.1 in
     read_apart c apart (pages_at m u.0 1) t.lines (map (λ v. entry_of d v) u.1) here b.0
-
-same_below : (c : Format) (d e : ℕ) (m : Map) → ((t : Tree d) (u : Tree e) → IsTree c d m t → IsTree c e m u → root_of d t ≡ root_of e u → width_of d t ≡ width_of e u → lines_of d t ≡ lines_of e u) → (ts : List (Tree d)) (us : List (Tree e))
-    → map (λ t. entry_of d t) ts ≡ map (λ u. entry_of e u) us → AllByRecursion (λ t. IsTree c d m t) ts → AllByRecursion (λ u. IsTree c e m u) us → flat_map (λ t. lines_of d t) ts ≡ flat_map (λ u. lines_of e u) us
-same_below c d e m ih [] [] h a b = refl
-same_below c d e m ih [] (u ∷ us) h a b = absurd (cc)
-same_below c d e m ih (t ∷ ts) [] h a b = absurd (cc)
-same_below c d e m ih (t ∷ ts) (u ∷ us) h a b =
-    let heads : entry_of d t ≡ entry_of e u = cc in
-    let tails : map (λ t. entry_of d t) ts ≡ map (λ u. entry_of e u) us = cc in
-    ap (λ xs. xs ++ flat_map (λ t. lines_of d t) ts) (ih t u a.0 b.0 (ap (λ (x : Entry). x.block) heads) (ap (λ (x : Entry). x.pages) heads)) ∙ ap (λ xs. lines_of e u ++ xs) (same_below c d e m ih ts us tails a.1 b.1)
 
 -- trees of any two depths at one block have the same lines
 pub same_at_depths : (c : Format) → AreApart c → (d e : ℕ) (m : Map) (t : Tree d) (u : Tree e) → IsTree c d m t → IsTree c e m u → root_of d t ≡ root_of e u → width_of d t ≡ width_of e u → lines_of d t ≡ lines_of e u

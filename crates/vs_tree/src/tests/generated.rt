@@ -72,7 +72,7 @@ fn play_all<S: LineStore, T: LineStore>(
     ensures tree { S.valid tree.new }
     ensures plain { T.valid plain.new }
 {
-    let mut numbers = Numbers(3);
+    let mut numbers = Numbers(1);
     let mut refused = 0u64;
     for call in 0..calls {
         if play(rt, alloc, tree, plain, &mut numbers).is_err() {
@@ -100,7 +100,7 @@ fn follows_a_plain_text(rt: HostRuntime) -> Result<(), Fail> {
         pages: memory,
     };
     let mut plain = VecStore::new(alloc)?;
-    let refused = play_all(&rt, alloc, &mut store, &mut plain, 4_000);
+    let refused = play_all(&rt, alloc, &mut store, &mut plain, 3_000);
     assert!(rt; refused <= 1);
     store.rollback();
     plain.rollback();

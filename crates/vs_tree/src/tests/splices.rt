@@ -38,9 +38,17 @@ impl Numbers {
         Ok(Line::from_vec(bytes))
     }
 
+    // Mostly some dozen lines come or go, and now and then many blocks of them.
+    fn line_count(&mut self) -> u64 {
+        if self.below(40) == 0 {
+            return self.below(300);
+        }
+        self.below(25)
+    }
+
     fn lines(&mut self, alloc: Global) -> Result<Vec<Line>, AllocError> {
         let mut lines = Vec::new(alloc);
-        for _ in 0..self.below(25) {
+        for _ in 0..self.line_count() {
             lines.push(self.line(alloc)?)?;
         }
         Ok(lines)
@@ -57,7 +65,7 @@ impl Numbers {
             });
         }
         let top = self.below(len.saturating_add(1));
-        let old = self.below((len - top).min(24) + 1);
+        let old = self.line_count().min(len - top);
         Ok(Splice { top, old, new })
     }
 }

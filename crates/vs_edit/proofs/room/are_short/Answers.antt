@@ -9,4 +9,3 @@ loop-line-preserved c =
     let line = c.line-item.result in
     let short : length line ≤ MAX_LINE_BYTES = omega (arith, ap length c.bytes.ensures.bytes) in
     All-more IsShort c.args.lines.now c.loop-line.line-index line c.loop-line-test.true c.loop-line.invariant (subst IsShort c.line-item.is short)
-
