@@ -1,5 +1,6 @@
 -- Changes at a line, as the code is given them.
 use Rattle.std.specs.Prelude.{◌≡◌, ◌≢◌, ℕ, ◌^◌, ◌<◌, ◌≤◌, List, [], length, All}
+use Rattle.vs_data.specs.Blocks.{space_of}
 use Rattle.vs_tree_laws.specs.Changes.{Change}
 use Rattle.vs_tree_blocks.specs.declared.edit.Edit.{Edit}
 use Rattle.vs_tree_blocks.specs.declared.edit.Edit.TheVariants.{Before, After, Remove}
@@ -21,6 +22,12 @@ abbrev pub MayTake : Edit → ℕ → Type 0
 MayTake (Before run) gone = gone ≡ 0
 MayTake (After run) gone = gone ≡ 0
 MayTake (Remove most) gone = (0 < gone) × (gone ≤ most)
+
+-- a small edit: a page has room for what it puts in, and for the line at which it takes lines out
+abbrev pub IsSlight : Edit → List ℕ → Type 0
+IsSlight (Before run) line = space_of run.now ≤ 4072
+IsSlight (After run) line = space_of run.now ≤ 4072
+IsSlight (Remove most) line = length line ≤ 4067
 
 -- a line that may stand in a data block: it has no zero byte, and is not too long
 pub record IsStored (line : List ℕ) : Type 0 where
