@@ -9,8 +9,7 @@ ghost use Rattle.vs_data.specs.Blocks.{lines_in, view_in, free_space, space_of};
 ghost use Rattle.vs_tree_laws.specs.Differs.{Differs};
 ghost use Rattle.vs_tree_laws.specs.Changes.{Above, Promise, Takes, Wrote, edited, splice};
 ghost use Rattle.vs_tree_blocks.specs.Blocks.{tree_format, lines_at, IsNarrow};
-ghost use Rattle.vs_tree_laws.specs.Trees.{lines_of};
-ghost use Rattle.vs_tree_blocks.specs.Edits.{change_of, IsEdit, IsSlight, MayTake};
+ghost use Rattle.vs_tree_blocks.specs.Edits.{change_of, IsEdit, IsSlight, ChangesFew, MayTake};
 ghost use Rattle.vs_tree_blocks.specs.Parts.{IsSplit};
 
 use crate::{Edit, Edited, Gone, Run, add_block};
@@ -647,7 +646,7 @@ pub fn edit_data<P: Pages>(
     ensures may_take { IfOk result (λ after. MayTake edit.entry after.gone.lines) }
     ensures narrow { IfOk result (λ after. AllByRecursion IsNarrow after.entries.items) }
     ensures few { IfOk result (λ after. length after.entries.items ≤ 3) }
-    ensures differs { OnOk result (IsTrue P.tells → (a : Above tree_format (P.present pages.old) block count 0 at) → IsSlight edit.entry (get_or (lines_of 0 a.tree) at []) → Differs (P.present pages.old) (P.present pages.new) 3) }
+    ensures differs { OnOk result (IsTrue P.tells → ChangesFew (P.present pages.old) (P.present pages.new) block count 0 at edit.entry 3) }
     ensures committed { IsTrue P.tells → P.committed pages.new ≡ P.committed pages.old }
     ensures later { P.faults pages.old ≤ P.faults pages.new }
     ensures failed { result ≡ Err PageErr.Failed → Rose (P.faults pages.old) (P.faults pages.new) }
