@@ -12,7 +12,7 @@ use Rattle.vs_tree_laws.specs.declared.entries.Entry.{Entry}
 use Rattle.vs_tree_laws.specs.declared.entries.Place.{Place}
 use Rattle.vs_tree_laws.specs.Trees.{read_by, lines_of, HasLines}
 use Rattle.vs_tree_laws.specs.Places.{IsPlace}
-use Rattle.vs_tree_laws.specs.Changes.{Above, splice}
+use Rattle.vs_tree_laws.specs.Changes.{splice}
 use Rattle.vs_tree_laws.specs.Ways.{Leads}
 use Rattle.vs_tree_laws.specs.Differs.{Differs}
 use Rattle.vs_tree_laws.proofs.Steps.{leads_down}

@@ -1,7 +1,7 @@
 -- How many pages differ after some steps: each step names the pages that it may change, and the names of two steps add up.
-use Rattle.std.proofs.Common.{◌≡◌, ℕ, ◌+◌, ◌≤◌, List, [], ◌∷◌, ◌++◌, length, refl, ap, ◌∙◌, inl, inr, arith, length-append}
+use Rattle.std.proofs.Common.{◌≡◌, ℕ, ◌+◌, ◌≤◌, List, [], ◌∷◌, ◌++◌, refl, ap, ◌∙◌, inl, inr, arith, length-append}
 use Rattle.std.proofs.lemmas.Bool.{cases_eq}
-use Rattle.vs_pages.specs.Maps.{Map, lacks, one, span, total, put_pages, without, IsVacant}
+use Rattle.vs_pages.specs.Maps.{Map, lacks, one, span, put_pages, without, IsVacant}
 use Rattle.vs_pages.proofs.MapsLemmas.{one-same, one-other, span-first, put_pages-other, without-other}
 use Rattle.vs_tree_laws.specs.Differs.{Keeps, Differs}
 use Rattle.vs_tree_laws.proofs.Sums.{total-append}

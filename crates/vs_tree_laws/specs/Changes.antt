@@ -1,5 +1,5 @@
 -- What a change leaves of the lines of a tree, and of the blocks below one block.
-use Rattle.std.specs.Prelude.{◌≡◌, ℕ, ◌+◌, ◌-◌, ◌^◌, ◌<◌, ◌≤◌, List, [], ◌++◌, length, map, take, drop, Some, IsSome}
+use Rattle.std.specs.Prelude.{◌≡◌, ℕ, ◌+◌, ◌-◌, ◌^◌, ◌<◌, ◌≤◌, List, ◌++◌, length, map, take, drop, Some, IsSome}
 use Rattle.std.specs.List.{flat_map, AllByRecursion}
 use Rattle.vs_text.specs.Text.{bytes_of}
 use Rattle.vs_pages.specs.Maps.{Map, lacks, one, total, span, pages_at, IsVacant}

@@ -44,5 +44,3 @@ runs-preserved g c =
       valid = c.put_run.ensures.valid;
       stays = g.met.P.Pages.stays_on _ _ _ inv.stays c.put_run.ensures.stays;
     }
-
-

@@ -58,8 +58,6 @@ returns-clause-bytes g c = λ told lines has run.
     let all : c.gone.gone ≡ c.args.count = omega (arith, c.gone.invariant.within, c.gone-test.false) in
     (c.gone.invariant.taken told lines has run).1 ∙ ap (λ i. bytes_of (run_of lines c.args.at i)) all
 
-
-
 pub returns-clause-taken : goal.returns-clause-taken
 returns-clause-taken g c = λ told lines has run.
     let all : c.gone.gone ≡ c.args.count = omega (arith, c.gone.invariant.within, c.gone-test.false) in
