@@ -1,4 +1,5 @@
 pub mod Added
+pub mod Bounds
 pub mod ChangeLemmas
 pub mod Copies
 pub mod FillLemmas

@@ -74,9 +74,9 @@ replaced text new top old some within left =
     ∙ sym (map-splice stored_line text new top old)
     ∙ sym (stored_some (splice text top old new) result)
 
--- the bytes of the lines that are taken out
-pub replaced_bytes : (text new : List (List ℕ)) (top old : ℕ) → 0 < length text → top + old ≤ length text → bytes_of (run_of (with_lines (stored text) top new) (top + length new) old) ≡ bytes_of (cut_out text top old)
-replaced_bytes text new top old some within =
+-- the lines that are taken out
+pub replaced_run : (text new : List (List ℕ)) (top old : ℕ) → 0 < length text → top + old ≤ length text → run_of (with_lines (stored text) top new) (top + length new) old ≡ map stored_line (cut_out text top old)
+replaced_run text new top old some within =
     let xs : List (List ℕ) = map stored_line text in
     let a : List (List ℕ) = map stored_line new in
     let n : length a ≡ length new = length-map new stored_line in
@@ -85,9 +85,10 @@ replaced_bytes text new top old some within =
     let front : length (take top xs ++ a) ≡ top + length new = simp (length-append, Rattle.std.proofs.lemmas.List.length-take) (omega arith) in
     let rest : drop (top + length new) (take top xs ++ a ++ drop (top + 0) xs) ≡ drop (top + 0) xs = drop_at (take top xs ++ a) (drop (top + 0) xs) (top + length new) front in
     let none : top + 0 ≡ top = omega arith in
-    let run : run_of (with_lines xs top new) (top + length new) old ≡ map stored_line (cut_out text top old) =
-    ap (λ ys. take old ys) rest ∙ ap (λ k. take old (drop k xs)) none ∙ simp (take-map, drop-map) in
-    ap (λ ys. bytes_of (run_of (with_lines ys top new) (top + length new) old)) all ∙ ap bytes_of run ∙ bytes_of-stored (cut_out text top old)
+    ap (λ ys. run_of (with_lines ys top new) (top + length new) old) all ∙ ap (λ ys. take old ys) rest ∙ ap (λ k. take old (drop k xs)) none ∙ simp (take-map, drop-map)
+
+pub replaced_bytes : (text new : List (List ℕ)) (top old : ℕ) → 0 < length text → top + old ≤ length text → bytes_of (run_of (with_lines (stored text) top new) (top + length new) old) ≡ bytes_of (cut_out text top old)
+replaced_bytes text new top old some within = ap bytes_of (replaced_run text new top old some within) ∙ bytes_of-stored (cut_out text top old)
 
 pub length_with_all : (lines new : List (List ℕ)) (at : ℕ) → at ≤ length lines → length (with_lines lines at new) ≡ length lines + length new
 length_with_all lines new at le = omega (arith, Rattle.vs_edit.proofs.SpliceLemmas.length-splice lines at 0 (omega arith) (map stored_line new), length-map new stored_line)

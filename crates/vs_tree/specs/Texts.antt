@@ -1,11 +1,13 @@
 -- What a text that is kept in pages has.
-use Rattle.std.specs.Prelude.{◌≡◌, ℕ, ◌≤◌, List, length, Bool, IsTrue}
+use Rattle.std.specs.Prelude.{◌≡◌, ℕ, ◌≤◌, List, All, length, Bool, IsTrue}
 use Rattle.vs_pages.specs.Maps.{Map}
 use Rattle.vs_text.specs.Text.{IsText, bytes_of, stored}
 use Rattle.vs_text.specs.Limits.{IsWithinLimits}
 use Rattle.vs_text.specs.declared.TheConstants.{MAX_LINES, MAX_TEXT_BYTES}
 use Rattle.vs_tree_laws.specs.Trees.{HasLines}
+use Rattle.vs_edit.specs.Splices.{cut_out}
 use Rattle.vs_tree_blocks.specs.Blocks.{tree_format}
+use Rattle.vs_tree_blocks.specs.Edits.{IsBrief}
 use Rattle.vs_tree.specs.declared.texts.Extent.{Extent}
 
 -- The pages have this text: the lines of their tree are its stored form, and the numbers are its numbers.
@@ -21,6 +23,13 @@ pub record Fits (tells : Bool) (m : Map) (extent : Extent) : Type 0 where
   pub few : extent.lines ≤ MAX_LINES
   pub few_bytes : extent.bytes ≤ MAX_TEXT_BYTES
   pub one : IsTrue tells → (text : List (List ℕ)) × HasText m extent text
+
+-- At most one line is put in place of at most one, and a page has room for each of them.
+pub record IsSmallSplice (text : List (List ℕ)) (top old : ℕ) (new : List (List ℕ)) : Type 0 where
+  pub few_out : old ≤ 1
+  pub few_in : length new ≤ 1
+  pub brief_out : All IsBrief (cut_out text top old)
+  pub brief_in : All IsBrief new
 
 -- A store that tells has this text.
 pub record Tells (tells : Bool) (m : Map) (extent : Extent) (text : List (List ℕ)) : Type 0 where

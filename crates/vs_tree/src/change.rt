@@ -1,11 +1,12 @@
 // A change at one line of the tree.
-ghost use Rattle.std.specs.Prelude.{◌≡◌, ◌≤◌, ◌<◌, ◌^◌, ℕ, List, Err, IfOk, IsTrue, length};
+ghost use Rattle.std.specs.Prelude.{◌≡◌, ◌≤◌, ◌<◌, ◌+◌, ◌*◌, ◌^◌, [], ℕ, List, Err, IfOk, OnOk, IsTrue, get_or, length};
 ghost use Rattle.std.specs.List.{AllByRecursion};
 ghost use Rattle.vs_faults.specs.Faults.{Rose};
 ghost use Rattle.vs_tree_laws.specs.Trees.{HasLines};
 ghost use Rattle.vs_tree_laws.specs.Changes.{Above, Promise, Takes, edited};
 ghost use Rattle.vs_tree_blocks.specs.Blocks.{tree_format, IsNarrow};
-ghost use Rattle.vs_tree_blocks.specs.Edits.{change_of, IsEdit, MayTake};
+ghost use Rattle.vs_tree_laws.specs.Differs.{Differs};
+ghost use Rattle.vs_tree_blocks.specs.Edits.{change_of, IsEdit, IsSlight, ChangesFew, MayTake};
 
 use std::alloc::Global;
 use vs_pages::{PageErr, Pages};
@@ -31,6 +32,7 @@ fn edit_below<P: Pages>(
     ensures may_take { IfOk result (λ after. MayTake edit.entry after.gone.lines) }
     ensures narrow { IfOk result (λ after. AllByRecursion IsNarrow after.entries.items) }
     ensures few { IfOk result (λ after. length after.entries.items ≤ 3) }
+    ensures differs { OnOk result (IsTrue P.tells → ChangesFew (P.present pages.old) (P.present pages.new) block count depth at edit.entry (2 * depth + 3)) }
     ensures committed { IsTrue P.tells → P.committed pages.new ≡ P.committed pages.old }
     ensures later { P.faults pages.old ≤ P.faults pages.new }
     ensures failed { result ≡ Err PageErr.Failed → Rose (P.faults pages.old) (P.faults pages.new) }
@@ -84,6 +86,8 @@ pub fn edit_tree<P: Pages>(
     ensures edited { IfOk result (λ after. IsTrue P.tells → (lines : List (List ℕ)) → HasLines tree_format (P.present pages.old) height lines → at < length lines → length lines < 2 ^ 62 →
         HasLines tree_format (P.present pages.new) after.height (edited (change_of edit.entry after.gone.lines) lines at) × Takes (change_of edit.entry after.gone.lines) lines at after.gone.bytes) }
     ensures may_take { IfOk result (λ after. MayTake edit.entry after.gone.lines) }
+    ensures higher { IfOk result (λ after. after.height ≤ height + 1) }
+    ensures differs { OnOk result (IsTrue P.tells → (lines : List (List ℕ)) → HasLines tree_format (P.present pages.old) height lines → at < length lines → length lines < 2 ^ 62 → IsSlight edit.entry (get_or lines at []) → Differs (P.present pages.old) (P.present pages.new) (2 * height + 4)) }
     ensures committed { IsTrue P.tells → P.committed pages.new ≡ P.committed pages.old }
     ensures later { P.faults pages.old ≤ P.faults pages.new }
     ensures failed { result ≡ Err PageErr.Failed → Rose (P.faults pages.old) (P.faults pages.new) }

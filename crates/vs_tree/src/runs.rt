@@ -1,10 +1,12 @@
 // Runs of lines that are put into the tree or taken out, a data block at a time.
-ghost use Rattle.std.specs.Prelude.{◌≡◌, ◌≤◌, ◌<◌, ◌+◌, ◌^◌, ◌∷◌, [], ℕ, List, All, Err, IfOk, IsTrue, get_or, length, map, take};
+ghost use Rattle.std.specs.Prelude.{◌≡◌, ◌≤◌, ◌<◌, ◌+◌, ◌*◌, ◌^◌, ◌∷◌, [], ℕ, List, All, Err, IfOk, OnOk, IsTrue, get_or, length, map, take};
 ghost use Rattle.vs_faults.specs.Faults.{Rose};
 ghost use Rattle.vs_text.specs.Text.{bytes_of, stored_line};
 ghost use Rattle.vs_text.specs.Limits.{IsShort};
 ghost use Rattle.vs_tree_laws.specs.Trees.{HasLines};
 ghost use Rattle.vs_tree_laws.specs.Changes.{splice};
+ghost use Rattle.vs_tree_laws.specs.Differs.{Differs};
+ghost use Rattle.vs_tree_blocks.specs.Edits.{IsBrief};
 ghost use Rattle.vs_tree_blocks.specs.Blocks.{tree_format};
 ghost use Rattle.vs_data.specs.Blocks.{space_of};
 ghost use Rattle.vs_tree.specs.Runs.{IsPlaceIn, IsRunIn, with_lines, without_lines, run_of};
@@ -50,6 +52,8 @@ pub fn put_run<P: Pages>(
     requires few { length run.now < 2 ^ 62 }
     requires there { IsTrue P.tells → (lines : List (List ℕ)) × HasLines tree_format (P.present pages.old) height lines × IsPlaceIn lines at }
     ensures put { IfOk result (λ higher. IsTrue P.tells → (lines : List (List ℕ)) → HasLines tree_format (P.present pages.old) height lines → IsPlaceIn lines at → HasLines tree_format (P.present pages.new) higher (splice lines at 0 run.now)) }
+    ensures higher { IfOk result (λ higher. higher ≤ height + 1) }
+    ensures differs { OnOk result (IsTrue P.tells → (lines : List (List ℕ)) → HasLines tree_format (P.present pages.old) height lines → IsPlaceIn lines at → space_of run.now ≤ 4072 → Differs (P.present pages.old) (P.present pages.new) (2 * height + 4)) }
     ensures committed { IsTrue P.tells → P.committed pages.new ≡ P.committed pages.old }
     ensures later { P.faults pages.old ≤ P.faults pages.new }
     ensures failed { result ≡ Err PageErr.Failed → Rose (P.faults pages.old) (P.faults pages.new) }
@@ -77,6 +81,8 @@ pub fn put_lines<P: Pages>(
     requires few { at + length new.now < 2 ^ 62 }
     requires there { IsTrue P.tells → (lines : List (List ℕ)) × HasLines tree_format (P.present pages.old) height lines × IsPlaceIn lines at × (length lines + length new.now < 2 ^ 61) }
     ensures put { IfOk result (λ higher. IsTrue P.tells → (lines : List (List ℕ)) → HasLines tree_format (P.present pages.old) height lines → IsPlaceIn lines at → length lines + length new.now < 2 ^ 61 → HasLines tree_format (P.present pages.new) higher (with_lines lines at new.now)) }
+    ensures higher { IfOk result (λ higher. higher ≤ height + length new.now) }
+    ensures differs { OnOk result (IsTrue P.tells → (lines : List (List ℕ)) → HasLines tree_format (P.present pages.old) height lines → IsPlaceIn lines at → length lines + length new.now < 2 ^ 61 → length new.now ≤ 1 → All IsBrief new.now → Differs (P.present pages.old) (P.present pages.new) (2 * height + 4)) }
     ensures committed { IsTrue P.tells → P.committed pages.new ≡ P.committed pages.old }
     ensures later { P.faults pages.old ≤ P.faults pages.new }
     ensures failed { result ≡ Err PageErr.Failed → Rose (P.faults pages.old) (P.faults pages.new) }
@@ -113,6 +119,7 @@ pub fn take_lines<P: Pages>(
     requires there { IsTrue P.tells → (lines : List (List ℕ)) × HasLines tree_format (P.present pages.old) height lines × IsRunIn lines at count }
     ensures taken { IfOk result (λ taken. IsTrue P.tells → (lines : List (List ℕ)) → HasLines tree_format (P.present pages.old) height lines → IsRunIn lines at count → HasLines tree_format (P.present pages.new) taken.height (without_lines lines at count)) }
     ensures bytes { IfOk result (λ taken. IsTrue P.tells → (lines : List (List ℕ)) → HasLines tree_format (P.present pages.old) height lines → IsRunIn lines at count → taken.bytes ≡ bytes_of (run_of lines at count)) }
+    ensures differs { OnOk result (IsTrue P.tells → (lines : List (List ℕ)) → HasLines tree_format (P.present pages.old) height lines → IsRunIn lines at count → count ≤ 1 → All IsBrief (run_of lines at count) → Differs (P.present pages.old) (P.present pages.new) (2 * height + 4)) }
     ensures committed { IsTrue P.tells → P.committed pages.new ≡ P.committed pages.old }
     ensures later { P.faults pages.old ≤ P.faults pages.new }
     ensures failed { result ≡ Err PageErr.Failed → Rose (P.faults pages.old) (P.faults pages.new) }

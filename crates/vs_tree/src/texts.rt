@@ -1,11 +1,13 @@
 // The text of the tree, spliced.
-ghost use Rattle.std.specs.Prelude.{◌≡◌, ◌≤◌, ◌<◌, ◌+◌, ◌-◌, ◌^◌, [], ℕ, List, All, Err, IfOk, IsTrue, length};
+ghost use Rattle.std.specs.Prelude.{◌≡◌, ◌≤◌, ◌<◌, ◌+◌, ◌*◌, ◌-◌, ◌^◌, [], ℕ, List, All, Err, IfOk, OnOk, IsTrue, length};
 ghost use Rattle.vs_faults.specs.Faults.{Rose};
 ghost use Rattle.vs_text.specs.Text.{IsText, bytes_of};
 ghost use Rattle.vs_text.specs.Limits.{IsShort};
 ghost use Rattle.vs_text.specs.declared.TheConstants.{MAX_LINES, MAX_TEXT_BYTES};
 ghost use Rattle.vs_edit.specs.Splices.{splice};
-ghost use Rattle.vs_tree.specs.Texts.{HasText, Fits};
+ghost use Rattle.vs_tree_laws.specs.Differs.{Differs};
+ghost use Rattle.vs_tree_blocks.specs.Edits.{IsBrief};
+ghost use Rattle.vs_tree.specs.Texts.{HasText, Fits, IsSmallSplice};
 
 use crate::{put_lines, put_run, take_lines};
 use std::alloc::Global;
@@ -52,6 +54,7 @@ fn fill_text<P: Pages>(
     requires few_bytes { IsTrue P.tells → bytes_of new.now ≤ MAX_TEXT_BYTES }
     ensures text { IfOk result (λ extent. IsTrue P.tells → HasText (P.present pages.new) extent new.now) }
     ensures lines { IfOk result (λ extent. extent.lines ≡ length new.now) }
+    ensures differs { OnOk result (IsTrue P.tells → length new.now ≤ 1 → All IsBrief new.now → Differs (P.present pages.old) (P.present pages.new) (4 * now.height + 10)) }
     ensures committed { IsTrue P.tells → P.committed pages.new ≡ P.committed pages.old }
     ensures later { P.faults pages.old ≤ P.faults pages.new }
     ensures failed { result ≡ Err PageErr.Failed → Rose (P.faults pages.old) (P.faults pages.new) }
@@ -77,6 +80,7 @@ fn clear_text<P: Pages>(alloc: Global, pages: &mut P, now: Extent) -> Result<Ext
     requires full { 0 < now.lines }
     ensures text { IfOk result (λ extent. IsTrue P.tells → HasText (P.present pages.new) extent []) }
     ensures lines { IfOk result (λ extent. extent.lines ≡ 0) }
+    ensures differs { OnOk result (IsTrue P.tells → (text : List (List ℕ)) → HasText (P.present pages.old) now text → now.lines ≤ 1 → All IsBrief text → Differs (P.present pages.old) (P.present pages.new) (4 * now.height + 10)) }
     ensures committed { IsTrue P.tells → P.committed pages.new ≡ P.committed pages.old }
     ensures later { P.faults pages.old ≤ P.faults pages.new }
     ensures failed { result ≡ Err PageErr.Failed → Rose (P.faults pages.old) (P.faults pages.new) }
@@ -112,6 +116,7 @@ fn replace_lines<P: Pages>(
     requires few_bytes { IsTrue P.tells → (text : List (List ℕ)) → HasText (P.present pages.old) now text → bytes_of (splice text top old new.now) ≤ MAX_TEXT_BYTES }
     ensures text { IfOk result (λ extent. IsTrue P.tells → (text : List (List ℕ)) → HasText (P.present pages.old) now text → HasText (P.present pages.new) extent (splice text top old new.now)) }
     ensures lines { IfOk result (λ extent. extent.lines + old ≡ now.lines + length new.now) }
+    ensures differs { OnOk result (IsTrue P.tells → (text : List (List ℕ)) → HasText (P.present pages.old) now text → IsSmallSplice text top old new.now → Differs (P.present pages.old) (P.present pages.new) (4 * now.height + 10)) }
     ensures committed { IsTrue P.tells → P.committed pages.new ≡ P.committed pages.old }
     ensures later { P.faults pages.old ≤ P.faults pages.new }
     ensures failed { result ≡ Err PageErr.Failed → Rose (P.faults pages.old) (P.faults pages.new) }
@@ -152,6 +157,7 @@ pub fn splice_text<P: Pages>(
     requires few_bytes { IsTrue P.tells → (text : List (List ℕ)) → HasText (P.present pages.old) now text → bytes_of (splice text top old new.now) ≤ MAX_TEXT_BYTES }
     ensures text { IfOk result (λ extent. IsTrue P.tells → (text : List (List ℕ)) → HasText (P.present pages.old) now text → HasText (P.present pages.new) extent (splice text top old new.now)) }
     ensures lines { IfOk result (λ extent. extent.lines + old ≡ now.lines + length new.now) }
+    ensures differs { OnOk result (IsTrue P.tells → (text : List (List ℕ)) → HasText (P.present pages.old) now text → IsSmallSplice text top old new.now → Differs (P.present pages.old) (P.present pages.new) (4 * now.height + 10)) }
     ensures committed { IsTrue P.tells → P.committed pages.new ≡ P.committed pages.old }
     ensures later { P.faults pages.old ≤ P.faults pages.new }
     ensures failed { result ≡ Err PageErr.Failed → Rose (P.faults pages.old) (P.faults pages.new) }

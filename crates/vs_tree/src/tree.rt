@@ -1,5 +1,5 @@
 // The tree of a text, and the store that it makes with pages.
-ghost use Rattle.std.specs.Prelude.{◌≡◌, ◌≤◌, ◌<◌, ◌+◌, ◌++◌, [], ℕ, List, All, Err, IfOk, OnOk, IsTrue, IsSome, get_or, length, take, drop, refl};
+ghost use Rattle.std.specs.Prelude.{◌≡◌, ◌≤◌, ◌<◌, ◌+◌, ◌*◌, ◌++◌, [], ℕ, List, All, Err, IfOk, OnOk, IsTrue, IsSome, get_or, length, take, drop, refl};
 ghost use Rattle.std.proofs.Common.{◌∙◌};
 ghost use Rattle.vs_faults.specs.Faults.{Rose};
 ghost use Rattle.vs_pages.specs.Maps.{pages_at};
@@ -28,7 +28,8 @@ pub struct LineTree {
 }
 
 impl LineTree {
-    ghost use Rattle.vs_tree.specs.Texts.{HasText, Fits};
+    ghost use Rattle.vs_tree_laws.specs.Differs.{Differs};
+    ghost use Rattle.vs_tree.specs.Texts.{HasText, Fits, IsSmallSplice};
 
     /// Writes the tree of the text without lines into the pages 1 and 2, and commits the pages.
     pub fn new<P: Pages>(alloc: Global, pages: &mut P) -> Result<LineTree, PageErr>
@@ -146,6 +147,7 @@ impl LineTree {
         ensures text { OnOk result (IsTrue P.tells → (text : List (List ℕ)) → HasText (P.present pages.old) self.old.present text → HasText (P.present pages.new) self.new.present (splice text top old new.now)) }
         ensures fits { OnOk result (Fits P.tells (P.present pages.new) self.new.present) }
         ensures lines { OnOk result (self.new.present.lines + old ≡ self.old.present.lines + length new.now) }
+        ensures differs { OnOk result (IsTrue P.tells → (text : List (List ℕ)) → HasText (P.present pages.old) self.old.present text → IsSmallSplice text top old new.now → Differs (P.present pages.old) (P.present pages.new) (4 * self.old.present.height + 10)) }
         ensures kept { self.new.committed ≡ self.old.committed }
         ensures committed { IsTrue P.tells → P.committed pages.new ≡ P.committed pages.old }
         ensures later { P.faults pages.old ≤ P.faults pages.new }

@@ -1,17 +1,18 @@
 -- What an edit of a data block leaves, over plain variables.
-use Rattle.std.proofs.Common.{◌≡◌, ℕ, ◌+◌, ◌≤◌, List, [], length, take, drop, refl, sym, ap, subst, ◌∙◌, arith}
+use Rattle.std.proofs.Common.{◌≡◌, ℕ, ◌+◌, ◌≤◌, List, [], Some, length, get_or, take, drop, refl, sym, ap, subst, ◌∙◌, arith}
 use Rattle.std.specs.Prelude.{Vec}
 use Rattle.std.specs.declared.alloc.Global.{Global}
 use Rattle.vs_text.specs.Text.{bytes_of}
-use Rattle.vs_pages.specs.Maps.{Map, span}
+use Rattle.vs_pages.specs.Maps.{Map, span, pages_at}
+use Rattle.vs_tree_laws.proofs.Shapes.{read_from}
 use Rattle.vs_tree_laws.specs.declared.entries.Entry.{Entry}
 use Rattle.vs_tree_laws.specs.Changes.{Wrote, Takes, edited, splice}
 use Rattle.vs_tree_blocks.specs.declared.edit.Edit.{Edit}
 use Rattle.vs_tree_blocks.specs.declared.edit.Edit.TheVariants.{Before, After, Remove}
 use Rattle.vs_tree_blocks.specs.declared.edit.Edited.{Edited}
-use Rattle.vs_tree_blocks.specs.Blocks.{tree_format}
-use Rattle.vs_tree_blocks.specs.Edits.{change_of}
-use Rattle.vs_tree_blocks.proofs.DataLemmas.{takes_none}
+use Rattle.vs_tree_blocks.specs.Blocks.{tree_format, data_lines, lines_at}
+use Rattle.vs_tree_blocks.specs.Edits.{change_of, IsSlight}
+use Rattle.vs_tree_blocks.proofs.DataLemmas.{long_one, takes_none}
 
 gone_of : (edit : Edit) (gone : ℕ) → (change_of edit gone).gone ≡ gone
 gone_of (Before run) gone = refl
@@ -44,3 +45,11 @@ pub removed : (edit : Edit) (most : ℕ) (lines : List (List ℕ)) (at gone coun
 removed edit most lines at gone count is gone_is =
     let at_is : at + 0 ≡ at = omega arith in
     ap (λ (e : Edit). edited (change_of e gone) lines at) is ∙ ap (λ k. splice lines k gone []) at_is ∙ ap (λ n. splice lines at n []) gone_is
+
+-- a line of a block of several pages is no small line
+pub too_long : (m : Map) (block pages most : ℕ) (edit : Edit) (lines : List (List ℕ)) → 2 ≤ pages → lines_at m block pages ≡ Some lines → edit ≡ Remove most → IsSlight edit (get_or lines 0 []) → ⊥
+too_long m block pages most edit lines many reads is slight =
+    let bytes = read_from (data_lines pages) (pages_at m block pages) lines reads in
+    let one = long_one bytes.0 pages lines many bytes.2 in
+    let short : length (get_or lines 0 []) ≤ 4067 = subst (λ (e : Edit). IsSlight e (get_or lines 0 [])) is slight in
+    omega (arith, short, one.2, ap (λ (ls : List (List ℕ)). length (get_or ls 0 [])) one.1)

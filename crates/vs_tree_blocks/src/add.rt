@@ -1,6 +1,7 @@
 // New blocks in pages.
-ghost use Rattle.std.specs.Prelude.{◌≡◌, ◌≤◌, ◌<◌, ◌*◌, ◌^◌, Err, IfOk, IsTrue, length};
+ghost use Rattle.std.specs.Prelude.{◌≡◌, ◌≤◌, ◌<◌, ◌*◌, ◌^◌, ◌∷◌, [], Err, IfOk, OnOk, IsTrue, length};
 ghost use Rattle.vs_faults.specs.Faults.{Rose};
+ghost use Rattle.vs_tree_laws.specs.Differs.{Keeps, Differs};
 ghost use Rattle.vs_tree_laws.specs.Changes.{Grown, Added};
 
 use std::alloc::Global;
@@ -12,6 +13,7 @@ fn grow_block<P: Pages>(alloc: Global, pages: &mut P, count: u32) -> Result<u64,
     requires some { 1 ≤ count }
     ensures grown { IfOk result (λ at. IsTrue P.tells → Grown (P.present pages.old) (P.present pages.new) at count) }
     ensures bound { IfOk result (λ at. at < 2 ^ 40) }
+    ensures keeps { IfOk result (λ at. IsTrue P.tells → count ≡ 1 → Keeps (P.present pages.old) (P.present pages.new) (at ∷ [])) }
     ensures committed { IsTrue P.tells → P.committed pages.new ≡ P.committed pages.old }
     ensures later { P.faults pages.old ≤ P.faults pages.new }
     ensures failed { result ≡ Err PageErr.Failed → Rose (P.faults pages.old) (P.faults pages.new) }
@@ -37,6 +39,7 @@ pub fn add_block<P: Pages>(
     requires size { length bytes.now ≡ 4096 * count }
     ensures added { IfOk result (λ at. IsTrue P.tells → Added (P.present pages.old) (P.present pages.new) at count bytes.now) }
     ensures bound { IfOk result (λ at. at < 2 ^ 40) }
+    ensures differs { OnOk result (IsTrue P.tells → count ≡ 1 → Differs (P.present pages.old) (P.present pages.new) 1) }
     ensures committed { IsTrue P.tells → P.committed pages.new ≡ P.committed pages.old }
     ensures later { P.faults pages.old ≤ P.faults pages.new }
     ensures failed { result ≡ Err PageErr.Failed → Rose (P.faults pages.old) (P.faults pages.new) }

@@ -6,9 +6,10 @@ ghost use Rattle.vs_faults.specs.Faults.{Rose};
 ghost use Rattle.vs_text.specs.Text.{bytes_of};
 ghost use Rattle.vs_pages.specs.Maps.{pages_at, span};
 ghost use Rattle.vs_data.specs.Blocks.{lines_in, view_in, free_space, space_of};
+ghost use Rattle.vs_tree_laws.specs.Differs.{Differs};
 ghost use Rattle.vs_tree_laws.specs.Changes.{Above, Promise, Takes, Wrote, edited, splice};
 ghost use Rattle.vs_tree_blocks.specs.Blocks.{tree_format, lines_at, IsNarrow};
-ghost use Rattle.vs_tree_blocks.specs.Edits.{change_of, IsEdit, MayTake};
+ghost use Rattle.vs_tree_blocks.specs.Edits.{change_of, IsEdit, IsSlight, ChangesFew, MayTake};
 ghost use Rattle.vs_tree_blocks.specs.Parts.{IsSplit};
 
 use crate::{Edit, Edited, Gone, Run, add_block};
@@ -160,6 +161,7 @@ fn write_parts<P: Pages>(
     ensures wrote { IfOk result (λ entries. IsTrue P.tells → (a b : List (List ℕ)) → lines_in first.now ≡ Some a → front ≡ length a → lines_in second.now ≡ Some b → back ≡ length b → Wrote tree_format (P.present pages.old) (P.present pages.new) (λ k. span block 1 k) 0 (a ++ b) entries.items) }
     ensures narrow { IfOk result (λ entries. AllByRecursion IsNarrow entries.items) }
     ensures few { IfOk result (λ entries. length entries.items ≤ 3) }
+    ensures differs { OnOk result (IsTrue P.tells → Differs (P.present pages.old) (P.present pages.new) 2) }
     ensures committed { IsTrue P.tells → P.committed pages.new ≡ P.committed pages.old }
     ensures later { P.faults pages.old ≤ P.faults pages.new }
     ensures failed { result ≡ Err PageErr.Failed → Rose (P.faults pages.old) (P.faults pages.new) }
@@ -197,6 +199,7 @@ fn write_whole<P: Pages>(
     ensures wrote { IfOk result (λ entries. IsTrue P.tells → (lines : List (List ℕ)) → lines_in bytes.now ≡ Some lines → count ≡ length lines → Wrote tree_format (P.present pages.old) (P.present pages.new) (λ k. span block 1 k) 0 lines entries.items) }
     ensures narrow { IfOk result (λ entries. AllByRecursion IsNarrow entries.items) }
     ensures few { IfOk result (λ entries. length entries.items ≤ 3) }
+    ensures differs { OnOk result (IsTrue P.tells → Differs (P.present pages.old) (P.present pages.new) 1) }
     ensures committed { IsTrue P.tells → P.committed pages.new ≡ P.committed pages.old }
     ensures later { P.faults pages.old ≤ P.faults pages.new }
     ensures failed { result ≡ Err PageErr.Failed → Rose (P.faults pages.old) (P.faults pages.new) }
@@ -232,6 +235,7 @@ fn put_whole<P: Pages>(
     ensures wrote { IfOk result (λ entries. IsTrue P.tells → (lines : List (List ℕ)) → lines_in bytes.now ≡ Some lines → Wrote tree_format (P.present pages.old) (P.present pages.new) (λ k. span block 1 k) 0 (splice lines at 0 run.now) entries.items) }
     ensures narrow { IfOk result (λ entries. AllByRecursion IsNarrow entries.items) }
     ensures few { IfOk result (λ entries. length entries.items ≤ 3) }
+    ensures differs { OnOk result (IsTrue P.tells → Differs (P.present pages.old) (P.present pages.new) 1) }
     ensures committed { IsTrue P.tells → P.committed pages.new ≡ P.committed pages.old }
     ensures later { P.faults pages.old ≤ P.faults pages.new }
     ensures failed { result ≡ Err PageErr.Failed → Rose (P.faults pages.old) (P.faults pages.new) }
@@ -263,6 +267,7 @@ fn put_front<P: Pages>(
     ensures wrote { IfOk result (λ entries. IsTrue P.tells → (a b : List (List ℕ)) → lines_in parts.now.first.items ≡ Some a → parts.now.front.count ≡ length a → lines_in parts.now.second.items ≡ Some b → parts.now.back.count ≡ length b → Wrote tree_format (P.present pages.old) (P.present pages.new) (λ k. span block 1 k) 0 (splice a at 0 run.now ++ b) entries.items) }
     ensures narrow { IfOk result (λ entries. AllByRecursion IsNarrow entries.items) }
     ensures few { IfOk result (λ entries. length entries.items ≤ 3) }
+    ensures differs { OnOk result (IsTrue P.tells → Differs (P.present pages.old) (P.present pages.new) 2) }
     ensures committed { IsTrue P.tells → P.committed pages.new ≡ P.committed pages.old }
     ensures later { P.faults pages.old ≤ P.faults pages.new }
     ensures failed { result ≡ Err PageErr.Failed → Rose (P.faults pages.old) (P.faults pages.new) }
@@ -296,6 +301,7 @@ fn put_back<P: Pages>(
     ensures wrote { IfOk result (λ entries. IsTrue P.tells → (a b : List (List ℕ)) → lines_in parts.now.first.items ≡ Some a → parts.now.front.count ≡ length a → lines_in parts.now.second.items ≡ Some b → parts.now.back.count ≡ length b → Wrote tree_format (P.present pages.old) (P.present pages.new) (λ k. span block 1 k) 0 (a ++ splice b at 0 run.now) entries.items) }
     ensures narrow { IfOk result (λ entries. AllByRecursion IsNarrow entries.items) }
     ensures few { IfOk result (λ entries. length entries.items ≤ 3) }
+    ensures differs { OnOk result (IsTrue P.tells → Differs (P.present pages.old) (P.present pages.new) 2) }
     ensures committed { IsTrue P.tells → P.committed pages.new ≡ P.committed pages.old }
     ensures later { P.faults pages.old ≤ P.faults pages.new }
     ensures failed { result ≡ Err PageErr.Failed → Rose (P.faults pages.old) (P.faults pages.new) }
@@ -324,6 +330,7 @@ fn write_between<P: Pages>(
     ensures wrote { IfOk result (λ entries. IsTrue P.tells → (a b : List (List ℕ)) → lines_in parts.now.first.items ≡ Some a → parts.now.front.count ≡ length a → lines_in parts.now.second.items ≡ Some b → parts.now.back.count ≡ length b → Wrote tree_format (P.present pages.old) (P.present pages.new) (λ k. span block 1 k) 0 (a ++ (run.now ++ b)) entries.items) }
     ensures narrow { IfOk result (λ entries. AllByRecursion IsNarrow entries.items) }
     ensures few { IfOk result (λ entries. length entries.items ≤ 3) }
+    ensures differs { OnOk result (IsTrue P.tells → space_of run.now ≤ 4072 → Differs (P.present pages.old) (P.present pages.new) 3) }
     ensures committed { IsTrue P.tells → P.committed pages.new ≡ P.committed pages.old }
     ensures later { P.faults pages.old ≤ P.faults pages.new }
     ensures failed { result ≡ Err PageErr.Failed → Rose (P.faults pages.old) (P.faults pages.new) }
@@ -365,6 +372,7 @@ fn put_between<P: Pages>(
     ensures wrote { IfOk result (λ entries. IsTrue P.tells → (lines : List (List ℕ)) → lines_in bytes.now ≡ Some lines → Wrote tree_format (P.present pages.old) (P.present pages.new) (λ k. span block 1 k) 0 (splice lines at 0 run.now) entries.items) }
     ensures narrow { IfOk result (λ entries. AllByRecursion IsNarrow entries.items) }
     ensures few { IfOk result (λ entries. length entries.items ≤ 3) }
+    ensures differs { OnOk result (IsTrue P.tells → space_of run.now ≤ 4072 → Differs (P.present pages.old) (P.present pages.new) 3) }
     ensures committed { IsTrue P.tells → P.committed pages.new ≡ P.committed pages.old }
     ensures later { P.faults pages.old ≤ P.faults pages.new }
     ensures failed { result ≡ Err PageErr.Failed → Rose (P.faults pages.old) (P.faults pages.new) }
@@ -397,6 +405,7 @@ fn put_beside<P: Pages>(
     ensures wrote { IfOk result (λ entries. IsTrue P.tells → (lines : List (List ℕ)) → lines_in bytes.now ≡ Some lines → Wrote tree_format (P.present pages.old) (P.present pages.new) (λ k. span block 1 k) 0 (splice lines at 0 run.now) entries.items) }
     ensures narrow { IfOk result (λ entries. AllByRecursion IsNarrow entries.items) }
     ensures few { IfOk result (λ entries. length entries.items ≤ 3) }
+    ensures differs { OnOk result (IsTrue P.tells → space_of run.now ≤ 4072 → Differs (P.present pages.old) (P.present pages.new) 1) }
     ensures committed { IsTrue P.tells → P.committed pages.new ≡ P.committed pages.old }
     ensures later { P.faults pages.old ≤ P.faults pages.new }
     ensures failed { result ≡ Err PageErr.Failed → Rose (P.faults pages.old) (P.faults pages.new) }
@@ -435,6 +444,7 @@ fn put_split<P: Pages>(
     ensures wrote { IfOk result (λ entries. IsTrue P.tells → (lines : List (List ℕ)) → lines_in bytes.now ≡ Some lines → Wrote tree_format (P.present pages.old) (P.present pages.new) (λ k. span block 1 k) 0 (splice lines at 0 run.now) entries.items) }
     ensures narrow { IfOk result (λ entries. AllByRecursion IsNarrow entries.items) }
     ensures few { IfOk result (λ entries. length entries.items ≤ 3) }
+    ensures differs { OnOk result (IsTrue P.tells → space_of run.now ≤ 4072 → Differs (P.present pages.old) (P.present pages.new) 3) }
     ensures committed { IsTrue P.tells → P.committed pages.new ≡ P.committed pages.old }
     ensures later { P.faults pages.old ≤ P.faults pages.new }
     ensures failed { result ≡ Err PageErr.Failed → Rose (P.faults pages.old) (P.faults pages.new) }
@@ -471,6 +481,7 @@ fn put_run<P: Pages>(
     ensures wrote { IfOk result (λ entries. IsTrue P.tells → (lines : List (List ℕ)) → lines_in bytes.now ≡ Some lines → Wrote tree_format (P.present pages.old) (P.present pages.new) (λ k. span block 1 k) 0 (splice lines at 0 run.now) entries.items) }
     ensures narrow { IfOk result (λ entries. AllByRecursion IsNarrow entries.items) }
     ensures few { IfOk result (λ entries. length entries.items ≤ 3) }
+    ensures differs { OnOk result (IsTrue P.tells → space_of run.now ≤ 4072 → Differs (P.present pages.old) (P.present pages.new) 3) }
     ensures committed { IsTrue P.tells → P.committed pages.new ≡ P.committed pages.old }
     ensures later { P.faults pages.old ≤ P.faults pages.new }
     ensures failed { result ≡ Err PageErr.Failed → Rose (P.faults pages.old) (P.faults pages.new) }
@@ -504,6 +515,7 @@ fn remove_lines<P: Pages>(
     ensures bytes { IfOk result (λ after. (lines : List (List ℕ)) → lines_in bytes.now ≡ Some lines → after.gone.bytes ≡ bytes_of (take count (drop at lines))) }
     ensures narrow { IfOk result (λ after. AllByRecursion IsNarrow after.entries.items) }
     ensures few { IfOk result (λ after. length after.entries.items ≤ 3) }
+    ensures differs { OnOk result (IsTrue P.tells → Differs (P.present pages.old) (P.present pages.new) 1) }
     ensures committed { IsTrue P.tells → P.committed pages.new ≡ P.committed pages.old }
     ensures later { P.faults pages.old ≤ P.faults pages.new }
     ensures failed { result ≡ Err PageErr.Failed → Rose (P.faults pages.old) (P.faults pages.new) }
@@ -590,6 +602,7 @@ fn edit_long<P: Pages>(
     ensures may_take { IfOk result (λ after. MayTake edit.entry after.gone.lines) }
     ensures narrow { IfOk result (λ after. AllByRecursion IsNarrow after.entries.items) }
     ensures few { IfOk result (λ after. length after.entries.items ≤ 3) }
+    ensures differs { OnOk result (IsTrue P.tells → (lines : List (List ℕ)) → lines_at (P.present pages.old) block count ≡ Some lines → IsSlight edit.entry (get_or lines 0 []) → Differs (P.present pages.old) (P.present pages.new) 1) }
     ensures committed { IsTrue P.tells → P.committed pages.new ≡ P.committed pages.old }
     ensures later { P.faults pages.old ≤ P.faults pages.new }
     ensures failed { result ≡ Err PageErr.Failed → Rose (P.faults pages.old) (P.faults pages.new) }
@@ -633,6 +646,7 @@ pub fn edit_data<P: Pages>(
     ensures may_take { IfOk result (λ after. MayTake edit.entry after.gone.lines) }
     ensures narrow { IfOk result (λ after. AllByRecursion IsNarrow after.entries.items) }
     ensures few { IfOk result (λ after. length after.entries.items ≤ 3) }
+    ensures differs { OnOk result (IsTrue P.tells → ChangesFew (P.present pages.old) (P.present pages.new) block count 0 at edit.entry 3) }
     ensures committed { IsTrue P.tells → P.committed pages.new ≡ P.committed pages.old }
     ensures later { P.faults pages.old ≤ P.faults pages.new }
     ensures failed { result ≡ Err PageErr.Failed → Rose (P.faults pages.old) (P.faults pages.new) }

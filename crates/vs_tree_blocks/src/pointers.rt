@@ -5,6 +5,7 @@ ghost use Rattle.vs_faults.specs.Faults.{Rose};
 ghost use Rattle.vs_pages.specs.Maps.{pages_at, one, total};
 ghost use Rattle.vs_tree_laws.specs.Places.{lines_below};
 ghost use Rattle.vs_tree_laws.specs.Trees.{Tree, lines_of, uses};
+ghost use Rattle.vs_tree_laws.specs.Differs.{Differs};
 ghost use Rattle.vs_tree_laws.specs.Changes.{Below, Wrote, pointer_entry};
 ghost use Rattle.vs_tree_blocks.specs.Blocks.{tree_format, entries_at, points_in, IsNarrow, IsListOf};
 
@@ -99,6 +100,7 @@ fn write_one<P: Pages>(
     ensures wrote { IfOk result (λ above. IsTrue P.tells → (d : ℕ) (kids : List (Tree d)) → Below tree_format (P.present pages.old) block d kids entries.now → Wrote tree_format (P.present pages.old) (P.present pages.new) (λ k. one block k + total (λ u. uses d u k) kids) (suc d) (flat_map (λ u. lines_of d u) kids) above.items) }
     ensures narrow { IfOk result (λ above. AllByRecursion IsNarrow above.items) }
     ensures few { IfOk result (λ above. length above.items ≤ 3) }
+    ensures differs { OnOk result (IsTrue P.tells → Differs (P.present pages.old) (P.present pages.new) 1) }
     ensures committed { IsTrue P.tells → P.committed pages.new ≡ P.committed pages.old }
     ensures later { P.faults pages.old ≤ P.faults pages.new }
     ensures failed { result ≡ Err PageErr.Failed → Rose (P.faults pages.old) (P.faults pages.new) }
@@ -131,6 +133,7 @@ fn write_two<P: Pages>(
     ensures wrote { IfOk result (λ above. IsTrue P.tells → (d : ℕ) (kids : List (Tree d)) → Below tree_format (P.present pages.old) block d kids entries.now → Wrote tree_format (P.present pages.old) (P.present pages.new) (λ k. one block k + total (λ u. uses d u k) kids) (suc d) (flat_map (λ u. lines_of d u) kids) above.items) }
     ensures narrow { IfOk result (λ above. AllByRecursion IsNarrow above.items) }
     ensures few { IfOk result (λ above. length above.items ≤ 3) }
+    ensures differs { OnOk result (IsTrue P.tells → Differs (P.present pages.old) (P.present pages.new) 2) }
     ensures committed { IsTrue P.tells → P.committed pages.new ≡ P.committed pages.old }
     ensures later { P.faults pages.old ≤ P.faults pages.new }
     ensures failed { result ≡ Err PageErr.Failed → Rose (P.faults pages.old) (P.faults pages.new) }
@@ -171,6 +174,7 @@ pub fn write_pointers<P: Pages>(
     ensures wrote { IfOk result (λ above. IsTrue P.tells → (d : ℕ) (kids : List (Tree d)) → Below tree_format (P.present pages.old) block d kids entries.items → Wrote tree_format (P.present pages.old) (P.present pages.new) (λ k. one block k + total (λ u. uses d u k) kids) (suc d) (flat_map (λ u. lines_of d u) kids) above.items) }
     ensures narrow { IfOk result (λ above. AllByRecursion IsNarrow above.items) }
     ensures few { IfOk result (λ above. length above.items ≤ 3) }
+    ensures differs { OnOk result (IsTrue P.tells → Differs (P.present pages.old) (P.present pages.new) 2) }
     ensures committed { IsTrue P.tells → P.committed pages.new ≡ P.committed pages.old }
     ensures later { P.faults pages.old ≤ P.faults pages.new }
     ensures failed { result ≡ Err PageErr.Failed → Rose (P.faults pages.old) (P.faults pages.new) }
@@ -195,6 +199,7 @@ fn lift_root<P: Pages>(alloc: Global, pages: &mut P, entries: &[Entry]) -> Resul
     requires narrow { AllByRecursion IsNarrow entries.now }
     requires few { length entries.now ≤ 254 }
     ensures wrote { OnOk result (IsTrue P.tells → (d : ℕ) (kids : List (Tree d)) → Below tree_format (P.present pages.old) 1 d kids entries.now → Wrote tree_format (P.present pages.old) (P.present pages.new) (λ k. one 1 k + total (λ u. uses d u k) kids) (suc (suc d)) (flat_map (λ u. lines_of d u) kids) (pointer_entry 1 (lines_below entries.now) ∷ [])) }
+    ensures differs { OnOk result (IsTrue P.tells → Differs (P.present pages.old) (P.present pages.new) 3) }
     ensures committed { IsTrue P.tells → P.committed pages.new ≡ P.committed pages.old }
     ensures later { P.faults pages.old ≤ P.faults pages.new }
     ensures failed { result ≡ Err PageErr.Failed → Rose (P.faults pages.old) (P.faults pages.new) }
@@ -233,6 +238,7 @@ pub fn write_root<P: Pages>(
     requires few { length entries.items ≤ 254 }
     ensures wrote { IfOk result (λ more. IsTrue P.tells → (d : ℕ) (kids : List (Tree d)) → Below tree_format (P.present pages.old) 1 d kids entries.items → Wrote tree_format (P.present pages.old) (P.present pages.new) (λ k. one 1 k + total (λ u. uses d u k) kids) (more + suc d) (flat_map (λ u. lines_of d u) kids) (pointer_entry 1 (lines_below entries.items) ∷ [])) }
     ensures more { IfOk result (λ more. more ≤ 1) }
+    ensures differs { OnOk result (IsTrue P.tells → Differs (P.present pages.old) (P.present pages.new) 3) }
     ensures committed { IsTrue P.tells → P.committed pages.new ≡ P.committed pages.old }
     ensures later { P.faults pages.old ≤ P.faults pages.new }
     ensures failed { result ≡ Err PageErr.Failed → Rose (P.faults pages.old) (P.faults pages.new) }

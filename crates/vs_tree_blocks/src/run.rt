@@ -1,9 +1,10 @@
 // Lines that are put in together.
-ghost use Rattle.std.specs.Prelude.{◌≡◌, ◌≤◌, ◌<◌, ◌+◌, ◌*◌, ◌/◌, ◌^◌, ◌↔◌, ◌++◌, ◌∷◌, [], ℕ, List, Some, Ok, Err, IfOk, IsTrue, length, false};
+ghost use Rattle.std.specs.Prelude.{◌≡◌, ◌≤◌, ◌<◌, ◌+◌, ◌*◌, ◌/◌, ◌^◌, ◌↔◌, ◌++◌, ◌∷◌, [], ℕ, List, Some, Ok, Err, IfOk, OnOk, IsTrue, length, false};
 ghost use Rattle.std.specs.Option.{option_map};
 ghost use Rattle.vs_faults.specs.Faults.{Rose};
 ghost use Rattle.vs_data.specs.Blocks.{lines_in, view_in, free_space, space_of};
 ghost use Rattle.vs_tree_laws.specs.Trees.{leaf};
+ghost use Rattle.vs_tree_laws.specs.Differs.{Differs};
 ghost use Rattle.vs_tree_laws.specs.Changes.{Replaces, splice};
 ghost use Rattle.vs_tree_blocks.specs.Blocks.{tree_format, IsNarrow};
 ghost use Rattle.vs_tree_blocks.specs.Edits.{IsStored};
@@ -125,6 +126,7 @@ impl Run {
         ensures added { IfOk result (λ new. IsTrue P.tells → Replaces tree_format (P.present pages.old) (P.present pages.new) (λ k. 0) 0 (leaf new.block new.pages self.now ∷ [])) }
         ensures lines { IfOk result (λ new. new.lines ≡ length self.now) }
         ensures narrow { IfOk result IsNarrow }
+        ensures differs { OnOk result (IsTrue P.tells → space_of self.now ≤ 4072 → Differs (P.present pages.old) (P.present pages.new) 1) }
         ensures committed { IsTrue P.tells → P.committed pages.new ≡ P.committed pages.old }
         ensures later { P.faults pages.old ≤ P.faults pages.new }
         ensures failed { result ≡ Err PageErr.Failed → Rose (P.faults pages.old) (P.faults pages.new) }

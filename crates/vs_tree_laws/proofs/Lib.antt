@@ -1,3 +1,4 @@
+pub mod Differences
 pub mod Roots
 pub mod Shapes
 pub mod Splices

@@ -26,6 +26,11 @@ first_above c m depth at lines has within small = record {
   small = omega (arith, small, ap length has.lines_are);
 }
 
+-- the lines below block 1 are all lines
+pub first_lines : (c : Format) (m : Map) (depth at : ℕ) (lines : List (List ℕ)) (has : HasLines c m depth lines) (within : at < length lines) (small : length lines < 2 ^ 62) → lines_of depth (first_above c m depth at lines has within small).tree ≡ lines
+unfolding first_above
+first_lines c m depth at lines has within small = has.lines_are
+
 -- a tree with lines is less deep than there are pages
 pub depth_short : (c : Format) (m : Map) (n depth : ℕ) (lines : List (List ℕ)) → HasLines c m depth lines → 0 < length lines → HasPages m n → depth < n
 depth_short c m n depth lines has some pages = depth_below c depth m n has.tree has.stands.tree has.stands.once (omega (arith, some, ap length has.lines_are)) pages

@@ -1,5 +1,6 @@
 pub mod Changes
 pub mod Depths
+pub mod Differs
 pub mod Places
 pub mod Reads
 pub mod Sames

@@ -1,4 +1,4 @@
-use Rattle.std.proofs.Common.{◌≡◌, ℕ, ◌-◌, ◌≤◌, List, is_some, IsTrue, IfOk, arith, refl, rules, sym, ap, subst}
+use Rattle.std.proofs.Common.{◌≡◌, ℕ, ◌-◌, ◌≤◌, List, is_some, IsTrue, IfOk, arith, refl, rules, sym, ap, subst, ◌+◌, ◌*◌}
 use Rattle.vs_pages.specs.Maps.{Map}
 use Rattle.vs_tree_laws.specs.declared.entries.Entry.{Entry}
 use Rattle.vs_tree_laws.specs.Changes.{Above, Promise}
@@ -7,10 +7,12 @@ use Rattle.vs_tree_laws.proofs.Shapes.{each-replaced, length-replaced}
 use Rattle.vs_tree_laws.proofs.Walks.{place_each}
 use Rattle.vs_tree_laws.proofs.Steps.{above_down, above_entries, above_place, edited_pointers, pointers_there, pointers_read}
 use Rattle.vs_tree_blocks.specs.Blocks.{tree_format, IsNarrow}
-use Rattle.vs_tree_blocks.specs.Edits.{change_of}
+use Rattle.vs_tree_blocks.specs.Edits.{change_of, ChangesFew}
 use Rattle.vs_tree_blocks.specs.declared.edit.Edited.{Edited}
 use Rattle.vs_tree_blocks.proofs.ChangesLemmas.{few_new}
 use Rattle.vs_tree.proofs.ChangeLemmas.{promised}
+use Rattle.std.proofs.lemmas.Result.{on_ok_weaker}
+use Rattle.vs_tree.proofs.Bounds.{few_below}
 use Rattle.vs_tree.proofs.change.+edit_below.Goals as goal
 
 pub returns-then-depth-eq0-clause-wrote : goal.returns-then-depth-eq0-clause-wrote
@@ -82,3 +84,16 @@ returns-clause-wrote g t c = λ told.
     let mid = rw (c.deref-2.ensures.value, c.deref-3.ensures.value) at c.in_ok-all.ensures in
     let promise = promised _ _ _ _ _ _ _ _ _ _ _ (c.load_entries.ensures.present told) refl (c.in_ok-below.ensures.wrote told) in
     edited_pointers _ _ _ _ _ _ c.args.depth _ c.in_ok-below.below.gone.bytes (change_of c.args.edit c.in_ok-below.below.gone.lines) c.in_ok-entries.entries.items c.in_ok-below.below.entries.items c.in_ok-all.all.items c.in_ok-above.above.items c.in-Some.place c.if-depth-eq0.false (c.in_ok-entries.ensures.entries told) is mid promise (c.in_ok-above.ensures.wrote told)
+
+pub returns-then-depth-eq0-clause-differs : goal.returns-then-depth-eq0-clause-differs
+returns-then-depth-eq0-clause-differs g t c = on_ok_weaker c.edit_data.result
+    (λ few told.
+    let none : c.args.depth ≡ 0 = c.if-depth-eq0.true in
+    let P : ℕ → Type 0 = λ d. ChangesFew (g.P.Pages.present c.args.pages.now) (g.P.Pages.present c.edit_data.new.pages) c.args.block c.args.count d c.args.at c.args.edit (2 * d + 3) in
+    subst P (sym none) (few told))
+    c.edit_data.ensures.differs
+
+pub returns-clause-differs : goal.returns-clause-differs
+returns-clause-differs g t c = λ told.
+    let is = subst (λ (es : List Entry). IsPlace es c.args.at c.in-Some.place) c.deref.ensures.value c.in-Some.ensures.some in
+    few_below _ _ _ _ c.args.block c.args.count _ c.args.depth c.args.at 2 (2 * c.args.depth + 3) c.args.edit c.in_ok-entries.entries.items c.in-Some.place c.if-depth-eq0.false (c.in_ok-entries.ensures.entries told) is (c.load_entries.ensures.present told) refl (omega arith) (c.in_ok-below.ensures.differs told) (c.in_ok-above.ensures.differs told)

@@ -1,4 +1,4 @@
-use Rattle.std.proofs.Common.{◌≡◌, ℕ, ◌-◌, ◌≤◌, List, is_some, arith, sym, ap, subst}
+use Rattle.std.proofs.Common.{◌≡◌, ℕ, ◌-◌, ◌≤◌, List, is_some, arith, sym, ap, subst, ◌+◌, ◌*◌}
 use Rattle.vs_pages.specs.Maps.{Map}
 use Rattle.vs_tree_laws.specs.declared.entries.Entry.{Entry}
 use Rattle.vs_tree_laws.specs.Changes.{Above}
@@ -11,6 +11,7 @@ use Rattle.vs_tree_blocks.specs.Blocks.{tree_format, IsNarrow}
 use Rattle.vs_tree_blocks.specs.Edits.{change_of}
 use Rattle.vs_tree_blocks.proofs.ChangesLemmas.{few_new}
 use Rattle.vs_tree.proofs.ChangeLemmas.{promised}
+use Rattle.vs_tree.proofs.Bounds.{few_below, few_lines}
 use Rattle.vs_tree.proofs.change.edit_tree.Goals as goal
 
 pub damaged-requires-clause-silent : goal.damaged-requires-clause-silent
@@ -73,3 +74,9 @@ edit_below-requires-clause-block g c = (place_each IsNarrow c.in_ok-entries.entr
 
 pub edit_below-requires-clause-count : goal.edit_below-requires-clause-count
 edit_below-requires-clause-count g c = (place_each IsNarrow c.in_ok-entries.entries.items _ c.args.at c.in-Some.place c.deref.ensures.value c.in-Some.ensures.some c.in_ok-entries.ensures.narrow).pages
+
+pub returns-clause-differs : goal.returns-clause-differs
+returns-clause-differs g c = λ told lines has within small slight.
+    let is = subst (λ (es : List Entry). IsPlace es c.args.at c.in-Some.place) c.deref.ensures.value c.in-Some.ensures.some in
+    few_lines _ _ c.args.height c.args.at (2 * c.args.height + 4) c.args.edit lines has within small slight
+    (few_below _ _ _ _ 1 1 _ c.args.height c.args.at 3 (2 * c.args.height + 4) c.args.edit c.in_ok-entries.entries.items c.in-Some.place (not_flat _ _ _ _ has) (c.in_ok-entries.ensures.entries told) is (c.load_entries.ensures.present told) c.saturating_sub.ensures (omega arith) (c.in_ok-below.ensures.differs told) (c.in_ok-more.ensures.differs told))

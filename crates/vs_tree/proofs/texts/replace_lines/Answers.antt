@@ -1,12 +1,14 @@
-use Rattle.std.proofs.Common.{◌≡◌, ℕ, ◌+◌, ◌<◌, ◌≤◌, List, length, subst, ◌∙◌, arith}
+use Rattle.std.proofs.Common.{◌≡◌, ℕ, ◌+◌, ◌<◌, ◌≤◌, List, length, subst, ◌∙◌, arith, ◌*◌}
 use Rattle.vs_text.specs.Text.{IsLine, stored}
 use Rattle.vs_text.specs.Limits.{IsShort}
 use Rattle.vs_tree_laws.specs.Trees.{HasLines}
 use Rattle.vs_tree_blocks.specs.Blocks.{tree_format}
-use Rattle.vs_edit.specs.Splices.{splice}
+use Rattle.vs_edit.specs.Splices.{splice, cut_out}
 use Rattle.vs_tree.specs.Runs.{with_lines}
 use Rattle.vs_edit.proofs.SpliceLemmas.{length-splice, All-splice, bytes_of-splice, bytes_of-cut_out}
-use Rattle.vs_tree.proofs.StoredLemmas.{stored-most, replaced, replaced_bytes, place_in, run_after}
+use Rattle.vs_tree.proofs.StoredLemmas.{stored-most, replaced, replaced_bytes, place_in, run_after, replaced_run}
+use Rattle.vs_tree_laws.proofs.Differences.{differs_then}
+use Rattle.vs_tree.proofs.Bounds.{brief_stored}
 use Rattle.vs_tree.proofs.texts.replace_lines.Goals as goal
 
 pub put_lines-requires-clause-there : goal.put_lines-requires-clause-there
@@ -63,3 +65,15 @@ returns-clause-text g c = λ told text has.
         few_bytes = c.requires.few_bytes told text has;
       };
     }
+
+pub returns-clause-differs : goal.returns-clause-differs
+returns-clause-differs g c = λ told text has small.
+    let inside : c.args.top + c.args.old ≤ length text = omega (arith, has.lines, c.requires.within) in
+    let some : 0 < length text = omega (arith, has.lines, c.requires.full) in
+    let place = place_in text c.args.top (omega arith) (omega (arith, has.within.few_lines)) in
+    let put = c.in_ok-height.ensures.put told (stored text) has.tree place (omega (arith, stored-most text, has.within.few_lines, has.lines, c.requires.within, c.requires.few_lines)) in
+    let run = run_after text c.args.new.now c.args.top c.args.old some inside (omega (arith, has.within.few_lines, has.lines, c.requires.within, c.requires.few_lines))
+    (omega (arith, has.within.few_bytes, c.requires.few_bytes told text has, bytes_of-splice text c.args.new.now c.args.top c.args.old inside, bytes_of-cut_out text c.args.top c.args.old inside)) in
+    let first = c.in_ok-height.ensures.differs told (stored text) has.tree place (omega (arith, stored-most text, has.within.few_lines, has.lines, c.requires.within, c.requires.few_lines)) small.few_in small.brief_in in
+    let second = c.in_ok-taken.ensures.differs told (with_lines (stored text) c.args.top c.args.new.now) put run small.few_out (brief_stored (cut_out text c.args.top c.args.old) _ (replaced_run text c.args.new.now c.args.top c.args.old some inside) small.brief_out) in
+    differs_then _ _ _ (2 * c.args.now.height + 4) (2 * c.in_ok-height.height + 4) (4 * c.args.now.height + 10) (omega (arith, c.in_ok-height.ensures.higher, small.few_in)) first second

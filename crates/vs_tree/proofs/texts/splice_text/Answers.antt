@@ -1,9 +1,12 @@
-use Rattle.std.proofs.Common.{◌≡◌, ℕ, ◌+◌, ◌≤◌, List, [], ◌∷◌, length, sym, ap, subst, ◌∙◌, arith}
+use Rattle.std.proofs.Common.{◌≡◌, ℕ, ◌+◌, ◌≤◌, List, [], ◌∷◌, length, sym, ap, subst, ◌∙◌, arith, All}
 use Rattle.vs_tree_blocks.proofs.Outcomes.{if_ok_weaker}
 use Rattle.vs_tree.specs.declared.texts.Extent.{Extent}
 use Rattle.vs_edit.specs.Splices.{splice}
 use Rattle.vs_tree.specs.Texts.{HasText}
 use Rattle.vs_edit.proofs.SpliceLemmas.{splice_all}
+use Rattle.std.proofs.lemmas.Result.{on_ok_weaker}
+use Rattle.vs_tree_blocks.proofs.GoneLemmas.{take_all}
+use Rattle.vs_tree_blocks.specs.Edits.{IsBrief}
 use Rattle.vs_tree.proofs.texts.splice_text.Goals as goal
 
 emptied : (text new : List (List ℕ)) (top old n : ℕ) → length text ≡ n → top + old ≤ n → old ≡ n → length new ≡ 0 → splice text top old new ≡ []
@@ -20,3 +23,13 @@ returns-then-old-now-clause-text g c = if_ok_weaker c.clear_text.result _ _
     let gone : splice text c.args.top c.args.old c.args.new.now ≡ [] = emptied text c.args.new.now c.args.top c.args.old c.args.now.lines has.lines c.requires.within c.if-old-now.true none in
     subst (λ (xs : List (List ℕ)). HasText (g.P.Pages.present c.clear_text.new.pages) extent xs) (sym gone) (cleared told))
     c.clear_text.ensures.text
+
+pub returns-then-now-eq0-clause-differs : goal.returns-then-now-eq0-clause-differs
+returns-then-now-eq0-clause-differs g c = on_ok_weaker c.fill_text.result (λ few told text has small. few told small.few_in small.brief_in) c.fill_text.ensures.differs
+
+pub returns-then-old-now-clause-differs : goal.returns-then-old-now-clause-differs
+returns-then-old-now-clause-differs g c = on_ok_weaker c.clear_text.result
+    (λ few told text has small.
+    let all = take_all text c.args.top c.args.old (omega (arith, has.lines, c.requires.within)) (omega (arith, has.lines, c.if-old-now.true)) in
+    few told text has (omega (arith, small.few_out, c.if-old-now.true)) (subst (λ (xs : List (List ℕ)). All IsBrief xs) all small.brief_out))
+    c.clear_text.ensures.differs

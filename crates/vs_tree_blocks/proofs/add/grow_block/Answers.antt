@@ -1,8 +1,9 @@
-use Rattle.std.proofs.Common.{◌≡◌, ℕ, ap, subst, ◌∙◌, arith}
+use Rattle.std.proofs.Common.{◌≡◌, ℕ, ap, subst, ◌∙◌, arith, [], ◌∷◌}
 use Rattle.vs_pages.specs.Maps.{Map, IsVacant, put_pages, zeros}
 use Rattle.vs_pages.proofs.MapsLemmas.{length-zeros}
 use Rattle.vs_tree_laws.proofs.Writes.{grown, grown_again}
-use Rattle.vs_tree_blocks.proofs.Outcomes.{if_ok_both}
+use Rattle.vs_tree_blocks.proofs.Outcomes.{if_ok_both, if_ok_weaker}
+use Rattle.vs_tree_laws.proofs.Differences.{keeps_put, keeps_zero, keeps_then}
 use Rattle.vs_tree_blocks.proofs.add.grow_block.Goals as goal
 
 pub returns-then-at-eq0-clause-grown : goal.returns-then-at-eq0-clause-grown
@@ -17,3 +18,15 @@ returns-then-at-eq0-clause-grown g c = if_ok_both c.grow-then-at-eq0.result _ _ 
 
 pub returns-clause-grown : goal.returns-clause-grown
 returns-clause-grown g c = λ told. grown _ _ _ c.args.count (zeros c.args.count) (c.in_ok-at.ensures.vacant told) (omega (arith, c.if-at-eq0.false)) (length-zeros c.args.count) (c.in_ok-at.ensures.ok told)
+
+pub returns-then-at-eq0-clause-keeps : goal.returns-then-at-eq0-clause-keeps
+returns-then-at-eq0-clause-keeps g c = if_ok_weaker c.grow-then-at-eq0.result _ _
+    (λ (at : ℕ) ok told single.
+    let made = c.in_ok-at.ensures in
+    keeps_then _ (g.P.Pages.present c.grow.new.self) _ [] (at ∷ [])
+    (keeps_zero _ _ c.in_ok-at.at c.args.count (zeros c.args.count) c.if-at-eq0.true single (made.vacant told) (made.ok told))
+    (keeps_put _ _ at c.args.count (zeros c.args.count) single (ok told)))
+    c.grow-then-at-eq0.ensures.ok
+
+pub returns-clause-keeps : goal.returns-clause-keeps
+returns-clause-keeps g c = λ told single. keeps_put _ _ c.in_ok-at.at c.args.count (zeros c.args.count) single (c.in_ok-at.ensures.ok told)

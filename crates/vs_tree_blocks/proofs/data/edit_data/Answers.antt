@@ -1,17 +1,19 @@
-use Rattle.std.proofs.Common.{◌≡◌, ℕ, ◌+◌, List, [], Some, IsSome, is_some, take, drop, sym, ap, subst, ◌∙◌, arith}
+use Rattle.std.proofs.Common.{◌≡◌, ℕ, ◌+◌, List, [], Some, IsSome, is_some, take, drop, sym, ap, subst, ◌∙◌, arith, get_or}
 use Rattle.vs_tree_laws.specs.Changes.{Wrote, edited, splice}
 use Rattle.vs_tree_blocks.specs.declared.edit.Edit.{Edit}
 use Rattle.vs_tree_blocks.specs.declared.edit.Edited.{Edited}
-use Rattle.vs_tree_blocks.specs.Edits.{change_of}
+use Rattle.vs_tree_blocks.specs.Edits.{change_of, IsSlight}
 use Rattle.vs_tree_blocks.specs.Blocks.{tree_format, lines_at}
 use Rattle.vs_tree_blocks.proofs.Outcomes.{if_ok_weaker, if_ok_both}
 use Rattle.vs_tree_blocks.proofs.EditedLemmas.{none_taken, takes_some, removed}
 use Rattle.vs_text.specs.Text.{bytes_of}
 use Rattle.vs_pages.specs.Maps.{span}
 use Rattle.vs_data.specs.Blocks.{lines_in, view_in}
-use Rattle.vs_tree_blocks.proofs.DataLemmas.{count_is}
+use Rattle.vs_tree_blocks.proofs.DataLemmas.{count_is, at_alone}
 use Rattle.vs_tree_laws.proofs.Walks.{above_lines}
 use Rattle.vs_tree_blocks.proofs.DataLemmas.{lines_loaded, promise_page, promise_long}
+use Rattle.vs_tree_laws.proofs.Differences.{differs_most, differs_from}
+use Rattle.std.proofs.lemmas.Result.{on_ok_weaker}
 use Rattle.vs_tree_blocks.proofs.data.edit_data.Goals as goal
 
 pub edit_long-requires-clause-there : goal.edit_long-requires-clause-there
@@ -79,3 +81,17 @@ returns-clause-wrote g c =
     (λ lines is. wrote told lines is)
     (λ lines is lt. takes_some c.args.edit most lines c.args.at after.gone.lines count after.gone.bytes c.in-Remove.is took.0 (omega (arith, c.min-gone.ensures, c.from-in-Remove.ensures, count_is c.deref-in-Remove.result.now c.in_ok-view.view lines (ap view_in c.deref-in-Remove.ensures.value ∙ c.in_ok-view.ensures.view) is, c.if-at-from.false, c.from.ensures)) (took.1 lines is)))
     c.remove_lines.ensures.wrote (if_ok_both c.remove_lines.result gone bytes _ (λ after a b. (a, b)) c.remove_lines.ensures.gone c.remove_lines.ensures.bytes)
+
+pub returns-then-count-ne1-clause-differs : goal.returns-then-count-ne1-clause-differs
+returns-then-count-ne1-clause-differs g c = on_ok_weaker c.edit_long.result
+    (λ few told a slight.
+    let l = above_lines tree_format _ c.args.block c.args.count c.args.at a in
+    let one = at_alone _ c.args.block c.args.count a.tree.lines (omega (arith, l.1, c.if-count-ne1.true)) l.0 in
+    let first : c.args.at ≡ 0 = omega (arith, one, a.within) in
+    differs_most _ _ 1 3 (omega arith) (few told a.tree.lines l.0 (subst (λ (k : ℕ). IsSlight c.args.edit (get_or a.tree.lines k [])) first slight)))
+    c.edit_long.ensures.differs
+
+pub returns-clause-differs : goal.returns-clause-differs
+returns-clause-differs g c = on_ok_weaker c.remove_lines.result
+    (λ few told a slight. differs_from _ (g.P.Pages.present c.load_data.new.pages) _ 1 3 (omega arith) (c.load_data.ensures.present told) (few told))
+    c.remove_lines.ensures.differs

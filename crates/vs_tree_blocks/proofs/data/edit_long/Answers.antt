@@ -7,9 +7,9 @@ use Rattle.vs_tree_blocks.specs.declared.edit.Edit.{Edit}
 use Rattle.vs_tree_blocks.specs.declared.edit.Edited.{Edited}
 use Rattle.vs_tree_blocks.specs.Edits.{change_of}
 use Rattle.vs_tree_blocks.specs.Blocks.{tree_format, lines_at}
-use Rattle.vs_tree_blocks.proofs.Outcomes.{if_ok_both}
+use Rattle.vs_tree_blocks.proofs.Outcomes.{if_ok_both, on_ok_always}
 use Rattle.vs_tree_blocks.proofs.DataLemmas.{wrote_before, wrote_behind, at_alone, put_last}
-use Rattle.vs_tree_blocks.proofs.EditedLemmas.{wrote_with, none_taken, takes_some, removed}
+use Rattle.vs_tree_blocks.proofs.EditedLemmas.{wrote_with, none_taken, takes_some, removed, too_long}
 use Rattle.vs_tree_blocks.proofs.data.edit_long.Goals as goal
 
 pub returns-in_ok-vec-in-Before-clause-wrote : goal.returns-in_ok-vec-in-Before-clause-wrote
@@ -52,3 +52,6 @@ returns-in-Remove-clause-wrote g c =
       takes_some c.args.edit most lines 0 after.gone.lines 1 after.gone.bytes c.in-Remove.is took.0 (omega (arith, one)) (took.1 told lines reads ∙ ap bytes_of (take_one lines one)),
     ))
     c.remove_long.ensures.wrote (if_ok_both c.remove_long.result gone bytes _ (λ after a b. (a, b)) c.remove_long.ensures.gone c.remove_long.ensures.bytes)
+
+pub returns-in-Remove-clause-differs : goal.returns-in-Remove-clause-differs
+returns-in-Remove-clause-differs g c = on_ok_always c.remove_long.result _ (λ told lines reads slight. absurd (too_long _ c.args.block c.args.count c.in-Remove._most c.args.edit lines (c.requires.there told).0 reads c.in-Remove.is slight))

@@ -8,6 +8,8 @@ use Rattle.vs_tree_laws.specs.Changes.{Wrote}
 use Rattle.vs_tree_blocks.specs.Blocks.{tree_format}
 use Rattle.vs_tree_blocks.proofs.Outcomes.{if_ok_weaker}
 use Rattle.vs_tree_blocks.proofs.DataLemmas.{count_is, lines_after, put_between}
+use Rattle.vs_tree_laws.proofs.Differences.{differs_most}
+use Rattle.std.proofs.lemmas.Result.{on_ok_weaker}
 use Rattle.vs_tree_blocks.proofs.data.put_between.Goals as goal
 
 pub returns-clause-wrote : goal.returns-clause-wrote
@@ -21,3 +23,6 @@ returns-clause-wrote g c = if_ok_weaker c.write_between.result _ _
     subst (λ (xs : List (List ℕ)). Wrote tree_format (g.P.Pages.present c.args.pages.now) (g.P.Pages.present c.write_between.new.pages) (λ k. span c.args.block 1 k) 0 xs entries.items) (put_between lines run at)
     (wrote told (take at lines) (drop at lines) first (omega (arith, s.first_count, length-take at lines, count, c.requires.at)) second (omega (arith, s.second_count, length-drop at lines, count))))
     c.write_between.ensures.wrote
+
+pub returns-then-at-eq0-clause-differs : goal.returns-then-at-eq0-clause-differs
+returns-then-at-eq0-clause-differs g c = on_ok_weaker c.put_beside.result (λ one told few. differs_most _ _ 1 3 (omega arith) (one told few)) c.put_beside.ensures.differs

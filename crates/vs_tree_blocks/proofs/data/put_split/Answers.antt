@@ -9,6 +9,8 @@ use Rattle.vs_tree_laws.specs.Changes.{Wrote, splice}
 use Rattle.vs_tree_blocks.specs.Blocks.{tree_format}
 use Rattle.vs_tree_blocks.proofs.Outcomes.{if_ok_weaker}
 use Rattle.vs_tree_blocks.proofs.DataLemmas.{count_is, lines_after, put_in_front, put_in_back}
+use Rattle.vs_tree_laws.proofs.Differences.{differs_most}
+use Rattle.std.proofs.lemmas.Result.{on_ok_weaker}
 use Rattle.vs_tree_blocks.proofs.data.put_split.Goals as goal
 
 pub returns-then-fits-clause-wrote : goal.returns-then-fits-clause-wrote
@@ -37,3 +39,9 @@ returns-then-fits-2-clause-wrote g c = if_ok_weaker c.put_back.result _ _
     subst (λ (xs : List (List ℕ)). Wrote tree_format (g.P.Pages.present c.args.pages.now) (g.P.Pages.present c.put_back.new.pages) (λ k. span c.args.block 1 k) 0 xs entries.items) (ap (λ (k : ℕ). take half lines ++ splice (drop half lines) k 0 run) place ∙ put_in_back lines run at half (omega (arith, s.first_count)) (omega (arith, count, c.requires.at)))
     (wrote told (take half lines) (drop half lines) first (omega (arith, s.first_count, s.second_count, length-take half lines, count)) second (omega (arith, s.first_count, s.second_count, length-drop half lines, count))))
     c.put_back.ensures.wrote
+
+pub returns-then-fits-clause-differs : goal.returns-then-fits-clause-differs
+returns-then-fits-clause-differs g c = on_ok_weaker c.put_front.result (λ two told few. differs_most _ _ 2 3 (omega arith) (two told)) c.put_front.ensures.differs
+
+pub returns-then-fits-2-clause-differs : goal.returns-then-fits-2-clause-differs
+returns-then-fits-2-clause-differs g c = on_ok_weaker c.put_back.result (λ two told few. differs_most _ _ 2 3 (omega arith) (two told)) c.put_back.ensures.differs

@@ -8,6 +8,7 @@ use Rattle.vs_tree_blocks.specs.Runs.{lines_within}
 use Rattle.vs_tree_blocks.proofs.DataLemmas.{wrote_gone, count_is, lines_after, none_left}
 use Rattle.vs_tree_blocks.proofs.RunsLemmas.{told}
 use Rattle.vs_tree_blocks.proofs.GoneLemmas.{text_bytes, bytes_gone, take_all}
+use Rattle.vs_tree_laws.proofs.Differences.{differs_free}
 use Rattle.vs_tree_blocks.proofs.data.remove_lines.Goals as goal
 
 pub text_of-requires : goal.text_of-requires
@@ -42,3 +43,6 @@ returns-clause-bytes g c = λ lines reads.
     let count = count_is c.args.bytes.now c.args.view lines c.requires.view reads in
     let now = lines_after (lines_in c.args.bytes.now) (lines_in c.in_ok-left.left.bytes.items) (λ xs. splice xs c.args.at c.args.count []) lines reads c.in_ok-left.ensures.lines in
     omega (arith, c.from-4.ensures, c.from-3.ensures, bytes_gone c.args.bytes.now c.in_ok-left.left.bytes.items c.args.view c.in_ok-left.left.view c.args.at c.args.count lines c.requires.view reads (omega (arith, count, c.requires.within)) c.in_ok-left.ensures.view now c.in_ok-left.ensures.end)
+
+pub returns-then-count-view-clause-differs : goal.returns-then-count-view-clause-differs
+returns-then-count-view-clause-differs g c = λ told-pages. differs_free _ _ c.args.block (c.in_ok-free.ensures.ok told-pages)

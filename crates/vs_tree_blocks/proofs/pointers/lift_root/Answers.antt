@@ -3,6 +3,7 @@ use Rattle.std.proofs.lemmas.Result.{on_ok_weaker}
 use Rattle.vs_pages.specs.Maps.{Map, lacks}
 use Rattle.vs_pages.proofs.MapsLemmas.{pages_at-there, span-first}
 use Rattle.vs_tree_blocks.proofs.PointersLemmas.{stored_as, added_as, front_small, back_small, root_lifted}
+use Rattle.vs_tree_laws.proofs.Differences.{differs_put, differs_then}
 use Rattle.vs_tree_blocks.proofs.pointers.lift_root.Goals as goal
 
 pub damaged-requires-clause-silent : goal.damaged-requires-clause-silent
@@ -21,4 +22,9 @@ returns-clause-wrote g c = on_ok_weaker c.touch.result
     (added_as _ _ _ _ _ _ (c.in_ok-other.ensures.added told) c.deref-2.ensures.value) c.in_ok-more.ensures.entries
     c.in-Some.ensures.some c.in-Some-entry_above.ensures.some
     (stored_as _ _ _ _ _ (touched told) c.deref-3.ensures.value c.in_ok-top.ensures.size) c.in_ok-top.ensures.entries refl below)
+    c.touch.ensures.ok
+
+pub returns-clause-differs : goal.returns-clause-differs
+returns-clause-differs g c = on_ok_weaker c.touch.result
+    (λ touched told. differs_then _ _ _ 2 1 3 (omega arith) (differs_then _ _ _ 1 1 2 (omega arith) (c.in_ok-moved.ensures.differs told refl) (c.in_ok-other.ensures.differs told refl)) (differs_put _ _ 1 _ (touched told)))
     c.touch.ensures.ok

@@ -1,9 +1,13 @@
 use Rattle.std.proofs.Common.{◌≡◌, length, arith}
 use Rattle.vs_tree_laws.proofs.Writes.{wrote_no_pointers}
 use Rattle.vs_tree_blocks.specs.Blocks.{tree_format}
+use Rattle.vs_tree_laws.proofs.Differences.{differs_free, differs_most}
 use Rattle.vs_tree_blocks.proofs.pointers.write_pointers.Goals as goal
 
 pub returns-then-is_empty-clause-wrote : goal.returns-then-is_empty-clause-wrote
 returns-then-is_empty-clause-wrote g c = λ told d kids below.
     let none : length c.args.entries.items ≡ 0 = grind arith in
     rw c.new.ensures.items (wrote_no_pointers tree_format _ _ c.args.block d kids c.args.entries.items below none (c.in_ok-free.ensures.ok told))
+
+pub returns-then-is_empty-clause-differs : goal.returns-then-is_empty-clause-differs
+returns-then-is_empty-clause-differs g c = λ told. differs_most _ _ 1 2 (omega arith) (differs_free _ _ c.args.block (c.in_ok-free.ensures.ok told))

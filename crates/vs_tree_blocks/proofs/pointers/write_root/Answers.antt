@@ -8,6 +8,7 @@ use Rattle.vs_tree_laws.specs.Places.{lines_below}
 use Rattle.vs_tree_laws.proofs.Writes.{wrote_pointers}
 use Rattle.vs_tree_blocks.specs.Blocks.{tree_format, points_in}
 use Rattle.vs_tree_blocks.proofs.PointersLemmas.{stored_as}
+use Rattle.vs_tree_laws.proofs.Differences.{differs_put, differs_most}
 use Rattle.vs_tree_blocks.proofs.pointers.write_root.Goals as goal
 
 pub returns-clause-wrote : goal.returns-clause-wrote
@@ -16,3 +17,6 @@ returns-clause-wrote g c = λ told d kids below.
     let less : suc d ≡ 0 + suc d = omega arith in
     let P : ℕ → Type 0 = λ i. Wrote tree_format (g.P.Pages.present c.args.pages.now) (g.P.Pages.present c.touch.new.self) (λ k. one 1 k + total (λ u. uses d u k) kids) i (flat_map (λ u. lines_of d u) kids) (pointer_entry 1 (lines_below c.args.entries.items) ∷ []) in
     subst P less (wrote_pointers tree_format _ _ 1 d kids c.args.entries.items c.in_ok-bytes.bytes.items below (stored_as _ _ _ _ _ (c.in_ok-touch.ensures.ok told) c.deref-3.ensures.value c.in_ok-bytes.ensures.size) reads)
+
+pub returns-clause-differs : goal.returns-clause-differs
+returns-clause-differs g c = λ told. differs_most _ _ 1 3 (omega arith) (differs_put _ _ 1 _ (c.in_ok-touch.ensures.ok told))

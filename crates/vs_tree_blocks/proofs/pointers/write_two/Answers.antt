@@ -1,4 +1,6 @@
+use Rattle.std.proofs.Common.{refl, arith}
 use Rattle.vs_tree_blocks.proofs.PointersLemmas.{stored_as, added_as, front_small, back_small, two_written}
+use Rattle.vs_tree_laws.proofs.Differences.{differs_put, differs_then}
 use Rattle.vs_tree_blocks.proofs.pointers.write_two.Goals as goal
 
 pub damaged-requires-clause-silent : goal.damaged-requires-clause-silent
@@ -13,3 +15,6 @@ returns-clause-wrote g c = λ told d kids below.
     (stored_as _ _ _ _ _ (c.in_ok-touch.ensures.ok told) c.deref.ensures.value c.in_ok-bytes.ensures.size) c.in_ok-bytes.ensures.entries
     (added_as _ _ _ _ _ _ (c.in_ok-other.ensures.added told) c.deref-2.ensures.value) c.in_ok-more.ensures.entries
     c.in-Some.ensures.some c.in-Some-entry_above.ensures.some c.in_ok-vec.ensures.items below
+
+pub returns-clause-differs : goal.returns-clause-differs
+returns-clause-differs g c = λ told. differs_then _ _ _ 1 1 2 (omega arith) (differs_put _ _ c.args.block _ (c.in_ok-touch.ensures.ok told)) (c.in_ok-other.ensures.differs told refl)
