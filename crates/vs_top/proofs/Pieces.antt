@@ -4,7 +4,7 @@ use Rattle.std.proofs.lemmas.List.{drop-take, drop-drop, length-take}
 use Rattle.vs_text.specs.Text.{lines_of, IsLine}
 use Rattle.vs_text.proofs.LineEnds.{lines_of-line, lines_of_last}
 use Rattle.vs_top.specs.Ahead.{TakesLine}
-use Rattle.vs_session.specs.Script.{Command, commands_by, block_by, commands_of, block_of, is_dot, kind_of}
+use Rattle.vs_session.specs.Script.{commands_by, block_by, commands_of, block_of, is_dot, kind_of}
 use Rattle.vs_session.specs.Script.Kind.{TakesBlock}
 
 pub drop_range : (n at end : ℕ) (xs : List ℕ) → n ≤ end - at → drop n (take (end - at) (drop at xs)) ≡ take (end - (at + n)) (drop (at + n) xs)

@@ -1,17 +1,16 @@
 -- The commands that were answered so far are carried along as a list; each turn of the loop adds one at its end.
-use Rattle.std.proofs.Common.{◌≡◌, ◌≢◌, ℕ, Bool, true, false, not, ◌&&◌, ◌||◌, List, [], ◌∷◌, ◌++◌, take, map, refl, sym, ap, ◌∙◌, append_assoc, append-nil, arith, length, ◌+◌, ◌<◌, ◌≤◌, ◌^◌}
-use Rattle.std.proofs.lemmas.List.{length-append, length-map, take-append-le}
+use Rattle.std.proofs.Common.{◌≡◌, ℕ, Bool, true, false, not, ◌&&◌, ◌||◌, List, [], ◌∷◌, ◌++◌, take, map, refl, sym, ap, ◌∙◌, append_assoc, append-nil, arith, length, ◌+◌, ◌<◌, ◌≤◌, ◌^◌}
+use Rattle.std.proofs.lemmas.List.{length-append, length-map}
 use Rattle.std.proofs.Math.Seq.{take-append_seam, take-append-add}
-use Rattle.std.proofs.lemmas.Grind.{common_steps}
-use Rattle.vs_host.specs.World.{Tells, Scene, content_of}
+use Rattle.vs_host.specs.World.{Tells, Scene}
 use Rattle.vs_session.specs.Script.{Command}
 use Rattle.vs_session.specs.Machine.{State, Answer, Outcome, reply_of, state_after, replies_of, any_error, is_done, opening_of}
 use Rattle.vs_session.specs.declared.command.Mark.{Mark}
 use Rattle.vs_session.specs.declared.command.Early.{Early}
-use Rattle.vs_session.specs.Early.{outcome_of, IsHanded}
+use Rattle.vs_session.specs.Early.{outcome_of}
 use Rattle.vs_session.specs.Session.{Opened}
 use Rattle.vs_top.specs.Ahead.{Ahead, HasSeen, GoesOn, TakesCommand, TakesNone, Stops, IsLeft, commands_ahead, whole_commands}
-use Rattle.vs_top.specs.Run.{outcomes, written, written_before, refuses_any, commands_in, Answers, AnswersSome, AnswersNone, IsCutShort, RunsEdit}
+use Rattle.vs_top.specs.Run.{outcomes, written, written_before, refuses_any, commands_in, Answers, AnswersSome, IsCutShort, RunsEdit}
 use Rattle.vs_top.specs.declared.script.ScriptErr.{ScriptErr}
 use Rattle.vs_top.specs.declared.script.ScriptErr.TheVariants as script_error
 use Rattle.std.proofs.lemmas.Bool.{true≢false}

@@ -1,11 +1,8 @@
 -- What a reader took is known whatever follows: a function of the bytes is carried along from piece to piece.
-use Rattle.std.proofs.Common.{◌≡◌, ℕ, ◌<◌, ◌≤◌, ◌+◌, Bool, true, false, List, [], ◌∷◌, ◌++◌, ◌^◌, take, length, refl, sym, ap, ◌∙◌, append_assoc, append-nil, arith, Ok, Err, IfErr, IsErrAnd, IfSome, Some, None}
+use Rattle.std.proofs.Common.{◌≡◌, ℕ, ◌+◌, Bool, true, false, List, [], ◌∷◌, ◌++◌, length, refl, sym, ap, ◌∙◌, append_assoc, append-nil, arith, Ok, Err, IfErr, IsErrAnd, IfSome, Some, None}
 use Rattle.std.specs.declared.option.Option.{Option}
 use Rattle.std.proofs.lemmas.List.{length-append}
-use Rattle.std.proofs.Math.Seq.{take-append_seam}
 use Rattle.std.proofs.lemmas.Bool.{true≢false}
-use Rattle.std.proofs.lemmas.Option.{same_Some}
-use Rattle.std.specs.Result.{result_err}
 use Rattle.std.specs.declared.result.Result.{Result}
 use Rattle.vs_host.specs.World.{Scene}
 use Rattle.vs_text.specs.Text.{IsLine}
@@ -14,7 +11,6 @@ use Rattle.vs_session.specs.Script.{Command, kind_of, is_dot, commands_by, block
 use Rattle.vs_session.specs.Script.Command.{Append, PrintAll, Other}
 use Rattle.vs_session.specs.Script.Kind.{Empty, Prints, Unknown, TakesBlock}
 use Rattle.vs_top.specs.declared.script.ScriptErr.{ScriptErr}
-use Rattle.vs_top.specs.declared.script.ScriptErr.TheVariants.{Failed, TooLong}
 use Rattle.vs_top.specs.Ahead as ahead
 use Rattle.vs_top.proofs.Pieces.{commands_block}
 use Rattle.vs_session.specs.declared.command.Early.{Early}

@@ -1,5 +1,5 @@
 -- What is left of a script: what was read ahead, and what the host has left.
-use Rattle.std.specs.Prelude.{ℕ, Bool, true, false, ◌==◌, if◌then◌else◌, List, [], ◌∷◌, ◌++◌, ◌≡◌, ◌+◌, ◌-◌, ◌^◌, ◌<◌, length, Some, None, IfSome}
+use Rattle.std.specs.Prelude.{ℕ, Bool, true, false, ◌==◌, if◌then◌else◌, List, [], ◌∷◌, ◌++◌, ◌≡◌, ◌+◌, ◌-◌, ◌^◌, ◌<◌, length, IfSome}
 use Rattle.std.specs.declared.option.Option.{Option}
 use Rattle.vs_top.specs.declared.script.ScriptErr.{ScriptErr}
 use Rattle.vs_top.specs.declared.script.ScriptErr.TheVariants as error

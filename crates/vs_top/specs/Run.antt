@@ -1,6 +1,5 @@
 -- What a run of one script over one file writes, and what it keeps.
-use Rattle.std.specs.Prelude.{ℕ, Bool, true, false, List, ◌∷◌, [], ◌≡◌, ◌≢◌, ◌<◌, ◌≤◌, ◌⊎◌, ◌+◌, ◌^◌, ◌++◌, codes, map, length, take, IsTrue, IsSomeAnd, IfSome}
-use Rattle.std.specs.declared.option.Option.{Option}
+use Rattle.std.specs.Prelude.{ℕ, Bool, true, false, List, ◌∷◌, [], ◌≡◌, ◌≢◌, ◌<◌, ◌≤◌, ◌⊎◌, ◌^◌, ◌++◌, codes, map, length, take, IsTrue, IsSomeAnd, IfSome}
 use Rattle.vs_faults.specs.Faults.{Rose}
 use Rattle.vs_host.specs.Names.{is_allowed}
 use Rattle.vs_host.specs.World.{Tells, Scene, content_of}

@@ -1,5 +1,5 @@
 -- A map has one list of lines below block 1, however deep its data blocks are taken to lie.
-use Rattle.std.proofs.Common.{◌≡◌, ℕ, zero, suc, List, map, Option, None, Some, sym, refl, ap, ◌∙◌}
+use Rattle.std.proofs.Common.{◌≡◌, ℕ, zero, suc, List, map, Option, None, Some, sym, ap, ◌∙◌}
 use Rattle.vs_pages.specs.Maps.{Map, pages_at}
 use Rattle.vs_tree_laws.specs.declared.entries.Entry.{Entry}
 use Rattle.vs_tree_laws.specs.Trees.{Format, read_by, Tree, Leaf, root_of, width_of, lines_of, entry_of, IsTree, HasLines}

@@ -1,5 +1,4 @@
-use Rattle.std.proofs.Common.{◌≡◌, ◌≤◌, ◌+◌, ◌∷◌, [], ◌++◌, List, ℕ, arith, ap, ◌∙◌}
-use Rattle.std.proofs.lemmas.Grind.{common_steps}
+use Rattle.std.proofs.Common.{◌≡◌, ◌+◌, ◌∷◌, [], arith, ap, ◌∙◌}
 use Rattle.vs_text.specs.Text.{bytes_of}
 use Rattle.vs_text.proofs.FileForm.{bytes_of-append}
 use Rattle.vs_top.proofs.commands.loses.Goals as goal

@@ -1,10 +1,8 @@
-use Rattle.std.proofs.Common.{◌≡◌, ◌∷◌, ◌++◌, [], List, ℕ, length, arith, sym, ap, ◌∙◌, refl, inr, IsTrue, Bool, ◌&&◌}
+use Rattle.std.proofs.Common.{◌≡◌, ◌∷◌, ◌++◌, [], arith, ap, ◌∙◌, refl, inr, Bool, ◌&&◌}
 use Rattle.std.proofs.lemmas.Grind.{common_steps}
 use Rattle.vs_host.specs.World.{Scene}
-use Rattle.vs_session.specs.declared.command.Mark.{Mark}
-use Rattle.vs_top.specs.Run.{TellsRun}
 use Rattle.vs_top.proofs.Errors.{failed_behind, too_long_behind}
-use Rattle.vs_top.proofs.Runs.{ran_start, ran_on, answers_all, answers_some, clean_all, fails_run, too_long_run, cut_opening, cut_reply, times_go_on, clock_room, fresh_seen}
+use Rattle.vs_top.proofs.Runs.{ran_start, ran_on, answers_some, fails_run, too_long_run, cut_opening, cut_reply, times_go_on, clock_room, fresh_seen}
 use Rattle.vs_top.proofs.edit.serve.Goals as goal
 
 pub returns-in_err-put-clause-cut_short : goal.returns-in_err-put-clause-cut_short

@@ -1,4 +1,4 @@
-use Rattle.std.proofs.Common.{◌≡◌, ◌≤◌, ◌+◌, ◌*◌, ◌^◌, ◌++◌, List, length, map, IsTrue}
+use Rattle.std.proofs.Common.{◌≡◌, ◌≤◌, ◌+◌, ◌*◌, ◌^◌, ◌++◌, length, map, IsTrue}
 use Rattle.vs_host.specs.World.{Scene}
 use Rattle.vs_text.specs.Text.{bytes_of}
 use Rattle.vs_top.specs.Ahead.{HasSeen, CountsTaken, turns}

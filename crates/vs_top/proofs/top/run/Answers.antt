@@ -1,7 +1,7 @@
-use Rattle.std.proofs.Common.{◌≡◌, ◌∷◌, [], List, ℕ, Bool, true, false, not, codes, sym, ap, ◌∙◌, Ok, Err, IfOk}
+use Rattle.std.proofs.Common.{List, true, false, sym, ◌∙◌}
 use Rattle.vs_host.specs.World.{Scene}
 use Rattle.vs_session.specs.declared.command.Mark.{Mark}
-use Rattle.vs_top.specs.Run.{RunsEdit, TellsRun, refuses_any, session_of, commands_in, outcomes}
+use Rattle.vs_top.specs.Run.{RunsEdit}
 use Rattle.vs_top.proofs.Words.{same_second, holds_on_ok, clean_value, clean_is}
 use Rattle.vs_top.proofs.Runs.{runs_same}
 use Rattle.vs_top.proofs.top.run.Goals as goal

@@ -1,8 +1,6 @@
-use Rattle.std.proofs.Common.{◌≡◌, ◌≤◌, ◌+◌, ◌++◌, ◌∷◌, [], List, ℕ, length, Bool, false, true, arith, ap, ◌∙◌}
+use Rattle.std.proofs.Common.{◌≡◌, ◌++◌, ◌∷◌, [], List, ℕ, false, true, arith, ap, ◌∙◌}
 use Rattle.std.proofs.lemmas.Grind.{common_steps}
-use Rattle.vs_session.specs.Script.{is_dot, whole_of, whole_block}
-use Rattle.vs_session.specs.Script.Command.{Append}
-use Rattle.vs_top.specs.Ahead.{lines_ahead}
+use Rattle.vs_session.specs.Script.{is_dot, whole_block}
 use Rattle.vs_top.proofs.Pieces.{block_goes_on}
 use Rattle.vs_top.proofs.Stopping.{goes_line, stops_line, whole_goes, block_ends, block_dotted, on_same_err}
 use Rattle.vs_top.proofs.script.ScriptReader.block.Goals as goal

@@ -1,9 +1,8 @@
-use Rattle.std.proofs.Common.{◌≡◌, ◌≤◌, IsTrue, ◌+◌, ◌*◌, length, ℕ, List, [], false, All}
-use Rattle.vs_session.specs.Script.{block_of, whole_block}
+use Rattle.std.proofs.Common.{◌≤◌, IsTrue, ◌+◌, ◌*◌, length, All}
 use Rattle.vs_text.specs.Text.{bytes_of}
 use Rattle.vs_text.specs.Limits.{IsShort}
 use Rattle.vs_host.specs.World.{ChangesScript}
-use Rattle.vs_top.specs.Ahead.{CountsTaken, HasSeen, GoesOn, whole_lines, turns, lines_ahead}
+use Rattle.vs_top.specs.Ahead.{CountsTaken, HasSeen, turns}
 use Rattle.vs_top.proofs.Stopping.{InBlock}
 use Rattle.vs_top.proofs.script.ScriptReader.block.Given as goal
 

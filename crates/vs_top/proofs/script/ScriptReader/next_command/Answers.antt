@@ -1,4 +1,4 @@
-use Rattle.std.proofs.Common.{◌≡◌, ◌≤◌, ◌+◌, ◌++◌, ◌∷◌, [], List, ℕ, Bool, true, refl, ap, arith}
+use Rattle.std.proofs.Common.{◌≡◌, [], List, ℕ, true, refl, ap, arith}
 use Rattle.std.proofs.lemmas.Grind.{common_steps}
 use Rattle.vs_session.specs.Script.{whole_of, whole_block}
 use Rattle.vs_session.specs.Script.Command.{Append, PrintAll, Other}

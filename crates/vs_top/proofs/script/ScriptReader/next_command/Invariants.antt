@@ -1,5 +1,4 @@
-use Rattle.std.proofs.Common.{◌≡◌, ◌≤◌, IsTrue, ℕ, [], false}
-use Rattle.vs_session.specs.Script.{block_of}
+use Rattle.std.proofs.Common.{◌≡◌, ◌≤◌, IsTrue, false}
 use Rattle.vs_host.specs.World.{ChangesScript}
 use Rattle.vs_top.specs.Ahead.{CountsTaken, HasSeen, GoesOn, whole_commands, turns, commands_ahead}
 use Rattle.vs_top.proofs.script.ScriptReader.next_command.Given as goal

@@ -1,7 +1,7 @@
-use Rattle.std.proofs.Common.{◌≡◌, ◌<◌, ◌≤◌, ◌+◌, ◌++◌, ◌∷◌, List, ℕ, Bool, false, length, take, drop, arith, ap, sym, refl, ◌∙◌}
+use Rattle.std.proofs.Common.{◌≡◌, ◌<◌, ◌+◌, ◌++◌, List, ℕ, false, length, take, drop, arith, ap, sym, refl, ◌∙◌}
 use Rattle.std.proofs.lemmas.Grind.{common_steps}
 use Rattle.vs_text.specs.Text.{IsLine}
-use Rattle.vs_top.proofs.Pieces.{takes_line, takes_last, takes_none}
+use Rattle.vs_top.proofs.Pieces.{takes_line, takes_last}
 use Rattle.vs_top.specs.Ahead.{Ahead}
 use Rattle.vs_top.proofs.Stopping.{line_is_whole, line_stops, piece_goes_on, on_same_err}
 use Rattle.vs_top.proofs.script.ScriptReader.next_line.Goals as goal
