@@ -80,6 +80,12 @@ and_not false true true = refl
 and_not false true false = refl
 and_not false false error = refl
 
+-- How a run begins: with a reader that has read nothing, behind the opening reply.
+pub record Begun (session : Opened) (old start : Scene) (fresh : Ahead) : Type 0 where
+  pub new : fresh ≡ record { bytes = []; taken = 0; ended = false }
+  pub script : start.script ≡ old.script
+  pub output : start.output ≡ old.output ++ (opening_of session.name session.found).bytes
+
 -- What is known after each turn of a run: `start` is the scene after the opening reply.
 pub record Ran (start now : Scene) (opened state : State) (fresh reader : Ahead) (marks : List Mark) (clean : Bool) : Type 0 where
   pub done : List Command
@@ -150,27 +156,25 @@ all_ahead : (old start : Scene) (fresh : Ahead) → fresh ≡ record { bytes = [
 all_ahead old start fresh new same = rw (new, same) refl
 
 -- what was answered so far, seen from before the opening reply
-pub answers_so_far : (session : Opened) (old start now after : Scene) (state : State) (fresh reader : Ahead) (marks : List Mark) (clean : Bool) (opening : Answer)
-    → opening ≡ opening_of session.name session.found → start.output ≡ old.output ++ opening.bytes → (ran : Ran start now session.state state fresh reader marks clean)
+pub answers_so_far : (session : Opened) (old start now after : Scene) (state : State) (fresh reader : Ahead) (marks : List Mark) (clean : Bool)
+    → Begun session old start fresh → (ran : Ran start now session.state state fresh reader marks clean)
     → after.output ≡ now.output → Answers session old after marks ran.done
-answers_so_far session old start now after state fresh reader marks clean opening opens starts ran same =
+answers_so_far session old start now after state fresh reader marks clean begun ran same =
     record {
       kept = ran.count;
-      output = same ∙ ran.output ∙ ap (λ (l : List ℕ). l ++ replies_of session.state ran.done (outcomes marks)) starts
-          ∙ append_assoc old.output opening.bytes (replies_of session.state ran.done (outcomes marks))
-          ∙ ap (λ (a : Answer). old.output ++ (a.bytes ++ replies_of session.state ran.done (outcomes marks))) opens;
+      output = same ∙ ran.output ∙ ap (λ (l : List ℕ). l ++ replies_of session.state ran.done (outcomes marks)) begun.output
+          ∙ append_assoc old.output (opening_of session.name session.found).bytes (replies_of session.state ran.done (outcomes marks));
     }
 
-pub answers_some : (session : Opened) (old start now after : Scene) (state : State) (fresh reader : Ahead) (marks : List Mark) (clean : Bool) (opening : Answer)
-    → fresh ≡ record { bytes = []; taken = 0; ended = false } → start.script ≡ old.script
-    → opening ≡ opening_of session.name session.found → start.output ≡ old.output ++ opening.bytes → Ran start now session.state state fresh reader marks clean
+pub answers_some : (session : Opened) (old start now after : Scene) (state : State) (fresh reader : Ahead) (marks : List Mark) (clean : Bool)
+    → Begun session old start fresh → Ran start now session.state state fresh reader marks clean
     → after.output ≡ now.output → AnswersSome session old after marks
-answers_some session old start now after state fresh reader marks clean opening new scripts opens starts ran same =
+answers_some session old start now after state fresh reader marks clean begun ran same =
     record {
       commands = ran.done;
       rest = commands_ahead reader now;
-      first = sym (all_ahead old start fresh new scripts) ∙ ran.ahead;
-      answers = answers_so_far session old start now after state fresh reader marks clean opening opens starts ran same;
+      first = sym (all_ahead old start fresh begun.new begun.script) ∙ ran.ahead;
+      answers = answers_so_far session old start now after state fresh reader marks clean begun ran same;
     }
 
 -- at the script's end all commands were answered
@@ -180,19 +184,18 @@ done_is_all : (old start now after : Scene) (opened state : State) (fresh reader
 done_is_all old start now after opened state fresh reader reader' marks clean new scripts ran none =
     sym (append-nil ran.done) ∙ ap (λ (l : List Command). ran.done ++ l) (sym none.ahead) ∙ sym ran.ahead ∙ all_ahead old start fresh new scripts
 
-pub answers_all : (session : Opened) (old start now after : Scene) (state : State) (fresh reader reader' : Ahead) (marks : List Mark) (clean : Bool) (opening : Answer)
-    → fresh ≡ record { bytes = []; taken = 0; ended = false } → start.script ≡ old.script
-    → opening ≡ opening_of session.name session.found → start.output ≡ old.output ++ opening.bytes → Ran start now session.state state fresh reader marks clean
+pub answers_all : (session : Opened) (old start now after : Scene) (state : State) (fresh reader reader' : Ahead) (marks : List Mark) (clean : Bool)
+    → Begun session old start fresh → Ran start now session.state state fresh reader marks clean
     → TakesNone reader reader' now after → after.output ≡ now.output → Answers session old after marks (commands_in old)
-answers_all session old start now after state fresh reader reader' marks clean opening new scripts opens starts ran none same =
-    rw (← (done_is_all old start now after session.state state fresh reader reader' marks clean new scripts ran none))
-    (answers_so_far session old start now after state fresh reader marks clean opening opens starts ran same)
+answers_all session old start now after state fresh reader reader' marks clean begun ran none same =
+    rw (← (done_is_all old start now after session.state state fresh reader reader' marks clean begun.new begun.script ran none))
+    (answers_so_far session old start now after state fresh reader marks clean begun ran same)
 
 pub clean_all : (session : Opened) (old start now after : Scene) (state : State) (fresh reader reader' : Ahead) (marks : List Mark) (clean : Bool)
-    → fresh ≡ record { bytes = []; taken = 0; ended = false } → start.script ≡ old.script → Ran start now session.state state fresh reader marks clean
+    → Begun session old start fresh → Ran start now session.state state fresh reader marks clean
     → TakesNone reader reader' now after → clean ≡ not (refuses_any session (commands_in old) (outcomes marks))
-clean_all session old start now after state fresh reader reader' marks clean new scripts ran none =
-    rw (← (done_is_all old start now after session.state state fresh reader reader' marks clean new scripts ran none)) ran.errors
+clean_all session old start now after state fresh reader reader' marks clean begun ran none =
+    rw (← (done_is_all old start now after session.state state fresh reader reader' marks clean begun.new begun.script ran none)) ran.errors
 
 -- where a reader stops, the commands that were answered are those that were whole in what it took
 stops_run : (error : ScriptErr) (old start now after : Scene) (opened state : State) (fresh reader reader' : Ahead) (marks : List Mark) (clean : Bool)
@@ -211,28 +214,26 @@ stops_run error old start now after opened state fresh reader reader' marks clea
 answers_same : (session : Opened) (old after : Scene) (marks : List Mark) (one other : List Command) → one ≡ other → Answers session old after marks one → Answers session old after marks other
 answers_same session old after marks one other same answers = rw (← same) answers
 
-pub fails_run : (error : ScriptErr) (session : Opened) (old start now after : Scene) (state : State) (fresh reader reader' : Ahead) (marks : List Mark) (clean : Bool) (opening : Answer)
-    → error ≡ script_error.Failed → fresh ≡ record { bytes = []; taken = 0; ended = false } → start.script ≡ old.script
-    → opening ≡ opening_of session.name session.found → start.output ≡ old.output ++ opening.bytes → Ran start now session.state state fresh reader marks clean
+pub fails_run : (error : ScriptErr) (session : Opened) (old start now after : Scene) (state : State) (fresh reader reader' : Ahead) (marks : List Mark) (clean : Bool)
+    → error ≡ script_error.Failed → Begun session old start fresh → Ran start now session.state state fresh reader marks clean
     → Stops error whole_commands [] reader reader' now after → after.output ≡ now.output
     → (taken : List ℕ) × (old.script ≡ taken ++ after.script) × Answers session old after marks (whole_commands taken)
-fails_run script_error.TooLong session old start now after state fresh reader reader' marks clean opening is new scripts opens starts ran stop same = absurd (true≢false (sym (ap is_failed is)))
-fails_run script_error.Failed session old start now after state fresh reader reader' marks clean opening is new scripts opens starts ran stop same =
-    let found = stops_run script_error.Failed old start now after session.state state fresh reader reader' marks clean new scripts ran stop in
+fails_run script_error.TooLong session old start now after state fresh reader reader' marks clean is begun ran stop same = absurd (true≢false (sym (ap is_failed is)))
+fails_run script_error.Failed session old start now after state fresh reader reader' marks clean is begun ran stop same =
+    let found = stops_run script_error.Failed old start now after session.state state fresh reader reader' marks clean begun.new begun.script ran stop in
     let (taken, left, rest, script, counted, whole) = found in (
       taken,
       script ∙ ap (λ (l : List ℕ). taken ++ l) (sym rest),
-      answers_same session old after marks ran.done (whole_commands taken) whole (answers_so_far session old start now after state fresh reader marks clean opening opens starts ran same),
+      answers_same session old after marks ran.done (whole_commands taken) whole (answers_so_far session old start now after state fresh reader marks clean begun ran same),
     )
 
-pub too_long_run : (error : ScriptErr) (session : Opened) (old start now after : Scene) (state : State) (fresh reader reader' : Ahead) (marks : List Mark) (clean : Bool) (opening : Answer)
-    → error ≡ script_error.TooLong → fresh ≡ record { bytes = []; taken = 0; ended = false } → start.script ≡ old.script
-    → opening ≡ opening_of session.name session.found → start.output ≡ old.output ++ opening.bytes → Ran start now session.state state fresh reader marks clean
+pub too_long_run : (error : ScriptErr) (session : Opened) (old start now after : Scene) (state : State) (fresh reader reader' : Ahead) (marks : List Mark) (clean : Bool)
+    → error ≡ script_error.TooLong → Begun session old start fresh → Ran start now session.state state fresh reader marks clean
     → Stops error whole_commands [] reader reader' now after → after.output ≡ now.output
     → (2 ^ 20 < length old.script) × Answers session old after marks (whole_commands (take (2 ^ 20) old.script))
-too_long_run script_error.Failed session old start now after state fresh reader reader' marks clean opening is new scripts opens starts ran stop same = absurd (true≢false (ap is_failed is))
-too_long_run script_error.TooLong session old start now after state fresh reader reader' marks clean opening is new scripts opens starts ran stop same =
-    let found = stops_run script_error.TooLong old start now after session.state state fresh reader reader' marks clean new scripts ran stop in
+too_long_run script_error.Failed session old start now after state fresh reader reader' marks clean is begun ran stop same = absurd (true≢false (ap is_failed is))
+too_long_run script_error.TooLong session old start now after state fresh reader reader' marks clean is begun ran stop same =
+    let found = stops_run script_error.TooLong old start now after session.state state fresh reader reader' marks clean begun.new begun.script ran stop in
     let (taken, left, rest, script, counted, whole) = found in
     let long : length taken ≡ 2 ^ 20 = sym counted ∙ rest.1 in
     let size : length old.script ≡ length taken + length left = ap (λ (l : List ℕ). length l) script ∙ length-append taken left in
@@ -240,7 +241,7 @@ too_long_run script_error.TooLong session old start now after state fresh reader
     ap (λ (l : List ℕ). take (2 ^ 20) l) script ∙ ap (λ n. take n (taken ++ left)) (sym long) ∙ take-append_seam taken left in (
       omega (arith, long, rest.0, size),
       answers_same session old after marks ran.done (whole_commands (take (2 ^ 20) old.script)) (whole ∙ ap whole_commands (sym front))
-          (answers_so_far session old start now after state fresh reader marks clean opening opens starts ran same),
+          (answers_so_far session old start now after state fresh reader marks clean begun ran same),
     )
 
 -- the opening reply was written in part
@@ -266,19 +267,18 @@ before_last session commands (x ∷ ended) o =
     ap (λ n. written session commands (take n (x ∷ (ended ++ o ∷ [])))) size
 
 -- a reply to one more command was written in part
-pub cut_reply : (session : Opened) (old start now between after : Scene) (state : State) (fresh reader reader' : Ahead) (marks marks' : List Mark) (clean : Bool) (opening reply : Answer) (early : Early) (m : Mark) (n : ℕ)
-    → fresh ≡ record { bytes = []; taken = 0; ended = false } → start.script ≡ old.script
-    → opening ≡ opening_of session.name session.found → start.output ≡ old.output ++ opening.bytes → Ran start now session.state state fresh reader marks clean
+pub cut_reply : (session : Opened) (old start now between after : Scene) (state : State) (fresh reader reader' : Ahead) (marks marks' : List Mark) (clean : Bool) (reply : Answer) (early : Early) (m : Mark) (n : ℕ)
+    → Begun session old start fresh → Ran start now session.state state fresh reader marks clean
     → (taken : TakesCommand early reader reader' now between) → marks' ≡ marks ++ m ∷ [] → reply ≡ reply_of state taken.command (outcome_of m.outcome)
     → after.output ≡ now.output ++ take n reply.bytes → IsCutShort session old after marks'
-cut_reply session old start now between after state fresh reader reader' marks marks' clean opening reply early m n new scripts opens starts ran taken kept replied wrote =
+cut_reply session old start now between after state fresh reader reader' marks marks' clean reply early m n begun ran taken kept replied wrote =
     let c = taken.command in
     let o = outcome_of m.outcome in
     let done = ran.done in
     let ended = outcomes marks in
     let sizes : length ended ≡ length done = length_outcomes marks done ran.count in
     let ended' : outcomes marks' ≡ ended ++ o ∷ [] = ap outcomes kept ∙ outcomes_push marks m in
-    let so_far = answers_so_far session old start now now state fresh reader marks clean opening opens starts ran refl in
+    let so_far = answers_so_far session old start now now state fresh reader marks clean begun ran refl in
     let front : List ℕ = written session done ended in
     let replied_so : reply ≡ reply_of (states_after session.state done ended) c o = replied ∙ ap (λ (s : State). reply_of s c o) ran.state_is in
     let all : written session (done ++ c ∷ []) (outcomes marks') ≡ front ++ reply.bytes =
@@ -293,7 +293,7 @@ cut_reply session old start now between after state fresh reader reader' marks m
     record {
       commands = done ++ c ∷ [];
       rest = commands_ahead reader' between;
-      first = sym (all_ahead old start fresh new scripts) ∙ ran.ahead ∙ ap (λ (l : List Command). done ++ l) taken.ahead ∙ sym (append_assoc done (c ∷ []) (commands_ahead reader' between));
+      first = sym (all_ahead old start fresh begun.new begun.script) ∙ ran.ahead ∙ ap (λ (l : List Command). done ++ l) taken.ahead ∙ sym (append_assoc done (c ∷ []) (commands_ahead reader' between));
       kept = ap (λ (l : List Mark). length l) kept ∙ length-append marks (m ∷ []) ∙ ap (λ n. n + 1) ran.count ∙ sym (length-append done (c ∷ []));
       count = length front + n;
       output = wrote ∙ ap (λ (l : List ℕ). l ++ take n reply.bytes) so_far.output ∙ append_assoc old.output front (take n reply.bytes)

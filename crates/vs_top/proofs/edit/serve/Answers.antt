@@ -1,6 +1,7 @@
 use Rattle.std.proofs.Common.{◌≡◌, ◌∷◌, ◌++◌, [], arith, ap, ◌∙◌, refl, inr, Bool, ◌&&◌}
 use Rattle.std.proofs.lemmas.Grind.{common_steps}
 use Rattle.vs_host.specs.World.{Scene}
+use Rattle.vs_session.specs.Machine.{Answer}
 use Rattle.vs_top.proofs.Errors.{failed_behind, too_long_behind}
 use Rattle.vs_top.proofs.Runs.{ran_start, ran_on, answers_some, fails_run, too_long_run, cut_opening, cut_reply, times_go_on, clock_room, fresh_seen}
 use Rattle.vs_top.proofs.edit.serve.Goals as goal
@@ -12,6 +13,11 @@ returns-in_err-put-clause-cut_short g c = λ is tells.
 
 pub commands-init : goal.commands-init
 commands-init g c = record {
+  begun = λ output. record {
+    new = c.in_ok-reader.ensures;
+    script = ap (λ (s : Scene). s.script) c.put.ensures.frame;
+    output = c.in_ok-put.ensures.ok output ∙ ap (λ (a : Answer). (g.H.World.scene c.args.host.now).output ++ a.bytes) c.opening.ensures;
+  };
   ran = λ tells. ran_start _ _ c.in_ok-reader.reader c.args.marks.now.items c.requires.marks (fresh_seen (g.H.World.scene c.put.new.host) c.in_ok-reader.reader c.in_ok-reader.ensures);
   seen = λ script. fresh_seen (g.H.World.scene c.put.new.host) c.in_ok-reader.reader c.in_ok-reader.ensures;
   counts = λ script. refl;
@@ -27,35 +33,27 @@ commands-init g c = record {
 
 pub returns-in_err-early-clause-script_stop : goal.returns-in_err-early-clause-script_stop
 returns-in_err-early-clause-script_stop g c = λ is tells.
-    let scripts : (g.H.World.scene c.put.new.host).script ≡ (g.H.World.scene c.args.host.now).script = ap (λ (s : Scene). s.script) c.put.ensures.frame in
-    let starts : (g.H.World.scene c.put.new.host).output ≡ (g.H.World.scene c.args.host.now).output ++ c.opening.result.bytes = grind (arith, common_steps, c.in_ok-put.ensures.ok tells.output) in
-    fails_run _ c.args.session.now (g.H.World.scene c.args.host.now) (g.H.World.scene c.put.new.host) (g.H.World.scene c.commands.host) (g.H.World.scene c.next_command.new.host) c.commands.session.state c.in_ok-reader.reader c.commands.reader c.next_command.new.self c.commands.marks.items c.commands.clean c.opening.result
-    (failed_behind _ _ c.from_residual-in_err-early.ensures.1 is) c.in_ok-reader.ensures scripts c.opening.ensures starts (c.commands.invariant.ran tells) (c.in_err-early.ensures.stops tells.script) (ap (λ (s : Scene). s.output) c.next_command.ensures.frame)
+    fails_run _ c.args.session.now (g.H.World.scene c.args.host.now) (g.H.World.scene c.put.new.host) (g.H.World.scene c.commands.host) (g.H.World.scene c.next_command.new.host) c.commands.session.state c.in_ok-reader.reader c.commands.reader c.next_command.new.self c.commands.marks.items c.commands.clean
+    (failed_behind _ _ c.from_residual-in_err-early.ensures.1 is) (c.commands.invariant.begun tells.output) (c.commands.invariant.ran tells) (c.in_err-early.ensures.stops tells.script) (ap (λ (s : Scene). s.output) c.next_command.ensures.frame)
 
 pub returns-in_err-early-clause-too_long : goal.returns-in_err-early-clause-too_long
 returns-in_err-early-clause-too_long g c = λ is tells.
-    let scripts : (g.H.World.scene c.put.new.host).script ≡ (g.H.World.scene c.args.host.now).script = ap (λ (s : Scene). s.script) c.put.ensures.frame in
-    let starts : (g.H.World.scene c.put.new.host).output ≡ (g.H.World.scene c.args.host.now).output ++ c.opening.result.bytes = grind (arith, common_steps, c.in_ok-put.ensures.ok tells.output) in
-    too_long_run _ c.args.session.now (g.H.World.scene c.args.host.now) (g.H.World.scene c.put.new.host) (g.H.World.scene c.commands.host) (g.H.World.scene c.next_command.new.host) c.commands.session.state c.in_ok-reader.reader c.commands.reader c.next_command.new.self c.commands.marks.items c.commands.clean c.opening.result
-    (too_long_behind _ _ c.from_residual-in_err-early.ensures.1 is) c.in_ok-reader.ensures scripts c.opening.ensures starts (c.commands.invariant.ran tells) (c.in_err-early.ensures.stops tells.script) (ap (λ (s : Scene). s.output) c.next_command.ensures.frame)
+    too_long_run _ c.args.session.now (g.H.World.scene c.args.host.now) (g.H.World.scene c.put.new.host) (g.H.World.scene c.commands.host) (g.H.World.scene c.next_command.new.host) c.commands.session.state c.in_ok-reader.reader c.commands.reader c.next_command.new.self c.commands.marks.items c.commands.clean
+    (too_long_behind _ _ c.from_residual-in_err-early.ensures.1 is) (c.commands.invariant.begun tells.output) (c.commands.invariant.ran tells) (c.in_err-early.ensures.stops tells.script) (ap (λ (s : Scene). s.output) c.next_command.ensures.frame)
 
 pub returns-in_err-reserve-clause-no_memory : goal.returns-in_err-reserve-clause-no_memory
 returns-in_err-reserve-clause-no_memory g c = λ is tells.
-    let scripts : (g.H.World.scene c.put.new.host).script ≡ (g.H.World.scene c.args.host.now).script = ap (λ (s : Scene). s.script) c.put.ensures.frame in
-    let starts : (g.H.World.scene c.put.new.host).output ≡ (g.H.World.scene c.args.host.now).output ++ c.opening.result.bytes = grind (arith, common_steps, c.in_ok-put.ensures.ok tells.output) in
-    rw c.reserve.ensures.items (inr (answers_some c.args.session.now (g.H.World.scene c.args.host.now) (g.H.World.scene c.put.new.host) (g.H.World.scene c.commands.host) (g.H.World.scene c.next_command.new.host) c.commands.session.state c.in_ok-reader.reader c.commands.reader c.commands.marks.items c.commands.clean c.opening.result
-    c.in_ok-reader.ensures scripts c.opening.ensures starts (c.commands.invariant.ran tells) (ap (λ (s : Scene). s.output) c.next_command.ensures.frame)))
+    rw c.reserve.ensures.items (inr (answers_some c.args.session.now (g.H.World.scene c.args.host.now) (g.H.World.scene c.put.new.host) (g.H.World.scene c.commands.host) (g.H.World.scene c.next_command.new.host) c.commands.session.state c.in_ok-reader.reader c.commands.reader c.commands.marks.items c.commands.clean
+    (c.commands.invariant.begun tells.output) (c.commands.invariant.ran tells) (ap (λ (s : Scene). s.output) c.next_command.ensures.frame)))
 
 pub returns-in_err-put-2-clause-cut_short : goal.returns-in_err-put-2-clause-cut_short
 returns-in_err-put-2-clause-cut_short g c = λ is tells.
-    let scripts : (g.H.World.scene c.put.new.host).script ≡ (g.H.World.scene c.args.host.now).script = ap (λ (s : Scene). s.script) c.put.ensures.frame in
-    let starts : (g.H.World.scene c.put.new.host).output ≡ (g.H.World.scene c.args.host.now).output ++ c.opening.result.bytes = grind (arith, common_steps, c.in_ok-put.ensures.ok tells.output) in
     let m = c.step-reply.result.mark in
     let kept : c.push.new.self.items ≡ c.commands.marks.items ++ m ∷ [] = grind (arith, common_steps) in
     let taken = (rw c.in-Some.is at c.in_ok-early.ensures.command) tells.script in
     let cut = c.in_err-put-2.ensures.err tells.output in
-    cut_reply c.args.session.now (g.H.World.scene c.args.host.now) (g.H.World.scene c.put.new.host) (g.H.World.scene c.commands.host) (g.H.World.scene c.next_command.new.host) (g.H.World.scene c.put-in-Some.new.host) c.commands.session.state c.in_ok-reader.reader c.commands.reader c.next_command.new.self c.commands.marks.items c.push.new.self.items c.commands.clean c.opening.result c.step-reply.result.reply c.in-Some.early m cut.0
-    c.in_ok-reader.ensures scripts c.opening.ensures starts (c.commands.invariant.ran tells) taken kept (c.step-reply.ensures.reply taken.command taken.handed) (grind (arith, common_steps, cut.1))
+    cut_reply c.args.session.now (g.H.World.scene c.args.host.now) (g.H.World.scene c.put.new.host) (g.H.World.scene c.commands.host) (g.H.World.scene c.next_command.new.host) (g.H.World.scene c.put-in-Some.new.host) c.commands.session.state c.in_ok-reader.reader c.commands.reader c.next_command.new.self c.commands.marks.items c.push.new.self.items c.commands.clean c.step-reply.result.reply c.in-Some.early m cut.0
+    (c.commands.invariant.begun tells.output) (c.commands.invariant.ran tells) taken kept (c.step-reply.ensures.reply taken.command taken.handed) (grind (arith, common_steps, cut.1))
 
 pub returns-in_err-put-2-clause-times : goal.returns-in_err-put-2-clause-times
 returns-in_err-put-2-clause-times g c = λ clock.
@@ -71,6 +69,7 @@ commands-preserved g c =
     let scripts : (g.H.World.scene c.put-in-Some.new.host).script ≡ (g.H.World.scene c.next_command.new.host).script = ap (λ (s : Scene). s.script) c.put-in-Some.ensures.frame ∙ ap (λ (s : Scene). s.script) c.step-reply.ensures.frame in
     let found = rw c.in-Some.is at c.in_ok-early.ensures.command in
     record {
+      begun = c.commands.invariant.begun;
       ran = λ tells.
           let taken = found tells.script in
           let wrote : (g.H.World.scene c.put-in-Some.new.host).output ≡ (g.H.World.scene c.commands.host).output ++ c.step-reply.result.reply.bytes = grind (arith, common_steps, c.in_ok-put-2.ensures.ok tells.output) in

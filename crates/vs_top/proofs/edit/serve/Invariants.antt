@@ -3,7 +3,7 @@ use Rattle.vs_host.specs.World.{Scene}
 use Rattle.vs_text.specs.Text.{bytes_of}
 use Rattle.vs_top.specs.Ahead.{HasSeen, CountsTaken, turns}
 use Rattle.vs_top.specs.Run.{TellsRun, RunsIn}
-use Rattle.vs_top.proofs.Runs.{Ran}
+use Rattle.vs_top.proofs.Runs.{Begun, Ran}
 use Rattle.vs_top.proofs.edit.serve.Given as goal
 
 abbrev pub invariant-commands : goal.invariant-commands
@@ -11,6 +11,7 @@ invariant-commands g l =
     let start : Scene = g.H.World.scene l.initial.host in
     let now : Scene = g.H.World.scene l.host in
     record {
+      begun : IsTrue (g.H.World.tells).output → Begun l.fn.session (g.H.World.scene l.fn.host) start l.initial.reader;
       ran : TellsRun g.H.World.tells → Ran start now l.initial.session.state l.session.state l.initial.reader l.reader l.marks.items l.clean;
       seen : IsTrue (g.H.World.tells).script → HasSeen l.reader now;
       counts : IsTrue (g.H.World.tells).script → CountsTaken l.initial.reader l.reader start now;
