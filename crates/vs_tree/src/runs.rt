@@ -6,7 +6,7 @@ ghost use Rattle.vs_text.specs.Limits.{IsShort};
 ghost use Rattle.vs_tree_laws.specs.Trees.{HasLines};
 ghost use Rattle.vs_tree_laws.specs.Changes.{splice};
 ghost use Rattle.vs_tree_laws.specs.Differs.{Differs};
-ghost use Rattle.vs_tree_blocks.specs.Edits.{IsBrief};
+ghost use Rattle.vs_tree_blocks.specs.Edits.{IsBrief, IsStored};
 ghost use Rattle.vs_tree_blocks.specs.Blocks.{tree_format};
 ghost use Rattle.vs_data.specs.Blocks.{space_of};
 ghost use Rattle.vs_tree.specs.Runs.{IsPlaceIn, IsRunIn, with_lines, without_lines, run_of};
@@ -17,6 +17,18 @@ use vs_pages::{PageErr, Pages};
 use vs_text::{Line, to_stored};
 use vs_tree_blocks::{Edit, Run};
 
+// Makes `into` the stored form of a line.
+fn store_line(line: &Line, into: &mut Vec<u8>) -> Result<(), AllocError>
+    requires { IsShort line.now }
+    ensures stored { OnOk result (into.new.items ≡ stored_line line.now) }
+    ensures fits { OnOk result (IsStored into.new.items) }
+{
+    into.clear();
+    into.extend_from_slice(line.bytes())?;
+    to_stored(into);
+    Ok(())
+}
+
 // The first lines of some, in their stored form: as many as a page has room for, and at least one.
 fn fill_run(alloc: Global, lines: &[Line]) -> Result<Run, AllocError>
     requires some { 0 < length lines.now }
@@ -26,13 +38,11 @@ fn fill_run(alloc: Global, lines: &[Line]) -> Result<Run, AllocError>
     ensures within { IfOk result (λ run. length run ≤ length lines.now) }
     ensures full { IfOk result (λ run. length run < length lines.now → 4072 < space_of run + (length (get_or lines.now (length run) []) + 5)) }
 {
-    let mut bytes = Vec::from_slice(alloc, lines[0].bytes())?;
-    to_stored(&mut bytes);
+    let mut bytes = Vec::new(alloc);
+    store_line(&lines[0], &mut bytes)?;
     let mut run = Run::of(alloc, &bytes)?;
     'lines: for line in &lines[1..] {
-        bytes.clear();
-        bytes.extend_from_slice(line.bytes())?;
-        to_stored(&mut bytes);
+        store_line(line, &mut bytes)?;
         if !run.push(&bytes) {
             return Ok(run);
         }
