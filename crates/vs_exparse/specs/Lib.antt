@@ -1,0 +1,11 @@
+pub mod Argument
+pub mod Bytes
+pub mod Command
+pub mod Errors
+pub mod Meaning
+pub mod Names
+pub mod Outcome
+pub mod Parts
+pub mod Pieces
+pub mod Range
+pub mod Table

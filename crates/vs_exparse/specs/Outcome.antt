@@ -1,0 +1,65 @@
+-- What each command takes as its argument.
+use Rattle.std.specs.Prelude.{ℕ, Bool, List, Option, Some, option_map}
+use Rattle.vs_exparse.specs.Argument.{no_argument_errors, number_in, count_errors, change_errors, destination_of, destination_errors, in_writes, steps_of, steps_errors, pattern_of, replacement_of, replaces_all, substitute_errors, setting_of, set_errors}
+use Rattle.vs_exparse.specs.Command.{Command}
+use Rattle.vs_exparse.specs.Command.Command.{Append, Insert, Change, Delete, Move, CopyTo, T, Join, Substitute, Print, Number, Equals, Undo, Redo, Earlier, Later, UndoList, Write, Preserve, Quit, Set, WriteUndo, ReadUndo}
+use Rattle.vs_exparse.specs.declared.command.Address.{Address}
+use Rattle.vs_exparse.specs.declared.command.Range.{Range}
+use Rattle.vs_exparse.specs.declared.command.ExErr.{ExErr}
+use Rattle.vs_exparse.specs.declared.words.Word.{Word}
+use Rattle.vs_exparse.specs.declared.words.Word.TheVariants as word
+
+-- the errors of an argument, in their order, and the command where none of them comes
+pub record Outcome : Type 0 where
+  pub errors : List (ExErr × Bool)
+  pub command : Option Command
+
+abbrev pub without_argument : Command → List ℕ → Outcome
+without_argument command argument = record { errors = no_argument_errors argument; command = Some command }
+
+abbrev pub with_count : (Option ℕ → Command) → List ℕ → Outcome
+with_count command argument = record { errors = count_errors argument; command = Some (command (number_in argument)) }
+
+abbrev pub with_change_number : (Option ℕ → Command) → List ℕ → Outcome
+with_change_number command argument = record { errors = change_errors argument; command = Some (command (number_in argument)) }
+
+abbrev pub with_destination : (Address → Command) → List ℕ → Outcome
+with_destination command argument = record { errors = destination_errors argument; command = option_map command (destination_of argument) }
+
+abbrev pub with_steps : (ℕ → Bool → Command) → List ℕ → Outcome
+with_steps command argument = record { errors = steps_errors argument; command = Some (command (steps_of argument) (in_writes argument)) }
+
+abbrev pub with_substitution : Range → List ℕ → Outcome
+with_substitution range argument = record {
+  errors = substitute_errors argument;
+  command = Some (Substitute range (pattern_of argument) (replacement_of argument) (replaces_all argument));
+}
+
+abbrev pub with_setting : List ℕ → Outcome
+with_setting argument = record { errors = set_errors argument; command = option_map Set (setting_of argument) }
+
+-- what each word takes as its argument
+abbrev pub outcome_of : Word → Range → Bool → List ℕ → Outcome
+outcome_of word.Append range bang = without_argument (Append range)
+outcome_of word.Insert range bang = without_argument (Insert range)
+outcome_of word.Change range bang = without_argument (Change range)
+outcome_of word.Delete range bang = with_count (Delete range)
+outcome_of word.Move range bang = with_destination (Move range)
+outcome_of word.Copy range bang = with_destination (CopyTo range)
+outcome_of word.T range bang = with_destination (T range)
+outcome_of word.Join range bang = with_count (Join range bang)
+outcome_of word.Substitute range bang = with_substitution range
+outcome_of word.Print range bang = with_count (Print range)
+outcome_of word.Number range bang = with_count (Number range)
+outcome_of word.Equals range bang = without_argument (Equals range)
+outcome_of word.Undo range bang = with_change_number Undo
+outcome_of word.Redo range bang = without_argument Redo
+outcome_of word.Earlier range bang = with_steps Earlier
+outcome_of word.Later range bang = with_steps Later
+outcome_of word.UndoList range bang = without_argument UndoList
+outcome_of word.Write range bang = without_argument (Write bang)
+outcome_of word.Preserve range bang = without_argument Preserve
+outcome_of word.Quit range bang = without_argument (Quit bang)
+outcome_of word.Set range bang = with_setting
+outcome_of word.WriteUndo range bang = without_argument WriteUndo
+outcome_of word.ReadUndo range bang = without_argument ReadUndo
