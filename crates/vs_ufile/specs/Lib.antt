@@ -1,0 +1,10 @@
+pub mod Values
+pub mod Reading
+pub mod Changes
+pub mod Form
+pub mod Format
+pub mod Decode
+pub mod Writing
+pub mod Walks
+pub mod Tree
+pub mod Failing
