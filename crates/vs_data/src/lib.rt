@@ -238,7 +238,7 @@ impl DataView {
         &block[start..end - 1]
     }
 
-    /// Whether a line of so many bytes fits into the free space, with a zero byte and an index entry of 4 bytes.
+    /// Whether a line of `len` bytes fits into the free space, with a zero byte and an index entry of 4 bytes.
     pub fn fits(&self, len: usize) -> bool
         ensures { IsTrue result ↔ (len + 5 ≤ free_space self.now) }
     {

@@ -1,2 +1,4 @@
+pub mod FileForm
 pub mod SpliceLemmas
+pub mod Steps
 pub mod UndoingLemmas

@@ -1,4 +1,4 @@
--- A splice keeps what stands before and behind its place, so its length, its bytes and the way back follow from the parts.
+-- A splice keeps what stands before and after its place, so its length, its bytes and the way back follow from the parts.
 use Rattle.std.proofs.Common.{◌≡◌, ℕ, ◌+◌, ◌≤◌, List, [], ◌++◌, length, take, drop, map, sym, ap, ◌∙◌, arith, add-zero, All, length-append, append_assoc, append-nil}
 use Rattle.std.proofs.Math.Seq.{take-append-add, drop-append-add}
 use Rattle.std.proofs.lemmas.List.{length-take, length-drop, take_at, drop_at, take-append-le, drop-append-le, take-append-drop, drop-drop, drop_all, map-append, take-map, drop-map}
@@ -34,7 +34,7 @@ module _ {X : Type 0} (xs : List X) (top old : ℕ) (within : top + old ≤ leng
   splice_back new =
       ap (λ ys. ys ++ cut_out xs top old ++ drop (top + length new) (splice xs top old new)) (take_top new) ∙ (ap (λ ys. take top xs ++ cut_out xs top old ++ ys) (drop_new new) ∙ three_parts)
 
-  -- a splice behind the new elements goes on with the first one
+  -- a splice after the new elements goes on with the first one
   pub splice_on : (a b : List X) (more : ℕ) → splice (splice xs top old a) (top + length a) more b ≡ splice xs top (old + more) (a ++ b)
   splice_on a b more =
       let front : take (top + length a) (splice xs top old a) ≡ take top xs ++ a =

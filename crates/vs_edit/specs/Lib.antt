@@ -1,3 +1,5 @@
+pub mod Calls
 pub mod Splices
+pub mod State
 pub mod Texts
 pub mod Undoing

@@ -1,6 +1,6 @@
 -- Splices of lists of lines.
-use Rattle.std.specs.Prelude.{ℕ, ◌+◌, ◌≤◌, List, ◌++◌, All, length, take, drop}
-use Rattle.vs_text.specs.Text.{bytes_of}
+use Rattle.std.specs.Prelude.{ℕ, ◌≡◌, ◌+◌, ◌≤◌, List, ◌++◌, All, length, take, drop}
+use Rattle.vs_text.specs.Text.{IsText, bytes_of, file_of}
 use Rattle.vs_text.specs.Limits.{IsShort}
 use Rattle.vs_text.specs.declared.TheConstants.{MAX_LINES, MAX_TEXT_BYTES}
 
@@ -12,9 +12,17 @@ splice xs top old new = take top xs ++ new ++ drop (top + old) xs
 abbrev pub cut_out : {X : Type 0} → List X → ℕ → ℕ → List X
 cut_out xs top old = take old (drop top xs)
 
--- A text of so many lines and bytes has these lines to take out and room for the new ones, also where what goes has no bytes.
+-- A text with these numbers of lines and bytes has the lines to take out and room for the new ones, also where what goes has no bytes.
 pub record HasRoom (lines bytes top old : ℕ) (new : List (List ℕ)) : Type 0 where
   pub within : top + old ≤ lines
   pub few_lines : lines + length new ≤ MAX_LINES + old
   pub short_lines : All IsShort new
   pub few_bytes : bytes + bytes_of new ≤ MAX_TEXT_BYTES
+
+-- These bytes are the file form of `count` lines within the limit of a line.
+pub record HoldsLines (count : ℕ) (bytes : List ℕ) : Type 0 where
+  pub lines : List (List ℕ)
+  pub counted : length lines ≡ count
+  pub is_text : IsText lines
+  pub short_lines : All IsShort lines
+  pub form : bytes ≡ file_of lines

@@ -1,7 +1,8 @@
 -- What a store of one text keeps in memory.
-use Rattle.std.specs.Prelude.{ℕ, List}
-use Rattle.vs_text.specs.Text.{IsText}
+use Rattle.std.specs.Prelude.{◌≡◌, ◌+◌, ℕ, List, length}
+use Rattle.vs_text.specs.Text.{IsText, bytes_of}
 use Rattle.vs_text.specs.Limits.{IsWithinLimits}
+use Rattle.vs_edit.specs.State.{TextState, StoreState}
 
 -- the text as it is now, and as it was committed
 pub record Texts : Type 0 where
@@ -17,3 +18,11 @@ pub record IsSound (text : List (List ℕ)) : Type 0 where
 pub record AreSound (texts : Texts) : Type 0 where
   pub present : IsSound texts.present
   pub committed : IsSound texts.committed
+
+-- what a store shows that counts these faults over another and does not tell its texts
+abbrev pub untold : ℕ → StoreState → StoreState
+untold faults below = record { present = record below.present { Is = λ text. ⊥ }; committed = record below.committed { Is = λ text. ⊥ }; faults = faults + below.faults }
+
+-- a text that is told
+abbrev pub told : List (List ℕ) → TextState
+told lines = record { Is = λ text. lines ≡ text; lines = length lines; bytes = bytes_of lines }

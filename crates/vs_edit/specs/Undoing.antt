@@ -13,7 +13,7 @@ abbrev pub undone : List Undo → List (List ℕ) → List (List ℕ)
 undone [] text = text
 undone (undo ∷ undos) text = undone undos (before undo text)
 
--- A vector with this capacity has room for the text, which has so many bytes.
+-- A vector with this capacity has room for the text, which has this number of bytes.
 pub record IsHeld (capacity bytes : ℕ) (text : List (List ℕ)) : Type 0 where
   pub room : length text ≤ capacity
   pub counted : bytes ≡ bytes_of text

@@ -1,6 +1,6 @@
 //! A store for tests, one call of which fails.
-ghost use Rattle.std.specs.Prelude.{◌≡◌, ◌+◌, ◌≤◌, ◌↔◌, IsTrue, min};
-ghost use Rattle.vs_faults.specs.Faults.{Rose};
+ghost use Rattle.std.specs.Prelude.{◌≡◌, ◌+◌, ◌↔◌, IsTrue, ⊤, min};
+ghost use Rattle.vs_faults.specs.Faults.{HasCause};
 
 use crate::room::has_room;
 use crate::{LineStore, StoreErr};
@@ -45,8 +45,7 @@ impl<S> FailingStore<S> {
 
     fn fail(&mut self) -> StoreErr
         ensures failed { result ≡ StoreErr.Failed }
-        ensures rose { Rose self.old.faults self.new.faults }
-        ensures later { self.old.faults ≤ self.new.faults }
+        ensures cause { HasCause self.old.faults self.new.faults ⊤ }
         ensures rest { self.new ≡ record self.old { faults = self.new.faults } }
     {
         self.faults = self.faults.saturating_add(1);
@@ -55,24 +54,13 @@ impl<S> FailingStore<S> {
 }
 
 impl<S: LineStore> LineStore for FailingStore<S> {
-    ghost use Rattle.std.specs.Prelude.{false, ◌+◌};
+    ghost use Rattle.std.specs.Prelude.{false};
+    ghost use Rattle.vs_edit.specs.Texts.{untold};
     ghost use Rattle.std.proofs.lemmas.Bool.{false≢true};
 
     ghost tells = { false };
 
-    ghost has = { λ _ _. ⊥ };
-
-    ghost had = { λ _ _. ⊥ };
-
-    ghost lines = { λ s. S.lines s.store };
-
-    ghost bytes = { λ s. S.bytes s.store };
-
-    ghost had_lines = { λ s. S.had_lines s.store };
-
-    ghost had_bytes = { λ s. S.had_bytes s.store };
-
-    ghost faults = { λ s. s.faults + S.faults s.store };
+    ghost shows = { λ s. untold s.faults (S.shows s.store) };
 
     ghost valid = { λ s. S.valid s.store };
 
@@ -83,6 +71,8 @@ impl<S: LineStore> LineStore for FailingStore<S> {
     ghost tells_one = { λ s valid told. absurd (false≢true told) };
 
     ghost told_one = { λ s safe told. absurd (false≢true told) };
+
+    ghost has_told = { λ s text is. absurd is };
 
     ghost has_one = { λ s a b is_a is_b. absurd is_a };
 

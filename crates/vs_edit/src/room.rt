@@ -1,9 +1,10 @@
 // Whether a splice may be asked for.
-ghost use Rattle.std.specs.Prelude.{◌≡◌, ◌+◌, ◌≤◌, ◌↔◌, List, ℕ, All, IsTrue, length};
+ghost use Rattle.std.specs.Prelude.{◌+◌, ◌≤◌, ◌↔◌, All, IsTrue};
 ghost use Rattle.vs_text.specs.Text.{bytes_of};
 ghost use Rattle.vs_text.specs.Limits.{IsShort};
-ghost use Rattle.vs_text.specs.declared.TheConstants.{MAX_LINES, MAX_TEXT_BYTES};
-ghost use Rattle.vs_edit.specs.Splices.{splice, HasRoom};
+ghost use Rattle.vs_text.specs.declared.TheConstants.{MAX_TEXT_BYTES};
+ghost use Rattle.vs_edit.specs.Splices.{HasRoom};
+ghost use Rattle.vs_edit.specs.State.{AllowsSplice};
 
 use crate::LineStore;
 use vs_text::{Line, MAX_LINE_BYTES, MAX_LINES, MAX_TEXT_BYTES};
@@ -19,7 +20,7 @@ fn are_short(lines: &[Line]) -> bool
     true
 }
 
-// Whether a text of so many bytes has room for new lines as well.
+// Whether a text of `bytes` bytes has room for new lines as well.
 pub(crate) fn has_room(bytes: u64, new: &[Line]) -> bool
     ensures { IsTrue result ↔ (bytes + bytes_of new.now ≤ MAX_TEXT_BYTES) }
 {
@@ -34,8 +35,8 @@ pub(crate) fn has_room(bytes: u64, new: &[Line]) -> bool
 /// ones.
 pub fn allows_splice<S: LineStore>(store: &S, top: u64, old: u64, new: &[Line]) -> bool
     requires { S.valid store.now }
-    ensures room { IsTrue result ↔ HasRoom (S.lines store.now) (S.bytes store.now) top old new.now }
-    ensures few_bytes { IsTrue result → (text : List (List ℕ)) → S.has store.now text → bytes_of (splice text top old new.now) ≤ MAX_TEXT_BYTES }
+    ensures room { IsTrue result ↔ HasRoom (S.shows store.now).present.lines (S.shows store.now).present.bytes top old new.now }
+    ensures allowed { IsTrue result → AllowsSplice (S.shows store.now).present top old new.now }
 {
     let len = store.len();
     let count = new.len() as u64;

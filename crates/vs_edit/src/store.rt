@@ -1,10 +1,11 @@
 // Stores of one text.
-ghost use Rattle.std.specs.Prelude.{◌≡◌, ◌+◌, ◌<◌, ◌≤◌, Bool, ℕ, List, [], All, IsTrue, IsErrOf, OnOk, get_or, length};
-ghost use Rattle.vs_faults.specs.Faults.{Rose};
-ghost use Rattle.vs_text.specs.Text.{IsLine, IsText, bytes_of};
+ghost use Rattle.std.specs.Prelude.{◌≡◌, ◌+◌, ◌<◌, ◌≤◌, Bool, ℕ, List, [], IsTrue, IsErrOf, OnOk, get_or, length};
+ghost use Rattle.vs_faults.specs.Faults.{HasCause};
+ghost use Rattle.vs_text.specs.Text.{IsLine, IsText, bytes_of, file_of};
 ghost use Rattle.vs_text.specs.Limits.{IsShort, IsWithinLimits};
 ghost use Rattle.vs_text.specs.declared.TheConstants.{MAX_LINES, MAX_TEXT_BYTES};
-ghost use Rattle.vs_edit.specs.Splices.{splice};
+ghost use Rattle.vs_edit.specs.Splices.{cut_out, HoldsLines};
+ghost use Rattle.vs_edit.specs.State.{StoreState, SameText, IsSpliced, AllowsSplice, KeepsCommitted, KeepsTexts};
 
 use std::alloc::{AllocError, AllocFailed, Global};
 use vs_text::Line;
@@ -49,20 +50,9 @@ impl<T: Drop> From<AllocFailed<T>> for StoreErr {
 pub trait LineStore {
     /// The store tells its texts. This is a constant of the type.
     ghost tells: { Bool };
-    /// The store has this text now.
-    ghost has: { Self → List (List ℕ) → Type 0 };
-    /// The store had this text when it was last committed.
-    ghost had: { Self → List (List ℕ) → Type 0 };
-    /// The number of lines now. Every store tells it, and the three numbers that follow.
-    ghost lines: { Self → ℕ };
-    /// The number of bytes now.
-    ghost bytes: { Self → ℕ };
-    /// The number of lines when the store was last committed.
-    ghost had_lines: { Self → ℕ };
-    /// The number of bytes when the store was last committed.
-    ghost had_bytes: { Self → ℕ };
-    /// How often what the store stands on has failed.
-    ghost faults: { Self → ℕ };
+    /// The text as it is now and as it was last committed, and how often what the store stands on has failed. The numbers
+    /// are told by every store.
+    ghost shows: { Self → StoreState };
     /// The store may be used.
     ghost valid: { Self → Type 0 };
     /// The part of the validity that speaks of what was committed: the store may be rolled back.
@@ -73,108 +63,106 @@ pub trait LineStore {
     /// The number of lines. It takes no memory.
     fn len(&self) -> u64
         requires { valid self.now }
-        ensures { result ≡ lines self.now };
+        ensures { result ≡ (shows self.now).present.lines };
 
     /// The number of bytes, with one for each line end. It takes no memory.
     fn bytes(&self) -> u64
         requires { valid self.now }
-        ensures { result ≡ bytes self.now };
+        ensures { result ≡ (shows self.now).present.bytes };
 
     /// Puts the bytes of a line into a vector, in place of what that holds. After an `Err` the vector may hold anything.
     ///
     /// A store that does not tell its texts promises no more of them than that they are a line within the limit.
     fn line(&mut self, alloc: Global, at: u64, into: &mut Vec<u8>) -> Result<(), StoreErr>
         requires valid { valid self.old }
-        requires within { at < lines self.old }
-        ensures line { OnOk result ((text : List (List ℕ)) → has self.old text → into.new.items ≡ get_or text at []) }
+        requires within { at < (shows self.old).present.lines }
+        ensures line { OnOk result ((text : List (List ℕ)) → (shows self.old).present.Is text → into.new.items ≡ get_or text at []) }
         ensures is_line { OnOk result (IsLine into.new.items) }
         ensures is_short { OnOk result (IsShort into.new.items) }
+        ensures kept { KeepsTexts shows valid stays self.old self.new }
+        ensures cause { HasCause (shows self.old).faults (shows self.new).faults (IsErrOf result StoreErr.Failed) };
 
-        // The store keeps its texts.
-        ensures has { (text : List (List ℕ)) → has self.old text → has self.new text }
-        ensures had { (text : List (List ℕ)) → had self.old text → had self.new text }
-        ensures numbers { (lines self.new ≡ lines self.old) × (bytes self.new ≡ bytes self.old) }
-        ensures had_numbers { (had_lines self.new ≡ had_lines self.old) × (had_bytes self.new ≡ had_bytes self.old) }
-        ensures valid { valid self.new }
-        ensures stays { stays self.old self.new }
-
-        ensures faults { faults self.old ≤ faults self.new }
-        ensures failed { IsErrOf result StoreErr.Failed → Rose (faults self.old) (faults self.new) };
+    /// Puts `count` lines from line `at` on into a vector, each followed by byte 10, in place of what that holds. After an
+    /// `Err` the vector may hold anything.
+    ///
+    /// A store that does not tell its texts promises no more of them than that they are lines within the limit.
+    fn copy_lines(
+        &mut self,
+        alloc: Global,
+        at: u64,
+        count: u64,
+        into: &mut Vec<u8>,
+    ) -> Result<(), StoreErr>
+        requires valid { valid self.old }
+        requires within { at + count ≤ (shows self.old).present.lines }
+        ensures lines { OnOk result ((text : List (List ℕ)) → (shows self.old).present.Is text → into.new.items ≡ file_of (cut_out text at count)) }
+        ensures are_lines { OnOk result (HoldsLines count into.new.items) }
+        ensures kept { KeepsTexts shows valid stays self.old self.new }
+        ensures cause { HasCause (shows self.old).faults (shows self.new).faults (IsErrOf result StoreErr.Failed) }
+    {
+        into.clear();
+        let mut line = Vec::new(alloc);
+        for i in 0..count {
+            self.line(alloc, at + i, &mut line)?;
+            into.extend_from_slice(&line)?;
+            into.push(b'\n')?;
+        }
+        Ok(())
+    }
 
     /// Puts new lines in the place of `old` lines from line `top` on, where the result is within the limits.
     ///
     /// After an `Err` the store may only be rolled back.
     fn splice(&mut self, alloc: Global, top: u64, old: u64, new: &[Line]) -> Result<(), StoreErr>
         requires valid { valid self.old }
-        requires within { top + old ≤ lines self.old }
-        requires few_lines { lines self.old + length new.now ≤ MAX_LINES + old }
-        requires short_lines { All IsShort new.now }
-        requires few_bytes { (text : List (List ℕ)) → has self.old text → bytes_of (splice text top old new.now) ≤ MAX_TEXT_BYTES }
-
-        ensures has { OnOk result ((text : List (List ℕ)) → has self.old text → has self.new (splice text top old new.now)) }
-        ensures lines { OnOk result (lines self.new + old ≡ lines self.old + length new.now) }
+        requires allowed { AllowsSplice (shows self.old).present top old new.now }
+        ensures ok { OnOk result (IsSpliced (shows self.old).present top old new.now (shows self.new).present) }
         ensures valid { OnOk result (valid self.new) }
-
-        // What was committed stays.
-        ensures had { (text : List (List ℕ)) → had self.old text → had self.new text }
-        ensures had_numbers { (had_lines self.new ≡ had_lines self.old) × (had_bytes self.new ≡ had_bytes self.old) }
-        ensures safe { safe self.new }
-        ensures stays { stays self.old self.new }
-
-        ensures faults { faults self.old ≤ faults self.new }
-        ensures failed { IsErrOf result StoreErr.Failed → Rose (faults self.old) (faults self.new) };
+        ensures kept { KeepsCommitted shows safe stays self.old self.new }
+        ensures cause { HasCause (shows self.old).faults (shows self.new).faults (IsErrOf result StoreErr.Failed) };
 
     /// Makes the text that the store has now the committed one. It takes no memory.
     fn commit(&mut self)
         requires { valid self.old }
-        ensures has { (text : List (List ℕ)) → has self.old text → has self.new text }
-        ensures had { (text : List (List ℕ)) → has self.old text → had self.new text }
-        ensures numbers { (lines self.new ≡ lines self.old) × (bytes self.new ≡ bytes self.old) }
-        ensures had_numbers { (had_lines self.new ≡ lines self.old) × (had_bytes self.new ≡ bytes self.old) }
+        ensures present { SameText (shows self.old).present (shows self.new).present }
+        ensures committed { SameText (shows self.old).present (shows self.new).committed }
+        ensures faults { (shows self.new).faults ≡ (shows self.old).faults }
         ensures valid { valid self.new }
-        ensures stays { stays self.old self.new }
-        ensures faults { faults self.new ≡ faults self.old };
+        ensures stays { stays self.old self.new };
 
     /// Goes back to the text that was last committed. It takes no memory.
     fn rollback(&mut self)
         requires { safe self.old }
-        ensures has { (text : List (List ℕ)) → had self.old text → has self.new text }
-        ensures had { (text : List (List ℕ)) → had self.old text → had self.new text }
-        ensures numbers { (lines self.new ≡ had_lines self.old) × (bytes self.new ≡ had_bytes self.old) }
-        ensures had_numbers { (had_lines self.new ≡ had_lines self.old) × (had_bytes self.new ≡ had_bytes self.old) }
+        ensures present { SameText (shows self.old).committed (shows self.new).present }
+        ensures committed { SameText (shows self.old).committed (shows self.new).committed }
+        ensures faults { (shows self.new).faults ≡ (shows self.old).faults }
         ensures valid { valid self.new }
-        ensures stays { stays self.old self.new }
-        ensures faults { faults self.new ≡ faults self.old };
+        ensures stays { stays self.old self.new };
 
     /// A store that tells has a text.
-    ghost tells_one: { (s : Self) → valid s → IsTrue tells → (text : List (List ℕ)) × has s text };
-    /// A store that tells had a text.
-    ghost told_one: { (s : Self) → safe s → IsTrue tells → (text : List (List ℕ)) × had s text };
+    ghost tells_one: { (s : Self) → valid s → IsTrue tells → (text : List (List ℕ)) × (shows s).present.Is text };
+    /// A store that tells had a text when it was committed.
+    ghost told_one: { (s : Self) → safe s → IsTrue tells → (text : List (List ℕ)) × (shows s).committed.Is text };
+    /// A store that has a text tells.
+    ghost has_told: { (s : Self) (text : List (List ℕ)) → (shows s).present.Is text → IsTrue tells };
     /// A store has one text at most.
-    ghost has_one: { (s : Self) (a b : List (List ℕ)) → has s a → has s b → a ≡ b };
-
+    ghost has_one: { (s : Self) (a b : List (List ℕ)) → (shows s).present.Is a → (shows s).present.Is b → a ≡ b };
     /// The text has as many lines as the store says.
-    ghost has_lines: { (s : Self) (text : List (List ℕ)) → has s text → length text ≡ lines s };
-
+    ghost has_lines: { (s : Self) (text : List (List ℕ)) → (shows s).present.Is text → length text ≡ (shows s).present.lines };
     /// The text has as many bytes as the store says.
-    ghost has_bytes: { (s : Self) (text : List (List ℕ)) → has s text → bytes_of text ≡ bytes s };
+    ghost has_bytes: { (s : Self) (text : List (List ℕ)) → (shows s).present.Is text → bytes_of text ≡ (shows s).present.bytes };
     /// The text is one: no line has byte 10.
-    ghost has_text: { (s : Self) (text : List (List ℕ)) → valid s → has s text → IsText text };
+    ghost has_text: { (s : Self) (text : List (List ℕ)) → valid s → (shows s).present.Is text → IsText text };
     /// The text is within the limits.
-    ghost has_within: { (s : Self) (text : List (List ℕ)) → valid s → has s text → IsWithinLimits text };
-
+    ghost has_within: { (s : Self) (text : List (List ℕ)) → valid s → (shows s).present.Is text → IsWithinLimits text };
     /// The number of lines is within its limit, also where the text is not told.
-    ghost few_lines: { (s : Self) → valid s → lines s ≤ MAX_LINES };
-
+    ghost few_lines: { (s : Self) → valid s → (shows s).present.lines ≤ MAX_LINES };
     /// The number of bytes is within its limit, also where the text is not told.
-    ghost few_bytes: { (s : Self) → valid s → bytes s ≤ MAX_TEXT_BYTES };
-
+    ghost few_bytes: { (s : Self) → valid s → (shows s).present.bytes ≤ MAX_TEXT_BYTES };
     /// A store that may be used may be rolled back.
     ghost is_safe: { (s : Self) → valid s → safe s };
-
     /// A store stays itself.
     ghost stays_itself: { (s : Self) → stays s s };
-
     /// What stays over two steps stays over both.
     ghost stays_on: { (p q r : Self) → stays p q → stays q r → stays p r };
 }

@@ -90,7 +90,11 @@ fn assert_has<S: LineStore>(
     let file = write_text(alloc, &want)?;
     let found = text_of(alloc, store)?;
     assert_eq!(rt; write_text(alloc, &found)?.as_slice(), file.as_slice());
-    assert_eq!(rt; store.len(), bytes.len() as u64);
+    let count = store.len();
+    assert_eq!(rt; count, bytes.len() as u64);
+    let mut copied = Vec::new(alloc);
+    store.copy_lines(alloc, 0, count, &mut copied)?;
+    assert_eq!(rt; copied.as_slice(), file.as_slice());
     assert_eq!(rt; store.bytes(), file.len() as u64);
     Ok(())
 }
@@ -158,7 +162,8 @@ fn change<S: LineStore>(alloc: Global, store: &mut S) -> Result<(), StoreErr>
 {
     let new = lines_of(alloc, b"xy")?;
     let _ = splice_if_allowed(alloc, store, 1, 1, &new)?;
-    let _ = text_of(alloc, store)?;
+    let count = store.len();
+    store.copy_lines(alloc, 0, count, &mut Vec::new(alloc))?;
     Ok(())
 }
 

@@ -8,9 +8,9 @@ ghost use Rattle.vs_edit.specs.Undoing.{undone, IsHeld, LeadsBack};
 use crate::{LineStore, StoreErr};
 use std::alloc::{AllocError, Global};
 use std::marker::Model;
-use vs_text::Line;
+use vs_text::{Line, append_lines};
 
-// What takes one splice back: `lines` go in the place of `count` lines from line `top` on, and the text then has so many bytes.
+// What takes one splice back: `lines` go in the place of `count` lines from line `top` on, and the text then has `bytes` bytes.
 #[derive(Drop)]
 struct Undo {
     top: usize,
@@ -73,7 +73,7 @@ fn bytes_after(bytes: u64, gone: &[Line], new: &[Line]) -> u64
     bytes - count_bytes(gone) + count_bytes(new)
 }
 
-// Moves lines behind those of another vector, which has the room.
+// Moves lines to the end of another vector, which has the room.
 fn move_lines(lines: &mut Vec<Line>, top: usize, count: usize, into: &mut Vec<Line>)
     requires within { top + count ≤ vec_len lines.old }
     requires room { vec_len into.old + count ≤ vec_capacity into.old }
@@ -99,7 +99,7 @@ fn put_lines(lines: &mut Vec<Line>, top: usize, new: &mut Vec<Line>)
     tail.rotate_right(count);
 }
 
-// Puts new lines in the place of others, and those behind the ones of `gone`. Both vectors have the room.
+// Puts new lines in the place of others, which go to the end of `gone`. Both vectors have the room.
 fn exchange(
     lines: &mut Vec<Line>,
     top: usize,
@@ -215,23 +215,11 @@ impl LineStore for VecStore {
     ghost use Rattle.std.proofs.Common.{ap, subst, sym, ◌∙◌};
     ghost use Rattle.vs_text.specs.Text.{IsText, bytes_of};
     ghost use Rattle.vs_text.specs.Limits.{IsWithinLimits};
-    ghost use Rattle.vs_edit.specs.Texts.{IsSound, AreSound};
+    ghost use Rattle.vs_edit.specs.Texts.{IsSound, AreSound, told};
 
     ghost tells = { true };
 
-    ghost has = { λ s text. s.present ≡ text };
-
-    ghost had = { λ s text. s.committed ≡ text };
-
-    ghost lines = { λ s. length s.present };
-
-    ghost bytes = { λ s. bytes_of s.present };
-
-    ghost had_lines = { λ s. length s.committed };
-
-    ghost had_bytes = { λ s. bytes_of s.committed };
-
-    ghost faults = { λ _. 0 };
+    ghost shows = { λ s. record { present = told s.present; committed = told s.committed; faults = 0 } };
 
     ghost valid = { AreSound };
 
@@ -242,6 +230,8 @@ impl LineStore for VecStore {
     ghost tells_one = { λ s valid told. (s.present, refl) };
 
     ghost told_one = { λ s safe told. (s.committed, refl) };
+
+    ghost has_told = { λ s text is. refl };
 
     ghost has_one = { λ s a b is_a is_b. sym is_a ∙ is_b };
 
@@ -274,6 +264,18 @@ impl LineStore for VecStore {
     fn line(&mut self, _: Global, at: u64, into: &mut Vec<u8>) -> Result<(), StoreErr> {
         into.clear();
         into.extend_from_slice(self.lines[at as usize].bytes())?;
+        Ok(())
+    }
+
+    fn copy_lines(
+        &mut self,
+        _: Global,
+        at: u64,
+        count: u64,
+        into: &mut Vec<u8>,
+    ) -> Result<(), StoreErr> {
+        into.clear();
+        append_lines(&self.lines[at as usize..(at + count) as usize], into)?;
         Ok(())
     }
 

@@ -14,7 +14,7 @@ splice_samples n at m within =
     let all : at + m + (n - (at + 0)) ≡ n + m = omega arith in
     rw (front, back) (simp replicate-append-replicate (ap samples all))
 
--- the first lines of a run go behind a text
+-- the first lines of a run go after a text
 pub splice_part : (lines : List (List ℕ)) (all part n : ℕ) → lines ≡ samples all → part ≤ all → splice (samples n) n 0 (take part lines) ≡ samples (n + part)
 splice_part lines all part n is within =
     ap (λ (run : List (List ℕ)). splice (samples n) n 0 (take part run)) is ∙ (ap (λ (run : List (List ℕ)). splice (samples n) n 0 run) (take-replicate part all sample within) ∙ splice_samples n n part (omega arith))

@@ -8,7 +8,7 @@ use Rattle.vs_load.specs.declared.words.Load.TheVariants.{Fill, Append}
 unfoldable pub sample : List ℕ
 sample = replicate 39 120
 
--- the text of so many lines
+-- the text with this number of lines
 abbrev pub samples : ℕ → List (List ℕ)
 samples n = replicate n sample
 

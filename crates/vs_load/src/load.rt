@@ -54,7 +54,7 @@ fn sample_lines(alloc: Global, count: usize) -> Result<Vec<Line>, AllocError>
 // Puts lines before the line at a place, and commits.
 fn put<S: LineStore>(alloc: Global, store: &mut S, at: u64, lines: &[Line]) -> Result<(), LoadErr>
     requires { S.valid store.old }
-    ensures text { OnOk result ((text : List (List ℕ)) → S.has store.old text → S.has store.new (splice text at 0 lines.now)) }
+    ensures text { OnOk result ((text : List (List ℕ)) → (S.shows store.old).present.Is text → (S.shows store.new).present.Is (splice text at 0 lines.now)) }
     ensures valid { S.valid store.new }
 {
     if !allows_splice(store, at, 0, lines) {
@@ -65,10 +65,10 @@ fn put<S: LineStore>(alloc: Global, store: &mut S, at: u64, lines: &[Line]) -> R
     Ok(())
 }
 
-// Puts lines behind the last one, as many at a time as a file is loaded by.
+// Puts lines after the last one, as many at a time as a file is loaded by.
 fn fill<S: LineStore>(alloc: Global, store: &mut S, count: u64) -> Result<(), LoadErr>
     requires { S.valid store.old }
-    ensures text { OnOk result ((n : ℕ) → S.has store.old (samples n) → S.has store.new (samples (n + count))) }
+    ensures text { OnOk result ((n : ℕ) → (S.shows store.old).present.Is (samples n) → (S.shows store.new).present.Is (samples (n + count))) }
     ensures valid { S.valid store.new }
 {
     let lines = sample_lines(alloc, FILL_LINES as usize)?;
@@ -85,7 +85,7 @@ fn fill<S: LineStore>(alloc: Global, store: &mut S, count: u64) -> Result<(), Lo
 // Puts single lines into the middle.
 fn append<S: LineStore>(alloc: Global, store: &mut S, count: u64) -> Result<(), LoadErr>
     requires { S.valid store.old }
-    ensures text { OnOk result ((n : ℕ) → S.has store.old (samples n) → S.has store.new (samples (n + count))) }
+    ensures text { OnOk result ((n : ℕ) → (S.shows store.old).present.Is (samples n) → (S.shows store.new).present.Is (samples (n + count))) }
     ensures valid { S.valid store.new }
 {
     let line = sample_lines(alloc, 1)?;
@@ -109,8 +109,8 @@ fn sum_of(bytes: &[u8]) -> u64
 // Reads all lines, some at a time, and gives the sum of their bytes and line ends.
 fn read<P: Pages>(alloc: Global, tree: &mut LineTree, pages: &mut P) -> Result<u64, PageErr>
     requires valid { P.valid pages.old }
-    requires fits { Fits P.tells (P.present pages.old) tree.old.present }
-    ensures { IfOk result (λ sum. IsTrue P.tells → (n : ℕ) → HasText (P.present pages.old) tree.old.present (samples n) → sum ≡ 4690 * n) }
+    requires fits { Fits P.tells (P.shows pages.old).present tree.old.present }
+    ensures { IfOk result (λ sum. IsTrue P.tells → (n : ℕ) → HasText (P.shows pages.old).present tree.old.present (samples n) → sum ≡ 4690 * n) }
 {
     let mut sum: u64 = 0;
     let mut run = Vec::new(alloc);
@@ -128,7 +128,7 @@ fn read<P: Pages>(alloc: Global, tree: &mut LineTree, pages: &mut P) -> Result<u
 // Puts the lines of a load into a store.
 fn put_all<S: LineStore>(alloc: Global, store: &mut S, load: Load) -> Result<(), LoadErr>
     requires { S.valid store.old }
-    ensures text { OnOk result ((n : ℕ) → S.has store.old (samples n) → S.has store.new (samples (n + lines_after load))) }
+    ensures text { OnOk result ((n : ℕ) → (S.shows store.old).present.Is (samples n) → (S.shows store.new).present.Is (samples (n + lines_after load))) }
     ensures valid { S.valid store.new }
 {
     match load {

@@ -14,7 +14,7 @@ use words::Load;
 
 const USAGE: &str = "usage: vs_load fill LINES | append LINES MORE";
 
-/// The words behind the program's name.
+/// The arguments after the program's name.
 fn given_words(rt: &HostRuntime) -> io::Result<Vec<String>> {
     let mut words = Vec::new(rt.alloc());
     for word in env::args(rt)?.skip(1) {

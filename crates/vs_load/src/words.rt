@@ -3,9 +3,9 @@
 /// What is done with an empty tree.
 #[derive(Clone, Copy, Debug, PartialEq, Eq)]
 pub enum Load {
-    /// So many lines are put in, as a file is loaded.
+    /// This many lines are put in, as a file is loaded.
     Fill(u64),
-    /// So many lines are put in, and then so many more in the middle, one after another.
+    /// This many lines are put in, and then this many more in the middle, one after another.
     Append(u64, u64),
 }
 

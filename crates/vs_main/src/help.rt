@@ -1,45 +1,60 @@
 // What is shown for `--help` and `--version`.
 use std::io::Write;
+use vs_top::Ending;
 
 const HELP: &str = "\
-levertaupe: runs a script of Ex commands over a file of the current folder
+Usage: levertaupe edit NAME < SCRIPT
+       levertaupe -h | --help
+       levertaupe -V | --version
 
-  levertaupe edit NAME < SCRIPT   answers each command on standard output
-  levertaupe --help               shows this page
-  levertaupe --version            shows the version
+Runs a script of Ex commands over the file NAME of the current folder, and
+answers each command on standard output.
 
 Commands, one on a line:
-  Na   puts the lines that follow, up to a line `.`, after line N
-       (0: before the first line)
-  %p   prints all lines
+  {N}a  puts the lines that follow, up to a line `.`, after line {N}
+        (0: before the first line)
+  %p    prints all lines
+
+Example:
+  $ printf 'a\\nb\\n' > f
+  $ printf '1a\\nx\\n.\\n%p\\n' | levertaupe edit f
+  \"f\" 2L, 4B
+  change 1, 3 lines
+  a
+  x
+  b
 
 Nothing is saved yet: the file stays as it is.
 
-Statuses; from 2 on a line on standard error says the same:
-   0  every command did its work       7  the file cannot be read
-   1  some reply is an error           8  no memory
-   2  other words                     12  a file of more than 1,048,576 bytes
-   5  the script cannot be read       13  a script of more than 1,048,576 bytes
+Exit status; from 2 on a line on standard error says the same:
+   0  every command did its work
+   1  some reply is an error
+   2  the arguments are none of the above
+   5  the script cannot be read
    6  the output cannot be written
+   7  the file cannot be read
+   8  there is not enough memory
+  12  the file has more than 1,048,576 bytes
+  13  the script has more than 1,048,576 bytes
 
-The manual is docs/COMMANDS.md, and as a manual page man/levertaupe.1.
+The manual is docs/COMMANDS.md; tools/manual makes a manual page of it.
 ";
 
 const VERSION: &str = "levertaupe 0.1.0\n";
 
-/// What is shown for a word that stands alone.
-pub fn text_for(word: &str) -> Option<&'static str> {
-    match word {
-        "--help" => Some(HELP),
-        "--version" => Some(VERSION),
+/// What is shown for an argument that stands alone.
+pub fn text_for(argument: &str) -> Option<&'static str> {
+    match argument {
+        "-h" | "--help" => Some(HELP),
+        "-V" | "--version" => Some(VERSION),
         _ => None,
     }
 }
 
-/// Shows it. The status is 0, or 6 where the output fails.
-pub fn show(rt: &HostRuntime, text: &str) -> u8 {
+/// Writes the text to standard output.
+pub fn show(rt: &HostRuntime, text: &str) -> Ending {
     match rt.stdout().write_all(text.as_bytes()) {
-        Ok(()) => 0,
-        Err(_) => 6,
+        Ok(()) => Ending::Done,
+        Err(_) => Ending::OutputFault,
     }
 }

@@ -1,8 +1,9 @@
 // The files of the current folder, standard input, standard output and the clock of the system.
-ghost use Rattle.std.specs.Prelude.{◌≡◌, None, [], false, Ok, IfOk};
-ghost use Rattle.vs_host.specs.World.{HasCause};
+ghost use Rattle.std.specs.Prelude.{◌≡◌, [], false, Ok, IfOk, OnOk, IsErr};
+ghost use Rattle.vs_faults.specs.Faults.{HasCause};
+ghost use Rattle.vs_main.specs.Untold.{no_folder, never};
 
-use std::fs::{self, File};
+use std::fs::{self, File, OpenOptions};
 use std::io::{self, ErrorKind, Read, Seek, SeekFrom, Write};
 use std::time::{SystemTime, UNIX_EPOCH};
 use vs_host::{Clock, Failed, Folder, Host, Out, Script, World};
@@ -35,14 +36,21 @@ impl World for RealHost {
     ghost tells = { record { folder = false; output = false; script = false; clock = false } };
 
     ghost scene = { λ s. record {
-      folder = λ _. None;
+      folder = no_folder;
       output = [];
       script = [];
       answers = [];
       script_faults = s.script_faults;
       out_faults = s.out_faults;
       folder_faults = s.folder_faults;
+      trace = [];
     } };
+
+    ghost plays = { λ _ _ _. Unit {0} };
+
+    ghost is_folder = { λ host told. never told };
+
+    ghost newest = { λ host told. never told };
 }
 
 impl Script for RealHost {
@@ -84,13 +92,22 @@ impl Clock for RealHost {
     }
 }
 
+/// Whether a regular file has the name. What else has it, a link among them, is refused.
 fn is_there(rt: &HostRuntime, name: &str) -> io::Result<bool> {
-    match fs::metadata(rt, name) {
+    match fs::symlink_metadata(rt, name) {
         Ok(found) if found.is_file() => Ok(true),
         Ok(_) => Err(io::Error::from(ErrorKind::InvalidInput)),
         Err(error) if error.kind() == ErrorKind::NotFound => Ok(false),
         Err(error) => Err(error),
     }
+}
+
+fn create_empty(rt: &HostRuntime, name: &str) -> io::Result<()> {
+    OpenOptions::new()
+        .write(true)
+        .create_new(true)
+        .open(rt, name)?;
+    Ok(())
 }
 
 fn size_of(rt: &HostRuntime, name: &str) -> io::Result<u64> {
@@ -103,10 +120,30 @@ fn read_part(rt: &HostRuntime, name: &str, at: u64, into: &mut [u8]) -> io::Resu
     file.read_exact(into)
 }
 
+fn open_to_write(rt: &HostRuntime, name: &str) -> io::Result<File> {
+    OpenOptions::new().write(true).open(rt, name)
+}
+
+fn write_part(rt: &HostRuntime, name: &str, at: u64, piece: &[u8]) -> io::Result<()> {
+    let mut file = open_to_write(rt, name)?;
+    file.seek(SeekFrom::Start(at))?;
+    file.write_all(piece)
+}
+
+fn cut_to(rt: &HostRuntime, name: &str, len: u64) -> io::Result<()> {
+    open_to_write(rt, name)?.set_len(len)
+}
+
+/// Syncs a file or, as `.`, the current folder, whose names it keeps.
+fn sync_open(rt: &HostRuntime, name: &str) -> io::Result<()> {
+    File::open(rt, name)?.sync_all()
+}
+
 impl RealHost {
     fn folder_answer<T: Drop>(&mut self, answer: io::Result<T>) -> Result<T, Failed>
         ensures ok { IfOk result (λ value. answer ≡ Ok value) }
-        ensures cause { HasCause self.old.folder_faults self.new.folder_faults result }
+        ensures cause { HasCause self.old.folder_faults self.new.folder_faults (IsErr result) }
+        ensures quiet { OnOk result (self.new.folder_faults ≡ self.old.folder_faults) }
         ensures frame { self.new ≡ record self.old { folder_faults = self.new.folder_faults } }
     {
         match answer {
@@ -125,6 +162,11 @@ impl Folder for RealHost {
         self.folder_answer(answer)
     }
 
+    fn create(&mut self, name: &str) -> Result<(), Failed> {
+        let answer = create_empty(&self.rt, name);
+        self.folder_answer(answer)
+    }
+
     fn len(&mut self, name: &str) -> Result<u64, Failed> {
         let answer = size_of(&self.rt, name);
         self.folder_answer(answer)
@@ -133,6 +175,40 @@ impl Folder for RealHost {
     fn read_at(&mut self, name: &str, at: u64, into: &mut [u8]) -> Result<(), Failed> {
         let answer = read_part(&self.rt, name, at, into);
         self.folder_answer(answer)
+    }
+
+    fn write_at(&mut self, name: &str, at: u64, piece: &[u8]) -> Result<(), Failed> {
+        let answer = write_part(&self.rt, name, at, piece);
+        self.folder_answer(answer)
+    }
+
+    fn cut(&mut self, name: &str, len: u64) -> Result<(), Failed> {
+        let answer = cut_to(&self.rt, name, len);
+        self.folder_answer(answer)
+    }
+
+    fn sync(&mut self, name: &str) -> Result<(), Failed> {
+        let answer = sync_open(&self.rt, name);
+        self.folder_answer(answer)
+    }
+
+    fn rename(&mut self, from: &str, to: &str) -> Result<(), Failed> {
+        let answer = fs::rename(&self.rt, from, to);
+        self.folder_answer(answer)
+    }
+
+    fn remove(&mut self, name: &str) -> Result<(), Failed> {
+        let answer = fs::remove_file(&self.rt, name);
+        self.folder_answer(answer)
+    }
+
+    fn sync_names(&mut self) -> Result<(), Failed> {
+        let answer = sync_open(&self.rt, ".");
+        self.folder_answer(answer)
+    }
+
+    fn damaged(&mut self) {
+        self.folder_faults = self.folder_faults.saturating_add(1);
     }
 }
 

@@ -1,59 +1,56 @@
-//! The program: the words of the command line, the script on standard input, replies on standard output, the file in the
-//! current folder. What it does is `vs_top::run`; here are the real host, the help, and the line that names a fault.
+//! The program: its arguments, the script on standard input, replies on standard output, the file in the current folder. What
+//! it does is `vs_top::run`; here are the real host and the help.
 #![tactic(auto)]
 
-mod fault;
 mod help;
 mod host;
 #[cfg(test)]
 mod tests;
 
-use fault::Fault;
 use host::RealHost;
 use std::alloc::AllocError;
 use std::env;
 use std::io::ErrorKind;
 use std::process::ExitCode;
-use vs_top::run;
+use vs_top::{Ending, run};
 
-/// The words behind the program's name. Words that are no text are handed over as one empty word, which is no form.
-fn words(rt: &HostRuntime) -> Result<Vec<String>, AllocError> {
-    let mut words = Vec::new(rt.alloc());
+/// The arguments after the program's name. Where they are no text, there is one empty argument, which is no form.
+fn arguments(rt: &HostRuntime) -> Result<Vec<String>, AllocError> {
+    let mut arguments = Vec::new(rt.alloc());
     match env::args(rt) {
         Ok(all) => {
-            for word in all.skip(1) {
-                words.push(word)?;
+            for argument in all.skip(1) {
+                arguments.push(argument)?;
             }
         }
         Err(error) => {
             if error.kind() == ErrorKind::OutOfMemory {
                 return Err(AllocError);
             }
-            words.push(String::new(rt.alloc()))?;
+            arguments.push(String::new(rt.alloc()))?;
         }
     }
-    Ok(words)
+    Ok(arguments)
 }
 
-/// The status of the program for its words.
-fn answer(rt: &HostRuntime, words: &[String]) -> u8 {
-    if let [word] = words {
-        if let Some(text) = help::text_for(word.as_str()) {
+fn answer(rt: &HostRuntime, arguments: &[String]) -> Ending {
+    if let [argument] = arguments {
+        if let Some(text) = help::text_for(argument.as_str()) {
             return help::show(rt, text);
         }
     }
     let mut host = RealHost::new(*rt);
-    run(rt.alloc(), words, &mut host).status
+    run(rt.alloc(), arguments, &mut host).ending
 }
 
 fn main(rt: HostRuntime) -> ExitCode {
-    let status = match words(&rt) {
-        Ok(words) => answer(&rt, words.as_slice()),
-        Err(_) => 8,
+    let ending = match arguments(&rt) {
+        Ok(arguments) => answer(&rt, arguments.as_slice()),
+        Err(_) => Ending::NoMemory,
     };
-    if let Some(fault) = Fault::of(status) {
+    if let Some(line) = ending.message() {
         // Nothing is left to tell where even this line cannot be written.
-        let _ = eprintln!(rt; "{fault}");
+        let _ = eprintln!(rt; "{line}");
     }
-    ExitCode::from(status)
+    ExitCode::from(ending.status())
 }

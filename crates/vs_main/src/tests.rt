@@ -8,7 +8,8 @@ ghost use Rattle.std.specs.Prelude.{◌≡◌, [], IfOk, IsTrue};
 
 use std::alloc::Global;
 use std::test::Fail;
-use vs_host::{Host, MemHost};
+use vs_host::Host;
+use vs_memory::MemHost;
 use vs_top::{Report, run};
 
 /// A host with the file `f`, where there is one, and a script.
@@ -22,10 +23,10 @@ fn host_with(alloc: Global, file: Option<&[u8]>, script: &[u8]) -> Result<MemHos
     Ok(host)
 }
 
-fn words_of(alloc: Global, words: &[&str]) -> Result<Vec<String>, Fail> {
+fn arguments_of(alloc: Global, arguments: &[&str]) -> Result<Vec<String>, Fail> {
     let mut list = Vec::new(alloc);
-    for word in words {
-        list.push(String::from_str(alloc, word)?)?;
+    for argument in arguments {
+        list.push(String::from_str(alloc, argument)?)?;
     }
     Ok(list)
 }
@@ -34,6 +35,6 @@ fn words_of(alloc: Global, words: &[&str]) -> Result<Vec<String>, Fail> {
 fn edit_f<H: Host>(alloc: Global, host: &mut H) -> Result<Report, Fail>
     requires { IsTrue (H.tells).clock → (H.scene host.old).answers ≡ [] }
 {
-    let words = words_of(alloc, &["edit", "f"])?;
-    Ok(run(alloc, words.as_slice(), host))
+    let arguments = arguments_of(alloc, &["edit", "f"])?;
+    Ok(run(alloc, arguments.as_slice(), host))
 }

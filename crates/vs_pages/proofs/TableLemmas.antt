@@ -1,14 +1,15 @@
 -- How the number of pages and the map of a table follow its places.
-use Rattle.std.proofs.lemmas.List.{length-map}
-use Rattle.std.proofs.Common.{map, ◌≡◌, ℕ, zero, suc, ◌+◌, ◌<◌, ◌≤◌, length, get_or, set, List, [], ◌∷◌, ◌++◌, Option, Some, None, IsSome, is_some, false, refl, sym, ap, ◌∙◌, inl, inr, arith}
+use Rattle.std.proofs.lemmas.List.{length-map, length-take, get_or-take}
+use Rattle.std.proofs.Common.{map, ◌≡◌, ℕ, zero, suc, ◌+◌, ◌<◌, ◌≤◌, length, get_or, set, take, List, [], ◌∷◌, ◌++◌, Option, Some, None, IsSome, is_some, Bool, true, false, refl, sym, ap, ◌∙◌, inl, inr, arith}
+use Rattle.std.specs.Prelude.{if◌then◌else◌}
 use Rattle.std.proofs.lemmas.Bool.{cases_eq, cases_lt}
 use Rattle.std.proofs.lemmas.Bool.Decides.{nat_tests}
 use Rattle.std.proofs.lemmas.Grind.{common_steps}
 use mathlib.Core.Path.{fun_ext}
 use Rattle.vs_pages.specs.Maps.{put, lacks, one, total, HasPages, IsVacant}
-use Rattle.vs_pages.specs.Changes.{bytes_of, map_of, page_count, pages_in}
+use Rattle.vs_pages.specs.Table.{bytes_of, map_of, page_count, pages_in}
 use Rattle.vs_pages.specs.declared.page.Page.{Page}
-use Rattle.vs_pages.proofs.MapsLemmas.{one-same, one-other, total-append, span-below, span-most}
+use Rattle.vs_pages.proofs.MapsLemmas.{put-itself, one-same, one-other, total-append, span-below, span-most}
 
 pub page_count-most : (place : Option Page) → page_count place ≤ 1
 page_count-most None = omega arith
@@ -25,6 +26,11 @@ pages_in-set (first ∷ rest) (suc at) place lt = omega (arith, pages_in-set res
 
 pub pages_in-push : (places : List (Option Page)) (place : Option Page) → pages_in (places ++ place ∷ []) ≡ pages_in places + page_count place
 pages_in-push places place = omega (arith, total-append page_count places (place ∷ []))
+
+-- a place without a page is not counted
+pub pages_in-vacant : (b : Bool) (places after : List (Option Page)) → after ≡ (if b then places ++ None ∷ [] else places) → pages_in after ≡ pages_in places
+pages_in-vacant true places after is = omega (arith, ap (λ (ps : List (Option Page)). pages_in ps) is, pages_in-push places None)
+pages_in-vacant false places after is = ap (λ (ps : List (Option Page)). pages_in ps) is
 
 -- a place with a page is counted
 pub pages_in-least : (places : List (Option Page)) (at : ℕ) → at < length places → page_count (get_or places at None) ≤ pages_in places
@@ -49,7 +55,18 @@ map_of-within places k is = elim (cases_lt k (length places)) [
   | inr le ↦ let none : is_some (map_of places k) ≡ false = ap (λ o. is_some o) (map_of-end places k le) in absurd (cc)
 ]
 
--- nothing is behind a table
+-- a place without a page changes nothing at the end
+pub map_of-vacant : (places : List (Option Page)) → map_of (places ++ None ∷ []) ≡ map_of places
+map_of-vacant places =
+    map_of-push places None ∙ (ap (λ o. put (map_of places) (length places) o) (sym (map_of-end places (length places) (omega arith))) ∙ put-itself (map_of places) (length places))
+
+pub map_of-take : (places : List (Option Page)) (n k : ℕ) → k < n → map_of (take n places) k ≡ map_of places k
+map_of-take places n k lt = ap bytes_of (get_or-take n places k None lt)
+
+pub map_of-take_past : (places : List (Option Page)) (n k : ℕ) → n ≤ k → map_of (take n places) k ≡ None
+map_of-take_past places n k le = map_of-end (take n places) k (omega (arith, length-take n places))
+
+-- nothing comes after a table
 pub end-vacant : (places : List (Option Page)) (at n : ℕ) → length places ≤ at → IsVacant (map_of places) at n
 end-vacant places at n le = λ k. elim (cases_lt k at) [
   | inl lt ↦ omega (arith, span-below at n k lt)

@@ -1,4 +1,6 @@
-pub mod Changes
+pub mod Calls
 pub mod Maps
 pub mod Memory
 pub mod MemoryLaws
+pub mod State
+pub mod Table

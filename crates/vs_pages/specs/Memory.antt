@@ -1,41 +1,44 @@
 -- What pages in memory are seen as.
-use Rattle.std.specs.Prelude.{◌≡◌, ◌+◌, ◌-◌, ◌≤◌, List, ◌∷◌, length, reverse, drop}
+use Rattle.std.specs.Prelude.{◌≡◌, ℕ, ◌+◌, ◌<◌, ◌≤◌, ◌⊎◌, List, length, Option, Some, None, IsSome, if◌then◌else◌, nat_lt}
+use Rattle.std.specs.Ordering.{nat_cmp}
+use Rattle.std.specs.BTreeMap.{get}
 use Rattle.vs_pages.specs.Maps.{Map}
-use Rattle.vs_pages.specs.Changes.{map_of, maps_of, undone}
+use Rattle.vs_pages.specs.Table.{bytes_of, map_of}
+use Rattle.vs_pages.specs.declared.page.Page.{Page}
 use Rattle.vs_pages.specs.declared.memory.MemPages.{MemPages}
 
 -- the pages as they are now
 abbrev pub present_of : MemPages → Map
 present_of pages = map_of pages.table.places.items
 
+-- what was kept of a place, which may be that it had no page
+abbrev pub kept_at : MemPages → ℕ → Option (Option Page)
+kept_at pages k = get nat_cmp pages.kept k
+
+-- what was kept of a place, or else what it has now
+abbrev pub kept_or : Option (Option Page) → Option (List ℕ) → Option (List ℕ)
+kept_or None now = now
+kept_or (Some was) now = bytes_of was
+
+-- the pages of the first n places as they were before what was kept of them changed, and no others
+abbrev pub before : Map → (ℕ → Option (Option Page)) → ℕ → Map
+before present kept n = λ k. if nat_lt k n then kept_or (kept k) (present k) else None
+
 -- the pages as they were last committed
 abbrev pub committed_of : MemPages → Map
-committed_of pages = undone (reverse pages.changes.items) (present_of pages)
+committed_of pages = before (present_of pages) (kept_at pages) pages.committed
 
--- each map since the last commit, page by page, with the present one first
-abbrev pub steps_of : MemPages → List Map
-steps_of pages = maps_of (reverse pages.changes.items) (present_of pages)
+-- The page of this number may change, since what was committed is kept.
+abbrev pub IsKept : MemPages → ℕ → Type 0
+IsKept pages k = (pages.committed ≤ k) ⊎ IsSome (kept_at pages k)
 
--- one change later, the map is this one
+-- Each of n neighbouring pages may change.
+abbrev pub AreKept : MemPages → ℕ → ℕ → Type 0
+AreKept pages at n = (k : ℕ) → at ≤ k → k < at + n → IsKept pages k
+
+-- The pages are these now, and what was committed stays.
 pub record IsStep (old new : MemPages) (map : Map) : Type 0 where
   pub present : present_of new ≡ map
-  pub steps : steps_of new ≡ map ∷ steps_of old
   pub committed : committed_of new ≡ committed_of old
-  pub changes : length new.changes.items ≡ length old.changes.items + 1
-
--- the newest change was taken back
-pub record IsStepBack (old new : MemPages) : Type 0 where
-  pub steps : steps_of new ≡ drop 1 (steps_of old)
-  pub committed : committed_of new ≡ committed_of old
-  pub changes : length new.changes.items + 1 ≡ length old.changes.items
-
--- nothing has changed
-pub record IsUnchanged (old new : MemPages) : Type 0 where
-  pub places : new.table.places.items ≡ old.table.places.items
-  pub changes : new.changes.items ≡ old.changes.items
-
--- some changes later, which can be taken back
-pub record CanGoBack (old new : MemPages) : Type 0 where
-  pub later : length old.changes.items ≤ length new.changes.items
-  pub steps : drop (length new.changes.items - length old.changes.items) (steps_of new) ≡ steps_of old
-  pub committed : committed_of new ≡ committed_of old
+  pub kept : (k : ℕ) → IsKept old k → IsKept new k
+  pub places : length new.table.places.items ≡ length old.table.places.items

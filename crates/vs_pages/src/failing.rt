@@ -1,6 +1,6 @@
 //! A store whose calls fail where a test wants them to.
-ghost use Rattle.std.specs.Prelude.{◌≡◌, ◌+◌, ◌≤◌, ◌-◌, ◌↔◌, IsTrue, IsSome, IsErr, OnOk, OnErr};
-ghost use Rattle.vs_faults.specs.Faults.{Rose};
+ghost use Rattle.std.specs.Prelude.{◌≡◌, ◌-◌, ◌↔◌, IsSome, IsErr, OnOk, OnErr, ⊤};
+ghost use Rattle.vs_faults.specs.Faults.{HasCause};
 ghost use Rattle.vs_pages.specs.Maps.{pages_at};
 ghost use Rattle.vs_pages.specs.Memory.{present_of, committed_of};
 ghost use Rattle.vs_pages.specs.MemoryLaws.{are_present, are_committed};
@@ -39,8 +39,7 @@ impl<const TELLS: bool> FailingPages<TELLS> {
 
     // Counts a fault.
     fn rise(&mut self)
-        ensures rose { Rose self.old.faults self.new.faults }
-        ensures later { self.old.faults ≤ self.new.faults }
+        ensures cause { HasCause self.old.faults self.new.faults ⊤ }
         ensures pages { self.new.pages ≡ self.old.pages }
         ensures fail_call { self.new.fail_call ≡ self.old.fail_call }
     {
@@ -52,8 +51,7 @@ impl<const TELLS: bool> FailingPages<TELLS> {
         ensures chosen { IsErr result ↔ (self.old.fail_call ≡ 1) }
         ensures next { self.new.fail_call ≡ self.old.fail_call - 1 }
         ensures pages { self.new.pages ≡ self.old.pages }
-        ensures later { self.old.faults ≤ self.new.faults }
-        ensures failed { OnErr result (Rose self.old.faults self.new.faults) }
+        ensures cause { HasCause self.old.faults self.new.faults (IsErr result) }
     {
         let call = self.fail_call;
         self.fail_call = call.saturating_sub(1);
@@ -70,8 +68,7 @@ impl<const TELLS: bool> FailingPages<TELLS> {
         ensures chosen { OnErr result (IsSome (pages_at (present_of self.old.pages) at pages) → self.old.fail_call ≡ 1) }
         ensures next { self.new.fail_call ≡ self.old.fail_call - 1 }
         ensures pages { self.new.pages ≡ self.old.pages }
-        ensures later { self.old.faults ≤ self.new.faults }
-        ensures failed { OnErr result (Rose self.old.faults self.new.faults) }
+        ensures cause { HasCause self.old.faults self.new.faults (IsErr result) }
     {
         self.count_call()?;
         if !self.pages.has(at, pages) {
@@ -85,11 +82,7 @@ impl<const TELLS: bool> FailingPages<TELLS> {
 impl<const TELLS: bool> Pages for FailingPages<TELLS> {
     ghost tells = { TELLS };
 
-    ghost present = { λ store. present_of store.pages };
-
-    ghost committed = { λ store. committed_of store.pages };
-
-    ghost faults = { λ store. store.faults };
+    ghost shows = { λ store. record { present = present_of store.pages; committed = committed_of store.pages; faults = store.faults } };
 
     ghost valid = { λ _. Unit {0} };
 

@@ -17,11 +17,7 @@ pub struct LentPages<'p> {
 impl<'p> Pages for LentPages<'p> {
     ghost tells = { true };
 
-    ghost present = { λ store. present_of store.pages.now };
-
-    ghost committed = { λ store. committed_of store.pages.now };
-
-    ghost faults = { λ _. 0 };
+    ghost shows = { λ store. record { present = present_of store.pages.now; committed = committed_of store.pages.now; faults = 0 } };
 
     ghost valid = { λ _. Unit {0} };
 

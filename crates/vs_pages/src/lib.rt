@@ -4,7 +4,6 @@
 //! store over a borrow of them. [`failing::FailingPages`] is for tests of what stands on a store.
 #![tactic(auto)]
 
-mod change;
 pub mod failing;
 mod lent;
 mod memory;
@@ -13,6 +12,7 @@ mod pages;
 mod table;
 #[cfg(test)]
 mod tests;
+mod vacant;
 
 pub use lent::LentPages;
 pub use memory::MemPages;

@@ -1,50 +1,51 @@
 // Pages in memory.
-ghost use Rattle.std.specs.Prelude.{◌≡◌, ◌+◌, ◌-◌, ◌^◌, ◌<◌, ◌≤◌, Some, None, Err, IfOk, OnOk, OnErr, IsOk, IsSome, IfSome, IsTrue, ◌↔◌, ◌≢◌, ◌*◌, length, reverse, drop};
+ghost use Rattle.std.specs.Prelude.{◌≡◌, ◌+◌, ◌*◌, ◌^◌, ◌<◌, ◌≤◌, ℕ, All, Some, None, IfOk, OnOk, OnErr, IsSome, IfSome, IsTrue, ◌↔◌, length, vec_len};
+ghost use Rattle.std.specs.Ordering.{nat_cmp};
+ghost use Rattle.std.specs.BTreeMap.{get};
 ghost use Rattle.vs_pages.specs.Maps.{put, pages_at, put_pages, without, zeros, first_pages, IsVacant};
-ghost use Rattle.vs_pages.specs.Changes.{are_undoable};
+ghost use Rattle.vs_pages.specs.Table.{bytes_of};
 
 mod store;
 
-use crate::change::{Change, Place};
 use crate::page::Page;
 use crate::table::Table;
+use crate::vacant::Vacant;
 use crate::{PAGE_SIZE, PageErr};
 use std::alloc::{AllocError, Global};
+use std::collections::BTreeMap;
 
 // All page numbers lie below this one.
 const MOST_PAGES: u64 = 1 << 40;
 
-/// A store that keeps all pages in memory, as they are now, with the changes since the last commit, the newest last.
+/// A store that keeps all pages in memory.
 ///
-/// A change keeps the page that was there before it. So a commit forgets the changes and a rollback takes them back, and
-/// neither takes memory. Until then each `touch` holds as much memory more as it has pages.
+/// The first change of a committed page keeps a copy of it until the next commit, and a page that came since is not kept.
+/// So the store takes at most twice the memory of the pages that were committed, and a commit and a rollback take none.
 #[derive(Drop)]
 pub struct MemPages {
     table: Table,
-    changes: Vec<Change>,
-    // The places of the table without a page, in the order in which they were freed.
-    vacant: Vec<u64>,
-    ghost undoable: { IsTrue (are_undoable (length table.places.items) (reverse changes.items)) },
+    // What places had at the last commit, for each one that may have changed since.
+    kept: BTreeMap<u64, Option<Page>>,
+    // The number of places at the last commit.
+    committed: u64,
+    vacant: Vacant,
+    ghost within: { committed ≤ length table.places.items },
+    ghost kept_within: { (k : ℕ) → IsSome (get nat_cmp kept k) → k < committed },
 }
 
-// Keeps the list of vacant places right where a place gets back what it had.
-fn undo_vacant(table: &Table, vacant: &mut Vec<u64>, at: u64, was: &Place) {
-    match was {
-        Place::Taken(_) => {
-            if !table.has(at) {
-                vacant.pop();
-            }
-        }
-        // There is room, since the number was taken from the list.
-        Place::Vacant => {
-            let _ = vacant.push(at);
-        }
-        Place::Absent => {}
+fn zero_pages(alloc: Global, pages: u32) -> Result<Vec<Page>, AllocError>
+    ensures len { IfOk result (λ fresh. vec_len fresh ≡ pages) }
+    ensures zeros { IfOk result (λ fresh. All (λ page. page.bytes.value ≡ zeros 1) fresh.items) }
+{
+    let mut fresh = Vec::with_capacity(alloc, pages as usize)?;
+    for _ in 0..pages {
+        fresh.push(Page::zeros(alloc)?)?;
     }
+    Ok(fresh)
 }
 
 impl MemPages {
-    ghost use Rattle.vs_pages.specs.Memory.{present_of, committed_of, steps_of, IsStep, IsStepBack, IsUnchanged, CanGoBack};
+    ghost use Rattle.vs_pages.specs.Memory.{present_of, committed_of, IsKept, AreKept, IsStep};
 
     /// A store with the pages 0, 1 and 2, as zeros, which are committed.
     pub fn new(alloc: Global) -> Result<MemPages, AllocError>
@@ -53,207 +54,180 @@ impl MemPages {
     {
         let mut pages = MemPages {
             table: Table::new(alloc),
-            changes: Vec::new(alloc),
-            vacant: Vec::new(alloc),
+            kept: BTreeMap::new(alloc),
+            committed: 0,
+            vacant: Vacant::new(alloc),
         };
         pages.add_pages(alloc, 0, 3)?;
-        pages.changes.clear();
+        pages.keep_all();
         Ok(pages)
     }
 
-    fn write_page(&mut self, alloc: Global, at: u64, bytes: &[u8]) -> Result<(), AllocError>
-        requires there { IsSome (present_of self.old at) }
-        requires size { length bytes.now ≡ 4096 }
-        ensures ok { OnOk result (IsStep self.old self.new (put (present_of self.old) at (Some bytes.now))) }
-        ensures err { OnErr result (IsUnchanged self.old self.new) }
+    // Makes the pages as they are now the committed ones.
+    fn keep_all(&mut self)
+        ensures present { present_of self.new ≡ present_of self.old }
+        ensures committed { committed_of self.new ≡ present_of self.old }
     {
-        self.changes.reserve(1)?;
-        let page = Page::of(alloc, bytes)?;
-        let Some(was) = self.table.replace(at, Some(page)) else {
-            unreachable!()
-        };
-        let was = Place::Taken(was);
-        self.changes.push(Change { at, was })?;
+        self.kept.clear();
+        self.committed = self.table.len();
+        self.vacant.commit();
+    }
+
+    // Goes back to the committed pages.
+    fn restore_all(&mut self)
+        ensures present { present_of self.new ≡ committed_of self.old }
+        ensures committed { committed_of self.new ≡ committed_of self.old }
+    {
+        while let Some((at, was)) = self.kept.pop_first() {
+            self.table.set(at, was);
+        }
+        self.table.truncate(self.committed);
+        self.vacant.rollback();
+    }
+
+    fn keep_page(&mut self, alloc: Global, at: u64) -> Result<(), AllocError>
+        ensures step { IsStep self.old self.new (present_of self.old) }
+        ensures kept { OnOk result (IsKept self.new at) }
+        ensures same { self.new.committed ≡ self.old.committed }
+    {
+        if at >= self.committed || self.kept.contains_key(&at) {
+            return Ok(());
+        }
+        let was = self.table.copy(alloc, at)?;
+        self.kept.insert(at, was)?;
         Ok(())
     }
 
-    fn remove_page(&mut self, at: u64) -> Result<(), AllocError>
-        requires there { IsSome (present_of self.old at) }
-        ensures ok { OnOk result (IsStep self.old self.new (put (present_of self.old) at None)) }
-        ensures err { OnErr result (IsUnchanged self.old self.new) }
+    fn keep_pages(&mut self, alloc: Global, at: u64, pages: u32) -> Result<(), AllocError>
+        ensures step { IsStep self.old self.new (present_of self.old) }
+        ensures kept { OnOk result (AreKept self.new at pages) }
     {
-        self.changes.reserve(1)?;
-        self.vacant.push(at)?;
-        let Some(was) = self.table.replace(at, None) else {
-            unreachable!()
-        };
-        let was = Place::Taken(was);
-        self.changes.push(Change { at, was })?;
+        let end = at.saturating_add(pages as u64).min(self.committed);
+        for k in at..end {
+            self.keep_page(alloc, k)?;
+        }
         Ok(())
     }
 
-    // Puts a page of zeros at a place that has none.
-    fn fill_page(&mut self, alloc: Global, at: u64) -> Result<(), AllocError>
+    // Puts a page, or none, at a place.
+    fn set_page(&mut self, at: u64, page: Option<Page>)
         requires within { at < length self.old.table.places.items }
-        requires vacant { present_of self.old at ≡ None }
-        ensures ok { OnOk result (IsStep self.old self.new (put (present_of self.old) at (Some (zeros 1)))) }
-        ensures err { OnErr result (IsUnchanged self.old self.new) }
-        ensures places { length self.new.table.places.items ≡ length self.old.table.places.items }
+        requires kept { IsKept self.old at }
+        ensures { IsStep self.old self.new (put (present_of self.old) at (bytes_of page)) }
     {
-        self.changes.reserve(1)?;
-        let page = Page::zeros(alloc)?;
-        self.table.replace(at, Some(page));
-        self.vacant.pop();
-        let was = Place::Vacant;
-        self.changes.push(Change { at, was })?;
-        Ok(())
+        self.table.set(at, page);
     }
 
-    // Puts a page of zeros behind the table.
-    fn append_page(&mut self, alloc: Global) -> Result<(), AllocError>
-        requires bound { length self.old.table.places.items < 2 ^ 40 }
-        ensures ok { OnOk result (IsStep self.old self.new (put (present_of self.old) (length self.old.table.places.items) (Some (zeros 1)))) }
-        ensures err { OnErr result (IsUnchanged self.old self.new) }
-        ensures places { OnOk result (length self.new.table.places.items ≡ length self.old.table.places.items + 1) }
+    fn take_page(&mut self, at: u64) -> Option<Page>
+        requires within { at < length self.old.table.places.items }
+        requires kept { IsKept self.old at }
+        ensures step { IsStep self.old self.new (put (present_of self.old) at None) }
+        ensures value { bytes_of result ≡ present_of self.old at }
     {
-        self.changes.reserve(1)?;
-        let page = Page::zeros(alloc)?;
-        let at = self.table.len();
-        self.table.push(page)?;
-        let was = Place::Absent;
-        self.changes.push(Change { at, was })?;
-        Ok(())
+        self.table.replace(at, None)
     }
 
-    // Takes the newest change back.
-    fn undo_one(&mut self)
-        requires { 0 < length self.old.changes.items }
-        ensures { IsStepBack self.old self.new }
+    fn write_page(&mut self, at: u64, bytes: &[u8])
+        requires there { IsSome (present_of self.old at) }
+        requires kept { IsKept self.old at }
+        requires size { length bytes.now ≡ 4096 }
+        ensures { IsStep self.old self.new (put (present_of self.old) at (Some bytes.now)) }
     {
-        let Some(Change { at, was }) = self.changes.pop() else {
+        let Some(mut page) = self.take_page(at) else {
             unreachable!()
         };
-        undo_vacant(&self.table, &mut self.vacant, at, &was);
-        self.table.restore(at, was);
+        page.write(bytes);
+        self.set_page(at, Some(page));
     }
 
-    // Takes changes back, until so many are left.
-    fn undo_to(&mut self, left: usize)
-        requires { left ≤ length self.old.changes.items }
-        ensures steps { steps_of self.new ≡ drop (length self.old.changes.items - left) (steps_of self.old) }
-        ensures committed { committed_of self.new ≡ committed_of self.old }
-        ensures changes { length self.new.changes.items ≡ left }
-    {
-        while self.changes.len() > left {
-            self.undo_one();
-        }
-    }
-
-    // Takes all changes since the mark back where a change failed.
-    fn settle(&mut self, mark: usize, outcome: Result<(), AllocError>) -> Result<(), PageErr>
-        requires { mark ≤ length self.old.changes.items }
-        ensures ok { OnOk result (IsOk outcome × IsUnchanged self.old self.new) }
-        ensures steps { OnErr result (steps_of self.new ≡ drop (length self.old.changes.items - mark) (steps_of self.old)) }
-        ensures committed { committed_of self.new ≡ committed_of self.old }
-        ensures memory { result ≢ Err PageErr.Failed }
-    {
-        if let Err(error) = outcome {
-            self.undo_to(mark);
-            return Err(error.into());
-        }
-        Ok(())
-    }
-
-    fn write_pages(
-        &mut self,
-        alloc: Global,
-        at: u64,
-        pages: u32,
-        bytes: &[u8],
-    ) -> Result<(), AllocError>
+    fn write_pages(&mut self, at: u64, pages: u32, bytes: &[u8])
         requires there { IsSome (pages_at (present_of self.old) at pages) }
+        requires kept { AreKept self.old at pages }
         requires size { length bytes.now ≡ 4096 * pages }
-        ensures ok { OnOk result (present_of self.new ≡ put_pages (present_of self.old) at pages bytes.now) }
-        ensures back { CanGoBack self.old self.new }
+        ensures { IsStep self.old self.new (put_pages (present_of self.old) at pages bytes.now) }
     {
         for i in 0..pages as usize {
             let from = i * PAGE_SIZE;
-            self.write_page(alloc, at + i as u64, &bytes[from..from + PAGE_SIZE])?;
+            self.write_page(at + i as u64, &bytes[from..from + PAGE_SIZE]);
         }
-        Ok(())
     }
 
-    // Removes the last page first, so that the next call of `grow` finds the first one first.
-    fn remove_pages(&mut self, at: u64, pages: u32) -> Result<(), AllocError>
+    fn remove_pages(&mut self, at: u64, pages: u32)
         requires there { IsSome (pages_at (present_of self.old) at pages) }
-        ensures ok { OnOk result (present_of self.new ≡ without (present_of self.old) at pages) }
-        ensures back { CanGoBack self.old self.new }
+        requires kept { AreKept self.old at pages }
+        ensures { IsStep self.old self.new (without (present_of self.old) at pages) }
     {
         let mut left = pages as u64;
         while left > 0 {
             left -= 1;
-            self.remove_page(at + left)?;
+            self.set_page(at + left, None);
         }
-        Ok(())
     }
 
-    fn add_page(&mut self, alloc: Global, at: u64) -> Result<(), AllocError>
-        requires within { at ≤ length self.old.table.places.items }
-        requires bound { at < 2 ^ 40 }
-        requires vacant { present_of self.old at ≡ None }
-        ensures ok { OnOk result (IsStep self.old self.new (put (present_of self.old) at (Some (zeros 1)))) }
-        ensures err { OnErr result (IsUnchanged self.old self.new) }
-        ensures places { OnOk result (at < length self.new.table.places.items) }
+    // Puts pages of zeros at places that have none.
+    fn fill_pages(&mut self, at: u64, pages: u32, mut fresh: Vec<Page>)
+        requires within { at + pages ≤ length self.old.table.places.items }
+        requires kept { AreKept self.old at pages }
+        requires len { vec_len fresh ≡ pages }
+        requires zeros { All (λ page. page.bytes.value ≡ zeros 1) fresh.items }
+        ensures { IsStep self.old self.new (put_pages (present_of self.old) at pages (zeros pages)) }
     {
-        if at < self.table.len() {
-            return self.fill_page(alloc, at);
+        for i in 0..pages as u64 {
+            let Some(page) = fresh.pop() else {
+                unreachable!()
+            };
+            self.set_page(at + i, Some(page));
         }
-        self.append_page(alloc)
+    }
+
+    // Adds places without a page, until there are at least `len` places.
+    fn extend_to(&mut self, len: u64) -> Result<(), AllocError>
+        requires { len ≤ 2 ^ 40 }
+        ensures present { present_of self.new ≡ present_of self.old }
+        ensures committed { committed_of self.new ≡ committed_of self.old }
+        ensures kept { (k : ℕ) → IsKept self.old k → IsKept self.new k }
+        ensures len { OnOk result (len ≤ length self.new.table.places.items) }
+    {
+        self.table.extend_to(len)
     }
 
     fn add_pages(&mut self, alloc: Global, at: u64, pages: u32) -> Result<(), AllocError>
-        requires within { at ≤ length self.old.table.places.items }
-        requires bound { at + pages ≤ 2 ^ 40 }
-        requires vacant { IsVacant (present_of self.old) at pages }
+        requires { at + pages ≤ 2 ^ 40 }
         ensures ok { OnOk result (present_of self.new ≡ put_pages (present_of self.old) at pages (zeros pages)) }
-        ensures back { CanGoBack self.old self.new }
+        ensures err { OnErr result (present_of self.new ≡ present_of self.old) }
+        ensures committed { committed_of self.new ≡ committed_of self.old }
     {
-        for i in 0..pages as u64 {
-            self.add_page(alloc, at + i)?;
-        }
+        let fresh = zero_pages(alloc, pages)?;
+        self.keep_pages(alloc, at, pages)?;
+        self.extend_to(at + pages as u64)?;
+        self.fill_pages(at, pages, fresh);
         Ok(())
     }
 
-    // The first of so many neighbouring places without a page, if those that were freed last are such.
-    fn freed_run(&self, pages: u32) -> Option<u64>
-        ensures vacant { IfSome result (λ at. IsVacant (present_of self.now) at pages) }
-        ensures within { IfSome result (λ at. at + pages ≤ length self.now.table.places.items) }
+    // Whether none of `pages` neighbouring places has a page.
+    fn is_vacant(&self, at: u64, pages: u32) -> bool
+        requires { at + pages ≤ 2 ^ 40 }
+        ensures { IsTrue result → IsVacant (present_of self.now) at pages }
     {
-        let first = *self.vacant.last()?;
-        let places = self.table.len();
-        let freed = self.vacant.len();
-        if freed < pages as usize || places < first || places - first < pages as u64 {
-            return None;
-        }
         for i in 0..pages as u64 {
-            let at = first + i;
-            if self.vacant[freed - 1 - i as usize] != at || self.table.has(at) {
-                return None;
+            if self.table.has(at + i) {
+                return false;
             }
         }
-        Some(first)
+        true
     }
 
-    // The first of so many neighbouring numbers without a page.
+    // The first of `pages` neighbouring numbers without a page.
     fn vacant_run(&self, pages: u32) -> Option<u64>
         ensures vacant { IfSome result (λ at. IsVacant (present_of self.now) at pages) }
-        ensures within { IfSome result (λ at. at ≤ length self.now.table.places.items) }
         ensures bound { IfSome result (λ at. at + pages ≤ 2 ^ 40) }
     {
-        if let Some(first) = self.freed_run(pages) {
-            return Some(first);
-        }
         let end = self.table.len();
+        if let Some(first) = self.vacant.run(pages) {
+            if first < end && end - first >= pages as u64 && self.is_vacant(first, pages) {
+                return Some(first);
+            }
+        }
         if MOST_PAGES - end < pages as u64 {
             return None;
         }

@@ -28,6 +28,13 @@ impl Page {
         Ok(page)
     }
 
+    pub fn write(&mut self, bytes: &[u8])
+        requires { length bytes.now ≡ 4096 }
+        ensures { self.new.bytes.value ≡ bytes.now }
+    {
+        self.bytes.copy_from_slice(bytes);
+    }
+
     pub fn as_slice(&self) -> &[u8]
         ensures { result.now ≡ self.now.bytes.value }
     {

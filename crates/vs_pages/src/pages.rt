@@ -1,7 +1,8 @@
 // What a store of pages promises.
-ghost use Rattle.std.specs.Prelude.{◌≡◌, ◌+◌, ◌*◌, ◌^◌, ◌<◌, ◌≤◌, Bool, ℕ, Some, None, Err, IfOk, OnOk, OnErr, IsSome, IsTrue, length};
-ghost use Rattle.vs_faults.specs.Faults.{Rose};
-ghost use Rattle.vs_pages.specs.Maps.{Map, pages_at, put_pages, without, zeros, IsVacant, HasPages, ArePages};
+ghost use Rattle.std.specs.Prelude.{◌≡◌, ◌+◌, ◌*◌, ◌^◌, ◌<◌, ◌≤◌, Bool, Some, None, IfOk, OnOk, OnErr, IsErrOf, IsSome, IsTrue, ⊤, length};
+ghost use Rattle.vs_faults.specs.Faults.{HasCause};
+ghost use Rattle.vs_pages.specs.State.{PageState, KeepsCommitted, KeepsPages};
+ghost use Rattle.vs_pages.specs.Maps.{pages_at, put_pages, without, zeros, IsVacant, HasPages, ArePages};
 
 use std::alloc::{AllocError, AllocFailed, Global};
 
@@ -48,14 +49,9 @@ pub trait Pages {
     /// Whether stores of this type tell what their pages are.
     ghost tells: { Bool };
 
-    /// The pages as they are now.
-    ghost present: { Self → Map };
-
-    /// The pages as they were at the last commit.
-    ghost committed: { Self → Map };
-
-    /// How many calls failed below the store.
-    ghost faults: { Self → ℕ };
+    /// The pages as they are now and as they were at the last commit, and how many calls failed below the store. The
+    /// number is told by every store.
+    ghost shows: { Self → PageState };
 
     /// What every call asks of the store and leaves.
     ghost valid: { Self → Type 0 };
@@ -75,28 +71,21 @@ pub trait Pages {
         into: &mut Vec<u8>,
     ) -> Result<(), PageErr>
         requires valid { valid self.old }
-        requires there { IsTrue tells → IsSome (pages_at (present self.old) at pages) }
+        requires there { IsTrue tells → IsSome (pages_at (shows self.old).present at pages) }
         ensures size { OnOk result (length into.new.items ≡ 4096 * pages) }
-        ensures loaded { OnOk result (IsTrue tells → pages_at (present self.old) at pages ≡ Some into.new.items) }
-        ensures present { IsTrue tells → present self.new ≡ present self.old }
-        ensures committed { IsTrue tells → committed self.new ≡ committed self.old }
-        ensures later { faults self.old ≤ faults self.new }
-        ensures failed { result ≡ Err PageErr.Failed → Rose (faults self.old) (faults self.new) }
-        ensures valid { valid self.new }
-        ensures stays { stays self.old self.new };
+        ensures loaded { OnOk result (IsTrue tells → pages_at (shows self.old).present at pages ≡ Some into.new.items) }
+        ensures kept { KeepsPages tells shows valid stays self.old self.new }
+        ensures cause { HasCause (shows self.old).faults (shows self.new).faults (IsErrOf result PageErr.Failed) };
 
     /// Writes `pages` neighbouring pages from `at` on, which are there already.
     fn touch(&mut self, alloc: Global, at: u64, pages: u32, bytes: &[u8]) -> Result<(), PageErr>
         requires valid { valid self.old }
-        requires there { IsTrue tells → IsSome (pages_at (present self.old) at pages) }
+        requires there { IsTrue tells → IsSome (pages_at (shows self.old).present at pages) }
         requires size { length bytes.now ≡ 4096 * pages }
-        ensures ok { OnOk result (IsTrue tells → present self.new ≡ put_pages (present self.old) at pages bytes.now) }
-        ensures err { OnErr result (IsTrue tells → present self.new ≡ present self.old) }
-        ensures committed { IsTrue tells → committed self.new ≡ committed self.old }
-        ensures later { faults self.old ≤ faults self.new }
-        ensures failed { result ≡ Err PageErr.Failed → Rose (faults self.old) (faults self.new) }
-        ensures valid { valid self.new }
-        ensures stays { stays self.old self.new };
+        ensures ok { OnOk result (IsTrue tells → (shows self.new).present ≡ put_pages (shows self.old).present at pages bytes.now) }
+        ensures err { OnErr result (IsTrue tells → (shows self.new).present ≡ (shows self.old).present) }
+        ensures kept { KeepsCommitted tells shows valid stays self.old self.new }
+        ensures cause { HasCause (shows self.old).faults (shows self.new).faults (IsErrOf result PageErr.Failed) };
 
     /// Adds `pages` neighbouring pages of zeros, and gives the number of the first.
     ///
@@ -105,47 +94,41 @@ pub trait Pages {
     fn grow(&mut self, alloc: Global, pages: u32) -> Result<u64, PageErr>
         requires valid { valid self.old }
         ensures bound { IfOk result (λ at. at + pages ≤ 2 ^ 40) }
-        ensures vacant { IfOk result (λ at. IsTrue tells → IsVacant (present self.old) at pages) }
-        ensures ok { IfOk result (λ at. IsTrue tells → present self.new ≡ put_pages (present self.old) at pages (zeros pages)) }
-        ensures err { OnErr result (IsTrue tells → present self.new ≡ present self.old) }
-        ensures committed { IsTrue tells → committed self.new ≡ committed self.old }
-        ensures later { faults self.old ≤ faults self.new }
-        ensures failed { result ≡ Err PageErr.Failed → Rose (faults self.old) (faults self.new) }
-        ensures valid { valid self.new }
-        ensures stays { stays self.old self.new };
+        ensures vacant { IfOk result (λ at. IsTrue tells → IsVacant (shows self.old).present at pages) }
+        ensures ok { IfOk result (λ at. IsTrue tells → (shows self.new).present ≡ put_pages (shows self.old).present at pages (zeros pages)) }
+        ensures err { OnErr result (IsTrue tells → (shows self.new).present ≡ (shows self.old).present) }
+        ensures kept { KeepsCommitted tells shows valid stays self.old self.new }
+        ensures cause { HasCause (shows self.old).faults (shows self.new).faults (IsErrOf result PageErr.Failed) };
 
     /// Takes `pages` neighbouring pages from `at` on out of the store.
     fn free(&mut self, alloc: Global, at: u64, pages: u32) -> Result<(), PageErr>
         requires valid { valid self.old }
-        requires there { IsTrue tells → IsSome (pages_at (present self.old) at pages) }
-        ensures ok { OnOk result (IsTrue tells → present self.new ≡ without (present self.old) at pages) }
-        ensures err { OnErr result (IsTrue tells → present self.new ≡ present self.old) }
-        ensures committed { IsTrue tells → committed self.new ≡ committed self.old }
-        ensures later { faults self.old ≤ faults self.new }
-        ensures failed { result ≡ Err PageErr.Failed → Rose (faults self.old) (faults self.new) }
-        ensures valid { valid self.new }
-        ensures stays { stays self.old self.new };
+        requires there { IsTrue tells → IsSome (pages_at (shows self.old).present at pages) }
+        ensures ok { OnOk result (IsTrue tells → (shows self.new).present ≡ without (shows self.old).present at pages) }
+        ensures err { OnErr result (IsTrue tells → (shows self.new).present ≡ (shows self.old).present) }
+        ensures kept { KeepsCommitted tells shows valid stays self.old self.new }
+        ensures cause { HasCause (shows self.old).faults (shows self.new).faults (IsErrOf result PageErr.Failed) };
 
     /// The number of pages, which takes no memory.
     fn count(&self) -> u64
         requires valid { valid self.now }
-        ensures { IsTrue tells → HasPages (present self.now) result };
+        ensures { IsTrue tells → HasPages (shows self.now).present result };
 
     /// Makes the pages as they are now the committed ones. Takes no memory.
     fn commit(&mut self)
         requires valid { valid self.old }
-        ensures present { IsTrue tells → present self.new ≡ present self.old }
-        ensures committed { IsTrue tells → committed self.new ≡ present self.old }
-        ensures faults { faults self.new ≡ faults self.old }
+        ensures present { IsTrue tells → (shows self.new).present ≡ (shows self.old).present }
+        ensures committed { IsTrue tells → (shows self.new).committed ≡ (shows self.old).present }
+        ensures faults { (shows self.new).faults ≡ (shows self.old).faults }
         ensures valid { valid self.new }
         ensures stays { stays self.old self.new };
 
     /// Goes back to the committed pages. Takes no memory.
     fn rollback(&mut self)
         requires valid { valid self.old }
-        ensures present { IsTrue tells → present self.new ≡ committed self.old }
-        ensures committed { IsTrue tells → committed self.new ≡ committed self.old }
-        ensures faults { faults self.new ≡ faults self.old }
+        ensures present { IsTrue tells → (shows self.new).present ≡ (shows self.old).committed }
+        ensures committed { IsTrue tells → (shows self.new).committed ≡ (shows self.old).committed }
+        ensures faults { (shows self.new).faults ≡ (shows self.old).faults }
         ensures valid { valid self.new }
         ensures stays { stays self.old self.new };
 
@@ -153,16 +136,12 @@ pub trait Pages {
     fn damaged(&mut self)
         requires valid { valid self.old }
         requires silent { IsTrue tells → ⊥ }
-        ensures rose { Rose (faults self.old) (faults self.new) }
-        ensures present { IsTrue tells → present self.new ≡ present self.old }
-        ensures committed { IsTrue tells → committed self.new ≡ committed self.old }
-        ensures later { faults self.old ≤ faults self.new }
-        ensures valid { valid self.new }
-        ensures stays { stays self.old self.new };
+        ensures kept { KeepsPages tells shows valid stays self.old self.new }
+        ensures cause { HasCause (shows self.old).faults (shows self.new).faults ⊤ };
 
-    ghost present_pages: { (p : Self) → valid p → IsTrue tells → ArePages (present p) };
+    ghost present_pages: { (p : Self) → valid p → IsTrue tells → ArePages (shows p).present };
 
-    ghost committed_pages: { (p : Self) → valid p → IsTrue tells → ArePages (committed p) };
+    ghost committed_pages: { (p : Self) → valid p → IsTrue tells → ArePages (shows p).committed };
 
     ghost stays_itself: { (p : Self) → stays p p };
 

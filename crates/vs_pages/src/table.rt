@@ -1,9 +1,7 @@
 // A table of pages by number, which counts them.
-ghost use Rattle.std.specs.Prelude.{◌≡◌, ◌+◌, ◌-◌, ◌^◌, ◌<◌, ◌≤◌, [], ◌∷◌, ◌++◌, Some, None, option_map, is_some, IsTrue, OnOk, OnErr, length, take, slice_set, slice_index_or};
-ghost use Rattle.vs_pages.specs.Maps.{put};
-ghost use Rattle.vs_pages.specs.Changes.{page_count, pages_in, map_of, bytes_before, is_undoable, places_before};
+ghost use Rattle.std.specs.Prelude.{◌≡◌, ◌-◌, ◌^◌, ◌<◌, ◌≤◌, [], Some, None, option_map, is_some, IfOk, OnOk, length, take, slice_set, slice_index_or};
+ghost use Rattle.vs_pages.specs.Table.{bytes_of, page_count, pages_in, map_of};
 
-use crate::change::Place;
 use crate::page::Page;
 use std::alloc::{AllocError, Global};
 use std::mem;
@@ -66,18 +64,41 @@ impl Table {
         was
     }
 
-    pub fn push(&mut self, page: Page) -> Result<(), AllocError>
-        requires { length self.old.places.items < 2 ^ 40 }
-        ensures ok { OnOk result (self.new.places.items ≡ self.old.places.items ++ Some page ∷ []) }
-        ensures err { OnErr result (self.new.places.items ≡ self.old.places.items) }
+    // Puts a page, or none, at a place.
+    pub fn set(&mut self, at: u64, page: Option<Page>)
+        requires { at < length self.old.places.items }
+        ensures { self.new.places.items ≡ slice_set self.old.places.items at page }
     {
-        self.places.push(Some(page))?;
-        self.count += 1;
+        self.replace(at, page);
+    }
+
+    // A copy of the page at a place, if there is one.
+    pub fn copy(&self, alloc: Global, at: u64) -> Result<Option<Page>, AllocError>
+        ensures { IfOk result (λ page. bytes_of page ≡ map_of self.now.places.items at) }
+    {
+        match self.page(at) {
+            Some(page) => Ok(Some(Page::of(alloc, page.as_slice())?)),
+            None => Ok(None),
+        }
+    }
+
+    // Adds places without a page at the end, until there are at least `len`.
+    pub fn extend_to(&mut self, len: u64) -> Result<(), AllocError>
+        requires { len ≤ 2 ^ 40 }
+        ensures len { OnOk result (len ≤ length self.new.places.items) }
+        ensures longer { length self.old.places.items ≤ length self.new.places.items }
+        ensures map { map_of self.new.places.items ≡ map_of self.old.places.items }
+    {
+        let more = len.saturating_sub(self.len());
+        self.places.reserve(more as usize)?;
+        for _ in 0..more {
+            self.places.push(None)?;
+        }
         Ok(())
     }
 
     // Takes the last place away.
-    pub fn pop(&mut self)
+    fn pop(&mut self)
         ensures { self.new.places.items ≡ take (length self.old.places.items - 1) self.old.places.items }
     {
         if let Some(place) = self.places.pop() {
@@ -85,20 +106,13 @@ impl Table {
         }
     }
 
-    // Gives a place back what it had before a change.
-    pub fn restore(&mut self, at: u64, was: Place)
-        requires { IsTrue (is_undoable (length self.old.places.items) at was) }
-        ensures map { map_of self.new.places.items ≡ put (map_of self.old.places.items) at (bytes_before was) }
-        ensures len { length self.new.places.items ≡ places_before (length self.old.places.items) was }
+    // Takes places away from the end, until there are `len`.
+    pub fn truncate(&mut self, len: u64)
+        requires { len ≤ length self.old.places.items }
+        ensures { self.new.places.items ≡ take len self.old.places.items }
     {
-        match was {
-            Place::Taken(page) => {
-                self.replace(at, Some(page));
-            }
-            Place::Vacant => {
-                self.replace(at, None);
-            }
-            Place::Absent => self.pop(),
+        while self.len() > len {
+            self.pop();
         }
     }
 }

@@ -1,5 +1,6 @@
-ghost use Rattle.std.specs.Prelude.{◌≡◌, ◌*◌, ◌^◌, ◌≤◌, Err, IfOk, OnOk, IsSome, IsTrue, length};
-ghost use Rattle.vs_faults.specs.Faults.{Rose};
+ghost use Rattle.std.specs.Prelude.{◌≡◌, ◌*◌, ◌^◌, ◌≤◌, IfOk, OnOk, IsErrOf, IsSome, IsTrue, length};
+ghost use Rattle.vs_faults.specs.Faults.{HasCause};
+ghost use Rattle.vs_pages.specs.Calls.{Continues};
 ghost use Rattle.vs_pages.specs.Maps.{pages_at, put_pages};
 
 use crate::failing::FailingPages;
@@ -190,14 +191,11 @@ fn write_and_load<P: Pages>(
     into: &mut Vec<u8>,
 ) -> Result<(), PageErr>
     requires valid { P.valid store.old }
-    requires there { IsTrue P.tells → IsSome (pages_at (P.present store.old) at pages) }
+    requires there { IsTrue P.tells → IsSome (pages_at (P.shows store.old).present at pages) }
     requires size { length bytes.now ≡ 4096 * pages }
     ensures same { OnOk result (IsTrue P.tells → into.new.items ≡ bytes.now) }
-    ensures committed { IsTrue P.tells → P.committed store.new ≡ P.committed store.old }
-    ensures later { P.faults store.old ≤ P.faults store.new }
-    ensures failed { result ≡ Err PageErr.Failed → Rose (P.faults store.old) (P.faults store.new) }
-    ensures valid { P.valid store.new }
-    ensures stays { P.stays store.old store.new }
+    ensures kept { Continues P.Pages store.old store.new }
+    ensures cause { HasCause (P.shows store.old).faults (P.shows store.new).faults (IsErrOf result PageErr.Failed) }
 {
     store.touch(alloc, at, pages, bytes)?;
     store.load(alloc, at, pages, into)
@@ -214,15 +212,12 @@ fn rehearse<P: Pages>(
     into: &mut Vec<u8>,
 ) -> Result<(), PageErr>
     requires valid { P.valid store.old }
-    requires there { IsTrue P.tells → IsSome (pages_at (P.present store.old) at pages) }
+    requires there { IsTrue P.tells → IsSome (pages_at (P.shows store.old).present at pages) }
     requires size { length bytes.now ≡ 4096 * pages }
     ensures same { OnOk result (IsTrue P.tells → into.new.items ≡ bytes.now) }
-    ensures present { IsTrue P.tells → P.present store.new ≡ P.committed store.old }
-    ensures committed { IsTrue P.tells → P.committed store.new ≡ P.committed store.old }
-    ensures later { P.faults store.old ≤ P.faults store.new }
-    ensures failed { result ≡ Err PageErr.Failed → Rose (P.faults store.old) (P.faults store.new) }
-    ensures valid { P.valid store.new }
-    ensures stays { P.stays store.old store.new }
+    ensures present { IsTrue P.tells → (P.shows store.new).present ≡ (P.shows store.old).committed }
+    ensures kept { Continues P.Pages store.old store.new }
+    ensures cause { HasCause (P.shows store.old).faults (P.shows store.new).faults (IsErrOf result PageErr.Failed) }
 {
     let outcome = write_and_load(store, alloc, at, pages, bytes, into);
     store.rollback();

@@ -26,7 +26,7 @@ bytes_of_entry entry =
     let with_old = with_signed Little w64 with_lines 16 entry.old in
     with_signed Little w32 with_old 24 entry.pages
 
--- the entry with so many lines more
+-- the entry with this number of lines more
 abbrev pub with_lines_added : PtrEntry → ℤ → PtrEntry
 with_lines_added entry by = record entry { lines = entry.lines +ℤ by }
 

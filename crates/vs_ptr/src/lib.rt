@@ -54,7 +54,7 @@ pub struct PtrView {
 pub enum PtrErr {
     /// The bytes are fewer than the 8 of a header, or do not begin with the identifier.
     BadId,
-    /// The count, which is given here, is above the greatest count, or the bytes end before so many entries do.
+    /// The count, which is given here, is above the greatest count, or the bytes end before that many entries do.
     BadCount(u16),
 }
 

@@ -3,15 +3,17 @@ use Rattle.std.proofs.Common.{◌≡◌, ℕ, ◌+◌, ◌≤◌, true, List, []
 use Rattle.vs_pages.specs.Maps.{Map}
 use Rattle.vs_text.specs.Text.{bytes_of}
 use Rattle.vs_text.specs.Limits.{IsWithinLimits}
+use Rattle.vs_text.specs.declared.TheConstants.{MAX_TEXT_BYTES}
+use Rattle.vs_edit.specs.State.{AllowsSplice}
 use Rattle.vs_edit.specs.Splices.{splice}
 use Rattle.vs_edit.proofs.SpliceLemmas.{bytes_of-splice_le}
 use Rattle.vs_tree.specs.declared.texts.Extent.{Extent}
-use Rattle.vs_tree.specs.Texts.{HasText, Fits, Tells}
+use Rattle.vs_tree.specs.Texts.{HasText, Fits, Tells, text_of}
 use Rattle.vs_tree.specs.TextIn.{text_in, text_in-HasText}
 use Rattle.vs_tree.specs.declared.tree.LineTree.{LineTree}
 use Rattle.vs_pages.specs.declared.memory.MemPages.{MemPages}
 use Rattle.vs_pages.specs.Memory.{present_of, committed_of}
-use Rattle.vs_session.specs.Early.{FitsWith}
+use Rattle.vs_session.specs.Growth.{FitsWith}
 use Rattle.vs_session.specs.Paged.{IsCommitted}
 
 pub text_had : (m : Map) (x : Extent) → Fits true m x → HasText m x (text_in m x)
@@ -28,11 +30,22 @@ pub put_in_text : (text new : List (List ℕ)) (at : ℕ) → splice text at 0 n
 put_in_text text new at = ap (λ k. take at text ++ new ++ drop k text) (add-zero at)
 
 -- such a splice is within the limit where the two texts together are
-pub few_put_in : (m : Map) (x : Extent) (text new : List (List ℕ)) (at : ℕ) → FitsWith (text_in m x) new → at ≤ x.lines → Tells true m x text → bytes_of (splice text at 0 new) ≤ 268435456
+few_put_in : (m : Map) (x : Extent) (text new : List (List ℕ)) (at : ℕ) → FitsWith (text_in m x) new → at ≤ x.lines → Tells true m x text → bytes_of (splice text at 0 new) ≤ MAX_TEXT_BYTES
 few_put_in m x text new at fits within is =
     let same : bytes_of (text_in m x) ≡ bytes_of text = ap bytes_of (text_same m x text is) in
     let inside : at + 0 ≤ length text = omega (arith, is.has.lines, within) in
     omega (arith, same, fits.bytes, bytes_of-splice_le text new at 0 inside)
+
+-- so such lines may be put in
+pub allows_put_in : (m : Map) (x : Extent) (new : List (List ℕ)) (at : ℕ) → Fits true m x → FitsWith (text_in m x) new → at ≤ x.lines → AllowsSplice (text_of true m x) at 0 new
+allows_put_in m x new at fits room within =
+    let has = text_had m x fits in
+    record {
+      within = omega (arith, within);
+      few_lines = omega (arith, has.lines, room.lines);
+      short_lines = room.short;
+      few_bytes = λ text is. few_put_in m x text new at room within is;
+    }
 
 -- after a commit, or after a rollback, the store has one text, now and as committed
 pub is_committed : (pages : MemPages) (tree : LineTree) (text : List (List ℕ)) → Fits true (present_of pages) tree.present → Fits true (committed_of pages) tree.committed

@@ -4,6 +4,7 @@ use Rattle.std.proofs.lemmas.List.{length-append, take-append-drop, take_all}
 use Rattle.std.proofs.lemmas.List.Elements.{All-from_recursion}
 use Rattle.std.specs.List.{AllByRecursion}
 use Rattle.std.specs.declared.result.Result.{Result}
+use Rattle.vs_host.specs.World.{Scene, ReadsFolder, content_of}
 use Rattle.vs_text.specs.Text.{lines_of, bytes_of}
 use Rattle.vs_text.specs.Limits.{IsShort, IsRefusal}
 use Rattle.vs_text.specs.declared.error.TextErr.{TextErr}
@@ -12,7 +13,7 @@ use Rattle.vs_text.proofs.FileForm.{bytes_of-append}
 use Rattle.vs_text.proofs.LineEnds.{length-lines_of, bytes_of-lines_of}
 use Rattle.vs_text.proofs.TextLimits.{within_not_refused}
 use Rattle.vs_session.specs.Machine.{with_lines}
-use Rattle.vs_session.specs.Early.{GrowsBy}
+use Rattle.vs_session.specs.Growth.{GrowsBy}
 use Rattle.vs_session.specs.Open.{open_error}
 use Rattle.vs_session.specs.Session.{Opened, opened}
 use Rattle.vs_session.specs.declared.session.OpenErr.{OpenErr}
@@ -50,7 +51,7 @@ file_fits file error small refused =
       few_bytes = omega (arith, sizes.1);
     }) refused
 
--- and so only want of memory comes of it
+-- so memory is all that can be missing
 pub only_memory : {T : Type 0} (r : Result T OpenErr) (file : List ℕ) (error : TextErr) → length file ≤ 2 ^ 20 → IsRefusal (lines_of file) error → IsErrAnd r (λ e. e ≡ open_error error) → OnErr r (r ≡ Err opening.NoMemory)
 only_memory (Ok x) file error small refused is = tt
 only_memory (Err e) file error small refused is = ap (λ (e : OpenErr). Err e) (is ∙ ap open_error (file_fits file error small refused))
@@ -77,3 +78,7 @@ file_opened name kept text lines file size content there same count size_is is =
 pub told_by : {T E : Type 0} (r : Result T E) (P : Type 0) → IsOk r → OnOk r P → P
 told_by (Ok x) P is told = told
 told_by (Err e) P is told = absurd (cc)
+
+-- a call that only reads the folder leaves what a name has
+pub same_content : (old new : Scene) (name : List ℕ) → ReadsFolder old new → content_of new name ≡ content_of old name
+same_content old new name is = ap (λ (s : Scene). content_of s name) is

@@ -6,7 +6,7 @@ ghost use Rattle.vs_tree.specs.TextIn.{text_in};
 ghost use Rattle.vs_session.specs.Paged.{IsCommitted};
 ghost use Rattle.vs_text.specs.Text.{file_of};
 ghost use Rattle.vs_text.specs.Limits.{IsWithinLimits};
-ghost use Rattle.vs_session.specs.Early.{FitsWith};
+ghost use Rattle.vs_session.specs.Growth.{FitsWith};
 
 use std::alloc::{AllocError, Global};
 use std::marker::Model;
@@ -35,8 +35,8 @@ impl Model for PagedText {
     ghost invariant = { λ s. IsCommitted s.pages s.tree };
 }
 
-// Pages in memory do not fail: want of memory is their only error.
-fn want_of_pages(error: PageErr) -> AllocError
+// Pages in memory do not fail, so memory is all that can be missing.
+fn memory_of_pages(error: PageErr) -> AllocError
     requires { error ≢ PageErr.Failed }
 {
     match error {
@@ -45,8 +45,8 @@ fn want_of_pages(error: PageErr) -> AllocError
     }
 }
 
-// The same of a store over them.
-fn want_of_store(error: StoreErr) -> AllocError
+// Nor does a store over them.
+fn memory_of_store(error: StoreErr) -> AllocError
     requires { error ≢ StoreErr.Failed }
 {
     match error {
@@ -81,7 +81,7 @@ fn put_in(
             store.commit();
             Ok(())
         }
-        Err(error) => Err(want_of_store(error)),
+        Err(error) => Err(memory_of_store(error)),
     }
 }
 
@@ -94,7 +94,7 @@ impl PagedText {
         let mut pages = MemPages::new(alloc)?;
         let mut tree = match LineTree::new(alloc, &mut pages) {
             Ok(tree) => tree,
-            Err(error) => return Err(want_of_pages(error)),
+            Err(error) => return Err(memory_of_pages(error)),
         };
         put_in(alloc, &mut tree, &mut pages, 0, lines)?;
         Ok(PagedText { tree, pages })
@@ -134,7 +134,7 @@ impl PagedText {
             .tree
             .copy_lines(alloc, &mut self.pages, 0, count, &mut bytes)
         {
-            return Err(want_of_pages(error));
+            return Err(memory_of_pages(error));
         }
         Ok(bytes)
     }

@@ -1,6 +1,6 @@
-// Replies. All but printed lines lie in a fixed buffer, so that they take no memory.
-ghost use Rattle.std.specs.Prelude.{◌≡◌, ◌<◌, ◌≤◌, ◌+◌, ◌++◌, ◌∷◌, [], List, ℕ, length, false, true, codes, decimal};
-ghost use Rattle.vs_session.specs.Machine.{says, refuses, change_words, opening_of};
+// Replies. All but printed lines stand in a fixed buffer, so they take no memory.
+ghost use Rattle.std.specs.Prelude.{◌≡◌, ◌<◌, ◌≤◌, ◌+◌, ◌++◌, ◌∷◌, [], length, false, true};
+ghost use Rattle.vs_session.specs.Machine.{says, refuses, change_line, opening_of};
 
 use arrayvec::ArrayVec;
 use itoa::Buffer;
@@ -12,7 +12,7 @@ enum Body {
     Long(Vec<u8>),
 }
 
-/// A reply, seen as its bytes and whether it is an error.
+/// A reply, seen as its bytes, of which there is at least one, and whether it is an error.
 #[derive(Drop)]
 pub struct Reply {
     body: Body,
@@ -20,6 +20,7 @@ pub struct Reply {
 }
 
 impl Model for Reply {
+    ghost use Rattle.std.specs.Prelude.{◌<◌, length};
     ghost use Rattle.vs_session.specs.Machine.{Answer};
 
     ghost Value = { Answer };
@@ -27,6 +28,8 @@ impl Model for Reply {
     ghost use Rattle.vs_session.specs.Reply.{bytes_in};
 
     ghost view = { λ reply. record { bytes = bytes_in reply.body; is_error = reply.error } };
+
+    ghost invariant = { λ reply. 0 < length (bytes_in reply.body) };
 }
 
 fn add(line: &mut ArrayVec<u8, 320>, bytes: &[u8])
@@ -39,8 +42,9 @@ fn add(line: &mut ArrayVec<u8, 320>, bytes: &[u8])
 }
 
 impl Reply {
-    /// Bytes as they are.
+    /// These bytes as they are.
     pub fn printed(bytes: Vec<u8>) -> Reply
+        requires { 0 < length bytes.items }
         ensures { result ≡ record { bytes = bytes.items; is_error = false } }
     {
         Reply {
@@ -50,45 +54,46 @@ impl Reply {
     }
 
     /// One line of at most 319 bytes.
-    pub fn says(words: &[u8]) -> Reply
-        requires { length words.now < 320 }
-        ensures { result ≡ says words.now }
+    pub fn says(text: &[u8]) -> Reply
+        requires { length text.now < 320 }
+        ensures { result ≡ says text.now }
     {
-        let mut line = ArrayVec::new();
-        add(&mut line, words);
-        line.push(b'\n');
-        Reply {
-            body: Body::Short(line),
-            error: false,
-        }
+        Reply::line(text, false)
     }
 
     /// One line of at most 319 bytes that is an error.
-    pub fn refuses(words: &[u8]) -> Reply
-        requires { length words.now < 320 }
-        ensures { result ≡ refuses words.now }
+    pub fn refuses(text: &[u8]) -> Reply
+        requires { length text.now < 320 }
+        ensures { result ≡ refuses text.now }
+    {
+        Reply::line(text, true)
+    }
+
+    fn line(text: &[u8], error: bool) -> Reply
+        requires { length text.now < 320 }
+        ensures { result ≡ record { bytes = text.now ++ 10 ∷ []; is_error = error } }
     {
         let mut line = ArrayVec::new();
-        add(&mut line, words);
+        add(&mut line, text);
         line.push(b'\n');
         Reply {
             body: Body::Short(line),
-            error: true,
+            error,
         }
     }
 
     /// A change of the text: its number, and the number of lines after it.
     pub fn change(number: u64, lines: u64) -> Reply
-        ensures { result ≡ says (change_words number lines) }
+        ensures { result ≡ says (change_line number lines) }
     {
-        let mut words = ArrayVec::new();
+        let mut text = ArrayVec::new();
         let mut digits = Buffer::new();
-        add(&mut words, b"change ");
-        add(&mut words, digits.format(number).as_bytes());
-        add(&mut words, b", ");
-        add(&mut words, digits.format(lines).as_bytes());
-        add(&mut words, b" lines");
-        Reply::says(words.as_slice())
+        add(&mut text, b"change ");
+        add(&mut text, digits.format(number).as_bytes());
+        add(&mut text, b", ");
+        add(&mut text, digits.format(lines).as_bytes());
+        add(&mut text, b" lines");
+        Reply::says(text.as_slice())
     }
 
     /// The opening of a file that is not there.
@@ -96,33 +101,34 @@ impl Reply {
         requires { length name.now ≤ 200 }
         ensures { result ≡ opening_of name.now None }
     {
-        let mut words = ArrayVec::new();
-        add(&mut words, b"\"");
-        add(&mut words, name.as_bytes());
-        add(&mut words, b"\" [New]");
-        Reply::says(words.as_slice())
+        let mut text = ArrayVec::new();
+        add(&mut text, b"\"");
+        add(&mut text, name.as_bytes());
+        add(&mut text, b"\" [New]");
+        Reply::says(text.as_slice())
     }
 
-    /// The opening of a file of so many lines and bytes.
+    /// The opening of a file, with its numbers of lines and bytes.
     pub fn opened(name: &str, lines: u64, bytes: u64) -> Reply
         requires { length name.now ≤ 200 }
         ensures { result ≡ opening_of name.now (Some (lines, bytes)) }
     {
-        let mut words = ArrayVec::new();
+        let mut text = ArrayVec::new();
         let mut digits = Buffer::new();
-        add(&mut words, b"\"");
-        add(&mut words, name.as_bytes());
-        add(&mut words, b"\" ");
-        add(&mut words, digits.format(lines).as_bytes());
-        add(&mut words, b"L, ");
-        add(&mut words, digits.format(bytes).as_bytes());
-        add(&mut words, b"B");
-        Reply::says(words.as_slice())
+        add(&mut text, b"\"");
+        add(&mut text, name.as_bytes());
+        add(&mut text, b"\" ");
+        add(&mut text, digits.format(lines).as_bytes());
+        add(&mut text, b"L, ");
+        add(&mut text, digits.format(bytes).as_bytes());
+        add(&mut text, b"B");
+        Reply::says(text.as_slice())
     }
 
-    /// The bytes of the reply, with the byte 10 at their end. There is always one.
+    /// The bytes of the reply, with a newline at their end.
     pub fn bytes(&self) -> &[u8]
-        ensures { result.now ≡ self.now.bytes }
+        ensures value { result.now ≡ self.now.bytes }
+        ensures some { 0 < length result.now }
     {
         match &self.body {
             Body::Short(line) => line.as_slice(),

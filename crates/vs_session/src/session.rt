@@ -1,21 +1,22 @@
 // The session: a file's text, and the commands on it.
-ghost use Rattle.std.specs.Prelude.{◌≡◌, ◌<◌, ◌≤◌, ◌+◌, ◌^◌, ◌++◌, ◌∷◌, [], List, ℕ, length, false, true, None, Some, IfOk, OnErr, OnOk, IsErr, IsErrOf, IfSome, IsSomeAnd, IsTrue};
-ghost use Rattle.vs_faults.specs.Faults.{Rose};
+ghost use Rattle.std.specs.Prelude.{◌≡◌, ◌<◌, ◌≤◌, ◌+◌, ◌^◌, ◌++◌, ◌∷◌, [], ℕ, length, None, Some, IfOk, OnErr, OnOk, IsErr, IsErrOf, IfSome, IsTrue};
+ghost use Rattle.vs_faults.specs.Faults.{HasCause, IsQuiet};
 ghost use Rattle.vs_host.specs.Names.{is_allowed};
 ghost use Rattle.vs_host.specs.World.{content_of, ReadsFolder, ChangesClock};
 ghost use Rattle.vs_text.specs.Text.{bytes_of, lines_of};
 ghost use Rattle.vs_session.specs.Machine.{reply_of, state_after, opening_of, done_reply, done_state, meaning_of};
-ghost use Rattle.vs_session.specs.Script.{Command};
-ghost use Rattle.vs_session.specs.Script.Command.{Append, PrintAll};
-ghost use Rattle.vs_session.specs.Early.{IsHanded, outcome_of, block_in, FitsWith, GrowsBy};
+ghost use Rattle.vs_session.specs.Open.{IsTooLong};
+ghost use Rattle.vs_session.specs.Script.{Instruction};
+ghost use Rattle.vs_session.specs.Request.{StandsFor, lines_in};
+ghost use Rattle.vs_session.specs.Growth.{FitsWith, GrowsBy};
 
-use crate::command::{Early, Mark, Outcome};
+use crate::command::{Block, Command, Mark, Outcome, Request};
 use crate::paged::PagedText;
 use crate::reply::Reply;
 use std::alloc::{AllocError, Global};
 use std::marker::Model;
 use vs_host::{Failed, Host};
-use vs_text::{Text, TextErr, read_text};
+use vs_text::{Line, TextErr, read_text};
 
 /// Bytes of the longest file that is opened.
 const FILE_LIMIT: u64 = 1_048_576;
@@ -112,10 +113,10 @@ impl Session {
         ensures opened { IfOk result (λ session. IsTrue (H.tells).folder → session ≡ opened name.now (content_of (H.scene host.old) name.now)) }
         ensures fresh { IfOk result (λ session. (session.name ≡ name.now) × (session.state.last ≡ 0)) }
         ensures size { IfOk result (λ session. (length session.state.text ≤ 2 ^ 20) × (bytes_of session.state.text ≤ 2 ^ 20 + 1)) }
-        ensures failed { IsErrOf result OpenErr.Failed → Rose (H.scene host.old).folder_faults (H.scene host.new).folder_faults }
-        ensures limit { (size : ℕ) → IsErrOf result (OpenErr.TextLimit size) → (2 ^ 20 < size) × (IsTrue (H.tells).folder → IsSomeAnd (content_of (H.scene host.old) name.now) (λ bytes. size ≡ length bytes)) }
+        ensures limit { (size : ℕ) → IsErrOf result (OpenErr.TextLimit size) → IsTooLong H.tells size (content_of (H.scene host.old) name.now) }
         ensures over { IsTrue (H.tells).folder → IfSome (content_of (H.scene host.old) name.now) (λ bytes. 2 ^ 20 < length bytes → IsErr result) }
-        ensures folder_faults { (H.scene host.old).folder_faults ≤ (H.scene host.new).folder_faults }
+        ensures cause { HasCause (H.scene host.old).folder_faults (H.scene host.new).folder_faults (IsErrOf result OpenErr.Failed) }
+        ensures quiet { IsQuiet (H.scene host.old).folder_faults (H.scene host.new).folder_faults (IsErrOf result OpenErr.Failed) }
         ensures frame { ReadsFolder (H.scene host.old) (H.scene host.new) }
     {
         let kept = String::from_str(alloc, name)?;
@@ -153,21 +154,21 @@ impl Session {
     }
 
     /// Answers one command. The clock is read once, when the command begins.
-    pub fn step<H: Host>(&mut self, alloc: Global, host: &mut H, early: &Early) -> Step
-        requires size { FitsWith self.old.state.text (block_in early.now) }
+    pub fn step<H: Host>(&mut self, alloc: Global, host: &mut H, request: &Request) -> Step
+        requires size { FitsWith self.old.state.text (lines_in request.now.block) }
         requires clock { IsTrue (H.tells).clock → length (H.scene host.old).answers < 2 ^ 63 }
-        ensures reply { (command : Command) → IsHanded early.now command →
-            result.reply ≡ reply_of self.old.state command (outcome_of result.mark.outcome) }
-        ensures state { (command : Command) → IsHanded early.now command →
-            self.new.state ≡ state_after self.old.state command (outcome_of result.mark.outcome) }
-        ensures lost { early.now ≡ Early.NoMemory → result.mark.outcome ≡ Outcome.NoMemory }
+        ensures reply { (instruction : Instruction) → StandsFor request.now instruction →
+            result.reply ≡ reply_of self.old.state instruction result.mark.outcome }
+        ensures state { (instruction : Instruction) → StandsFor request.now instruction →
+            self.new.state ≡ state_after self.old.state instruction result.mark.outcome }
+        ensures lost { request.now.block ≡ Block.NoMemory → result.mark.outcome ≡ Outcome.NoMemory }
         ensures same { (self.new.name ≡ self.old.name) × (self.new.found ≡ self.old.found) }
-        ensures grows { GrowsBy (block_in early.now) self.old.state.text self.new.state.text }
+        ensures grows { GrowsBy (lines_in request.now.block) self.old.state.text self.new.state.text }
         ensures clock { IsTrue (H.tells).clock → (H.scene host.new).answers ≡ (H.scene host.old).answers ++ result.mark.at ∷ [] }
         ensures frame { ChangesClock (H.scene host.old) (H.scene host.new) }
     {
         let at = host.now();
-        let (reply, outcome) = match self.answer(alloc, early) {
+        let (reply, outcome) = match self.answer(alloc, request) {
             Ok(reply) => (reply, Outcome::Done),
             Err(_) => (Reply::refuses(b"out of memory"), Outcome::NoMemory),
         };
@@ -177,27 +178,46 @@ impl Session {
         }
     }
 
-    fn answer(&mut self, alloc: Global, early: &Early) -> Result<Reply, AllocError>
-        requires size { FitsWith self.old.state.text (block_in early.now) }
-        ensures reply { IfOk result (λ reply. (command : Command) → IsHanded early.now command →
-            reply ≡ done_reply self.old.state.last (meaning_of self.old.state.text command)) }
-        ensures state { OnOk result ((command : Command) → IsHanded early.now command →
-            self.new.state ≡ done_state self.old.state (meaning_of self.old.state.text command)) }
-        ensures lost { early.now ≡ Early.NoMemory → IsErr result }
+    fn answer(&mut self, alloc: Global, request: &Request) -> Result<Reply, AllocError>
+        requires size { FitsWith self.old.state.text (lines_in request.now.block) }
+        ensures reply { IfOk result (λ reply. (instruction : Instruction) → StandsFor request.now instruction →
+            reply ≡ done_reply self.old.state.last (meaning_of self.old.state.text instruction.command instruction.lines)) }
+        ensures state { OnOk result ((instruction : Instruction) → StandsFor request.now instruction →
+            self.new.state ≡ done_state self.old.state (meaning_of self.old.state.text instruction.command instruction.lines)) }
+        ensures lost { request.now.block ≡ Block.NoMemory → IsErr result }
         ensures same { (self.new.name ≡ self.old.name) × (self.new.found ≡ self.old.found) }
-        ensures grows { GrowsBy (block_in early.now) self.old.state.text self.new.state.text }
+        ensures grows { GrowsBy (lines_in request.now.block) self.old.state.text self.new.state.text }
         ensures err { OnErr result (self.new.state ≡ self.old.state) }
     {
-        match early {
-            Early::Append { at, lines } => self.append(alloc, *at, lines),
-            Early::PrintAll => self.print_all(alloc),
-            Early::Other => Ok(Reply::refuses(b"E492: Not an editor command")),
-            Early::NoMemory => Err(AllocError),
+        match &request.block {
+            Block::Absent => self.carry_out(alloc, request.command, &[]),
+            Block::Lines(lines) => self.carry_out(alloc, request.command, lines.lines()),
+            Block::NoMemory => Err(AllocError),
+        }
+    }
+
+    fn carry_out(
+        &mut self,
+        alloc: Global,
+        command: Command,
+        lines: &[Line],
+    ) -> Result<Reply, AllocError>
+        requires size { FitsWith self.old.state.text lines.now }
+        ensures reply { IfOk result (λ reply. reply ≡ done_reply self.old.state.last (meaning_of self.old.state.text command lines.now)) }
+        ensures state { OnOk result (self.new.state ≡ done_state self.old.state (meaning_of self.old.state.text command lines.now)) }
+        ensures same { (self.new.name ≡ self.old.name) × (self.new.found ≡ self.old.found) }
+        ensures grows { GrowsBy lines.now self.old.state.text self.new.state.text }
+        ensures err { OnErr result (self.new.state ≡ self.old.state) }
+    {
+        match command {
+            Command::Append(at) => self.append(alloc, at, lines),
+            Command::PrintAll => self.print_all(alloc),
+            Command::Unknown => Ok(Reply::refuses(b"E492: Not an editor command")),
         }
     }
 
     fn print_all(&mut self, alloc: Global) -> Result<Reply, AllocError>
-        ensures reply { IfOk result (λ reply. reply ≡ done_reply self.old.state.last (meaning_of self.old.state.text PrintAll)) }
+        ensures reply { IfOk result (λ reply. reply ≡ done_reply self.old.state.last (meaning_of self.old.state.text Command.PrintAll [])) }
         ensures same { self.new ≡ self.old }
     {
         if self.text.is_empty() {
@@ -206,10 +226,10 @@ impl Session {
         Ok(Reply::printed(self.text.write(alloc)?))
     }
 
-    fn append(&mut self, alloc: Global, at: u64, lines: &Text) -> Result<Reply, AllocError>
+    fn append(&mut self, alloc: Global, at: u64, lines: &[Line]) -> Result<Reply, AllocError>
         requires size { FitsWith self.old.state.text lines.now }
-        ensures reply { IfOk result (λ reply. reply ≡ done_reply self.old.state.last (meaning_of self.old.state.text (Append at lines.now))) }
-        ensures state { OnOk result (self.new.state ≡ done_state self.old.state (meaning_of self.old.state.text (Append at lines.now))) }
+        ensures reply { IfOk result (λ reply. reply ≡ done_reply self.old.state.last (meaning_of self.old.state.text (Command.Append at) lines.now)) }
+        ensures state { OnOk result (self.new.state ≡ done_state self.old.state (meaning_of self.old.state.text (Command.Append at) lines.now)) }
         ensures same { (self.new.name ≡ self.old.name) × (self.new.found ≡ self.old.found) }
         ensures grows { GrowsBy lines.now self.old.state.text self.new.state.text }
         ensures err { OnErr result (self.new.state ≡ self.old.state) }
@@ -219,15 +239,14 @@ impl Session {
         if count < place {
             return Ok(Reply::refuses(b"E16: Invalid range"));
         }
-        let added = lines.lines();
-        if added.is_empty() {
+        if lines.is_empty() {
             return Ok(Reply::says(b"no change"));
         }
         if GREATEST_CHANGE <= self.last {
             return Ok(Reply::refuses(b"change numbers used up"));
         }
-        self.text.put_lines(alloc, place, added)?;
+        self.text.put_lines(alloc, place, lines)?;
         self.last += 1;
-        Ok(Reply::change(self.last, count + added.len() as u64))
+        Ok(Reply::change(self.last, count + lines.len() as u64))
     }
 }

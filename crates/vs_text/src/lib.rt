@@ -15,7 +15,7 @@ pub use line::Line;
 pub use read::read_text;
 pub use stored::{from_stored, to_stored};
 pub use text::Text;
-pub use write::write_text;
+pub use write::{append_lines, write_text};
 
 /// The greatest number of lines of a text.
 pub const MAX_LINES: u64 = 4_000_000;
@@ -25,3 +25,10 @@ pub const MAX_LINE_BYTES: u64 = 1_048_576;
 
 /// The greatest number of bytes of a text, with one for each line end.
 pub const MAX_TEXT_BYTES: u64 = 268_435_456;
+
+// The limits in numbers, which no other numbers meet.
+const _: () = prove!(MAX_LINES == 4_000_000);
+
+const _: () = prove!(MAX_LINE_BYTES == 1_048_576);
+
+const _: () = prove!(MAX_TEXT_BYTES == 268_435_456);

@@ -6,7 +6,7 @@ use crate::{Line, MAX_LINE_BYTES, MAX_LINES, MAX_TEXT_BYTES, Text, TextErr};
 use memchr::memchr;
 use std::alloc::Global;
 
-// The first line of a file, and the bytes behind its end.
+// The first line of a file, and the bytes after its end.
 fn next_line(bytes: &[u8]) -> Option<(&[u8], &[u8])>
     ensures { MatchOption result (bytes.now ≡ []) (λ (line, rest). IsLine line.now × (lines_of bytes.now ≡ line.now ∷ lines_of rest.now) × (length rest.now < length bytes.now)) }
 {

@@ -1,6 +1,6 @@
-mod Errors
 mod Lines
 mod Pieces
 mod Stopping
-mod Runs
+mod Answering
+mod Edits
 mod Words

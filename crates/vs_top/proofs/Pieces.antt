@@ -4,8 +4,8 @@ use Rattle.std.proofs.lemmas.List.{drop-take, drop-drop, length-take}
 use Rattle.vs_text.specs.Text.{lines_of, IsLine}
 use Rattle.vs_text.proofs.LineEnds.{lines_of-line, lines_of_last}
 use Rattle.vs_top.specs.Ahead.{TakesLine}
-use Rattle.vs_session.specs.Script.{commands_by, block_by, commands_of, block_of, is_dot, kind_of}
-use Rattle.vs_session.specs.Script.Kind.{TakesBlock}
+use Rattle.vs_session.specs.Script.{block_by, block_of, is_dot}
+use Rattle.vs_session.specs.declared.command.Command.{Command}
 
 pub drop_range : (n at end : ℕ) (xs : List ℕ) → n ≤ end - at → drop n (take (end - at) (drop at xs)) ≡ take (end - (at + n)) (drop (at + n) xs)
 drop_range n at end xs within =
@@ -34,19 +34,14 @@ pub takes_none : (before script line : List ℕ) → before ≡ (line ++ []) ++ 
 takes_none before script [] is end none = rw (is, end) (refl, refl)
 takes_none before script (byte ∷ line) is end none = absurd (omega arith)
 
--- a line that takes a block
-pub commands_block : (before after : List (List ℕ)) (line : List ℕ) (at : ℕ) → before ≡ line ∷ after → TakesBlock at ≡ kind_of line
-    → commands_of before ≡ block_of at [] after
-commands_block before after line at is kind = ap commands_of is ∙ rw (sym kind, commands_by) refl
-
 takes_true : (before after : List (List ℕ)) (found : Bool) (line : List ℕ) → found ≡ true → TakesLine before found line after → before ≡ line ∷ after
 takes_true before after found line is taken = rw is at taken
 
-block_step : (all after : List (List ℕ)) (line : List ℕ) (at : ℕ) → is_dot line ≡ false → block_of at all (line ∷ after) ≡ block_of at (all ++ line ∷ []) after
-block_step all after line at plain = rw (block_by, plain) refl
+block_step : (all after : List (List ℕ)) (line : List ℕ) (command : Command) → is_dot line ≡ false → block_of command all (line ∷ after) ≡ block_of command (all ++ line ∷ []) after
+block_step all after line command plain = rw (block_by, plain) refl
 
 -- one more line of a block
-pub block_goes_on : (all before after : List (List ℕ)) (found : Bool) (line : List ℕ) (at : ℕ) → found ≡ true → TakesLine before found line after → is_dot line ≡ false
-    → block_of at (all ++ line ∷ []) after ≡ block_of at all before
-block_goes_on all before after found line at is taken plain =
-    sym (block_step all after line at plain) ∙ ap (block_of at all) (sym (takes_true before after found line is taken))
+pub block_goes_on : (all before after : List (List ℕ)) (found : Bool) (line : List ℕ) (command : Command) → found ≡ true → TakesLine before found line after → is_dot line ≡ false
+    → block_of command (all ++ line ∷ []) after ≡ block_of command all before
+block_goes_on all before after found line command is taken plain =
+    sym (block_step all after line command plain) ∙ ap (block_of command all) (sym (takes_true before after found line is taken))

@@ -1,21 +1,21 @@
 -- What a reader took is known whatever follows: a function of the bytes is carried along from piece to piece.
-use Rattle.std.proofs.Common.{◌≡◌, ℕ, ◌+◌, Bool, true, false, List, [], ◌∷◌, ◌++◌, length, refl, sym, ap, ◌∙◌, append_assoc, append-nil, arith, Ok, Err, IfErr, IsErrAnd, IfSome, Some, None}
-use Rattle.std.specs.declared.option.Option.{Option}
+use Rattle.std.proofs.Common.{◌≡◌, ℕ, ◌+◌, Bool, true, false, List, [], ◌∷◌, ◌++◌, length, refl, sym, ap, ◌∙◌, append_assoc, append-nil, arith, Ok, Err, IfErr, IsErrAnd}
 use Rattle.std.proofs.lemmas.List.{length-append}
 use Rattle.std.proofs.lemmas.Bool.{true≢false}
 use Rattle.std.specs.declared.result.Result.{Result}
 use Rattle.vs_host.specs.World.{Scene}
 use Rattle.vs_text.specs.Text.{IsLine}
 use Rattle.vs_top.proofs.Lines.{whole_lines-line, whole_lines_none}
-use Rattle.vs_session.specs.Script.{Command, kind_of, is_dot, commands_by, block_by, commands_of, block_of, whole_of, whole_block}
-use Rattle.vs_session.specs.Script.Command.{Append, PrintAll, Other}
-use Rattle.vs_session.specs.Script.Kind.{Empty, Prints, Unknown, TakesBlock}
+use Rattle.vs_session.specs.Script.{Instruction, instruction, kind_of, is_dot, commands_by, block_by, commands_of, at_end, not_yet, block_of, whole_of, whole_block}
+use Rattle.vs_session.specs.declared.command.Block.{Block}
+use Rattle.vs_session.specs.declared.command.Command.{Command}
+use Rattle.vs_session.specs.declared.command.ScriptLine.TheVariants.{Empty, Single, Head}
+use Rattle.vs_session.specs.declared.command.Request.{Request}
+use Rattle.vs_session.specs.Request.{IsBlockOf, StandsFor}
 use Rattle.vs_top.specs.declared.script.ScriptErr.{ScriptErr}
 use Rattle.vs_top.specs.Ahead as ahead
-use Rattle.vs_top.proofs.Pieces.{commands_block}
-use Rattle.vs_session.specs.declared.command.Early.{Early}
-use Rattle.vs_session.specs.Early.{IsHanded}
-use Rattle.vs_top.specs.Ahead.{Ahead, GoesOn, Stops, IsLeft, TakesLine, TakesCommand, lines_ahead, commands_ahead, whole_lines, whole_commands}
+use Rattle.vs_top.proofs.Pieces.{block_goes_on}
+use Rattle.vs_top.specs.Ahead.{Ahead, GoesOn, Stops, IsLeft, TakesLine, TakesRequest, lines_ahead, commands_ahead, whole_lines, whole_commands}
 
 -- a line whose end was found
 pub line_is_whole : (old now new : Ahead) (before mid : Scene) (line front tail found : List ℕ) → GoesOn (λ bytes. bytes) (λ bytes. line ++ bytes) old now before mid
@@ -131,23 +131,25 @@ pub goes_on_in : {X : Type 0} (f g : List ℕ → X) (old new : Ahead) (before a
 goes_on_in f g old new before after scene one same =
     record { open_before = one.open_before; fresh = one.fresh; script = rw same one.script; count = one.count; each = one.each }
 
-pub whole_goes : (all lines : List (List ℕ)) (line : List ℕ) (at : ℕ) → is_dot line ≡ false → whole_block at all (line ∷ lines) ≡ whole_block at (all ++ line ∷ []) lines
-whole_goes all lines line at plain = rw (block_by, plain) refl
+pub whole_goes : (all lines : List (List ℕ)) (line : List ℕ) (command : Command) → is_dot line ≡ false → whole_block command all (line ∷ lines) ≡ whole_block command (all ++ line ∷ []) lines
+whole_goes all lines line command plain = rw (block_by, plain) refl
 
-pub whole_dot : (all lines : List (List ℕ)) (line : List ℕ) (at : ℕ) → is_dot line ≡ true → whole_block at all (line ∷ lines) ≡ Append at all ∷ whole_of lines
-whole_dot all lines line at dot = rw (block_by, dot) refl
+-- what a line adds to the commands, whatever is made of a block without its dot
+pub by_dot : (unended : Command → List (List ℕ) → List Instruction) (all lines : List (List ℕ)) (line : List ℕ) (command : Command) → is_dot line ≡ true
+    → block_by unended command all (line ∷ lines) ≡ instruction command all ∷ commands_by unended lines
+by_dot unended all lines line command dot = rw (block_by, dot) refl
 
-pub whole_empty : (lines : List (List ℕ)) (line : List ℕ) → Empty ≡ kind_of line → whole_of (line ∷ lines) ≡ whole_of lines
-whole_empty lines line kind = rw (sym kind, commands_by) refl
+pub by_empty : (unended : Command → List (List ℕ) → List Instruction) (lines : List (List ℕ)) (line : List ℕ) → Empty ≡ kind_of line
+    → commands_by unended (line ∷ lines) ≡ commands_by unended lines
+by_empty unended lines line kind = rw (sym kind, commands_by) refl
 
-pub whole_prints : (lines : List (List ℕ)) (line : List ℕ) → Prints ≡ kind_of line → whole_of (line ∷ lines) ≡ PrintAll ∷ whole_of lines
-whole_prints lines line kind = rw (sym kind, commands_by) refl
+pub by_single : (unended : Command → List (List ℕ) → List Instruction) (lines : List (List ℕ)) (line : List ℕ) (command : Command) → Single command ≡ kind_of line
+    → commands_by unended (line ∷ lines) ≡ instruction command [] ∷ commands_by unended lines
+by_single unended lines line command kind = rw (sym kind, commands_by) refl
 
-pub whole_other : (lines : List (List ℕ)) (line : List ℕ) → Unknown ≡ kind_of line → whole_of (line ∷ lines) ≡ Other ∷ whole_of lines
-whole_other lines line kind = rw (sym kind, commands_by) refl
-
-pub whole_takes : (lines : List (List ℕ)) (line : List ℕ) (at : ℕ) → TakesBlock at ≡ kind_of line → whole_of (line ∷ lines) ≡ whole_block at [] lines
-whole_takes lines line at kind = rw (sym kind, commands_by) refl
+pub by_head : (unended : Command → List (List ℕ) → List Instruction) (lines : List (List ℕ)) (line : List ℕ) (command : Command) → Head command ≡ kind_of line
+    → commands_by unended (line ∷ lines) ≡ block_by unended command [] lines
+by_head unended lines line command kind = rw (sym kind, commands_by) refl
 
 -- a reader that goes on by a line
 pub goes_line : {X : Type 0} (f : List ℕ → X) (k h : List (List ℕ) → X) (line : List ℕ) (old mid new : Ahead) (before between after : Scene) → GoesOn f (λ bytes. k (whole_lines bytes)) old mid before between
@@ -163,94 +165,93 @@ pub stops_line : {X : Type 0} (error : ScriptErr) (f : List ℕ → X) (k : List
 stops_line error f k old mid new before between after one two =
     stops_then error f (λ bytes. k (whole_lines bytes)) (k []) old mid new before between after one (stops_by k error whole_lines [] mid new between after two)
 
--- what is known in the middle of a block
+-- What is known in the middle of a block: the lines so far, which are kept unless some were lost.
 pub record InBlock (lost : Bool) (kept : List (List ℕ)) (old now : Ahead) (before mid : Scene) : Type 0 where
   pub lines : List (List ℕ)
   pub same : lost ≡ false → kept ≡ lines
-  pub ahead : (at : ℕ) → block_of at lines (lines_ahead now mid) ≡ block_of at [] (lines_ahead old before)
-  pub going : now.ended ≡ false → (at : ℕ) →
-      GoesOn (λ bytes. whole_block at [] (whole_lines bytes)) (λ bytes. whole_block at lines (whole_lines bytes)) old now before mid
+  pub ahead : (command : Command) → block_of command lines (lines_ahead now mid) ≡ block_of command [] (lines_ahead old before)
+  pub going : now.ended ≡ false → (command : Command) →
+      GoesOn (λ bytes. whole_block command [] (whole_lines bytes)) (λ bytes. whole_block command lines (whole_lines bytes)) old now before mid
 
-kept_lines : (lost : Bool) (kept lines : List (List ℕ)) (found : Option (List (List ℕ))) → IfSome found (λ text. (lost ≡ false) × (text ≡ kept)) → (lost ≡ false → kept ≡ lines)
-    → IfSome found (λ text. text ≡ lines)
-kept_lines lost kept lines None is same = tt
-kept_lines lost kept lines (Some text) is same = is.1 ∙ same is.0
+-- one more line of a block
+pub in_block_on : (lost lost' : Bool) (kept kept' : List (List ℕ)) (more : Bool) (line : List ℕ) (old now new : Ahead) (before mid after : Scene)
+    → InBlock lost kept old now before mid → (lost' ≡ false → (lost ≡ false) × (kept' ≡ kept ++ line ∷ []))
+    → more ≡ true → TakesLine (lines_ahead now mid) more line (lines_ahead new after) → is_dot line ≡ false
+    → (new.ended ≡ false → (more ≡ true) × GoesOn whole_lines (λ bytes. line ∷ whole_lines bytes) now new mid after) → InBlock lost' kept' old new before after
+in_block_on lost lost' kept kept' more line old now new before mid after so_far pushed found taken plain goes =
+    let lines : List (List ℕ) = so_far.lines in
+    record {
+      lines = lines ++ line ∷ [];
+      same = λ is. (pushed is).1 ∙ ap (λ (l : List (List ℕ)). l ++ line ∷ []) (so_far.same (pushed is).0);
+      ahead = λ command. block_goes_on lines (lines_ahead now mid) (lines_ahead new after) more line command found taken plain ∙ so_far.ahead command;
+      going = λ open_after command.
+          let next = (goes open_after).1 in
+          goes_line (λ bytes. whole_block command [] (whole_lines bytes)) (whole_block command lines) (whole_block command (lines ++ line ∷ [])) line old now new before mid after
+          (so_far.going next.open_before command) next (λ rest. whole_goes lines rest line command plain);
+    }
 
 -- the script ended in the middle of a block
-pub block_ends : (lost : Bool) (kept : List (List ℕ)) (found : Option (List (List ℕ))) (more : Bool) (line : List ℕ) (old now new : Ahead) (before mid after : Scene)
-    → InBlock lost kept old now before mid → IfSome found (λ text. (lost ≡ false) × (text ≡ kept))
+pub block_ends : (lost : Bool) (kept : List (List ℕ)) (found : Block) (more : Bool) (line : List ℕ) (old now new : Ahead) (before mid after : Scene)
+    → InBlock lost kept old now before mid → ((text : List (List ℕ)) → (lost ≡ false → kept ≡ text) → IsBlockOf found text)
     → more ≡ false → TakesLine (lines_ahead now mid) more line (lines_ahead new after) → (new.ended ≡ false → more ≡ true) → ahead.TakesBlock found old new before after
 block_ends lost kept found true line old now new before mid after so_far is none taken goes_on = absurd (true≢false none)
 block_ends lost kept found false line old now new before mid after so_far is none taken goes_on =
     record {
       lines = so_far.lines;
-      kept = kept_lines lost kept so_far.lines found is so_far.same;
-      ahead = λ at. sym (so_far.ahead at) ∙ ap (block_of at so_far.lines) taken.1 ∙ ap (λ (l : List (List ℕ)). Append at so_far.lines ∷ commands_of l) (sym taken.0);
+      kept = is so_far.lines so_far.same;
+      ahead = λ command. sym (so_far.ahead command) ∙ ap (block_of command so_far.lines) taken.1 ∙ ap (λ (l : List (List ℕ)). instruction command so_far.lines ∷ commands_of l) (sym taken.0);
       whole = λ going. absurd (true≢false (sym (goes_on going)));
     }
 
-dot_ends : (block lines : List (List ℕ)) (line : List ℕ) (at : ℕ) → is_dot line ≡ true → block_of at block (line ∷ lines) ≡ Append at block ∷ commands_of lines
-dot_ends block lines line at dot = rw (block_by, dot) refl
-
 -- a block ended in its dot
-pub block_dotted : (lost : Bool) (kept : List (List ℕ)) (found : Option (List (List ℕ))) (more : Bool) (line : List ℕ) (old now new : Ahead) (before mid after : Scene)
-    → InBlock lost kept old now before mid → IfSome found (λ text. (lost ≡ false) × (text ≡ kept))
+pub block_dotted : (lost : Bool) (kept : List (List ℕ)) (found : Block) (more : Bool) (line : List ℕ) (old now new : Ahead) (before mid after : Scene)
+    → InBlock lost kept old now before mid → ((text : List (List ℕ)) → (lost ≡ false → kept ≡ text) → IsBlockOf found text)
     → more ≡ true → TakesLine (lines_ahead now mid) more line (lines_ahead new after) → is_dot line ≡ true
     → (new.ended ≡ false → GoesOn whole_lines (λ bytes. line ∷ whole_lines bytes) now new mid after) → ahead.TakesBlock found old new before after
 block_dotted lost kept found false line old now new before mid after so_far is some taken dot goes = absurd (true≢false (sym some))
 block_dotted lost kept found true line old now new before mid after so_far is some taken dot goes =
     record {
       lines = so_far.lines;
-      kept = kept_lines lost kept so_far.lines found is so_far.same;
-      ahead = λ at. sym (so_far.ahead at) ∙ ap (block_of at so_far.lines) taken ∙ dot_ends so_far.lines (lines_ahead new after) line at dot;
-      whole = λ going at.
+      kept = is so_far.lines so_far.same;
+      ahead = λ command. sym (so_far.ahead command) ∙ ap (block_of command so_far.lines) taken ∙ by_dot at_end so_far.lines (lines_ahead new after) line command dot;
+      whole = λ going command.
           let next = goes going in
-          goes_line (λ bytes. whole_block at [] (whole_lines bytes)) (whole_block at so_far.lines) (λ lines. Append at so_far.lines ∷ whole_of lines) line old now new before mid after
-          (so_far.going next.open_before at) next (λ lines. whole_dot so_far.lines lines line at dot);
+          goes_line (λ bytes. whole_block command [] (whole_lines bytes)) (whole_block command so_far.lines) (λ lines. instruction command so_far.lines ∷ whole_of lines) line old now new before mid after
+          (so_far.going next.open_before command) next (λ lines. by_dot not_yet so_far.lines lines line command dot);
     }
 
 -- a line that is a command by itself
-pub line_command : (early : Early) (command : Command) (more : Bool) (line : List ℕ) (old now new : Ahead) (before mid after : Scene)
+pub single_request : (request : Request) (command : Command) (more : Bool) (line : List ℕ) (old now new : Ahead) (before mid after : Scene)
     → commands_ahead now mid ≡ commands_ahead old before → (now.ended ≡ false → GoesOn whole_commands whole_commands old now before mid)
     → more ≡ true → TakesLine (lines_ahead now mid) more line (lines_ahead new after)
     → (new.ended ≡ false → (more ≡ true) × GoesOn whole_lines (λ bytes. line ∷ whole_lines bytes) now new mid after)
-    → IsHanded early command → ((lines : List (List ℕ)) → commands_of (line ∷ lines) ≡ command ∷ commands_of lines)
-    → ((lines : List (List ℕ)) → whole_of (line ∷ lines) ≡ command ∷ whole_of lines) → TakesCommand early old new before after
-line_command early command false line old now new before mid after same going some taken goes handed meant meant_whole = absurd (true≢false (sym some))
-line_command early command true line old now new before mid after same going some taken goes handed meant meant_whole =
+    → StandsFor request (instruction command []) → Single command ≡ kind_of line → TakesRequest request old new before after
+single_request request command false line old now new before mid after same going some taken goes meant kind = absurd (true≢false (sym some))
+single_request request command true line old now new before mid after same going some taken goes meant kind =
     record {
-      command = command;
-      handed = handed;
-      ahead = sym same ∙ ap commands_of taken ∙ meant (lines_ahead new after);
+      first = instruction command [];
+      meant = meant;
+      ahead = sym same ∙ ap commands_of taken ∙ by_single at_end (lines_ahead new after) line command kind;
       whole = λ going_on.
           let next = (goes going_on).1 in
-          goes_line whole_commands whole_of (λ lines. command ∷ whole_of lines) line old now new before mid after (going next.open_before) next meant_whole;
+          goes_line whole_commands whole_of (λ lines. instruction command [] ∷ whole_of lines) line old now new before mid after (going next.open_before) next (λ lines. by_single not_yet lines line command kind);
     }
 
 -- a line that takes a block, and its block
-pub block_command : (early : Early) (at : ℕ) (more : Bool) (line : List ℕ) (found : Option (List (List ℕ))) (old now next new : Ahead) (before mid between after : Scene)
+pub head_request : (request : Request) (command : Command) (more : Bool) (line : List ℕ) (found : Block) (old now next new : Ahead) (before mid between after : Scene)
     → commands_ahead now mid ≡ commands_ahead old before → (now.ended ≡ false → GoesOn whole_commands whole_commands old now before mid)
     → more ≡ true → TakesLine (lines_ahead now mid) more line (lines_ahead next between)
     → (next.ended ≡ false → (more ≡ true) × GoesOn whole_lines (λ bytes. line ∷ whole_lines bytes) now next mid between)
-    → TakesBlock at ≡ kind_of line → (block : ahead.TakesBlock found next new between after) → IsHanded early (Append at block.lines) → TakesCommand early old new before after
-block_command early at false line found old now next new before mid between after same going some taken goes kind block handed = absurd (true≢false (sym some))
-block_command early at true line found old now next new before mid between after same going some taken goes kind block handed =
+    → Head command ≡ kind_of line → (block : ahead.TakesBlock found next new between after) → StandsFor request (instruction command block.lines) → TakesRequest request old new before after
+head_request request command false line found old now next new before mid between after same going some taken goes kind block meant = absurd (true≢false (sym some))
+head_request request command true line found old now next new before mid between after same going some taken goes kind block meant =
     record {
-      command = Append at block.lines;
-      handed = handed;
-      ahead = sym same ∙ commands_block (lines_ahead now mid) (lines_ahead next between) line at taken kind ∙ block.ahead at;
+      first = instruction command block.lines;
+      meant = meant;
+      ahead = sym same ∙ ap commands_of taken ∙ by_head at_end (lines_ahead next between) line command kind ∙ block.ahead command;
       whole = λ going_on.
-          let rest = block.whole going_on at in
+          let rest = block.whole going_on command in
           let first = (goes rest.open_before).1 in
-          goes_on_twice whole_commands (λ bytes. whole_block at [] (whole_lines bytes)) (λ bytes. Append at block.lines ∷ whole_commands bytes) old next new before between after
-          (goes_line whole_commands whole_of (whole_block at []) line old now next before mid between (going first.open_before) first (λ lines. whole_takes lines line at kind)) rest;
+          goes_on_twice whole_commands (λ bytes. whole_block command [] (whole_lines bytes)) (λ bytes. instruction command block.lines ∷ whole_commands bytes) old next new before between after
+          (goes_line whole_commands whole_of (whole_block command []) line old now next before mid between (going first.open_before) first (λ lines. by_head not_yet lines line command kind)) rest;
     }
-
-pub prints_meant : (line : List ℕ) → Prints ≡ kind_of line → (lines : List (List ℕ)) → commands_of (line ∷ lines) ≡ PrintAll ∷ commands_of lines
-prints_meant line kind lines = rw (sym kind, commands_by) refl
-
-pub other_meant : (line : List ℕ) → Unknown ≡ kind_of line → (lines : List (List ℕ)) → commands_of (line ∷ lines) ≡ Other ∷ commands_of lines
-other_meant line kind lines = rw (sym kind, commands_by) refl
-
-pub kept_some : (found : Option (List (List ℕ))) (text lines : List (List ℕ)) → found ≡ Some text → IfSome found (λ text. text ≡ lines) → lines ≡ text
-kept_some found text lines is kept = sym (rw is at kept)

@@ -1,7 +1,5 @@
--- A list with two members is the list of these two; a result that is Ok has what is said of an Ok.
+-- A list with two members is the list of these two.
 use Rattle.std.proofs.Common.{◌≡◌, List, [], ◌∷◌, length, get_or, refl, sym, ap, ◌∙◌, arith, Bool, true, false, not}
-use Rattle.std.proofs.Common.{Ok, Err, IsOk, OnOk, IfOk}
-use Rattle.std.specs.declared.result.Result.{Result}
 use Rattle.std.proofs.lemmas.Bool.{true≢false}
 
 pub two_members : {A : Type 0} (xs : List A) (a b : A) → length xs ≡ 2 → a ≡ get_or xs 0 a → b ≡ get_or xs 1 b → xs ≡ a ∷ b ∷ []
@@ -17,16 +15,3 @@ same_second {A} a b c d same = ap (λ (xs : List A). get_or xs 1 b) same
 pub is_not_false : (b : Bool) → false ≡ not b → true ≡ b
 is_not_false true is = refl
 is_not_false false is = absurd (true≢false (sym is))
-
-pub holds_on_ok : {T E : Type 0} (r : Result T E) (P : Type 0) → IsOk r → OnOk r P → P
-holds_on_ok (Ok x) P is p = p
-holds_on_ok (Err e) P is p = absurd (true≢false (sym is))
-
-pub clean_value : (clean refuses : Bool) → clean ≡ not refuses → refuses ≡ not clean
-clean_value true true is = absurd (true≢false is)
-clean_value true false is = refl
-clean_value false true is = refl
-clean_value false false is = absurd (true≢false (sym is))
-
-pub clean_is : {E : Type 0} (r : Result Bool E) (clean : Bool) (P : Bool → Type 0) → r ≡ Ok clean → IfOk r P → P clean
-clean_is r clean P is p = rw is at p

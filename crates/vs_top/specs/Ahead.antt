@@ -1,13 +1,13 @@
 -- What is left of a script: what was read ahead, and what the host has left.
-use Rattle.std.specs.Prelude.{ℕ, Bool, true, false, ◌==◌, if◌then◌else◌, List, [], ◌∷◌, ◌++◌, ◌≡◌, ◌+◌, ◌-◌, ◌^◌, ◌<◌, length, IfSome}
-use Rattle.std.specs.declared.option.Option.{Option}
+use Rattle.std.specs.Prelude.{ℕ, Bool, true, false, ◌==◌, if◌then◌else◌, List, [], ◌∷◌, ◌++◌, ◌≡◌, ◌+◌, ◌-◌, ◌^◌, ◌<◌, ◌≤◌, length}
 use Rattle.vs_top.specs.declared.script.ScriptErr.{ScriptErr}
 use Rattle.vs_top.specs.declared.script.ScriptErr.TheVariants as error
 use Rattle.vs_host.specs.World.{Scene}
-use Rattle.vs_session.specs.declared.command.Early.{Early}
-use Rattle.vs_session.specs.Early.{IsHanded}
-use Rattle.vs_session.specs.Script.{Command, commands_of, block_of, whole_of, whole_block}
-use Rattle.vs_session.specs.Script.Command.{Append}
+use Rattle.vs_session.specs.declared.command.Block.{Block}
+use Rattle.vs_session.specs.declared.command.Command.{Command}
+use Rattle.vs_session.specs.declared.command.Request.{Request}
+use Rattle.vs_session.specs.Request.{IsBlockOf, StandsFor}
+use Rattle.vs_session.specs.Script.{Instruction, instruction, commands_of, block_of, whole_of, whole_block}
 use Rattle.vs_text.specs.Text.{lines_of}
 
 -- a byte before the first line, where there is one
@@ -33,12 +33,12 @@ HasSeen reader scene = reader.ended ≡ true → scene.script ≡ []
 abbrev pub lines_ahead : Ahead → Scene → List (List ℕ)
 lines_ahead reader scene = lines_of (reader.bytes ++ scene.script)
 
-abbrev pub commands_ahead : Ahead → Scene → List Command
+abbrev pub commands_ahead : Ahead → Scene → List Instruction
 commands_ahead reader scene = commands_of (lines_ahead reader scene)
 
 -- bytes that may still come, up to the limit
-abbrev pub turns : Ahead → ℕ
-turns reader = length reader.bytes + (2 ^ 20 - reader.taken)
+abbrev pub bytes_left : Ahead → ℕ
+bytes_left reader = length reader.bytes + (2 ^ 20 - reader.taken)
 
 -- each byte that was taken from the script counts, and no other
 abbrev pub CountsTaken : Ahead → Ahead → Scene → Scene → Type 0
@@ -50,7 +50,7 @@ TakesLine before false line after = (after ≡ []) × (before ≡ [])
 TakesLine before true line after = before ≡ line ∷ after
 
 -- the commands that are whole in the first bytes of a script, whatever follows
-abbrev pub whole_commands : List ℕ → List Command
+abbrev pub whole_commands : List ℕ → List Instruction
 whole_commands bytes = whole_of (whole_lines bytes)
 
 -- A reader went on and did not come to the end. Of the bytes before it `f` is what `g` is of those after it, whatever follows.
@@ -61,20 +61,20 @@ pub record GoesOn {X : Type 0} (f g : List ℕ → X) (old new : Ahead) (before 
   pub count : new.taken ≡ old.taken + length fresh
   pub each : (rest : List ℕ) → f ((old.bytes ++ fresh) ++ rest) ≡ g (new.bytes ++ rest)
 
--- A block was read: its lines, which stand in `found` where memory was there for them.
-pub record TakesBlock (found : Option (List (List ℕ))) (old new : Ahead) (before after : Scene) : Type 0 where
+-- A block was read, and these are its lines.
+pub record TakesBlock (block : Block) (old new : Ahead) (before after : Scene) : Type 0 where
   pub lines : List (List ℕ)
-  pub kept : IfSome found (λ text. text ≡ lines)
-  pub ahead : (at : ℕ) → block_of at [] (lines_ahead old before) ≡ Append at lines ∷ commands_ahead new after
-  pub whole : new.ended ≡ false → (at : ℕ) →
-      GoesOn (λ bytes. whole_block at [] (whole_lines bytes)) (λ bytes. Append at lines ∷ whole_commands bytes) old new before after
+  pub kept : IsBlockOf block lines
+  pub ahead : (command : Command) → block_of command [] (lines_ahead old before) ≡ instruction command lines ∷ commands_ahead new after
+  pub whole : new.ended ≡ false → (command : Command) →
+      GoesOn (λ bytes. whole_block command [] (whole_lines bytes)) (λ bytes. instruction command lines ∷ whole_commands bytes) old new before after
 
--- A command was read, which is the first of those that were ahead.
-pub record TakesCommand (early : Early) (old new : Ahead) (before after : Scene) : Type 0 where
-  pub command : Command
-  pub handed : IsHanded early command
-  pub ahead : commands_ahead old before ≡ command ∷ commands_ahead new after
-  pub whole : new.ended ≡ false → GoesOn whole_commands (λ bytes. command ∷ whole_commands bytes) old new before after
+-- A request was read. It stands for the first command that was ahead.
+pub record TakesRequest (request : Request) (old new : Ahead) (before after : Scene) : Type 0 where
+  pub first : Instruction
+  pub meant : StandsFor request first
+  pub ahead : commands_ahead old before ≡ first ∷ commands_ahead new after
+  pub whole : new.ended ≡ false → GoesOn whole_commands (λ bytes. first ∷ whole_commands bytes) old new before after
 
 -- The script's end was reached, with no command before it.
 pub record TakesNone (old new : Ahead) (before after : Scene) : Type 0 where
@@ -82,10 +82,11 @@ pub record TakesNone (old new : Ahead) (before after : Scene) : Type 0 where
   pub ended : new.ended ≡ true
   pub script : after.script ≡ []
 
--- what is left of the script where a reader stops: for a failed call what the host has left, and else more than the limit
+-- What is left of the script where a reader stops: after a failed call what the host has left, and else more than the limit, of
+-- which one byte was taken.
 abbrev pub IsLeft : ScriptErr → List ℕ → Ahead → Scene → Type 0
 IsLeft error.Failed left new after = after.script ≡ left
-IsLeft error.TooLong left new after = (0 < length left) × (new.taken ≡ 2 ^ 20)
+IsLeft error.TooLong left new after = (0 < length left) × (length left ≤ length after.script + 1) × (new.taken ≡ 2 ^ 20)
 
 -- A reader stopped. Of the bytes up to what is left `f` is `value`.
 pub record Stops {X : Type 0} (error : ScriptErr) (f : List ℕ → X) (value : X) (old new : Ahead) (before after : Scene) : Type 0 where

@@ -1,17 +1,20 @@
 -- What a run of one script over one file writes, and what it keeps.
-use Rattle.std.specs.Prelude.{ℕ, Bool, true, false, List, ◌∷◌, [], ◌≡◌, ◌≢◌, ◌<◌, ◌≤◌, ◌⊎◌, ◌^◌, ◌++◌, codes, map, length, take, IsTrue, IsSomeAnd, IfSome}
-use Rattle.vs_faults.specs.Faults.{Rose}
+use Rattle.std.specs.Prelude.{ℕ, Bool, true, false, List, ◌∷◌, [], ◌≡◌, ◌<◌, ◌≤◌, ◌+◌, ◌⊎◌, ◌^◌, ◌++◌, ⊤, codes, map, length, take, nat_le, if◌then◌else◌, IsTrue, IsSomeAnd, IfSome}
+use Rattle.std.specs.declared.option.Option.{Option}
+use Rattle.vs_faults.specs.Faults.{HasRisen}
 use Rattle.vs_host.specs.Names.{is_allowed}
 use Rattle.vs_host.specs.World.{Tells, Scene, content_of}
 use Rattle.vs_text.specs.Text.{lines_of}
-use Rattle.vs_session.specs.Script.{Command, commands_of}
-use Rattle.vs_session.specs.Machine.{Outcome, replies_of, any_error, opening_of}
+use Rattle.vs_session.specs.Script.{Instruction, commands_of}
+use Rattle.vs_session.specs.Machine.{replies_of, any_error, opening_of}
 use Rattle.vs_session.specs.Session.{Opened, opened}
 use Rattle.vs_session.specs.declared.command.Mark.{Mark}
-use Rattle.vs_session.specs.Early.{outcome_of}
+use Rattle.vs_session.specs.declared.command.Outcome.{Outcome}
 use Rattle.vs_top.specs.Ahead.{whole_commands}
+use Rattle.vs_top.specs.declared.ending.Ending.{Ending}
+use Rattle.vs_top.specs.declared.ending.Ending.TheVariants as ending
 
--- the words are `edit` and this name
+-- the arguments are `edit` and this name
 abbrev pub IsEdit : List (List ℕ) → List ℕ → Type 0
 IsEdit words name = (words ≡ codes "edit" ∷ name ∷ []) × IsTrue (is_allowed name)
 
@@ -22,34 +25,55 @@ pub record TellsRun (tells : Tells) : Type 0 where
   pub output : IsTrue tells.output
 
 abbrev pub outcomes : List Mark → List Outcome
-outcomes marks = map (λ mark. outcome_of mark.outcome) marks
+outcomes marks = map (λ mark. mark.outcome) marks
 
 -- the commands of the script that is left
-abbrev pub commands_in : Scene → List Command
+abbrev pub commands_in : Scene → List Instruction
 commands_in scene = commands_of (lines_of scene.script)
+
+-- the commands of a script that are whole within its limit, and all of them where the script ends within it
+abbrev pub commands_within : List ℕ → List Instruction
+commands_within script = if nat_le (length script) (2 ^ 20) then commands_of (lines_of script) else whole_commands (take (2 ^ 20) script)
 
 -- the session that a run opens
 abbrev pub session_of : Scene → List ℕ → Opened
 session_of scene name = opened name (content_of scene name)
 
 -- what a session writes: the opening reply, and the replies to commands that ended so
-abbrev pub written : Opened → List Command → List Outcome → List ℕ
+abbrev pub written : Opened → List Instruction → List Outcome → List ℕ
 written session commands ended = (opening_of session.name session.found).bytes ++ replies_of session.state commands ended
 
--- whether some reply to these commands is an error, or some outcome is not Done
-abbrev pub refuses_any : Opened → List Command → List Outcome → Bool
+-- whether some reply to these commands is an error, or some command did not end as Done
+abbrev pub refuses_any : Opened → List Instruction → List Outcome → Bool
 refuses_any session commands ended = any_error session.state commands ended
 
 -- The session answered just these commands: one mark was kept for each, and the opening reply and their replies were written.
-pub record Answers (session : Opened) (old new : Scene) (marks : List Mark) (commands : List Command) : Type 0 where
+pub record Answers (session : Opened) (old new : Scene) (marks : List Mark) (commands : List Instruction) : Type 0 where
   pub kept : length marks ≡ length commands
   pub output : new.output ≡ old.output ++ written session commands (outcomes marks)
 
--- It answered the first commands of the script.
+-- It answered all commands of the script, which was read to its end.
+pub record AnswersAll (errors : Bool) (session : Opened) (old new : Scene) (marks : List Mark) : Type 0 where
+  pub answers : Answers session old new marks (commands_in old)
+  pub errors_are : refuses_any session (commands_in old) (outcomes marks) ≡ errors
+  pub ended : new.script ≡ []
+
+-- It answered the commands that were whole in what was taken of the script.
+pub record AnswersTaken (session : Opened) (old new : Scene) (marks : List Mark) : Type 0 where
+  pub taken : List ℕ
+  pub script : old.script ≡ taken ++ new.script
+  pub answers : Answers session old new marks (whole_commands taken)
+
+-- The script has more bytes than its limit. It answered the commands that are whole within that.
+pub record AnswersLimit (session : Opened) (old new : Scene) (marks : List Mark) : Type 0 where
+  pub longer : 2 ^ 20 < length old.script
+  pub answers : Answers session old new marks (whole_commands (take (2 ^ 20) old.script))
+
+-- It answered some first commands of the script, within its limit.
 pub record AnswersSome (session : Opened) (old new : Scene) (marks : List Mark) : Type 0 where
-  pub commands : List Command
-  pub rest : List Command
-  pub first : commands_in old ≡ commands ++ rest
+  pub commands : List Instruction
+  pub rest : List Instruction
+  pub first : commands_within old.script ≡ commands ++ rest
   pub answers : Answers session old new marks commands
 
 -- No command was answered, and nothing was written.
@@ -58,58 +82,90 @@ pub record AnswersNone (old new : Scene) (marks : List Mark) : Type 0 where
   pub output : new.output ≡ old.output
 
 -- what was whole in the output before the last reply: nothing before the opening reply
-abbrev pub written_before : Opened → List Command → List Outcome → List ℕ
+abbrev pub written_before : Opened → List Instruction → List Outcome → List ℕ
 written_before session commands [] = []
 written_before session commands (outcome ∷ ended) = written session commands (take (length ended) (outcome ∷ ended))
 
 -- The last reply to the first commands of the script, or else the opening reply, was written in part.
 pub record IsCutShort (session : Opened) (old new : Scene) (marks : List Mark) : Type 0 where
-  pub commands : List Command
-  pub rest : List Command
-  pub first : commands_in old ≡ commands ++ rest
+  pub commands : List Instruction
+  pub rest : List Instruction
+  pub first : commands_within old.script ≡ commands ++ rest
   pub kept : length marks ≡ length commands
   pub count : ℕ
   pub output : new.output ≡ old.output ++ take count (written session commands (outcomes marks))
   pub whole : length (written_before session commands (outcomes marks)) ≤ count
 
--- nothing but the folder stays
-abbrev pub RunsIn : Scene → Scene → Type 0
-RunsIn old new = new ≡ record old {
-  output = new.output;
-  script = new.script;
-  answers = new.answers;
-  script_faults = new.script_faults;
-  out_faults = new.out_faults;
-  folder_faults = new.folder_faults;
-}
+-- what a run answered, by its ending
+abbrev pub AnsweredBy : Ending → Tells → Opened → Scene → Scene → List Mark → Type 0
+AnsweredBy ending.Done tells session old new marks = TellsRun tells → AnswersAll false session old new marks
+AnsweredBy ending.WithErrors tells session old new marks = TellsRun tells → AnswersAll true session old new marks
+AnsweredBy ending.Usage tells session old new marks = ⊥
+AnsweredBy ending.ScriptFault tells session old new marks = TellsRun tells → AnswersTaken session old new marks
+AnsweredBy ending.OutputFault tells session old new marks = TellsRun tells → IsCutShort session old new marks
+AnsweredBy ending.FolderFault tells session old new marks = AnswersNone old new marks
+AnsweredBy ending.NoMemory tells session old new marks = TellsRun tells → AnswersNone old new marks ⊎ AnswersSome session old new marks
+AnsweredBy ending.TextLimit tells session old new marks = AnswersNone old new marks
+AnsweredBy ending.ScriptTooLong tells session old new marks = TellsRun tells → AnswersLimit session old new marks
 
--- What `edit` does with the file of a name, by the status that it ends with. Told facts hold for a host that tells the run.
-pub record RunsEdit (tells : Tells) (name : List ℕ) (old new : Scene) (status : ℕ) (marks : List Mark) : Type 0 where
-  -- these statuses, and no other
-  pub statuses : (status ≤ 1) ⊎ ((5 ≤ status × status ≤ 8) ⊎ (12 ≤ status × status ≤ 13))
-  -- 0 and 1: all commands were answered; 1 where some reply is an error or some mark is not Done
-  pub done : status ≤ 1 → TellsRun tells → Answers (session_of old name) old new marks (commands_in old)
-  pub clean : status ≡ 0 → TellsRun tells → refuses_any (session_of old name) (commands_in old) (outcomes marks) ≡ false
-  pub refused : status ≡ 1 → TellsRun tells → refuses_any (session_of old name) (commands_in old) (outcomes marks) ≡ true
-  pub short : status ≤ 1 → TellsRun tells → length old.script ≤ 2 ^ 20
-  -- 5: a read failed; the commands that were whole in the bytes taken were answered
-  pub script_fault : status ≡ 5 → Rose old.script_faults new.script_faults
-  pub script_stop : status ≡ 5 → TellsRun tells → (taken : List ℕ) × (old.script ≡ taken ++ new.script)
-      × Answers (session_of old name) old new marks (whole_commands taken)
-  -- 6: a write failed; the output is a first part of an answer
-  pub out_fault : status ≡ 6 → Rose old.out_faults new.out_faults
-  pub cut_short : status ≡ 6 → TellsRun tells → IsCutShort (session_of old name) old new marks
-  -- 7: a call on the folder failed before the opening reply
-  pub folder_fault : status ≡ 7 → Rose old.folder_faults new.folder_faults
-  pub folder_stop : status ≡ 7 → AnswersNone old new marks
-  -- 8: memory was wanted; nothing was written, or some first commands were answered
-  pub no_memory : status ≡ 8 → TellsRun tells → AnswersNone old new marks ⊎ AnswersSome (session_of old name) old new marks
-  -- 12: the file is too long; a file that is not gives another status
-  pub text_limit : status ≡ 12 → AnswersNone old new marks × (IsTrue tells.folder → IsSomeAnd (content_of old name) (λ bytes. 2 ^ 20 < length bytes))
-  pub fits : (status ≢ 7 × status ≢ 8) × status ≢ 12 → IsTrue tells.folder → IfSome (content_of old name) (λ bytes. length bytes ≤ 2 ^ 20)
-  -- 13: the script is too long; the commands that were whole in its first 1,048,576 bytes were answered
-  pub too_long : status ≡ 13 → TellsRun tells → (2 ^ 20 < length old.script)
-      × Answers (session_of old name) old new marks (whole_commands (take (2 ^ 20) old.script))
+-- the counts of the calls that failed: reads of the script, writes of the output, and calls on the folder
+pub record Counts : Type 0 where
+  pub script : ℕ
+  pub output : ℕ
+  pub folder : ℕ
+
+abbrev pub counts_of : Scene → Counts
+counts_of scene = record { script = scene.script_faults; output = scene.out_faults; folder = scene.folder_faults }
+
+-- A count that rose ends the run: by the ending, the count that it names rose, and no other changed.
+abbrev pub CountsBy : Ending → Counts → Counts → Type 0
+CountsBy ending.Done old new = new ≡ old
+CountsBy ending.WithErrors old new = new ≡ old
+CountsBy ending.Usage old new = new ≡ old
+CountsBy ending.ScriptFault old new = HasRisen old.script new.script × (new ≡ record old { script = new.script })
+CountsBy ending.OutputFault old new = HasRisen old.output new.output × (new ≡ record old { output = new.output })
+CountsBy ending.FolderFault old new = HasRisen old.folder new.folder × (new ≡ record old { folder = new.folder })
+CountsBy ending.NoMemory old new = new ≡ old
+CountsBy ending.TextLimit old new = new ≡ old
+CountsBy ending.ScriptTooLong old new = new ≡ old
+
+-- what the ending says of the length of the file
+abbrev pub HasFile : Ending → Option (List ℕ) → Type 0
+HasFile ending.Done file = IfSome file (λ bytes. length bytes ≤ 2 ^ 20)
+HasFile ending.WithErrors file = IfSome file (λ bytes. length bytes ≤ 2 ^ 20)
+HasFile ending.Usage file = ⊤
+HasFile ending.ScriptFault file = IfSome file (λ bytes. length bytes ≤ 2 ^ 20)
+HasFile ending.OutputFault file = IfSome file (λ bytes. length bytes ≤ 2 ^ 20)
+HasFile ending.FolderFault file = ⊤
+HasFile ending.NoMemory file = ⊤
+HasFile ending.TextLimit file = IsSomeAnd file (λ bytes. 2 ^ 20 < length bytes)
+HasFile ending.ScriptTooLong file = IfSome file (λ bytes. length bytes ≤ 2 ^ 20)
+
+-- how many bytes of the script a run takes at most: the limit, and one more where it finds the script too long
+abbrev pub most_taken : Ending → ℕ
+most_taken ending.Done = 2 ^ 20
+most_taken ending.WithErrors = 2 ^ 20
+most_taken ending.Usage = 0
+most_taken ending.ScriptFault = 2 ^ 20
+most_taken ending.OutputFault = 2 ^ 20
+most_taken ending.FolderFault = 0
+most_taken ending.NoMemory = 2 ^ 20
+most_taken ending.TextLimit = 0
+most_taken ending.ScriptTooLong = 2 ^ 20 + 1
+
+-- The folder stayed as it was, and no count of faults fell.
+pub record RunsIn (old new : Scene) : Type 0 where
+  pub folder : new.folder ≡ old.folder
+  pub script_faults : old.script_faults ≤ new.script_faults
+  pub out_faults : old.out_faults ≤ new.out_faults
+  pub folder_faults : old.folder_faults ≤ new.folder_faults
+
+-- What `edit` does with the file of a name, by its ending.
+pub record RunsEdit (tells : Tells) (name : List ℕ) (old new : Scene) (end : Ending) (marks : List Mark) : Type 0 where
+  pub answered : AnsweredBy end tells (session_of old name) old new marks
+  pub file : IsTrue tells.folder → HasFile end (content_of old name)
+  pub taken : IsTrue tells.script → length old.script ≤ length new.script + most_taken end
+  pub counts : CountsBy end (counts_of old) (counts_of new)
   -- the times of the marks are the clock's answers, in order
   pub times : IsTrue tells.clock → new.answers ≡ old.answers ++ map (λ mark. mark.at) marks
   pub frame : RunsIn old new

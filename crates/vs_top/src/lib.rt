@@ -1,10 +1,11 @@
 //! The top call: one script over one file.
 #![tactic(auto)]
 
-pub mod commands;
-pub mod edit;
-pub mod script;
-pub mod top;
+mod commands;
+mod edit;
+mod ending;
+mod runs;
+mod script;
 
-pub use script::{ScriptErr, ScriptReader};
-pub use top::{Report, run};
+pub use ending::Ending;
+pub use runs::{Report, run};

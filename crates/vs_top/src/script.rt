@@ -1,10 +1,10 @@
 // Reads a script line by line, in pieces as the host gives them.
-ghost use Rattle.std.specs.Prelude.{◌≡◌, ◌<◌, ◌≤◌, ◌+◌, ◌-◌, ◌^◌, ◌++◌, ◌∷◌, ◌==◌, [], List, ℕ, length, position, MatchOption, take, drop, false, true, IsTrue, IfOk, OnOk, OnErr, IfErr, IsErrOf, IsSome, IfSome, vec_len};
+ghost use Rattle.std.specs.Prelude.{◌≡◌, ◌<◌, ◌≤◌, ◌+◌, ◌-◌, ◌^◌, ◌++◌, ◌∷◌, ◌==◌, [], List, ℕ, length, position, MatchOption, take, drop, false, true, IsTrue, IfOk, OnOk, IfErr, IsErrOf, vec_len};
 ghost use Rattle.std.specs.Vec.{vec_capacity};
-ghost use Rattle.vs_faults.specs.Faults.{Rose};
+ghost use Rattle.vs_faults.specs.Faults.{HasCause, IsQuiet};
 ghost use Rattle.vs_host.specs.World.{ChangesScript};
 ghost use Rattle.vs_text.specs.Text.{IsLine, lines_of};
-ghost use Rattle.vs_top.specs.Ahead.{Ahead, lines_ahead, whole_lines, turns, TakesLine, CountsTaken, HasSeen, GoesOn, IsLeft, Stops};
+ghost use Rattle.vs_top.specs.Ahead.{Ahead, lines_ahead, whole_lines, bytes_left, TakesLine, CountsTaken, HasSeen, GoesOn, IsLeft, Stops};
 
 use std::alloc::{AllocError, Global};
 use std::marker::Model;
@@ -164,8 +164,8 @@ impl ScriptReader {
             (self.old.ended ≡ false) × (self.new.taken ≡ self.old.taken) × IsLeft error (S.scene host.old).script self.new (S.scene host.new)) }
         ensures goes_on { OnOk result (self.new.ended ≡ false → self.old.ended ≡ false) }
         ensures at_end { result ≡ Ok false → self.new.ended ≡ true }
-        ensures failed { IsErrOf result ScriptErr.Failed → Rose (S.scene host.old).script_faults (S.scene host.new).script_faults }
-        ensures faults { (S.scene host.old).script_faults ≤ (S.scene host.new).script_faults }
+        ensures cause { HasCause (S.scene host.old).script_faults (S.scene host.new).script_faults (IsErrOf result ScriptErr.Failed) }
+        ensures quiet { IsQuiet (S.scene host.old).script_faults (S.scene host.new).script_faults (IsErrOf result ScriptErr.Failed) }
         ensures frame { ChangesScript (S.scene host.old) (S.scene host.new) }
     {
         if self.ended {
@@ -204,10 +204,11 @@ impl ScriptReader {
         ensures stops { IfErr result (λ error. IsTrue (S.tells).script → Stops error whole_lines [] self.old self.new (S.scene host.old) (S.scene host.new)) }
         ensures counts { OnOk result (IsTrue (S.tells).script → CountsTaken self.old self.new (S.scene host.old) (S.scene host.new)) }
         ensures end { result ≡ Ok false → IsTrue (S.tells).script → (S.scene host.new).script ≡ [] }
-        ensures turns { IfOk result (λ found. IsTrue found → turns self.new < turns self.old) }
-        ensures length { OnOk result (length line.new + turns self.new ≤ turns self.old) }
-        ensures failed { IsErrOf result ScriptErr.Failed → Rose (S.scene host.old).script_faults (S.scene host.new).script_faults }
-        ensures faults { (S.scene host.old).script_faults ≤ (S.scene host.new).script_faults }
+        ensures limit { self.new.taken ≤ 2 ^ 20 }
+        ensures fewer { IfOk result (λ found. IsTrue found → bytes_left self.new < bytes_left self.old) }
+        ensures length { OnOk result (length line.new + bytes_left self.new ≤ bytes_left self.old) }
+        ensures cause { HasCause (S.scene host.old).script_faults (S.scene host.new).script_faults (IsErrOf result ScriptErr.Failed) }
+        ensures quiet { IsQuiet (S.scene host.old).script_faults (S.scene host.new).script_faults (IsErrOf result ScriptErr.Failed) }
         ensures frame { ChangesScript (S.scene host.old) (S.scene host.new) }
     {
         line.clear();

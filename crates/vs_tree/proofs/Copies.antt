@@ -4,7 +4,7 @@ use Rattle.std.proofs.lemmas.Grind.{common_steps}
 use Rattle.std.proofs.lemmas.List.{map-append, take-map, drop-map, take-append-le, drop-append-le}
 use Rattle.std.proofs.lemmas.List.Concat.{flat_map-append}
 use Rattle.vs_text.specs.Text.{IsText, file_of, plain_line, stored, stored_line}
-use Rattle.vs_tree_laws.proofs.Splices.{drop_past}
+use Rattle.vs_tree_shape.proofs.Splices.{drop_past}
 use Rattle.vs_tree.specs.Reads.{file_of_stored}
 use Rattle.vs_tree.specs.Sames.{each_line}
 
@@ -15,7 +15,7 @@ get_or_mid a b c i lt = grind (arith, common_steps)
 pub line_found : (a b c lines : List (List ℕ)) (at i : ℕ) → lines ≡ a ++ (b ++ c) → at ≡ length a + i → i < length b → get_or b i [] ≡ get_or lines at []
 line_found a b c lines at i cut place lt = get_or_mid a b c i lt ∙ ap (λ k. get_or (a ++ (b ++ c)) k []) (sym place) ∙ ap (λ xs. get_or xs at []) (sym cut)
 
--- so are the lines behind it, as far as the block has them
+-- so are the lines after it, as far as the block has them
 pub run_found : (a b c lines : List (List ℕ)) (at i n : ℕ) → lines ≡ a ++ (b ++ c) → at ≡ length a + i → i + n ≤ length b → take n (drop i b) ≡ take n (drop at lines)
 run_found a b c lines at i n cut place le =
     sym (take-append-le n (drop i b) c (omega (arith, length-drop i b)))
@@ -32,7 +32,7 @@ drop_more xs at i = grind (arith, common_steps)
 file_joined : (xs ys : List (List ℕ)) → file_of_stored (xs ++ ys) ≡ file_of_stored xs ++ file_of_stored ys
 file_joined xs ys = ap file_of (map-append plain_line xs ys) ∙ flat_map-append (λ line. line ++ 10 ∷ []) (map plain_line xs) (map plain_line ys)
 
--- more lines behind those that were copied
+-- more lines after those that were copied
 pub file_more : (lines : List (List ℕ)) (at place n past : ℕ) (old now new : List ℕ) → at ≤ place → past ≡ place + n → now ≡ old ++ file_of_stored (take (place - at) (drop at lines)) → new ≡ now ++ file_of_stored (take n (drop place lines))
     → new ≡ old ++ file_of_stored (take (past - at) (drop at lines))
 file_more lines at place n past old now new le past_is now_is new_is =

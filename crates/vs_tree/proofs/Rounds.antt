@@ -1,13 +1,14 @@
 -- Lines put in or taken out a run at a time.
-use Rattle.std.proofs.Common.{◌≡◌, ℕ, ◌+◌, ◌-◌, ◌<◌, ◌≤◌, List, [], ◌∷◌, ◌++◌, length, get_or, take, drop, map, sym, ap, subst, ◌∙◌, inl, inr, arith, length-append, append_assoc, length-take, length-drop}
+use Rattle.std.proofs.Common.{◌≡◌, ℕ, ◌+◌, ◌-◌, ◌<◌, ◌≤◌, List, [], ◌∷◌, ◌++◌, length, get_or, take, drop, map, sym, ap, subst, ◌∙◌, inl, inr, arith, append-nil, length-append, append_assoc, length-take, length-drop}
 use Rattle.std.proofs.lemmas.Grind.{common_steps}
 use Rattle.std.proofs.lemmas.Bool.{cases_eq}
 use Rattle.std.proofs.lemmas.List.{get_or_default, length-map, map-append}
 use Rattle.vs_text.specs.Text.{bytes_of, stored_line}
-use Rattle.vs_tree_laws.specs.Changes.{splice}
-use Rattle.vs_tree_laws.proofs.Splices.{splice_mid, length_splice, take_past, drop_past}
-use Rattle.vs_tree_laws.proofs.Sums.{halves}
-use Rattle.vs_tree_blocks.proofs.GoneLemmas.{drop_both}
+use Rattle.vs_tree_shape.specs.Changes.{splice}
+use Rattle.vs_tree_shape.proofs.Splices.{splice_mid, length_splice, take_past, drop_past}
+use Rattle.vs_tree_shape.proofs.Sums.{halves}
+use Rattle.vs_tree_blocks.proofs.RemovedLemmas.{drop_both}
+use Rattle.vs_edit.proofs.SpliceLemmas.{splice_on}
 use Rattle.vs_tree.specs.Runs.{with_lines, without_lines, run_of}
 
 length_some : (new : List (List ℕ)) (i : ℕ) → i ≤ length new → length (map stored_line (take i new)) ≡ i
@@ -88,3 +89,26 @@ each_more P lines i line lt is below here k d small = elim (cases_eq k i) [
 
 pub rest_of : (xs : List (List ℕ)) (i : ℕ) → take (length xs - i) (drop i xs) ≡ drop i xs
 rest_of xs i = grind (arith, common_steps)
+
+-- lines go out, and then the new ones come
+pub out_then_in : (lines new : List (List ℕ)) (top old : ℕ) → top + old ≤ length lines → with_lines (without_lines lines top old) top new ≡ splice lines top old (map stored_line new)
+out_then_in lines new top old le =
+    let none : top + 0 ≡ top = omega arith in
+    let all : old + 0 ≡ old = omega arith in
+    sym (ap (λ k. splice (without_lines lines top old) k 0 (map stored_line new)) none) ∙ splice_on lines top old le [] (map stored_line new) 0 ∙ ap (λ k. splice lines top k (map stored_line new)) all
+
+-- the new lines come, and then others go out
+pub in_then_out : (lines new : List (List ℕ)) (top old : ℕ) → top + old ≤ length lines → without_lines (with_lines lines top new) (top + length new) old ≡ splice lines top old (map stored_line new)
+in_then_out lines new top old le =
+    let n : length (map stored_line new) ≡ length new = length-map new stored_line in
+    let all : 0 + old ≡ old = omega arith in
+    ap (λ k. without_lines (with_lines lines top new) (top + k) old) (sym n) ∙ splice_on lines top 0 (omega arith) (map stored_line new) [] old
+    ∙ ap (λ k. splice lines top k (map stored_line new ++ [])) all ∙ ap (λ xs. splice lines top old xs) (append-nil (map stored_line new))
+
+-- the lines after the new ones are those that were there
+pub behind_new : (lines new : List (List ℕ)) (top old : ℕ) → top ≤ length lines → run_of (with_lines lines top new) (top + length new) old ≡ run_of lines top old
+behind_new lines new top old le =
+    let none : top + 0 ≡ top = omega arith in
+    let front : List (List ℕ) = take top lines ++ map stored_line new in
+    let size : length front ≡ top + length new = omega (arith, length-append (take top lines) (map stored_line new), length-take top lines, length-map new stored_line) in
+    ap (λ xs. take old xs) (drop_past front (drop (top + 0) lines) (top + length new) 0 (omega (arith, size)) ∙ ap (λ k. drop k lines) none)

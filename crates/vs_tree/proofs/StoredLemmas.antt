@@ -1,10 +1,17 @@
 -- The stored form of a spliced text is its stored form spliced.
-use Rattle.std.proofs.Common.{◌≡◌, ℕ, suc, ◌+◌, ◌^◌, ◌<◌, ◌≤◌, List, [], ◌∷◌, ◌++◌, length, take, drop, map, sym, refl, ap, ◌∙◌, arith, length-append, append-nil}
+use Rattle.std.proofs.Common.{◌≡◌, ℕ, suc, ◌+◌, ◌^◌, ◌<◌, ◌≤◌, List, [], ◌∷◌, ◌++◌, length, take, drop, map, sym, refl, ap, subst, ◌∙◌, arith, length-append, append-nil}
 use Rattle.std.proofs.lemmas.Grind.{common_steps}
 use Rattle.std.proofs.lemmas.List.{length-map, map-append, take-map, drop-map, take_all, drop_all, drop_at}
 use Rattle.vs_text.specs.Text.{bytes_of, stored_line, stored}
 use Rattle.vs_edit.specs.Splices.{splice, cut_out}
-use Rattle.vs_tree.specs.Runs.{IsPlaceIn, IsRunIn, with_lines, without_lines, run_of}
+use Rattle.vs_pages.specs.Maps.{Map}
+use Rattle.vs_tree_shape.specs.Trees.{HasLines}
+use Rattle.vs_tree_blocks.specs.Blocks.{tree_format}
+use Rattle.vs_tree.specs.declared.walk.Root.{Root}
+use Rattle.vs_tree.specs.declared.texts.Extent.{Extent}
+use Rattle.vs_tree.specs.Texts.{HasText, tree_lines}
+use Rattle.std.proofs.lemmas.Bool.Decides.{nat_tests}
+use Rattle.vs_tree.specs.Runs.{HasTree, with_lines, run_of}
 use Rattle.vs_edit.proofs.SpliceLemmas.{splice_on, map-splice}
 use Rattle.vs_tree.proofs.Rounds.{bytes_of-append}
 
@@ -38,75 +45,43 @@ bytes_of-with lines new at =
     let whole : take at lines ++ drop (at + 0) lines ≡ lines = grind (arith, common_steps) in
     omega (arith, ap bytes_of whole, bytes_of-append (take at lines) (drop (at + 0) lines), bytes_of-append (take at lines ++ map stored_line new) (drop (at + 0) lines), bytes_of-append (take at lines) (map stored_line new), bytes_of-stored new)
 
+-- the stored form of a text has as many lines as its tree
+pub length-stored_is : (text : List (List ℕ)) → length (stored text) ≡ tree_lines (length text)
+length-stored_is [] = refl
+length-stored_is (line ∷ text) = let n : length (map stored_line (line ∷ text)) ≡ length (line ∷ text) = length-map (line ∷ text) stored_line in n ∙ grind (arith, nat_tests)
+
+-- a text's tree, from its root on
+pub tree_of : (m : Map) (extent : Extent) (root : Root) (text : List (List ℕ)) → root ≡ record { height = extent.height; lines = tree_lines extent.lines } → HasText m extent text → HasTree m root (stored text)
+tree_of m extent root text is has = record {
+  lines_are = subst (λ (h : ℕ). HasLines tree_format m h (stored text)) (sym (ap (λ (r : Root). r.height) is)) has.tree;
+  count = length-stored_is text ∙ ap tree_lines has.lines ∙ sym (ap (λ (r : Root). r.lines) is);
+}
+
 -- the text without lines, filled
-pub filled : (new : List (List ℕ)) → 0 < length new → without_lines (with_lines ([] ∷ []) 0 new) (length new) 1 ≡ stored new
-filled new some =
-    let lines : List (List ℕ) = map stored_line new in
-    let n : length lines ≡ length new = length-map new stored_line in
-    let front : take (length new) (lines ++ [] ∷ []) ≡ lines = grind (arith, common_steps) in
-    let back : drop (length new + 1) (lines ++ [] ∷ []) ≡ [] = grind (arith, common_steps) in
-    ap (λ xs. xs ++ [] ++ drop (length new + 1) (lines ++ [] ∷ [])) front ∙ ap (λ xs. lines ++ [] ++ xs) back ∙ append-nil (lines ++ []) ∙ append-nil lines ∙ sym (stored_some new some)
+pub filled : (text new : List (List ℕ)) → length text ≡ 0 → 0 < length new → splice (stored text) 0 1 (map stored_line new) ≡ stored new
+filled [] new none some = append-nil (map stored_line new) ∙ sym (stored_some new some)
+filled (line ∷ text) new none some = absurd (omega arith)
 
 -- a text, emptied
-pub cleared : (text : List (List ℕ)) (n : ℕ) → n ≡ length text → 0 < length text → without_lines (splice (stored text) 0 0 ([] ∷ [])) 1 n ≡ [] ∷ []
+pub cleared : (text : List (List ℕ)) (n : ℕ) → length text ≡ n → 0 < n → splice (stored text) 0 n ([] ∷ []) ≡ [] ∷ []
 cleared text n is some =
-    let all : stored text ≡ map stored_line text = stored_some text some in
-    let count : length (stored text) ≡ n = ap length all ∙ length-map text stored_line ∙ sym is in
-    let same : splice (stored text) 0 0 ([] ∷ []) ≡ [] ∷ stored text = refl in
-    let back : drop n (stored text) ≡ [] = drop_all n (stored text) (omega arith) in
-    let turn : 1 + n ≡ suc n = omega arith in
-    ap (λ k. ([] ∷ []) ++ [] ++ drop k ([] ∷ stored text)) turn ∙ ap (λ xs. ([] ∷ []) ++ [] ++ xs) back
+    let all : stored text ≡ map stored_line text = stored_some text (omega arith) in
+    let back : drop (0 + n) (stored text) ≡ [] = drop_all (0 + n) (stored text) (omega (arith, ap length all, length-map text stored_line)) in
+    ap (λ xs. ([] ∷ []) ++ xs) back
 
 -- lines of a text, replaced
-pub replaced : (text new : List (List ℕ)) (top old : ℕ) → 0 < length text → top + old ≤ length text → old < length text + length new → without_lines (with_lines (stored text) top new) (top + length new) old ≡ stored (splice text top old new)
+pub replaced : (text new : List (List ℕ)) (top old : ℕ) → 0 < length text → top + old ≤ length text → old < length text + length new → splice (stored text) top old (map stored_line new) ≡ stored (splice text top old new)
 replaced text new top old some within left =
-    let xs : List (List ℕ) = map stored_line text in
-    let a : List (List ℕ) = map stored_line new in
-    let n : length a ≡ length new = length-map new stored_line in
-    let m : length xs ≡ length text = length-map text stored_line in
-    let all : stored text ≡ xs = stored_some text some in
     let result : 0 < length (splice text top old new) = omega (arith, Rattle.vs_edit.proofs.SpliceLemmas.length-splice text top old within new) in
-    ap (λ ys. without_lines (with_lines ys top new) (top + length new) old) all
-    ∙ ap (λ k. without_lines (splice xs top 0 a) k old) (omega arith)
-    ∙ splice_on xs top 0 (omega arith) a [] old
-    ∙ ap (λ ys. splice xs top (0 + old) ys) (append-nil a)
-    ∙ ap (λ k. splice xs top k a) (omega arith)
-    ∙ sym (map-splice stored_line text new top old)
-    ∙ sym (stored_some (splice text top old new) result)
+    ap (λ ys. splice ys top old (map stored_line new)) (stored_some text some) ∙ sym (map-splice stored_line text new top old) ∙ sym (stored_some (splice text top old new) result)
 
 -- the lines that are taken out
-pub replaced_run : (text new : List (List ℕ)) (top old : ℕ) → 0 < length text → top + old ≤ length text → run_of (with_lines (stored text) top new) (top + length new) old ≡ map stored_line (cut_out text top old)
-replaced_run text new top old some within =
-    let xs : List (List ℕ) = map stored_line text in
-    let a : List (List ℕ) = map stored_line new in
-    let n : length a ≡ length new = length-map new stored_line in
-    let m : length xs ≡ length text = length-map text stored_line in
-    let all : stored text ≡ xs = stored_some text some in
-    let front : length (take top xs ++ a) ≡ top + length new = simp (length-append, Rattle.std.proofs.lemmas.List.length-take) (omega arith) in
-    let rest : drop (top + length new) (take top xs ++ a ++ drop (top + 0) xs) ≡ drop (top + 0) xs = drop_at (take top xs ++ a) (drop (top + 0) xs) (top + length new) front in
-    let none : top + 0 ≡ top = omega arith in
-    ap (λ ys. run_of (with_lines ys top new) (top + length new) old) all ∙ ap (λ ys. take old ys) rest ∙ ap (λ k. take old (drop k xs)) none ∙ simp (take-map, drop-map)
+pub replaced_run : (text : List (List ℕ)) (top old : ℕ) → 0 < length text → run_of (stored text) top old ≡ map stored_line (cut_out text top old)
+replaced_run text top old some = ap (λ ys. run_of ys top old) (stored_some text some) ∙ simp (take-map, drop-map)
 
-pub replaced_bytes : (text new : List (List ℕ)) (top old : ℕ) → 0 < length text → top + old ≤ length text → bytes_of (run_of (with_lines (stored text) top new) (top + length new) old) ≡ bytes_of (cut_out text top old)
-replaced_bytes text new top old some within = ap bytes_of (replaced_run text new top old some within) ∙ bytes_of-stored (cut_out text top old)
-
-pub length_with_all : (lines new : List (List ℕ)) (at : ℕ) → at ≤ length lines → length (with_lines lines at new) ≡ length lines + length new
-length_with_all lines new at le = omega (arith, Rattle.vs_edit.proofs.SpliceLemmas.length-splice lines at 0 (omega arith) (map stored_line new), length-map new stored_line)
+pub replaced_bytes : (text : List (List ℕ)) (top old : ℕ) → 0 < length text → bytes_of (run_of (stored text) top old) ≡ bytes_of (cut_out text top old)
+replaced_bytes text top old some = ap bytes_of (replaced_run text top old some) ∙ bytes_of-stored (cut_out text top old)
 
 pub bytes_of-stored_text : (text : List (List ℕ)) → bytes_of (stored text) ≤ bytes_of text + 1
 bytes_of-stored_text [] = omega arith
 bytes_of-stored_text (line ∷ text) = omega (arith, bytes_of-stored (line ∷ text))
-
--- where a text stands, as the tree's calls need it
-
-pub place_in : (text : List (List ℕ)) (top : ℕ) → top ≤ length text → length text < 2 ^ 60 → IsPlaceIn (stored text) top
-place_in text top le small = record { within = omega (arith, length-stored text); some = stored-least text; small = omega (arith, stored-most text) }
-
-pub run_after : (text new : List (List ℕ)) (top old : ℕ) → 0 < length text → top + old ≤ length text → length text + length new < 2 ^ 60 → bytes_of text + bytes_of new < 2 ^ 62 → IsRunIn (with_lines (stored text) top new) (top + length new) old
-run_after text new top old some within small short =
-    let n : length (with_lines (stored text) top new) ≡ length (stored text) + length new = length_with_all (stored text) new top (omega (arith, length-stored text)) in
-    record {
-      within = omega (arith, n, length-stored text);
-      small = omega (arith, n, stored-most text);
-      short = omega (arith, bytes_of-with (stored text) new top, bytes_of-stored_text text);
-    }

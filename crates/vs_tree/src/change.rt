@@ -1,122 +1,110 @@
 // A change at one line of the tree.
-ghost use Rattle.std.specs.Prelude.{◌≡◌, ◌≤◌, ◌<◌, ◌+◌, ◌*◌, ◌^◌, [], ℕ, List, Err, IfOk, OnOk, IsTrue, get_or, length};
+ghost use Rattle.std.specs.Prelude.{◌≡◌, ◌≤◌, ◌<◌, ◌+◌, ◌*◌, ◌^◌, [], ℕ, List, IsErrOf, IfOk, OnOk, IsTrue, get_or, length};
 ghost use Rattle.std.specs.List.{AllByRecursion};
-ghost use Rattle.vs_faults.specs.Faults.{Rose};
-ghost use Rattle.vs_tree_laws.specs.Trees.{HasLines};
-ghost use Rattle.vs_tree_laws.specs.Changes.{Above, Promise, Takes, edited};
-ghost use Rattle.vs_tree_blocks.specs.Blocks.{tree_format, IsNarrow};
-ghost use Rattle.vs_tree_laws.specs.Differs.{Differs};
-ghost use Rattle.vs_tree_blocks.specs.Edits.{change_of, IsEdit, IsSlight, ChangesFew, MayTake};
+ghost use Rattle.vs_faults.specs.Faults.{HasCause};
+ghost use Rattle.vs_pages.specs.Calls.{Continues};
+ghost use Rattle.vs_tree_shape.specs.Places.{lines_below};
+ghost use Rattle.vs_tree_shape.specs.Trees.{HasLines};
+ghost use Rattle.vs_tree_shape.specs.Changes.{HasLineBelow, ChangesBelow, Takes, edited};
+ghost use Rattle.vs_tree_blocks.specs.Blocks.{tree_format, FitsFields};
+ghost use Rattle.vs_tree_shape.specs.Differs.{Differs};
+ghost use Rattle.vs_tree_blocks.specs.Edits.{added_by, change_of, IsEdit, IsOnePageEdit, ChangesFew, MayTake};
+ghost use Rattle.vs_tree.specs.Runs.{HasTree};
 
+use crate::Root;
 use std::alloc::Global;
 use vs_pages::{PageErr, Pages};
-use vs_tree_blocks::{Edit, Edited, Gone, edit_data, load_entries, write_pointers, write_root};
-use vs_tree_laws::{find_place, replace_entry};
+use vs_tree_blocks::{Edit, Edited, Removed, edit_data, load_entries, write_pointers, write_root};
+use vs_tree_shape::{Entry, find_place, replace_entry};
 
-// Edits the lines below a block of `count` pages, whose data blocks lie `depth` levels below it.
+// Edits the lines below the block that an entry leads to, whose data blocks lie `depth` levels below it.
 fn edit_below<P: Pages>(
     alloc: Global,
     pages: &mut P,
     depth: u64,
-    block: u64,
-    count: u32,
+    top: Entry,
     at: u64,
     edit: Edit<'_>,
 ) -> Result<Edited, PageErr>
     requires valid { P.valid pages.old }
-    requires block { block < 2 ^ 63 }
-    requires count { count < 2 ^ 31 }
+    requires fields { FitsFields top }
+    requires within { at < top.lines }
+    requires small { top.lines < 2 ^ 62 }
     requires edit { IsEdit edit }
-    requires there { IsTrue P.tells → Above tree_format (P.present pages.old) block count depth at }
-    ensures wrote { IfOk result (λ after. IsTrue P.tells → Promise tree_format (P.present pages.old) (P.present pages.new) block count depth at after.gone.bytes (change_of edit.entry after.gone.lines) after.entries.items) }
-    ensures may_take { IfOk result (λ after. MayTake edit.entry after.gone.lines) }
-    ensures narrow { IfOk result (λ after. AllByRecursion IsNarrow after.entries.items) }
+    requires there { IsTrue P.tells → HasLineBelow tree_format (P.shows pages.old).present top depth at }
+    ensures wrote { IfOk result (λ after. IsTrue P.tells → ChangesBelow tree_format (P.shows pages.old).present (P.shows pages.new).present top depth at after.removed.bytes (change_of edit.entry after.removed.lines) after.entries.items) }
+    ensures may_take { IfOk result (λ after. MayTake edit.entry after.removed.lines) }
+    ensures fields { IfOk result (λ after. AllByRecursion FitsFields after.entries.items) }
     ensures few { IfOk result (λ after. length after.entries.items ≤ 3) }
-    ensures differs { OnOk result (IsTrue P.tells → ChangesFew (P.present pages.old) (P.present pages.new) block count depth at edit.entry (2 * depth + 3)) }
-    ensures committed { IsTrue P.tells → P.committed pages.new ≡ P.committed pages.old }
-    ensures later { P.faults pages.old ≤ P.faults pages.new }
-    ensures failed { result ≡ Err PageErr.Failed → Rose (P.faults pages.old) (P.faults pages.new) }
-    ensures valid { P.valid pages.new }
-    ensures stays { P.stays pages.old pages.new }
+    ensures lines { IfOk result (λ after. lines_below after.entries.items + after.removed.lines ≡ top.lines + added_by edit.entry) }
+    ensures differs { OnOk result (IsTrue P.tells → ChangesFew (P.shows pages.old).present (P.shows pages.new).present top depth at edit.entry (2 * depth + 3)) }
+    ensures kept { Continues P.Pages pages.old pages.new }
+    ensures cause { HasCause (P.shows pages.old).faults (P.shows pages.new).faults (IsErrOf result PageErr.Failed) }
 {
     if depth == 0 {
-        return edit_data(alloc, pages, block, count, at, edit);
+        return edit_data(alloc, pages, top, at, edit);
     }
-    let entries = load_entries(alloc, pages, block)?;
-    let Some(place) = find_place(&entries, at) else {
-        pages.damaged();
-        return Err(PageErr::Failed);
-    };
-    let entry = place.entry;
-    let below = edit_below(
-        alloc,
-        pages,
-        depth - 1,
-        entry.block,
-        entry.pages,
-        place.rest,
-        edit,
-    )?;
+    let entries = load_entries(alloc, pages, top)?;
+    let place = find_place(&entries, at);
+    let below = edit_below(alloc, pages, depth - 1, place.entry, place.rest, edit)?;
     let all = replace_entry(alloc, &entries, place.index, &below.entries)?;
-    let above = write_pointers(alloc, pages, block, all)?;
+    let above = write_pointers(alloc, pages, top.block, all)?;
     Ok(Edited {
         entries: above,
-        gone: below.gone,
+        removed: below.removed,
     })
 }
 
-/// What an edit leaves of the tree: its height, and the lines that were taken out.
+/// What an edit leaves of the tree: its root, and the lines that were taken out.
 #[derive(Clone, Copy, Debug, PartialEq, Eq)]
 pub struct EditedTree {
-    pub height: u64,
-    pub gone: Gone,
+    pub root: Root,
+    pub removed: Removed,
 }
 
-/// Edits the tree, whose data blocks lie `height` levels below block 1, at one of its lines, counted from 0.
+/// Edits the tree at one of its lines, counted from 0.
 pub fn edit_tree<P: Pages>(
     alloc: Global,
     pages: &mut P,
-    height: u64,
+    root: Root,
     at: u64,
     edit: Edit<'_>,
 ) -> Result<EditedTree, PageErr>
     requires valid { P.valid pages.old }
+    requires within { at < root.lines }
+    requires small { root.lines < 2 ^ 62 }
     requires edit { IsEdit edit }
-    requires there { IsTrue P.tells → (lines : List (List ℕ)) × HasLines tree_format (P.present pages.old) height lines × (at < length lines) × (length lines < 2 ^ 62) }
-    ensures edited { IfOk result (λ after. IsTrue P.tells → (lines : List (List ℕ)) → HasLines tree_format (P.present pages.old) height lines → at < length lines → length lines < 2 ^ 62 →
-        HasLines tree_format (P.present pages.new) after.height (edited (change_of edit.entry after.gone.lines) lines at) × Takes (change_of edit.entry after.gone.lines) lines at after.gone.bytes) }
-    ensures may_take { IfOk result (λ after. MayTake edit.entry after.gone.lines) }
-    ensures higher { IfOk result (λ after. after.height ≤ height + 1) }
-    ensures differs { OnOk result (IsTrue P.tells → (lines : List (List ℕ)) → HasLines tree_format (P.present pages.old) height lines → at < length lines → length lines < 2 ^ 62 → IsSlight edit.entry (get_or lines at []) → Differs (P.present pages.old) (P.present pages.new) (2 * height + 4)) }
-    ensures committed { IsTrue P.tells → P.committed pages.new ≡ P.committed pages.old }
-    ensures later { P.faults pages.old ≤ P.faults pages.new }
-    ensures failed { result ≡ Err PageErr.Failed → Rose (P.faults pages.old) (P.faults pages.new) }
-    ensures valid { P.valid pages.new }
-    ensures stays { P.stays pages.old pages.new }
+    requires there { IsTrue P.tells → (lines : List (List ℕ)) × HasTree (P.shows pages.old).present root lines }
+    ensures edited { IfOk result (λ after. IsTrue P.tells → (lines : List (List ℕ)) → HasTree (P.shows pages.old).present root lines →
+        HasLines tree_format (P.shows pages.new).present after.root.height (edited (change_of edit.entry after.removed.lines) lines at) × Takes (change_of edit.entry after.removed.lines) lines at after.removed.bytes) }
+    ensures lines { IfOk result (λ after. after.root.lines + after.removed.lines ≡ root.lines + added_by edit.entry) }
+    ensures may_take { IfOk result (λ after. MayTake edit.entry after.removed.lines) }
+    ensures higher { IfOk result (λ after. after.root.height ≤ root.height + 1) }
+    ensures differs { OnOk result (IsTrue P.tells → (lines : List (List ℕ)) → HasTree (P.shows pages.old).present root lines → IsOnePageEdit edit.entry (get_or lines at []) → Differs (P.shows pages.old).present (P.shows pages.new).present (2 * root.height + 4)) }
+    ensures kept { Continues P.Pages pages.old pages.new }
+    ensures cause { HasCause (P.shows pages.old).faults (P.shows pages.new).faults (IsErrOf result PageErr.Failed) }
 {
-    if pages.count() <= height {
+    if pages.count() <= root.height {
         pages.damaged();
         return Err(PageErr::Failed);
     }
-    let entries = load_entries(alloc, pages, 1)?;
-    let Some(place) = find_place(&entries, at) else {
-        pages.damaged();
-        return Err(PageErr::Failed);
-    };
-    let entry = place.entry;
+    let entries = load_entries(alloc, pages, root.entry())?;
+    let place = find_place(&entries, at);
     let below = edit_below(
         alloc,
         pages,
-        height.saturating_sub(1),
-        entry.block,
-        entry.pages,
+        root.height.saturating_sub(1),
+        place.entry,
         place.rest,
         edit,
     )?;
     let all = replace_entry(alloc, &entries, place.index, &below.entries)?;
     let more = write_root(alloc, pages, all)?;
     Ok(EditedTree {
-        height: height + more,
-        gone: below.gone,
+        root: Root {
+            height: root.height + more,
+            lines: root.lines + edit.added() - below.removed.lines,
+        },
+        removed: below.removed,
     })
 }

@@ -1,14 +1,14 @@
 // Runs of lines, copied a data block at a time.
-ghost use Rattle.std.specs.Prelude.{◌≡◌, ◌≤◌, ◌<◌, ◌+◌, ◌-◌, ◌^◌, ◌++◌, ◌∷◌, [], ℕ, List, All, Some, Ok, Err, IfOk, OnOk, IsTrue, length, take, drop};
-ghost use Rattle.vs_faults.specs.Faults.{Rose};
+ghost use Rattle.std.specs.Prelude.{◌≡◌, ◌≤◌, ◌<◌, ◌+◌, ◌-◌, ◌^◌, ◌++◌, ◌∷◌, [], ℕ, List, All, Some, Ok, IsErrOf, IfOk, OnOk, IsTrue, length, take, drop};
+ghost use Rattle.vs_faults.specs.Faults.{HasCause};
+ghost use Rattle.vs_pages.specs.Calls.{OnlyReads};
 ghost use Rattle.vs_data.specs.Blocks.{lines_in, view_in};
 ghost use Rattle.vs_text.specs.Text.{plain_line};
 ghost use Rattle.vs_text.specs.Limits.{IsShort};
-ghost use Rattle.vs_tree_laws.specs.Trees.{HasLines};
-ghost use Rattle.vs_tree_blocks.specs.Blocks.{tree_format};
+ghost use Rattle.vs_tree.specs.Runs.{HasTree};
 ghost use Rattle.vs_tree.specs.Reads.{AddsLines, file_of_stored};
 
-use crate::find_line;
+use crate::{Root, find_line};
 use std::alloc::{AllocError, Global};
 use vs_data::DataView;
 use vs_pages::{PageErr, Pages};
@@ -57,7 +57,7 @@ fn append_lines(
 fn copy_block<P: Pages>(
     alloc: Global,
     pages: &mut P,
-    height: u64,
+    root: Root,
     at: u64,
     most: u64,
     block: &mut Vec<u8>,
@@ -65,25 +65,18 @@ fn copy_block<P: Pages>(
 ) -> Result<u64, PageErr>
     requires valid { P.valid pages.old }
     requires some { 0 < most }
-    requires there { IsTrue P.tells → (lines : List (List ℕ)) × HasLines tree_format (P.present pages.old) height lines × (at < length lines) × (length lines < 2 ^ 62) × All IsShort lines }
+    requires within { at < root.lines }
+    requires small { root.lines < 2 ^ 62 }
+    requires there { IsTrue P.tells → (lines : List (List ℕ)) × HasTree (P.shows pages.old).present root lines × All IsShort lines }
     ensures some { IfOk result (λ count. (0 < count) × (count ≤ most)) }
-    ensures lines { IfOk result (λ count. IsTrue P.tells → (lines : List (List ℕ)) → HasLines tree_format (P.present pages.old) height lines → at < length lines → length lines < 2 ^ 62 → into.new.items ≡ into.old.items ++ file_of_stored (take count (drop at lines))) }
+    ensures lines { IfOk result (λ count. IsTrue P.tells → (lines : List (List ℕ)) → HasTree (P.shows pages.old).present root lines → into.new.items ≡ into.old.items ++ file_of_stored (take count (drop at lines))) }
     ensures adds { IfOk result (λ count. AddsLines into.old.items into.new.items count) }
-    ensures present { IsTrue P.tells → P.present pages.new ≡ P.present pages.old }
-    ensures committed { IsTrue P.tells → P.committed pages.new ≡ P.committed pages.old }
-    ensures later { P.faults pages.old ≤ P.faults pages.new }
-    ensures failed { result ≡ Err PageErr.Failed → Rose (P.faults pages.old) (P.faults pages.new) }
-    ensures valid { P.valid pages.new }
-    ensures stays { P.stays pages.old pages.new }
+    ensures kept { OnlyReads P.Pages pages.old pages.new }
+    ensures cause { HasCause (P.shows pages.old).faults (P.shows pages.new).faults (IsErrOf result PageErr.Failed) }
 {
-    let found = find_line(alloc, pages, height, at)?;
-    let view = load_data(alloc, pages, found.block, found.pages, block)?;
-    let lines = u64::from(view.count);
-    if found.rest >= lines {
-        pages.damaged();
-        return Err(PageErr::Failed);
-    }
-    let count = most.min(lines - found.rest);
+    let found = find_line(alloc, pages, root, at)?;
+    let view = load_data(alloc, pages, found.entry, block)?;
+    let count = most.min(found.entry.lines - found.rest);
     let past = found.rest + count;
     let short = append_lines(view, block, found.rest as u32, past as u32, into)?;
     if !short {
@@ -94,32 +87,29 @@ fn copy_block<P: Pages>(
 }
 
 /// Appends `count` lines of the tree from the line at `at` on to `into`, each followed by byte 10; lines are counted from 0.
-/// Data blocks lie `height` levels below block 1, and each of them is loaded once for all its lines.
+/// Each data block is loaded once for all its lines.
 pub fn copy_stored<P: Pages>(
     alloc: Global,
     pages: &mut P,
-    height: u64,
+    root: Root,
     at: u64,
     count: u64,
     into: &mut Vec<u8>,
 ) -> Result<(), PageErr>
     requires valid { P.valid pages.old }
-    requires few { at + count < 2 ^ 64 }
-    requires there { IsTrue P.tells → (lines : List (List ℕ)) × HasLines tree_format (P.present pages.old) height lines × (at + count ≤ length lines) × (length lines < 2 ^ 62) × All IsShort lines }
-    ensures lines { OnOk result (IsTrue P.tells → (lines : List (List ℕ)) → HasLines tree_format (P.present pages.old) height lines → at + count ≤ length lines → length lines < 2 ^ 62 → into.new.items ≡ into.old.items ++ file_of_stored (take count (drop at lines))) }
+    requires within { at + count ≤ root.lines }
+    requires small { root.lines < 2 ^ 62 }
+    requires there { IsTrue P.tells → (lines : List (List ℕ)) × HasTree (P.shows pages.old).present root lines × All IsShort lines }
+    ensures lines { OnOk result (IsTrue P.tells → (lines : List (List ℕ)) → HasTree (P.shows pages.old).present root lines → into.new.items ≡ into.old.items ++ file_of_stored (take count (drop at lines))) }
     ensures adds { OnOk result (AddsLines into.old.items into.new.items count) }
-    ensures present { IsTrue P.tells → P.present pages.new ≡ P.present pages.old }
-    ensures committed { IsTrue P.tells → P.committed pages.new ≡ P.committed pages.old }
-    ensures later { P.faults pages.old ≤ P.faults pages.new }
-    ensures failed { result ≡ Err PageErr.Failed → Rose (P.faults pages.old) (P.faults pages.new) }
-    ensures valid { P.valid pages.new }
-    ensures stays { P.stays pages.old pages.new }
+    ensures kept { OnlyReads P.Pages pages.old pages.new }
+    ensures cause { HasCause (P.shows pages.old).faults (P.shows pages.new).faults (IsErrOf result PageErr.Failed) }
 {
     let mut block = Vec::new(alloc);
     let mut place = at;
     let mut left = count;
     'copies: while left > 0 {
-        let copied = copy_block(alloc, pages, height, place, left, &mut block, into)?;
+        let copied = copy_block(alloc, pages, root, place, left, &mut block, into)?;
         place += copied;
         left -= copied;
     }

@@ -10,9 +10,10 @@ mod texts;
 mod tree;
 mod walk;
 
-pub use change::{EditedTree, edit_tree};
-pub use copy::copy_stored;
-pub use runs::{Taken, put_lines, put_run, take_lines};
-pub use texts::{Extent, splice_text};
+use change::edit_tree;
+use copy::copy_stored;
+use runs::exchange_lines;
+pub use texts::Extent;
+use texts::splice_text;
 pub use tree::{LineTree, TreeStore};
-pub use walk::{Found, find_line, load_stored};
+use walk::{Root, find_line, load_stored};

@@ -1,17 +1,16 @@
 // Runs of lines that are put into the tree or taken out, a data block at a time.
-ghost use Rattle.std.specs.Prelude.{◌≡◌, ◌≤◌, ◌<◌, ◌+◌, ◌*◌, ◌^◌, ◌∷◌, [], ℕ, List, All, Err, IfOk, OnOk, IsTrue, get_or, length, map, take};
-ghost use Rattle.vs_faults.specs.Faults.{Rose};
+ghost use Rattle.std.specs.Prelude.{◌≡◌, ◌≤◌, ◌<◌, ◌+◌, ◌*◌, ◌^◌, ◌∷◌, [], ℕ, List, All, IsErrOf, IfOk, OnOk, IsTrue, get_or, length, map, take};
+ghost use Rattle.vs_faults.specs.Faults.{HasCause};
+ghost use Rattle.vs_pages.specs.Calls.{Continues};
 ghost use Rattle.vs_text.specs.Text.{bytes_of, stored_line};
 ghost use Rattle.vs_text.specs.Limits.{IsShort};
-ghost use Rattle.vs_tree_laws.specs.Trees.{HasLines};
-ghost use Rattle.vs_tree_laws.specs.Changes.{splice};
-ghost use Rattle.vs_tree_laws.specs.Differs.{Differs};
-ghost use Rattle.vs_tree_blocks.specs.Edits.{IsBrief, IsStored};
-ghost use Rattle.vs_tree_blocks.specs.Blocks.{tree_format};
+ghost use Rattle.vs_tree_shape.specs.Changes.{splice};
+ghost use Rattle.vs_tree_shape.specs.Differs.{Differs};
+ghost use Rattle.vs_tree_blocks.specs.Edits.{FitsPage, IsStored};
 ghost use Rattle.vs_data.specs.Blocks.{space_of};
-ghost use Rattle.vs_tree.specs.Runs.{IsPlaceIn, IsRunIn, with_lines, without_lines, run_of};
+ghost use Rattle.vs_tree.specs.Runs.{ExchangesLine, HasTree, with_lines, without_lines, run_of};
 
-use crate::edit_tree;
+use crate::{Root, edit_tree};
 use std::alloc::{AllocError, Global};
 use vs_pages::{PageErr, Pages};
 use vs_text::{Line, to_stored};
@@ -50,70 +49,71 @@ fn fill_run(alloc: Global, lines: &[Line]) -> Result<Run, AllocError>
     Ok(run)
 }
 
-/// Puts a run of lines before the line at `at`, or last where `at` is the number of lines, and gives the tree's height then.
+/// Puts a run of lines before the line at `at`, or last where `at` is the number of lines, and gives the root then.
 pub fn put_run<P: Pages>(
     alloc: Global,
     pages: &mut P,
-    height: u64,
+    root: Root,
     at: u64,
     run: &Run,
-) -> Result<u64, PageErr>
+) -> Result<Root, PageErr>
     requires valid { P.valid pages.old }
-    requires few { length run.now < 2 ^ 62 }
-    requires there { IsTrue P.tells → (lines : List (List ℕ)) × HasLines tree_format (P.present pages.old) height lines × IsPlaceIn lines at }
-    ensures put { IfOk result (λ higher. IsTrue P.tells → (lines : List (List ℕ)) → HasLines tree_format (P.present pages.old) height lines → IsPlaceIn lines at → HasLines tree_format (P.present pages.new) higher (splice lines at 0 run.now)) }
-    ensures higher { IfOk result (λ higher. higher ≤ height + 1) }
-    ensures differs { OnOk result (IsTrue P.tells → (lines : List (List ℕ)) → HasLines tree_format (P.present pages.old) height lines → IsPlaceIn lines at → space_of run.now ≤ 4072 → Differs (P.present pages.old) (P.present pages.new) (2 * height + 4)) }
-    ensures committed { IsTrue P.tells → P.committed pages.new ≡ P.committed pages.old }
-    ensures later { P.faults pages.old ≤ P.faults pages.new }
-    ensures failed { result ≡ Err PageErr.Failed → Rose (P.faults pages.old) (P.faults pages.new) }
-    ensures valid { P.valid pages.new }
-    ensures stays { P.stays pages.old pages.new }
+    requires within { at ≤ root.lines }
+    requires some { 0 < root.lines }
+    requires small { root.lines < 2 ^ 61 }
+    requires few { length run.now < 2 ^ 61 }
+    requires there { IsTrue P.tells → (lines : List (List ℕ)) × HasTree (P.shows pages.old).present root lines }
+    ensures put { IfOk result (λ now. IsTrue P.tells → (lines : List (List ℕ)) → HasTree (P.shows pages.old).present root lines → HasTree (P.shows pages.new).present now (splice lines at 0 run.now)) }
+    ensures lines { IfOk result (λ now. now.lines ≡ root.lines + length run.now) }
+    ensures higher { IfOk result (λ now. now.height ≤ root.height + 1) }
+    ensures differs { OnOk result (IsTrue P.tells → (lines : List (List ℕ)) → HasTree (P.shows pages.old).present root lines → space_of run.now ≤ 4072 → Differs (P.shows pages.old).present (P.shows pages.new).present (2 * root.height + 4)) }
+    ensures kept { Continues P.Pages pages.old pages.new }
+    ensures cause { HasCause (P.shows pages.old).faults (P.shows pages.new).faults (IsErrOf result PageErr.Failed) }
 {
     if at == 0 {
-        let before = edit_tree(alloc, pages, height, 0, Edit::Before(run))?;
-        return Ok(before.height);
+        let before = edit_tree(alloc, pages, root, 0, Edit::Before(run))?;
+        return Ok(before.root);
     }
-    let after = edit_tree(alloc, pages, height, at - 1, Edit::After(run))?;
-    Ok(after.height)
+    let after = edit_tree(alloc, pages, root, at - 1, Edit::After(run))?;
+    Ok(after.root)
 }
 
-/// Puts lines before the line at `at`, or last where `at` is the number of lines, and gives the tree's height then.
+/// Puts lines before the line at `at`, or last where `at` is the number of lines, and gives the root then.
 pub fn put_lines<P: Pages>(
     alloc: Global,
     pages: &mut P,
-    height: u64,
+    root: Root,
     at: u64,
     new: &[Line],
-) -> Result<u64, PageErr>
+) -> Result<Root, PageErr>
     requires valid { P.valid pages.old }
     requires short { All IsShort new.now }
-    requires few { at + length new.now < 2 ^ 62 }
-    requires there { IsTrue P.tells → (lines : List (List ℕ)) × HasLines tree_format (P.present pages.old) height lines × IsPlaceIn lines at × (length lines + length new.now < 2 ^ 61) }
-    ensures put { IfOk result (λ higher. IsTrue P.tells → (lines : List (List ℕ)) → HasLines tree_format (P.present pages.old) height lines → IsPlaceIn lines at → length lines + length new.now < 2 ^ 61 → HasLines tree_format (P.present pages.new) higher (with_lines lines at new.now)) }
-    ensures higher { IfOk result (λ higher. higher ≤ height + length new.now) }
-    ensures differs { OnOk result (IsTrue P.tells → (lines : List (List ℕ)) → HasLines tree_format (P.present pages.old) height lines → IsPlaceIn lines at → length lines + length new.now < 2 ^ 61 → length new.now ≤ 1 → All IsBrief new.now → Differs (P.present pages.old) (P.present pages.new) (2 * height + 4)) }
-    ensures committed { IsTrue P.tells → P.committed pages.new ≡ P.committed pages.old }
-    ensures later { P.faults pages.old ≤ P.faults pages.new }
-    ensures failed { result ≡ Err PageErr.Failed → Rose (P.faults pages.old) (P.faults pages.new) }
-    ensures valid { P.valid pages.new }
-    ensures stays { P.stays pages.old pages.new }
+    requires within { at ≤ root.lines }
+    requires some { 0 < root.lines }
+    requires small { root.lines + length new.now < 2 ^ 61 }
+    requires there { IsTrue P.tells → (lines : List (List ℕ)) × HasTree (P.shows pages.old).present root lines }
+    ensures put { IfOk result (λ now. IsTrue P.tells → (lines : List (List ℕ)) → HasTree (P.shows pages.old).present root lines → HasTree (P.shows pages.new).present now (with_lines lines at new.now)) }
+    ensures lines { IfOk result (λ now. now.lines ≡ root.lines + length new.now) }
+    ensures higher { IfOk result (λ now. now.height ≤ root.height + length new.now) }
+    ensures differs { OnOk result (IsTrue P.tells → (lines : List (List ℕ)) → HasTree (P.shows pages.old).present root lines → length new.now ≤ 1 → All FitsPage new.now → Differs (P.shows pages.old).present (P.shows pages.new).present (2 * root.height + 4)) }
+    ensures kept { Continues P.Pages pages.old pages.new }
+    ensures cause { HasCause (P.shows pages.old).faults (P.shows pages.new).faults (IsErrOf result PageErr.Failed) }
 {
-    let mut higher = height;
+    let mut now = root;
     let mut put = 0;
     'runs: while put < new.len() {
         let run = fill_run(alloc, &new[put..])?;
-        higher = put_run(alloc, pages, higher, at + put as u64, &run)?;
+        now = put_run(alloc, pages, now, at + put as u64, &run)?;
         put += run.len() as usize;
     }
-    Ok(higher)
+    Ok(now)
 }
 
-/// What is left of a tree from which lines were taken: its height, and the number of bytes of these lines with one for
-/// each line end.
+/// What is left of a tree from which lines were taken: its root, and the number of bytes of these lines with one for each
+/// line end.
 #[derive(Clone, Copy, Debug, PartialEq, Eq)]
 pub struct Taken {
-    pub height: u64,
+    pub root: Root,
     pub bytes: u64,
 }
 
@@ -121,36 +121,65 @@ pub struct Taken {
 pub fn take_lines<P: Pages>(
     alloc: Global,
     pages: &mut P,
-    height: u64,
+    root: Root,
     at: u64,
     count: u64,
 ) -> Result<Taken, PageErr>
     requires valid { P.valid pages.old }
-    requires there { IsTrue P.tells → (lines : List (List ℕ)) × HasLines tree_format (P.present pages.old) height lines × IsRunIn lines at count }
-    ensures taken { IfOk result (λ taken. IsTrue P.tells → (lines : List (List ℕ)) → HasLines tree_format (P.present pages.old) height lines → IsRunIn lines at count → HasLines tree_format (P.present pages.new) taken.height (without_lines lines at count)) }
-    ensures bytes { IfOk result (λ taken. IsTrue P.tells → (lines : List (List ℕ)) → HasLines tree_format (P.present pages.old) height lines → IsRunIn lines at count → taken.bytes ≡ bytes_of (run_of lines at count)) }
-    ensures differs { OnOk result (IsTrue P.tells → (lines : List (List ℕ)) → HasLines tree_format (P.present pages.old) height lines → IsRunIn lines at count → count ≤ 1 → All IsBrief (run_of lines at count) → Differs (P.present pages.old) (P.present pages.new) (2 * height + 4)) }
-    ensures committed { IsTrue P.tells → P.committed pages.new ≡ P.committed pages.old }
-    ensures later { P.faults pages.old ≤ P.faults pages.new }
-    ensures failed { result ≡ Err PageErr.Failed → Rose (P.faults pages.old) (P.faults pages.new) }
-    ensures valid { P.valid pages.new }
-    ensures stays { P.stays pages.old pages.new }
+    requires within { at + count ≤ root.lines }
+    requires small { root.lines < 2 ^ 61 }
+    requires there { IsTrue P.tells → (lines : List (List ℕ)) × HasTree (P.shows pages.old).present root lines }
+    ensures taken { IfOk result (λ taken. IsTrue P.tells → (lines : List (List ℕ)) → HasTree (P.shows pages.old).present root lines → HasTree (P.shows pages.new).present taken.root (without_lines lines at count)) }
+    ensures bytes { IfOk result (λ taken. IsTrue P.tells → (lines : List (List ℕ)) → HasTree (P.shows pages.old).present root lines → bytes_of lines < 2 ^ 63 → taken.bytes ≡ bytes_of (run_of lines at count)) }
+    ensures lines { IfOk result (λ taken. taken.root.lines + count ≡ root.lines) }
+    ensures higher { IfOk result (λ taken. taken.root.height ≤ root.height + count) }
+    ensures differs { OnOk result (IsTrue P.tells → (lines : List (List ℕ)) → HasTree (P.shows pages.old).present root lines → count ≤ 1 → All FitsPage (run_of lines at count) → Differs (P.shows pages.old).present (P.shows pages.new).present (2 * root.height + 4)) }
+    ensures kept { Continues P.Pages pages.old pages.new }
+    ensures cause { HasCause (P.shows pages.old).faults (P.shows pages.new).faults (IsErrOf result PageErr.Failed) }
 {
-    let mut higher = height;
+    let mut now = root;
     let mut bytes: u64 = 0;
-    let mut gone: u64 = 0;
-    'gone: while gone < count {
-        let after = edit_tree(alloc, pages, higher, at, Edit::Remove(count - gone))?;
-        let Some(sum) = bytes.checked_add(after.gone.bytes) else {
-            pages.damaged();
-            return Err(PageErr::Failed);
-        };
-        bytes = sum;
-        higher = after.height;
-        gone += after.gone.lines;
+    let mut removed: u64 = 0;
+    'rounds: while removed < count {
+        let after = edit_tree(alloc, pages, now, at, Edit::Remove(count - removed))?;
+        bytes = bytes.saturating_add(after.removed.bytes);
+        now = after.root;
+        removed += after.removed.lines;
     }
-    Ok(Taken {
-        height: higher,
-        bytes,
-    })
+    Ok(Taken { root: now, bytes })
+}
+
+/// Puts lines in place of `old` lines from the line at `top` on, where lines stay or come. Lines go out first, so that the new
+/// ones find the room that they leave; only where all lines go, the new ones come first, since a tree has one line at least.
+pub fn exchange_lines<P: Pages>(
+    alloc: Global,
+    pages: &mut P,
+    root: Root,
+    top: u64,
+    old: u64,
+    new: &[Line],
+) -> Result<Taken, PageErr>
+    requires valid { P.valid pages.old }
+    requires short { All IsShort new.now }
+    requires within { top + old ≤ root.lines }
+    requires some { 0 < root.lines }
+    requires left { old < root.lines + length new.now }
+    requires small { root.lines + length new.now < 2 ^ 61 }
+    requires there { IsTrue P.tells → (lines : List (List ℕ)) × HasTree (P.shows pages.old).present root lines }
+    ensures exchanged { IfOk result (λ taken. IsTrue P.tells → (lines : List (List ℕ)) → HasTree (P.shows pages.old).present root lines → HasTree (P.shows pages.new).present taken.root (splice lines top old (map stored_line new.now))) }
+    ensures bytes { IfOk result (λ taken. IsTrue P.tells → (lines : List (List ℕ)) → HasTree (P.shows pages.old).present root lines → bytes_of lines + bytes_of new.now < 2 ^ 63 → taken.bytes ≡ bytes_of (run_of lines top old)) }
+    ensures differs { OnOk result (IsTrue P.tells → (lines : List (List ℕ)) → HasTree (P.shows pages.old).present root lines → ExchangesLine lines top old new.now → Differs (P.shows pages.old).present (P.shows pages.new).present (4 * root.height + 10)) }
+    ensures kept { Continues P.Pages pages.old pages.new }
+    ensures cause { HasCause (P.shows pages.old).faults (P.shows pages.new).faults (IsErrOf result PageErr.Failed) }
+{
+    if old < root.lines {
+        let taken = take_lines(alloc, pages, root, top, old)?;
+        let now = put_lines(alloc, pages, taken.root, top, new)?;
+        return Ok(Taken {
+            root: now,
+            bytes: taken.bytes,
+        });
+    }
+    let now = put_lines(alloc, pages, root, top, new)?;
+    take_lines(alloc, pages, now, top + new.len() as u64, old)
 }

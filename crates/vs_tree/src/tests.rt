@@ -2,6 +2,7 @@
 ghost use Rattle.std.specs.Prelude.{◌≡◌, false, OnOk};
 
 mod copies;
+mod damage;
 mod failing;
 mod generated;
 mod splices;
@@ -14,9 +15,9 @@ use vs_pages::failing::FailingPages;
 use vs_pages::{MemPages, PageErr, Pages};
 use vs_text::Line;
 use vs_tree_blocks::{load_data, load_entries};
-use vs_tree_laws::{Entry, count_lines};
+use vs_tree_shape::{Entry, count_lines};
 
-// Puts a line of so many bytes behind the last one, where all that a splice asks for holds.
+// Puts a line of `size` bytes after the last one, where all that a splice asks for holds.
 fn push_line<S: LineStore>(alloc: Global, store: &mut S, size: u64) -> Result<bool, StoreErr>
     requires { S.valid store.old }
     ensures { OnOk result (S.valid store.new) }
@@ -50,7 +51,7 @@ fn push_lines<S: LineStore>(
 #[test]
 fn lines_take_the_pages_that_the_layout_says(rt: HostRuntime) -> Result<(), Fail> {
     let alloc = rt.alloc();
-    for (size, pages) in [(4_067, 1), (4_068, 2), (1_048_576, 257)] {
+    for (size, count) in [(4_067, 3), (4_068, 4), (1_048_576, 259)] {
         let mut memory = MemPages::new(alloc)?;
         let mut tree = LineTree::new(alloc, &mut memory)?;
         let mut store = TreeStore {
@@ -58,7 +59,7 @@ fn lines_take_the_pages_that_the_layout_says(rt: HostRuntime) -> Result<(), Fail
             pages: memory,
         };
         assert!(rt; push_line(alloc, &mut store, size)?);
-        assert_eq!(rt; store.pages.count(), 2 + pages, "{size} bytes");
+        assert_eq!(rt; store.pages.count(), count, "{size} bytes");
         assert_eq!(rt; store.len(), 1);
         let mut line = Vec::new(alloc);
         if store.len() == 1 {
@@ -82,8 +83,8 @@ fn count_single_lines<P: Pages>(
     let mut count = 0u64;
     let mut bytes = Vec::new(alloc);
     for above in root {
-        for entry in load_entries(alloc, pages, above.block)? {
-            let view = load_data(alloc, pages, entry.block, 1, &mut bytes)?;
+        for entry in load_entries(alloc, pages, *above)? {
+            let view = load_data(alloc, pages, entry, &mut bytes)?;
             if entry.pages == 1 && entry.lines == 1 && view.count == 1 {
                 count = count.saturating_add(1);
             }
@@ -105,12 +106,14 @@ fn the_root_grows_behind_127_blocks(rt: HostRuntime) -> Result<(), Fail> {
     assert!(rt; push_lines(alloc, &mut store, 127, 4_067)?);
     assert_eq!(rt; store.tree.present.height, 1);
     assert_eq!(rt; store.pages.count(), 2 + 127);
-    assert_eq!(rt; load_entries(alloc, &mut store.pages, 1)?.len(), 127);
+    let top = store.tree.present.root().entry();
+    assert_eq!(rt; load_entries(alloc, &mut store.pages, top)?.len(), 127);
 
     assert!(rt; push_line(alloc, &mut store, 4_067)?);
     assert_eq!(rt; store.tree.present.height, 2);
     assert_eq!(rt; store.pages.count(), 2 + 2 + 128);
-    let root = load_entries(alloc, &mut store.pages, 1)?;
+    let top = store.tree.present.root().entry();
+    let root = load_entries(alloc, &mut store.pages, top)?;
     assert_eq!(rt; count_lines(&root), Some(128));
     assert_eq!(rt; count_single_lines(alloc, &mut store.pages, &root)?, 128);
 

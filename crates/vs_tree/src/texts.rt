@@ -1,19 +1,19 @@
 // The text of the tree, spliced.
-ghost use Rattle.std.specs.Prelude.{◌≡◌, ◌≤◌, ◌<◌, ◌+◌, ◌*◌, ◌-◌, ◌^◌, [], ℕ, List, All, Err, IfOk, OnOk, IsTrue, length};
-ghost use Rattle.vs_faults.specs.Faults.{Rose};
+ghost use Rattle.std.specs.Prelude.{◌≡◌, ◌≤◌, ◌<◌, ◌+◌, ◌*◌, ◌-◌, ◌^◌, [], ℕ, List, All, IsErrOf, IfOk, OnOk, IsTrue, length};
+ghost use Rattle.vs_faults.specs.Faults.{HasCause};
+ghost use Rattle.vs_pages.specs.Calls.{Continues};
 ghost use Rattle.vs_text.specs.Text.{IsText, bytes_of};
 ghost use Rattle.vs_text.specs.Limits.{IsShort};
 ghost use Rattle.vs_text.specs.declared.TheConstants.{MAX_LINES, MAX_TEXT_BYTES};
 ghost use Rattle.vs_edit.specs.Splices.{splice};
-ghost use Rattle.vs_tree_laws.specs.Differs.{Differs};
-ghost use Rattle.vs_tree_blocks.specs.Edits.{IsBrief};
+ghost use Rattle.vs_tree_shape.specs.Differs.{Differs};
+ghost use Rattle.vs_tree_blocks.specs.Edits.{FitsPage};
 ghost use Rattle.vs_tree.specs.Texts.{HasText, Fits, IsSmallSplice};
 
-use crate::{put_lines, put_run, take_lines};
+use crate::{Root, exchange_lines};
 use std::alloc::Global;
 use vs_pages::{PageErr, Pages};
 use vs_text::Line;
-use vs_tree_blocks::Run;
 
 /// The numbers of a text in pages: the number of levels between block 1 and the data blocks, and the numbers of lines and
 /// bytes of the text, with one byte for each line end. The text without lines has the lines of one empty line in its tree.
@@ -22,6 +22,20 @@ pub struct Extent {
     pub height: u64,
     pub lines: u64,
     pub bytes: u64,
+}
+
+impl Extent {
+    ghost use Rattle.vs_tree.specs.Texts.{tree_lines};
+
+    /// The root of the tree.
+    pub fn root(self) -> Root
+        ensures { result ≡ record { height = self.height; lines = tree_lines self.lines } }
+    {
+        Root {
+            height: self.height,
+            lines: if self.lines == 0 { 1 } else { self.lines },
+        }
+    }
 }
 
 // The number of bytes of lines, with one for each line end.
@@ -47,27 +61,23 @@ fn fill_text<P: Pages>(
     new: &[Line],
 ) -> Result<Extent, PageErr>
     requires valid { P.valid pages.old }
-    requires fits { Fits P.tells (P.present pages.old) now }
+    requires fits { Fits P.tells (P.shows pages.old).present now }
     requires empty { now.lines ≡ 0 }
     requires few_lines { length new.now ≤ MAX_LINES }
     requires short_lines { All IsShort new.now }
     requires few_bytes { IsTrue P.tells → bytes_of new.now ≤ MAX_TEXT_BYTES }
-    ensures text { IfOk result (λ extent. IsTrue P.tells → HasText (P.present pages.new) extent new.now) }
+    ensures text { IfOk result (λ extent. IsTrue P.tells → HasText (P.shows pages.new).present extent new.now) }
     ensures lines { IfOk result (λ extent. extent.lines ≡ length new.now) }
-    ensures differs { OnOk result (IsTrue P.tells → length new.now ≤ 1 → All IsBrief new.now → Differs (P.present pages.old) (P.present pages.new) (4 * now.height + 10)) }
-    ensures committed { IsTrue P.tells → P.committed pages.new ≡ P.committed pages.old }
-    ensures later { P.faults pages.old ≤ P.faults pages.new }
-    ensures failed { result ≡ Err PageErr.Failed → Rose (P.faults pages.old) (P.faults pages.new) }
-    ensures valid { P.valid pages.new }
-    ensures stays { P.stays pages.old pages.new }
+    ensures differs { OnOk result (IsTrue P.tells → length new.now ≤ 1 → All FitsPage new.now → Differs (P.shows pages.old).present (P.shows pages.new).present (4 * now.height + 10)) }
+    ensures kept { Continues P.Pages pages.old pages.new }
+    ensures cause { HasCause (P.shows pages.old).faults (P.shows pages.new).faults (IsErrOf result PageErr.Failed) }
 {
     if new.is_empty() {
         return Ok(now);
     }
-    let height = put_lines(alloc, pages, now.height, 0, new)?;
-    let taken = take_lines(alloc, pages, height, new.len() as u64, 1)?;
+    let taken = exchange_lines(alloc, pages, now.root(), 0, 1, new)?;
     Ok(Extent {
-        height: taken.height,
+        height: taken.root.height,
         lines: new.len() as u64,
         bytes: count_bytes(new),
     })
@@ -76,22 +86,18 @@ fn fill_text<P: Pages>(
 // Takes out all lines of a text that has lines.
 fn clear_text<P: Pages>(alloc: Global, pages: &mut P, now: Extent) -> Result<Extent, PageErr>
     requires valid { P.valid pages.old }
-    requires fits { Fits P.tells (P.present pages.old) now }
+    requires fits { Fits P.tells (P.shows pages.old).present now }
     requires full { 0 < now.lines }
-    ensures text { IfOk result (λ extent. IsTrue P.tells → HasText (P.present pages.new) extent []) }
+    ensures text { IfOk result (λ extent. IsTrue P.tells → HasText (P.shows pages.new).present extent []) }
     ensures lines { IfOk result (λ extent. extent.lines ≡ 0) }
-    ensures differs { OnOk result (IsTrue P.tells → (text : List (List ℕ)) → HasText (P.present pages.old) now text → now.lines ≤ 1 → All IsBrief text → Differs (P.present pages.old) (P.present pages.new) (4 * now.height + 10)) }
-    ensures committed { IsTrue P.tells → P.committed pages.new ≡ P.committed pages.old }
-    ensures later { P.faults pages.old ≤ P.faults pages.new }
-    ensures failed { result ≡ Err PageErr.Failed → Rose (P.faults pages.old) (P.faults pages.new) }
-    ensures valid { P.valid pages.new }
-    ensures stays { P.stays pages.old pages.new }
+    ensures differs { OnOk result (IsTrue P.tells → (text : List (List ℕ)) → HasText (P.shows pages.old).present now text → now.lines ≤ 1 → All FitsPage text → Differs (P.shows pages.old).present (P.shows pages.new).present (4 * now.height + 10)) }
+    ensures kept { Continues P.Pages pages.old pages.new }
+    ensures cause { HasCause (P.shows pages.old).faults (P.shows pages.new).faults (IsErrOf result PageErr.Failed) }
 {
-    let empty = Run::of(alloc, &[])?;
-    let height = put_run(alloc, pages, now.height, 0, &empty)?;
-    let taken = take_lines(alloc, pages, height, 1, now.lines)?;
+    let empty = [Line::from_vec(Vec::new(alloc))];
+    let taken = exchange_lines(alloc, pages, now.root(), 0, now.lines, &empty)?;
     Ok(Extent {
-        height: taken.height,
+        height: taken.root.height,
         lines: 0,
         bytes: 0,
     })
@@ -107,34 +113,27 @@ fn replace_lines<P: Pages>(
     new: &[Line],
 ) -> Result<Extent, PageErr>
     requires valid { P.valid pages.old }
-    requires fits { Fits P.tells (P.present pages.old) now }
+    requires fits { Fits P.tells (P.shows pages.old).present now }
     requires full { 0 < now.lines }
     requires within { top + old ≤ now.lines }
     requires left { old < now.lines + length new.now }
     requires few_lines { now.lines + length new.now ≤ MAX_LINES + old }
     requires short_lines { All IsShort new.now }
-    requires few_bytes { IsTrue P.tells → (text : List (List ℕ)) → HasText (P.present pages.old) now text → bytes_of (splice text top old new.now) ≤ MAX_TEXT_BYTES }
-    ensures text { IfOk result (λ extent. IsTrue P.tells → (text : List (List ℕ)) → HasText (P.present pages.old) now text → HasText (P.present pages.new) extent (splice text top old new.now)) }
+    requires few_bytes { IsTrue P.tells → (text : List (List ℕ)) → HasText (P.shows pages.old).present now text → bytes_of (splice text top old new.now) ≤ MAX_TEXT_BYTES }
+    ensures text { IfOk result (λ extent. IsTrue P.tells → (text : List (List ℕ)) → HasText (P.shows pages.old).present now text → HasText (P.shows pages.new).present extent (splice text top old new.now)) }
     ensures lines { IfOk result (λ extent. extent.lines + old ≡ now.lines + length new.now) }
-    ensures differs { OnOk result (IsTrue P.tells → (text : List (List ℕ)) → HasText (P.present pages.old) now text → IsSmallSplice text top old new.now → Differs (P.present pages.old) (P.present pages.new) (4 * now.height + 10)) }
-    ensures committed { IsTrue P.tells → P.committed pages.new ≡ P.committed pages.old }
-    ensures later { P.faults pages.old ≤ P.faults pages.new }
-    ensures failed { result ≡ Err PageErr.Failed → Rose (P.faults pages.old) (P.faults pages.new) }
-    ensures valid { P.valid pages.new }
-    ensures stays { P.stays pages.old pages.new }
+    ensures differs { OnOk result (IsTrue P.tells → (text : List (List ℕ)) → HasText (P.shows pages.old).present now text → IsSmallSplice text top old new.now → Differs (P.shows pages.old).present (P.shows pages.new).present (4 * now.height + 10)) }
+    ensures kept { Continues P.Pages pages.old pages.new }
+    ensures cause { HasCause (P.shows pages.old).faults (P.shows pages.new).faults (IsErrOf result PageErr.Failed) }
 {
-    let height = put_lines(alloc, pages, now.height, top, new)?;
-    let taken = take_lines(alloc, pages, height, top + new.len() as u64, old)?;
-    let Some(sum) = now.bytes.checked_add(count_bytes(new)) else {
-        pages.damaged();
-        return Err(PageErr::Failed);
-    };
+    let taken = exchange_lines(alloc, pages, now.root(), top, old, new)?;
+    let sum = now.bytes + count_bytes(new);
     let Some(bytes) = sum.checked_sub(taken.bytes) else {
         pages.damaged();
         return Err(PageErr::Failed);
     };
     Ok(Extent {
-        height: taken.height,
+        height: taken.root.height,
         lines: now.lines + new.len() as u64 - old,
         bytes,
     })
@@ -150,19 +149,16 @@ pub fn splice_text<P: Pages>(
     new: &[Line],
 ) -> Result<Extent, PageErr>
     requires valid { P.valid pages.old }
-    requires fits { Fits P.tells (P.present pages.old) now }
+    requires fits { Fits P.tells (P.shows pages.old).present now }
     requires within { top + old ≤ now.lines }
     requires few_lines { now.lines + length new.now ≤ MAX_LINES + old }
     requires short_lines { All IsShort new.now }
-    requires few_bytes { IsTrue P.tells → (text : List (List ℕ)) → HasText (P.present pages.old) now text → bytes_of (splice text top old new.now) ≤ MAX_TEXT_BYTES }
-    ensures text { IfOk result (λ extent. IsTrue P.tells → (text : List (List ℕ)) → HasText (P.present pages.old) now text → HasText (P.present pages.new) extent (splice text top old new.now)) }
+    requires few_bytes { IsTrue P.tells → (text : List (List ℕ)) → HasText (P.shows pages.old).present now text → bytes_of (splice text top old new.now) ≤ MAX_TEXT_BYTES }
+    ensures text { IfOk result (λ extent. IsTrue P.tells → (text : List (List ℕ)) → HasText (P.shows pages.old).present now text → HasText (P.shows pages.new).present extent (splice text top old new.now)) }
     ensures lines { IfOk result (λ extent. extent.lines + old ≡ now.lines + length new.now) }
-    ensures differs { OnOk result (IsTrue P.tells → (text : List (List ℕ)) → HasText (P.present pages.old) now text → IsSmallSplice text top old new.now → Differs (P.present pages.old) (P.present pages.new) (4 * now.height + 10)) }
-    ensures committed { IsTrue P.tells → P.committed pages.new ≡ P.committed pages.old }
-    ensures later { P.faults pages.old ≤ P.faults pages.new }
-    ensures failed { result ≡ Err PageErr.Failed → Rose (P.faults pages.old) (P.faults pages.new) }
-    ensures valid { P.valid pages.new }
-    ensures stays { P.stays pages.old pages.new }
+    ensures differs { OnOk result (IsTrue P.tells → (text : List (List ℕ)) → HasText (P.shows pages.old).present now text → IsSmallSplice text top old new.now → Differs (P.shows pages.old).present (P.shows pages.new).present (4 * now.height + 10)) }
+    ensures kept { Continues P.Pages pages.old pages.new }
+    ensures cause { HasCause (P.shows pages.old).faults (P.shows pages.new).faults (IsErrOf result PageErr.Failed) }
 {
     if now.lines == 0 {
         return fill_text(alloc, pages, now, new);

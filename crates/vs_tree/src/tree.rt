@@ -1,12 +1,13 @@
 // The tree of a text, and the store that it makes with pages.
-ghost use Rattle.std.specs.Prelude.{◌≡◌, ◌≤◌, ◌<◌, ◌+◌, ◌*◌, ◌++◌, [], ℕ, List, All, Err, IfOk, OnOk, IsTrue, IsSome, get_or, length, take, drop, refl};
+ghost use Rattle.std.specs.Prelude.{◌≡◌, ◌≤◌, ◌<◌, ◌+◌, ◌*◌, ◌++◌, [], ℕ, List, All, IsErrOf, IfOk, OnOk, IsTrue, get_or, length, take, drop, refl};
 ghost use Rattle.std.proofs.Common.{◌∙◌};
-ghost use Rattle.vs_faults.specs.Faults.{Rose};
-ghost use Rattle.vs_pages.specs.Maps.{pages_at};
+ghost use Rattle.vs_faults.specs.Faults.{HasCause};
+ghost use Rattle.vs_pages.specs.Calls.{Continues, OnlyReads};
 ghost use Rattle.vs_text.specs.Text.{IsLine, bytes_of, file_of};
 ghost use Rattle.vs_text.specs.Limits.{IsShort};
 ghost use Rattle.vs_text.specs.declared.TheConstants.{MAX_LINES, MAX_TEXT_BYTES};
 ghost use Rattle.vs_edit.specs.Splices.{splice};
+ghost use Rattle.vs_tree_blocks.specs.Blocks.{IsFresh};
 ghost use Rattle.vs_tree.specs.Reads.{AddsLines};
 
 use crate::{Extent, copy_stored, load_stored, splice_text};
@@ -28,20 +29,19 @@ pub struct LineTree {
 }
 
 impl LineTree {
-    ghost use Rattle.vs_tree_laws.specs.Differs.{Differs};
+    ghost use Rattle.vs_tree_shape.specs.Differs.{Differs};
     ghost use Rattle.vs_tree.specs.Texts.{HasText, Fits, IsSmallSplice};
 
     /// Writes the tree of the text without lines into the pages 1 and 2, and commits the pages.
     pub fn new<P: Pages>(alloc: Global, pages: &mut P) -> Result<LineTree, PageErr>
         requires valid { P.valid pages.old }
-        requires there { IsTrue P.tells → IsSome (pages_at (P.present pages.old) 1 2) }
-        ensures fits { IfOk result (λ tree. Fits P.tells (P.present pages.new) tree.present × Fits P.tells (P.committed pages.new) tree.committed) }
-        ensures text { IfOk result (λ tree. IsTrue P.tells → HasText (P.present pages.new) tree.present []) }
+        requires there { IsTrue P.tells → IsFresh (P.shows pages.old).present }
+        ensures fits { IfOk result (λ tree. Fits P.tells (P.shows pages.new).present tree.present × Fits P.tells (P.shows pages.new).committed tree.committed) }
+        ensures text { IfOk result (λ tree. IsTrue P.tells → HasText (P.shows pages.new).present tree.present []) }
         ensures empty { IfOk result (λ tree. (tree.present.lines ≡ 0) × (tree.present.bytes ≡ 0)) }
-        ensures later { P.faults pages.old ≤ P.faults pages.new }
-        ensures failed { result ≡ Err PageErr.Failed → Rose (P.faults pages.old) (P.faults pages.new) }
         ensures valid { P.valid pages.new }
         ensures stays { P.stays pages.old pages.new }
+        ensures cause { HasCause (P.shows pages.old).faults (P.shows pages.new).faults (IsErrOf result PageErr.Failed) }
     {
         write_first(alloc, pages)?;
         pages.commit();
@@ -79,20 +79,16 @@ impl LineTree {
         into: &mut Vec<u8>,
     ) -> Result<(), PageErr>
         requires valid { P.valid pages.old }
-        requires fits { Fits P.tells (P.present pages.old) self.old.present }
+        requires fits { Fits P.tells (P.shows pages.old).present self.old.present }
         requires within { at < self.old.present.lines }
-        ensures line { OnOk result (IsTrue P.tells → (text : List (List ℕ)) → HasText (P.present pages.old) self.old.present text → into.new.items ≡ get_or text at []) }
+        ensures line { OnOk result (IsTrue P.tells → (text : List (List ℕ)) → HasText (P.shows pages.old).present self.old.present text → into.new.items ≡ get_or text at []) }
         ensures is_line { OnOk result (IsLine into.new.items) }
         ensures is_short { OnOk result (IsShort into.new.items) }
         ensures tree { self.new ≡ self.old }
-        ensures present { IsTrue P.tells → P.present pages.new ≡ P.present pages.old }
-        ensures committed { IsTrue P.tells → P.committed pages.new ≡ P.committed pages.old }
-        ensures later { P.faults pages.old ≤ P.faults pages.new }
-        ensures failed { result ≡ Err PageErr.Failed → Rose (P.faults pages.old) (P.faults pages.new) }
-        ensures valid { P.valid pages.new }
-        ensures stays { P.stays pages.old pages.new }
+        ensures kept { OnlyReads P.Pages pages.old pages.new }
+        ensures cause { HasCause (P.shows pages.old).faults (P.shows pages.new).faults (IsErrOf result PageErr.Failed) }
     {
-        load_stored(alloc, pages, self.present.height, at, into)?;
+        load_stored(alloc, pages, self.present.root(), at, into)?;
         from_stored(into);
         if MAX_LINE_BYTES < into.len() as u64 {
             pages.damaged();
@@ -114,19 +110,15 @@ impl LineTree {
         into: &mut Vec<u8>,
     ) -> Result<(), PageErr>
         requires valid { P.valid pages.old }
-        requires fits { Fits P.tells (P.present pages.old) self.old.present }
+        requires fits { Fits P.tells (P.shows pages.old).present self.old.present }
         requires within { at + count ≤ self.old.present.lines }
-        ensures lines { OnOk result (IsTrue P.tells → (text : List (List ℕ)) → HasText (P.present pages.old) self.old.present text → into.new.items ≡ into.old.items ++ file_of (take count (drop at text))) }
+        ensures lines { OnOk result (IsTrue P.tells → (text : List (List ℕ)) → HasText (P.shows pages.old).present self.old.present text → into.new.items ≡ into.old.items ++ file_of (take count (drop at text))) }
         ensures adds { OnOk result (AddsLines into.old.items into.new.items count) }
         ensures tree { self.new ≡ self.old }
-        ensures present { IsTrue P.tells → P.present pages.new ≡ P.present pages.old }
-        ensures committed { IsTrue P.tells → P.committed pages.new ≡ P.committed pages.old }
-        ensures later { P.faults pages.old ≤ P.faults pages.new }
-        ensures failed { result ≡ Err PageErr.Failed → Rose (P.faults pages.old) (P.faults pages.new) }
-        ensures valid { P.valid pages.new }
-        ensures stays { P.stays pages.old pages.new }
+        ensures kept { OnlyReads P.Pages pages.old pages.new }
+        ensures cause { HasCause (P.shows pages.old).faults (P.shows pages.new).faults (IsErrOf result PageErr.Failed) }
     {
-        copy_stored(alloc, pages, self.present.height, at, count, into)
+        copy_stored(alloc, pages, self.present.root(), at, count, into)
     }
 
     /// Puts lines in place of `old` lines from line `top` on, counted from 0. After an error the tree may only be rolled back.
@@ -139,21 +131,18 @@ impl LineTree {
         new: &[Line],
     ) -> Result<(), PageErr>
         requires valid { P.valid pages.old }
-        requires fits { Fits P.tells (P.present pages.old) self.old.present }
+        requires fits { Fits P.tells (P.shows pages.old).present self.old.present }
         requires within { top + old ≤ self.old.present.lines }
         requires few_lines { self.old.present.lines + length new.now ≤ MAX_LINES + old }
         requires short_lines { All IsShort new.now }
-        requires few_bytes { IsTrue P.tells → (text : List (List ℕ)) → HasText (P.present pages.old) self.old.present text → bytes_of (splice text top old new.now) ≤ MAX_TEXT_BYTES }
-        ensures text { OnOk result (IsTrue P.tells → (text : List (List ℕ)) → HasText (P.present pages.old) self.old.present text → HasText (P.present pages.new) self.new.present (splice text top old new.now)) }
-        ensures fits { OnOk result (Fits P.tells (P.present pages.new) self.new.present) }
+        requires few_bytes { IsTrue P.tells → (text : List (List ℕ)) → HasText (P.shows pages.old).present self.old.present text → bytes_of (splice text top old new.now) ≤ MAX_TEXT_BYTES }
+        ensures text { OnOk result (IsTrue P.tells → (text : List (List ℕ)) → HasText (P.shows pages.old).present self.old.present text → HasText (P.shows pages.new).present self.new.present (splice text top old new.now)) }
+        ensures fits { OnOk result (Fits P.tells (P.shows pages.new).present self.new.present) }
         ensures lines { OnOk result (self.new.present.lines + old ≡ self.old.present.lines + length new.now) }
-        ensures differs { OnOk result (IsTrue P.tells → (text : List (List ℕ)) → HasText (P.present pages.old) self.old.present text → IsSmallSplice text top old new.now → Differs (P.present pages.old) (P.present pages.new) (4 * self.old.present.height + 10)) }
-        ensures kept { self.new.committed ≡ self.old.committed }
-        ensures committed { IsTrue P.tells → P.committed pages.new ≡ P.committed pages.old }
-        ensures later { P.faults pages.old ≤ P.faults pages.new }
-        ensures failed { result ≡ Err PageErr.Failed → Rose (P.faults pages.old) (P.faults pages.new) }
-        ensures valid { P.valid pages.new }
-        ensures stays { P.stays pages.old pages.new }
+        ensures differs { OnOk result (IsTrue P.tells → (text : List (List ℕ)) → HasText (P.shows pages.old).present self.old.present text → IsSmallSplice text top old new.now → Differs (P.shows pages.old).present (P.shows pages.new).present (4 * self.old.present.height + 10)) }
+        ensures before { self.new.committed ≡ self.old.committed }
+        ensures kept { Continues P.Pages pages.old pages.new }
+        ensures cause { HasCause (P.shows pages.old).faults (P.shows pages.new).faults (IsErrOf result PageErr.Failed) }
     {
         let present = splice_text(alloc, pages, self.present, top, old, new)?;
         if MAX_TEXT_BYTES < present.bytes {
@@ -187,28 +176,16 @@ pub struct TreeStore<'t, P: Pages> {
 }
 
 impl<'t, P: Pages + Drop> LineStore for TreeStore<'t, P> {
-    ghost use Rattle.vs_tree.specs.Texts.{Tells, Fits};
+    ghost use Rattle.vs_tree.specs.Texts.{text_of, Fits};
     ghost use Rattle.vs_tree.specs.Sames.{one_text};
 
     ghost tells = { P.tells };
 
-    ghost has = { λ s text. Tells P.tells (P.present s.pages) s.tree.now.present text };
+    ghost shows = { λ s. record { present = text_of P.tells (P.shows s.pages).present s.tree.now.present; committed = text_of P.tells (P.shows s.pages).committed s.tree.now.committed; faults = (P.shows s.pages).faults } };
 
-    ghost had = { λ s text. Tells P.tells (P.committed s.pages) s.tree.now.committed text };
+    ghost valid = { λ s. P.valid s.pages × Fits P.tells (P.shows s.pages).present s.tree.now.present × Fits P.tells (P.shows s.pages).committed s.tree.now.committed };
 
-    ghost lines = { λ s. s.tree.now.present.lines };
-
-    ghost bytes = { λ s. s.tree.now.present.bytes };
-
-    ghost had_lines = { λ s. s.tree.now.committed.lines };
-
-    ghost had_bytes = { λ s. s.tree.now.committed.bytes };
-
-    ghost faults = { λ s. P.faults s.pages };
-
-    ghost valid = { λ s. P.valid s.pages × Fits P.tells (P.present s.pages) s.tree.now.present × Fits P.tells (P.committed s.pages) s.tree.now.committed };
-
-    ghost safe = { λ s. P.valid s.pages × Fits P.tells (P.committed s.pages) s.tree.now.committed };
+    ghost safe = { λ s. P.valid s.pages × Fits P.tells (P.shows s.pages).committed s.tree.now.committed };
 
     ghost stays = { λ a b. (b.tree.ghost_name ≡ a.tree.ghost_name) × P.stays a.pages b.pages };
 
@@ -216,7 +193,9 @@ impl<'t, P: Pages + Drop> LineStore for TreeStore<'t, P> {
 
     ghost told_one = { λ s v told. let r = v.1.one told in (r.0, record { told = told; has = r.1 }) };
 
-    ghost has_one = { λ s a b h i. one_text (P.present s.pages) s.tree.now.present a b h.has i.has };
+    ghost has_told = { λ s text h. h.told };
+
+    ghost has_one = { λ s a b h i. one_text (P.shows s.pages).present s.tree.now.present a b h.has i.has };
 
     ghost has_lines = { λ s text h. h.has.lines };
 
@@ -246,6 +225,24 @@ impl<'t, P: Pages + Drop> LineStore for TreeStore<'t, P> {
 
     fn line(&mut self, alloc: Global, at: u64, into: &mut Vec<u8>) -> Result<(), StoreErr> {
         match self.tree.line(alloc, &mut self.pages, at, into) {
+            Ok(()) => Ok(()),
+            Err(PageErr::NoMemory) => Err(StoreErr::NoMemory),
+            Err(PageErr::Failed) => Err(StoreErr::Failed),
+        }
+    }
+
+    fn copy_lines(
+        &mut self,
+        alloc: Global,
+        at: u64,
+        count: u64,
+        into: &mut Vec<u8>,
+    ) -> Result<(), StoreErr> {
+        into.clear();
+        match self
+            .tree
+            .copy_lines(alloc, &mut self.pages, at, count, into)
+        {
             Ok(()) => Ok(()),
             Err(PageErr::NoMemory) => Err(StoreErr::NoMemory),
             Err(PageErr::Failed) => Err(StoreErr::Failed),

@@ -10,18 +10,22 @@ use Rattle.vs_data.specs.declared.DataView.{DataView}
 use Rattle.vs_data.specs.Blocks.{lines_in, view_in, Measures}
 use Rattle.vs_data.proofs.Lines.{measured}
 use Rattle.vs_data.proofs.Reading.{has_view, view_bounds}
-use Rattle.vs_tree_laws.specs.declared.entries.Entry.{Entry}
-use Rattle.vs_tree_laws.specs.Trees.{leaf, read_by}
-use Rattle.vs_tree_laws.specs.Changes.{Change, Takes, edited, Promise, Replaces, Wrote, Stored, Added, splice}
-use Rattle.vs_tree_laws.proofs.Writes.{put_leaf, new_leaf, kept_leaf, freed, promise_leaf, replaces_behind, replaces_before, wrote_leaves}
-use Rattle.vs_tree_laws.proofs.Shapes.{read_from}
-use Rattle.vs_tree_laws.proofs.Sums.{halves}
-use Rattle.vs_tree_laws.proofs.Splices.{splice_mid, length_splice}
+use Rattle.vs_tree_shape.specs.declared.entries.Entry.{Entry}
+use Rattle.vs_tree_shape.specs.Trees.{leaf, read_by}
+use Rattle.vs_tree_shape.specs.Changes.{Change, Takes, edited, ChangesBelow, Replaces, ReplacedBy, Stored, Added, splice}
+use Rattle.vs_tree_shape.proofs.Writes.{put_leaf, new_leaf, kept_leaf, freed, promise_leaf, replaces_behind, replaces_before, wrote_leaves}
+use Rattle.vs_tree_shape.proofs.Shapes.{read_from}
+use Rattle.vs_tree_shape.proofs.Sums.{halves}
+use Rattle.vs_tree_shape.proofs.Splices.{splice_mid, length_splice}
 use Rattle.vs_tree_blocks.specs.Blocks.{tree_format, data_lines, long_line, lines_at}
 
 pub one_page : (bytes : List ℕ) (pages : ℕ) → pages ≡ 1 → data_lines pages bytes ≡ lines_in bytes
 unfolding data_lines
 one_page bytes pages one = ap (λ n. if nat_le n 1 then lines_in bytes else long_line (lines_in bytes)) one
+
+pub thin : (bytes : List ℕ) (pages : ℕ) → pages ≤ 1 → data_lines pages bytes ≡ lines_in bytes
+unfolding data_lines
+thin bytes pages few = grind (arith, nat_tests)
 
 abbrev entry_with : ℕ → ℕ → ℕ → Entry
 entry_with block pages lines = record { block = block; pages = pages; lines = lines }
@@ -67,14 +71,14 @@ unfolding data_lines
 long_reads bytes line pages many long is = sym (several pages (lines_in bytes) many) ∙ ap long_line is ∙ grind (arith, nat_tests)
 
 -- a block written in place
-pub wrote_place : (m n : Map) (block count : ℕ) (bytes : List ℕ) (ls : List (List ℕ)) (entries : List Entry) → Stored m n block 1 bytes → lines_in bytes ≡ Some ls → count ≡ length ls → entries ≡ record { block = block; pages = 1; lines = count } ∷ [] → Wrote tree_format m n (λ k. span block 1 k) 0 ls entries
+pub wrote_place : (m n : Map) (block count : ℕ) (bytes : List ℕ) (ls : List (List ℕ)) (entries : List Entry) → Stored m n block 1 bytes → lines_in bytes ≡ Some ls → count ≡ length ls → entries ≡ record { block = block; pages = 1; lines = count } ∷ [] → ReplacedBy tree_format m n (λ k. span block 1 k) 0 ls entries
 wrote_place m n block count bytes ls entries s reads count_is is =
     wrote_leaves tree_format m n (λ k. span block 1 k) ls entries (leaf block 1 ls ∷ []) (put_leaf tree_format m n block 1 bytes ls s (omega arith) (one_page bytes 1 refl ∙ reads))
     (is ∙ ap (λ (i : ℕ). entry_with block 1 i ∷ []) count_is) (append-nil ls)
 
 -- a block in two parts, the second in a new block
 pub wrote_parts : (m n1 n2 : Map) (block other i j : ℕ) (first second : List ℕ) (a b : List (List ℕ)) (entries : List Entry) → Stored m n1 block 1 first → lines_in first ≡ Some a → i ≡ length a → Added n1 n2 other 1 second → lines_in second ≡ Some b → j ≡ length b
-    → entries ≡ record { block = block; pages = 1; lines = i } ∷ record { block = other; pages = 1; lines = j } ∷ [] → Wrote tree_format m n2 (λ k. span block 1 k) 0 (a ++ b) entries
+    → entries ≡ record { block = block; pages = 1; lines = i } ∷ record { block = other; pages = 1; lines = j } ∷ [] → ReplacedBy tree_format m n2 (λ k. span block 1 k) 0 (a ++ b) entries
 wrote_parts m n1 n2 block other i j first second a b entries s reads_first i_is t reads_second j_is is =
     wrote_leaves tree_format m n2 (λ k. span block 1 k) (a ++ b) entries (leaf block 1 a ∷ leaf other 1 b ∷ [])
     (replaces_behind tree_format m n1 n2 0 (λ k. span block 1 k) (leaf block 1 a ∷ []) (leaf other 1 b ∷ []) (put_leaf tree_format m n1 block 1 first a s (omega arith) (one_page first 1 refl ∙ reads_first)) (new_leaf tree_format n1 n2 other 1 second b t (omega arith) (one_page second 1 refl ∙ reads_second)))
@@ -82,15 +86,15 @@ wrote_parts m n1 n2 block other i j first second a b entries s reads_first i_is 
 
 -- a block left alone, and a new one before it
 pub wrote_before : (m n : Map) (block pages i : ℕ) (ls run : List (List ℕ)) (new : Entry) (entries : List Entry) → lines_at m block pages ≡ Some ls → 1 ≤ pages → i ≡ length ls → Replaces tree_format m n (λ k. 0) 0 (leaf new.block new.pages run ∷ []) → new.lines ≡ length run
-    → entries ≡ new ∷ record { block = block; pages = pages; lines = i } ∷ [] → Wrote tree_format m n (λ k. span block pages k) 0 (run ++ ls) entries
+    → entries ≡ new ∷ record { block = block; pages = pages; lines = i } ∷ [] → ReplacedBy tree_format m n (λ k. span block pages k) 0 (run ++ ls) entries
 wrote_before m n block pages i ls run new entries reads some i_is r count is =
     wrote_leaves tree_format m n (λ k. span block pages k) (run ++ ls) entries (leaf new.block new.pages run ∷ leaf block pages ls ∷ [])
     (replaces_before tree_format m m n 0 (λ k. span block pages k) (leaf block pages ls ∷ []) (leaf new.block new.pages run ∷ []) (kept_leaf tree_format m block pages ls reads some) r)
     (is ∙ ap (λ (k : ℕ). new ∷ entry_with block pages k ∷ []) i_is ∙ ap (λ (k : ℕ). entry_with new.block new.pages k ∷ entry_with block pages (length ls) ∷ []) count) (ap (λ xs. run ++ xs) (append-nil ls))
 
--- a block left alone, and a new one behind it
+-- a block left alone, and a new one after it
 pub wrote_behind : (m n : Map) (block pages i : ℕ) (ls run : List (List ℕ)) (new : Entry) (entries : List Entry) → lines_at m block pages ≡ Some ls → 1 ≤ pages → i ≡ length ls → Replaces tree_format m n (λ k. 0) 0 (leaf new.block new.pages run ∷ []) → new.lines ≡ length run
-    → entries ≡ record { block = block; pages = pages; lines = i } ∷ new ∷ [] → Wrote tree_format m n (λ k. span block pages k) 0 (ls ++ run) entries
+    → entries ≡ record { block = block; pages = pages; lines = i } ∷ new ∷ [] → ReplacedBy tree_format m n (λ k. span block pages k) 0 (ls ++ run) entries
 wrote_behind m n block pages i ls run new entries reads some i_is r count is =
     wrote_leaves tree_format m n (λ k. span block pages k) (ls ++ run) entries (leaf block pages ls ∷ leaf new.block new.pages run ∷ [])
     (replaces_behind tree_format m m n 0 (λ k. span block pages k) (leaf block pages ls ∷ []) (leaf new.block new.pages run ∷ []) (kept_leaf tree_format m block pages ls reads some) r)
@@ -99,7 +103,7 @@ wrote_behind m n block pages i ls run new entries reads some i_is r count is =
 -- a block in two parts, and a new one between them
 pub wrote_between : (m n1 n2 n3 : Map) (block other i j : ℕ) (first second : List ℕ) (a b run : List (List ℕ)) (new : Entry) (entries : List Entry) → Stored m n1 block 1 first → lines_in first ≡ Some a → i ≡ length a
     → Replaces tree_format n1 n2 (λ k. 0) 0 (leaf new.block new.pages run ∷ []) → new.lines ≡ length run → Added n2 n3 other 1 second → lines_in second ≡ Some b → j ≡ length b
-    → entries ≡ record { block = block; pages = 1; lines = i } ∷ new ∷ record { block = other; pages = 1; lines = j } ∷ [] → Wrote tree_format m n3 (λ k. span block 1 k) 0 (a ++ (run ++ b)) entries
+    → entries ≡ record { block = block; pages = 1; lines = i } ∷ new ∷ record { block = other; pages = 1; lines = j } ∷ [] → ReplacedBy tree_format m n3 (λ k. span block 1 k) 0 (a ++ (run ++ b)) entries
 wrote_between m n1 n2 n3 block other i j first second a b run new entries s reads_first i_is r count t reads_second j_is is =
     let two = replaces_behind tree_format m n1 n2 0 (λ k. span block 1 k) (leaf block 1 a ∷ []) (leaf new.block new.pages run ∷ []) (put_leaf tree_format m n1 block 1 first a s (omega arith) (one_page first 1 refl ∙ reads_first)) r in
     wrote_leaves tree_format m n3 (λ k. span block 1 k) (a ++ (run ++ b)) entries (leaf block 1 a ∷ leaf new.block new.pages run ∷ leaf other 1 b ∷ [])
@@ -108,7 +112,7 @@ wrote_between m n1 n2 n3 block other i j first second a b run new entries s read
     ∙ ap (λ (k : ℕ). entry_with block 1 (length a) ∷ entry_with new.block new.pages k ∷ entry_with other 1 (length b) ∷ []) count) (ap (λ xs. a ++ (run ++ xs)) (append-nil b))
 
 -- a block given back
-pub wrote_gone : (m n : Map) (block pages : ℕ) (ls : List (List ℕ)) (entries : List Entry) → n ≡ without m block pages → length ls ≡ 0 → entries ≡ [] → Wrote tree_format m n (λ k. span block pages k) 0 ls entries
+pub wrote_gone : (m n : Map) (block pages : ℕ) (ls : List (List ℕ)) (entries : List Entry) → n ≡ without m block pages → length ls ≡ 0 → entries ≡ [] → ReplacedBy tree_format m n (λ k. span block pages k) 0 ls entries
 wrote_gone m n block pages [] entries is none empty = wrote_leaves tree_format m n (λ k. span block pages k) [] entries [] (freed tree_format m n block pages 0 (λ k. span block pages k) is (λ k. omega arith)) empty refl
 wrote_gone m n block pages (x ∷ ls) entries is none empty = absurd (omega arith)
 
@@ -201,23 +205,23 @@ count_small bytes view reads size = let v = has_view bytes view (view_bounds byt
 
 -- what an edit of a block of one page gives the tree
 
-pub promise_page : (m m' n : Map) (block count at bytes : ℕ) (old : List ℕ) (change : Change) (after : List (List ℕ) → List (List ℕ)) (entries : List Entry) → count ≡ 1 → m' ≡ m → pages_at m block 1 ≡ Some old
-    → ((lines : List (List ℕ)) → edited change lines at ≡ after lines) → ((lines : List (List ℕ)) → lines_in old ≡ Some lines → Wrote tree_format m' n (λ k. span block 1 k) 0 (after lines) entries)
-    → ((lines : List (List ℕ)) → lines_in old ≡ Some lines → at < length lines → Takes change lines at bytes) → Promise tree_format m n block count 0 at bytes change entries
-promise_page m m' n block count at bytes old change after entries one same loaded are wrote takes =
-    let P : ℕ → Type 0 = λ i. Promise tree_format m n block i 0 at bytes change entries in
-    subst P (sym one) (promise_leaf tree_format m n block 1 at bytes change entries (λ lines reads lt.
-    let Q : Map → Type 0 = λ f. Wrote tree_format f n (λ k. span block 1 k) 0 (after lines) entries in
-    let R : List (List ℕ) → Type 0 = λ xs. Wrote tree_format m n (λ k. span block 1 k) 0 xs entries in
-    let is = lines_loaded (pages_at m block 1) old 1 lines loaded reads in
-    (subst R (sym (are lines)) (subst Q same (wrote lines is)), takes lines is lt)))
+pub promise_page : (m m' n : Map) (top : Entry) (at bytes : ℕ) (old : List ℕ) (change : Change) (after : List (List ℕ) → List (List ℕ)) (entries : List Entry) → top.pages ≡ 1 → m' ≡ m → pages_at m top.block top.pages ≡ Some old
+    → ((lines : List (List ℕ)) → edited change lines at ≡ after lines) → ((lines : List (List ℕ)) → lines_in old ≡ Some lines → ReplacedBy tree_format m' n (λ k. span top.block 1 k) 0 (after lines) entries)
+    → ((lines : List (List ℕ)) → lines_in old ≡ Some lines → at < length lines → Takes change lines at bytes) → ChangesBelow tree_format m n top 0 at bytes change entries
+promise_page m m' n top at bytes old change after entries one same loaded are wrote takes =
+    promise_leaf tree_format m n top at bytes change entries (λ lines reads lt.
+    let Q : Map → Type 0 = λ f. ReplacedBy tree_format f n (λ k. span top.block 1 k) 0 (after lines) entries in
+    let R : List (List ℕ) → Type 0 = λ xs. ReplacedBy tree_format m n (λ k. span top.block 1 k) 0 xs entries in
+    let W : ℕ → Type 0 = λ i. ReplacedBy tree_format m n (λ k. span top.block i k) 0 (edited change lines at) entries in
+    let is = lines_loaded (pages_at m top.block top.pages) old top.pages lines loaded reads in
+    (subst W (sym one) (subst R (sym (are lines)) (subst Q same (wrote lines is))), takes lines is lt))
 
 -- the same of a block of several pages, whose one line is the first
-pub promise_long : (m n : Map) (block count at bytes : ℕ) (change : Change) (entries : List Entry) → 2 ≤ count
-    → ((lines : List (List ℕ)) → lines_at m block count ≡ Some lines → Wrote tree_format m n (λ k. span block count k) 0 (edited change lines 0) entries × Takes change lines 0 bytes) → Promise tree_format m n block count 0 at bytes change entries
-promise_long m n block count at bytes change entries many wrote = promise_leaf tree_format m n block count at bytes change entries (λ lines reads lt.
-    let first : 0 ≡ at = omega (arith, at_alone m block count lines many reads) in
-    let R : ℕ → Type 0 = λ i. Wrote tree_format m n (λ k. span block count k) 0 (edited change lines i) entries × Takes change lines i bytes in
+pub promise_long : (m n : Map) (top : Entry) (at bytes : ℕ) (change : Change) (entries : List Entry) → 2 ≤ top.pages
+    → ((lines : List (List ℕ)) → lines_at m top.block top.pages ≡ Some lines → ReplacedBy tree_format m n (λ k. span top.block top.pages k) 0 (edited change lines 0) entries × Takes change lines 0 bytes) → ChangesBelow tree_format m n top 0 at bytes change entries
+promise_long m n top at bytes change entries many wrote = promise_leaf tree_format m n top at bytes change entries (λ lines reads lt.
+    let first : 0 ≡ at = omega (arith, at_alone m top.block top.pages lines many reads) in
+    let R : ℕ → Type 0 = λ i. ReplacedBy tree_format m n (λ k. span top.block top.pages k) 0 (edited change lines i) entries × Takes change lines i bytes in
     subst R first (wrote lines reads))
 
 pub takes_none : (change : Change) (lines : List (List ℕ)) (at bytes : ℕ) → change.gone ≡ 0 → at + change.skip ≤ length lines → bytes ≡ 0 → Takes change lines at bytes

@@ -1,5 +1,5 @@
 -- Entries as they are written are read back.
-use Rattle.std.proofs.Common.{◌≡◌, ℕ, zero, suc, ◌+◌, ◌<◌, ◌≤◌, List, [], ◌∷◌, ◌++◌, length, take, map, insert, get_or, slice_get, Option, Some, None, Ok, Err, sym, refl, ap, ◌∙◌, arith, length-take}
+use Rattle.std.proofs.Common.{◌≡◌, ℕ, zero, suc, ◌+◌, ◌<◌, ◌≤◌, List, [], ◌∷◌, ◌++◌, length, take, map, insert, get_or, slice_get, Option, Some, None, Bool, if◌then◌else◌, Ok, Err, sym, refl, ap, ◌∙◌, arith, length-take}
 use Rattle.std.specs.List.{AllByRecursion}
 use Rattle.std.specs.Option.{option_and_then}
 use Rattle.std.proofs.lemmas.Grind.{common_steps}
@@ -10,8 +10,8 @@ use Rattle.vs_ptr.specs.declared.PtrErr.{PtrErr}
 use Rattle.vs_ptr.specs.Blocks.{view_in, entries_of, entries_in}
 use Rattle.vs_ptr.proofs.Headers.{header_from_view}
 use Rattle.vs_ptr.proofs.Reading.{entries_there, entries_refused, length-entries_of}
-use Rattle.vs_tree_laws.specs.declared.entries.Entry.{Entry}
-use Rattle.vs_tree_blocks.specs.Blocks.{entry_read, entries_read, before, points_in, ptr_of}
+use Rattle.vs_tree_shape.specs.declared.entries.Entry.{Entry}
+use Rattle.vs_tree_blocks.specs.Blocks.{FitsFields, entry_read, entries_read, before, points_in, ptr_of}
 
 pub each-at : {X : Type 0} (P : X → Type 0) (xs : List X) (i : ℕ) (d : X) → i < length xs → AllByRecursion P xs → P (get_or xs i d)
 each-at P [] i d lt each = absurd (omega arith)
@@ -32,13 +32,16 @@ one_more es i at e d lt at_is is =
     insert_last (map ptr_of (take i es)) at (ptr_of e) (omega (arith, n)) ∙ sym (ap (λ xs. map ptr_of xs) more ∙ map-append ptr_of (take i es) (e ∷ []))
 
 -- entries as they are written are read back
-pub read_written : (es : List Entry) → entries_read (map ptr_of es) ≡ Some es
-read_written [] = refl
-read_written (e ∷ es) = ap (λ o. before (Some e) o) (read_written es)
+written_one : (e : Entry) → FitsFields e → entry_read (ptr_of e) ≡ Some e
+written_one e fields = ap (λ (b : Bool). if b then Some e else None) fields.leads
 
-pub points_written : (bytes : List ℕ) (es : List Entry) → entries_in bytes ≡ Some (map ptr_of es) → points_in bytes ≡ Some es
+pub read_written : (es : List Entry) → AllByRecursion FitsFields es → entries_read (map ptr_of es) ≡ Some es
+read_written [] fields = refl
+read_written (e ∷ es) fields = ap (λ o. before o (entries_read (map ptr_of es))) (written_one e fields.0) ∙ ap (λ o. before (Some e) o) (read_written es fields.1)
+
+pub points_written : (bytes : List ℕ) (es : List Entry) → AllByRecursion FitsFields es → entries_in bytes ≡ Some (map ptr_of es) → points_in bytes ≡ Some es
 unfolding points_in
-points_written bytes es is = ap (λ o. option_and_then entries_read o) is ∙ read_written es
+points_written bytes es fields is = ap (λ o. option_and_then entries_read o) is ∙ read_written es fields
 
 pub take_all : {X : Type 0} (xs : List X) (i : ℕ) → length xs ≤ i → take i xs ≡ xs
 take_all [] zero le = refl

@@ -3,7 +3,8 @@ pub mod DataLemmas
 pub mod EditedLemmas
 pub mod EntriesLemmas
 pub mod FirstLemmas
-pub mod GoneLemmas
+pub mod RemovedLemmas
+pub mod LoadLemmas
 pub mod OneList
 pub mod Outcomes
 pub mod PointersLemmas

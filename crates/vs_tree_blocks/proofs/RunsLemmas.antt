@@ -1,18 +1,19 @@
 -- A run's bytes are a data block, whose header tells what its lines take.
-use Rattle.std.proofs.Common.{◌≡◌, ℕ, ◌+◌, ◌-◌, ◌*◌, ◌/◌, ◌<◌, ◌≤◌, List, [], ◌∷◌, ◌++◌, length, take, drop, insert, get_or, slice_get, Option, Some, None, Ok, IsSomeAnd, refl, sym, ap, ◌∙◌, arith, length-append, append_assoc, length-take, inl, inr}
+use Rattle.std.proofs.Common.{◌≡◌, ℕ, ◌+◌, ◌-◌, ◌*◌, ◌/◌, ◌<◌, ◌≤◌, List, [], ◌∷◌, ◌++◌, length, take, drop, insert, get_or, slice_get, Option, Some, None, Ok, true, IsSomeAnd, refl, sym, ap, ◌∙◌, arith, length-append, append_assoc, length-take, inl, inr}
 use Rattle.std.specs.Option.{option_map, option_and_then}
 use Rattle.std.proofs.lemmas.Bool.{cases_eq}
+use Rattle.std.proofs.lemmas.Bool.Decides.{nat_tests}
 use Rattle.std.proofs.lemmas.Grind.{common_steps}
 use Rattle.std.proofs.lemmas.List.Sums.{sum_by-cons, sum_by-append}
 use Rattle.vs_data.specs.declared.DataView.{DataView}
 use Rattle.vs_data.specs.Blocks.{lines_in, view_in, free_space, space_of, Measures}
 use Rattle.vs_data.proofs.Lines.{measured}
 use Rattle.vs_data.proofs.Reading.{has_view, view_bounds}
-use Rattle.vs_tree_laws.specs.Changes.{splice}
-use Rattle.vs_tree_laws.proofs.Splices.{splice_mid}
-use Rattle.vs_tree_blocks.specs.Blocks.{data_lines}
+use Rattle.vs_tree_shape.specs.Changes.{splice}
+use Rattle.vs_tree_shape.proofs.Splices.{splice_mid}
+use Rattle.vs_tree_blocks.specs.Blocks.{data_lines, may_lead}
 use Rattle.vs_tree_blocks.specs.Runs.{or_none, lines_within, IsRun}
-use Rattle.vs_tree_blocks.proofs.DataLemmas.{one_page, long_one, alone_reads, insert_splice, line_at}
+use Rattle.vs_tree_blocks.proofs.DataLemmas.{one_page, long_alone, long_one, alone_reads, insert_splice, line_at}
 
 -- what the header tells of a block's lines
 pub record Told (bytes : List ℕ) (view : DataView) (lines : List (List ℕ)) : Type 0 where
@@ -150,3 +151,10 @@ pub half_all : (old now : List ℕ) (view whole : DataView) (run : List (List �
 half_all old now view whole run at i all is h =
     let whole_run : take i run ≡ run = grind (arith, common_steps) in
     h.lines ∙ ap (λ xs. Some (splice (lines_within old) at 0 xs)) whole_run ∙ sym (ap (λ o. option_map (λ ls. splice ls at 0 run) o) (told old view is).lines_are)
+
+-- the entry of a run's block: it has several pages only for one line
+pub run_leads : (bytes : List ℕ) (view : DataView) (pages : ℕ) → IsRun bytes view pages → may_lead pages (length (lines_within bytes)) ≡ true
+run_leads bytes view pages r = elim (cases_eq pages 1) [
+  | inl e ↦ grind (arith, nat_tests)
+  | inr ne ↦ let alone : length (lines_within bytes) ≡ 1 = long_alone bytes pages (lines_within bytes) (omega (arith, r.some, ne)) r.reads in let most : pages ≤ 257 = r.few in let least : 1 ≤ pages = r.some in grind (arith, nat_tests)
+]

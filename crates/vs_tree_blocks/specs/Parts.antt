@@ -3,7 +3,7 @@ use Rattle.std.specs.Prelude.{◌≡◌, ℕ, ◌+◌, List, length, take, drop,
 use Rattle.std.specs.Option.{option_map}
 use Rattle.vs_data.specs.declared.DataView.{DataView}
 use Rattle.vs_data.specs.Blocks.{lines_in, view_in}
-use Rattle.vs_tree_blocks.specs.declared.data.Parts.{Parts}
+use Rattle.vs_tree_blocks.specs.declared.split.Parts.{Parts}
 
 -- The lines from this one on stand in the second part, the others in the first.
 pub record IsSplit (bytes : List ℕ) (view : DataView) (from : ℕ) (parts : Parts) : Type 0 where

@@ -1,8 +1,9 @@
 // New blocks in pages.
-ghost use Rattle.std.specs.Prelude.{◌≡◌, ◌≤◌, ◌<◌, ◌*◌, ◌^◌, ◌∷◌, [], Err, IfOk, OnOk, IsTrue, length};
-ghost use Rattle.vs_faults.specs.Faults.{Rose};
-ghost use Rattle.vs_tree_laws.specs.Differs.{Keeps, Differs};
-ghost use Rattle.vs_tree_laws.specs.Changes.{Grown, Added};
+ghost use Rattle.std.specs.Prelude.{◌≡◌, ◌≤◌, ◌<◌, ◌*◌, ◌^◌, ◌∷◌, [], IsErrOf, IfOk, OnOk, IsTrue, length};
+ghost use Rattle.vs_faults.specs.Faults.{HasCause};
+ghost use Rattle.vs_pages.specs.Calls.{Continues};
+ghost use Rattle.vs_tree_shape.specs.Differs.{Keeps, Differs};
+ghost use Rattle.vs_tree_shape.specs.Changes.{Grown, Added};
 
 use std::alloc::Global;
 use vs_pages::{PageErr, Pages};
@@ -11,17 +12,15 @@ use vs_pages::{PageErr, Pages};
 fn grow_block<P: Pages>(alloc: Global, pages: &mut P, count: u32) -> Result<u64, PageErr>
     requires valid { P.valid pages.old }
     requires some { 1 ≤ count }
-    ensures grown { IfOk result (λ at. IsTrue P.tells → Grown (P.present pages.old) (P.present pages.new) at count) }
+    ensures grown { IfOk result (λ at. IsTrue P.tells → Grown (P.shows pages.old).present (P.shows pages.new).present at count) }
     ensures bound { IfOk result (λ at. at < 2 ^ 40) }
-    ensures keeps { IfOk result (λ at. IsTrue P.tells → count ≡ 1 → Keeps (P.present pages.old) (P.present pages.new) (at ∷ [])) }
-    ensures committed { IsTrue P.tells → P.committed pages.new ≡ P.committed pages.old }
-    ensures later { P.faults pages.old ≤ P.faults pages.new }
-    ensures failed { result ≡ Err PageErr.Failed → Rose (P.faults pages.old) (P.faults pages.new) }
-    ensures valid { P.valid pages.new }
-    ensures stays { P.stays pages.old pages.new }
+    ensures keeps { IfOk result (λ at. IsTrue P.tells → count ≡ 1 → Keeps (P.shows pages.old).present (P.shows pages.new).present (at ∷ [])) }
+    ensures kept { Continues P.Pages pages.old pages.new }
+    ensures cause { HasCause (P.shows pages.old).faults (P.shows pages.new).faults (IsErrOf result PageErr.Failed) }
 {
     let at = pages.grow(alloc, count)?;
     if at == 0 {
+        pages.free(alloc, 1, count - 1)?;
         return pages.grow(alloc, count);
     }
     Ok(at)
@@ -37,14 +36,11 @@ pub fn add_block<P: Pages>(
     requires valid { P.valid pages.old }
     requires some { 1 ≤ count }
     requires size { length bytes.now ≡ 4096 * count }
-    ensures added { IfOk result (λ at. IsTrue P.tells → Added (P.present pages.old) (P.present pages.new) at count bytes.now) }
+    ensures added { IfOk result (λ at. IsTrue P.tells → Added (P.shows pages.old).present (P.shows pages.new).present at count bytes.now) }
     ensures bound { IfOk result (λ at. at < 2 ^ 40) }
-    ensures differs { OnOk result (IsTrue P.tells → count ≡ 1 → Differs (P.present pages.old) (P.present pages.new) 1) }
-    ensures committed { IsTrue P.tells → P.committed pages.new ≡ P.committed pages.old }
-    ensures later { P.faults pages.old ≤ P.faults pages.new }
-    ensures failed { result ≡ Err PageErr.Failed → Rose (P.faults pages.old) (P.faults pages.new) }
-    ensures valid { P.valid pages.new }
-    ensures stays { P.stays pages.old pages.new }
+    ensures differs { OnOk result (IsTrue P.tells → count ≡ 1 → Differs (P.shows pages.old).present (P.shows pages.new).present 1) }
+    ensures kept { Continues P.Pages pages.old pages.new }
+    ensures cause { HasCause (P.shows pages.old).faults (P.shows pages.new).faults (IsErrOf result PageErr.Failed) }
 {
     let at = grow_block(alloc, pages, count)?;
     pages.touch(alloc, at, count, bytes)?;

@@ -2,19 +2,25 @@
 #![tactic(auto)]
 
 mod add;
+mod beside;
 mod bytes;
 mod data;
 mod depths;
 mod edit;
 mod first;
+mod load;
+mod long;
 mod pointers;
+mod put;
 mod run;
+mod split;
 
 pub use add::add_block;
 pub use bytes::pointer_bytes;
-pub use data::{edit_data, load_data, load_line};
+pub use data::edit_data;
 pub use depths::has_one_list;
-pub use edit::{Edit, Edited, Gone};
+pub use edit::{Edit, Edited, Removed};
 pub use first::write_first;
+pub use load::{load_data, load_line};
 pub use pointers::{load_entries, write_pointers, write_root};
 pub use run::Run;

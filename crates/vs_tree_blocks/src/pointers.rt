@@ -1,20 +1,21 @@
 // Pointer blocks in pages.
-ghost use Rattle.std.specs.Prelude.{◌≡◌, ◌≤◌, ◌<◌, ◌+◌, ◌*◌, ◌^◌, ◌∷◌, [], ℕ, suc, List, Some, None, Err, IfOk, IfSome, IfNone, OnOk, IsTrue, IsSome, length};
+ghost use Rattle.std.specs.Prelude.{◌≡◌, ◌≤◌, ◌<◌, ◌+◌, ◌*◌, ◌^◌, ◌∷◌, [], ℕ, suc, List, Some, None, IsErrOf, IfOk, OnOk, IsTrue, IsSome, length};
 ghost use Rattle.std.specs.List.{AllByRecursion, flat_map};
-ghost use Rattle.vs_faults.specs.Faults.{Rose};
+ghost use Rattle.vs_faults.specs.Faults.{HasCause};
+ghost use Rattle.vs_pages.specs.Calls.{Continues, OnlyReads};
 ghost use Rattle.vs_pages.specs.Maps.{pages_at, one, total};
-ghost use Rattle.vs_tree_laws.specs.Places.{lines_below};
-ghost use Rattle.vs_tree_laws.specs.Trees.{Tree, lines_of, uses};
-ghost use Rattle.vs_tree_laws.specs.Differs.{Differs};
-ghost use Rattle.vs_tree_laws.specs.Changes.{Below, Wrote, pointer_entry};
-ghost use Rattle.vs_tree_blocks.specs.Blocks.{tree_format, entries_at, points_in, IsNarrow, IsListOf};
+ghost use Rattle.vs_tree_shape.specs.Places.{lines_below};
+ghost use Rattle.vs_tree_shape.specs.Trees.{Tree, lines_of, uses};
+ghost use Rattle.vs_tree_shape.specs.Differs.{Differs};
+ghost use Rattle.vs_tree_shape.specs.Changes.{Below, ReplacedBy, pointer_entry};
+ghost use Rattle.vs_tree_blocks.specs.Blocks.{tree_format, entries_at, points_in, FitsFields, IsListOf, LeadsToPointers};
 
 use crate::add_block;
 use crate::bytes::{from_ptr, pointer_bytes};
 use std::alloc::{AllocError, Global};
 use vs_pages::{PageErr, Pages};
 use vs_ptr::PtrView;
-use vs_tree_laws::{Entry, count_lines};
+use vs_tree_shape::{Entry, count_lines};
 
 /// The greatest number of entries of a pointer block of one page. docs/FORMATS.md, Pointer blocks.
 const MOST_ENTRIES: usize = 127;
@@ -37,51 +38,51 @@ fn read_entries(alloc: Global, bytes: &[u8]) -> Result<Option<Vec<Entry>>, Alloc
     Ok(Some(entries))
 }
 
-/// The entries of the pointer block at page `block`.
+/// The entries of the pointer block that an entry leads to. A block that is not as its entry says is damage.
 pub fn load_entries<P: Pages>(
     alloc: Global,
     pages: &mut P,
-    block: u64,
+    entry: Entry,
 ) -> Result<Vec<Entry>, PageErr>
     requires valid { P.valid pages.old }
-    requires there { IsTrue P.tells → IsSome (entries_at (P.present pages.old) block) }
-    ensures entries { IfOk result (λ entries. IsTrue P.tells → entries_at (P.present pages.old) block ≡ Some entries.items) }
-    ensures narrow { IfOk result (λ entries. AllByRecursion IsNarrow entries.items) }
+    requires there { IsTrue P.tells → LeadsToPointers (P.shows pages.old).present entry }
+    ensures entries { IfOk result (λ entries. IsTrue P.tells → entries_at (P.shows pages.old).present entry.block ≡ Some entries.items) }
+    ensures lines { IfOk result (λ entries. lines_below entries.items ≡ entry.lines) }
+    ensures single { OnOk result (entry.pages ≡ 1) }
+    ensures fields { IfOk result (λ entries. AllByRecursion FitsFields entries.items) }
     ensures few { IfOk result (λ entries. length entries.items ≤ 127) }
-    ensures present { IsTrue P.tells → P.present pages.new ≡ P.present pages.old }
-    ensures committed { IsTrue P.tells → P.committed pages.new ≡ P.committed pages.old }
-    ensures later { P.faults pages.old ≤ P.faults pages.new }
-    ensures failed { result ≡ Err PageErr.Failed → Rose (P.faults pages.old) (P.faults pages.new) }
-    ensures valid { P.valid pages.new }
-    ensures stays { P.stays pages.old pages.new }
+    ensures kept { OnlyReads P.Pages pages.old pages.new }
+    ensures cause { HasCause (P.shows pages.old).faults (P.shows pages.new).faults (IsErrOf result PageErr.Failed) }
 {
     let mut bytes = Vec::new(alloc);
-    pages.load(alloc, block, 1, &mut bytes)?;
-    match read_entries(alloc, &bytes)? {
-        Some(entries) => Ok(entries),
-        None => {
-            pages.damaged();
-            Err(PageErr::Failed)
-        }
+    pages.load(alloc, entry.block, 1, &mut bytes)?;
+    let Some(entries) = read_entries(alloc, &bytes)? else {
+        pages.damaged();
+        return Err(PageErr::Failed);
+    };
+    if entry.pages != 1 || count_lines(&entries) != Some(entry.lines) {
+        pages.damaged();
+        return Err(PageErr::Failed);
     }
+    Ok(entries)
 }
 
-// The entry of a pointer block with these entries; None where they have too many lines for one.
-fn entry_above(block: u64, entries: &[Entry]) -> Option<Entry>
-    requires { block < 2 ^ 63 }
-    ensures some { IfSome result (λ above. above ≡ pointer_entry block (lines_below entries.now)) }
-    ensures narrow { IfSome result IsNarrow }
-    ensures none { IfNone result (2 ^ 63 ≤ lines_below entries.now) }
+// The entry of a pointer block with these entries.
+fn entry_above(block: u64, entries: &[Entry]) -> Entry
+    requires block { block < 2 ^ 63 }
+    requires small { lines_below entries.now < 2 ^ 63 }
+    ensures entry { result ≡ pointer_entry block (lines_below entries.now) }
+    ensures fields { FitsFields result }
 {
-    let lines = count_lines(entries)?;
-    if lines > i64::MAX as u64 {
-        return None;
+    let mut lines = 0;
+    'entries: for entry in entries {
+        lines += entry.lines;
     }
-    Some(Entry {
+    Entry {
         block,
         pages: 1,
         lines,
-    })
+    }
 }
 
 // Writes entries into a pointer block that has room for them.
@@ -92,26 +93,20 @@ fn write_one<P: Pages>(
     entries: &[Entry],
 ) -> Result<Vec<Entry>, PageErr>
     requires valid { P.valid pages.old }
-    requires there { IsTrue P.tells → IsSome (pages_at (P.present pages.old) block 1) }
-    requires small { IsTrue P.tells → lines_below entries.now < 2 ^ 63 }
+    requires there { IsTrue P.tells → IsSome (pages_at (P.shows pages.old).present block 1) }
+    requires small { lines_below entries.now < 2 ^ 63 }
     requires block { block < 2 ^ 63 }
-    requires narrow { AllByRecursion IsNarrow entries.now }
+    requires fields { AllByRecursion FitsFields entries.now }
     requires few { length entries.now ≤ 127 }
-    ensures wrote { IfOk result (λ above. IsTrue P.tells → (d : ℕ) (kids : List (Tree d)) → Below tree_format (P.present pages.old) block d kids entries.now → Wrote tree_format (P.present pages.old) (P.present pages.new) (λ k. one block k + total (λ u. uses d u k) kids) (suc d) (flat_map (λ u. lines_of d u) kids) above.items) }
-    ensures narrow { IfOk result (λ above. AllByRecursion IsNarrow above.items) }
+    ensures wrote { IfOk result (λ above. IsTrue P.tells → (d : ℕ) (kids : List (Tree d)) → Below tree_format (P.shows pages.old).present block d kids entries.now → ReplacedBy tree_format (P.shows pages.old).present (P.shows pages.new).present (λ k. one block k + total (λ u. uses d u k) kids) (suc d) (flat_map (λ u. lines_of d u) kids) above.items) }
+    ensures fields { IfOk result (λ above. AllByRecursion FitsFields above.items) }
     ensures few { IfOk result (λ above. length above.items ≤ 3) }
-    ensures differs { OnOk result (IsTrue P.tells → Differs (P.present pages.old) (P.present pages.new) 1) }
-    ensures committed { IsTrue P.tells → P.committed pages.new ≡ P.committed pages.old }
-    ensures later { P.faults pages.old ≤ P.faults pages.new }
-    ensures failed { result ≡ Err PageErr.Failed → Rose (P.faults pages.old) (P.faults pages.new) }
-    ensures valid { P.valid pages.new }
-    ensures stays { P.stays pages.old pages.new }
+    ensures lines { IfOk result (λ above. lines_below above.items ≡ lines_below entries.now) }
+    ensures differs { OnOk result (IsTrue P.tells → Differs (P.shows pages.old).present (P.shows pages.new).present 1) }
+    ensures kept { Continues P.Pages pages.old pages.new }
+    ensures cause { HasCause (P.shows pages.old).faults (P.shows pages.new).faults (IsErrOf result PageErr.Failed) }
 {
-    let Some(entry) = entry_above(block, entries) else {
-        pages.damaged();
-        return Err(PageErr::Failed);
-    };
-    let above = vec![in alloc; entry]?;
+    let above = vec![in alloc; entry_above(block, entries)]?;
     let bytes = pointer_bytes(alloc, entries)?;
     pages.touch(alloc, block, 1, &bytes)?;
     Ok(above)
@@ -125,20 +120,18 @@ fn write_two<P: Pages>(
     entries: &[Entry],
 ) -> Result<Vec<Entry>, PageErr>
     requires valid { P.valid pages.old }
-    requires there { IsTrue P.tells → IsSome (pages_at (P.present pages.old) block 1) }
-    requires small { IsTrue P.tells → lines_below entries.now < 2 ^ 63 }
+    requires there { IsTrue P.tells → IsSome (pages_at (P.shows pages.old).present block 1) }
+    requires small { lines_below entries.now < 2 ^ 63 }
     requires block { block < 2 ^ 63 }
-    requires narrow { AllByRecursion IsNarrow entries.now }
+    requires fields { AllByRecursion FitsFields entries.now }
     requires few { length entries.now ≤ 254 }
-    ensures wrote { IfOk result (λ above. IsTrue P.tells → (d : ℕ) (kids : List (Tree d)) → Below tree_format (P.present pages.old) block d kids entries.now → Wrote tree_format (P.present pages.old) (P.present pages.new) (λ k. one block k + total (λ u. uses d u k) kids) (suc d) (flat_map (λ u. lines_of d u) kids) above.items) }
-    ensures narrow { IfOk result (λ above. AllByRecursion IsNarrow above.items) }
+    ensures wrote { IfOk result (λ above. IsTrue P.tells → (d : ℕ) (kids : List (Tree d)) → Below tree_format (P.shows pages.old).present block d kids entries.now → ReplacedBy tree_format (P.shows pages.old).present (P.shows pages.new).present (λ k. one block k + total (λ u. uses d u k) kids) (suc d) (flat_map (λ u. lines_of d u) kids) above.items) }
+    ensures fields { IfOk result (λ above. AllByRecursion FitsFields above.items) }
     ensures few { IfOk result (λ above. length above.items ≤ 3) }
-    ensures differs { OnOk result (IsTrue P.tells → Differs (P.present pages.old) (P.present pages.new) 2) }
-    ensures committed { IsTrue P.tells → P.committed pages.new ≡ P.committed pages.old }
-    ensures later { P.faults pages.old ≤ P.faults pages.new }
-    ensures failed { result ≡ Err PageErr.Failed → Rose (P.faults pages.old) (P.faults pages.new) }
-    ensures valid { P.valid pages.new }
-    ensures stays { P.stays pages.old pages.new }
+    ensures lines { IfOk result (λ above. lines_below above.items ≡ lines_below entries.now) }
+    ensures differs { OnOk result (IsTrue P.tells → Differs (P.shows pages.old).present (P.shows pages.new).present 2) }
+    ensures kept { Continues P.Pages pages.old pages.new }
+    ensures cause { HasCause (P.shows pages.old).faults (P.shows pages.new).faults (IsErrOf result PageErr.Failed) }
 {
     let half = entries.len() - entries.len() / 2;
     let (first, second) = entries.split_at(half);
@@ -146,14 +139,8 @@ fn write_two<P: Pages>(
     let more = pointer_bytes(alloc, second)?;
     pages.touch(alloc, block, 1, &bytes)?;
     let other = add_block(alloc, pages, 1, &more)?;
-    let Some(one) = entry_above(block, first) else {
-        pages.damaged();
-        return Err(PageErr::Failed);
-    };
-    let Some(two) = entry_above(other, second) else {
-        pages.damaged();
-        return Err(PageErr::Failed);
-    };
+    let one = entry_above(block, first);
+    let two = entry_above(other, second);
     Ok(vec![in alloc; one, two]?)
 }
 
@@ -166,20 +153,18 @@ pub fn write_pointers<P: Pages>(
     entries: Vec<Entry>,
 ) -> Result<Vec<Entry>, PageErr>
     requires valid { P.valid pages.old }
-    requires there { IsTrue P.tells → IsSome (pages_at (P.present pages.old) block 1) }
-    requires small { IsTrue P.tells → lines_below entries.items < 2 ^ 63 }
+    requires there { IsTrue P.tells → IsSome (pages_at (P.shows pages.old).present block 1) }
+    requires small { lines_below entries.items < 2 ^ 63 }
     requires block { block < 2 ^ 63 }
-    requires narrow { AllByRecursion IsNarrow entries.items }
+    requires fields { AllByRecursion FitsFields entries.items }
     requires few { length entries.items ≤ 254 }
-    ensures wrote { IfOk result (λ above. IsTrue P.tells → (d : ℕ) (kids : List (Tree d)) → Below tree_format (P.present pages.old) block d kids entries.items → Wrote tree_format (P.present pages.old) (P.present pages.new) (λ k. one block k + total (λ u. uses d u k) kids) (suc d) (flat_map (λ u. lines_of d u) kids) above.items) }
-    ensures narrow { IfOk result (λ above. AllByRecursion IsNarrow above.items) }
+    ensures wrote { IfOk result (λ above. IsTrue P.tells → (d : ℕ) (kids : List (Tree d)) → Below tree_format (P.shows pages.old).present block d kids entries.items → ReplacedBy tree_format (P.shows pages.old).present (P.shows pages.new).present (λ k. one block k + total (λ u. uses d u k) kids) (suc d) (flat_map (λ u. lines_of d u) kids) above.items) }
+    ensures fields { IfOk result (λ above. AllByRecursion FitsFields above.items) }
     ensures few { IfOk result (λ above. length above.items ≤ 3) }
-    ensures differs { OnOk result (IsTrue P.tells → Differs (P.present pages.old) (P.present pages.new) 2) }
-    ensures committed { IsTrue P.tells → P.committed pages.new ≡ P.committed pages.old }
-    ensures later { P.faults pages.old ≤ P.faults pages.new }
-    ensures failed { result ≡ Err PageErr.Failed → Rose (P.faults pages.old) (P.faults pages.new) }
-    ensures valid { P.valid pages.new }
-    ensures stays { P.stays pages.old pages.new }
+    ensures lines { IfOk result (λ above. lines_below above.items ≡ lines_below entries.items) }
+    ensures differs { OnOk result (IsTrue P.tells → Differs (P.shows pages.old).present (P.shows pages.new).present 2) }
+    ensures kept { Continues P.Pages pages.old pages.new }
+    ensures cause { HasCause (P.shows pages.old).faults (P.shows pages.new).faults (IsErrOf result PageErr.Failed) }
 {
     if entries.is_empty() {
         pages.free(alloc, block, 1)?;
@@ -194,17 +179,14 @@ pub fn write_pointers<P: Pages>(
 // Moves each half of entries to a new block, the first half rounded up, and writes a block 1 that leads to these alone.
 fn lift_root<P: Pages>(alloc: Global, pages: &mut P, entries: &[Entry]) -> Result<(), PageErr>
     requires valid { P.valid pages.old }
-    requires there { IsTrue P.tells → IsSome (pages_at (P.present pages.old) 1 1) }
-    requires small { IsTrue P.tells → lines_below entries.now < 2 ^ 63 }
-    requires narrow { AllByRecursion IsNarrow entries.now }
+    requires there { IsTrue P.tells → IsSome (pages_at (P.shows pages.old).present 1 1) }
+    requires small { lines_below entries.now < 2 ^ 63 }
+    requires fields { AllByRecursion FitsFields entries.now }
     requires few { length entries.now ≤ 254 }
-    ensures wrote { OnOk result (IsTrue P.tells → (d : ℕ) (kids : List (Tree d)) → Below tree_format (P.present pages.old) 1 d kids entries.now → Wrote tree_format (P.present pages.old) (P.present pages.new) (λ k. one 1 k + total (λ u. uses d u k) kids) (suc (suc d)) (flat_map (λ u. lines_of d u) kids) (pointer_entry 1 (lines_below entries.now) ∷ [])) }
-    ensures differs { OnOk result (IsTrue P.tells → Differs (P.present pages.old) (P.present pages.new) 3) }
-    ensures committed { IsTrue P.tells → P.committed pages.new ≡ P.committed pages.old }
-    ensures later { P.faults pages.old ≤ P.faults pages.new }
-    ensures failed { result ≡ Err PageErr.Failed → Rose (P.faults pages.old) (P.faults pages.new) }
-    ensures valid { P.valid pages.new }
-    ensures stays { P.stays pages.old pages.new }
+    ensures wrote { OnOk result (IsTrue P.tells → (d : ℕ) (kids : List (Tree d)) → Below tree_format (P.shows pages.old).present 1 d kids entries.now → ReplacedBy tree_format (P.shows pages.old).present (P.shows pages.new).present (λ k. one 1 k + total (λ u. uses d u k) kids) (suc (suc d)) (flat_map (λ u. lines_of d u) kids) (pointer_entry 1 (lines_below entries.now) ∷ [])) }
+    ensures differs { OnOk result (IsTrue P.tells → Differs (P.shows pages.old).present (P.shows pages.new).present 3) }
+    ensures kept { Continues P.Pages pages.old pages.new }
+    ensures cause { HasCause (P.shows pages.old).faults (P.shows pages.new).faults (IsErrOf result PageErr.Failed) }
 {
     let half = entries.len() - entries.len() / 2;
     let (first, second) = entries.split_at(half);
@@ -212,14 +194,8 @@ fn lift_root<P: Pages>(alloc: Global, pages: &mut P, entries: &[Entry]) -> Resul
     let moved = add_block(alloc, pages, 1, &bytes)?;
     let more = pointer_bytes(alloc, second)?;
     let other = add_block(alloc, pages, 1, &more)?;
-    let Some(one) = entry_above(moved, first) else {
-        pages.damaged();
-        return Err(PageErr::Failed);
-    };
-    let Some(two) = entry_above(other, second) else {
-        pages.damaged();
-        return Err(PageErr::Failed);
-    };
+    let one = entry_above(moved, first);
+    let two = entry_above(other, second);
     let top = pointer_bytes(alloc, &[one, two])?;
     pages.touch(alloc, 1, 1, &top)
 }
@@ -232,18 +208,15 @@ pub fn write_root<P: Pages>(
     entries: Vec<Entry>,
 ) -> Result<u64, PageErr>
     requires valid { P.valid pages.old }
-    requires there { IsTrue P.tells → IsSome (pages_at (P.present pages.old) 1 1) }
-    requires small { IsTrue P.tells → lines_below entries.items < 2 ^ 63 }
-    requires narrow { AllByRecursion IsNarrow entries.items }
+    requires there { IsTrue P.tells → IsSome (pages_at (P.shows pages.old).present 1 1) }
+    requires small { lines_below entries.items < 2 ^ 63 }
+    requires fields { AllByRecursion FitsFields entries.items }
     requires few { length entries.items ≤ 254 }
-    ensures wrote { IfOk result (λ more. IsTrue P.tells → (d : ℕ) (kids : List (Tree d)) → Below tree_format (P.present pages.old) 1 d kids entries.items → Wrote tree_format (P.present pages.old) (P.present pages.new) (λ k. one 1 k + total (λ u. uses d u k) kids) (more + suc d) (flat_map (λ u. lines_of d u) kids) (pointer_entry 1 (lines_below entries.items) ∷ [])) }
+    ensures wrote { IfOk result (λ more. IsTrue P.tells → (d : ℕ) (kids : List (Tree d)) → Below tree_format (P.shows pages.old).present 1 d kids entries.items → ReplacedBy tree_format (P.shows pages.old).present (P.shows pages.new).present (λ k. one 1 k + total (λ u. uses d u k) kids) (more + suc d) (flat_map (λ u. lines_of d u) kids) (pointer_entry 1 (lines_below entries.items) ∷ [])) }
     ensures more { IfOk result (λ more. more ≤ 1) }
-    ensures differs { OnOk result (IsTrue P.tells → Differs (P.present pages.old) (P.present pages.new) 3) }
-    ensures committed { IsTrue P.tells → P.committed pages.new ≡ P.committed pages.old }
-    ensures later { P.faults pages.old ≤ P.faults pages.new }
-    ensures failed { result ≡ Err PageErr.Failed → Rose (P.faults pages.old) (P.faults pages.new) }
-    ensures valid { P.valid pages.new }
-    ensures stays { P.stays pages.old pages.new }
+    ensures differs { OnOk result (IsTrue P.tells → Differs (P.shows pages.old).present (P.shows pages.new).present 3) }
+    ensures kept { Continues P.Pages pages.old pages.new }
+    ensures cause { HasCause (P.shows pages.old).faults (P.shows pages.new).faults (IsErrOf result PageErr.Failed) }
 {
     if entries.len() > MOST_ENTRIES {
         lift_root(alloc, pages, &entries)?;

@@ -1,12 +1,13 @@
 // Lines that are put in together.
-ghost use Rattle.std.specs.Prelude.{◌≡◌, ◌≤◌, ◌<◌, ◌+◌, ◌*◌, ◌/◌, ◌^◌, ◌↔◌, ◌++◌, ◌∷◌, [], ℕ, List, Some, Ok, Err, IfOk, OnOk, IsTrue, length, false};
+ghost use Rattle.std.specs.Prelude.{◌≡◌, ◌≤◌, ◌<◌, ◌+◌, ◌*◌, ◌/◌, ◌^◌, ◌↔◌, ◌++◌, ◌∷◌, [], ℕ, List, Some, Ok, IsErrOf, IfOk, OnOk, IsTrue, length, false};
 ghost use Rattle.std.specs.Option.{option_map};
-ghost use Rattle.vs_faults.specs.Faults.{Rose};
+ghost use Rattle.vs_faults.specs.Faults.{HasCause};
+ghost use Rattle.vs_pages.specs.Calls.{Continues};
 ghost use Rattle.vs_data.specs.Blocks.{lines_in, view_in, free_space, space_of};
-ghost use Rattle.vs_tree_laws.specs.Trees.{leaf};
-ghost use Rattle.vs_tree_laws.specs.Differs.{Differs};
-ghost use Rattle.vs_tree_laws.specs.Changes.{Replaces, splice};
-ghost use Rattle.vs_tree_blocks.specs.Blocks.{tree_format, IsNarrow};
+ghost use Rattle.vs_tree_shape.specs.Trees.{leaf};
+ghost use Rattle.vs_tree_shape.specs.Differs.{Differs};
+ghost use Rattle.vs_tree_shape.specs.Changes.{Replaces, splice};
+ghost use Rattle.vs_tree_blocks.specs.Blocks.{tree_format, FitsFields};
 ghost use Rattle.vs_tree_blocks.specs.Edits.{IsStored};
 
 use crate::add_block;
@@ -14,7 +15,7 @@ use std::alloc::{AllocError, Global};
 use std::marker::Model;
 use vs_data::DataView;
 use vs_pages::{PAGE_SIZE, PageErr, Pages};
-use vs_tree_laws::Entry;
+use vs_tree_shape::Entry;
 
 // The number of pages of a block for one line of this length alone.
 fn pages_for(len: usize) -> u32
@@ -57,7 +58,7 @@ impl Run {
         Ok(Run { bytes, view, pages })
     }
 
-    /// Puts a stored line behind the others where a page has room for all of them, and tells whether it did.
+    /// Puts a stored line after the others where a page has room for all of them, and tells whether it did.
     pub fn push(&mut self, line: &[u8]) -> bool
         requires { IsStored line.now }
         ensures room { IsTrue result ↔ (space_of self.old + (length line.now + 5) ≤ 4072) }
@@ -123,15 +124,12 @@ impl Run {
     /// Adds the lines as a data block of their own.
     pub fn add<P: Pages>(&self, alloc: Global, pages: &mut P) -> Result<Entry, PageErr>
         requires valid { P.valid pages.old }
-        ensures added { IfOk result (λ new. IsTrue P.tells → Replaces tree_format (P.present pages.old) (P.present pages.new) (λ k. 0) 0 (leaf new.block new.pages self.now ∷ [])) }
+        ensures added { IfOk result (λ new. IsTrue P.tells → Replaces tree_format (P.shows pages.old).present (P.shows pages.new).present (λ k. 0) 0 (leaf new.block new.pages self.now ∷ [])) }
         ensures lines { IfOk result (λ new. new.lines ≡ length self.now) }
-        ensures narrow { IfOk result IsNarrow }
-        ensures differs { OnOk result (IsTrue P.tells → space_of self.now ≤ 4072 → Differs (P.present pages.old) (P.present pages.new) 1) }
-        ensures committed { IsTrue P.tells → P.committed pages.new ≡ P.committed pages.old }
-        ensures later { P.faults pages.old ≤ P.faults pages.new }
-        ensures failed { result ≡ Err PageErr.Failed → Rose (P.faults pages.old) (P.faults pages.new) }
-        ensures valid { P.valid pages.new }
-        ensures stays { P.stays pages.old pages.new }
+        ensures fields { IfOk result FitsFields }
+        ensures differs { OnOk result (IsTrue P.tells → space_of self.now ≤ 4072 → Differs (P.shows pages.old).present (P.shows pages.new).present 1) }
+        ensures kept { Continues P.Pages pages.old pages.new }
+        ensures cause { HasCause (P.shows pages.old).faults (P.shows pages.new).faults (IsErrOf result PageErr.Failed) }
     {
         let block = add_block(alloc, pages, self.pages, &self.bytes)?;
         Ok(Entry {

@@ -24,7 +24,7 @@ fits_number field value inside = record { within = inside; short = omega (arith,
 pub fits_text : {size : ℕ} (field : Field) (bytes : List ℕ) → field.at + field.width ≤ size → length bytes ≤ field.width → Fits size (text field bytes)
 fits_text field bytes inside small = record { within = inside; short = small }
 
--- a place lies before or behind a field
+-- a place lies before or after a field
 abbrev pub is_apart : ℕ → ℕ → Field → Bool
 is_apart place width field = leb (place + width) field.at || leb (field.at + field.width) place
 

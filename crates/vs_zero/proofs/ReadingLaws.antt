@@ -71,7 +71,7 @@ reads page zero is =
 
 -- ---- what follows the fields does not count
 
--- a field of a page is that of the page with more behind it
+-- a field of a page is that of the page with more after it
 kept : (page rest : List ℕ) → 1048 ≤ length page → (field : Field) → field.at + field.width ≤ 1048 → bytes_in field (page ++ rest) ≡ bytes_in field page
 kept page rest whole field inside = field_at-append_left page rest field.at field.width (omega arith)
 

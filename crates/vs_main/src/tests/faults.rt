@@ -1,4 +1,4 @@
-// Each call of a run fails in turn.
+// Each call of a run fails in turn, and is the last one.
 use super::{edit_f, host_with};
 use std::test::Fail;
 
@@ -11,6 +11,8 @@ const OPENING: u64 = 4;
 const FIRST_READ: u64 = 5;
 
 const COMMANDS: u64 = 20;
+
+const LAST_READ: u64 = FIRST_READ + COMMANDS + 1;
 
 const OPENING_REPLY: &[u8] = b"\"f\" 1L, 2B\n";
 
@@ -28,7 +30,7 @@ fn each_failing_call_has_its_status(rt: HostRuntime) -> Result<(), Fail> {
     for _ in 0..COMMANDS / 4 {
         script.extend_from_slice(b"%p\n1a\n.\n9a\n.\nq\n")?;
     }
-    for call in 1..FIRST_READ + COMMANDS + 3 {
+    for call in 1..LAST_READ + 2 {
         let mut expected = Vec::new(alloc);
         let mut status = 1;
         let mut marks = 0;
@@ -47,9 +49,9 @@ fn each_failing_call_has_its_status(rt: HostRuntime) -> Result<(), Fail> {
                 expected.extend_from_slice(REPLIES[(at % 4) as usize])?;
             }
             marks = whole;
-            if call == FIRST_READ || call == FIRST_READ + COMMANDS + 1 {
+            if call == FIRST_READ || call == LAST_READ {
                 status = 5;
-            } else if call <= FIRST_READ + COMMANDS {
+            } else if call < LAST_READ {
                 status = 6;
                 marks = whole + 1;
             }
@@ -60,6 +62,7 @@ fn each_failing_call_has_its_status(rt: HostRuntime) -> Result<(), Fail> {
         assert_eq!(rt; report.status, status, "call {call}");
         assert_eq!(rt; host.output(), expected.as_slice(), "call {call}");
         assert_eq!(rt; report.marks.len() as u64, marks, "call {call}");
+        assert_eq!(rt; host.calls(), call.min(LAST_READ), "call {call}");
     }
     Ok(())
 }

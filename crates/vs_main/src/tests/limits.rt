@@ -6,7 +6,10 @@ use std::test::Fail;
 
 const LIMIT: usize = 1_048_576;
 
-/// A script of so many bytes: one command, and empty lines behind it.
+/// The calls of the runs of a script below, without the reads: three on the folder, the opening reply and one reply.
+const OTHER_CALLS: usize = 5;
+
+/// A script of this size: one command, and empty lines after it.
 fn script_of(alloc: Global, size: usize) -> Result<Vec<u8>, Fail> {
     let mut script = Vec::new(alloc);
     script.extend_from_slice(b"%p\n")?;
@@ -28,6 +31,9 @@ fn a_script_has_a_mebibyte_and_no_more(rt: HostRuntime) -> Result<(), Fail> {
             assert_eq!(rt; report.status, status, "{size} bytes in pieces of {piece}");
             assert_eq!(rt; host.inner.output(), b"\"f\" 1L, 2B\na\n".as_slice());
             assert_eq!(rt; report.marks.len(), 1);
+            // The pieces up to the limit, and one read that finds the end, or the byte too many.
+            let reads = (LIMIT + piece - 1) / piece + 1;
+            assert_eq!(rt; host.inner.calls() as usize, OTHER_CALLS + reads);
         }
     }
     Ok(())
@@ -47,6 +53,8 @@ fn a_file_has_a_mebibyte_and_no_more(rt: HostRuntime) -> Result<(), Fail> {
     assert_eq!(rt; report.status, 12);
     assert_eq!(rt; host.output().len(), 0);
     assert_eq!(rt; report.marks.len(), 0);
+    // Whether the file is there, and its length.
+    assert_eq!(rt; host.calls(), 2);
     Ok(())
 }
 

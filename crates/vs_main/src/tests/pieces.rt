@@ -1,8 +1,10 @@
 // A host that gives its script in pieces of a size.
-ghost use Rattle.std.specs.Prelude.{◌<◌, true};
-ghost use Rattle.vs_host.specs.Memory.{scene_of};
+ghost use Rattle.std.specs.Prelude.{◌≡◌, ◌<◌, true};
+ghost use Rattle.vs_memory.specs.Memory.{scene_of, IsPlayed};
+ghost use Rattle.vs_memory.specs.Validity.{is_folder, newest};
 
-use vs_host::{Clock, Failed, Folder, Host, MemHost, Out, Script, World};
+use vs_host::{Clock, Failed, Folder, Host, Out, Script, World};
+use vs_memory::MemHost;
 
 #[derive(Drop)]
 pub struct Pieces {
@@ -15,6 +17,12 @@ impl World for Pieces {
     ghost tells = { record { folder = true; output = true; script = true; clock = true } };
 
     ghost scene = { λ s. scene_of s.inner };
+
+    ghost plays = { λ old new ok. IsPlayed old.inner new.inner ok };
+
+    ghost is_folder = { λ s told. is_folder s.inner.base s.inner.log };
+
+    ghost newest = { λ s told. newest s.inner };
 }
 
 impl Script for Pieces {
@@ -41,12 +49,47 @@ impl Folder for Pieces {
         self.inner.has(name)
     }
 
+    fn create(&mut self, name: &str) -> Result<(), Failed> {
+        self.inner.create(name)
+    }
+
     fn len(&mut self, name: &str) -> Result<u64, Failed> {
         self.inner.len(name)
     }
 
     fn read_at(&mut self, name: &str, at: u64, into: &mut [u8]) -> Result<(), Failed> {
         self.inner.read_at(name, at, into)
+    }
+
+    fn write_at(&mut self, name: &str, at: u64, piece: &[u8]) -> Result<(), Failed> {
+        self.inner.write_at(name, at, piece)
+    }
+
+    fn cut(&mut self, name: &str, len: u64) -> Result<(), Failed> {
+        self.inner.cut(name, len)
+    }
+
+    fn sync(&mut self, name: &str) -> Result<(), Failed> {
+        self.inner.sync(name)
+    }
+
+    fn rename(&mut self, from: &str, to: &str) -> Result<(), Failed> {
+        self.inner.rename(from, to)
+    }
+
+    fn remove(&mut self, name: &str) -> Result<(), Failed> {
+        self.inner.remove(name)
+    }
+
+    fn sync_names(&mut self) -> Result<(), Failed> {
+        self.inner.sync_names()
+    }
+
+    // This host tells its folder, so no caller can meet what the trait asks for.
+    fn damaged(&mut self)
+        ensures { self.new.size ≡ self.old.size }
+    {
+        self.inner.damaged();
     }
 }
 

@@ -1,5 +1,5 @@
 // The replies to each kind of command, and the statuses 0, 1 and 2.
-use super::{edit_f, host_with, words_of};
+use super::{arguments_of, edit_f, host_with};
 use std::test::Fail;
 use vs_top::run;
 
@@ -15,7 +15,7 @@ struct Case {
 
 const CASES: [Case; 14] = [
     Case {
-        shows: "a block is put behind a line, and all lines are printed",
+        shows: "a block is put after a line, and all lines are printed",
         file: Some(b"a\nb\nc\n"),
         script: b"2a\nx\n.\n%p\n",
         output: b"\"f\" 3L, 6B\nchange 1, 4 lines\na\nb\nx\nc\n",
@@ -31,7 +31,7 @@ const CASES: [Case; 14] = [
         marks: 0,
     },
     Case {
-        shows: "a line behind the last one does not exist",
+        shows: "a line after the last one does not exist",
         file: Some(b"a\n"),
         script: b"2a\nx\n.\n%p\n",
         output: b"\"f\" 1L, 2B\nE16: Invalid range\na\n",
@@ -63,7 +63,7 @@ const CASES: [Case; 14] = [
         marks: 1,
     },
     Case {
-        shows: "the text without lines has nothing to print, and 1 is its line 0",
+        shows: "an empty buffer has nothing to print, and 1 is its line 0",
         file: None,
         script: b"%p\n1a\nx\n.\n0a\ny\n.\n%p\n",
         output: b"\"f\" [New]\nE16: Invalid range\nchange 1, 1 lines\nchange 2, 2 lines\ny\nx\n",
@@ -71,7 +71,7 @@ const CASES: [Case; 14] = [
         marks: 4,
     },
     Case {
-        shows: "line 2 of the text without lines does not exist",
+        shows: "line 2 of an empty buffer does not exist",
         file: Some(b""),
         script: b"2a\nx\n.\n",
         output: b"\"f\" 0L, 0B\nE16: Invalid range\n",
@@ -79,7 +79,7 @@ const CASES: [Case; 14] = [
         marks: 1,
     },
     Case {
-        shows: "a file without a last line end has its rest as a last line",
+        shows: "text after the last newline of a file is a line",
         file: Some(b"a\nb"),
         script: b"%p\n",
         output: b"\"f\" 2L, 3B\na\nb\n",
@@ -95,7 +95,7 @@ const CASES: [Case; 14] = [
         marks: 1,
     },
     Case {
-        shows: "a script without a last line end has its rest as a last line",
+        shows: "text after the last newline of a script is a line",
         file: Some(b"a\n"),
         script: b"%p",
         output: b"\"f\" 1L, 2B\na\n",
@@ -155,7 +155,7 @@ fn marks_have_the_time_of_the_clock(rt: HostRuntime) -> Result<(), Fail> {
 }
 
 #[test]
-fn other_words_are_usage_without_a_call(rt: HostRuntime) -> Result<(), Fail> {
+fn other_arguments_are_usage_without_a_call(rt: HostRuntime) -> Result<(), Fail> {
     let alloc = rt.alloc();
     let longest =
         "n23456789a123456789b123456789c123456789d123456789e123456789f123456789g123456789h123456789i123456789j123456789k123456789l123456789m123456789n123456789o123456789p123456789q123456789r123456789s123456789t";
@@ -175,9 +175,9 @@ fn other_words_are_usage_without_a_call(rt: HostRuntime) -> Result<(), Fail> {
         &["edit", "a\x7f"],
         &["edit", too_long],
     ];
-    for words in refused {
+    for arguments in refused {
         let mut host = host_with(alloc, None, b"%p\n")?;
-        let list = words_of(alloc, words)?;
+        let list = arguments_of(alloc, arguments)?;
         let report = run(alloc, list.as_slice(), &mut host);
         assert_eq!(rt; report.status, 2);
         assert_eq!(rt; host.calls(), 0);
@@ -185,7 +185,7 @@ fn other_words_are_usage_without_a_call(rt: HostRuntime) -> Result<(), Fail> {
     }
     for name in [longest, "f", "...", ".vsnew.x", "~!"] {
         let mut host = host_with(alloc, None, b"")?;
-        let list = words_of(alloc, &["edit", name])?;
+        let list = arguments_of(alloc, &["edit", name])?;
         assert_eq!(rt; run(alloc, list.as_slice(), &mut host).status, 0, "{name}");
     }
     Ok(())

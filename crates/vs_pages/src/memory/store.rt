@@ -10,11 +10,7 @@ use std::alloc::Global;
 impl Pages for MemPages {
     ghost tells = { true };
 
-    ghost present = { present_of };
-
-    ghost committed = { committed_of };
-
-    ghost faults = { λ _. 0 };
+    ghost shows = { λ pages. record { present = present_of pages; committed = committed_of pages; faults = 0 } };
 
     ghost valid = { λ _. Unit {0} };
 
@@ -40,23 +36,23 @@ impl Pages for MemPages {
     }
 
     fn touch(&mut self, alloc: Global, at: u64, pages: u32, bytes: &[u8]) -> Result<(), PageErr> {
-        let mark = self.changes.len();
-        let outcome = self.write_pages(alloc, at, pages, bytes);
-        self.settle(mark, outcome)
+        self.keep_pages(alloc, at, pages)?;
+        self.write_pages(at, pages, bytes);
+        Ok(())
     }
 
     fn grow(&mut self, alloc: Global, pages: u32) -> Result<u64, PageErr> {
         let at = self.vacant_run(pages).ok_or(PageErr::NoMemory)?;
-        let mark = self.changes.len();
-        let outcome = self.add_pages(alloc, at, pages);
-        self.settle(mark, outcome)?;
+        self.add_pages(alloc, at, pages)?;
+        self.vacant.take(at, pages);
         Ok(at)
     }
 
-    fn free(&mut self, _alloc: Global, at: u64, pages: u32) -> Result<(), PageErr> {
-        let mark = self.changes.len();
-        let outcome = self.remove_pages(at, pages);
-        self.settle(mark, outcome)
+    fn free(&mut self, alloc: Global, at: u64, pages: u32) -> Result<(), PageErr> {
+        self.keep_pages(alloc, at, pages)?;
+        self.vacant.put(at, pages)?;
+        self.remove_pages(at, pages);
+        Ok(())
     }
 
     fn count(&self) -> u64 {
@@ -64,11 +60,11 @@ impl Pages for MemPages {
     }
 
     fn commit(&mut self) {
-        self.changes.clear();
+        self.keep_all();
     }
 
     fn rollback(&mut self) {
-        self.undo_to(0);
+        self.restore_all();
     }
 
     // No caller can meet what the trait asks here, since this store tells its maps. So it asks for nothing.

@@ -27,7 +27,7 @@ fn parts_make_up<P: Pages>(
     file: &[u8],
 ) -> Result<bool, PageErr>
     requires valid { P.valid pages.old }
-    requires fits { Fits P.tells (P.present pages.old) tree.old.present }
+    requires fits { Fits P.tells (P.shows pages.old).present tree.old.present }
 {
     let count = tree.len();
     let mut copied = Vec::new(alloc);

@@ -27,7 +27,7 @@ fn play<S: LineStore>(
     Ok(())
 }
 
-// Fails one call of a row over a committed text, and says whether the row had so many calls.
+// Fails one call of a row over a committed text, and says whether the row had that many calls.
 fn fail_once(rt: &impl Abort, alloc: Global, call: u64) -> Result<bool, Fail> {
     let memory = MemPages::new(alloc)?;
     let mut pages = FailingPages::<true>::new(memory);

@@ -59,7 +59,7 @@ fn assert_same<S: LineStore, T: LineStore>(
     Ok(())
 }
 
-// Plays so many calls and compares at intervals, and gives how often memory was refused. Both are rolled back then.
+// Plays this number of calls and compares at intervals, and gives how often memory was refused. Both are rolled back then.
 fn play_all<S: LineStore, T: LineStore>(
     rt: &impl Abort,
     alloc: Global,

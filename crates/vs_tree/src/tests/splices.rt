@@ -54,7 +54,7 @@ impl Numbers {
         Ok(lines)
     }
 
-    // A splice of a text of so many lines; a few take out all of them.
+    // A splice of a text with this number of lines; a few take out all of them.
     pub fn splice(&mut self, alloc: Global, len: u64) -> Result<Splice, AllocError> {
         let new = self.lines(alloc)?;
         if self.below(1_000) == 0 {

@@ -15,5 +15,5 @@ loop-preserved g c = record {
       let within : middle ≤ m = omega (arith, c.len-middle.ensures, g.met.S.LineStore.has_lines c.loop.store (samples m) before, length-replicate m sample) in
       let same = ap (λ (lines : List (List ℕ)). splice (samples m) middle 0 lines) (c.deref.ensures.value ∙ c.in_ok-line.ensures) in
       let next : m + 1 ≡ n + (c.loop.counter + 1) = omega arith in
-      subst (λ (text : List (List ℕ)). g.S.LineStore.has c.put.new.store text) (same ∙ splice_samples m middle 1 within ∙ ap samples next) (c.in_ok-put.ensures.text (samples m) before);
+      subst (λ (text : List (List ℕ)). (g.S.LineStore.shows c.put.new.store).present.Is text) (same ∙ splice_samples m middle 1 within ∙ ap samples next) (c.in_ok-put.ensures.text (samples m) before);
 }

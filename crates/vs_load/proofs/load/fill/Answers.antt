@@ -17,6 +17,6 @@ loop-done-preserved g c = record {
       let part : run ≤ 10000 = omega arith in
       let put = splice_part c.deref.result.now 10000 run m (c.deref.ensures.value ∙ c.in_ok-lines.ensures) part in
       let next : m + run ≡ n + (c.loop-done.done + run) = omega arith in
-      subst (λ (text : List (List ℕ)). g.S.LineStore.has c.put.new.store text) (behind ∙ put ∙ ap samples next) (c.in_ok-put.ensures.text (samples m) before);
+      subst (λ (text : List (List ℕ)). (g.S.LineStore.shows c.put.new.store).present.Is text) (behind ∙ put ∙ ap samples next) (c.in_ok-put.ensures.text (samples m) before);
   within = omega arith;
 }

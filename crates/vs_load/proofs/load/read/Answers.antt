@@ -12,18 +12,17 @@ use Rattle.vs_load.proofs.load.read.Goals as goal
 
 pub loop-done-preserved : goal.loop-done-preserved
 loop-done-preserved g c =
-    let present = g.P.Pages.present in
     let done = c.loop-done.done in
     let count = c.min-count.result in
     record {
-      valid = c.in_ok-copy_lines.ensures.valid;
-      fits = fits_kept _ _ _ _ _ c.copy_lines.ensures.present (ap (λ (t : LineTree). t.present) c.copy_lines.ensures.tree) c.loop-done.invariant.fits;
+      valid = c.copy_lines.ensures.kept.valid;
+      fits = fits_kept _ _ _ _ _ c.copy_lines.ensures.kept.present (ap (λ (t : LineTree). t.present) c.copy_lines.ensures.tree) c.loop-done.invariant.fits;
       tree = c.copy_lines.ensures.tree ∙ c.loop-done.invariant.tree;
-      present = λ told. c.copy_lines.ensures.present told ∙ c.loop-done.invariant.present told;
+      present = λ told. c.copy_lines.ensures.kept.present told ∙ c.loop-done.invariant.present told;
       sum = λ told n has.
-          let kept : HasText (present c.args.pages.now) c.loop-done.tree.present (samples n) =
-          subst (λ (t : LineTree). HasText (present c.args.pages.now) t.present (samples n)) (sym c.loop-done.invariant.tree) has in
-          let here : HasText (present c.loop-done.pages) c.loop-done.tree.present (samples n) =
+          let kept : HasText (g.P.Pages.shows c.args.pages.now).present c.loop-done.tree.present (samples n) =
+          subst (λ (t : LineTree). HasText (g.P.Pages.shows c.args.pages.now).present t.present (samples n)) (sym c.loop-done.invariant.tree) has in
+          let here : HasText (g.P.Pages.shows c.loop-done.pages).present c.loop-done.tree.present (samples n) =
           subst (λ (m : Map). HasText m c.loop-done.tree.present (samples n)) (sym (c.loop-done.invariant.present told)) kept in
           let within : done + count ≤ n = omega (arith, here.lines, length-replicate n sample) in
           let copied : c.deref.result.now ≡ file_of (take count (drop done (samples n))) =

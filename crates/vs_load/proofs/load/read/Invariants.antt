@@ -6,10 +6,10 @@ use Rattle.vs_load.proofs.load.read.Given as goal
 abbrev pub invariant-loop-done : goal.invariant-loop-done
 invariant-loop-done g l = record {
   valid : g.P.Pages.valid l.pages;
-  fits : Fits g.P.Pages.tells (g.P.Pages.present l.pages) l.tree.present;
+  fits : Fits g.P.Pages.tells (g.P.Pages.shows l.pages).present l.tree.present;
   tree : l.tree ≡ l.fn.tree;
-  present : IsTrue g.P.Pages.tells → g.P.Pages.present l.pages ≡ g.P.Pages.present l.fn.pages;
-  sum : IsTrue g.P.Pages.tells → (n : ℕ) → HasText (g.P.Pages.present l.fn.pages) l.fn.tree.present (samples n) → l.sum ≡ 4690 * l.done;
+  present : IsTrue g.P.Pages.tells → (g.P.Pages.shows l.pages).present ≡ (g.P.Pages.shows l.fn.pages).present;
+  sum : IsTrue g.P.Pages.tells → (n : ℕ) → HasText (g.P.Pages.shows l.fn.pages).present l.fn.tree.present (samples n) → l.sum ≡ 4690 * l.done;
   within : l.done ≤ l.tree.present.lines;
 }
 

@@ -5,10 +5,11 @@ use Rattle.vs_pages.specs.Memory.{present_of}
 use Rattle.vs_tree.specs.Texts.{HasText}
 use Rattle.vs_load.specs.Loads.{sample, samples, lines_after}
 use Rattle.vs_load.proofs.Samples.{bytes_of-samples}
+use Rattle.vs_tree_blocks.proofs.FirstLemmas.{fresh_first}
 use Rattle.vs_load.proofs.load.run.Goals as goal
 
 pub new-requires-2-clause-there : goal.new-requires-2-clause-there
-new-requires-2-clause-there c = λ _. subst (λ (m : Map). IsSome (pages_at m 1 2)) (sym c.in_ok-memory.ensures.present) refl
+new-requires-2-clause-there c = λ _. fresh_first _ c.in_ok-memory.ensures.present
 
 pub returns : goal.returns
 returns c =

@@ -1,11 +1,11 @@
-use Rattle.std.proofs.Common.{◌≡◌, ◌∙◌, ap, take}
-use Rattle.std.proofs.lemmas.List.{take_all}
-use Rattle.vs_text.specs.Text.{lines_of, file_of}
+use Rattle.std.proofs.Common.{◌≡◌, ◌∙◌, ◌++◌, ap}
+use Rattle.vs_text.specs.Text.{lines_of, file_of, IsText}
 use Rattle.vs_text.proofs.FileForm.{lines_of-file_of}
 use Rattle.vs_text.proofs.write.write_text.Goals as goal
 
 pub returns-clause-reads_back : goal.returns-clause-reads_back
 returns-clause-reads_back c =
-    let lines = c.lines-line-items.result.now in
-    let all : take c.loop-line.line-index lines ≡ lines = take_all c.loop-line.line-index lines c.loop-line-test.false in
-    ap lines_of (c.loop-line.invariant.bytes ∙ ap file_of all) ∙ (lines_of-file_of lines (rw all at c.loop-line.invariant.text) ∙ c.lines-line-items.ensures)
+    let lines = c.lines.result.now in
+    let made = c.in_ok-append_lines.ensures in
+    let bytes : c.append_lines.new.into.items ≡ file_of lines = made.bytes ∙ ap (λ before. before ++ file_of lines) c.new-bytes.ensures.items in
+    ap lines_of bytes ∙ (lines_of-file_of lines made.text ∙ c.lines.ensures)

@@ -1,9 +1,8 @@
 use Rattle.std.proofs.Common.{◌≡◌, ℕ, ◌+◌, ◌-◌, ◌++◌, take, drop, refl, sym, ap, subst, ◌∙◌, arith, append-nil}
-use Rattle.vs_pages.specs.Maps.{Map}
-use Rattle.vs_tree_laws.specs.Trees.{HasLines}
-use Rattle.vs_tree_blocks.specs.Blocks.{tree_format}
+use Rattle.vs_pages.proofs.Steps.{OnlyReads-none, OnlyReads-trans}
 use Rattle.vs_tree.specs.Reads.{AddsLines, file_of_stored}
 use Rattle.vs_tree.proofs.Added.{adds_none, adds_more}
+use Rattle.vs_tree.proofs.ChangeLemmas.{tree_kept}
 use Rattle.vs_tree.proofs.Copies.{file_more}
 use Rattle.vs_tree.proofs.copy.copy_stored.Goals as goal
 
@@ -11,43 +10,33 @@ pub copies-init : goal.copies-init
 copies-init g c = record {
   begun = omega arith;
   rest = refl;
-  lines = λ told lines has within small.
+  lines = λ told lines has.
       let none : c.args.at - c.args.at ≡ 0 = omega arith in
       sym (append-nil c.args.into.now.items) ∙ sym (ap (λ n. c.args.into.now.items ++ file_of_stored (take n (drop c.args.at lines))) none);
   adds = adds_none c.args.into.now.items (c.args.at - c.args.at) (omega arith);
-  present = λ told. refl;
-  committed = λ told. refl;
-  later = omega arith;
-  valid = c.requires.valid;
-  stays = g.met.P.Pages.stays_itself c.args.pages.now;
+  kept = OnlyReads-none g.met.P.Pages.stays_itself c.requires.valid;
+  faults = omega arith;
 }
 
 pub copy_block-requires-clause-there : goal.copy_block-requires-clause-there
-copy_block-requires-clause-there g c = λ told. let r = c.requires.there told in
-    let P : Map → Type 0 = λ m. HasLines tree_format m c.args.height r.0 in
-    (r.0, subst P (sym (c.copies.invariant.present told)) r.1, omega (arith, r.2, c.copies.invariant.rest), r.3, r.4)
+copy_block-requires-clause-there g c = λ told. let r = c.requires.there told in (r.0, tree_kept _ _ c.args.root r.0 (c.copies.invariant.kept.present told) r.1, r.2)
 
 pub copies-preserved : goal.copies-preserved
 copies-preserved g c = record {
   begun = omega arith;
   rest = omega (arith, c.in_ok-copied.ensures.some);
-  lines = λ told lines has within small.
-      let P : Map → Type 0 = λ m. HasLines tree_format m c.args.height lines in
-      let here : HasLines tree_format (g.P.Pages.present c.copies.pages) c.args.height lines = subst P (sym (c.copies.invariant.present told)) has in
+  lines = λ told lines has.
       file_more lines c.args.at c.copies.place c.in_ok-copied.copied (c.copies.place + c.in_ok-copied.copied) c.args.into.now.items c.copies.into.items c.copy_block.new.into.items c.copies.invariant.begun refl
-      (c.copies.invariant.lines told lines has within small) (c.in_ok-copied.ensures.lines told lines here (omega arith) small);
+      (c.copies.invariant.lines told lines has) (c.in_ok-copied.ensures.lines told lines (tree_kept _ _ c.args.root lines (c.copies.invariant.kept.present told) has));
   adds = adds_more c.args.into.now.items c.copies.into.items c.copy_block.new.into.items (c.copies.place - c.args.at) c.in_ok-copied.copied (c.copies.place + c.in_ok-copied.copied - c.args.at) (omega arith) c.copies.invariant.adds c.in_ok-copied.ensures.adds;
-  present = λ told. c.copy_block.ensures.present told ∙ c.copies.invariant.present told;
-  committed = λ told. c.copy_block.ensures.committed told ∙ c.copies.invariant.committed told;
-  later = omega (arith, c.copy_block.ensures.later, c.copies.invariant.later);
-  valid = c.copy_block.ensures.valid;
-  stays = g.met.P.Pages.stays_on _ _ _ c.copies.invariant.stays c.copy_block.ensures.stays;
+  kept = OnlyReads-trans g.met.P.Pages.stays_on c.copies.invariant.kept c.copy_block.ensures.kept;
+  faults = omega (arith, c.copy_block.ensures.cause.later, c.copies.invariant.faults);
 }
 
 pub returns-clause-lines : goal.returns-clause-lines
-returns-clause-lines g c = λ told lines has within small.
+returns-clause-lines g c = λ told lines has.
     let all : c.copies.place - c.args.at ≡ c.args.count = omega arith in
-    c.copies.invariant.lines told lines has within small ∙ ap (λ n. c.args.into.now.items ++ file_of_stored (take n (drop c.args.at lines))) all
+    c.copies.invariant.lines told lines has ∙ ap (λ n. c.args.into.now.items ++ file_of_stored (take n (drop c.args.at lines))) all
 
 pub returns-clause-adds : goal.returns-clause-adds
 returns-clause-adds g c =

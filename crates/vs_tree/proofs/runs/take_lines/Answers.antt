@@ -1,64 +1,72 @@
-use Rattle.std.proofs.Common.{◌≡◌, ℕ, ◌+◌, ◌≤◌, List, length, ap, subst, ◌∙◌, arith, ◌*◌, [], get_or, sym}
+use Rattle.std.proofs.Common.{◌≡◌, ℕ, ◌+◌, ◌*◌, ◌≤◌, ◌<◌, ◌^◌, List, [], length, get_or, refl, sym, ap, subst, ◌∙◌, arith}
 use Rattle.vs_text.specs.Text.{bytes_of}
-use Rattle.vs_tree_laws.specs.Trees.{HasLines}
+use Rattle.vs_pages.proofs.Steps.{Continues-none, Continues-trans}
+use Rattle.vs_tree_shape.proofs.Differences.{differs_none, differs_from}
+use Rattle.vs_tree_shape.specs.Trees.{HasLines}
 use Rattle.vs_tree_blocks.specs.Blocks.{tree_format}
-use Rattle.vs_tree.specs.Runs.{without_lines, run_of}
+use Rattle.vs_tree_blocks.specs.Edits.{FitsPage}
+use Rattle.vs_tree.specs.Runs.{HasTree, without_lines, run_of}
+use Rattle.vs_tree.specs.declared.walk.Root.{Root}
 use Rattle.vs_tree.proofs.Rounds.{length_without, take_next, bytes_next, bytes_run, without_none}
-use Rattle.vs_tree_laws.proofs.Differences.{differs_from}
 use Rattle.vs_tree.proofs.Bounds.{slight_at}
-use Rattle.vs_tree_blocks.specs.Edits.{IsBrief}
 use Rattle.vs_tree.proofs.runs.take_lines.Goals as goal
 
+pub rounds-init : goal.rounds-init
+rounds-init g c = record {
+  within = omega arith;
+  taken = λ told lines has. subst (λ (xs : List (List ℕ)). HasTree (g.P.Pages.shows c.args.pages.now).present c.args.root xs) (sym (without_none lines c.args.at)) has;
+  bytes = λ told lines has few. refl;
+  lines = omega arith;
+  higher = omega arith;
+  start = λ none. (refl, λ told. refl);
+  differs = λ told lines has one brief. differs_none _ _ _ refl;
+  kept = Continues-none g.met.P.Pages.stays_itself c.requires.valid;
+  faults = omega arith;
+}
+
 pub edit_tree-requires-clause-there : goal.edit_tree-requires-clause-there
-edit_tree-requires-clause-there g c = λ told. let r = c.requires.there told in
-    let n = length_without r.0 c.args.at c.gone.gone (omega (arith, r.2.within, c.gone.invariant.within)) in
-    (without_lines r.0 c.args.at c.gone.gone, (c.gone.invariant.taken told r.0 r.1 r.2).0, omega (arith, n, r.2.within, c.gone-test.true), omega (arith, n, r.2.small))
+edit_tree-requires-clause-there g c = λ told. let r = c.requires.there told in (without_lines r.0 c.args.at c.rounds.removed, c.rounds.invariant.taken told r.0 r.1)
 
-pub damaged-requires-clause-silent : goal.damaged-requires-clause-silent
-damaged-requires-clause-silent g c = λ told. let r = c.requires.there told in
-    let gone : ℕ = c.in_ok-after.after.gone.lines in
-    let n = length_without r.0 c.args.at c.gone.gone (omega (arith, r.2.within, c.gone.invariant.within)) in
-    let here = c.gone.invariant.taken told r.0 r.1 r.2 in
-    let after = c.in_ok-after.ensures.edited told (without_lines r.0 c.args.at c.gone.gone) here.0 (omega (arith, n, r.2.within, c.gone-test.true)) (omega (arith, n, r.2.small)) in
-    let next = bytes_next r.0 c.args.at c.gone.gone gone (omega (arith, r.2.within, c.in_ok-after.ensures.may_take.1)) in
-    omega (arith, here.1, after.1.bytes_are, next, bytes_run r.0 c.args.at (c.gone.gone + gone), r.2.short, c.in_default.ensures)
-
-pub gone-preserved : goal.gone-preserved
-gone-preserved g c =
-    let inv = c.gone.invariant in
-    let gone : ℕ = c.in_ok-after.after.gone.lines in
+pub rounds-preserved : goal.rounds-preserved
+rounds-preserved g c =
+    let inv = c.rounds.invariant in
+    let gone : ℕ = c.in_ok-after.after.removed.lines in
+    let took = c.in_ok-after.ensures.may_take in
     record {
-      within = omega (arith, c.in_ok-after.ensures.may_take.1, inv.within);
-      taken = λ told lines has run.
-          let n = length_without lines c.args.at c.gone.gone (omega (arith, run.within, inv.within)) in
-          let here = inv.taken told lines has run in
-          let after = c.in_ok-after.ensures.edited told (without_lines lines c.args.at c.gone.gone) here.0 (omega (arith, n, run.within, c.gone-test.true)) (omega (arith, n, run.small)) in
-          let inside : c.args.at + (c.gone.gone + gone) ≤ length lines = omega (arith, run.within, c.in_ok-after.ensures.may_take.1) in (
-            subst (λ (xs : List (List ℕ)). HasLines tree_format (g.P.Pages.present c.edit_tree.new.pages) c.in_ok-after.after.height xs) (take_next lines c.args.at c.gone.gone gone inside) after.0,
-            omega (arith, here.1, after.1.bytes_are, bytes_next lines c.args.at c.gone.gone gone inside, c.in-Some.ensures),
-          );
-      start = λ none. absurd (omega (arith, none, c.in_ok-after.ensures.may_take.0));
-      differs = λ told lines has run one brief.
-          let none : c.gone.gone ≡ 0 = omega (arith, one, c.gone-test.true) in
+      within = omega (arith, took.1, inv.within);
+      taken = λ told lines has.
+          let here = inv.taken told lines has in
+          let inside : c.args.at + (c.rounds.removed + gone) ≤ length lines = omega (arith, has.count, c.requires.within, took.1) in
+          let after = c.in_ok-after.ensures.edited told (without_lines lines c.args.at c.rounds.removed) here in
+          record {
+            lines_are = subst (λ (xs : List (List ℕ)). HasLines tree_format (g.P.Pages.shows c.edit_tree.new.pages).present c.in_ok-after.after.root.height xs) (take_next lines c.args.at c.rounds.removed gone inside) after.0;
+            count = omega (arith, length_without lines c.args.at (c.rounds.removed + gone) inside, has.count, c.in_ok-after.ensures.lines, inv.lines);
+          };
+      bytes = λ told lines has few.
+          let here = inv.taken told lines has in
+          let inside : c.args.at + (c.rounds.removed + gone) ≤ length lines = omega (arith, has.count, c.requires.within, took.1) in
+          let after = c.in_ok-after.ensures.edited told (without_lines lines c.args.at c.rounds.removed) here in
+          omega (arith, inv.bytes told lines has few, after.1.bytes_are, bytes_next lines c.args.at c.rounds.removed gone inside, bytes_run lines c.args.at (c.rounds.removed + gone), few, c.saturating_add-bytes.ensures);
+      lines = omega (arith, c.in_ok-after.ensures.lines, inv.lines);
+      higher = omega (arith, inv.higher, c.in_ok-after.ensures.higher, took.0);
+      start = λ none. absurd (omega (arith, none, took.0));
+      differs = λ told lines has one brief.
+          let none : c.rounds.removed ≡ 0 = omega (arith, one, c.rounds-test.true) in
           let same = inv.start none in
-          let n = length_without lines c.args.at c.gone.gone (omega (arith, run.within, inv.within)) in
-          let all : without_lines lines c.args.at c.gone.gone ≡ lines = ap (λ (k : ℕ). without_lines lines c.args.at k) none ∙ without_none lines c.args.at in
-          let line = slight_at lines c.args.at c.args.count (omega (arith, c.gone-test.true)) (omega (arith, run.within, c.gone-test.true)) brief in
-          differs_from _ (g.P.Pages.present c.gone.pages) _ (2 * c.gone.higher + 4) (2 * c.args.height + 4) (omega (arith, same.0)) (same.1 told)
-          (c.in_ok-after.ensures.differs told (without_lines lines c.args.at c.gone.gone) (inv.taken told lines has run).0 (omega (arith, n, run.within, c.gone-test.true)) (omega (arith, n, run.small))
-          (subst (λ (xs : List (List ℕ)). IsBrief (get_or xs c.args.at [])) (sym all) line));
-      committed = λ told. c.edit_tree.ensures.committed told ∙ inv.committed told;
-      later = omega (arith, c.edit_tree.ensures.later, inv.later);
-      valid = c.edit_tree.ensures.valid;
-      stays = g.met.P.Pages.stays_on _ _ _ inv.stays c.edit_tree.ensures.stays;
+          let all : without_lines lines c.args.at c.rounds.removed ≡ lines = ap (λ (k : ℕ). without_lines lines c.args.at k) none ∙ without_none lines c.args.at in
+          let line = slight_at lines c.args.at c.args.count (omega (arith, c.rounds-test.true)) (omega (arith, has.count, c.requires.within, c.rounds-test.true)) brief in
+          differs_from _ (g.P.Pages.shows c.rounds.pages).present _ (2 * c.rounds.now.height + 4) (2 * c.args.root.height + 4) (omega (arith, ap (λ (r : Root). r.height) same.0)) (same.1 told)
+          (c.in_ok-after.ensures.differs told (without_lines lines c.args.at c.rounds.removed) (inv.taken told lines has) (subst (λ (xs : List (List ℕ)). FitsPage (get_or xs c.args.at [])) (sym all) line));
+      kept = Continues-trans g.met.P.Pages.stays_on inv.kept c.edit_tree.ensures.kept;
+      faults = omega (arith, c.edit_tree.ensures.cause.later, inv.faults);
     }
 
 pub returns-clause-bytes : goal.returns-clause-bytes
-returns-clause-bytes g c = λ told lines has run.
-    let all : c.gone.gone ≡ c.args.count = omega (arith, c.gone.invariant.within, c.gone-test.false) in
-    (c.gone.invariant.taken told lines has run).1 ∙ ap (λ i. bytes_of (run_of lines c.args.at i)) all
+returns-clause-bytes g c = λ told lines has few.
+    let all : c.rounds.removed ≡ c.args.count = omega (arith, c.rounds.invariant.within, c.rounds-test.false) in
+    c.rounds.invariant.bytes told lines has few ∙ ap (λ i. bytes_of (run_of lines c.args.at i)) all
 
 pub returns-clause-taken : goal.returns-clause-taken
-returns-clause-taken g c = λ told lines has run.
-    let all : c.gone.gone ≡ c.args.count = omega (arith, c.gone.invariant.within, c.gone-test.false) in
-    subst (λ (i : ℕ). HasLines tree_format (g.P.Pages.present c.gone.pages) c.gone.higher (without_lines lines c.args.at i)) all (c.gone.invariant.taken told lines has run).0
+returns-clause-taken g c = λ told lines has.
+    let all : c.rounds.removed ≡ c.args.count = omega (arith, c.rounds.invariant.within, c.rounds-test.false) in
+    subst (λ (i : ℕ). HasTree (g.P.Pages.shows c.rounds.pages).present c.rounds.now (without_lines lines c.args.at i)) all (c.rounds.invariant.taken told lines has)

@@ -1,25 +1,24 @@
-use Rattle.std.proofs.Common.{◌≡◌, ℕ, ◌+◌, ◌-◌, ◌*◌, ◌≤◌, List, All, IsTrue}
+use Rattle.std.proofs.Common.{◌≡◌, ℕ, ◌+◌, ◌-◌, ◌*◌, ◌<◌, ◌≤◌, ◌^◌, List, All, IsTrue}
 use Rattle.vs_text.specs.Text.{bytes_of}
-use Rattle.vs_tree_laws.specs.Trees.{HasLines}
-use Rattle.vs_tree_blocks.specs.Blocks.{tree_format}
-use Rattle.vs_tree_laws.specs.Differs.{Differs}
-use Rattle.vs_tree_blocks.specs.Edits.{IsBrief}
-use Rattle.vs_tree.specs.Runs.{IsRunIn, without_lines, run_of}
+use Rattle.vs_pages.specs.Calls.{Continues}
+use Rattle.vs_tree_shape.specs.Differs.{Differs}
+use Rattle.vs_tree_blocks.specs.Edits.{FitsPage}
+use Rattle.vs_tree.specs.Runs.{HasTree, without_lines, run_of}
 use Rattle.vs_tree.proofs.runs.take_lines.Given as goal
 
-abbrev pub invariant-gone : goal.invariant-gone
-invariant-gone g l = record {
-  within : l.gone ≤ l.count;
-  taken : IsTrue g.P.Pages.tells → (lines : List (List ℕ)) → HasLines tree_format (g.P.Pages.present l.fn.pages) l.height lines → IsRunIn lines l.at l.count
-      → HasLines tree_format (g.P.Pages.present l.pages) l.higher (without_lines lines l.at l.gone) × (l.bytes ≡ bytes_of (run_of lines l.at l.gone));
-  start : l.gone ≡ 0 → (l.higher ≡ l.height) × (IsTrue g.P.Pages.tells → g.P.Pages.present l.pages ≡ g.P.Pages.present l.fn.pages);
-  differs : IsTrue g.P.Pages.tells → (lines : List (List ℕ)) → HasLines tree_format (g.P.Pages.present l.fn.pages) l.height lines → IsRunIn lines l.at l.count → l.count ≤ 1 → All IsBrief (run_of lines l.at l.count)
-      → Differs (g.P.Pages.present l.fn.pages) (g.P.Pages.present l.pages) (2 * l.height + 4);
-  committed : IsTrue g.P.Pages.tells → g.P.Pages.committed l.pages ≡ g.P.Pages.committed l.fn.pages;
-  later : g.P.Pages.faults l.fn.pages ≤ g.P.Pages.faults l.pages;
-  valid : g.P.Pages.valid l.pages;
-  stays : g.P.Pages.stays l.fn.pages l.pages;
+abbrev pub invariant-rounds : goal.invariant-rounds
+invariant-rounds g l = record {
+  within : l.removed ≤ l.count;
+  taken : IsTrue g.P.Pages.tells → (lines : List (List ℕ)) → HasTree (g.P.Pages.shows l.fn.pages).present l.fn.root lines → HasTree (g.P.Pages.shows l.pages).present l.now (without_lines lines l.at l.removed);
+  bytes : IsTrue g.P.Pages.tells → (lines : List (List ℕ)) → HasTree (g.P.Pages.shows l.fn.pages).present l.fn.root lines → bytes_of lines < 2 ^ 63 → l.bytes ≡ bytes_of (run_of lines l.at l.removed);
+  lines : l.now.lines + l.removed ≡ l.fn.root.lines;
+  higher : l.now.height ≤ l.fn.root.height + l.removed;
+  start : l.removed ≡ 0 → (l.now ≡ l.fn.root) × (IsTrue g.P.Pages.tells → (g.P.Pages.shows l.pages).present ≡ (g.P.Pages.shows l.fn.pages).present);
+  differs : IsTrue g.P.Pages.tells → (lines : List (List ℕ)) → HasTree (g.P.Pages.shows l.fn.pages).present l.fn.root lines → l.count ≤ 1 → All FitsPage (run_of lines l.at l.count)
+      → Differs (g.P.Pages.shows l.fn.pages).present (g.P.Pages.shows l.pages).present (2 * l.fn.root.height + 4);
+  kept : Continues g.P.Pages l.fn.pages l.pages;
+  faults : (g.P.Pages.shows l.fn.pages).faults ≤ (g.P.Pages.shows l.pages).faults;
 }
 
-abbrev pub decreases-gone : goal.decreases-gone
-decreases-gone g l = l.count - l.gone
+abbrev pub decreases-rounds : goal.decreases-rounds
+decreases-rounds g l = l.count - l.removed

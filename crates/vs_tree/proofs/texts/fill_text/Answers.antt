@@ -1,36 +1,26 @@
-use Rattle.std.proofs.Common.{◌≡◌, ℕ, ◌+◌, ◌<◌, List, [], ◌∷◌, length, refl, sym, subst, arith, ◌*◌}
-use Rattle.vs_tree_laws.specs.Trees.{HasLines}
+use Rattle.std.proofs.Common.{◌≡◌, ℕ, ◌+◌, ◌*◌, ◌<◌, ◌≤◌, List, [], ◌∷◌, All, length, map, refl, sym, ap, subst, ◌∙◌, arith}
+use Rattle.std.proofs.lemmas.List.Elements.{All-from_recursion}
+use Rattle.vs_text.specs.Text.{bytes_of, stored, stored_line}
+use Rattle.vs_tree_shape.specs.Trees.{HasLines}
 use Rattle.vs_tree_blocks.specs.Blocks.{tree_format}
-use Rattle.vs_tree.specs.Runs.{with_lines}
-use Rattle.vs_tree.proofs.StoredLemmas.{stored_none, bytes_of-with, filled, length_with_all}
-use Rattle.vs_tree_laws.proofs.Differences.{differs_none, differs_then}
-use Rattle.vs_tree.proofs.Bounds.{brief_filled}
+use Rattle.vs_tree_blocks.specs.Edits.{FitsPage}
+use Rattle.vs_edit.specs.Splices.{splice}
+use Rattle.vs_tree_shape.proofs.Differences.{differs_none, differs_most}
+use Rattle.std.proofs.Common.{take, drop}
+use Rattle.vs_tree.specs.declared.walk.Root.{Root}
+use Rattle.vs_tree.proofs.StoredLemmas.{stored_none, tree_of, filled}
 use Rattle.vs_tree.proofs.texts.fill_text.Goals as goal
 
-pub put_lines-requires-clause-there : goal.put_lines-requires-clause-there
-put_lines-requires-clause-there g c = λ told. let r = c.requires.fits.one told in
-    let base : HasLines tree_format (g.P.Pages.present c.args.pages.now) c.args.now.height ([] ∷ []) = subst (λ (xs : List (List ℕ)). HasLines tree_format (g.P.Pages.present c.args.pages.now) c.args.now.height xs) (stored_none r.0 (omega (arith, r.1.lines, c.requires.empty))) r.1.tree in
-    ([] ∷ [], base, record { within = omega arith; some = omega arith; small = omega arith }, omega (arith, c.requires.few_lines))
-
-pub take_lines-requires-clause-there : goal.take_lines-requires-clause-there
-take_lines-requires-clause-there g c = λ told. let r = c.requires.fits.one told in
-    let base : HasLines tree_format (g.P.Pages.present c.args.pages.now) c.args.now.height ([] ∷ []) = subst (λ (xs : List (List ℕ)). HasLines tree_format (g.P.Pages.present c.args.pages.now) c.args.now.height xs) (stored_none r.0 (omega (arith, r.1.lines, c.requires.empty))) r.1.tree in
-    let n : length (with_lines ([] ∷ []) 0 c.args.new.now) ≡ length (let xs : List (List ℕ) = [] ∷ [] in xs) + length c.args.new.now = length_with_all ([] ∷ []) c.args.new.now 0 (omega arith) in (
-      with_lines ([] ∷ []) 0 c.args.new.now,
-      c.in_ok-height.ensures.put told ([] ∷ []) base (record { within = omega arith; some = omega arith; small = omega arith }) (omega (arith, c.requires.few_lines)),
-      record { within = omega (arith, n); small = omega (arith, n, c.requires.few_lines); short = omega (arith, bytes_of-with ([] ∷ []) c.args.new.now 0, c.requires.few_bytes told) },
-    )
+pub exchange_lines-requires-clause-there : goal.exchange_lines-requires-clause-there
+exchange_lines-requires-clause-there g c = λ told. let r = c.requires.fits.one told in (stored r.0, tree_of _ c.args.now c.root.result r.0 c.root.ensures r.1)
 
 pub returns-clause-text : goal.returns-clause-text
 returns-clause-text g c = λ told. let r = c.requires.fits.one told in
-    let base : HasLines tree_format (g.P.Pages.present c.args.pages.now) c.args.now.height ([] ∷ []) = subst (λ (xs : List (List ℕ)). HasLines tree_format (g.P.Pages.present c.args.pages.now) c.args.now.height xs) (stored_none r.0 (omega (arith, r.1.lines, c.requires.empty))) r.1.tree in
-    let n : length (with_lines ([] ∷ []) 0 c.args.new.now) ≡ length (let xs : List (List ℕ) = [] ∷ [] in xs) + length c.args.new.now = length_with_all ([] ∷ []) c.args.new.now 0 (omega arith) in
     let some : 0 < length c.args.new.now = grind arith in
-    let put = c.in_ok-height.ensures.put told ([] ∷ []) base (record { within = omega arith; some = omega arith; small = omega arith }) (omega (arith, c.requires.few_lines)) in
-    let taken = c.in_ok-taken.ensures.taken told (with_lines ([] ∷ []) 0 c.args.new.now) put (record { within = omega (arith, n); small = omega (arith, n, c.requires.few_lines); short = omega (arith, bytes_of-with ([] ∷ []) c.args.new.now 0, c.requires.few_bytes told) }) in
-    let P : List (List ℕ) → Type 0 = λ xs. HasLines tree_format (g.P.Pages.present c.take_lines.new.pages) c.in_ok-taken.taken.height xs in
+    let now = c.in_ok-taken.ensures.exchanged told (stored r.0) (tree_of _ c.args.now c.root.result r.0 c.root.ensures r.1) in
+    let P : List (List ℕ) → Type 0 = λ xs. HasLines tree_format (g.P.Pages.shows c.exchange_lines.new.pages).present c.in_ok-taken.taken.root.height xs in
     record {
-      tree = subst P (filled c.args.new.now some) taken;
+      tree = subst P (filled r.0 c.args.new.now (omega (arith, r.1.lines, c.requires.empty)) some) now.lines_are;
       lines = refl;
       bytes = sym c.count_bytes.ensures.bytes;
       is_text = c.count_bytes.ensures.lines;
@@ -43,9 +33,10 @@ returns-then-is_empty-clause-differs g c = λ told few brief. differs_none _ _ _
 pub returns-clause-differs : goal.returns-clause-differs
 returns-clause-differs g c = λ told few brief.
     let r = c.requires.fits.one told in
-    let base : HasLines tree_format (g.P.Pages.present c.args.pages.now) c.args.now.height ([] ∷ []) = subst (λ (xs : List (List ℕ)). HasLines tree_format (g.P.Pages.present c.args.pages.now) c.args.now.height xs) (stored_none r.0 (omega (arith, r.1.lines, c.requires.empty))) r.1.tree in
-    let n : length (with_lines ([] ∷ []) 0 c.args.new.now) ≡ length (let xs : List (List ℕ) = [] ∷ [] in xs) + length c.args.new.now = length_with_all ([] ∷ []) c.args.new.now 0 (omega arith) in
-    let put = c.in_ok-height.ensures.put told ([] ∷ []) base (record { within = omega arith; some = omega arith; small = omega arith }) (omega (arith, c.requires.few_lines)) in
-    let first = c.in_ok-height.ensures.differs told ([] ∷ []) base (record { within = omega arith; some = omega arith; small = omega arith }) (omega (arith, c.requires.few_lines)) few brief in
-    let second = c.in_ok-taken.ensures.differs told (with_lines ([] ∷ []) 0 c.args.new.now) put (record { within = omega (arith, n); small = omega (arith, n, c.requires.few_lines); short = omega (arith, bytes_of-with ([] ∷ []) c.args.new.now 0, c.requires.few_bytes told) }) (omega arith) (brief_filled c.args.new.now) in
-    differs_then _ _ _ (2 * c.args.now.height + 4) (2 * c.in_ok-height.height + 4) (4 * c.args.now.height + 10) (omega (arith, c.in_ok-height.ensures.higher, few)) first second
+    let nothing : stored r.0 ≡ [] ∷ [] = stored_none r.0 (omega (arith, r.1.lines, c.requires.empty)) in
+    let out : All FitsPage (stored r.0) = subst (λ (xs : List (List ℕ)). All FitsPage xs) (sym nothing) (All-from_recursion FitsPage ([] ∷ []) (omega arith, tt)) in
+    let one : take 1 (drop 0 (stored r.0)) ≡ stored r.0 = ap (λ (xs : List (List ℕ)). take 1 xs) nothing ∙ sym nothing in
+    let height = ap (λ (x : Root). x.height) c.root.ensures in
+    differs_most _ _ (4 * c.root.result.height + 10) (4 * c.args.now.height + 10) (omega (arith, height))
+    (c.in_ok-taken.ensures.differs told (stored r.0) (tree_of _ c.args.now c.root.result r.0 c.root.ensures r.1)
+    (record { few_out = omega arith; few_in = few; brief_out = subst (λ (xs : List (List ℕ)). All FitsPage xs) (sym one) out; brief_in = brief }))

@@ -1,55 +1,51 @@
-use Rattle.std.proofs.Common.{◌≡◌, ℕ, ◌+◌, ◌-◌, ◌≤◌, List, is_some, arith, refl, sym, ap, subst, ◌∙◌}
+use Rattle.std.proofs.Common.{◌≡◌, ℕ, ◌+◌, ◌-◌, ◌<◌, List, arith, sym, ap, subst, ◌∙◌}
 use Rattle.vs_pages.specs.Maps.{Map}
-use Rattle.vs_tree_laws.specs.declared.entries.Entry.{Entry}
-use Rattle.vs_tree_laws.specs.Places.{IsPlace, lines_below}
-use Rattle.vs_tree_laws.specs.Ways.{Leads, HasLine}
-use Rattle.vs_tree_laws.proofs.Roots.{leads_first, depth_short}
-use Rattle.vs_tree_laws.proofs.Steps.{leads_down, leads_line, above_entries, above_place}
+use Rattle.vs_pages.proofs.Steps.{OnlyReads-none, OnlyReads-trans}
+use Rattle.vs_tree_shape.specs.declared.entries.Entry.{Entry}
+use Rattle.vs_tree_shape.specs.Places.{IsPlace, lines_below}
+use Rattle.vs_tree_shape.specs.Paths.{IsOnPath, HasLine}
+use Rattle.vs_tree_shape.proofs.Roots.{path_first}
+use Rattle.vs_tree_shape.proofs.Steps.{path_down, path_line, above_entries}
 use Rattle.vs_tree_blocks.specs.Blocks.{tree_format}
 use Rattle.vs_tree.proofs.walk.find_line.Goals as goal
 
--- over told pages there are more pages than levels
-pub damaged-requires-clause-silent : goal.damaged-requires-clause-silent
-damaged-requires-clause-silent g c = λ told. let r = c.requires.there told in
-    omega (arith, depth_short _ _ _ _ _ r.1 (omega (arith, r.2)) (c.count.ensures told), c.if-count-height.true)
-
 pub walk-init : goal.walk-init
 walk-init g c = record {
-  leads = λ told lines has within small. let same : c.args.height - 0 ≡ c.args.height = omega arith in
-      let P : ℕ → Type 0 = λ d. Leads tree_format (g.P.Pages.present c.args.pages.now) 1 1 d c.args.at lines c.args.at in
-      subst P (sym same) (leads_first _ _ _ _ lines has within small);
-  present = λ told. refl;
-  committed = λ told. refl;
-  later = omega arith;
-  valid = c.requires.valid;
-  stays = g.met.P.Pages.stays_itself c.args.pages.now;
+  path = λ told lines has.
+      let same : c.args.root.height - 0 ≡ c.args.root.height = omega arith in
+      let P : ℕ → Type 0 = λ d. IsOnPath tree_format (g.P.Pages.shows c.args.pages.now).present c.entry.result d c.args.at lines c.args.at in
+      let Q : Entry → Type 0 = λ e. IsOnPath tree_format (g.P.Pages.shows c.args.pages.now).present e c.args.root.height c.args.at lines c.args.at in
+      subst P (sym same) (subst Q (sym c.entry.ensures) (path_first _ _ c.args.root.height c.args.at c.args.root.lines lines has.lines_are has.count c.requires.within c.requires.small));
+  within = omega (arith, c.requires.within, ap (λ (e : Entry). e.lines) c.entry.ensures);
+  kept = OnlyReads-none g.met.P.Pages.stays_itself c.requires.valid;
+  faults = omega arith;
 }
 
 pub load_entries-requires-clause-there : goal.load_entries-requires-clause-there
 load_entries-requires-clause-there g c = λ told. let r = c.requires.there told in
-    let e = above_entries _ _ _ _ (c.args.height - c.walk._level) _ (λ z. omega (arith, z)) (c.walk.invariant.leads told r.0 r.1 r.2 r.3).above in
-    ap (λ o. is_some o) e.1
+    let e = above_entries _ _ c.walk.found.entry (c.args.root.height - c.walk._level) _ (λ z. omega (arith, z)) (c.walk.invariant.path told r.0 r.1).above in
+    record { entries = e.0; reads = e.1; lines = e.2; single = e.3 }
 
-pub damaged-requires-in_default-clause-silent : goal.damaged-requires-in_default-clause-silent
-damaged-requires-in_default-clause-silent g c = λ told. let r = c.requires.there told in
-    above_place _ _ _ _ (c.args.height - c.walk._level) _ c.in_ok-entries.entries.items (λ z. omega (arith, z)) (c.in_ok-entries.ensures.entries told) (subst (λ (es : List Entry). lines_below es ≤ c.walk.found.rest) c.deref.ensures.value c.in_default.ensures.none) (c.walk.invariant.leads told r.0 r.1 r.2 r.3).above
+pub find_place-place-requires : goal.find_place-place-requires
+find_place-place-requires g c = omega (arith, ap lines_below c.deref.ensures.value, c.in_ok-entries.ensures.lines, c.walk.invariant.within)
 
 pub walk-preserved : goal.walk-preserved
-walk-preserved g c = record {
-  leads = λ told lines has within small.
-      let here = leads_down _ _ _ _ (c.args.height - c.walk._level) _ lines _ c.in_ok-entries.entries.items c.in-Some.place (λ z. omega (arith, z)) (c.in_ok-entries.ensures.entries told) (subst (λ (es : List Entry). IsPlace es c.walk.found.rest c.in-Some.place) c.deref.ensures.value c.in-Some.ensures.some) (c.walk.invariant.leads told lines has within small) in
-      let down : c.args.height - c.walk._level - 1 ≡ c.args.height - (c.walk._level + 1) = omega arith in
-      let P : Map → Type 0 = λ m. Leads tree_format m c.in-Some.place.entry.block c.in-Some.place.entry.pages (c.args.height - c.walk._level - 1) c.in-Some.place.rest lines c.args.at in
-      let Q : ℕ → Type 0 = λ d. Leads tree_format (g.P.Pages.present c.load_entries.new.pages) c.in-Some.place.entry.block c.in-Some.place.entry.pages d c.in-Some.place.rest lines c.args.at in
-      subst Q down (subst P (sym (c.load_entries.ensures.present told)) here);
-  present = λ told. c.load_entries.ensures.present told ∙ c.walk.invariant.present told;
-  committed = λ told. c.load_entries.ensures.committed told ∙ c.walk.invariant.committed told;
-  later = omega (arith, c.load_entries.ensures.later, c.walk.invariant.later);
-  valid = c.load_entries.ensures.valid;
-  stays = g.met.P.Pages.stays_on _ _ _ c.walk.invariant.stays c.load_entries.ensures.stays;
-}
+walk-preserved g c =
+    let place = c.find_place-place.result in
+    let is = subst (λ (es : List Entry). IsPlace es c.walk.found.rest place) c.deref.ensures.value c.find_place-place.ensures in
+    record {
+      path = λ told lines has.
+          let here = path_down _ _ _ (c.args.root.height - c.walk._level) _ lines _ c.in_ok-entries.entries.items place (λ z. omega (arith, z)) (c.in_ok-entries.ensures.entries told) is (c.walk.invariant.path told lines has) in
+          let down : c.args.root.height - c.walk._level - 1 ≡ c.args.root.height - (c.walk._level + 1) = omega arith in
+          let P : Map → Type 0 = λ m. IsOnPath tree_format m place.entry (c.args.root.height - c.walk._level - 1) place.rest lines c.args.at in
+          let Q : ℕ → Type 0 = λ d. IsOnPath tree_format (g.P.Pages.shows c.load_entries.new.pages).present place.entry d place.rest lines c.args.at in
+          subst Q down (subst P (sym (c.load_entries.ensures.kept.present told)) here);
+      within = is.rest;
+      kept = OnlyReads-trans g.met.P.Pages.stays_on c.walk.invariant.kept c.load_entries.ensures.kept;
+      faults = omega (arith, c.load_entries.ensures.cause.later, c.walk.invariant.faults);
+    }
 
 pub returns-clause-found : goal.returns-clause-found
-returns-clause-found g c = λ told lines has within small.
-    let P : Map → Type 0 = λ m. HasLine tree_format m lines c.args.at c.walk.found.block c.walk.found.pages c.walk.found.rest in
-    subst P (c.walk.invariant.present told) (leads_line _ _ _ _ (c.args.height - c.walk._level) _ lines _ (omega arith) (c.walk.invariant.leads told lines has within small))
+returns-clause-found g c = λ told lines has.
+    let P : Map → Type 0 = λ m. HasLine tree_format m lines c.args.at c.walk.found.entry c.walk.found.rest in
+    subst P (c.walk.invariant.kept.present told) (path_line _ _ _ (c.args.root.height - c.walk._level) _ lines _ (omega arith) (c.walk.invariant.path told lines has))

@@ -1,14 +1,14 @@
 use Rattle.std.proofs.Common.{[], ap, ◌∙◌, arith}
 use Rattle.vs_data.specs.Blocks.{lines_in}
 use Rattle.vs_text.specs.Text.{bytes_of}
-use Rattle.vs_tree_laws.specs.Changes.{splice}
-use Rattle.vs_tree_laws.proofs.Splices.{length_splice}
-use Rattle.vs_tree_blocks.specs.declared.edit.Gone.{Gone}
+use Rattle.vs_tree_shape.specs.Changes.{splice}
+use Rattle.vs_tree_shape.proofs.Splices.{length_splice}
+use Rattle.vs_tree_blocks.specs.declared.edit.Removed.{Removed}
 use Rattle.vs_tree_blocks.specs.Runs.{lines_within}
 use Rattle.vs_tree_blocks.proofs.DataLemmas.{wrote_gone, count_is, lines_after, none_left}
 use Rattle.vs_tree_blocks.proofs.RunsLemmas.{told}
-use Rattle.vs_tree_blocks.proofs.GoneLemmas.{text_bytes, bytes_gone, take_all}
-use Rattle.vs_tree_laws.proofs.Differences.{differs_free}
+use Rattle.vs_tree_blocks.proofs.RemovedLemmas.{text_bytes, bytes_gone, take_all}
+use Rattle.vs_tree_shape.proofs.Differences.{differs_free}
 use Rattle.vs_tree_blocks.proofs.data.remove_lines.Goals as goal
 
 pub text_of-requires : goal.text_of-requires
@@ -23,7 +23,7 @@ pub returns-then-count-view-clause-bytes : goal.returns-then-count-view-clause-b
 returns-then-count-view-clause-bytes g c = λ lines reads.
     let count = count_is c.args.bytes.now c.args.view lines c.requires.view reads in
     let all = take_all lines c.args.at c.args.count (omega (arith, count, c.requires.within)) (omega (arith, count, c.if-count-view.true)) in
-    omega (arith, text_bytes c.args.bytes.now c.args.view lines c.requires.view reads, ap bytes_of all, ap (λ (gone : Gone). gone.bytes) c.text_of.ensures)
+    omega (arith, text_bytes c.args.bytes.now c.args.view lines c.requires.view reads, ap bytes_of all, ap (λ (gone : Removed). gone.bytes) c.text_of.ensures)
 
 pub overflow_sub-result : goal.overflow_sub-result
 overflow_sub-result g c =

@@ -11,5 +11,5 @@ returns-clause-wrote g c = on_ok_weaker c.touch.result
     let line : List ℕ = c.bytes.result.now in
     let both : c.deref.result.now ≡ pointer ++ line = c.deref.ensures.value ∙ c.in_ok-extend_from_slice.ensures.items in
     let size : length line ≡ 4096 = c.bytes.ensures.page (omega (arith, ap space_of c.in_ok-line.ensures)) in
-    first_lines _ _ pointer line c.deref.result.now (ok told) both c.in_ok-bytes.ensures.size size c.in_ok-bytes.ensures.entries (c.bytes.ensures.lines ∙ ap (λ ls. Some ls) c.in_ok-line.ensures))
+    first_lines _ _ pointer line c.deref.result.now (c.requires.there told) (ok told) both c.in_ok-bytes.ensures.size size c.in_ok-bytes.ensures.entries (c.bytes.ensures.lines ∙ ap (λ ls. Some ls) c.in_ok-line.ensures))
     c.touch.ensures.ok

@@ -2,25 +2,25 @@ use Rattle.std.proofs.Common.{◌≡◌, refl, arith}
 use Rattle.std.proofs.lemmas.Result.{on_ok_weaker}
 use Rattle.vs_pages.specs.Maps.{Map, lacks}
 use Rattle.vs_pages.proofs.MapsLemmas.{pages_at-there, span-first}
-use Rattle.vs_tree_blocks.proofs.PointersLemmas.{stored_as, added_as, front_small, back_small, root_lifted}
-use Rattle.vs_tree_laws.proofs.Differences.{differs_put, differs_then}
+use Rattle.vs_tree_blocks.proofs.PointersLemmas.{stored_as, added_as, parts_below, root_lifted}
+use Rattle.vs_tree_shape.proofs.Differences.{differs_put, differs_then}
 use Rattle.vs_tree_blocks.proofs.pointers.lift_root.Goals as goal
 
-pub damaged-requires-clause-silent : goal.damaged-requires-clause-silent
-damaged-requires-clause-silent g c = λ told. front_small _ c.args.entries.now _ c.split_at.ensures.front (c.requires.small told) c.in_default.ensures.none
+pub entry_above-one-requires-clause-small : goal.entry_above-one-requires-clause-small
+entry_above-one-requires-clause-small g c = omega (arith, parts_below _ c.args.entries.now _ _ c.split_at.ensures.front c.split_at.ensures.back, c.requires.small)
 
-pub damaged-requires-in_default-entry_above-clause-silent : goal.damaged-requires-in_default-entry_above-clause-silent
-damaged-requires-in_default-entry_above-clause-silent g c = λ told. back_small _ c.args.entries.now _ c.split_at.ensures.back (c.requires.small told) c.in_default-entry_above.ensures.none
+pub entry_above-two-requires-clause-small : goal.entry_above-two-requires-clause-small
+entry_above-two-requires-clause-small g c = omega (arith, parts_below _ c.args.entries.now _ _ c.split_at.ensures.front c.split_at.ensures.back, c.requires.small)
 
 pub returns-clause-wrote : goal.returns-clause-wrote
 returns-clause-wrote g c = on_ok_weaker c.touch.result
     (λ touched told d kids below.
-    let m : Map = g.P.Pages.present c.args.pages.now in
+    let m : Map = (g.P.Pages.shows c.args.pages.now).present in
     let here : lacks (m 1) ≡ 0 = omega (arith, pages_at-there m 1 1 (c.requires.there told) 1, span-first 1 1 (omega arith)) in
-    root_lifted _ _ _ _ c.in_ok-moved.moved c.in_ok-other.other d _ kids _ _ _ _ c.in_ok-bytes.bytes.items c.in_ok-more.more.items c.in_ok-top.top.items c.in-Some.one c.in-Some-entry_above.two c.split_at.ensures.front c.split_at.ensures.back here
+    root_lifted _ _ _ _ c.in_ok-moved.moved c.in_ok-other.other d _ kids _ _ _ _ c.in_ok-bytes.bytes.items c.in_ok-more.more.items c.in_ok-top.top.items c.entry_above-one.result c.entry_above-two.result c.split_at.ensures.front c.split_at.ensures.back here
     (added_as _ _ _ _ _ _ (c.in_ok-moved.ensures.added told) c.deref.ensures.value) c.in_ok-bytes.ensures.entries
     (added_as _ _ _ _ _ _ (c.in_ok-other.ensures.added told) c.deref-2.ensures.value) c.in_ok-more.ensures.entries
-    c.in-Some.ensures.some c.in-Some-entry_above.ensures.some
+    c.entry_above-one.ensures.entry c.entry_above-two.ensures.entry
     (stored_as _ _ _ _ _ (touched told) c.deref-3.ensures.value c.in_ok-top.ensures.size) c.in_ok-top.ensures.entries refl below)
     c.touch.ensures.ok
 

@@ -1,9 +1,9 @@
 use Rattle.std.proofs.Common.{◌≡◌, List, [], ◌∷◌, ◌++◌, Some, length, sym, ap, subst, ◌∙◌, arith, length-append}
 use Rattle.std.specs.List.{AllByRecursion}
-use Rattle.vs_tree_laws.specs.declared.entries.Entry.{Entry}
-use Rattle.vs_tree_laws.proofs.Shapes.{each-append}
+use Rattle.vs_tree_shape.specs.declared.entries.Entry.{Entry}
+use Rattle.vs_tree_shape.proofs.Shapes.{each-append}
 use Rattle.vs_ptr.specs.Blocks.{entries_of}
-use Rattle.vs_tree_blocks.specs.Blocks.{IsNarrow}
+use Rattle.vs_tree_blocks.specs.Blocks.{FitsFields}
 use Rattle.vs_tree_blocks.proofs.EntriesLemmas.{few_entries, points_read, points_refused, points_unread, read_more, unread_none}
 use Rattle.vs_tree_blocks.proofs.pointers.read_entries.Goals as goal
 
@@ -18,7 +18,7 @@ loop-at-preserved c =
     let items : c.push.new.self.items ≡ c.loop-at.entries.items ++ c.in-Some.entry ∷ [] = c.in_ok-push.ensures.items in
     record {
       read = read_more (entries_of c.args.bytes.now) c.loop-at.at c.loop-at.entries.items c.entry.result c.in-Some.entry c.loop-at.invariant.read c.entry.ensures c.in-Some.ensures.read ∙ ap (λ (xs : List Entry). Some xs) (sym items);
-      narrow = let P : List Entry → Type 0 = λ xs. AllByRecursion IsNarrow xs in subst P (sym items) (each-append IsNarrow c.loop-at.entries.items (c.in-Some.entry ∷ []) c.loop-at.invariant.narrow (c.in-Some.ensures.narrow, tt));
+      narrow = let P : List Entry → Type 0 = λ xs. AllByRecursion FitsFields xs in subst P (sym items) (each-append FitsFields c.loop-at.entries.items (c.in-Some.entry ∷ []) c.loop-at.invariant.narrow (c.in-Some.ensures.fields, tt));
       count = omega (arith, ap length items, length-append c.loop-at.entries.items (c.in-Some.entry ∷ []), c.loop-at.invariant.count);
     }
 

@@ -1,7 +1,7 @@
 use Rattle.std.proofs.Common.{◌≡◌, length, arith}
-use Rattle.vs_tree_laws.proofs.Writes.{wrote_no_pointers}
+use Rattle.vs_tree_shape.proofs.Writes.{wrote_no_pointers}
 use Rattle.vs_tree_blocks.specs.Blocks.{tree_format}
-use Rattle.vs_tree_laws.proofs.Differences.{differs_free, differs_most}
+use Rattle.vs_tree_shape.proofs.Differences.{differs_free, differs_most}
 use Rattle.vs_tree_blocks.proofs.pointers.write_pointers.Goals as goal
 
 pub returns-then-is_empty-clause-wrote : goal.returns-then-is_empty-clause-wrote

@@ -1,6 +1,6 @@
 use Rattle.std.proofs.Common.{◌≡◌, ◌+◌, ◌-◌, ◌++◌, Some, IsSome, is_some, false, sym, ap, ◌∙◌, arith}
 use Rattle.vs_pages.specs.Maps.{joined, pages_at}
-use Rattle.vs_pages.specs.Changes.{map_of}
+use Rattle.vs_pages.specs.Table.{map_of}
 use Rattle.vs_pages.specs.Memory.{present_of}
 use Rattle.vs_pages.proofs.Runs.{next-read, rest-read}
 use Rattle.vs_pages.proofs.TableLemmas.{map_of-within}

@@ -1,11 +1,11 @@
-use Rattle.std.proofs.Common.{Some, ap}
-use Rattle.vs_pages.specs.Changes.{bytes_of}
-use Rattle.vs_pages.specs.declared.change.Place.TheVariants.{Taken}
-use Rattle.vs_pages.proofs.TableLemmas.{map_of-within}
-use Rattle.vs_pages.proofs.MemoryLemmas.{step-set}
+use Rattle.std.proofs.Common.{None, Some, ap}
+use Rattle.vs_pages.proofs.MemoryLemmas.{step_again, step_to}
+use Rattle.vs_pages.specs.Maps.{put}
+use Rattle.vs_pages.specs.Memory.{present_of}
 use Rattle.vs_pages.proofs.memory.MemPages.write_page.Goals as goal
 
-pub returns-clause-ok : goal.returns-clause-ok
-returns-clause-ok c = step-set _ _ c.reserve.new.self.items c.args.at (Some c.in_ok-page.page) (Taken c.in-Some.was) (Some c.args.bytes.now)
-    (map_of-within c.args.self.now.table.places.items c.args.at c.requires.there) c.in-Some.ensures.after c.reserve.ensures.items c.in_ok-push.ensures.items
-    (ap bytes_of c.in-Some.ensures.value) (ap (λ b. Some b) c.in_ok-page.ensures)
+pub returns : goal.returns
+returns c =
+    let between = c.take_page.new.self in
+    let second = step_to between c.set_page.new.self _ (put (present_of between) c.args.at (Some c.args.bytes.now)) c.set_page.ensures (ap (λ bytes. put (present_of between) c.args.at (Some bytes)) c.write.ensures) in
+    step_again c.args.self.now between c.set_page.new.self c.args.at None (Some c.args.bytes.now) c.in-Some.ensures.step second

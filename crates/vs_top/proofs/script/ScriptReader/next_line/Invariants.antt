@@ -1,7 +1,7 @@
 use Rattle.std.proofs.Common.{◌≡◌, ◌≤◌, IsTrue, ◌+◌, ◌-◌, ◌^◌, ◌++◌, length, false}
 use Rattle.vs_text.specs.Text.{IsLine}
 use Rattle.vs_host.specs.World.{ChangesScript}
-use Rattle.vs_top.specs.Ahead.{CountsTaken, HasSeen, GoesOn, turns}
+use Rattle.vs_top.specs.Ahead.{CountsTaken, HasSeen, GoesOn, bytes_left}
 use Rattle.vs_top.proofs.script.ScriptReader.next_line.Given as goal
 
 abbrev pub invariant-pieces : goal.invariant-pieces
@@ -13,8 +13,8 @@ invariant-pieces g l = record {
   few : length l.line + length l.self.bytes ≤ l.self.taken;
   limit : l.self.taken ≤ 2 ^ 20;
   counts : IsTrue (g.S.World.tells).script → CountsTaken l.initial.self l.self (g.S.World.scene l.initial.host) (g.S.World.scene l.host);
-  count : length l.line + turns l.self ≡ turns l.initial.self;
-  faults : (g.S.World.scene l.initial.host).script_faults ≤ (g.S.World.scene l.host).script_faults;
+  count : length l.line + bytes_left l.self ≡ bytes_left l.initial.self;
+  faults : (g.S.World.scene l.host).script_faults ≡ (g.S.World.scene l.initial.host).script_faults;
   frame : ChangesScript (g.S.World.scene l.initial.host) (g.S.World.scene l.host);
 }
 

@@ -5,6 +5,6 @@ use Rattle.vs_tree.proofs.tests.copies.parts_make_up.Given as goal
 abbrev pub invariant-parts : goal.invariant-parts
 invariant-parts g l = record {
   tree : l.tree ≡ l.fn.tree;
-  fits : Fits g.P.Pages.tells (g.P.Pages.present l.pages) l.tree.present;
+  fits : Fits g.P.Pages.tells (g.P.Pages.shows l.pages).present l.tree.present;
   valid : g.P.Pages.valid l.pages;
 }

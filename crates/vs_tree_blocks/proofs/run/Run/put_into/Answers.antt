@@ -3,7 +3,7 @@ use Rattle.std.specs.Option.{option_map}
 use Rattle.std.specs.Vec.{with_items}
 use Rattle.std.proofs.lemmas.List.{with_items_is}
 use Rattle.vs_data.specs.Blocks.{lines_in, space_of}
-use Rattle.vs_tree_laws.specs.Changes.{splice}
+use Rattle.vs_tree_shape.specs.Changes.{splice}
 use Rattle.vs_tree_blocks.specs.Runs.{lines_within}
 use Rattle.vs_tree_blocks.proofs.DataLemmas.{end_within}
 use Rattle.vs_tree_blocks.proofs.RunsLemmas.{Half, told, run_line, half_none, half_more, half_room, half_all}

@@ -1,7 +1,11 @@
-use Rattle.std.proofs.Common.{arith}
-use Rattle.std.proofs.lemmas.Result.{on_err_weaker}
-use Rattle.vs_pages.proofs.MemoryLemmas.{gone-back}
+use Rattle.std.proofs.Common.{◌∙◌, refl, arith}
+use Rattle.vs_pages.specs.Memory.{present_of}
+use Rattle.vs_pages.specs.MemoryLaws.{are_present}
+use Rattle.vs_pages.proofs.MapsLemmas.{pages_at-bound}
 use Rattle.vs_pages.proofs.memory.store.MemPagesPages.free.Goals as goal
 
-pub returns-clause-err : goal.returns-clause-err
-returns-clause-err c = on_err_weaker c.settle.result (λ steps _. gone-back c.args.self.now c.remove_pages-outcome.new.self c.settle.new.self c.len-mark.result (omega (arith, c.len-mark.ensures)) c.remove_pages-outcome.ensures.back steps) c.settle.ensures.steps
+pub put-requires : goal.put-requires
+put-requires c = λ some. pages_at-bound (present_of c.args.self.now) c.args.at c.args.pages (are_present c.args.self.now) (c.requires.there refl) (omega arith)
+
+pub returns-clause-kept : goal.returns-clause-kept
+returns-clause-kept c = record { valid = tt; stays = tt; committed = λ told. c.remove_pages.ensures.committed ∙ c.in_ok-keep_pages.ensures.step.committed }

@@ -1,0 +1,6 @@
+pub mod Images
+pub mod Runs
+pub mod Steps
+pub mod Others
+pub mod Parts
+pub mod Contents

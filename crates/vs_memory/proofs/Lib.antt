@@ -1,0 +1,12 @@
+pub mod Files
+pub mod Stores
+pub mod ScriptReads
+pub mod Playing
+pub mod Creating
+pub mod Results
+pub mod Writes
+pub mod Synced
+pub mod Lefts
+pub mod Hosts
+pub mod Fills
+pub mod KeptImages

@@ -1,0 +1,46 @@
+-- The endings of a run: the exit status of each and its line on standard error, and which error leads to which.
+use Rattle.std.specs.Prelude.{ℕ, List, codes, Some, None, Ok, Err}
+use Rattle.std.specs.declared.option.Option.{Option}
+use Rattle.std.specs.declared.result.Result.{Result}
+use Rattle.vs_session.specs.declared.session.OpenErr.{OpenErr}
+use Rattle.vs_session.specs.declared.session.OpenErr.TheVariants as opening
+use Rattle.vs_top.specs.declared.ending.Ending.{Ending}
+use Rattle.vs_top.specs.declared.ending.Ending.TheVariants as ending
+use Rattle.vs_top.specs.declared.script.ScriptErr.{ScriptErr}
+use Rattle.vs_top.specs.declared.script.ScriptErr.TheVariants as script
+
+abbrev pub status_of : Ending → ℕ
+status_of ending.Done = 0
+status_of ending.WithErrors = 1
+status_of ending.Usage = 2
+status_of ending.ScriptFault = 5
+status_of ending.OutputFault = 6
+status_of ending.FolderFault = 7
+status_of ending.NoMemory = 8
+status_of ending.TextLimit = 12
+status_of ending.ScriptTooLong = 13
+
+abbrev pub message_of : Ending → Option (List ℕ)
+message_of ending.Done = None
+message_of ending.WithErrors = None
+message_of ending.Usage = Some (codes "usage: edit NAME | recover NAME | discard NAME | info NAME | stress N")
+message_of ending.ScriptFault = Some (codes "script fault")
+message_of ending.OutputFault = Some (codes "output fault")
+message_of ending.FolderFault = Some (codes "folder fault")
+message_of ending.NoMemory = Some (codes "out of memory")
+message_of ending.TextLimit = Some (codes "text too large")
+message_of ending.ScriptTooLong = Some (codes "script too long")
+
+abbrev pub script_ending : ScriptErr → Ending
+script_ending script.Failed = ending.ScriptFault
+script_ending script.TooLong = ending.ScriptTooLong
+
+abbrev pub open_ending : OpenErr → Ending
+open_ending (opening.TextLimit size) = ending.TextLimit
+open_ending opening.Failed = ending.FolderFault
+open_ending opening.NoMemory = ending.NoMemory
+
+-- the ending of a run that went on to the script's end, or stopped before it
+abbrev pub ending_in : Result Ending Ending → Ending
+ending_in (Ok end) = end
+ending_in (Err end) = end

@@ -1,0 +1,103 @@
+// How a run ends.
+ghost use Rattle.std.specs.Prelude.{◌≡◌, MatchOption, None, Some};
+ghost use Rattle.vs_top.specs.Ending.{status_of, message_of};
+
+use crate::script::ScriptErr;
+use std::alloc::AllocError;
+use vs_session::OpenErr;
+
+/// How a run ended: docs/COMMANDS.md, "Statuses".
+#[derive(Clone, Copy, Debug, PartialEq, Eq, Drop)]
+pub enum Ending {
+    /// The script was read to its end, and every command did its work.
+    Done,
+    /// The script was read to its end, and some reply is an error.
+    WithErrors,
+    /// The arguments are no form of the program.
+    Usage,
+    /// A read of the script failed.
+    ScriptFault,
+    /// A write of the output failed.
+    OutputFault,
+    /// A call on the folder failed.
+    FolderFault,
+    NoMemory,
+    /// The file has more bytes than a file may have.
+    TextLimit,
+    /// The script has more bytes than a script may have.
+    ScriptTooLong,
+}
+
+impl Ending {
+    /// The exit status.
+    pub fn status(self) -> u8
+        ensures { result ≡ status_of self }
+    {
+        match self {
+            Ending::Done => 0,
+            Ending::WithErrors => 1,
+            Ending::Usage => 2,
+            Ending::ScriptFault => 5,
+            Ending::OutputFault => 6,
+            Ending::FolderFault => 7,
+            Ending::NoMemory => 8,
+            Ending::TextLimit => 12,
+            Ending::ScriptTooLong => 13,
+        }
+    }
+
+    /// The line for standard error, without its newline. `None` where the script was read to its end.
+    pub fn message(self) -> Option<&'static str>
+        ensures { MatchOption result (message_of self ≡ None) (λ line. message_of self ≡ Some line.now) }
+    {
+        match self {
+            Ending::Done | Ending::WithErrors => None,
+            Ending::Usage => Some(
+                "usage: edit NAME | recover NAME | discard NAME | info NAME | stress N",
+            ),
+            Ending::ScriptFault => Some("script fault"),
+            Ending::OutputFault => Some("output fault"),
+            Ending::FolderFault => Some("folder fault"),
+            Ending::NoMemory => Some("out of memory"),
+            Ending::TextLimit => Some("text too large"),
+            Ending::ScriptTooLong => Some("script too long"),
+        }
+    }
+}
+
+impl From<AllocError> for Ending {
+    ghost use Rattle.vs_top.specs.declared.ending.Ending.TheVariants as ending;
+
+    ghost from_gives = { λ _ e. e ≡ ending.NoMemory };
+
+    fn from(_: AllocError) -> Self {
+        Ending::NoMemory
+    }
+}
+
+impl From<ScriptErr> for Ending {
+    ghost use Rattle.vs_top.specs.Ending.{script_ending};
+
+    ghost from_gives = { λ error e. e ≡ script_ending error };
+
+    fn from(error: ScriptErr) -> Self {
+        match error {
+            ScriptErr::Failed => Ending::ScriptFault,
+            ScriptErr::TooLong => Ending::ScriptTooLong,
+        }
+    }
+}
+
+impl From<OpenErr> for Ending {
+    ghost use Rattle.vs_top.specs.Ending.{open_ending};
+
+    ghost from_gives = { λ error e. e ≡ open_ending error };
+
+    fn from(error: OpenErr) -> Self {
+        match error {
+            OpenErr::Failed => Ending::FolderFault,
+            OpenErr::TextLimit(_) => Ending::TextLimit,
+            OpenErr::NoMemory => Ending::NoMemory,
+        }
+    }
+}

@@ -1,8 +1,0 @@
-pub mod Changes
-pub mod Depths
-pub mod Differs
-pub mod Places
-pub mod Reads
-pub mod Sames
-pub mod Trees
-pub mod Ways
