@@ -1,0 +1,96 @@
+// Reading the lines that a splice takes out.
+ghost use Rattle.std.specs.Prelude.{◌≡◌, ◌+◌, ◌-◌, ◌^◌, ◌<◌, ◌≤◌, ◌==◌, if◌then◌else◌, ◌∷◌, [], ℕ, List, All, IfOk, IsErrOf, length, max};
+ghost use Rattle.vs_faults.specs.Faults.{HasCause};
+ghost use Rattle.vs_text.specs.Limits.{IsShort};
+ghost use Rattle.vs_text.specs.declared.TheConstants.{MAX_LINES};
+ghost use Rattle.vs_edit.specs.Splices.{cut_out};
+ghost use Rattle.vs_edit.specs.Calls.{OnlyReads};
+ghost use Rattle.vs_entries.specs.Entries.{splice_back, LeadsCount};
+
+use crate::{EditErr, Entry};
+use std::alloc::{AllocError, Global};
+use vs_edit::{LineStore, StoreErr};
+use vs_text::{Line, Text};
+
+// The lines from line `top` on.
+pub(crate) fn lines_at<S: LineStore>(
+    alloc: Global,
+    store: &mut S,
+    top: u64,
+    count: u64,
+) -> Result<Text, StoreErr>
+    requires valid { S.valid store.old }
+    requires within { top + count ≤ (S.shows store.old).present.lines }
+    ensures lines { IfOk result (λ lines. (text : List (List ℕ)) → (S.shows store.old).present.Is text → lines ≡ cut_out text top count) }
+    ensures count { IfOk result (λ lines. length lines ≡ count) }
+    ensures short { IfOk result (λ lines. All IsShort lines) }
+    ensures kept { OnlyReads S.LineStore store.old store.new }
+    ensures cause { HasCause (S.shows store.old).faults (S.shows store.new).faults (IsErrOf result StoreErr.Failed) }
+{
+    let mut lines = Vec::new(alloc);
+    for i in 0..count {
+        let mut line = Vec::new(alloc);
+        store.line(alloc, top + i, &mut line)?;
+        lines.push(Line::from_vec(line))?;
+    }
+    Ok(Text::of(lines))
+}
+
+// The bottom of the range that `new_len` lines have in the place of `old` lines from line `top` on, of `count` lines.
+pub(crate) fn bottom_back(top: u64, old: u64, count: u64, new_len: u64) -> u64
+    requires fits { top + new_len + 1 < 2 ^ 64 }
+    requires within { top + old < 2 ^ 64 }
+    ensures { result ≡ (if top + old == count then 0 else top + new_len + 1) }
+{
+    if top + old == count {
+        0
+    } else {
+        top + new_len + 1
+    }
+}
+
+// One empty line.
+pub(crate) fn one_empty(alloc: Global) -> Result<Text, AllocError>
+    ensures { IfOk result (λ lines. lines ≡ [] ∷ []) }
+{
+    let mut lines = Vec::new(alloc);
+    lines.push(Line::from_vec(Vec::new(alloc)))?;
+    Ok(Text::of(lines))
+}
+
+/// The entry that leads back from a text in which `new_len` lines stand in the place of `old` lines from line `top` on. It reads
+/// the text as it is before that splice, and leaves it.
+pub fn entry_of_splice<S: LineStore>(
+    alloc: Global,
+    store: &mut S,
+    top: u64,
+    old: u64,
+    new_len: u64,
+) -> Result<Entry, EditErr>
+    requires valid { S.valid store.old }
+    requires within { top + old ≤ (S.shows store.old).present.lines }
+    requires few_lines { (S.shows store.old).present.lines + new_len ≤ MAX_LINES + old }
+    ensures entry { IfOk result (λ entry. (text : List (List ℕ)) → (S.shows store.old).present.Is text → entry ≡ splice_back text top old new_len) }
+    ensures count { IfOk result (λ entry. LeadsCount entry (max 1 ((S.shows store.old).present.lines + new_len - old)) (max 1 (S.shows store.old).present.lines)) }
+    ensures in_range { ¬ (IsErrOf result EditErr.OutOfRange) }
+    ensures kept { OnlyReads S.LineStore store.old store.new }
+    ensures cause { HasCause (S.shows store.old).faults (S.shows store.new).faults (IsErrOf result EditErr.Failed) }
+{
+    if store.len() == 0 {
+        let lines = one_empty(alloc)?;
+        return Ok(Entry {
+            top: 0,
+            bottom: 0,
+            lines,
+            empty: true,
+        });
+    }
+    let bottom = bottom_back(top, old, store.len(), new_len);
+    let lines = lines_at(alloc, store, top, old)?;
+    Ok(Entry {
+        top,
+        bottom,
+        lines,
+        empty: false,
+    })
+}

@@ -1,0 +1,15 @@
+pub mod ChangeLemmas
+pub mod EdgeLemmas
+pub mod LeafLemmas
+pub mod MarkLemmas
+pub mod MoveLemmas
+pub mod NodeLemmas
+pub mod NumberLemmas
+pub mod PushLemmas
+pub mod SearchLemmas
+pub mod ShortWays
+pub mod SoundLemmas
+pub mod StayLemmas
+pub mod WalkLemmas
+pub mod WayLemmas
+pub mod WriteLemmas

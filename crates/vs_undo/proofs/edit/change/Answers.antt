@@ -1,0 +1,86 @@
+-- The entry of the splice leads back over it, so the push keeps the history.
+use Rattle.std.proofs.Common.{◌≡◌, ◌+◌, ◌-◌, ◌∷◌, [], ℕ, List, length, max, sym, ap, subst, ◌∙◌, arith}
+use Rattle.vs_edit.specs.Splices.{splice}
+use Rattle.vs_edit.proofs.Steps.{SameText-trans, IsSpliced-after}
+use Rattle.vs_entries.specs.Entries.{Leads, LeadsCount, splice_back}
+use Rattle.vs_entries.proofs.EntryLemmas.{leads_splice_back}
+use Rattle.vs_undo.specs.declared.parts.Parts.{Parts}
+use Rattle.vs_undo.specs.History.{links_of, pushed, FitsCount, FitsText}
+use Rattle.vs_undo.proofs.PushLemmas.{links_of-pushed}
+use Rattle.vs_undo.proofs.edit.change.Goals as goal
+use Rattle.vs_undo.proofs.edit.change.Goals.{After-commit}
+
+-- the store after the splice, from the one at the start
+spliced_text : (g : _) (c : After-commit g) → (before : List (List ℕ)) → (g.S.LineStore.shows c.args.text.now).present.Is before
+    → (g.S.LineStore.shows c.splice.new.self).present.Is (splice before c.args.top c.args.old c.args.new.now)
+spliced_text g c before has = c.in_default.ensures.ok.text before (c.in-Ok.ensures.kept.present.text before has)
+
+counted : (g : _) (c : After-commit g) → LeadsCount c.in-Ok.back (max 1 (g.S.LineStore.shows c.splice.new.self).present.lines) (max 1 (g.S.LineStore.shows c.args.text.now).present.lines)
+counted g c =
+    let sum : (g.S.LineStore.shows c.args.text.now).present.lines + length c.args.new.now - c.args.old ≡ (g.S.LineStore.shows c.splice.new.self).present.lines = omega (arith, c.in_default.ensures.ok.lines, c.in-Ok.ensures.kept.present.lines) in
+    subst (λ n. LeadsCount c.in-Ok.back (max 1 n) (max 1 (g.S.LineStore.shows c.args.text.now).present.lines)) sum c.in-Ok.ensures.count
+
+leads : (g : _) (c : After-commit g) → (before : List (List ℕ)) → (g.S.LineStore.shows c.args.text.now).present.Is before → Leads c.in-Ok.back (splice before c.args.top c.args.old c.args.new.now) before
+leads g c before has =
+    let after = splice before c.args.top c.args.old c.args.new.now in
+    let lines = g.met.S.LineStore.has_lines c.args.text.now before has in
+    let after_lines = g.met.S.LineStore.has_lines c.splice.new.self after (spliced_text g c before has) in
+    let is : c.in-Ok.back ≡ splice_back before c.args.top c.args.old (length c.args.new.now) = c.in-Ok.ensures.entry before has in
+    leads_splice_back c.in-Ok.back before c.args.new.now c.args.top c.args.old _ _ is (omega (arith, lines, c.requires.allowed.within)) lines after_lines (counted g c)
+    (g.met.S.LineStore.has_within c.args.text.now before c.requires.ready.valid has).few_bytes (c.requires.allowed.few_bytes before has)
+
+pub returns-in-Ok-push-clause-changed : goal.returns-in-Ok-push-clause-changed
+returns-in-Ok-push-clause-changed g c = record {
+  links = ap links_of c.in-Ok-push.ensures.parts ∙ links_of-pushed (c.in-Ok.back ∷ []) c.args.time c.args.tree.now;
+  parts = λ text has. c.in-Ok-push.ensures.parts ∙ ap (λ e. pushed (e ∷ []) c.args.time c.args.tree.now) (c.in-Ok.ensures.entry text has);
+  spliced =
+      let spliced = IsSpliced-after c.in-Ok.ensures.kept.present c.in_default.ensures.ok in
+      record { text = λ text has. c.commit.ensures.present.text (splice text c.args.top c.args.old c.args.new.now) (spliced.text text has); lines = omega (arith, spliced.lines, c.commit.ensures.present.lines) };
+  history = λ text history has is. c.in-Ok-push.ensures.history text (splice text c.args.top c.args.old c.args.new.now) history is (leads g c text has);
+}
+
+pub returns-in-Ok-push-clause-ready : goal.returns-in-Ok-push-clause-ready
+returns-in-Ok-push-clause-ready g c = record {
+  valid = c.commit.ensures.valid;
+  committed = record {
+    text = λ text has.
+        let tells = g.met.S.LineStore.has_told c.commit.new.self text has in
+        let was = g.met.S.LineStore.tells_one c.splice.new.self c.in_default.ensures.valid tells in
+        let same = g.met.S.LineStore.has_one c.commit.new.self was.0 text (c.commit.ensures.present.text was.0 was.1) has in
+        subst (λ t. (g.S.LineStore.shows c.commit.new.self).committed.Is t) same (c.commit.ensures.committed.text was.0 was.1);
+    lines = c.commit.ensures.committed.lines ∙ sym c.commit.ensures.present.lines;
+    bytes = c.commit.ensures.committed.bytes ∙ sym c.commit.ensures.present.bytes;
+  };
+  counts = subst (λ n. FitsCount c.push.new.self (max 1 n)) (sym c.commit.ensures.present.lines) (c.in-Ok-push.ensures.counts _ _ c.requires.ready.counts (counted g c));
+  texts = λ text has.
+      let tells = g.met.S.LineStore.has_told c.commit.new.self text has in
+      let was = g.met.S.LineStore.tells_one c.args.text.now c.requires.ready.valid tells in
+      let after = splice was.0 c.args.top c.args.old c.args.new.now in
+      let same = g.met.S.LineStore.has_one c.commit.new.self after text (c.commit.ensures.present.text after (spliced_text g c was.0 was.1)) has in
+      subst (λ t. FitsText c.push.new.self t) same (c.in-Ok-push.ensures.texts was.0 after (c.requires.ready.texts was.0 was.1) (leads g c was.0 was.1));
+}
+
+pub returns-in-Err-push-clause-ready : goal.returns-in-Err-push-clause-ready
+returns-in-Err-push-clause-ready g c =
+    let ready = c.requires.ready in
+    let after = c.rollback-in-Err-push.ensures in
+    let same = SameText-trans ready.committed (SameText-trans c.in-Ok.ensures.kept.committed (SameText-trans c.splice.ensures.kept.committed after.present)) in
+    let tree = sym c.in-Err-push.ensures.err_tree in
+    record {
+      valid = after.valid;
+      committed = record {
+        text = λ text has.
+            let tells = g.met.S.LineStore.has_told c.rollback-in-Err-push.new.self text has in
+            let was = g.met.S.LineStore.told_one c.splice.new.self c.splice.ensures.kept.valid tells in
+            let is = g.met.S.LineStore.has_one c.rollback-in-Err-push.new.self was.0 text (after.present.text was.0 was.1) has in
+            subst (λ t. (g.S.LineStore.shows c.rollback-in-Err-push.new.self).committed.Is t) is (after.committed.text was.0 was.1);
+        lines = after.committed.lines ∙ sym after.present.lines;
+        bytes = after.committed.bytes ∙ sym after.present.bytes;
+      };
+      counts = subst (λ (p : Parts). FitsCount p (max 1 (g.S.LineStore.shows c.rollback-in-Err-push.new.self).present.lines)) tree (subst (λ n. FitsCount c.args.tree.now (max 1 n)) (sym same.lines) ready.counts);
+      texts = λ text has.
+          let tells = g.met.S.LineStore.has_told c.rollback-in-Err-push.new.self text has in
+          let was = g.met.S.LineStore.tells_one c.args.text.now ready.valid tells in
+          let is = g.met.S.LineStore.has_one c.rollback-in-Err-push.new.self was.0 text (same.text was.0 was.1) has in
+          subst (λ t. FitsText c.push.new.self t) is (subst (λ (p : Parts). FitsText p was.0) tree (ready.texts was.0 was.1));
+    }

@@ -1,0 +1,149 @@
+-- The walk, and what it leaves, by the lemmas on moves: once for the numbers of lines and once for the texts.
+use Rattle.std.proofs.Common.{◌≡◌, ◌<◌, ℕ, List, [], Some, length, get_or, max, sym, ap, subst, ◌∙◌, refl}
+use Rattle.vs_edit.proofs.Steps.{SameText-trans}
+use Rattle.vs_entries.specs.Entries.{Leads, LeadsCount}
+use Rattle.vs_undo.specs.declared.parts.Node.{Node}
+use Rattle.vs_undo.specs.declared.parts.Parts.{Parts}
+use Rattle.vs_undo.specs.Ways.{node_at, IsWayOf, IsBetween}
+use Rattle.vs_undo.specs.Sound.{IsSound}
+use Rattle.vs_undo.specs.Edges.{AreStates}
+use Rattle.vs_undo.specs.History.{arrived, links_of, moved, FitsCount, FitsText}
+use Rattle.vs_undo.proofs.MoveLemmas.{crosses_path, crossed, links_of-arrived}
+use Rattle.vs_undo.proofs.SoundLemmas.{arrived_sound}
+use Rattle.vs_undo.proofs.moves.move_to.Goals as goal
+use Rattle.vs_undo.proofs.moves.move_to.Goals.{After-drop-from-in-Ok}
+
+pub cross-requires-clause-entries : goal.cross-requires-clause-entries
+cross-requires-clause-entries g c =
+    subst (λ ns. (k : ℕ) (node : Node) → node_at ns k ≡ Some node → 0 < length node.entries) (sym c.nodes-3.ensures) c.requires.sound.entries
+
+pub cross-requires-clause-counts : goal.cross-requires-clause-counts
+cross-requires-clause-counts g c =
+    let parts = c.args.parts.now in
+    let from = c.in_ok-from.from.items in
+    let to = c.in_ok-to.to.items in
+    let a = subst (λ ns. IsWayOf ns parts.current from) c.nodes.ensures c.in_ok-from.ensures in
+    let b = subst (λ ns. IsWayOf ns c.args.number to) c.nodes-2.ensures c.in_ok-to.ensures in
+    let between = subst (λ xs. IsBetween from xs c.in_ok-path.path.items) c.deref-2.ensures.value (subst (λ xs. IsBetween xs c.deref-2.result.now c.in_ok-path.path.items) c.deref.ensures.value c.in_ok-path.ensures) in
+    let sees = c.requires.ready.counts in
+    crosses_path LeadsCount sees.counts parts c.args.number from to c.in_ok-path.path.items c.nodes-3.result.now c.deref-3.result.now (max 1 (g.S.LineStore.shows c.args.store.now).present.lines) c.requires.sound.tree a b between c.nodes-3.ensures c.deref-3.ensures.value sees.are_states (sym sees.current)
+
+pub cross-requires-clause-texts : goal.cross-requires-clause-texts
+cross-requires-clause-texts g c = λ text has.
+    let parts = c.args.parts.now in
+    let from = c.in_ok-from.from.items in
+    let to = c.in_ok-to.to.items in
+    let a = subst (λ ns. IsWayOf ns parts.current from) c.nodes.ensures c.in_ok-from.ensures in
+    let b = subst (λ ns. IsWayOf ns c.args.number to) c.nodes-2.ensures c.in_ok-to.ensures in
+    let between = subst (λ xs. IsBetween from xs c.in_ok-path.path.items) c.deref-2.ensures.value (subst (λ xs. IsBetween xs c.deref-2.result.now c.in_ok-path.path.items) c.deref.ensures.value c.in_ok-path.ensures) in
+    let sees = c.requires.ready.texts text has in
+    crosses_path Leads sees.texts parts c.args.number from to c.in_ok-path.path.items c.nodes-3.result.now c.deref-3.result.now text c.requires.sound.tree a b between c.nodes-3.ensures c.deref-3.ensures.value sees.are_states (sym sees.current)
+
+-- the tree after the move
+after : (g : _) (c : After-drop-from-in-Ok g) → c.arrive.new.parts ≡ arrived c.in_ok-path.path.items c.in-Ok.turned.items c.in_ok-to.to.items c.args.parts.now
+after g c =
+    let parts = c.args.parts.now in
+    let turned = c.in-Ok.turned.items in
+    c.arrive.ensures ∙ (ap (λ xs. arrived xs turned c.deref-in-Ok-2.result.now parts) c.deref-in-Ok.ensures.value ∙ ap (λ xs. arrived c.in_ok-path.path.items turned xs parts) c.deref-in-Ok-2.ensures.value)
+
+way_to : (g : _) (c : After-drop-from-in-Ok g) → IsWayOf c.args.parts.now.nodes c.args.number c.in_ok-to.to.items
+way_to g c = subst (λ ns. IsWayOf ns c.args.number c.in_ok-to.to.items) c.nodes-2.ensures c.in_ok-to.ensures
+
+current : (g : _) (c : After-drop-from-in-Ok g) → c.arrive.new.parts.current ≡ c.args.number
+current g c = ap (λ (p : Parts). p.current) (after g c) ∙ (way_to g c).starts
+
+counted : (g : _) (c : After-drop-from-in-Ok g) → (counts : ℕ → ℕ) → AreStates LeadsCount c.args.parts.now counts → max 1 (g.S.LineStore.shows c.args.store.now).present.lines ≡ counts c.args.parts.now.current
+    → AreStates LeadsCount c.arrive.new.parts counts × (max 1 (g.S.LineStore.shows c.cross.new.store).present.lines ≡ counts c.args.number)
+counted g c counts are_states here =
+    let parts = c.args.parts.now in
+    let from = c.in_ok-from.from.items in
+    let path = c.in_ok-path.path.items in
+    let a = subst (λ ns. IsWayOf ns parts.current from) c.nodes.ensures c.in_ok-from.ensures in
+    let between = subst (λ xs. IsBetween from xs path) c.deref-2.ensures.value (subst (λ xs. IsBetween xs c.deref-2.result.now path) c.deref.ensures.value c.in_ok-path.ensures) in
+    let done = crossed LeadsCount (λ n. max 1 (g.S.LineStore.shows c.cross.new.store).present.lines ≡ n) counts parts c.args.number from c.in_ok-to.to.items path c.in-Ok.turned.items c.nodes-3.result.now c.deref-3.result.now
+    (max 1 (g.S.LineStore.shows c.args.store.now).present.lines) c.requires.sound.tree a (way_to g c) between c.nodes-3.ensures c.deref-3.ensures.value c.in-Ok.ensures.count are_states (sym here) c.in-Ok.ensures.counts in
+    (subst (λ (p : Parts). AreStates LeadsCount p counts) (sym (after g c)) done.0, done.1)
+
+told : (g : _) (c : After-drop-from-in-Ok g) → (texts : ℕ → List (List ℕ)) → AreStates Leads c.args.parts.now texts → (text : List (List ℕ)) → (g.S.LineStore.shows c.args.store.now).present.Is text → texts c.args.parts.now.current ≡ text
+    → AreStates Leads c.arrive.new.parts texts × (g.S.LineStore.shows c.commit.new.self).present.Is (texts c.args.number)
+told g c texts are_states text has here =
+    let parts = c.args.parts.now in
+    let from = c.in_ok-from.from.items in
+    let path = c.in_ok-path.path.items in
+    let a = subst (λ ns. IsWayOf ns parts.current from) c.nodes.ensures c.in_ok-from.ensures in
+    let between = subst (λ xs. IsBetween from xs path) c.deref-2.ensures.value (subst (λ xs. IsBetween xs c.deref-2.result.now path) c.deref.ensures.value c.in_ok-path.ensures) in
+    let done = crossed Leads (λ t. (g.S.LineStore.shows c.cross.new.store).present.Is t) texts parts c.args.number from c.in_ok-to.to.items path c.in-Ok.turned.items c.nodes-3.result.now c.deref-3.result.now text
+    c.requires.sound.tree a (way_to g c) between c.nodes-3.ensures c.deref-3.ensures.value c.in-Ok.ensures.count are_states here (c.in-Ok.ensures.texts text has) in
+    (subst (λ (p : Parts). AreStates Leads p texts) (sym (after g c)) done.0, c.commit.ensures.present.text (texts c.args.number) done.1)
+
+pub returns-in-Ok-clause-moved : goal.returns-in-Ok-clause-moved
+returns-in-Ok-clause-moved g c =
+    let parts = c.args.parts.now in
+    let to = c.in_ok-to.to.items in
+    let links : links_of c.arrive.new.parts ≡ moved to (links_of parts) = ap links_of (after g c) ∙ links_of-arrived c.in_ok-path.path.items c.in-Ok.turned.items to parts in
+    record {
+      way = to;
+      is_way = way_to g c;
+      links = links;
+      history = λ text history has is.
+          let done = told g c history.texts is.are_states text has is.current in
+          (done.1, record { links = links ∙ ap (moved to) is.links; are_states = done.0; current = ap history.texts (current g c) });
+    }
+
+pub returns-in-Ok-clause-sound : goal.returns-in-Ok-clause-sound
+returns-in-Ok-clause-sound g c =
+    let parts = c.args.parts.now in
+    let turned = c.in-Ok.turned.items in
+    let path = c.in_ok-path.path.items in
+    let some = subst (λ xs. (i : ℕ) → i < length xs → 0 < length (get_or turned i [])) c.deref-3.ensures.value c.in-Ok.ensures.some in
+    subst (λ (p : Parts). IsSound p) (sym (after g c)) (arrived_sound path turned c.in_ok-to.to.items parts c.args.number (c.in-Ok.ensures.count ∙ ap length c.deref-3.ensures.value) some c.requires.sound (way_to g c))
+
+pub returns-in-Ok-clause-ready : goal.returns-in-Ok-clause-ready
+returns-in-Ok-clause-ready g c =
+    let sees = c.requires.ready.counts in
+    let lines = counted g c sees.counts sees.are_states sees.current in
+    record {
+      valid = c.commit.ensures.valid;
+      committed = record {
+        text = λ text has.
+            let tells = g.met.S.LineStore.has_told c.commit.new.self text has in
+            let was = g.met.S.LineStore.tells_one c.cross.new.store c.in-Ok.ensures.valid tells in
+            let same = g.met.S.LineStore.has_one c.commit.new.self was.0 text (c.commit.ensures.present.text was.0 was.1) has in
+            subst (λ t. (g.S.LineStore.shows c.commit.new.self).committed.Is t) same (c.commit.ensures.committed.text was.0 was.1);
+        lines = c.commit.ensures.committed.lines ∙ sym c.commit.ensures.present.lines;
+        bytes = c.commit.ensures.committed.bytes ∙ sym c.commit.ensures.present.bytes;
+      };
+      counts = record { counts = sees.counts; are_states = lines.0; current = ap (max 1) c.commit.ensures.present.lines ∙ (lines.1 ∙ sym (ap sees.counts (current g c))) };
+      texts = λ text has.
+          let tells = g.met.S.LineStore.has_told c.commit.new.self text has in
+          let was = g.met.S.LineStore.tells_one c.args.store.now c.requires.ready.valid tells in
+          let fits = c.requires.ready.texts was.0 was.1 in
+          let done = told g c fits.texts fits.are_states was.0 was.1 (sym fits.current) in
+          let same = g.met.S.LineStore.has_one c.commit.new.self text (fits.texts c.args.number) has done.1 in
+          record { texts = fits.texts; are_states = done.0; current = same ∙ sym (ap fits.texts (current g c)) };
+    }
+
+pub returns-clause-err : goal.returns-clause-err
+returns-clause-err g c = record { tree = refl; text = SameText-trans c.requires.ready.committed (SameText-trans c.in-Err.ensures.kept.committed c.rollback.ensures.present) }
+
+pub returns-clause-ready : goal.returns-clause-ready
+returns-clause-ready g c =
+    let same = SameText-trans c.requires.ready.committed (SameText-trans c.in-Err.ensures.kept.committed c.rollback.ensures.present) in
+    record {
+      valid = c.rollback.ensures.valid;
+      committed = record {
+        text = λ text has.
+            let tells = g.met.S.LineStore.has_told c.rollback.new.self text has in
+            let was = g.met.S.LineStore.told_one c.cross.new.store c.in-Err.ensures.kept.valid tells in
+            let is = g.met.S.LineStore.has_one c.rollback.new.self was.0 text (c.rollback.ensures.present.text was.0 was.1) has in
+            subst (λ t. (g.S.LineStore.shows c.rollback.new.self).committed.Is t) is (c.rollback.ensures.committed.text was.0 was.1);
+        lines = c.rollback.ensures.committed.lines ∙ sym c.rollback.ensures.present.lines;
+        bytes = c.rollback.ensures.committed.bytes ∙ sym c.rollback.ensures.present.bytes;
+      };
+      counts = subst (λ n. FitsCount c.args.parts.now (max 1 n)) (sym same.lines) c.requires.ready.counts;
+      texts = λ text has.
+          let tells = g.met.S.LineStore.has_told c.rollback.new.self text has in
+          let was = g.met.S.LineStore.tells_one c.args.store.now c.requires.ready.valid tells in
+          let is = g.met.S.LineStore.has_one c.rollback.new.self was.0 text (same.text was.0 was.1) has in
+          subst (λ t. FitsText c.args.parts.now t) is (c.requires.ready.texts was.0 was.1);
+    }

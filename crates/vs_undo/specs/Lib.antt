@@ -1,0 +1,10 @@
+pub mod Ways
+pub mod Edges
+pub mod History
+pub mod Walks
+pub mod Errors
+pub mod Sound
+pub mod Moves
+pub mod Numbers
+pub mod Leaves
+pub mod Writes

@@ -1,0 +1,57 @@
+// A change of the text that goes into the history.
+ghost use Rattle.std.specs.Prelude.{◌≡◌, ◌+◌, ◌<◌, ◌≤◌, IfErr, IfOk, IsErrOf, OnErr, OnOk};
+ghost use Rattle.vs_faults.specs.Faults.{HasCause};
+ghost use Rattle.vs_edit.specs.State.{AllowsSplice};
+ghost use Rattle.vs_undo.specs.Errors.{IsMoveErr};
+ghost use Rattle.vs_undo.specs.Moves.{HasChanged, HasStayed, IsReady};
+
+use crate::{MAX_NUMBER, UndoErr, UndoTree};
+use std::alloc::Global;
+use vs_edit::LineStore;
+use vs_entries::{EditErr, entry_of_splice};
+use vs_text::Line;
+
+/// Puts new lines in the place of `old` lines from line `top` on, counted from 0, commits the text and keeps the change in the
+/// tree. It gives the number of the change.
+///
+/// After an `Err` tree and text are as before.
+pub fn change<S: LineStore>(
+    alloc: Global,
+    tree: &mut UndoTree,
+    text: &mut S,
+    top: u64,
+    old: u64,
+    new: &[Line],
+    time: u64,
+) -> Result<u64, UndoErr>
+    requires ready { IsReady S.LineStore tree.old text.old }
+    requires allowed { AllowsSplice (S.shows text.old).present top old new.now }
+    ensures number { IfOk result (λ number. number ≡ tree.old.last + 1) }
+    ensures room { OnOk result (tree.old.last < MAX_NUMBER) }
+    ensures changed { OnOk result (HasChanged S.LineStore tree.old tree.new text.old text.new top old new.now time) }
+    ensures err { IfErr result (IsMoveErr UndoErr.NumbersFull (MAX_NUMBER ≤ tree.old.last)) }
+    ensures stayed { OnErr result (HasStayed S.LineStore tree.old tree.new text.old text.new) }
+    ensures ready { IsReady S.LineStore tree.new text.new }
+    ensures stays { S.stays text.old text.new }
+    ensures cause { HasCause (S.shows text.old).faults (S.shows text.new).faults (IsErrOf result UndoErr.Failed) }
+{
+    let back = match entry_of_splice(alloc, text, top, old, new.len() as u64) {
+        Ok(back) => back,
+        Err(EditErr::Failed) => return Err(UndoErr::Failed),
+        Err(_) => return Err(UndoErr::NoMemory),
+    };
+    if let Err(error) = text.splice(alloc, top, old, new) {
+        text.rollback();
+        return Err(UndoErr::from(error));
+    }
+    match tree.push(alloc, back, time) {
+        Ok(number) => {
+            text.commit();
+            Ok(number)
+        }
+        Err(error) => {
+            text.rollback();
+            Err(error)
+        }
+    }
+}

@@ -1,0 +1,71 @@
+// Writes into the tree that follow a move. They take no memory.
+ghost use Rattle.std.specs.Prelude.{◌≡◌, ◌+◌, ◌<◌, drop, length};
+ghost use Rattle.vs_undo.specs.Ways.{start};
+ghost use Rattle.std.specs.List.Sorted.{IsStrictlyIncreasing};
+ghost use Rattle.vs_undo.specs.Numbers.{numbers};
+ghost use Rattle.vs_undo.specs.declared.parts.Node.{Node};
+ghost use Rattle.vs_undo.specs.History.{changed, installed, used, with_child, with_entries};
+
+use crate::way::find;
+use crate::{Entries, Node, Parts};
+
+fn set_entries(nodes: &mut [Node], number: u64, entries: Entries)
+    requires { IsStrictlyIncreasing (numbers nodes.old) }
+    ensures { nodes.new ≡ changed number (with_entries entries) nodes.old }
+{
+    if let Some(i) = find(nodes, number) {
+        nodes[i].entries = entries;
+    }
+}
+
+fn set_last_child(nodes: &mut [Node], number: u64, child: u64)
+    requires { IsStrictlyIncreasing (numbers nodes.old) }
+    ensures { nodes.new ≡ changed number (λ (node : Node). record node { last_child = child }) nodes.old }
+{
+    if let Some(i) = find(nodes, number) {
+        nodes[i].last_child = child;
+    }
+}
+
+/// Puts the turned entries into the changes of a path.
+pub(crate) fn install(nodes: &mut [Node], path: &[u64], turned: Vec<Entries>)
+    requires rising { IsStrictlyIncreasing (numbers nodes.old) }
+    requires count { length turned.items ≡ length path.now }
+    ensures { nodes.new ≡ installed path.now turned.items nodes.old }
+{
+    let mut at = 0;
+    for entries in turned {
+        set_entries(nodes, path[at], entries);
+        at += 1;
+    }
+}
+
+pub(crate) fn set_child(parts: &mut Parts, parent: u64, child: u64)
+    requires { IsStrictlyIncreasing (numbers parts.old.nodes) }
+    ensures { parts.new ≡ with_child parent child parts.old }
+{
+    if parent == 0 {
+        parts.root_child = child;
+    } else {
+        let nodes = &mut parts.nodes;
+        set_last_child(&mut nodes.list, parent, child);
+    }
+}
+
+// The state after which a way goes on from its place `k`.
+fn parent_on(way: &[u64], k: usize) -> u64
+    requires { k < length way.now }
+    ensures { result ≡ start (drop (k + 1) way.now) }
+{
+    if k + 1 < way.len() { way[k + 1] } else { 0 }
+}
+
+/// Makes each state on a way the child last used of its parent.
+pub(crate) fn use_way(parts: &mut Parts, way: &[u64])
+    requires { IsStrictlyIncreasing (numbers parts.old.nodes) }
+    ensures { parts.new ≡ used way.now parts.old }
+{
+    for k in 0..way.len() {
+        set_child(parts, parent_on(way, k), way[k]);
+    }
+}

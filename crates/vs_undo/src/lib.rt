@@ -1,0 +1,36 @@
+//! The undo tree: a history of texts, kept as the entries that lead from one to the next.
+#![tactic(auto)]
+
+mod add;
+mod cross;
+mod edit;
+mod error;
+mod install;
+mod leaves;
+mod mark;
+mod moves;
+mod numbers;
+mod parts;
+#[cfg(test)]
+mod tests;
+mod tree;
+mod way;
+mod writes;
+
+pub use edit::change;
+pub use error::UndoErr;
+pub use leaves::Leaf;
+pub use parts::{Entries, Node, Nodes, Parts};
+pub use tree::UndoTree;
+
+/// The greatest number that a new change gets.
+pub const MAX_NUMBER: u64 = 2_000_000_000;
+
+/// The greatest number of a change that was read from a file.
+pub const MAX_READ_NUMBER: u64 = 2_147_483_647;
+
+/// The greatest last number that was read from a file.
+pub const MAX_LAST: u64 = 4_294_967_295;
+
+/// The greatest save number.
+pub const MAX_SAVE: u64 = 2_000_000_000;

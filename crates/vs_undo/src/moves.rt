@@ -1,0 +1,97 @@
+// A move to another state.
+ghost use Rattle.std.specs.Prelude.{◌≡◌, ◌⊎◌, IfErr, IsErrOf, OnOk, OnErr, length};
+ghost use Rattle.std.specs.List.Sorted.{IsStrictlyIncreasing};
+ghost use Rattle.vs_faults.specs.Faults.{HasCause};
+ghost use Rattle.vs_undo.specs.Ways.{start, IsKept};
+ghost use Rattle.vs_undo.specs.Numbers.{numbers};
+ghost use Rattle.vs_undo.specs.Sound.{IsSound};
+ghost use Rattle.vs_undo.specs.History.{arrived, installed};
+ghost use Rattle.vs_undo.specs.Moves.{HasMoved, HasStayed, IsReady};
+
+use crate::cross::cross;
+use crate::install::{install, use_way};
+use crate::way::{path_between, way_of};
+use crate::{Entries, Parts, UndoErr};
+use std::alloc::Global;
+use vs_edit::{LineStore, StoreErr};
+
+// Puts the turned entries into the changes of a path.
+fn turn(parts: &mut Parts, path: &[u64], turned: Vec<Entries>)
+    requires rising { IsStrictlyIncreasing (numbers parts.old.nodes) }
+    requires count { length turned.items ≡ length path.now }
+    ensures { parts.new ≡ record parts.old { nodes = installed path.now turned.items parts.old.nodes } }
+{
+    let nodes = &mut parts.nodes;
+    install(&mut nodes.list, path, turned);
+}
+
+// Makes the tree one that has arrived at a state by a way, along a path whose edges are turned. It takes no memory.
+fn arrive(parts: &mut Parts, path: &[u64], turned: Vec<Entries>, way: &[u64], number: u64)
+    requires rising { IsStrictlyIncreasing (numbers parts.old.nodes) }
+    requires count { length turned.items ≡ length path.now }
+    requires way { number ≡ start way.now }
+    ensures { parts.new ≡ arrived path.now turned.items way.now parts.old }
+{
+    turn(parts, path, turned);
+    use_way(parts, way);
+    parts.current = number;
+}
+
+/// Moves to a kept state: the text of the store becomes that of the state, and is committed. After an `Err` tree and text
+/// are as before.
+pub(crate) fn move_to<S: LineStore>(
+    alloc: Global,
+    parts: &mut Parts,
+    store: &mut S,
+    number: u64,
+) -> Result<(), StoreErr>
+    requires sound { IsSound parts.old }
+    requires kept { IsKept parts.old.nodes number }
+    requires ready { IsReady S.LineStore parts.old store.old }
+    ensures moved { OnOk result (HasMoved S.LineStore parts.old parts.new store.old store.new number) }
+    ensures err { OnErr result (HasStayed S.LineStore parts.old parts.new store.old store.new) }
+    ensures sound { IsSound parts.new }
+    ensures ready { IsReady S.LineStore parts.new store.new }
+    ensures stays { S.stays store.old store.new }
+    ensures cause { HasCause (S.shows store.old).faults (S.shows store.new).faults (IsErrOf result StoreErr.Failed) }
+{
+    let from = way_of(alloc, parts.nodes.nodes(), parts.current)?;
+    let to = way_of(alloc, parts.nodes.nodes(), number)?;
+    let path = path_between(alloc, &from, &to)?;
+    match cross(alloc, store, parts.nodes.nodes(), &path) {
+        Ok(turned) => {
+            arrive(parts, &path, turned, &to, number);
+            store.commit();
+            Ok(())
+        }
+        Err(error) => {
+            store.rollback();
+            Err(error)
+        }
+    }
+}
+
+/// Moves to a kept state, as every public move does.
+pub(crate) fn go_to<S: LineStore>(
+    alloc: Global,
+    parts: &mut Parts,
+    store: &mut S,
+    number: u64,
+) -> Result<(), UndoErr>
+    requires sound { IsSound parts.old }
+    requires kept { IsKept parts.old.nodes number }
+    requires ready { IsReady S.LineStore parts.old store.old }
+    ensures err { IfErr result (λ error. (error ≡ UndoErr.NoMemory) ⊎ (error ≡ UndoErr.Failed)) }
+    ensures moved { OnOk result (HasMoved S.LineStore parts.old parts.new store.old store.new number) }
+    ensures stayed { OnErr result (HasStayed S.LineStore parts.old parts.new store.old store.new) }
+    ensures sound { IsSound parts.new }
+    ensures ready { IsReady S.LineStore parts.new store.new }
+    ensures stays { S.stays store.old store.new }
+    ensures cause { HasCause (S.shows store.old).faults (S.shows store.new).faults (IsErrOf result UndoErr.Failed) }
+{
+    match move_to(alloc, parts, store, number) {
+        Ok(()) => Ok(()),
+        Err(StoreErr::NoMemory) => Err(UndoErr::NoMemory),
+        Err(StoreErr::Failed) => Err(UndoErr::Failed),
+    }
+}
