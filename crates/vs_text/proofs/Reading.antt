@@ -1,5 +1,5 @@
 -- The bytes that were read are ended lines and a last line: each step adds to one of these, and the end reads both.
-use Rattle.std.proofs.Common.{◌≡◌, ◌≢◌, ℕ, ◌+◌, ◌<◌, ◌≤◌, ◌⊎◌, List, [], ◌∷◌, ◌++◌, length, refl, sym, ap, subst, ◌∙◌, arith, inl, inr, Option, Some, None, MatchOption, OnOk, Result, Ok, Err, append_assoc, append-nil, length-append, All}
+use Rattle.std.proofs.Common.{◌≡◌, ◌≢◌, ℕ, ◌+◌, ◌<◌, ◌≤◌, List, [], ◌∷◌, ◌++◌, length, refl, sym, ap, subst, ◌∙◌, arith, inl, inr, Option, Some, None, MatchOption, OnOk, Result, Ok, Err, append_assoc, append-nil, length-append, All}
 use Rattle.std.specs.List.{AllByRecursion}
 use Rattle.std.proofs.lemmas.Bool.{cases_lt}
 use Rattle.std.proofs.lemmas.Bool.Decides.{nat_tests}
@@ -71,9 +71,9 @@ ReadsOn-bytes old new bytes line lines ended count size grown = λ taken fed h. 
   counted_last = omega (arith, length-append h.last bytes, h.counted_last);
   held = λ few small. h.held few small ∙ ap (λ ls. taken ++ ls) (sym lines);
   held_last = λ short.
-    let before : length h.last ≤ MAX_LINE_BYTES = omega (arith, length-append h.last bytes) in
-    let now : new.last_size ≤ MAX_LINE_BYTES = omega (arith, length-append h.last bytes, h.counted_last) in
-    grown now ∙ ap (λ xs. xs ++ bytes) (h.held_last before);
+      let before : length h.last ≤ MAX_LINE_BYTES = omega (arith, length-append h.last bytes) in
+      let now : new.last_size ≤ MAX_LINE_BYTES = omega (arith, length-append h.last bytes, h.counted_last) in
+      grown now ∙ ap (λ xs. xs ++ bytes) (h.held_last before);
   within = rw lines h.within;
 }
 
@@ -326,5 +326,5 @@ pub HasRead-taken : (old new : Reading) (taken : List (List ℕ)) (fed : List �
 HasRead-taken old new taken fed is h = record {
   size = subst (λ (r : Reading). size_read r ≤ length fed) (sym is) h.size;
   state = subst (λ o. MatchOption o (IsReading new (taken ++ old.lines) fed) (λ e. IsRefusing new (taken ++ old.lines) fed e)) (sym (ap (λ (r : Reading). r.refused) is))
-    (state_taken old new taken fed old.refused is h.state);
+      (state_taken old new taken fed old.refused is h.state);
 }

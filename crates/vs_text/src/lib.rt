@@ -6,8 +6,6 @@ mod line;
 mod read;
 mod reader;
 mod stored;
-#[cfg(test)]
-mod tests;
 mod text;
 mod write;
 

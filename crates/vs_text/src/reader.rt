@@ -2,7 +2,7 @@
 ghost use Rattle.std.specs.Prelude.{◌≡◌, ◌+◌, ◌<◌, ◌≤◌, ◌^◌, ◌++◌, ◌∷◌, [], List, ℕ, length, None, Some, IfOk, IfErr, OnOk, OnErr, IsOk, MatchOption};
 ghost use Rattle.vs_text.specs.Text.{IsLine};
 ghost use Rattle.vs_text.specs.Limits.{IsWithinLimits};
-ghost use Rattle.vs_text.specs.Reader.{HasRead, IsAnswer, IsReading, Reads, ReadsOn, Refuses, size_read};
+ghost use Rattle.vs_text.specs.Reader.{HasRead, IsAnswer, IsCertain, IsReading, Reads, ReadsOn, Refuses, size_read};
 
 use crate::{Line, MAX_LINE_BYTES, MAX_LINES, MAX_TEXT_BYTES, Text, TextErr};
 use memchr::memchr;
@@ -33,12 +33,13 @@ impl Model for TextReader {
     ghost Value = { Reading };
 
     ghost view = { λ r. record {
-        lines = r.lines.items;
-        last = r.last.items;
-        last_size = r.last_size;
-        ended = r.ended;
-        bytes = r.bytes;
-        refused = r.refused } };
+      lines = r.lines.items;
+      last = r.last.items;
+      last_size = r.last_size;
+      ended = r.ended;
+      bytes = r.bytes;
+      refused = r.refused;
+    } };
 
     ghost invariant = { λ r. IsLine r.last.items × (r.ended ≤ r.bytes) × (r.bytes ≤ r.ended * (MAX_LINE_BYTES + 1)) × (r.bytes + r.last_size < 2 ^ 64) };
 }
@@ -76,6 +77,7 @@ impl TextReader {
         ensures size { size_read self.new ≤ size_read self.old + length piece.now }
         ensures ok { OnOk result ((self.old.refused ≡ None) × (self.new.refused ≡ None)) }
         ensures err { IfErr result (λ error. self.new.refused ≡ Some error) }
+        ensures certain { IfErr result (λ error. (taken : List (List ℕ)) (fed : List ℕ) → HasRead self.old taken fed → IsCertain (fed ++ piece.now) error) }
         ensures again { MatchOption self.old.refused Unit (λ error. (result ≡ Err error) × (self.new ≡ self.old)) }
     {
         if let Some(error) = self.refused {

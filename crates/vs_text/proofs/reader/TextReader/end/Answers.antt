@@ -1,4 +1,4 @@
-use Rattle.std.proofs.Common.{◌≡◌, ◌<◌, ◌≤◌, ◌∙◌, ◌++◌, ◌∷◌, [], None, Err, ap, sym, subst, arith}
+use Rattle.std.proofs.Common.{◌≡◌, ◌<◌, ◌≤◌, ◌∙◌, ◌++◌, ◌∷◌, [], Err, ap, sym, subst, arith}
 use Rattle.vs_text.specs.Reader.{Reading, IsAnswer, ReadsOn, Refuses}
 use Rattle.vs_text.specs.declared.TheConstants.{MAX_LINES, MAX_LINE_BYTES}
 use Rattle.std.proofs.lemmas.Result.{err_from_is_err_and}

@@ -1,4 +1,4 @@
-use Rattle.std.proofs.Common.{◌≡◌, ◌+◌, [], ◌∷◌, refl, sym, ◌∙◌, ap, subst, OnOk, Vec, Global, ℕ}
+use Rattle.std.proofs.Common.{◌≡◌, ◌+◌, [], ◌∷◌, refl, ◌∙◌, ap, subst, OnOk, Vec, Global, ℕ}
 use Rattle.vs_text.specs.Reader.{Reading, ReadsOn, Refuses}
 use Rattle.vs_text.specs.declared.error.TextErr.TheVariants.{LineTooLong}
 use Rattle.vs_text.specs.contracts.reader.TextReader.{the_view}
@@ -20,4 +20,4 @@ returns-clause-reads c =
     let line : c.from_vec-line.result ≡ old.last.items = c.from_vec-line.ensures ∙ ap (λ (v : Vec ℕ Global). v.items) c.replace.ensures.value in
     subst (λ (before : Reading). OnOk c.hold.result (ReadsOn before c.hold.new.self (10 ∷ []))) c.self.view_is
     (ReadsOn-kept c.hold.result (the_view old) mid c.hold.new.self c.from_vec-line.result c.if-self-gt-MAX_LINE_BYTES.false line
-      refl none refl refl refl c.hold.ensures.rest c.hold.ensures.held c.hold.ensures.many_lines c.hold.ensures.many_bytes)
+    refl none refl refl refl c.hold.ensures.rest c.hold.ensures.held c.hold.ensures.many_lines c.hold.ensures.many_bytes)

@@ -1,7 +1,5 @@
-use Rattle.std.proofs.Common.{◌≡◌, ◌∙◌, Ok, Err, ℕ, List, ap, sym, subst}
-use Rattle.vs_text.specs.Reader.{Reading, IsReading, IsAnswer}
-use Rattle.vs_text.specs.declared.error.TextErr.TheVariants.{TextFull}
-use Rattle.vs_text.specs.contracts.reader.TextReader.{the_view}
+use Rattle.std.proofs.Common.{◌≡◌, ◌∙◌, ap}
+use Rattle.vs_text.specs.Reader.{Reading}
 use Rattle.vs_text.proofs.Reading.{IsAnswer-text, IsAnswer-lines, IsAnswer-bytes}
 use Rattle.vs_text.proofs.reader.TextReader.into_text.Goals as goal
 

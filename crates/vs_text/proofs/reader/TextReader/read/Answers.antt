@@ -1,7 +1,6 @@
-use Rattle.std.proofs.Common.{◌≡◌, ◌+◌, ◌∙◌, ◌++◌, ◌∷◌, [], List, ℕ, ap, sym, subst, arith, append_assoc, length, length-append}
+use Rattle.std.proofs.Common.{◌≡◌, ◌+◌, ◌∙◌, ◌++◌, ◌∷◌, [], ap, sym, subst, arith, append_assoc, length, length-append}
 use Rattle.std.proofs.lemmas.Result.{err_from_is_err_and}
 use Rattle.vs_text.specs.Reader.{Refuses}
-use Rattle.vs_text.specs.declared.error.TextErr.{TextErr}
 use Rattle.vs_text.proofs.Reading.{ReadsOn-then, Refuses-then, Refuses-more}
 use Rattle.vs_text.proofs.reader.TextReader.read.Goals as goal
 
