@@ -1,9 +1,15 @@
-use crate::{
-    Line, MAX_LINE_BYTES, MAX_LINES, MAX_TEXT_BYTES, Text, TextErr, from_stored, read_text,
-    to_stored, write_text,
-};
+ghost use Rattle.std.specs.Prelude.{◌≤◌, length};
+
+use crate::{read_in_pieces, take_in_pieces};
 use std::alloc::{AllocError, Global};
 use std::test::Fail;
+use vs_text::{
+    Line, MAX_LINE_BYTES, MAX_LINES, MAX_TEXT_BYTES, Text, TextErr, TextReader, from_stored,
+    read_text, to_stored, write_text,
+};
+
+// The bytes of a piece of a file.
+const PIECE: usize = 65_536;
 
 fn filled(alloc: Global, byte: u8, len: u64) -> Result<Vec<u8>, AllocError> {
     vec![in alloc; byte; len as usize]
@@ -16,8 +22,28 @@ fn line_of(alloc: Global, bytes: &[u8]) -> Result<Line, TextErr> {
     Line::of(alloc, &bytes)
 }
 
+// How many lines a file has, which is read whole, in pieces, and in pieces after which the lines are taken.
 fn lines_read(alloc: Global, file: &[u8]) -> Result<usize, TextErr> {
-    Ok(read_text(alloc, file)?.len())
+    let whole = read_text(alloc, file).map(|text| text.len());
+    let pieces = read_in_pieces(alloc, file, PIECE).map(|text| text.len());
+    let taken = take_in_pieces(alloc, file, PIECE).map(|text| text.len());
+    if pieces == whole && taken == whole {
+        whole
+    } else {
+        Ok(usize::MAX)
+    }
+}
+
+// The answer for a file that is cut at two places.
+fn read_in_three(alloc: Global, file: &[u8], start: usize, end: usize) -> Result<Text, TextErr>
+    requires order { start ≤ end }
+    requires within { end ≤ length file.now }
+{
+    let mut reader = TextReader::new(alloc)?;
+    reader.feed(alloc, &file[..start])?;
+    reader.feed(alloc, &file[start..end])?;
+    reader.feed(alloc, &file[end..])?;
+    reader.end()
 }
 
 #[test]
@@ -46,6 +72,92 @@ fn reads_and_writes_files(rt: HostRuntime) -> Result<(), Fail> {
         let bytes = write_text(alloc, &text)?;
         assert_eq!(rt; bytes.as_slice(), written, "in {file:?}");
     }
+    Ok(())
+}
+
+#[test]
+fn cuts_do_not_matter(rt: HostRuntime) -> Result<(), Fail> {
+    let alloc = rt.alloc();
+    let files: [&[u8]; 6] = [
+        b"a\nb\nc",
+        b"a\nb\nc\n",
+        b"\n\n",
+        b"\n",
+        b"ab",
+        b"\x00\n\r\n\xff",
+    ];
+    for file in files {
+        let want = write_text(alloc, &read_text(alloc, file)?)?;
+        for end in 0..=file.len() {
+            for start in 0..=end {
+                let text = read_in_three(alloc, file, start, end)?;
+                let bytes = write_text(alloc, &text)?;
+                assert_eq!(rt;
+                    bytes.as_slice(),
+                    want.as_slice(),
+                    "{file:?} cut at {start} and {end}"
+                );
+            }
+        }
+        for size in 1..=file.len() {
+            let text = take_in_pieces(alloc, file, size)?;
+            let bytes = write_text(alloc, &text)?;
+            assert_eq!(rt;
+                bytes.as_slice(),
+                want.as_slice(),
+                "{file:?} in pieces of {size}"
+            );
+        }
+    }
+    Ok(())
+}
+
+#[test]
+fn three_lines_in_two_pieces(rt: HostRuntime) -> Result<(), Fail> {
+    let alloc = rt.alloc();
+    let lines: [&[u8]; 3] = [b"a", b"b", b"c"];
+    for cut in 0..=5 {
+        let text = read_in_three(alloc, b"a\nb\nc", cut, cut)?;
+        assert_eq!(rt; text.len(), 3, "cut at {cut}");
+        for (line, want) in text.lines().iter().zip(lines) {
+            assert_eq!(rt; line.bytes(), want, "cut at {cut}");
+        }
+    }
+    Ok(())
+}
+
+#[test]
+fn hands_over_the_lines_that_have_ended(rt: HostRuntime) -> Result<(), Fail> {
+    let alloc = rt.alloc();
+    let mut reader = TextReader::new(alloc)?;
+    reader.feed(alloc, b"ab\nc")?;
+    let first = reader.take_lines();
+    assert_eq!(rt; first.len(), 1);
+    assert_eq!(rt; first[0].bytes(), b"ab".as_slice());
+    assert!(rt; reader.take_lines().is_empty());
+    reader.feed(alloc, b"d\n\ne")?;
+    let second = reader.take_lines();
+    assert_eq!(rt; second.len(), 2);
+    assert_eq!(rt; second[0].bytes(), b"cd".as_slice());
+    assert!(rt; second[1].bytes().is_empty());
+    let rest = reader.end()?;
+    assert_eq!(rt; rest.len(), 1);
+    assert_eq!(rt; rest.lines()[0].bytes(), b"e".as_slice());
+    Ok(())
+}
+
+#[test]
+fn answers_an_error_again(rt: HostRuntime) -> Result<(), Fail> {
+    let alloc = rt.alloc();
+    let long = filled(alloc, b'a', MAX_LINE_BYTES)?;
+    let mut reader = TextReader::new(alloc)?;
+    reader.feed(alloc, &long)?;
+    reader.feed(alloc, b"ab")?;
+    let error = Err(TextErr::LineTooLong(1_048_578));
+    assert_eq!(rt; reader.feed(alloc, b"\n"), error);
+    assert_eq!(rt; reader.feed(alloc, b"a\n"), error);
+    assert!(rt; reader.take_lines().is_empty());
+    assert_eq!(rt; reader.end().err(), error.err());
     Ok(())
 }
 
