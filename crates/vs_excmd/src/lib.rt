@@ -5,8 +5,12 @@
 #![tactic(auto)]
 
 mod answer;
+mod block;
+mod limits;
 mod meaning;
+mod moving;
 mod place;
+mod reads;
 mod request;
 #[cfg(test)]
 mod tests;

@@ -1,5 +1,6 @@
 // The lines that a command works on.
 ghost use Rattle.std.specs.Prelude.{◌≡◌, ◌≤◌, ◌<◌, ◌^◌, IfOk, IfSome, IsTrue, Ok, not};
+ghost use Rattle.vs_excmd.specs.Change.{before, size_of};
 ghost use Rattle.vs_excmd.specs.Errors.{check, on};
 ghost use Rattle.vs_exparse.specs.declared.command.ExErr.TheVariants.{E134};
 ghost use Rattle.vs_exparse.specs.Command.{HasCount, HasForm, command_of};
@@ -25,6 +26,23 @@ pub enum LineZero {
 pub struct Span {
     pub first: u64,
     pub last: u64,
+}
+
+impl Span {
+    /// The number of lines before the first one. None stand before line 0.
+    pub fn before(self) -> u64
+        ensures { result ≡ before self }
+    {
+        self.first.saturating_sub(1)
+    }
+
+    /// The number of lines. Line 0 is none.
+    pub fn size(self) -> u64
+        requires { self.first ≤ self.last }
+        ensures { result ≡ size_of self }
+    {
+        self.last - self.before()
+    }
 }
 
 /// Where a command of the text works.
@@ -205,7 +223,20 @@ pub fn place_of(command: &Command, lines: u64, cursor: u64) -> Result<Place, ExE
             shown(range, count, lines, cursor)?
         }
         Command::Substitute { range, .. } => locate(LineZero::IsFirst, range, lines, cursor)?,
-        _ => return Err(ExErr::E16),
+        Command::Print { .. }
+        | Command::Number { .. }
+        | Command::Equals { .. }
+        | Command::Undo { .. }
+        | Command::Redo
+        | Command::Earlier { .. }
+        | Command::Later { .. }
+        | Command::UndoList
+        | Command::Write { .. }
+        | Command::Preserve
+        | Command::Quit { .. }
+        | Command::Set { .. }
+        | Command::WriteUndo
+        | Command::ReadUndo => return Err(ExErr::E16),
     };
     Ok(lines_alone(span))
 }
