@@ -155,3 +155,13 @@ pub record IsPlaceIn (lines : ℕ) (place : Place) : Type 0 where
 abbrev pub IsOutside : Command → Place → Type 0
 IsOutside (Move range to) place = is_into_itself place ≡ false
 IsOutside command place = Unit {0}
+
+-- The lines of a command that puts nothing in begin at a line, and not before the first.
+abbrev pub BeginsAtLine : Command → Place → Type 0
+BeginsAtLine (Delete range count) place = 1 ≤ place.lines.first
+BeginsAtLine (Move range to) place = 1 ≤ place.lines.first
+BeginsAtLine (CopyTo range to) place = 1 ≤ place.lines.first
+BeginsAtLine (T range to) place = 1 ≤ place.lines.first
+BeginsAtLine (Join range bang count) place = 1 ≤ place.lines.first
+BeginsAtLine (Substitute range pattern replacement all) place = 1 ≤ place.lines.first
+BeginsAtLine command place = Unit {0}

@@ -6,6 +6,7 @@
 
 mod answer;
 mod block;
+mod joining;
 mod limits;
 mod meaning;
 mod moving;

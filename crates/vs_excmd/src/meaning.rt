@@ -5,10 +5,11 @@ ghost use Rattle.vs_edit.specs.Calls.{OnlyReads};
 ghost use Rattle.vs_exparse.specs.Command.{HasForm, command_of, wants_block};
 ghost use Rattle.vs_excmd.specs.Answer.{Allows, Answers, IsLate, IsPlaced, Leads, LiesIn};
 ghost use Rattle.vs_excmd.specs.Meaning.{changes_text, effect, planned};
-ghost use Rattle.vs_excmd.specs.Place.{IsOutside, IsPlaceIn, place_of};
+ghost use Rattle.vs_excmd.specs.Place.{BeginsAtLine, IsOutside, IsPlaceIn, place_of};
 ghost use Rattle.vs_excmd.specs.Request.{StandsFor, is_absent};
 
 use crate::block::{deletion, put_block};
+use crate::joining::{addresses_of, join_lines};
 use crate::limits::bounded;
 use crate::moving::{copy_lines, move_lines};
 use crate::{Block, Place, Plan, PlanErr, place_of};
@@ -57,6 +58,7 @@ fn effect<S: LineStore>(
 ) -> Result<Plan, PlanErr>
     requires valid { S.valid view.old }
     requires lies { IsPlaceIn (S.shows view.old).present.lines place }
+    requires begins { BeginsAtLine (command_of command.now) place }
     requires outside { IsOutside (command_of command.now) place }
     requires form { HasForm (command_of command.now) }
     ensures leads { (text lines : List (List ℕ)) → (S.shows view.old).present.Is text → StandsFor block.now lines → Leads text (effect (command_of command.now) lines text place) result }
@@ -65,16 +67,19 @@ fn effect<S: LineStore>(
     ensures kept { OnlyReads S.LineStore view.old view.new }
     ensures cause { HasCause (S.shows view.old).faults (S.shows view.new).faults (IsErrOf result PlanErr.Failed) }
 {
-    let count = view.len();
+    let len = view.len();
     let lines = place.lines;
     match *command {
-        Command::Append { .. } => put_block(alloc, block, count, lines.last, 0),
-        Command::Insert { .. } => put_block(alloc, block, count, lines.last.saturating_sub(1), 0),
-        Command::Change { .. } => put_block(alloc, block, count, lines.before(), lines.size()),
-        Command::Delete { .. } => Ok(deletion(alloc, count, lines.before(), lines.size())),
+        Command::Append { .. } => put_block(alloc, block, len, lines.last, 0),
+        Command::Insert { .. } => put_block(alloc, block, len, lines.last.saturating_sub(1), 0),
+        Command::Change { .. } => put_block(alloc, block, len, lines.before(), lines.size()),
+        Command::Delete { .. } => Ok(deletion(alloc, len, lines.before(), lines.size())),
         Command::Move { .. } => Ok(move_lines(alloc, view, place)?),
         Command::CopyTo { .. } | Command::T { .. } => copy_lines(alloc, view, place),
-        Command::Join { .. } | Command::Substitute { .. } => Err(PlanErr::NoMemory),
+        Command::Join { range, bang, count } => {
+            join_lines(alloc, view, lines, bang, addresses_of(range, count))
+        }
+        Command::Substitute { .. } => Err(PlanErr::NoMemory),
         Command::Print { .. }
         | Command::Number { .. }
         | Command::Equals { .. }
