@@ -1,5 +1,5 @@
 -- What a reader took is known whatever follows: a function of the bytes is carried along from piece to piece.
-use Rattle.std.proofs.Common.{◌≡◌, ℕ, ◌+◌, false, List, [], ◌++◌, length, refl, sym, ap, ◌∙◌, append_assoc, append-nil, arith, Ok, Err, IfErr, IsErrAnd}
+use Rattle.std.proofs.Common.{◌≡◌, ℕ, false, List, [], ◌++◌, refl, sym, ap, ◌∙◌, append_assoc, append-nil, arith, Ok, Err, IfErr, IsErrAnd}
 use Rattle.std.proofs.lemmas.List.{length-append}
 use Rattle.std.specs.declared.result.Result.{Result}
 use Rattle.vs_host.specs.World.{Scene}
@@ -73,4 +73,3 @@ goes_on_as f g h old new before after one same =
 pub goes_on_in : {X : Type 0} (f g : List ℕ → X) (old new : Ahead) (before after scene : Scene) → GoesOn f g old new before after → scene.script ≡ after.script → GoesOn f g old new before scene
 goes_on_in f g old new before after scene one same =
     record { open_before = one.open_before; fresh = one.fresh; script = rw same one.script; count = one.count; each = one.each }
-

@@ -1,3 +1,6 @@
 mod Lines
 mod Going
 mod Taking
+mod LineKinds
+mod Blocks
+mod Commands

@@ -1,17 +1,16 @@
 -- The first byte 10 ends the first line; all else follows by induction on the bytes.
-use Rattle.std.proofs.Common.{◌≡◌, ◌≢◌, ℕ, ◌<◌, ◌≤◌, ◌+◌, ◌-◌, List, [], ◌∷◌, ◌++◌, length, take, drop, get_or, min, refl, sym, ap, ◌∙◌, arith, inl, inr, ◌==◌, Some, None, MatchOption}
+use Rattle.std.proofs.Common.{◌≡◌, ◌≢◌, ℕ, ◌<◌, ◌+◌, List, [], ◌∷◌, ◌++◌, length, take, drop, get_or, refl, sym, arith, Some, None, MatchOption}
 use Rattle.std.specs.declared.option.Option.{Option}
-use Rattle.std.proofs.Math.Seq.{split_at, take-append-add}
+use Rattle.std.proofs.Math.Seq.{split_at}
 use Rattle.std.proofs.lemmas.Bool.{ne_eqb}
-use Rattle.std.proofs.lemmas.Bool.Decides.{nat_tests, leb_tells}
+use Rattle.std.proofs.lemmas.Bool.Decides.{nat_tests}
 use Rattle.std.proofs.lemmas.Grind.{common_steps}
-use Rattle.std.proofs.lemmas.List.{take-append-le, length-take}
 use Rattle.std.proofs.lemmas.List.Elements.{recursion_from_All}
 use Rattle.std.specs.List.{AllByRecursion}
 use Rattle.memchr.specs.Find.{IsFirstByte, is_byte}
 use Rattle.vs_text.specs.Text.{IsLine}
 use Rattle.vs_text.proofs.LineEnds.{lines_of-found, lines_of-none}
-use Rattle.vs_script.specs.Ahead.{whole_lines, kept_of}
+use Rattle.vs_script.specs.Ahead.{whole_lines}
 
 -- what the place of the first byte 10 says
 pub first_end : (bytes : List ℕ) (end : Option ℕ) → IsFirstByte (is_byte 10) bytes end

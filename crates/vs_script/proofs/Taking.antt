@@ -1,10 +1,10 @@
 -- A line is put together from pieces: what was taken of it and what is left make up the script, and its first bytes are kept.
-use Rattle.std.proofs.Common.{◌≡◌, ◌≢◌, ℕ, ◌<◌, ◌≤◌, ◌+◌, ◌-◌, List, [], ◌∷◌, ◌++◌, length, take, drop, min, refl, sym, ap, ◌∙◌, append_assoc, append-nil, arith, inl, inr, true, false}
+use Rattle.std.proofs.Common.{◌≡◌, ◌≢◌, ℕ, ◌<◌, ◌≤◌, ◌+◌, ◌-◌, List, [], ◌∷◌, ◌++◌, length, take, drop, min, refl, sym, ap, subst, ◌∙◌, append_assoc, append-nil, arith, inl, inr, true, false}
 use Rattle.std.proofs.Math.Seq.{take-append-add}
 use Rattle.std.proofs.lemmas.Bool.{true≢false}
 use Rattle.std.proofs.lemmas.Bool.Decides.{leb_tells}
 use Rattle.std.proofs.lemmas.List.{drop-take, drop-drop, length-take, length-append, take-append-le, take_all, take_min}
-use Rattle.std.proofs.lemmas.List.Elements.{All-append, All-nil}
+use Rattle.std.proofs.lemmas.List.Elements.{All-append, All-nil, All-take}
 use Rattle.std.proofs.Math.Nat.{min_comm}
 use Rattle.vs_host.specs.World.{Scene}
 use Rattle.vs_text.specs.Text.{IsLine, lines_of}
@@ -46,6 +46,15 @@ take_on n line piece = elim (leb_tells n (length line)) [
 
 pub kept_on : (line piece : List ℕ) → kept_of (kept_of line ++ piece) ≡ kept_of (line ++ piece)
 kept_on line piece = take_on 1048577 line piece
+
+-- What is kept of a line and a piece has no byte 10 where these have none, and is no longer than they are.
+pub line_is_kept : (kept piece kept' : List ℕ) → IsLine kept → IsLine piece → kept' ≡ kept_of (kept ++ piece) → IsLine kept'
+line_is_kept kept piece kept' one two is =
+    subst (λ (l : List ℕ). IsLine l) (sym is) (All-take (λ byte. byte ≢ 10) 1048577 (kept ++ piece) (All-append (λ byte. byte ≢ 10) kept piece one two))
+
+pub kept_is_shorter : (kept piece kept' : List ℕ) → kept' ≡ kept_of (kept ++ piece) → length kept' ≤ length kept + length piece
+kept_is_shorter kept piece kept' is =
+    omega (arith, ap (λ (l : List ℕ). length l) is, length-take 1048577 (kept ++ piece), length-append kept piece)
 
 -- What is known in the middle of a line: its bytes so far, of which the first are kept.
 pub record InLine (kept : List ℕ) (old now : Ahead) (before mid : Scene) : Type 0 where

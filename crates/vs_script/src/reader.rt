@@ -152,6 +152,7 @@ impl ScriptReader {
         ensures end { result ≡ Ok false → IsTrue (S.tells).script → (S.scene host.new).script ≡ [] }
         ensures limit { self.new.taken ≤ script_limit }
         ensures fewer { IfOk result (λ found. IsTrue found → bytes_left self.new < bytes_left self.old) }
+        ensures left { OnOk result (bytes_left self.new ≤ bytes_left self.old) }
         ensures cause { HasCause (S.scene host.old).script_faults (S.scene host.new).script_faults (IsErrOf result ScriptErr.Failed) }
         ensures quiet { IsQuiet (S.scene host.old).script_faults (S.scene host.new).script_faults (IsErrOf result ScriptErr.Failed) }
         ensures frame { ChangesScript (S.scene host.old) (S.scene host.new) }
