@@ -1,8 +1,9 @@
-pub mod Script
+pub mod Replies
+pub mod Shown
 pub mod Machine
 pub mod Reply
 pub mod Request
-pub mod Growth
+pub mod Answers
 pub mod Paged
 pub mod Session
 pub mod Open

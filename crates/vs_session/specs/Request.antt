@@ -1,23 +1,16 @@
--- What the requests to a session stand for.
-use Rattle.std.specs.Prelude.{ℕ, List, [], ◌≡◌, ⊤}
-use Rattle.vs_session.specs.declared.command.Block.{Block}
-use Rattle.vs_session.specs.declared.command.Block.TheVariants as block
-use Rattle.vs_session.specs.declared.command.Request.{Request}
-use Rattle.vs_session.specs.Script.{Instruction}
+-- What a session asks of a request.
+use Rattle.std.specs.Prelude.{◌≡◌, not, IsTrue, Result, Ok, Err}
+use Rattle.vs_exparse.specs.Command.{HasForm, command_of, wants_block}
+use Rattle.vs_exparse.specs.declared.command.ExErr.{ExErr}
+use Rattle.vs_exparse.specs.declared.command.Command as borrowed
+use Rattle.vs_excmd.specs.Request.{is_absent}
+use Rattle.vs_excmd.specs.declared.request.Block.{Block}
+use Rattle.vs_excmd.specs.declared.request.Request.{Request}
 
--- the lines that a block holds
-abbrev pub lines_in : Block → List (List ℕ)
-lines_in block.Absent = []
-lines_in (block.Lines lines) = lines
-lines_in block.NoMemory = []
+-- A command has the form that the grammar gives it, and there is a block exactly where it takes one.
+abbrev pub FitsBlock : Result borrowed.Command ExErr → Block → Type 0
+FitsBlock (Err error) block = IsTrue (is_absent block)
+FitsBlock (Ok command) block = HasForm (command_of command) × (is_absent block ≡ not (wants_block (command_of command)))
 
--- A block stands for these lines. Where no memory was found for its lines, it stands for any.
-abbrev pub IsBlockOf : Block → List (List ℕ) → Type 0
-IsBlockOf block.Absent lines = [] ≡ lines
-IsBlockOf (block.Lines held) lines = held ≡ lines
-IsBlockOf block.NoMemory lines = ⊤
-
--- A request stands for an instruction of the script.
-pub record StandsFor (request : Request) (instruction : Instruction) : Type 0 where
-  pub command : request.command ≡ instruction.command
-  pub block : IsBlockOf request.block instruction.lines
+abbrev pub IsFormed : Request → Type 0
+IsFormed request = FitsBlock request.parsed request.block

@@ -1,10 +1,25 @@
 -- What a session is.
-use Rattle.std.specs.Prelude.{ℕ, List, [], length, None, Some}
+use Rattle.std.specs.Prelude.{ℕ, ◌≡◌, List, [], length, None, Some}
 use Rattle.std.specs.declared.option.Option.{Option}
 use Rattle.vs_text.specs.Text.{lines_of}
-use Rattle.vs_session.specs.Machine.{State}
+use Rattle.vs_session.specs.Machine.{State, first_state}
 
--- a session, as its users see it: the file's name, its numbers of lines and bytes where it was there, and the machine's state
+-- What a session keeps: the file's name, its numbers of lines and bytes where it was there, and the text with the cursor and the
+-- number of the last change.
+pub record Kept : Type 0 where
+  pub name : List ℕ
+  pub found : Option (ℕ × ℕ)
+  pub text : List (List ℕ)
+  pub cursor : ℕ
+  pub last : ℕ
+
+-- A session is in a state of the machine.
+pub record IsAt (session : Kept) (state : State) : Type 0 where
+  pub text : session.text ≡ state.text
+  pub cursor : session.cursor ≡ state.cursor
+  pub last : session.last ≡ state.last
+
+-- a file that was opened: its name, its numbers of lines and bytes where it was there, and the state in which the machine begins
 pub record Opened : Type 0 where
   pub name : List ℕ
   pub found : Option (ℕ × ℕ)
@@ -20,6 +35,17 @@ abbrev pub text_in : Option (List ℕ) → List (List ℕ)
 text_in None = []
 text_in (Some bytes) = lines_of bytes
 
--- the session that opens the bytes under a name
+-- what comes of opening the bytes under a name
 abbrev pub opened : List ℕ → Option (List ℕ) → Opened
-opened name file = record { name = name; found = sizes_of file; state = record { text = text_in file; last = 0 } }
+opened name file = record { name = name; found = sizes_of file; state = first_state (text_in file) }
+
+-- A session has just opened this file.
+pub record HasOpened (file : Opened) (session : Kept) : Type 0 where
+  pub name : session.name ≡ file.name
+  pub found : session.found ≡ file.found
+  pub state : IsAt session file.state
+
+-- The file that a session opened is the same.
+pub record SameFile (old new : Kept) : Type 0 where
+  pub name : new.name ≡ old.name
+  pub found : new.found ≡ old.found

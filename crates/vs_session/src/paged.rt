@@ -1,30 +1,33 @@
 // A text in pages in memory.
-ghost use Rattle.std.specs.Prelude.{◌≡◌, ◌≢◌, ◌≤◌, ◌++◌, ◌==◌, true, IfOk, OnOk, OnErr, length, take, drop};
-ghost use Rattle.vs_pages.specs.Memory.{present_of, committed_of};
-ghost use Rattle.vs_tree.specs.Texts.{Fits};
+ghost use Rattle.std.specs.Prelude.{◌≡◌, ◌≢◌, ◌++◌, [], true, IfOk, OnOk, OnErr, length};
+ghost use Rattle.vs_pages.specs.Memory.{present_of};
 ghost use Rattle.vs_tree.specs.TextIn.{text_in};
-ghost use Rattle.vs_session.specs.Paged.{IsCommitted};
-ghost use Rattle.vs_text.specs.Text.{file_of};
 ghost use Rattle.vs_text.specs.Limits.{IsWithinLimits};
-ghost use Rattle.vs_session.specs.Growth.{FitsWith};
+ghost use Rattle.vs_excmd.specs.Request.{Instruction, IsRequest};
+ghost use Rattle.vs_session.specs.Answers.{AnswersAs, meaning_at, state_at};
+ghost use Rattle.vs_session.specs.Machine.{done_state};
+ghost use Rattle.vs_session.specs.Paged.{IsCommitted};
+ghost use Rattle.vs_session.specs.Request.{IsFormed};
 
+use crate::answer::{Answered, Position, answer, splice};
 use std::alloc::{AllocError, Global};
 use std::marker::Model;
-use vs_edit::{LineStore, StoreErr, splice_or_rollback};
+use vs_edit::StoreErr;
+use vs_excmd::Request;
 use vs_pages::{LentPages, MemPages, PageErr};
 use vs_text::Line;
 use vs_tree::{LineTree, TreeStore};
 
 /// A text that stands as a tree of blocks in pages in memory, seen as its lines. Each change is committed, or it is taken back.
 #[derive(Drop)]
-pub struct PagedText {
+pub(crate) struct PagedText {
     tree: LineTree,
     pages: MemPages,
 }
 
 impl Model for PagedText {
     ghost use Rattle.std.specs.Prelude.{List, ℕ};
-    ghost use Rattle.vs_pages.specs.Memory.{present_of, committed_of};
+    ghost use Rattle.vs_pages.specs.Memory.{present_of};
     ghost use Rattle.vs_tree.specs.TextIn.{text_in};
     ghost use Rattle.vs_session.specs.Paged.{IsCommitted};
 
@@ -55,49 +58,67 @@ fn memory_of_store(error: StoreErr) -> AllocError
     }
 }
 
-// Puts lines after the first `at` ones and commits the text, or else takes back what was done.
-fn put_in(
+// Puts lines at the end of a text in pages.
+fn push_in(
     alloc: Global,
     tree: &mut LineTree,
     pages: &mut MemPages,
-    at: u64,
     lines: &[Line],
 ) -> Result<(), AllocError>
-    requires present { Fits true (present_of pages.old) tree.old.present }
-    requires committed { Fits true (committed_of pages.old) tree.old.committed }
-    requires within { at ≤ tree.old.present.lines }
-    requires fits { FitsWith (text_in (present_of pages.old) tree.old.present) lines.now }
-    ensures ok { OnOk result (let text = text_in (present_of pages.old) tree.old.present in
-        text_in (present_of pages.new) tree.new.present ≡ take at text ++ lines.now ++ drop at text) }
-    ensures err { OnErr result (text_in (present_of pages.new) tree.new.present ≡ text_in (committed_of pages.old) tree.old.committed) }
+    requires committed { IsCommitted pages.old tree.old }
+    requires within { IsWithinLimits (text_in (present_of pages.old) tree.old.present ++ lines.now) }
+    ensures ok { OnOk result (text_in (present_of pages.new) tree.new.present ≡ text_in (present_of pages.old) tree.old.present ++ lines.now) }
+    ensures err { OnErr result (text_in (present_of pages.new) tree.new.present ≡ text_in (present_of pages.old) tree.old.present) }
+    ensures committed { IsCommitted pages.new tree.new }
+{
+    let at = tree.len();
+    let mut store = TreeStore {
+        tree,
+        pages: LentPages { pages },
+    };
+    match splice(alloc, &mut store, at, 0, lines) {
+        Ok(()) => Ok(()),
+        Err(error) => Err(memory_of_store(error)),
+    }
+}
+
+// Answers a request over a text in pages.
+fn answer_in(
+    alloc: Global,
+    tree: &mut LineTree,
+    pages: &mut MemPages,
+    position: Position,
+    request: &Request,
+) -> Result<Answered, AllocError>
+    requires committed { IsCommitted pages.old tree.old }
+    requires form { IsFormed request.now }
+    ensures answers { IfOk result (λ answered. (instruction : Instruction) → IsRequest request.now instruction → let text = text_in (present_of pages.old) tree.old.present in
+        AnswersAs position text (meaning_at position text instruction) answered) }
+    ensures text { OnOk result ((instruction : Instruction) → IsRequest request.now instruction → let text = text_in (present_of pages.old) tree.old.present in
+        text_in (present_of pages.new) tree.new.present ≡ (done_state (state_at position text) (meaning_at position text instruction)).text) }
+    ensures err { OnErr result (text_in (present_of pages.new) tree.new.present ≡ text_in (present_of pages.old) tree.old.present) }
     ensures committed { IsCommitted pages.new tree.new }
 {
     let mut store = TreeStore {
         tree,
         pages: LentPages { pages },
     };
-    match splice_or_rollback(alloc, &mut store, at, 0, lines) {
-        Ok(()) => {
-            store.commit();
-            Ok(())
-        }
+    match answer(alloc, &mut store, position, request) {
+        Ok(answered) => Ok(answered),
         Err(error) => Err(memory_of_store(error)),
     }
 }
 
 impl PagedText {
-    /// The text of these lines.
-    pub fn of(alloc: Global, lines: &[Line]) -> Result<PagedText, AllocError>
-        requires { IsWithinLimits lines.now }
-        ensures { IfOk result (λ text. text ≡ lines.now) }
+    /// The text without lines.
+    pub fn new(alloc: Global) -> Result<PagedText, AllocError>
+        ensures { IfOk result (λ text. text ≡ []) }
     {
         let mut pages = MemPages::new(alloc)?;
-        let mut tree = match LineTree::new(alloc, &mut pages) {
-            Ok(tree) => tree,
-            Err(error) => return Err(memory_of_pages(error)),
-        };
-        put_in(alloc, &mut tree, &mut pages, 0, lines)?;
-        Ok(PagedText { tree, pages })
+        match LineTree::new(alloc, &mut pages) {
+            Ok(tree) => Ok(PagedText { tree, pages }),
+            Err(error) => Err(memory_of_pages(error)),
+        }
     }
 
     /// The number of lines.
@@ -107,35 +128,29 @@ impl PagedText {
         self.tree.len()
     }
 
-    pub fn is_empty(&self) -> bool
-        ensures { result ≡ (length self.now == 0) }
-    {
-        self.tree.len() == 0
-    }
-
-    /// Puts copies of these lines after the first `at` ones.
-    pub fn put_lines(&mut self, alloc: Global, at: u64, lines: &[Line]) -> Result<(), AllocError>
-        requires within { at ≤ length self.old }
-        requires fits { FitsWith self.old lines.now }
-        ensures ok { OnOk result (self.new ≡ take at self.old ++ lines.now ++ drop at self.old) }
+    /// Puts copies of these lines after the last one.
+    pub fn push_lines(&mut self, alloc: Global, lines: &[Line]) -> Result<(), AllocError>
+        requires { IsWithinLimits (self.old ++ lines.now) }
+        ensures ok { OnOk result (self.new ≡ self.old ++ lines.now) }
         ensures err { OnErr result (self.new ≡ self.old) }
     {
-        put_in(alloc, &mut self.tree, &mut self.pages, at, lines)
+        push_in(alloc, &mut self.tree, &mut self.pages, lines)
     }
 
-    /// The bytes of a file with this text.
-    pub fn write(&mut self, alloc: Global) -> Result<Vec<u8>, AllocError>
-        ensures bytes { IfOk result (λ bytes. bytes.items ≡ file_of self.old) }
-        ensures same { self.new ≡ self.old }
+    /// The answer to a request at a position of this text. After an `Err` the text is as before.
+    pub fn answer(
+        &mut self,
+        alloc: Global,
+        position: Position,
+        request: &Request,
+    ) -> Result<Answered, AllocError>
+        requires { IsFormed request.now }
+        ensures answers { IfOk result (λ answered. (instruction : Instruction) → IsRequest request.now instruction →
+            AnswersAs position self.old (meaning_at position self.old instruction) answered) }
+        ensures text { OnOk result ((instruction : Instruction) → IsRequest request.now instruction →
+            self.new ≡ (done_state (state_at position self.old) (meaning_at position self.old instruction)).text) }
+        ensures err { OnErr result (self.new ≡ self.old) }
     {
-        let mut bytes = Vec::with_capacity(alloc, self.tree.bytes() as usize)?;
-        let count = self.tree.len();
-        if let Err(error) = self
-            .tree
-            .copy_lines(alloc, &mut self.pages, 0, count, &mut bytes)
-        {
-            return Err(memory_of_pages(error));
-        }
-        Ok(bytes)
+        answer_in(alloc, &mut self.tree, &mut self.pages, position, request)
     }
 }

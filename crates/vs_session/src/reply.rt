@@ -1,10 +1,12 @@
 // Replies. All but printed lines stand in a fixed buffer, so they take no memory.
-ghost use Rattle.std.specs.Prelude.{◌≡◌, ◌<◌, ◌≤◌, ◌+◌, ◌++◌, ◌∷◌, [], length, false, true};
-ghost use Rattle.vs_session.specs.Machine.{says, refuses, change_line, opening_of};
+ghost use Rattle.std.specs.Prelude.{◌≡◌, ◌<◌, ◌≤◌, ◌+◌, ◌++◌, ◌∷◌, [], length, decimal, false, true, None, Some};
+ghost use Rattle.vs_session.specs.Replies.{says, refuses, prints, error_text, change_line, no_change, numbers_full, out_of_memory, opening_of};
 
+use crate::errors::error_text;
 use arrayvec::ArrayVec;
 use itoa::Buffer;
 use std::marker::Model;
+use vs_exparse::ExErr;
 
 #[derive(Drop)]
 enum Body {
@@ -21,7 +23,7 @@ pub struct Reply {
 
 impl Model for Reply {
     ghost use Rattle.std.specs.Prelude.{◌<◌, length};
-    ghost use Rattle.vs_session.specs.Machine.{Answer};
+    ghost use Rattle.vs_session.specs.Replies.{Answer};
 
     ghost Value = { Answer };
 
@@ -45,7 +47,7 @@ impl Reply {
     /// These bytes as they are.
     pub fn printed(bytes: Vec<u8>) -> Reply
         requires { 0 < length bytes.items }
-        ensures { result ≡ record { bytes = bytes.items; is_error = false } }
+        ensures { result ≡ prints bytes.items }
     {
         Reply {
             body: Body::Long(bytes),
@@ -53,8 +55,44 @@ impl Reply {
         }
     }
 
+    /// The reply to an error of a command.
+    pub fn error(error: ExErr) -> Reply
+        ensures { result ≡ refuses (error_text error) }
+    {
+        Reply::refuses(error_text(error))
+    }
+
+    /// A command changed nothing.
+    pub fn no_change() -> Reply
+        ensures { result ≡ says no_change }
+    {
+        Reply::says(b"no change")
+    }
+
+    /// There is no number left for a change.
+    pub fn numbers_full() -> Reply
+        ensures { result ≡ refuses numbers_full }
+    {
+        Reply::refuses(b"change numbers used up")
+    }
+
+    /// There was no memory for a command.
+    pub fn out_of_memory() -> Reply
+        ensures { result ≡ refuses out_of_memory }
+    {
+        Reply::refuses(b"out of memory")
+    }
+
+    /// The number of a line.
+    pub fn number(number: u64) -> Reply
+        ensures { result ≡ prints (decimal number ++ 10 ∷ []) }
+    {
+        let mut digits = Buffer::new();
+        Reply::says(digits.format(number).as_bytes())
+    }
+
     /// One line of at most 319 bytes.
-    pub fn says(text: &[u8]) -> Reply
+    fn says(text: &[u8]) -> Reply
         requires { length text.now < 320 }
         ensures { result ≡ says text.now }
     {
@@ -62,7 +100,7 @@ impl Reply {
     }
 
     /// One line of at most 319 bytes that is an error.
-    pub fn refuses(text: &[u8]) -> Reply
+    fn refuses(text: &[u8]) -> Reply
         requires { length text.now < 320 }
         ensures { result ≡ refuses text.now }
     {

@@ -1,13 +1,9 @@
 -- Where byte 10 first stands, the first line ends and the rest of the file's text begins.
-use Rattle.std.proofs.Common.{◌≡◌, ◌≢◌, ℕ, ◌<◌, ◌≤◌, ◌+◌, List, [], ◌∷◌, ◌++◌, length, take, drop, get_or, refl, sym, ap, ◌∙◌, arith, ◌==◌, Some, None, max, inl, inr}
-use Rattle.std.proofs.Math.Seq.{split_at}
+use Rattle.std.proofs.Common.{◌≡◌, ◌≢◌, ℕ, ◌<◌, ◌≤◌, ◌+◌, List, [], ◌∷◌, ◌++◌, length, refl, arith, max, inl, inr}
 use Rattle.std.proofs.lemmas.Bool.{ne_eqb}
-use Rattle.std.proofs.lemmas.Bool.Decides.{nat_tests, eqb_tells}
-use Rattle.std.proofs.lemmas.Grind.{common_steps}
-use Rattle.std.proofs.lemmas.List.{get_or-take, get_or_default, length-take, length-drop}
+use Rattle.std.proofs.lemmas.Bool.Decides.{eqb_tells}
 use Rattle.std.proofs.lemmas.List.Elements.{recursion_from_All, All-nil, All-cons, All-head, All-tail}
 use Rattle.std.specs.List.{AllByRecursion}
-use Rattle.memchr.specs.Find.{IsFirstByte, Nowhere, Passes, is_byte}
 use Rattle.vs_text.specs.Text.{lines_of, onto_first, bytes_of, IsLine, IsText}
 
 ended_line : (line rest : List ℕ) → AllByRecursion (λ byte. byte ≢ 10) line → lines_of (line ++ 10 ∷ rest) ≡ line ∷ lines_of rest
@@ -27,31 +23,6 @@ pub lines_of_last : (line : List ℕ) → 0 < length line → IsLine line → li
 lines_of_last [] some h = absurd (omega arith)
 lines_of_last (byte ∷ line) some h =
     let r = recursion_from_All (λ byte. byte ≢ 10) (byte ∷ line) h in last_line byte line r.0 r.1
-
-no_ten : (bytes : List ℕ) (k : ℕ) → k ≤ length bytes → Nowhere (Passes (is_byte 10) bytes) 0 k → IsLine (take k bytes)
-no_ten bytes k within none = λ j d below.
-    let early : j < k = omega (arith, length-take k bytes) in
-    let same : get_or (take k bytes) j d ≡ get_or bytes j 0 =
-    get_or-take k bytes j d early ∙ get_or_default bytes j d 0 (omega arith) in
-    λ ten. none j (omega arith) early (ap (λ byte. byte == 10) (sym same ∙ ten))
-
--- what a search for byte 10 finds
-pub lines_of-found : (bytes : List ℕ) (k : ℕ) → IsFirstByte (is_byte 10) bytes (Some k)
-    → IsLine (take k bytes) × (lines_of bytes ≡ take k bytes ∷ lines_of (drop (k + 1) bytes)) × (length (drop (k + 1) bytes) < length bytes)
-lines_of-found bytes k found =
-    let within : k < length bytes = found.0.high in
-    let ten : get_or bytes k 0 ≡ 10 = grind (arith, nat_tests, found.1) in
-    let line : IsLine (take k bytes) = no_ten bytes k (omega arith) found.0.before in
-    let parts : take k bytes ++ 10 ∷ drop (k + 1) bytes ≡ bytes = grind (arith, common_steps, split_at bytes k 0 within) in
-    (line, ap lines_of (sym parts) ∙ lines_of-line (take k bytes) (drop (k + 1) bytes) line, omega (arith, length-drop (k + 1) bytes))
-
--- what a search for byte 10 that finds nothing says
-pub lines_of-none : (bytes : List ℕ) → 0 < length bytes → IsFirstByte (is_byte 10) bytes None
-    → IsLine bytes × (lines_of bytes ≡ bytes ∷ [])
-lines_of-none bytes some none =
-    let whole : take (length bytes) bytes ≡ bytes = grind (arith, common_steps) in
-    let line : IsLine bytes = rw whole at (no_ten bytes (length bytes) (omega arith) none) in
-    (line, lines_of_last bytes some line)
 
 length-onto_first : (byte : ℕ) (text : List (List ℕ)) → length (onto_first byte text) ≤ length text + 1
 length-onto_first byte [] = omega arith

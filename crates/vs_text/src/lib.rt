@@ -4,15 +4,15 @@
 mod error;
 mod line;
 mod read;
+mod reader;
 mod stored;
-#[cfg(test)]
-mod tests;
 mod text;
 mod write;
 
 pub use error::TextErr;
 pub use line::Line;
 pub use read::read_text;
+pub use reader::TextReader;
 pub use stored::{from_stored, to_stored};
 pub use text::Text;
 pub use write::{append_lines, write_text};

@@ -35,6 +35,14 @@ impl Line {
         Ok(Line::from_vec(Vec::from_slice(alloc, bytes)?))
     }
 
+    /// A line with a copy of these bytes, of any length.
+    pub fn raw(alloc: Global, bytes: &[u8]) -> Result<Line, AllocError>
+        requires { IsLine bytes.now }
+        ensures { IfOk result (λ line. line ≡ bytes.now) }
+    {
+        Ok(Line::from_vec(Vec::from_slice(alloc, bytes)?))
+    }
+
     /// The line of bytes that are already owned, of any length.
     pub fn from_vec(bytes: Vec<u8>) -> Line
         requires { IsLine bytes.items }

@@ -1,5 +1,5 @@
 use Rattle.std.proofs.Common.{◌≡◌, ◌∙◌, ◌++◌, ap}
-use Rattle.vs_text.specs.Text.{lines_of, file_of, IsText}
+use Rattle.vs_text.specs.Text.{lines_of, file_of}
 use Rattle.vs_text.proofs.FileForm.{lines_of-file_of}
 use Rattle.vs_text.proofs.write.write_text.Goals as goal
 
