@@ -1,6 +1,6 @@
-mod Lines
-mod Going
-mod Taking
-mod LineKinds
-mod Blocks
-mod Commands
+pub mod Lines
+pub mod Going
+pub mod Taking
+pub mod LineKinds
+pub mod Blocks
+pub mod Commands

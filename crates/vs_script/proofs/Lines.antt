@@ -1,27 +1,33 @@
 -- The first byte 10 ends the first line; all else follows by induction on the bytes.
-use Rattle.std.proofs.Common.{◌≡◌, ◌≢◌, ℕ, ◌<◌, ◌+◌, List, [], ◌∷◌, ◌++◌, length, take, drop, get_or, refl, sym, arith, Some, None, MatchOption}
+use Rattle.std.proofs.Common.{◌≡◌, ◌≢◌, ℕ, ◌<◌, ◌≤◌, ◌+◌, List, [], ◌∷◌, ◌++◌, length, take, drop, get_or, refl, sym, ap, subst, ◌∙◌, arith, ◌==◌, Some, None, MatchOption}
 use Rattle.std.specs.declared.option.Option.{Option}
-use Rattle.std.proofs.Math.Seq.{split_at}
+use Rattle.std.proofs.Math.Seq.{split_at, take-length}
 use Rattle.std.proofs.lemmas.Bool.{ne_eqb}
 use Rattle.std.proofs.lemmas.Bool.Decides.{nat_tests}
 use Rattle.std.proofs.lemmas.Grind.{common_steps}
+use Rattle.std.proofs.lemmas.List.{get_or-take, get_or_default, length-take}
 use Rattle.std.proofs.lemmas.List.Elements.{recursion_from_All}
 use Rattle.std.specs.List.{AllByRecursion}
-use Rattle.memchr.specs.Find.{IsFirstByte, is_byte}
+use Rattle.memchr.specs.Find.{IsFirstByte, Nowhere, Passes, is_byte}
 use Rattle.vs_text.specs.Text.{IsLine}
-use Rattle.vs_text.proofs.LineEnds.{lines_of-found, lines_of-none}
 use Rattle.vs_script.specs.Ahead.{whole_lines}
+
+no_ten : (bytes : List ℕ) (k : ℕ) → k ≤ length bytes → Nowhere (Passes (is_byte 10) bytes) 0 k → IsLine (take k bytes)
+no_ten bytes k within none = λ j d below.
+    let early : j < k = omega (arith, length-take k bytes) in
+    let same : get_or (take k bytes) j d ≡ get_or bytes j 0 =
+    get_or-take k bytes j d early ∙ get_or_default bytes j d 0 (omega arith) in
+    λ ten. none j (omega arith) early (ap (λ byte. byte == 10) (sym same ∙ ten))
 
 -- what the place of the first byte 10 says
 pub first_end : (bytes : List ℕ) (end : Option ℕ) → IsFirstByte (is_byte 10) bytes end
     → MatchOption end (IsLine bytes) (λ k. (k < length bytes) × IsLine (take k bytes) × (bytes ≡ take k bytes ++ 10 ∷ drop (k + 1) bytes))
-first_end [] None is = λ j d within. absurd (omega (arith, within))
-first_end (byte ∷ bytes) None is = (lines_of-none (byte ∷ bytes) (omega arith) is).0
+first_end bytes None is = subst (λ (l : List ℕ). IsLine l) (take-length bytes) (no_ten bytes (length bytes) (omega arith) is)
 first_end bytes (Some k) is =
     let within : k < length bytes = is.0.high in
     let ten : get_or bytes k 0 ≡ 10 = grind (arith, nat_tests, is.1) in
     let parts : take k bytes ++ 10 ∷ drop (k + 1) bytes ≡ bytes = grind (arith, common_steps, split_at bytes k 0 within) in
-    (within, (lines_of-found bytes k is).0, sym parts)
+    (within, no_ten bytes k (omega arith) is.0.before, sym parts)
 
 whole_lines_rec : (line rest : List ℕ) → AllByRecursion (λ byte. byte ≢ 10) line → whole_lines (line ++ 10 ∷ rest) ≡ line ∷ whole_lines rest
 whole_lines_rec [] rest h = refl
