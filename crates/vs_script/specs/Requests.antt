@@ -1,5 +1,5 @@
 -- How a reader takes the commands of a script.
-use Rattle.std.specs.Prelude.{ℕ, Bool, true, false, List, [], ◌∷◌, ◌≡◌, not, Result, Ok, Err, ⊤}
+use Rattle.std.specs.Prelude.{ℕ, Bool, true, false, List, [], ◌∷◌, ◌≡◌, not, Result, Ok, Err, IsTrue}
 use Rattle.vs_host.specs.World.{Scene}
 use Rattle.vs_exparse.specs.Command.{Command, HasForm, command_of, wants_block}
 use Rattle.vs_exparse.specs.declared.command.Command as borrowed
@@ -54,7 +54,7 @@ pub record TakesNone (old new : Ahead) (before after : Scene) : Type 0 where
 abbrev pub HasItsBlock : borrowed.Command → Block → Type 0
 HasItsBlock command block = is_absent block ≡ not (wants_block (command_of command))
 
--- What holds of each request: its command has its form and its block.
+-- What holds of each request: its command has its form and its block, and an error has none.
 abbrev pub IsFormed : Result borrowed.Command ExErr → Block → Type 0
 IsFormed (Ok command) block = HasForm (command_of command) × HasItsBlock command block
-IsFormed (Err error) block = ⊤
+IsFormed (Err error) block = IsTrue (is_absent block)

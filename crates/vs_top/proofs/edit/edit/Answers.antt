@@ -55,6 +55,9 @@ returns-in_err-reserve g c =
     (record { limit = c.next_request.ensures.limit; seen = c.next_request.ensures.ended; later = c.next_request.ensures.cause.later; frame = c.next_request.ensures.frame })
     (c.in_ok-request.ensures.quiet (λ is. absurd (cc))) c.in_ok-request.ensures.counts (rw c.in-Some.is at c.in_ok-request.ensures.request))
 
+pub step-reply-requires-clause-form : goal.step-reply-requires-clause-form
+step-reply-requires-clause-form g c = rw c.in-Some.is at c.in_ok-request.ensures.form
+
 pub step-reply-requires-clause-clock : goal.step-reply-requires-clause-clock
 step-reply-requires-clause-clock g c = λ clock.
     clock_room (g.H.World.scene c.args.host.now).answers (g.H.World.scene c.requests.host) (g.H.World.scene c.next_request.new.host) c.requests.marks.items c.next_request.ensures.frame
