@@ -1,52 +1,50 @@
 -- The commands that were answered so far are carried along as a list; each turn of the loop adds one at its end.
-use Rattle.std.proofs.Common.{◌≡◌, ℕ, Bool, true, false, not, ◌&&◌, ◌||◌, List, [], ◌∷◌, ◌++◌, take, refl, sym, ap, ◌∙◌, append_assoc, append-nil, arith, length, ◌+◌, ◌-◌, ◌<◌, ◌≤◌, ◌^◌, inl, inr}
+use Rattle.std.proofs.Common.{◌≡◌, ℕ, Bool, true, false, not, ◌&&◌, ◌||◌, List, [], ◌∷◌, ◌++◌, take, refl, sym, ap, subst, ◌∙◌, append_assoc, append-nil, arith, length, ◌+◌, ◌-◌, ◌<◌, ◌≤◌, ◌^◌, inl, inr}
 use Rattle.std.proofs.lemmas.List.{length-append, length-map}
 use Rattle.std.proofs.lemmas.Bool.{true≢false}
 use Rattle.std.proofs.lemmas.Bool.Decides.{leb_tells}
 use Rattle.std.proofs.Math.Seq.{take-append_seam, take-append-add}
 use Rattle.vs_host.specs.World.{Scene}
 use Rattle.vs_text.specs.Text.{lines_of}
-use Rattle.vs_session.specs.Script.{Instruction, commands_of}
-use Rattle.vs_session.specs.Machine.{State, Answer, reply_of, state_after, replies_of, any_error, is_done, opening_of}
+use Rattle.vs_excmd.specs.Request.{Instruction, IsRequest}
+use Rattle.vs_excmd.specs.declared.request.Request.{Request}
+use Rattle.vs_script.specs.Ahead.{Ahead, HasSeen, CountsTaken, GoesOn, Stops, IsLeft, script_limit}
+use Rattle.vs_script.specs.Requests.{TakesRequest, TakesNone, commands_ahead, whole_commands}
+use Rattle.vs_script.specs.Script.{commands_of}
+use Rattle.vs_script.specs.declared.reader.ScriptErr.{ScriptErr}
+use Rattle.vs_script.specs.declared.reader.ScriptErr.TheVariants as script_error
+use Rattle.vs_script.proofs.Going.{goes_on_start, goes_on_twice, goes_on_by, goes_on_as, goes_on_in, stops_then, stops_by}
+use Rattle.vs_session.specs.Machine.{State, reply_of, state_after, replies_of, any_error, is_done}
+use Rattle.vs_session.specs.Replies.{Answer, opening_of}
+use Rattle.vs_session.specs.Session.{Kept, IsAt, Opened}
 use Rattle.vs_session.specs.declared.command.Mark.{Mark}
-use Rattle.vs_session.specs.declared.command.Outcome.{Outcome}
-use Rattle.vs_session.specs.declared.command.Request.{Request}
-use Rattle.vs_session.specs.Session.{Opened}
-use Rattle.vs_top.specs.Ahead.{Ahead, HasSeen, CountsTaken, GoesOn, TakesRequest, TakesNone, Stops, IsLeft, commands_ahead, whole_commands}
-use Rattle.vs_top.specs.Run.{outcomes, written, written_before, commands_in, commands_within, Answers, AnswersAll, AnswersTaken, AnswersLimit, AnswersSome, IsCutShort}
-use Rattle.vs_top.specs.declared.script.ScriptErr.{ScriptErr}
-use Rattle.vs_top.specs.declared.script.ScriptErr.TheVariants as script_error
-use Rattle.vs_top.proofs.Stopping.{goes_on_start, goes_on_twice, goes_on_by, goes_on_as, goes_on_in, stops_then, stops_by}
+use Rattle.vs_top.specs.Run.{written, written_before, commands_in, commands_within, Answers, AnswersAll, AnswersTaken, AnswersLimit, AnswersSome, IsCutShort}
 
 -- the state after a run of commands
-abbrev pub states_after : State → List Instruction → List Outcome → State
-states_after state [] ended = state
+abbrev pub states_after : State → List Instruction → List Mark → State
+states_after state [] marks = state
 states_after state (command ∷ commands) [] = state
-states_after state (command ∷ commands) (outcome ∷ ended) = states_after (state_after state command outcome) commands ended
-
-outcomes_push : (marks : List Mark) (m : Mark) → outcomes (marks ++ m ∷ []) ≡ outcomes marks ++ m.outcome ∷ []
-outcomes_push [] m = refl
-outcomes_push (mark ∷ marks) m = ap (λ (l : List Outcome). mark.outcome ∷ l) (outcomes_push marks m)
+states_after state (command ∷ commands) (mark ∷ marks) = states_after (state_after state command mark) commands marks
 
 -- one more command at the end of a run
-state_push : (state : State) (commands : List Instruction) (ended : List Outcome) (c : Instruction) (o : Outcome) → length ended ≡ length commands
-    → states_after state (commands ++ c ∷ []) (ended ++ o ∷ []) ≡ state_after (states_after state commands ended) c o
-state_push state [] [] c o same = refl
-state_push state [] (x ∷ ended) c o same = absurd (omega (arith, same))
-state_push state (d ∷ commands) [] c o same = absurd (omega (arith, same))
-state_push state (d ∷ commands) (x ∷ ended) c o same = state_push (state_after state d x) commands ended c o (omega (arith, same))
+state_push : (state : State) (commands : List Instruction) (ended : List Mark) (c : Instruction) (m : Mark) → length ended ≡ length commands
+    → states_after state (commands ++ c ∷ []) (ended ++ m ∷ []) ≡ state_after (states_after state commands ended) c m
+state_push state [] [] c m same = refl
+state_push state [] (x ∷ ended) c m same = absurd (omega (arith, same))
+state_push state (d ∷ commands) [] c m same = absurd (omega (arith, same))
+state_push state (d ∷ commands) (x ∷ ended) c m same = state_push (state_after state d x) commands ended c m (omega (arith, same))
 
-replies_push : (state : State) (commands : List Instruction) (ended : List Outcome) (c : Instruction) (o : Outcome) → length ended ≡ length commands
-    → replies_of state (commands ++ c ∷ []) (ended ++ o ∷ []) ≡ replies_of state commands ended ++ (reply_of (states_after state commands ended) c o).bytes
-replies_push state [] [] c o same = append-nil (reply_of state c o).bytes
-replies_push state [] (x ∷ ended) c o same = absurd (omega (arith, same))
-replies_push state (d ∷ commands) [] c o same = absurd (omega (arith, same))
-replies_push state (d ∷ commands) (x ∷ ended) c o same =
-    ap (λ (l : List ℕ). (reply_of state d x).bytes ++ l) (replies_push (state_after state d x) commands ended c o (omega (arith, same)))
-    ∙ sym (append_assoc (reply_of state d x).bytes (replies_of (state_after state d x) commands ended) (reply_of (states_after (state_after state d x) commands ended) c o).bytes)
+replies_push : (state : State) (commands : List Instruction) (ended : List Mark) (c : Instruction) (m : Mark) → length ended ≡ length commands
+    → replies_of state (commands ++ c ∷ []) (ended ++ m ∷ []) ≡ replies_of state commands ended ++ (reply_of (states_after state commands ended) c m).bytes
+replies_push state [] [] c m same = append-nil (reply_of state c m).bytes
+replies_push state [] (x ∷ ended) c m same = absurd (omega (arith, same))
+replies_push state (d ∷ commands) [] c m same = absurd (omega (arith, same))
+replies_push state (d ∷ commands) (x ∷ ended) c m same =
+    ap (λ (l : List ℕ). (reply_of state d x).bytes ++ l) (replies_push (state_after state d x) commands ended c m (omega (arith, same)))
+    ∙ sym (append_assoc (reply_of state d x).bytes (replies_of (state_after state d x) commands ended) (reply_of (states_after (state_after state d x) commands ended) c m).bytes)
 
--- commands that have no outcome yet have no reply
-replies_extra : (state : State) (commands more : List Instruction) (ended : List Outcome) → length ended ≡ length commands
+-- commands that have no mark yet have no reply
+replies_extra : (state : State) (commands more : List Instruction) (ended : List Mark) → length ended ≡ length commands
     → replies_of state (commands ++ more) ended ≡ replies_of state commands ended
 replies_extra state [] [] [] same = refl
 replies_extra state [] (d ∷ more) [] same = refl
@@ -63,14 +61,14 @@ or_assoc : (a b c : Bool) → (a || (b || c)) ≡ ((a || b) || c)
 or_assoc true b c = refl
 or_assoc false b c = refl
 
-errors_push : (state : State) (commands : List Instruction) (ended : List Outcome) (c : Instruction) (o : Outcome) → length ended ≡ length commands
-    → any_error state (commands ++ c ∷ []) (ended ++ o ∷ []) ≡ (any_error state commands ended || (not (is_done o) || (reply_of (states_after state commands ended) c o).is_error))
-errors_push state [] [] c o same = or_last false (not (is_done o) || (reply_of state c o).is_error)
-errors_push state [] (x ∷ ended) c o same = absurd (omega (arith, same))
-errors_push state (d ∷ commands) [] c o same = absurd (omega (arith, same))
-errors_push state (d ∷ commands) (x ∷ ended) c o same =
-    ap (λ (b : Bool). (not (is_done x) || (reply_of state d x).is_error) || b) (errors_push (state_after state d x) commands ended c o (omega (arith, same)))
-    ∙ or_assoc (not (is_done x) || (reply_of state d x).is_error) (any_error (state_after state d x) commands ended) (not (is_done o) || (reply_of (states_after (state_after state d x) commands ended) c o).is_error)
+errors_push : (state : State) (commands : List Instruction) (ended : List Mark) (c : Instruction) (m : Mark) → length ended ≡ length commands
+    → any_error state (commands ++ c ∷ []) (ended ++ m ∷ []) ≡ (any_error state commands ended || (not (is_done m.outcome) || (reply_of (states_after state commands ended) c m).is_error))
+errors_push state [] [] c m same = or_last false (not (is_done m.outcome) || (reply_of state c m).is_error)
+errors_push state [] (x ∷ ended) c m same = absurd (omega (arith, same))
+errors_push state (d ∷ commands) [] c m same = absurd (omega (arith, same))
+errors_push state (d ∷ commands) (x ∷ ended) c m same =
+    ap (λ (b : Bool). (not (is_done x.outcome) || (reply_of state d x).is_error) || b) (errors_push (state_after state d x) commands ended c m (omega (arith, same)))
+    ∙ or_assoc (not (is_done x.outcome) || (reply_of state d x).is_error) (any_error (state_after state d x) commands ended) (not (is_done m.outcome) || (reply_of (states_after (state_after state d x) commands ended) c m).is_error)
 
 and_not : (errors done error : Bool) → ((not errors) && (done && not error)) ≡ not (errors || (not done || error))
 and_not true done error = refl
@@ -129,94 +127,93 @@ not_ended reader now true is seen some = absurd (omega (arith, ap (λ (l : List 
 
 -- what was read so far are first commands of the script within its limit
 read_within : (fresh reader : Ahead) (start now : Scene) (done : List Instruction) → fresh ≡ fresh_reader → HasRead fresh reader start now done → HasSeen reader now
-    → CountsTaken fresh reader start now → reader.taken ≤ 2 ^ 20 → (rest : List Instruction) × (commands_within start.script ≡ done ++ rest)
-read_within fresh reader start now done new read seen counts limit = elim (leb_tells (length start.script) (2 ^ 20)) [
+    → CountsTaken fresh reader start now → reader.taken ≤ script_limit → (rest : List Instruction) × (commands_within start.script ≡ done ++ rest)
+read_within fresh reader start now done new read seen counts limit = elim (leb_tells (length start.script) script_limit) [
   | inl small ↦
       let all : commands_ahead fresh start ≡ commands_of (lines_of start.script) = ap (λ (a : Ahead). commands_ahead a start) new in
       (commands_ahead reader now, rw small.0 (sym all ∙ read.ahead))
   | inr large ↦
       let some : 0 < length now.script = omega (arith, large.1, counts, ap (λ (a : Ahead). a.taken) new, limit) in
-      let found = read_before_limit fresh reader start now done (2 ^ 20) new limit (read.going (not_ended reader now reader.ended refl seen some)) in
+      let found = read_before_limit fresh reader start now done script_limit new limit (read.going (not_ended reader now reader.ended refl seen some)) in
       (found.0, rw large.0 found.1)
 ]
 
 -- What is known after each turn of a run: `start` is the scene after the opening reply.
-pub record RunSoFar (start now : Scene) (opened state : State) (fresh reader : Ahead) (marks : List Mark) (clean : Bool) : Type 0 where
+pub record RunSoFar (start now : Scene) (opened : State) (session : Kept) (fresh reader : Ahead) (marks : List Mark) (clean : Bool) : Type 0 where
   pub done : List Instruction
   pub read : HasRead fresh reader start now done
   pub count : length marks ≡ length done
-  pub state_is : state ≡ states_after opened done (outcomes marks)
-  pub output : now.output ≡ start.output ++ replies_of opened done (outcomes marks)
-  pub errors : clean ≡ not (any_error opened done (outcomes marks))
+  pub stands : IsAt session (states_after opened done marks)
+  pub output : now.output ≡ start.output ++ replies_of opened done marks
+  pub errors : clean ≡ not (any_error opened done marks)
 
-pub ran_start : (start : Scene) (opened : State) (fresh : Ahead) (marks : List Mark) → marks ≡ [] → RunSoFar start start opened opened fresh fresh marks true
-ran_start start opened fresh [] none =
+pub ran_start : (start : Scene) (opened : State) (session : Kept) (fresh : Ahead) (marks : List Mark) → IsAt session opened → marks ≡ [] → RunSoFar start start opened session fresh fresh marks true
+ran_start start opened session fresh [] stands none =
     record {
       done = [];
       read = record { ahead = refl; going = λ going. goes_on_start whole_commands fresh start going };
       count = refl;
-      state_is = refl;
+      stands = stands;
       output = sym (append-nil start.output);
       errors = refl;
     }
-ran_start start opened fresh (m ∷ marks) none = absurd (cc)
+ran_start start opened session fresh (m ∷ marks) stands none = absurd (cc)
 
-length_outcomes : (marks : List Mark) (commands : List Instruction) → length marks ≡ length commands → length (outcomes marks) ≡ length commands
-length_outcomes marks commands same = simp length-map same
+-- What a step answers: it replies as the machine does in each state that the session is in, and leaves the session in the next.
+pub record IsAnswer (request : Request) (old new : Kept) (m : Mark) (reply : Answer) : Type 0 where
+  pub replied : (state : State) (instruction : Instruction) → IsAt old state → IsRequest request instruction → reply ≡ reply_of state instruction m
+  pub moved : (state : State) (instruction : Instruction) → IsAt old state → IsRequest request instruction → IsAt new (state_after state instruction m)
 
 -- one more command that was read, stepped, marked and answered
-pub ran_on : (start now between after : Scene) (opened state state' : State) (fresh reader reader' : Ahead) (marks marks' : List Mark) (clean clean' : Bool) (request : Request) (m : Mark) (reply : Answer)
-    → RunSoFar start now opened state fresh reader marks clean → (taken : TakesRequest request reader reader' now between) → after.script ≡ between.script
-    → marks' ≡ marks ++ m ∷ [] → reply ≡ reply_of state taken.first m.outcome → state' ≡ state_after state taken.first m.outcome
+pub ran_on : (start now between after : Scene) (opened : State) (session session' : Kept) (fresh reader reader' : Ahead) (marks marks' : List Mark) (clean clean' : Bool) (request : Request) (m : Mark) (reply : Answer)
+    → RunSoFar start now opened session fresh reader marks clean → TakesRequest request reader reader' now between → after.script ≡ between.script
+    → marks' ≡ marks ++ m ∷ [] → IsAnswer request session session' m reply
     → after.output ≡ now.output ++ reply.bytes → clean' ≡ (clean && (is_done m.outcome && not reply.is_error))
-    → RunSoFar start after opened state' fresh reader' marks' clean'
-ran_on start now between after opened state state' fresh reader reader' marks marks' clean clean' request m reply ran taken scripts kept replied moved wrote cleans =
+    → RunSoFar start after opened session' fresh reader' marks' clean'
+ran_on start now between after opened session session' fresh reader reader' marks marks' clean clean' request m reply ran taken scripts kept answer wrote cleans =
     let c = taken.first in
-    let o = m.outcome in
-    let sizes : length (outcomes marks) ≡ length ran.done = length_outcomes marks ran.done ran.count in
-    let ended : outcomes marks' ≡ outcomes marks ++ o ∷ [] = ap outcomes kept ∙ outcomes_push marks m in
-    let state_was : reply_of state c o ≡ reply_of (states_after opened ran.done (outcomes marks)) c o = ap (λ (s : State). reply_of s c o) ran.state_is in
-    let replied_so : reply ≡ reply_of (states_after opened ran.done (outcomes marks)) c o = replied ∙ state_was in
+    let state = states_after opened ran.done marks in
+    let replied : reply ≡ reply_of state c m = answer.replied state c ran.stands taken.meant in
     record {
       done = ran.done ++ c ∷ [];
       read = read_in fresh reader' start between after (ran.done ++ c ∷ []) (read_on fresh reader reader' start now between ran.done request ran.read taken) scripts;
       count = ap (λ (l : List Mark). length l) kept ∙ length-append marks (m ∷ []) ∙ ap (λ n. n + 1) ran.count ∙ sym (length-append ran.done (c ∷ []));
-      state_is = moved ∙ ap (λ (s : State). state_after s c o) ran.state_is ∙ sym (state_push opened ran.done (outcomes marks) c o sizes) ∙ ap (states_after opened (ran.done ++ c ∷ [])) (sym ended);
-      output = wrote ∙ ap (λ (l : List ℕ). l ++ reply.bytes) ran.output ∙ append_assoc start.output (replies_of opened ran.done (outcomes marks)) reply.bytes
-          ∙ ap (λ (a : Answer). start.output ++ (replies_of opened ran.done (outcomes marks) ++ a.bytes)) replied_so
-          ∙ ap (λ (l : List ℕ). start.output ++ l) (sym (replies_push opened ran.done (outcomes marks) c o sizes))
-          ∙ ap (λ (l : List Outcome). start.output ++ replies_of opened (ran.done ++ c ∷ []) l) (sym ended);
-      errors = cleans ∙ ap (λ (b : Bool). b && (is_done o && not reply.is_error)) ran.errors ∙ and_not (any_error opened ran.done (outcomes marks)) (is_done o) reply.is_error
-          ∙ ap (λ (a : Answer). not (any_error opened ran.done (outcomes marks) || (not (is_done o) || a.is_error))) replied_so
-          ∙ ap not (sym (errors_push opened ran.done (outcomes marks) c o sizes)) ∙ ap (λ (l : List Outcome). not (any_error opened (ran.done ++ c ∷ []) l)) (sym ended);
+      stands = subst (λ (s : State). IsAt session' s) (sym (state_push opened ran.done marks c m ran.count) ∙ ap (states_after opened (ran.done ++ c ∷ [])) (sym kept)) (answer.moved state c ran.stands taken.meant);
+      output = wrote ∙ ap (λ (l : List ℕ). l ++ reply.bytes) ran.output ∙ append_assoc start.output (replies_of opened ran.done marks) reply.bytes
+          ∙ ap (λ (a : Answer). start.output ++ (replies_of opened ran.done marks ++ a.bytes)) replied
+          ∙ ap (λ (l : List ℕ). start.output ++ l) (sym (replies_push opened ran.done marks c m ran.count))
+          ∙ ap (λ (l : List Mark). start.output ++ replies_of opened (ran.done ++ c ∷ []) l) (sym kept);
+      errors = cleans ∙ ap (λ (b : Bool). b && (is_done m.outcome && not reply.is_error)) ran.errors ∙ and_not (any_error opened ran.done marks) (is_done m.outcome) reply.is_error
+          ∙ ap (λ (a : Answer). not (any_error opened ran.done marks || (not (is_done m.outcome) || a.is_error))) replied
+          ∙ ap not (sym (errors_push opened ran.done marks c m ran.count)) ∙ ap (λ (l : List Mark). not (any_error opened (ran.done ++ c ∷ []) l)) (sym kept);
     }
 
 -- How a run starts: with a reader that has read nothing, after the opening reply.
-pub record IsRunStart (session : Opened) (old start : Scene) (fresh : Ahead) : Type 0 where
+pub record IsRunStart (file : Opened) (old start : Scene) (fresh : Ahead) : Type 0 where
   pub new : fresh ≡ fresh_reader
   pub script : start.script ≡ old.script
-  pub output : start.output ≡ old.output ++ (opening_of session.name session.found).bytes
+  pub output : start.output ≡ old.output ++ (opening_of file.name file.found).bytes
 
 -- the commands that a fresh reader has before it are those of the script
 all_ahead : (old start : Scene) (fresh : Ahead) → fresh ≡ fresh_reader → start.script ≡ old.script → commands_ahead fresh start ≡ commands_in old
 all_ahead old start fresh new same = rw (new, same) refl
 
 -- what was answered so far, seen from before the opening reply
-answers_so_far : (session : Opened) (old start now after : Scene) (state : State) (fresh reader : Ahead) (marks : List Mark) (clean : Bool)
-    → IsRunStart session old start fresh → (ran : RunSoFar start now session.state state fresh reader marks clean)
-    → after.output ≡ now.output → Answers session old after marks ran.done
-answers_so_far session old start now after state fresh reader marks clean begun ran same =
+answers_so_far : (file : Opened) (old start now after : Scene) (session : Kept) (fresh reader : Ahead) (marks : List Mark) (clean : Bool)
+    → IsRunStart file old start fresh → (ran : RunSoFar start now file.state session fresh reader marks clean)
+    → after.output ≡ now.output → Answers file old after marks ran.done
+answers_so_far file old start now after session fresh reader marks clean begun ran same =
     record {
       kept = ran.count;
-      output = same ∙ ran.output ∙ ap (λ (l : List ℕ). l ++ replies_of session.state ran.done (outcomes marks)) begun.output
-          ∙ append_assoc old.output (opening_of session.name session.found).bytes (replies_of session.state ran.done (outcomes marks));
+      output = same ∙ ran.output ∙ ap (λ (l : List ℕ). l ++ replies_of file.state ran.done marks) begun.output
+          ∙ append_assoc old.output (opening_of file.name file.found).bytes (replies_of file.state ran.done marks);
     }
 
 -- one more command was read, and there was no memory to answer it
-pub answers_some : (session : Opened) (old start now after : Scene) (state : State) (fresh reader reader' : Ahead) (marks : List Mark) (clean : Bool) (request : Request)
-    → IsRunStart session old start fresh → RunSoFar start now session.state state fresh reader marks clean → TakesRequest request reader reader' now after
-    → HasSeen reader' after → CountsTaken fresh reader' start after → reader'.taken ≤ 2 ^ 20 → after.output ≡ now.output → AnswersSome session old after marks
-answers_some session old start now after state fresh reader reader' marks clean request begun ran taken seen counts limit same =
+pub answers_some : (file : Opened) (old start now after : Scene) (session : Kept) (fresh reader reader' : Ahead) (marks : List Mark) (clean : Bool) (request : Request)
+    → IsRunStart file old start fresh → RunSoFar start now file.state session fresh reader marks clean → TakesRequest request reader reader' now after
+    → HasSeen reader' after → CountsTaken fresh reader' start after → reader'.taken ≤ script_limit → after.output ≡ now.output → AnswersSome file old after marks
+answers_some file old start now after session fresh reader reader' marks clean request begun ran taken seen counts limit same =
     let done = ran.done in
     let c = taken.first in
     let within = read_within fresh reader' start after (done ++ c ∷ []) begun.new (read_on fresh reader reader' start now after done request ran.read taken) seen counts limit in
@@ -224,14 +221,14 @@ answers_some session old start now after state fresh reader reader' marks clean 
       commands = done;
       rest = c ∷ within.0;
       first = ap commands_within (sym begun.script) ∙ within.1 ∙ append_assoc done (c ∷ []) within.0;
-      answers = answers_so_far session old start now after state fresh reader marks clean begun ran same;
+      answers = answers_so_far file old start now after session fresh reader marks clean begun ran same;
     }
 
 -- at the script's end all commands were answered
-done_is_all : (old start now after : Scene) (opened state : State) (fresh reader reader' : Ahead) (marks : List Mark) (clean : Bool)
-    → fresh ≡ fresh_reader → start.script ≡ old.script → (ran : RunSoFar start now opened state fresh reader marks clean)
+done_is_all : (old start now after : Scene) (opened : State) (session : Kept) (fresh reader reader' : Ahead) (marks : List Mark) (clean : Bool)
+    → fresh ≡ fresh_reader → start.script ≡ old.script → (ran : RunSoFar start now opened session fresh reader marks clean)
     → TakesNone reader reader' now after → ran.done ≡ commands_in old
-done_is_all old start now after opened state fresh reader reader' marks clean new scripts ran none =
+done_is_all old start now after opened session fresh reader reader' marks clean new scripts ran none =
     sym (append-nil ran.done) ∙ ap (λ (l : List Instruction). ran.done ++ l) (sym none.ahead) ∙ sym ran.read.ahead ∙ all_ahead old start fresh new scripts
 
 flip_clean : (clean errors : Bool) → clean ≡ not errors → errors ≡ not clean
@@ -240,17 +237,17 @@ flip_clean true false is = refl
 flip_clean false true is = refl
 flip_clean false false is = absurd (true≢false (sym is))
 
-answers_same : (session : Opened) (old after : Scene) (marks : List Mark) (one other : List Instruction) → one ≡ other → Answers session old after marks one → Answers session old after marks other
-answers_same session old after marks one other same answers = rw (← same) answers
+answers_same : (file : Opened) (old after : Scene) (marks : List Mark) (one other : List Instruction) → one ≡ other → Answers file old after marks one → Answers file old after marks other
+answers_same file old after marks one other same answers = rw (← same) answers
 
-pub answers_all : (session : Opened) (old start now after : Scene) (state : State) (fresh reader reader' : Ahead) (marks : List Mark) (clean : Bool)
-    → IsRunStart session old start fresh → RunSoFar start now session.state state fresh reader marks clean
-    → TakesNone reader reader' now after → after.output ≡ now.output → AnswersAll (not clean) session old after marks
-answers_all session old start now after state fresh reader reader' marks clean begun ran none same =
-    let all : ran.done ≡ commands_in old = done_is_all old start now after session.state state fresh reader reader' marks clean begun.new begun.script ran none in
+pub answers_all : (file : Opened) (old start now after : Scene) (session : Kept) (fresh reader reader' : Ahead) (marks : List Mark) (clean : Bool)
+    → IsRunStart file old start fresh → RunSoFar start now file.state session fresh reader marks clean
+    → TakesNone reader reader' now after → after.output ≡ now.output → AnswersAll (not clean) file old after marks
+answers_all file old start now after session fresh reader reader' marks clean begun ran none same =
+    let all : ran.done ≡ commands_in old = done_is_all old start now after file.state session fresh reader reader' marks clean begun.new begun.script ran none in
     record {
-      answers = answers_same session old after marks ran.done (commands_in old) all (answers_so_far session old start now after state fresh reader marks clean begun ran same);
-      errors_are = ap (λ (l : List Instruction). any_error session.state l (outcomes marks)) (sym all) ∙ flip_clean clean (any_error session.state ran.done (outcomes marks)) ran.errors;
+      answers = answers_same file old after marks ran.done (commands_in old) all (answers_so_far file old start now after session fresh reader marks clean begun ran same);
+      errors_are = ap (λ (l : List Instruction). any_error file.state l marks) (sym all) ∙ flip_clean clean (any_error file.state ran.done marks) ran.errors;
       ended = none.script;
     }
 
@@ -263,10 +260,10 @@ pub record StoppedRun (error : ScriptErr) (old after : Scene) (reader' : Ahead) 
   pub count : reader'.taken ≡ length taken
   pub whole : done ≡ whole_commands taken
 
-stops_run : (error : ScriptErr) (old start now after : Scene) (opened state : State) (fresh reader reader' : Ahead) (marks : List Mark) (clean : Bool)
-    → fresh ≡ fresh_reader → start.script ≡ old.script → (ran : RunSoFar start now opened state fresh reader marks clean)
+stops_run : (error : ScriptErr) (old start now after : Scene) (opened : State) (session : Kept) (fresh reader reader' : Ahead) (marks : List Mark) (clean : Bool)
+    → fresh ≡ fresh_reader → start.script ≡ old.script → (ran : RunSoFar start now opened session fresh reader marks clean)
     → Stops error whole_commands [] reader reader' now after → StoppedRun error old after reader' ran.done
-stops_run error old start now after opened state fresh reader reader' marks clean new scripts ran stop =
+stops_run error old start now after opened session fresh reader reader' marks clean new scripts ran stop =
     let done = ran.done in
     let stops = stops_then error whole_commands (λ bytes. done ++ whole_commands bytes) (done ++ []) fresh reader reader' start now after (ran.read.going stop.open_before)
     (stops_by (λ (l : List Instruction). done ++ l) error whole_commands [] reader reader' now after stop) in
@@ -281,79 +278,76 @@ stops_run error old start now after opened state fresh reader reader' marks clea
       whole = sym (append-nil done) ∙ sym whole;
     }
 
-pub fails_run : (session : Opened) (old start now after : Scene) (state : State) (fresh reader reader' : Ahead) (marks : List Mark) (clean : Bool)
-    → IsRunStart session old start fresh → RunSoFar start now session.state state fresh reader marks clean
-    → Stops script_error.Failed whole_commands [] reader reader' now after → after.output ≡ now.output → AnswersTaken session old after marks
-fails_run session old start now after state fresh reader reader' marks clean begun ran stop same =
-    let found = stops_run script_error.Failed old start now after session.state state fresh reader reader' marks clean begun.new begun.script ran stop in
+pub fails_run : (file : Opened) (old start now after : Scene) (session : Kept) (fresh reader reader' : Ahead) (marks : List Mark) (clean : Bool)
+    → IsRunStart file old start fresh → RunSoFar start now file.state session fresh reader marks clean
+    → Stops script_error.Failed whole_commands [] reader reader' now after → after.output ≡ now.output → AnswersTaken file old after marks
+fails_run file old start now after session fresh reader reader' marks clean begun ran stop same =
+    let found = stops_run script_error.Failed old start now after file.state session fresh reader reader' marks clean begun.new begun.script ran stop in
     record {
       taken = found.taken;
       script = found.script ∙ ap (λ (l : List ℕ). found.taken ++ l) (sym found.is_left);
-      answers = answers_same session old after marks ran.done (whole_commands found.taken) found.whole (answers_so_far session old start now after state fresh reader marks clean begun ran same);
+      answers = answers_same file old after marks ran.done (whole_commands found.taken) found.whole (answers_so_far file old start now after session fresh reader marks clean begun ran same);
     }
 
-pub too_long_run : (session : Opened) (old start now after : Scene) (state : State) (fresh reader reader' : Ahead) (marks : List Mark) (clean : Bool)
-    → IsRunStart session old start fresh → RunSoFar start now session.state state fresh reader marks clean
-    → Stops script_error.TooLong whole_commands [] reader reader' now after → after.output ≡ now.output → AnswersLimit session old after marks
-too_long_run session old start now after state fresh reader reader' marks clean begun ran stop same =
-    let found = stops_run script_error.TooLong old start now after session.state state fresh reader reader' marks clean begun.new begun.script ran stop in
-    let long : length found.taken ≡ 2 ^ 20 = sym found.count ∙ found.is_left.2 in
+pub too_long_run : (file : Opened) (old start now after : Scene) (session : Kept) (fresh reader reader' : Ahead) (marks : List Mark) (clean : Bool)
+    → IsRunStart file old start fresh → RunSoFar start now file.state session fresh reader marks clean
+    → Stops script_error.TooLong whole_commands [] reader reader' now after → after.output ≡ now.output → AnswersLimit file old after marks
+too_long_run file old start now after session fresh reader reader' marks clean begun ran stop same =
+    let found = stops_run script_error.TooLong old start now after file.state session fresh reader reader' marks clean begun.new begun.script ran stop in
+    let long : length found.taken ≡ script_limit = sym found.count ∙ found.is_left.2 in
     let size : length old.script ≡ length found.taken + length found.left = ap (λ (l : List ℕ). length l) found.script ∙ length-append found.taken found.left in
-    let front : take (2 ^ 20) old.script ≡ found.taken =
-    ap (λ (l : List ℕ). take (2 ^ 20) l) found.script ∙ ap (λ n. take n (found.taken ++ found.left)) (sym long) ∙ take-append_seam found.taken found.left in
+    let front : take script_limit old.script ≡ found.taken =
+    ap (λ (l : List ℕ). take script_limit l) found.script ∙ ap (λ n. take n (found.taken ++ found.left)) (sym long) ∙ take-append_seam found.taken found.left in
     record {
       longer = omega (arith, long, found.is_left.0, size);
-      answers = answers_same session old after marks ran.done (whole_commands (take (2 ^ 20) old.script)) (found.whole ∙ ap whole_commands (sym front))
-          (answers_so_far session old start now after state fresh reader marks clean begun ran same);
+      answers = answers_same file old after marks ran.done (whole_commands (take script_limit old.script)) (found.whole ∙ ap whole_commands (sym front))
+          (answers_so_far file old start now after session fresh reader marks clean begun ran same);
     }
 
 -- the opening reply was written in part
-pub cut_opening : (session : Opened) (old after : Scene) (marks : List Mark) (opening : Answer) (n : ℕ) → opening ≡ opening_of session.name session.found → marks ≡ []
-    → after.output ≡ old.output ++ take n opening.bytes → IsCutShort session old after marks
-cut_opening session old after (m ∷ marks) opening n opens none wrote = absurd (cc)
-cut_opening session old after [] opening n opens none wrote =
+pub cut_opening : (file : Opened) (old after : Scene) (marks : List Mark) (opening : Answer) (n : ℕ) → opening ≡ opening_of file.name file.found → marks ≡ []
+    → after.output ≡ old.output ++ take n opening.bytes → IsCutShort file old after marks
+cut_opening file old after (m ∷ marks) opening n opens none wrote = absurd (cc)
+cut_opening file old after [] opening n opens none wrote =
     record {
       commands = [];
       rest = commands_within old.script;
       first = refl;
       kept = refl;
       count = n;
-      output = wrote ∙ ap (λ (a : Answer). old.output ++ take n a.bytes) opens ∙ ap (λ (l : List ℕ). old.output ++ take n l) (sym (append-nil (opening_of session.name session.found).bytes));
+      output = wrote ∙ ap (λ (a : Answer). old.output ++ take n a.bytes) opens ∙ ap (λ (l : List ℕ). old.output ++ take n l) (sym (append-nil (opening_of file.name file.found).bytes));
       whole = omega arith;
     }
 
-before_last : (session : Opened) (commands : List Instruction) (ended : List Outcome) (o : Outcome)
-    → written_before session commands (ended ++ o ∷ []) ≡ written session commands (take (length ended) (ended ++ o ∷ []))
-before_last session commands [] o = refl
-before_last session commands (x ∷ ended) o =
-    let size : length (ended ++ o ∷ []) ≡ length (x ∷ ended) = length-append ended (o ∷ []) ∙ omega arith in
-    ap (λ n. written session commands (take n (x ∷ (ended ++ o ∷ [])))) size
+before_last : (file : Opened) (commands : List Instruction) (ended : List Mark) (m : Mark)
+    → written_before file commands (ended ++ m ∷ []) ≡ written file commands (take (length ended) (ended ++ m ∷ []))
+before_last file commands [] m = refl
+before_last file commands (x ∷ ended) m =
+    let size : length (ended ++ m ∷ []) ≡ length (x ∷ ended) = length-append ended (m ∷ []) ∙ omega arith in
+    ap (λ n. written file commands (take n (x ∷ (ended ++ m ∷ [])))) size
 
 -- a reply to one more command was written in part
-pub cut_reply : (session : Opened) (old start now between after : Scene) (state : State) (fresh reader reader' : Ahead) (marks marks' : List Mark) (clean : Bool) (reply : Answer) (request : Request) (m : Mark) (n : ℕ)
-    → IsRunStart session old start fresh → RunSoFar start now session.state state fresh reader marks clean → (taken : TakesRequest request reader reader' now between)
-    → HasSeen reader' between → CountsTaken fresh reader' start between → reader'.taken ≤ 2 ^ 20
-    → marks' ≡ marks ++ m ∷ [] → reply ≡ reply_of state taken.first m.outcome → after.output ≡ now.output ++ take n reply.bytes → IsCutShort session old after marks'
-cut_reply session old start now between after state fresh reader reader' marks marks' clean reply request m n begun ran taken seen counts limit kept replied wrote =
+pub cut_reply : (file : Opened) (old start now between after : Scene) (session session' : Kept) (fresh reader reader' : Ahead) (marks marks' : List Mark) (clean : Bool) (reply : Answer) (request : Request) (m : Mark) (n : ℕ)
+    → IsRunStart file old start fresh → RunSoFar start now file.state session fresh reader marks clean → TakesRequest request reader reader' now between
+    → HasSeen reader' between → CountsTaken fresh reader' start between → reader'.taken ≤ script_limit
+    → marks' ≡ marks ++ m ∷ [] → IsAnswer request session session' m reply → after.output ≡ now.output ++ take n reply.bytes → IsCutShort file old after marks'
+cut_reply file old start now between after session session' fresh reader reader' marks marks' clean reply request m n begun ran taken seen counts limit kept answer wrote =
     let c = taken.first in
-    let o = m.outcome in
     let done = ran.done in
-    let ended = outcomes marks in
-    let sizes : length ended ≡ length done = length_outcomes marks done ran.count in
-    let ended' : outcomes marks' ≡ ended ++ o ∷ [] = ap outcomes kept ∙ outcomes_push marks m in
-    let so_far = answers_so_far session old start now now state fresh reader marks clean begun ran refl in
+    let state = states_after file.state done marks in
+    let replied : reply ≡ reply_of state c m = answer.replied state c ran.stands taken.meant in
+    let so_far = answers_so_far file old start now now session fresh reader marks clean begun ran refl in
     let within = read_within fresh reader' start between (done ++ c ∷ []) begun.new (read_on fresh reader reader' start now between done request ran.read taken) seen counts limit in
-    let front : List ℕ = written session done ended in
-    let replied_so : reply ≡ reply_of (states_after session.state done ended) c o = replied ∙ ap (λ (s : State). reply_of s c o) ran.state_is in
-    let all : written session (done ++ c ∷ []) (outcomes marks') ≡ front ++ reply.bytes =
-    ap (λ (l : List Outcome). written session (done ++ c ∷ []) l) ended'
-    ∙ ap (λ (l : List ℕ). (opening_of session.name session.found).bytes ++ l) (replies_push session.state done ended c o sizes)
-    ∙ sym (append_assoc (opening_of session.name session.found).bytes (replies_of session.state done ended) (reply_of (states_after session.state done ended) c o).bytes)
-    ∙ ap (λ (a : Answer). front ++ a.bytes) (sym replied_so) in
-    let before : written_before session (done ++ c ∷ []) (outcomes marks') ≡ front =
-    ap (written_before session (done ++ c ∷ [])) ended' ∙ before_last session (done ++ c ∷ []) ended o
-    ∙ ap (λ (l : List Outcome). written session (done ++ c ∷ []) l) (take-append_seam ended (o ∷ []))
-    ∙ ap (λ (l : List ℕ). (opening_of session.name session.found).bytes ++ l) (replies_extra session.state done (c ∷ []) ended sizes) in
+    let front : List ℕ = written file done marks in
+    let all : written file (done ++ c ∷ []) marks' ≡ front ++ reply.bytes =
+    ap (λ (l : List Mark). written file (done ++ c ∷ []) l) kept
+    ∙ ap (λ (l : List ℕ). (opening_of file.name file.found).bytes ++ l) (replies_push file.state done marks c m ran.count)
+    ∙ sym (append_assoc (opening_of file.name file.found).bytes (replies_of file.state done marks) (reply_of state c m).bytes)
+    ∙ ap (λ (a : Answer). front ++ a.bytes) (sym replied) in
+    let before : written_before file (done ++ c ∷ []) marks' ≡ front =
+    ap (written_before file (done ++ c ∷ [])) kept ∙ before_last file (done ++ c ∷ []) marks m
+    ∙ ap (λ (l : List Mark). written file (done ++ c ∷ []) l) (take-append_seam marks (m ∷ []))
+    ∙ ap (λ (l : List ℕ). (opening_of file.name file.found).bytes ++ l) (replies_extra file.state done (c ∷ []) marks ran.count) in
     record {
       commands = done ++ c ∷ [];
       rest = within.0;

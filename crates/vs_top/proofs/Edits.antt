@@ -1,28 +1,33 @@
 -- What is known at each turn of `edit`, and what follows at each of its ends.
-use Rattle.std.proofs.Common.{◌≡◌, ℕ, Bool, true, false, not, ◌&&◌, if◌then◌else◌, List, [], ◌∷◌, ◌++◌, take, map, refl, sym, ap, subst, ◌∙◌, append_assoc, append-nil, arith, length, IsTrue, Some, None, IfSome, IsSomeAnd, IsErrAnd, Ok, Err, ◌+◌, ◌<◌, ◌≤◌, ◌^◌, inl, inr}
+use Rattle.std.proofs.Common.{◌≡◌, ℕ, Bool, true, false, not, ◌&&◌, if◌then◌else◌, List, [], ◌∷◌, ◌++◌, take, map, get_or, All, ◌⊎◌, refl, sym, ap, subst, ◌∙◌, append_assoc, append-nil, arith, length, IsTrue, Some, None, IfSome, IsErrAnd, Ok, Err, ◌+◌, ◌<◌, ◌≤◌, ◌^◌, inl, inr}
 use Rattle.std.specs.declared.option.Option.{Option}
 use Rattle.std.specs.declared.result.Result.{Result}
 use Rattle.std.proofs.lemmas.Bool.{true≢false}
-use Rattle.std.proofs.lemmas.Bool.Decides.{leb_tells}
 use Rattle.std.proofs.lemmas.List.{length-append, length-map}
 use Rattle.vs_faults.specs.Faults.{HasRisen, IsQuiet}
 use Rattle.vs_faults.proofs.Causes.{risen_after}
 use Rattle.vs_host.specs.World.{Tells, Scene, ReadsFolder, ChangesScript, ChangesOutput, ChangesClock, content_of}
-use Rattle.vs_session.specs.Open.{IsTooLong}
-use Rattle.vs_session.specs.Machine.{Answer, is_done, opening_of, reply_of, state_after}
+use Rattle.vs_text.specs.Text.{lines_of}
+use Rattle.vs_text.specs.Limits.{IsShort, IsWithinLimits}
+use Rattle.vs_excmd.specs.declared.request.Request.{Request}
+use Rattle.vs_script.specs.Ahead.{Ahead, HasSeen, CountsTaken, Stops, script_limit}
+use Rattle.vs_script.specs.Requests.{TakesRequest, TakesNone, whole_commands}
+use Rattle.vs_script.specs.declared.reader.ScriptErr.{ScriptErr}
+use Rattle.vs_script.specs.declared.reader.ScriptErr.TheVariants as script_error
+use Rattle.vs_session.specs.Machine.{is_done}
+use Rattle.vs_session.specs.Open.{IsTooLarge}
+use Rattle.vs_session.specs.Replies.{Answer, opening_of}
+use Rattle.vs_session.specs.Session.{Kept, HasOpened, Opened}
 use Rattle.vs_session.specs.declared.command.Mark.{Mark}
-use Rattle.vs_session.specs.declared.command.Request.{Request}
-use Rattle.vs_session.specs.declared.session.OpenErr.{OpenErr}
-use Rattle.vs_session.specs.declared.session.OpenErr.TheVariants as opening
-use Rattle.vs_session.specs.Session.{Opened}
-use Rattle.vs_top.specs.Ahead.{Ahead, HasSeen, CountsTaken, TakesRequest, TakesNone, Stops, whole_commands}
+use Rattle.vs_session.specs.declared.command.Outcome.TheVariants as outcome
+use Rattle.vs_session.specs.declared.open.OpenErr.{OpenErr}
+use Rattle.vs_session.specs.declared.open.OpenErr.TheVariants as opening
 use Rattle.vs_top.specs.Ending.{script_ending, open_ending, ending_in}
-use Rattle.vs_top.specs.Run.{TellsRun, Counts, counts_of, CountsBy, RunsIn, RunsEdit, AnswersSome, AnswersTaken, AnswersLimit, AnswersAll, IsCutShort, session_of}
+use Rattle.vs_top.specs.Run.{TellsRun, Counts, counts_of, CountsBy, FileFits, IsThrough, IsThroughMark, IsUnhindered, RunsIn, RunsEdit, opened_file}
 use Rattle.vs_top.specs.declared.ending.Ending.{Ending}
 use Rattle.vs_top.specs.declared.ending.Ending.TheVariants as ending
-use Rattle.vs_top.specs.declared.script.ScriptErr.{ScriptErr}
-use Rattle.vs_top.specs.declared.script.ScriptErr.TheVariants as script_error
-use Rattle.vs_top.proofs.Answering.{fresh_reader, IsRunStart, RunSoFar, ran_start, ran_on, answers_some, answers_all, fails_run, too_long_run, cut_opening, cut_reply}
+use Rattle.vs_top.proofs.Answering.{fresh_reader, IsAnswer, IsRunStart, RunSoFar, ran_start, ran_on, answers_some, answers_all, fails_run, too_long_run, cut_opening, cut_reply}
+use Rattle.vs_top.proofs.Limits.{within_or_not, passes_no_limit}
 
 -- the folder stays, and no count falls
 pub reads_folder : (old new : Scene) → ReadsFolder old new → old.folder_faults ≤ new.folder_faults → RunsIn old new
@@ -94,24 +99,19 @@ pub output_failed : (old now after : Scene) → counts_of now ≡ counts_of old 
 output_failed old now after quiet is rose =
     (risen_after (omega (arith, ap (λ (c : Counts). c.output) quiet)) rose, ap counts_of is ∙ ap (λ (c : Counts). record c { output = after.out_faults }) quiet)
 
--- the file of a run is within its limit
-abbrev pub FileFits : Scene → List ℕ → Type 0
-FileFits old name = IfSome (content_of old name) (λ bytes. length bytes ≤ 2 ^ 20)
-
 -- What is known after the opening reply was written or begun: `now` is the scene then.
-pub record IsOpen (tells : Tells) (name : List ℕ) (old now : Scene) (session : Opened) : Type 0 where
-  pub file : IsTrue tells.folder → FileFits old name
-  pub opened : IsTrue tells.folder → session ≡ session_of old name
+pub record IsOpen (tells : Tells) (name : List ℕ) (old now : Scene) : Type 0 where
+  pub file : IsTrue tells.folder → FileFits (content_of old name)
   pub script : now.script ≡ old.script
   pub answers : now.answers ≡ old.answers
   pub frame : RunsIn old now
 
 -- What is known at each turn: `start` is the scene after the opening reply, and `now` the one at the turn.
-pub record IsTurn (tells : Tells) (name : List ℕ) (old start now : Scene) (opened session : Opened) (fresh reader : Ahead) (marks : List Mark) (clean : Bool) : Type 0 where
-  pub started : IsOpen tells name old start opened
-  pub begun : IsTrue tells.output → IsRunStart opened old start fresh
+pub record IsTurn (tells : Tells) (name : List ℕ) (old start now : Scene) (session : Kept) (fresh reader : Ahead) (marks : List Mark) (clean : Bool) : Type 0 where
+  pub started : IsOpen tells name old start
+  pub begun : TellsRun tells → IsRunStart (opened_file old name) old start fresh
   pub new : fresh ≡ fresh_reader
-  pub ran : TellsRun tells → RunSoFar start now opened.state session.state fresh reader marks clean
+  pub ran : TellsRun tells → RunSoFar start now (opened_file old name).state session fresh reader marks clean
   pub seen : IsTrue tells.script → HasSeen reader now
   pub counts : IsTrue tells.script → CountsTaken fresh reader start now
   pub times : IsTrue tells.clock → now.answers ≡ old.answers ++ map (λ mark. mark.at) marks
@@ -120,7 +120,7 @@ pub record IsTurn (tells : Tells) (name : List ℕ) (old start now : Scene) (ope
 
 -- What a read of the next request leaves, whatever it answers.
 pub record IsRead (tells : Tells) (reader reader' : Ahead) (now after : Scene) : Type 0 where
-  pub limit : reader'.taken ≤ 2 ^ 20
+  pub limit : reader'.taken ≤ script_limit
   pub seen : IsTrue tells.script → HasSeen reader' after
   pub later : now.script_faults ≤ after.script_faults
   pub frame : ChangesScript now after
@@ -129,8 +129,8 @@ counts_on : (fresh reader reader' : Ahead) (start now after : Scene) → CountsT
 counts_on fresh reader reader' start now after one two = omega (arith, one, two)
 
 -- what was taken so far is within the limit
-few_taken : (fresh reader : Ahead) (old start now : Scene) → fresh ≡ fresh_reader → start.script ≡ old.script → CountsTaken fresh reader start now → reader.taken ≤ 2 ^ 20
-    → length old.script ≤ length now.script + 2 ^ 20
+few_taken : (fresh reader : Ahead) (old start now : Scene) → fresh ≡ fresh_reader → start.script ≡ old.script → CountsTaken fresh reader start now → reader.taken ≤ script_limit
+    → length old.script ≤ length now.script + script_limit
 few_taken fresh reader old start now new same counts limit =
     omega (arith, ap (λ (a : Ahead). a.taken) new, ap (λ (l : List ℕ). length l) same, counts, limit)
 
@@ -143,10 +143,6 @@ at_ending tells name old new marks marks' (Err e) one end is same kept runs =
 
 no_times : (old new : List ℕ) (marks : List Mark) → marks ≡ [] → new ≡ old → new ≡ old ++ map (λ mark. mark.at) marks
 no_times old new marks none same = rw (none, same) (sym (append-nil old))
-
-too_long : (file : Option (List ℕ)) (size : ℕ) → 2 ^ 20 < size → IsSomeAnd file (λ bytes. size ≡ length bytes) → IsSomeAnd file (λ bytes. 2 ^ 20 < length bytes)
-too_long None size over is = absurd is
-too_long (Some bytes) size over is = omega (arith, over, is)
 
 -- there was no memory before the opening reply
 pub no_memory_yet : (tells : Tells) (name : List ℕ) (old new : Scene) (marks : List Mark) → marks ≡ [] → new.output ≡ old.output → new.script ≡ old.script → new.answers ≡ old.answers → counts_of new ≡ counts_of old → RunsIn old new
@@ -164,7 +160,7 @@ no_memory_yet tells name old new marks none output script answers quiet frame =
 -- the file was not opened
 pub not_opened : (tells : Tells) (name : List ℕ) (old new : Scene) (marks : List Mark) (error : OpenErr) → marks ≡ [] → ReadsFolder old new → old.folder_faults ≤ new.folder_faults
     → (error ≡ opening.Failed → HasRisen old.folder_faults new.folder_faults) → IsQuiet old.folder_faults new.folder_faults (error ≡ opening.Failed)
-    → ((size : ℕ) → error ≡ opening.TextLimit size → IsTooLong tells size (content_of old name))
+    → ((size : ℕ) → error ≡ opening.TextLimit size → IsTooLarge tells size (content_of old name))
     → RunsEdit tells name old new (open_ending error) marks
 not_opened tells name old new marks opening.Failed none frame later failed quiet limit =
     record {
@@ -178,7 +174,7 @@ not_opened tells name old new marks opening.Failed none frame later failed quiet
 not_opened tells name old new marks (opening.TextLimit size) none frame later failed quiet limit =
     record {
       answered = record { none = none; output = ap (λ (s : Scene). s.output) frame };
-      file = λ folder. too_long (content_of old name) size (limit size refl).0 ((limit size refl).1 folder);
+      file = λ folder. (limit size refl).passes folder;
       taken = λ script. omega (arith, ap (λ (s : Scene). length s.script) frame);
       counts = folder_quiet old new frame (quiet (λ is. absurd (cc)));
       times = λ clock. no_times _ _ marks none (ap (λ (s : Scene). s.answers) frame);
@@ -188,21 +184,20 @@ not_opened tells name old new marks opening.NoMemory none frame later failed qui
     no_memory_yet tells name old new marks none (ap (λ (s : Scene). s.output) frame) (ap (λ (s : Scene). s.script) frame) (ap (λ (s : Scene). s.answers) frame)
     (folder_quiet old new frame (quiet (λ is. absurd (cc)))) (reads_folder old new frame later)
 
--- a file that is too long is not opened
-pub file_fits : (file : Option (List ℕ)) → IfSome file (λ bytes. 2 ^ 20 < length bytes → false ≡ true) → IfSome file (λ bytes. length bytes ≤ 2 ^ 20)
+-- a file whose text passes a limit is not opened
+pub file_fits : (file : Option (List ℕ)) → IfSome file (λ bytes. ¬ IsWithinLimits (lines_of bytes) → false ≡ true) → FileFits file
 file_fits None over = tt
-file_fits (Some bytes) over = elim (leb_tells (length bytes) (2 ^ 20)) [
-  | inl small ↦ small.1
-  | inr large ↦ absurd (true≢false (sym (over large.1)))
+file_fits (Some bytes) over = elim (within_or_not (lines_of bytes)) [
+  | inl within ↦ within
+  | inr not ↦ absurd (true≢false (sym (over not)))
 ]
 
 -- the session was opened, and the opening reply written or begun
-pub opened_then : (tells : Tells) (name : List ℕ) (old mid new : Scene) (session : Opened) → ReadsFolder old mid → old.folder_faults ≤ mid.folder_faults → (IsTrue tells.folder → FileFits old name)
-    → (IsTrue tells.folder → session ≡ session_of old name) → ChangesOutput mid new → mid.out_faults ≤ new.out_faults → IsOpen tells name old new session
-opened_then tells name old mid new session folder later fits opened output written =
+pub opened_then : (tells : Tells) (name : List ℕ) (old mid new : Scene) → ReadsFolder old mid → old.folder_faults ≤ mid.folder_faults → (IsTrue tells.folder → FileFits (content_of old name))
+    → ChangesOutput mid new → mid.out_faults ≤ new.out_faults → IsOpen tells name old new
+opened_then tells name old mid new folder later fits output written =
     record {
       file = fits;
-      opened = opened;
       script = ap (λ (s : Scene). s.script) output ∙ ap (λ (s : Scene). s.script) folder;
       answers = ap (λ (s : Scene). s.answers) output ∙ ap (λ (s : Scene). s.answers) folder;
       frame = runs_then old mid new (reads_folder old mid folder later) (changes_output mid new output written);
@@ -212,15 +207,25 @@ opened_then tells name old mid new session folder later fits opened output writt
 fresh_seen : (scene : Scene) (fresh : Ahead) → fresh ≡ fresh_reader → HasSeen fresh scene
 fresh_seen scene fresh new = λ at_end. absurd (true≢false (sym at_end ∙ ap (λ (a : Ahead). a.ended) new))
 
-pub first_turn : (tells : Tells) (name : List ℕ) (old mid start : Scene) (session : Opened) (fresh : Ahead) (marks : List Mark) (opening : Answer) → IsOpen tells name old start session → fresh ≡ fresh_reader → marks ≡ []
-    → ReadsFolder old mid → opening ≡ opening_of session.name session.found → (IsTrue tells.output → start.output ≡ mid.output ++ opening.bytes)
-    → counts_of start ≡ counts_of old → IsTurn tells name old start start session session fresh fresh marks true
-first_turn tells name old mid start session fresh marks opening started new none folder opens wrote quiet =
+-- the opening reply of a session that has opened a file
+opening_is : (file : Opened) (session : Kept) (opening : Answer) → HasOpened file session → opening ≡ opening_of session.name session.found → opening ≡ opening_of file.name file.found
+opening_is file session opening opened opens =
+    opens ∙ ap (λ (n : List ℕ). opening_of n session.found) opened.name ∙ ap (λ (f : Option (ℕ × ℕ)). opening_of file.name f) opened.found
+
+pub first_turn : (tells : Tells) (name : List ℕ) (old mid start : Scene) (session : Kept) (fresh : Ahead) (marks : List Mark) (opening : Answer) → IsOpen tells name old start → fresh ≡ fresh_reader → marks ≡ []
+    → (IsTrue tells.folder → HasOpened (opened_file old name) session) → ReadsFolder old mid → opening ≡ opening_of session.name session.found → (IsTrue tells.output → start.output ≡ mid.output ++ opening.bytes)
+    → counts_of start ≡ counts_of old → IsTurn tells name old start start session fresh fresh marks true
+first_turn tells name old mid start session fresh marks opening started new none opened folder opens wrote quiet =
     record {
       started = started;
-      begun = λ output. record { new = new; script = started.script; output = wrote output ∙ ap (λ (s : Scene). s.output ++ opening.bytes) folder ∙ ap (λ (a : Answer). old.output ++ a.bytes) opens };
+      begun = λ told. record {
+        new = new;
+        script = started.script;
+        output = wrote told.output ∙ ap (λ (s : Scene). s.output ++ opening.bytes) folder
+            ∙ ap (λ (a : Answer). old.output ++ a.bytes) (opening_is (opened_file old name) session opening (opened told.folder) opens);
+      };
       new = new;
-      ran = λ told. ran_start start session.state fresh marks none;
+      ran = λ told. ran_start start (opened_file old name).state session fresh marks (opened told.folder).state none;
       seen = λ script. fresh_seen start fresh new;
       counts = λ script. refl;
       times = λ clock. no_times _ _ marks none started.answers;
@@ -229,16 +234,16 @@ first_turn tells name old mid start session fresh marks opening started new none
     }
 
 -- the opening reply was written in part
-pub opening_cut : (tells : Tells) (name : List ℕ) (old mid new : Scene) (session : Opened) (marks : List Mark) (opening : Answer) → marks ≡ [] → IsOpen tells name old new session
-    → ReadsFolder old mid → opening ≡ opening_of session.name session.found
+pub opening_cut : (tells : Tells) (name : List ℕ) (old mid new : Scene) (session : Kept) (marks : List Mark) (opening : Answer) → marks ≡ [] → IsOpen tells name old new
+    → (IsTrue tells.folder → HasOpened (opened_file old name) session) → ReadsFolder old mid → opening ≡ opening_of session.name session.found
     → (IsTrue tells.output → (n : ℕ) × (new.output ≡ mid.output ++ take n opening.bytes)) → CountsBy ending.OutputFault (counts_of old) (counts_of new)
     → RunsEdit tells name old new ending.OutputFault marks
-opening_cut tells name old mid new session marks opening none start folder opens wrote counts =
+opening_cut tells name old mid new session marks opening none start opened folder opens wrote counts =
     record {
       answered = λ told.
           let cut = wrote told.output in
-          subst (λ (s : Opened). IsCutShort s old new marks) (start.opened told.folder)
-          (cut_opening session old new marks opening cut.0 opens none (cut.1 ∙ ap (λ (s : Scene). s.output ++ take cut.0 opening.bytes) folder));
+          cut_opening (opened_file old name) old new marks opening cut.0 (opening_is (opened_file old name) session opening (opened told.folder) opens) none
+          (cut.1 ∙ ap (λ (s : Scene). s.output ++ take cut.0 opening.bytes) folder);
       file = start.file;
       taken = λ told. omega (arith, ap (λ (l : List ℕ). length l) start.script);
       counts = counts;
@@ -247,14 +252,13 @@ opening_cut tells name old mid new session marks opening none start folder opens
     }
 
 -- a reader stopped
-pub reader_stopped : (tells : Tells) (name : List ℕ) (old start now after : Scene) (opened session : Opened) (fresh reader reader' : Ahead) (marks : List Mark) (clean : Bool) (error : ScriptErr)
-    → IsTurn tells name old start now opened session fresh reader marks clean → IsRead tells reader reader' now after
+pub reader_stopped : (tells : Tells) (name : List ℕ) (old start now after : Scene) (session : Kept) (fresh reader reader' : Ahead) (marks : List Mark) (clean : Bool) (error : ScriptErr)
+    → IsTurn tells name old start now session fresh reader marks clean → IsRead tells reader reader' now after
     → (error ≡ script_error.Failed → HasRisen now.script_faults after.script_faults) → IsQuiet now.script_faults after.script_faults (error ≡ script_error.Failed)
     → (IsTrue tells.script → Stops error whole_commands [] reader reader' now after) → RunsEdit tells name old after (script_ending error) marks
-reader_stopped tells name old start now after opened session fresh reader reader' marks clean script_error.Failed turn read failed quiet stops =
+reader_stopped tells name old start now after session fresh reader reader' marks clean script_error.Failed turn read failed quiet stops =
     record {
-      answered = λ told. subst (λ (s : Opened). AnswersTaken s old after marks) (turn.started.opened told.folder)
-          (fails_run opened old start now after session.state fresh reader reader' marks clean (turn.begun told.output) (turn.ran told) (stops told.script) (ap (λ (s : Scene). s.output) read.frame));
+      answered = λ told. fails_run (opened_file old name) old start now after session fresh reader reader' marks clean (turn.begun told) (turn.ran told) (stops told.script) (ap (λ (s : Scene). s.output) read.frame);
       file = turn.started.file;
       taken = λ told.
           let stop = stops told in
@@ -265,10 +269,9 @@ reader_stopped tells name old start now after opened session fresh reader reader
       times = λ clock. ap (λ (s : Scene). s.answers) read.frame ∙ turn.times clock;
       frame = runs_then old now after turn.frame (changes_script now after read.frame read.later);
     }
-reader_stopped tells name old start now after opened session fresh reader reader' marks clean script_error.TooLong turn read failed quiet stops =
+reader_stopped tells name old start now after session fresh reader reader' marks clean script_error.TooLong turn read failed quiet stops =
     record {
-      answered = λ told. subst (λ (s : Opened). AnswersLimit s old after marks) (turn.started.opened told.folder)
-          (too_long_run opened old start now after session.state fresh reader reader' marks clean (turn.begun told.output) (turn.ran told) (stops told.script) (ap (λ (s : Scene). s.output) read.frame));
+      answered = λ told. too_long_run (opened_file old name) old start now after session fresh reader reader' marks clean (turn.begun told) (turn.ran told) (stops told.script) (ap (λ (s : Scene). s.output) read.frame);
       file = turn.started.file;
       taken = λ told.
           let stop = stops told in
@@ -289,15 +292,14 @@ reader_stopped tells name old start now after opened session fresh reader reader
     }
 
 -- there was no memory for a mark
-pub no_memory_left : (tells : Tells) (name : List ℕ) (old start now after : Scene) (opened session : Opened) (fresh reader reader' : Ahead) (marks : List Mark) (clean : Bool) (request : Request)
-    → IsTurn tells name old start now opened session fresh reader marks clean → IsRead tells reader reader' now after → after.script_faults ≡ now.script_faults
+pub no_memory_left : (tells : Tells) (name : List ℕ) (old start now after : Scene) (session : Kept) (fresh reader reader' : Ahead) (marks : List Mark) (clean : Bool) (request : Request)
+    → IsTurn tells name old start now session fresh reader marks clean → IsRead tells reader reader' now after → after.script_faults ≡ now.script_faults
     → (IsTrue tells.script → CountsTaken reader reader' now after) → (IsTrue tells.script → TakesRequest request reader reader' now after)
     → RunsEdit tells name old after ending.NoMemory marks
-no_memory_left tells name old start now after opened session fresh reader reader' marks clean request turn read quiet counts taken =
+no_memory_left tells name old start now after session fresh reader reader' marks clean request turn read quiet counts taken =
     record {
-      answered = λ told. inr (subst (λ (s : Opened). AnswersSome s old after marks) (turn.started.opened told.folder)
-          (answers_some opened old start now after session.state fresh reader reader' marks clean request (turn.begun told.output) (turn.ran told) (taken told.script) (read.seen told.script)
-          (counts_on fresh reader reader' start now after (turn.counts told.script) (counts told.script)) read.limit (ap (λ (s : Scene). s.output) read.frame)));
+      answered = λ told. inr (answers_some (opened_file old name) old start now after session fresh reader reader' marks clean request (turn.begun told) (turn.ran told) (taken told.script) (read.seen told.script)
+          (counts_on fresh reader reader' start now after (turn.counts told.script) (counts told.script)) read.limit (ap (λ (s : Scene). s.output) read.frame));
       file = λ folder. tt;
       taken = λ told. few_taken fresh reader' old start after turn.new turn.started.script (counts_on fresh reader reader' start now after (turn.counts told) (counts told)) read.limit;
       counts = script_quiet now after read.frame quiet ∙ turn.quiet;
@@ -361,21 +363,18 @@ step_quiet tells reader reader' old now between stepped after request marks mark
     ap counts_of step.stepped_frame ∙ script_quiet now between step.read.frame step.quiet ∙ quiet
 
 -- one more request was read, answered and replied to
-pub next_turn : (tells : Tells) (name : List ℕ) (old start now between stepped after : Scene) (opened session session' : Opened) (fresh reader reader' : Ahead) (marks marks' : List Mark) (clean one : Bool) (request : Request) (m : Mark) (reply : Answer)
-    → IsTurn tells name old start now opened session fresh reader marks clean → IsStep tells reader reader' now between stepped after request marks marks' m
-    → ((taken : TakesRequest request reader reader' now between) → reply ≡ reply_of session.state taken.first m.outcome)
-    → ((taken : TakesRequest request reader reader' now between) → session'.state ≡ state_after session.state taken.first m.outcome)
-    → (IsTrue tells.output → after.output ≡ stepped.output ++ reply.bytes) → one ≡ (is_done m.outcome && not reply.is_error) → after.out_faults ≡ stepped.out_faults
-    → IsTurn tells name old start after opened session' fresh reader' marks' (clean && one)
-next_turn tells name old start now between stepped after opened session session' fresh reader reader' marks marks' clean one request m reply turn step replied moved wrote cleans quiet =
+pub next_turn : (tells : Tells) (name : List ℕ) (old start now between stepped after : Scene) (session session' : Kept) (fresh reader reader' : Ahead) (marks marks' : List Mark) (clean one : Bool) (request : Request) (m : Mark) (reply : Answer)
+    → IsTurn tells name old start now session fresh reader marks clean → IsStep tells reader reader' now between stepped after request marks marks' m
+    → IsAnswer request session session' m reply → (IsTrue tells.output → after.output ≡ stepped.output ++ reply.bytes) → one ≡ (is_done m.outcome && not reply.is_error) → after.out_faults ≡ stepped.out_faults
+    → IsTurn tells name old start after session' fresh reader' marks' (clean && one)
+next_turn tells name old start now between stepped after session session' fresh reader reader' marks marks' clean one request m reply turn step answer wrote cleans quiet =
     let script : after.script ≡ between.script = step_script tells reader reader' now between stepped after request marks marks' m step in
     record {
       started = turn.started;
       begun = turn.begun;
       new = turn.new;
       ran = λ told.
-          let taken = step.taken told.script in
-          ran_on start now between after opened.state session.state session'.state fresh reader reader' marks marks' clean (clean && one) request m reply (turn.ran told) taken script step.kept (replied taken) (moved taken)
+          ran_on start now between after (opened_file old name).state session session' fresh reader reader' marks marks' clean (clean && one) request m reply (turn.ran told) (step.taken told.script) script step.kept answer
           (wrote told.output ∙ ap (λ (l : List ℕ). l ++ reply.bytes) (step_output tells reader reader' now between stepped after request marks marks' m step)) (ap (λ (b : Bool). clean && b) cleans);
       seen = λ told at_end. script ∙ step.read.seen told at_end;
       counts = λ told. omega (arith, ap (λ (l : List ℕ). length l) script, counts_on fresh reader reader' start now between (turn.counts told) (step.counts told));
@@ -385,27 +384,24 @@ next_turn tells name old start now between stepped after opened session session'
     }
 
 -- the clock has room for the marks of a script
-pub clock_room : (start : List ℕ) (now after : Scene) (marks : List Mark) → ChangesScript now after → now.answers ≡ start ++ map (λ mark. mark.at) marks → length start < 2 ^ 62 → length marks ≤ 2 ^ 20
+pub clock_room : (start : List ℕ) (now after : Scene) (marks : List Mark) → ChangesScript now after → now.answers ≡ start ++ map (λ mark. mark.at) marks → length start < 2 ^ 62 → length marks ≤ script_limit
     → length after.answers < 2 ^ 63
 clock_room start now after marks frame is few short =
     let same : after.answers ≡ start ++ map (λ mark. mark.at) marks = ap (λ (s : Scene). s.answers) frame ∙ is in
     rw same (simp (length-append, length-map) (omega arith))
 
 -- a reply was written in part
-pub reply_cut : (tells : Tells) (name : List ℕ) (old start now between stepped after : Scene) (opened session : Opened) (fresh reader reader' : Ahead) (marks marks' : List Mark) (clean : Bool) (request : Request) (m : Mark) (reply : Answer)
-    → IsTurn tells name old start now opened session fresh reader marks clean → IsStep tells reader reader' now between stepped after request marks marks' m
-    → ((taken : TakesRequest request reader reader' now between) → reply ≡ reply_of session.state taken.first m.outcome)
-    → (IsTrue tells.output → (n : ℕ) × (after.output ≡ stepped.output ++ take n reply.bytes)) → HasRisen stepped.out_faults after.out_faults
+pub reply_cut : (tells : Tells) (name : List ℕ) (old start now between stepped after : Scene) (session session' : Kept) (fresh reader reader' : Ahead) (marks marks' : List Mark) (clean : Bool) (request : Request) (m : Mark) (reply : Answer)
+    → IsTurn tells name old start now session fresh reader marks clean → IsStep tells reader reader' now between stepped after request marks marks' m
+    → IsAnswer request session session' m reply → (IsTrue tells.output → (n : ℕ) × (after.output ≡ stepped.output ++ take n reply.bytes)) → HasRisen stepped.out_faults after.out_faults
     → RunsEdit tells name old after ending.OutputFault marks'
-reply_cut tells name old start now between stepped after opened session fresh reader reader' marks marks' clean request m reply turn step replied wrote rose =
+reply_cut tells name old start now between stepped after session session' fresh reader reader' marks marks' clean request m reply turn step answer wrote rose =
     record {
       answered = λ told.
           let cut = wrote told.output in
-          let taken = step.taken told.script in
-          subst (λ (s : Opened). IsCutShort s old after marks') (turn.started.opened told.folder)
-          (cut_reply opened old start now between after session.state fresh reader reader' marks marks' clean reply request m cut.0 (turn.begun told.output) (turn.ran told) taken (step.read.seen told.script)
-          (counts_on fresh reader reader' start now between (turn.counts told.script) (step.counts told.script)) step.read.limit step.kept (replied taken)
-          (cut.1 ∙ ap (λ (l : List ℕ). l ++ take cut.0 reply.bytes) (step_output tells reader reader' now between stepped after request marks marks' m step)));
+          cut_reply (opened_file old name) old start now between after session session' fresh reader reader' marks marks' clean reply request m cut.0 (turn.begun told) (turn.ran told) (step.taken told.script) (step.read.seen told.script)
+          (counts_on fresh reader reader' start now between (turn.counts told.script) (step.counts told.script)) step.read.limit step.kept answer
+          (cut.1 ∙ ap (λ (l : List ℕ). l ++ take cut.0 reply.bytes) (step_output tells reader reader' now between stepped after request marks marks' m step));
       file = turn.started.file;
       taken = λ told.
           let counts = counts_on fresh reader reader' start now between (turn.counts told) (step.counts told) in
@@ -420,23 +416,21 @@ abbrev pub ending_by : Bool → Ending
 ending_by clean = if clean then ending.Done else ending.WithErrors
 
 -- the script was read to its end
-pub script_ended : (tells : Tells) (name : List ℕ) (old start now after : Scene) (opened session : Opened) (fresh reader reader' : Ahead) (marks : List Mark) (clean : Bool)
-    → IsTurn tells name old start now opened session fresh reader marks clean → IsRead tells reader reader' now after → after.script_faults ≡ now.script_faults
+pub script_ended : (tells : Tells) (name : List ℕ) (old start now after : Scene) (session : Kept) (fresh reader reader' : Ahead) (marks : List Mark) (clean : Bool)
+    → IsTurn tells name old start now session fresh reader marks clean → IsRead tells reader reader' now after → after.script_faults ≡ now.script_faults
     → (IsTrue tells.script → CountsTaken reader reader' now after) → (IsTrue tells.script → TakesNone reader reader' now after) → RunsEdit tells name old after (ending_by clean) marks
-script_ended tells name old start now after opened session fresh reader reader' marks true turn read quiet counts none =
+script_ended tells name old start now after session fresh reader reader' marks true turn read quiet counts none =
     record {
-      answered = λ told. subst (λ (s : Opened). AnswersAll false s old after marks) (turn.started.opened told.folder)
-          (answers_all opened old start now after session.state fresh reader reader' marks true (turn.begun told.output) (turn.ran told) (none told.script) (ap (λ (s : Scene). s.output) read.frame));
+      answered = λ told. answers_all (opened_file old name) old start now after session fresh reader reader' marks true (turn.begun told) (turn.ran told) (none told.script) (ap (λ (s : Scene). s.output) read.frame);
       file = turn.started.file;
       taken = λ told. few_taken fresh reader' old start after turn.new turn.started.script (counts_on fresh reader reader' start now after (turn.counts told) (counts told)) read.limit;
       counts = script_quiet now after read.frame quiet ∙ turn.quiet;
       times = λ clock. ap (λ (s : Scene). s.answers) read.frame ∙ turn.times clock;
       frame = runs_then old now after turn.frame (changes_script now after read.frame read.later);
     }
-script_ended tells name old start now after opened session fresh reader reader' marks false turn read quiet counts none =
+script_ended tells name old start now after session fresh reader reader' marks false turn read quiet counts none =
     record {
-      answered = λ told. subst (λ (s : Opened). AnswersAll true s old after marks) (turn.started.opened told.folder)
-          (answers_all opened old start now after session.state fresh reader reader' marks false (turn.begun told.output) (turn.ran told) (none told.script) (ap (λ (s : Scene). s.output) read.frame));
+      answered = λ told. answers_all (opened_file old name) old start now after session fresh reader reader' marks false (turn.begun told) (turn.ran told) (none told.script) (ap (λ (s : Scene). s.output) read.frame);
       file = turn.started.file;
       taken = λ told. few_taken fresh reader' old start after turn.new turn.started.script (counts_on fresh reader reader' start now after (turn.counts told) (counts told)) read.limit;
       counts = script_quiet now after read.frame quiet ∙ turn.quiet;
@@ -450,3 +444,21 @@ pub runs_same : (tells : Tells) (one other : List ℕ) (old new : Scene) (end en
 runs_same tells one other old new end end' marks marks' same ended kept runs =
     subst (λ (n : List ℕ). RunsEdit tells n old new end' marks') same
     (subst (λ (e : Ending). RunsEdit tells one old new e marks') (sym ended) (subst (λ (l : List Mark). RunsEdit tells one old new end l) (sym kept) runs))
+
+-- a run within all limits whose calls succeed comes to its end, or has no memory
+pub through : (tells : Tells) (name : List ℕ) (old new : Scene) (end : Ending) (marks : List Mark) → RunsEdit tells name old new end marks → IsUnhindered tells name old new → IsThrough end
+through tells name old new ending.Done marks runs free = tt
+through tells name old new ending.WithErrors marks runs free = tt
+through tells name old new ending.Usage marks runs free = runs.answered
+through tells name old new ending.ScriptFault marks runs free = free.no_script_fault runs.counts.0
+through tells name old new ending.OutputFault marks runs free = free.no_out_fault runs.counts.0
+through tells name old new ending.FolderFault marks runs free = free.no_folder_fault runs.counts.0
+through tells name old new ending.NoMemory marks runs free = tt
+through tells name old new (ending.TextLimit size) marks runs free = passes_no_limit (content_of old name) size free.file (runs.file free.told.folder)
+through tells name old new ending.ScriptTooLong marks runs free = omega (arith, free.script, (runs.answered free.told).longer)
+
+through_mark : (mark : Mark) → IsThroughMark mark
+through_mark mark = elim (mark.outcome) as (λ o. (o ≡ outcome.Done) ⊎ (o ≡ outcome.NoMemory)) [ outcome.Done ↦ inl refl | outcome.NoMemory ↦ inr refl ]
+
+pub through_marks : (marks : List Mark) → All IsThroughMark marks
+through_marks marks = λ k d within. through_mark (get_or marks k d)

@@ -1,6 +1,4 @@
-mod Lines
-mod Pieces
-mod Stopping
+mod Limits
 mod Answering
 mod Edits
 mod Words

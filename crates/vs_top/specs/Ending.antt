@@ -2,12 +2,12 @@
 use Rattle.std.specs.Prelude.{ℕ, List, codes, Some, None, Ok, Err}
 use Rattle.std.specs.declared.option.Option.{Option}
 use Rattle.std.specs.declared.result.Result.{Result}
-use Rattle.vs_session.specs.declared.session.OpenErr.{OpenErr}
-use Rattle.vs_session.specs.declared.session.OpenErr.TheVariants as opening
+use Rattle.vs_session.specs.declared.open.OpenErr.{OpenErr}
+use Rattle.vs_session.specs.declared.open.OpenErr.TheVariants as opening
 use Rattle.vs_top.specs.declared.ending.Ending.{Ending}
 use Rattle.vs_top.specs.declared.ending.Ending.TheVariants as ending
-use Rattle.vs_top.specs.declared.script.ScriptErr.{ScriptErr}
-use Rattle.vs_top.specs.declared.script.ScriptErr.TheVariants as script
+use Rattle.vs_script.specs.declared.reader.ScriptErr.{ScriptErr}
+use Rattle.vs_script.specs.declared.reader.ScriptErr.TheVariants as script
 
 abbrev pub status_of : Ending → ℕ
 status_of ending.Done = 0
@@ -17,7 +17,7 @@ status_of ending.ScriptFault = 5
 status_of ending.OutputFault = 6
 status_of ending.FolderFault = 7
 status_of ending.NoMemory = 8
-status_of ending.TextLimit = 12
+status_of (ending.TextLimit size) = 12
 status_of ending.ScriptTooLong = 13
 
 abbrev pub message_of : Ending → Option (List ℕ)
@@ -28,7 +28,7 @@ message_of ending.ScriptFault = Some (codes "script fault")
 message_of ending.OutputFault = Some (codes "output fault")
 message_of ending.FolderFault = Some (codes "folder fault")
 message_of ending.NoMemory = Some (codes "out of memory")
-message_of ending.TextLimit = Some (codes "text too large")
+message_of (ending.TextLimit size) = Some (codes "text too large")
 message_of ending.ScriptTooLong = Some (codes "script too long")
 
 abbrev pub script_ending : ScriptErr → Ending
@@ -36,7 +36,7 @@ script_ending script.Failed = ending.ScriptFault
 script_ending script.TooLong = ending.ScriptTooLong
 
 abbrev pub open_ending : OpenErr → Ending
-open_ending (opening.TextLimit size) = ending.TextLimit
+open_ending (opening.TextLimit size) = ending.TextLimit size
 open_ending opening.Failed = ending.FolderFault
 open_ending opening.NoMemory = ending.NoMemory
 

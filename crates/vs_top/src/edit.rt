@@ -9,9 +9,9 @@ ghost use Rattle.vs_top.specs.Ending.{ending_in};
 ghost use Rattle.vs_top.specs.Run.{RunsEdit};
 
 use crate::ending::Ending;
-use crate::script::{LineBuffer, ScriptReader};
 use std::alloc::Global;
 use vs_host::{Host, Out};
+use vs_script::{LineBuffer, ScriptReader};
 use vs_session::{Mark, Outcome, Reply, Session, Step};
 
 fn put<O: Out>(host: &mut O, reply: Reply) -> Result<(), Ending>

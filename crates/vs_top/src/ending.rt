@@ -2,8 +2,8 @@
 ghost use Rattle.std.specs.Prelude.{◌≡◌, MatchOption, None, Some};
 ghost use Rattle.vs_top.specs.Ending.{status_of, message_of};
 
-use crate::script::ScriptErr;
 use std::alloc::AllocError;
+use vs_script::ScriptErr;
 use vs_session::OpenErr;
 
 /// How a run ended: docs/COMMANDS.md, "Statuses".
@@ -22,8 +22,8 @@ pub enum Ending {
     /// A call on the folder failed.
     FolderFault,
     NoMemory,
-    /// The file has more bytes than a file may have.
-    TextLimit,
+    /// The text of the file passes a limit: the number that passed it, as [`OpenErr::TextLimit`] says.
+    TextLimit(u64),
     /// The script has more bytes than a script may have.
     ScriptTooLong,
 }
@@ -41,7 +41,7 @@ impl Ending {
             Ending::OutputFault => 6,
             Ending::FolderFault => 7,
             Ending::NoMemory => 8,
-            Ending::TextLimit => 12,
+            Ending::TextLimit(_) => 12,
             Ending::ScriptTooLong => 13,
         }
     }
@@ -59,7 +59,7 @@ impl Ending {
             Ending::OutputFault => Some("output fault"),
             Ending::FolderFault => Some("folder fault"),
             Ending::NoMemory => Some("out of memory"),
-            Ending::TextLimit => Some("text too large"),
+            Ending::TextLimit(_) => Some("text too large"),
             Ending::ScriptTooLong => Some("script too long"),
         }
     }
@@ -96,7 +96,7 @@ impl From<OpenErr> for Ending {
     fn from(error: OpenErr) -> Self {
         match error {
             OpenErr::Failed => Ending::FolderFault,
-            OpenErr::TextLimit(_) => Ending::TextLimit,
+            OpenErr::TextLimit(size) => Ending::TextLimit(size),
             OpenErr::NoMemory => Ending::NoMemory,
         }
     }

@@ -1,7 +1,7 @@
 // The top call, and the forms of its arguments.
-ghost use Rattle.std.specs.Prelude.{◌≡◌, ◌<◌, ◌^◌, [], List, ℕ, length, map, IfSome, IsNone, IsTrue, string_bytes};
+ghost use Rattle.std.specs.Prelude.{◌≡◌, ◌<◌, ◌^◌, [], List, ℕ, length, map, All, IfSome, IsNone, IsTrue, string_bytes};
 ghost use Rattle.vs_top.specs.Ending.{status_of, ending_in};
-ghost use Rattle.vs_top.specs.Run.{IsEdit, RunsEdit};
+ghost use Rattle.vs_top.specs.Run.{IsEdit, IsThrough, IsThroughMark, IsUnhindered, RunsEdit};
 
 use crate::edit::edit;
 use crate::ending::Ending;
@@ -67,6 +67,8 @@ pub fn run<H: Host>(alloc: Global, words: &[String], host: &mut H) -> Report
     ensures idle { result.ending ≡ Ending.Usage → (H.scene host.new ≡ H.scene host.old) × (result.marks.items ≡ []) }
     ensures edit { (name : List ℕ) → IsEdit (map string_bytes words.now) name →
         RunsEdit H.tells name (H.scene host.old) (H.scene host.new) result.ending result.marks.items }
+    ensures through { (name : List ℕ) → IsEdit (map string_bytes words.now) name → IsUnhindered H.tells name (H.scene host.old) (H.scene host.new) →
+        IsThrough result.ending × All IsThroughMark result.marks.items }
     ensures other { ((name : List ℕ) → ¬ (IsEdit (map string_bytes words.now) name)) → result.ending ≡ Ending.Usage }
 {
     let mut marks = Vec::new(alloc);

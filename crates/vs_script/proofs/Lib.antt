@@ -1,0 +1,6 @@
+pub mod Lines
+pub mod Going
+pub mod Taking
+pub mod LineKinds
+pub mod Blocks
+pub mod Commands

@@ -1,0 +1,20 @@
+use Rattle.std.proofs.Common.{◌≡◌, ◌≤◌, IsTrue}
+use Rattle.vs_host.specs.World.{ChangesScript}
+use Rattle.vs_script.specs.Ahead.{CountsTaken, HasSeen, bytes_left}
+use Rattle.vs_script.specs.Block.{IsCounted}
+use Rattle.vs_script.proofs.Commands.{InBlock}
+use Rattle.vs_script.proofs.reader.ScriptReader.block.Given as goal
+
+abbrev pub invariant-lines : goal.invariant-lines
+invariant-lines g l = record {
+  so_far : IsTrue (g.S.World.tells).script → InBlock l.lines l.initial.self l.self (g.S.World.scene l.initial.host) (g.S.World.scene l.host);
+  counted : IsCounted l.lines;
+  ended : IsTrue (g.S.World.tells).script → HasSeen l.self (g.S.World.scene l.host);
+  counts : IsTrue (g.S.World.tells).script → CountsTaken l.initial.self l.self (g.S.World.scene l.initial.host) (g.S.World.scene l.host);
+  left : bytes_left l.self ≤ bytes_left l.initial.self;
+  faults : (g.S.World.scene l.host).script_faults ≡ (g.S.World.scene l.initial.host).script_faults;
+  frame : ChangesScript (g.S.World.scene l.initial.host) (g.S.World.scene l.host);
+}
+
+abbrev pub decreases-lines : goal.decreases-lines
+decreases-lines g l = bytes_left l.self

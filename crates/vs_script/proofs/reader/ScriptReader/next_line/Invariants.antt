@@ -1,0 +1,20 @@
+use Rattle.std.proofs.Common.{◌≡◌, ◌≤◌, IsTrue, ◌+◌, ◌-◌, length}
+use Rattle.vs_host.specs.World.{ChangesScript}
+use Rattle.vs_text.specs.Text.{IsLine}
+use Rattle.vs_script.specs.Ahead.{CountsTaken, HasSeen, bytes_left, script_limit}
+use Rattle.vs_script.proofs.Taking.{InLine}
+use Rattle.vs_script.proofs.reader.ScriptReader.next_line.Given as goal
+
+abbrev pub invariant-pieces : goal.invariant-pieces
+invariant-pieces g l = record {
+  so_far : IsTrue (g.S.World.tells).script → InLine l.line l.initial.self l.self (g.S.World.scene l.initial.host) (g.S.World.scene l.host);
+  line : IsLine l.line;
+  ended : IsTrue (g.S.World.tells).script → HasSeen l.self (g.S.World.scene l.host);
+  counts : IsTrue (g.S.World.tells).script → CountsTaken l.initial.self l.self (g.S.World.scene l.initial.host) (g.S.World.scene l.host);
+  left : length l.line + bytes_left l.self ≤ bytes_left l.initial.self;
+  faults : (g.S.World.scene l.host).script_faults ≡ (g.S.World.scene l.initial.host).script_faults;
+  frame : ChangesScript (g.S.World.scene l.initial.host) (g.S.World.scene l.host);
+}
+
+abbrev pub decreases-pieces : goal.decreases-pieces
+decreases-pieces g l = script_limit - l.self.taken

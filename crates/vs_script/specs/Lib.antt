@@ -1,0 +1,4 @@
+pub mod Ahead
+pub mod Block
+pub mod Requests
+pub mod Script

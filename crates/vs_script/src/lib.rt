@@ -1,0 +1,11 @@
+//! Reads a script of Ex commands, command by command, in pieces as a host gives them.
+#![tactic(auto)]
+
+mod block;
+mod kind;
+mod line;
+mod reader;
+mod request;
+
+pub use line::LineBuffer;
+pub use reader::{SCRIPT_LIMIT, ScriptErr, ScriptReader};

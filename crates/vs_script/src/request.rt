@@ -1,0 +1,118 @@
+// Reads a script command by command: docs/COMMANDS.md, "Scripts".
+ghost use Rattle.std.specs.Prelude.{◌≡◌, ◌<◌, ◌≤◌, [], None, false, true, IfOk, OnOk, IfErr, IsErrOf, IfSome, IsTrue};
+ghost use Rattle.vs_faults.specs.Faults.{HasCause, IsQuiet};
+ghost use Rattle.vs_host.specs.World.{ChangesScript};
+ghost use Rattle.vs_exparse.specs.Command.{Command};
+ghost use Rattle.vs_excmd.specs.Request.{is_absent};
+ghost use Rattle.vs_script.specs.Script.{HasHeadForm, IsKind, is_found, kind_of, whole_block};
+ghost use Rattle.vs_script.specs.Ahead.{script_limit, whole_lines, bytes_left, CountsTaken, HasSeen, Stops};
+ghost use Rattle.vs_script.specs.Requests.{IsFormed, FindsCommand, TakesBlock, TakesRequest, TakesNone, whole_commands};
+
+use crate::block::BlockLines;
+use crate::kind::{ScriptLine, alone, ends_block, line_kind};
+use crate::line::LineBuffer;
+use crate::reader::{ScriptErr, ScriptReader};
+use std::alloc::Global;
+use vs_excmd::{Block, Request};
+use vs_host::Script;
+
+impl ScriptReader {
+    /// The lines up to a dot, or to the script's end.
+    fn block<S: Script>(
+        &mut self,
+        alloc: Global,
+        host: &mut S,
+        line: &mut LineBuffer,
+    ) -> Result<Block, ScriptErr>
+        requires ended { IsTrue (S.tells).script → HasSeen self.old (S.scene host.old) }
+        ensures block { IfOk result (λ block. IsTrue (S.tells).script → TakesBlock block self.old self.new (S.scene host.old) (S.scene host.new)) }
+        ensures there { IfOk result (λ block. is_absent block ≡ false) }
+        ensures ended { IsTrue (S.tells).script → HasSeen self.new (S.scene host.new) }
+        ensures stops { IfErr result (λ error. IsTrue (S.tells).script → (command : Command) →
+            Stops error (λ bytes. whole_block command [] (whole_lines bytes)) [] self.old self.new (S.scene host.old) (S.scene host.new)) }
+        ensures counts { OnOk result (IsTrue (S.tells).script → CountsTaken self.old self.new (S.scene host.old) (S.scene host.new)) }
+        ensures limit { self.new.taken ≤ script_limit }
+        ensures left { OnOk result (bytes_left self.new ≤ bytes_left self.old) }
+        ensures cause { HasCause (S.scene host.old).script_faults (S.scene host.new).script_faults (IsErrOf result ScriptErr.Failed) }
+        ensures quiet { IsQuiet (S.scene host.old).script_faults (S.scene host.new).script_faults (IsErrOf result ScriptErr.Failed) }
+        ensures frame { ChangesScript (S.scene host.old) (S.scene host.new) }
+    {
+        let mut lines = BlockLines::new(alloc);
+        'lines: loop {
+            if !self.next_line(host, line)? {
+                return Ok(lines.into_block());
+            }
+            if ends_block(line.bytes()) {
+                return Ok(lines.into_block());
+            }
+            lines = lines.with(alloc, line.bytes());
+        }
+    }
+
+    /// Puts the next line that is a command into `line`. `NoCommand` at the script's end.
+    fn next_command<S: Script>(
+        &mut self,
+        host: &mut S,
+        line: &mut LineBuffer,
+    ) -> Result<ScriptLine, ScriptErr>
+        requires ended { IsTrue (S.tells).script → HasSeen self.old (S.scene host.old) }
+        ensures line { IfOk result (λ found. IsTrue (S.tells).script → FindsCommand (is_found found) line.new self.old self.new (S.scene host.old) (S.scene host.new)) }
+        ensures kind { IfOk result (λ found. IsTrue (is_found found) → IsKind found (kind_of line.new)) }
+        ensures form { IfOk result HasHeadForm }
+        ensures ended { IsTrue (S.tells).script → HasSeen self.new (S.scene host.new) }
+        ensures end { result ≡ Ok ScriptLine.NoCommand → IsTrue (S.tells).script → ((S.scene host.new).script ≡ []) × (self.new.ended ≡ true) }
+        ensures stops { IfErr result (λ error. IsTrue (S.tells).script → Stops error whole_commands [] self.old self.new (S.scene host.old) (S.scene host.new)) }
+        ensures counts { OnOk result (IsTrue (S.tells).script → CountsTaken self.old self.new (S.scene host.old) (S.scene host.new)) }
+        ensures limit { self.new.taken ≤ script_limit }
+        ensures fewer { IfOk result (λ found. IsTrue (is_found found) → bytes_left self.new < bytes_left self.old) }
+        ensures cause { HasCause (S.scene host.old).script_faults (S.scene host.new).script_faults (IsErrOf result ScriptErr.Failed) }
+        ensures quiet { IsQuiet (S.scene host.old).script_faults (S.scene host.new).script_faults (IsErrOf result ScriptErr.Failed) }
+        ensures frame { ChangesScript (S.scene host.old) (S.scene host.new) }
+    {
+        'lines: while self.next_line(host, line)? {
+            match line_kind(line.bytes()) {
+                ScriptLine::NoCommand => {}
+                ScriptLine::Alone => return Ok(ScriptLine::Alone),
+                ScriptLine::Head(command) => return Ok(ScriptLine::Head(command)),
+            }
+        }
+        Ok(ScriptLine::NoCommand)
+    }
+
+    /// The next command with its block, and `None` at the script's end. Its line is kept in `line`.
+    pub fn next_request<'a, S: Script>(
+        &mut self,
+        alloc: Global,
+        host: &mut S,
+        line: &'a mut LineBuffer,
+    ) -> Result<Option<Request<'a>>, ScriptErr>
+        requires ended { IsTrue (S.tells).script → HasSeen self.old (S.scene host.old) }
+        ensures request { IfOk result (λ found. IfSome found (λ request. IsTrue (S.tells).script →
+            TakesRequest request self.old self.new (S.scene host.old) (S.scene host.new))) }
+        ensures form { IfOk result (λ found. IfSome found (λ request. IsFormed request.parsed request.block)) }
+        ensures none { result ≡ Ok None → IsTrue (S.tells).script → TakesNone self.old self.new (S.scene host.old) (S.scene host.new) }
+        ensures ended { IsTrue (S.tells).script → HasSeen self.new (S.scene host.new) }
+        ensures stops { IfErr result (λ error. IsTrue (S.tells).script → Stops error whole_commands [] self.old self.new (S.scene host.old) (S.scene host.new)) }
+        ensures counts { OnOk result (IsTrue (S.tells).script → CountsTaken self.old self.new (S.scene host.old) (S.scene host.new)) }
+        ensures limit { self.new.taken ≤ script_limit }
+        ensures fewer { IfOk result (λ found. IfSome found (λ request. bytes_left self.new < bytes_left self.old)) }
+        ensures cause { HasCause (S.scene host.old).script_faults (S.scene host.new).script_faults (IsErrOf result ScriptErr.Failed) }
+        ensures quiet { IsQuiet (S.scene host.old).script_faults (S.scene host.new).script_faults (IsErrOf result ScriptErr.Failed) }
+        ensures frame { ChangesScript (S.scene host.old) (S.scene host.new) }
+    {
+        match self.next_command(host, line)? {
+            ScriptLine::NoCommand => Ok(None),
+            ScriptLine::Alone => Ok(Some(Request {
+                parsed: alone(line.bytes()),
+                block: Block::Absent,
+            })),
+            ScriptLine::Head(command) => {
+                let block = self.block(alloc, host, line)?;
+                Ok(Some(Request {
+                    parsed: Ok(command),
+                    block,
+                }))
+            }
+        }
+    }
+}
