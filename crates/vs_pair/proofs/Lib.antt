@@ -1,0 +1,5 @@
+pub mod Acts
+pub mod Calls
+pub mod Marks
+pub mod PageWrites
+pub mod Gates
