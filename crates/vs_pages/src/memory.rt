@@ -1,5 +1,5 @@
 // Pages in memory.
-ghost use Rattle.std.specs.Prelude.{◌≡◌, ◌+◌, ◌*◌, ◌^◌, ◌<◌, ◌≤◌, ℕ, All, Some, None, IfOk, OnOk, OnErr, IsSome, IfSome, IsTrue, ◌↔◌, length, vec_len};
+ghost use Rattle.std.specs.Prelude.{◌≡◌, ◌+◌, ◌-◌, ◌*◌, ◌^◌, ◌<◌, ◌≤◌, ℕ, All, Some, None, IfOk, OnOk, OnErr, IsSome, IfSome, IsTrue, ◌↔◌, length, option_map, vec_len};
 ghost use Rattle.std.specs.Ordering.{nat_cmp};
 ghost use Rattle.std.specs.BTreeMap.{get};
 ghost use Rattle.vs_pages.specs.Maps.{put, pages_at, put_pages, without, zeros, first_pages, IsVacant};
@@ -246,6 +246,32 @@ impl MemPages {
             into.extend_from_slice(page.as_slice())?;
         }
         Ok(())
+    }
+
+    /// The bytes of a page as it was last committed, or none where it was not there. Takes no memory.
+    pub fn committed_page(&self, at: u64) -> Option<&[u8]>
+        ensures { option_map (λ bytes. bytes.now) result ≡ committed_of self.now at }
+    {
+        if at >= self.committed {
+            return None;
+        }
+        match self.kept.get(&at) {
+            Some(was) => Some(was.as_ref()?.as_slice()),
+            None => Some(self.table.page(at)?.as_slice()),
+        }
+    }
+
+    /// The number after that of the last committed page, or 0 where there is none. Takes no memory.
+    pub fn committed_end(&self) -> u64
+        ensures bound { result ≤ 2 ^ 40 }
+        ensures past { (k : ℕ) → result ≤ k → committed_of self.now k ≡ None }
+        ensures last { 0 < result → IsSome (committed_of self.now (result - 1)) }
+    {
+        let mut end = self.committed;
+        while end > 0 && self.committed_page(end - 1).is_none() {
+            end -= 1;
+        }
+        end
     }
 
     /// Whether `pages` neighbouring pages from `at` on are there.

@@ -1,0 +1,71 @@
+-- Calls on one file as work on the folder.
+use Rattle.std.proofs.Common.{◌≡◌, ◌≤◌, ℕ, List, [], ◌∷◌, length, Result, Ok, Err, OnOk, OnErr, IsErr, IsTrue, IsSome, inl, inr, refl, sym, subst}
+use Rattle.std.specs.Prelude.{IsSomeAnd}
+use Rattle.std.specs.declared.option.Option.{Option}
+use Rattle.vs_faults.specs.Faults.{HasCause}
+use Rattle.vs_host.specs.File.{File, WritesSome, Syncs}
+use Rattle.vs_host.specs.Disk.{Disk, Name, ChangesFile, content_in, read_under}
+use Rattle.vs_host.specs.Trace.{Kind, Wrote, Synced}
+use Rattle.vs_host.specs.World.{Tells, Scene, IsTold, ChangesFolder}
+use Rattle.vs_disk.specs.Images.{FileHas, MaySync}
+use Rattle.vs_disk.proofs.Steps.{same_file, file_then, file_as}
+use Rattle.vs_pair.specs.Acts.{Acts, NoneFails}
+use Rattle.vs_pair.proofs.Acts.{acts_call, acts_then}
+
+pub both_files : (name : Name) (S T : File → File → Type 0) (old new : Disk) → ChangesFile name S old new → ChangesFile name T old new → ChangesFile name (λ a b. S a b × T a b) old new
+both_files name S T old new first second = record {
+  synced = first.synced;
+  pending = first.pending;
+  others = first.others;
+  this = λ number is. (first.this number is, second.this number is);
+}
+
+-- work on one file, and then more
+pub acts_file : (tells : Tells) (name : Name) (S T U : File → File → Type 0) → ((a b : File) → S a b → U a b) → ((a b c : File) → S a b → T b c → U a c) → (old mid new : Scene)
+    → NoneFails tells old mid → Acts tells (ChangesFile name S) old mid → Acts tells (ChangesFile name T) mid new → Acts tells (ChangesFile name U) old new
+acts_file tells name S T U weak joins old mid new none first second =
+    acts_then tells (ChangesFile name S) (ChangesFile name T) (ChangesFile name U) old mid new (λ told d s. file_as name S U weak old.folder d s)
+    (λ told here d t. file_then name S T U joins old.folder mid.folder d here t) none first second
+
+-- a write, whatever it answers
+pub write_acts : (tells : Tells) (name : Name) (S : File → File → Type 0) (at n : ℕ) → ((a b : File) → WritesSome at n a b → S a b) → {T E : Type 0} (result : Result T E) (old new : Scene)
+    → (IsTrue tells.folder → ChangesFile name (WritesSome at n) old.folder new.folder) → HasCause old.folder_faults new.folder_faults (IsErr result)
+    → (IsTrue tells.folder → IsTold Wrote (name ∷ []) result old new) → ChangesFolder old new → Acts tells (ChangesFile name S) old new
+write_acts tells name S at n leads result old new some cause told frame =
+    acts_call tells (ChangesFile name S) Wrote (name ∷ []) result old new frame cause told (λ tells_it. file_as name (WritesSome at n) S leads old.folder new.folder (some tells_it))
+
+-- a sync, whatever it answers
+pub may_sync : {T E : Type 0} (result : Result T E) (name : Name) (old new : Disk) → OnOk result (ChangesFile name Syncs old new) → OnErr result (new ≡ old) → ChangesFile name MaySync old new
+may_sync (Ok done) name old new ok err = file_as name Syncs MaySync (λ a b syncs. inr syncs) old new ok
+may_sync (Err failed) name old new ok err = subst (λ (d : Disk). ChangesFile name MaySync old d) (sym err) (same_file name MaySync (λ a. inl refl) old)
+
+on_told : {T E : Type 0} (result : Result T E) (Told P : Type 0) → OnOk result (Told → P) → Told → OnOk result P
+on_told (Ok done) Told P ok told = ok told
+on_told (Err failed) Told P ok told = tt
+
+pub sync_acts : (tells : Tells) (name : Name) (S : File → File → Type 0) → ((a b : File) → MaySync a b → S a b) → {T E : Type 0} (result : Result T E) (old new : Scene)
+    → OnOk result (IsTrue tells.folder → ChangesFile name Syncs old.folder new.folder) → OnErr result (new.folder ≡ old.folder) → HasCause old.folder_faults new.folder_faults (IsErr result)
+    → (IsTrue tells.folder → IsTold Synced (name ∷ []) result old new) → ChangesFolder old new → Acts tells (ChangesFile name S) old new
+sync_acts tells name S leads result old new ok err cause told frame =
+    acts_call tells (ChangesFile name S) Synced (name ∷ []) result old new frame cause told
+    (λ tells_it. file_as name MaySync S leads old.folder new.folder (may_sync result name old.folder new.folder (on_told result (IsTrue tells.folder) (ChangesFile name Syncs old.folder new.folder) ok tells_it) err))
+
+-- ---- a file that is there, as the calls ask for it
+
+pub is_there : (disk : Disk) (name : Name) (P : File → Type 0) → FileHas disk name P → IsSome (content_in disk name)
+is_there disk name P has = subst (λ (at : Option ℕ). IsSome (read_under disk at)) (sym has.leads) refl
+
+pub there_and : (disk : Disk) (name : Name) (P : List ℕ → Type 0) → FileHas disk name (λ file. P file.bytes) → IsSomeAnd (content_in disk name) P
+there_and disk name P has = subst (λ (at : Option ℕ). IsSomeAnd (read_under disk at) P) (sym has.leads) has.has
+
+-- ---- what a `?` answers
+
+-- where a call failed, its error is handed on
+pub on_err_from : {T E : Type 0} (result : Result T E) (P : Type 0) → P → OnErr result P
+on_err_from (Ok done) P holds = tt
+on_err_from (Err failed) P holds = holds
+
+-- and nothing is owed for success
+pub on_ok_not : {T E : Type 0} (result : Result T E) (P : Type 0) → IsErr result → OnOk result P
+on_ok_not (Ok done) P failed = absurd (Rattle.std.proofs.lemmas.Bool.false≢true failed)
+on_ok_not (Err failed) P is = tt

@@ -1,0 +1,102 @@
+use Rattle.std.proofs.Common.{◌≡◌, ◌+◌, ◌∙◌, refl, sym, subst, ap, length}
+use Rattle.std.specs.Prelude.{[], ◌∷◌}
+use Rattle.vs_host.specs.File.{Leaves}
+use Rattle.vs_host.specs.Disk.{ChangesFile}
+use Rattle.vs_pages.specs.Memory.{committed_of}
+use Rattle.vs_pair.specs.declared.gate.Gate.{Gate}
+use Rattle.vs_pair.specs.declared.gate.Gate.TheVariants.{Open}
+use Rattle.vs_pair.specs.declared.side.Side.{Side}
+use Rattle.vs_pair.specs.Swap.{Body, body_of, Fits, Holds, SyncStep, FailedSync}
+use Rattle.vs_pair.specs.Pair.{Known, known_of, sync_of, name_of, other_side, IsFit, Syncing}
+use Rattle.vs_pair.proofs.Acts.{acts_as}
+use Rattle.vs_pair.proofs.Calls.{on_err_from}
+use Rattle.vs_pair.proofs.Fitting.{body_is, moved, moved_has, syncing, there, failed, done, rises, none_rises, above_newest}
+use Rattle.vs_pair.proofs.pair.SwapPair.sync.Goals as goal
+
+pub sync_file-requires-clause-fits : goal.sync_file-requires-clause-fits
+sync_file-requires-clause-fits g c told =
+    let fits = c.requires.fits told in
+    let name = c.swap_name-name.ensures ∙ ap (λ (s : Side). name_of c.args.self.now.files.names s) c.other-older.ensures in
+    (
+      body_of c.args.self.now.files.names.file fits.3.older_sync,
+      moved_has (name_of c.args.self.now.files.names (other_side c.args.self.now.files.newer)) c.swap_name-name.result.now (sym name) _ _ refl (Fits c.args.self.now.files.gate) _
+      (there (known_of c.args.self.now) fits.0 fits.1 fits.2 _ fits.3 (sync_of c.args.self.now c.args.head.now) refl c.requires.room),
+    )
+
+pub returns-in_err-sync_file-clause-acts : goal.returns-in_err-sync_file-clause-acts
+returns-in_err-sync_file-clause-acts g c =
+    let files : Known = known_of c.args.self.now in
+    let name = c.swap_name-name.ensures ∙ ap (λ (s : Side). name_of files.names s) c.other-older.ensures in
+    let body : Body = record { first = c.page_zero-first.result; pages = committed_of c.args.self.now.pages } in
+    let same : body ≡ body_of files.names.file (sync_of c.args.self.now c.args.head.now) =
+    body_is files.names.file (sync_of c.args.self.now c.args.head.now) c.as_str.result.now c.page_zero-first.result c.as_str.ensures c.page_zero-first.ensures.page in
+    acts_as g.F.World.tells (ChangesFile c.swap_name-name.result.now (SyncStep files.gate body)) (Syncing files (sync_of c.args.self.now c.args.head.now)) _ _
+    (λ told d changes. syncing files (sync_of c.args.self.now c.args.head.now) _ d refl c.requires.room (g.F.World.is_folder c.args.host.now told)
+    (moved c.swap_name-name.result.now (name_of files.names (other_side files.newer)) name body _ same (SyncStep files.gate) _ d changes))
+    c.sync_file.ensures.acts
+
+pub returns-in_err-sync_file-clause-err : goal.returns-in_err-sync_file-clause-err
+returns-in_err-sync_file-clause-err g c =
+    let files : Known = known_of c.args.self.now in
+    let name = c.swap_name-name.ensures ∙ ap (λ (s : Side). name_of files.names s) c.other-older.ensures in
+    let body : Body = record { first = c.page_zero-first.result; pages = committed_of c.args.self.now.pages } in
+    let same : body ≡ body_of files.names.file (sync_of c.args.self.now c.args.head.now) =
+    body_is files.names.file (sync_of c.args.self.now c.args.head.now) c.as_str.result.now c.page_zero-first.result c.as_str.ensures c.page_zero-first.ensures.page in
+    on_err_from c.from_residual.result _
+    (λ told newest begun past fit.
+    failed files newest begun past _ fit (sync_of c.args.self.now c.args.head.now) refl c.requires.room c.sync_file.new.gate _
+    (moved c.swap_name-name.result.now (name_of files.names (other_side files.newer)) name body _ same (FailedSync files.gate c.sync_file.new.gate) _ _ (c.in_err-sync_file.ensures.failed told)))
+
+pub returns-in_err-sync_file-clause-stays : goal.returns-in_err-sync_file-clause-stays
+returns-in_err-sync_file-clause-stays g c =
+    let files : Known = known_of c.args.self.now in
+    let name = c.swap_name-name.ensures ∙ ap (λ (s : Side). name_of files.names s) c.other-older.ensures in
+    let body : Body = record { first = c.page_zero-first.result; pages = committed_of c.args.self.now.pages } in
+    let same : body ≡ body_of files.names.file (sync_of c.args.self.now c.args.head.now) =
+    body_is files.names.file (sync_of c.args.self.now c.args.head.now) c.as_str.result.now c.page_zero-first.result c.as_str.ensures c.page_zero-first.ensures.page in
+    on_err_from c.from_residual.result _
+    (λ told newest begun past fit text is.
+    none_rises _ newest (sync_of c.args.self.now c.args.head.now ∷ begun) past _
+    (failed files newest begun past _ fit (sync_of c.args.self.now c.args.head.now) refl c.requires.room c.sync_file.new.gate _
+    (moved c.swap_name-name.result.now (name_of files.names (other_side files.newer)) name body _ same (FailedSync files.gate c.sync_file.new.gate) _ _ (c.in_err-sync_file.ensures.failed told)))
+    (g.F.World.scene c.args.host.now).folder (above_newest files newest begun past _ fit text is))
+
+pub returns-clause-acts : goal.returns-clause-acts
+returns-clause-acts g c =
+    let files : Known = known_of c.args.self.now in
+    let name = c.swap_name-name.ensures ∙ ap (λ (s : Side). name_of files.names s) c.other-older.ensures in
+    let body : Body = record { first = c.page_zero-first.result; pages = committed_of c.args.self.now.pages } in
+    let same : body ≡ body_of files.names.file (sync_of c.args.self.now c.args.head.now) =
+    body_is files.names.file (sync_of c.args.self.now c.args.head.now) c.as_str.result.now c.page_zero-first.result c.as_str.ensures c.page_zero-first.ensures.page in
+    acts_as g.F.World.tells (ChangesFile c.swap_name-name.result.now (SyncStep files.gate body)) (Syncing files (sync_of c.args.self.now c.args.head.now)) _ _
+    (λ told d changes. syncing files (sync_of c.args.self.now c.args.head.now) _ d refl c.requires.room (g.F.World.is_folder c.args.host.now told)
+    (moved c.swap_name-name.result.now (name_of files.names (other_side files.newer)) name body _ same (SyncStep files.gate) _ d changes))
+    c.sync_file.ensures.acts
+
+pub returns-clause-ok : goal.returns-clause-ok
+returns-clause-ok g c told newest begun past fit =
+    let files : Known = known_of c.args.self.now in
+    let name = c.swap_name-name.ensures ∙ ap (λ (s : Side). name_of files.names s) c.other-older.ensures in
+    let body : Body = record { first = c.page_zero-first.result; pages = committed_of c.args.self.now.pages } in
+    let same : body ≡ body_of files.names.file (sync_of c.args.self.now c.args.head.now) =
+    body_is files.names.file (sync_of c.args.self.now c.args.head.now) c.as_str.result.now c.page_zero-first.result c.as_str.ensures c.page_zero-first.ensures.page in
+    let after : IsFit (record { names = files.names; newer = other_side files.newer; gate = Open; generation = files.generation + 1 }) (g.F.World.scene c.sync_file.new.host).folder (sync_of c.args.self.now c.args.head.now) [] (newest ∷ past) =
+    done files newest begun past _ fit (sync_of c.args.self.now c.args.head.now) refl c.requires.room (SyncStep files.gate (body_of files.names.file (sync_of c.args.self.now c.args.head.now))) _
+    (moved c.swap_name-name.result.now (name_of files.names (other_side files.newer)) name body _ same (SyncStep files.gate) _ _ (c.sync_file.ensures.acts.runs told).now)
+    (moved_has c.swap_name-name.result.now (name_of files.names (other_side files.newer)) name body _ same (λ b file. Leaves file (Holds b)) _ (c.in_ok-sync_file.ensures.stands told)) in
+    subst (λ (s : Side). IsFit (record { names = files.names; newer = s; gate = c.sync_file.new.gate; generation = files.generation + 1 }) (g.F.World.scene c.sync_file.new.host).folder (sync_of c.args.self.now c.args.head.now) [] (newest ∷ past))
+    (sym c.other-older.ensures)
+    (subst (λ (h : Gate). IsFit (record { names = files.names; newer = other_side files.newer; gate = h; generation = files.generation + 1 }) (g.F.World.scene c.sync_file.new.host).folder (sync_of c.args.self.now c.args.head.now) [] (newest ∷ past))
+    (sym c.in_ok-sync_file.ensures.opened) after)
+
+pub returns-clause-rises : goal.returns-clause-rises
+returns-clause-rises g c told text is =
+    let files : Known = known_of c.args.self.now in
+    let fits = c.requires.fits told in
+    let name = c.swap_name-name.ensures ∙ ap (λ (s : Side). name_of files.names s) c.other-older.ensures in
+    let body : Body = record { first = c.page_zero-first.result; pages = committed_of c.args.self.now.pages } in
+    let same : body ≡ body_of files.names.file (sync_of c.args.self.now c.args.head.now) =
+    body_is files.names.file (sync_of c.args.self.now c.args.head.now) c.as_str.result.now c.page_zero-first.result c.as_str.ensures c.page_zero-first.ensures.page in
+    rises files fits.0 fits.1 fits.2 _ fits.3 (sync_of c.args.self.now c.args.head.now) refl c.requires.room (SyncStep files.gate (body_of files.names.file (sync_of c.args.self.now c.args.head.now))) _
+    (moved c.swap_name-name.result.now (name_of files.names (other_side files.newer)) name body _ same (SyncStep files.gate) _ _ (c.sync_file.ensures.acts.runs told).now)
+    (moved_has c.swap_name-name.result.now (name_of files.names (other_side files.newer)) name body _ same (λ b file. Leaves file (Holds b)) _ (c.in_ok-sync_file.ensures.stands told)) text is

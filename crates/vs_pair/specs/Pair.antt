@@ -1,0 +1,162 @@
+-- The two swap files of a session: which sync each of them has, and what is recovered from them.
+use Rattle.std.specs.Prelude.{◌≡◌, ◌≢◌, ◌⊎◌, ℕ, ◌+◌, ◌^◌, ◌<◌, ◌≤◌, ◌==◌, Bool, not, ◌||◌, List, [], ◌∷◌, length, Option, Some, None}
+use Rattle.std.specs.Str.{bytes_eq}
+use Rattle.vs_host.specs.File.{File, Leaves}
+use Rattle.vs_host.specs.Disk.{Disk, Name, IsImage, names_at}
+use Rattle.vs_host.specs.declared.names.Names.{Names}
+use Rattle.vs_host.specs.Names.{AreNames}
+use Rattle.vs_disk.specs.Images.{FileAlways}
+use Rattle.vs_disk.specs.Names.{SameAt}
+use Rattle.vs_pages.specs.Memory.{committed_of}
+use Rattle.vs_text.specs.Text.{IsText, stored}
+use Rattle.vs_tree_shape.specs.Trees.{HasLines}
+use Rattle.vs_tree_blocks.specs.Blocks.{tree_format}
+use Rattle.vs_swap.specs.Recovery.{StandsIn}
+use Rattle.vs_pair.specs.declared.head.Head.{Head}
+use Rattle.vs_pair.specs.declared.gate.Gate.{Gate}
+use Rattle.vs_pair.specs.declared.gate.Gate.TheVariants.{Open, Closed, Unknown}
+use Rattle.vs_pair.specs.declared.side.Side.{Side}
+use Rattle.vs_pair.specs.declared.side.Side.TheVariants.{Swp, Swo}
+use Rattle.vs_pair.specs.declared.pair.SwapPair.{SwapPair}
+use Rattle.vs_pair.specs.Swap.{Synced, Body, body_of, IsOpen, HasBody, Holds, Fits, MayBeClosed}
+
+abbrev pub Image : Type 0
+Image = Name → Option (List ℕ)
+
+-- ---- the names
+
+abbrev pub other_side : Side → Side
+other_side Swp = Swo
+other_side Swo = Swp
+
+abbrev pub name_of : Names → Side → Name
+name_of names Swp = names.swp
+name_of names Swo = names.swo
+
+-- the two swap files
+abbrev pub is_swap : Names → Name → Bool
+is_swap names name = bytes_eq names.swp name || bytes_eq names.swo name
+
+-- all other names
+abbrev pub is_apart : Names → Name → Bool
+is_apart names name = not (is_swap names name)
+
+-- the two swap files, and the names under which they are made
+abbrev pub is_pair_name : Names → Name → Bool
+is_pair_name names name = is_swap names name || (bytes_eq names.swp_new name || bytes_eq names.swo_new name)
+
+abbrev pub is_foreign : Names → Name → Bool
+is_foreign names name = not (is_pair_name names name)
+
+-- ---- what two files offer
+
+abbrev pub IsIn : Synced → List Synced → Type 0
+IsIn sync [] = ⊥
+IsIn sync (first ∷ rest) = (sync ≡ first) ⊎ IsIn sync rest
+
+-- the file is there, open, and has what this sync wrote
+abbrev pub IsThere : Name → Synced → Option (List ℕ) → Type 0
+IsThere file sync None = ⊥
+IsThere file sync (Some c) = Holds (body_of file sync) c
+
+-- The file has what a sync of these wrote, whose generation is smaller.
+pub record HasEarlier (file : Name) (sync : Synced) (older : List Synced) (c : List ℕ) : Type 0 where
+  pub earlier : Synced
+  pub member : IsIn earlier older
+  pub body : HasBody (body_of file earlier) c
+  pub less : earlier.generation < sync.generation
+
+-- the file is not there, or not open, or has what an earlier sync wrote
+abbrev pub IsBelow : Name → Synced → List Synced → Option (List ℕ) → Type 0
+IsBelow file sync older None = Unit {0}
+IsBelow file sync older (Some c) = IsOpen c → HasEarlier file sync older c
+
+-- One of the two files is open and has what this sync wrote. The other one is not open, or has what an earlier one of these wrote.
+pub record Offers (names : Names) (older : List Synced) (image : Image) (sync : Synced) : Type 0 where
+  pub small : sync.generation < 2 ^ 64
+  pub files : (IsThere names.file sync (image names.swp) × IsBelow names.file sync older (image names.swo))
+      ⊎ (IsThere names.file sync (image names.swo) × IsBelow names.file sync older (image names.swp))
+
+-- In each image the files offer one of these syncs, above the older ones.
+abbrev pub Recovers : Names → List Synced → List Synced → Disk → Type 0
+Recovers names syncs older disk = (image : Image) → IsImage disk image → (sync : Synced) × IsIn sync syncs × Offers names older image sync
+
+abbrev pub NoneThere : Names → Image → Type 0
+NoneThere names image = (image names.swp ≡ None) × (image names.swo ≡ None)
+
+abbrev pub RecoversOrNone : Names → List Synced → List Synced → Disk → Type 0
+RecoversOrNone names syncs older disk = (image : Image) → IsImage disk image → NoneThere names image ⊎ ((sync : Synced) × IsIn sync syncs × Offers names older image sync)
+
+-- ---- a pair that was started
+
+-- What a pair knows of its files: which of them has the last acknowledged sync, the gate of the other one, and the greatest
+-- generation that was used.
+pub record Known : Type 0 where
+  pub names : Names
+  pub newer : Side
+  pub gate : Gate
+  pub generation : ℕ
+
+abbrev pub known_of : SwapPair → Known
+known_of pair = record { names = pair.files.names; newer = pair.files.newer; gate = pair.files.gate; generation = pair.files.generation }
+
+-- the sync that is about to begin
+abbrev pub sync_of : SwapPair → Head → Synced
+sync_of pair head = record { generation = pair.files.generation + 1; head = head; pages = committed_of pair.pages }
+
+pub record IsEarlier (newest older : Synced) (past : List Synced) : Type 0 where
+  pub member : IsIn older past
+  pub less : older.generation < newest.generation
+
+pub record IsLater (newest older : Synced) (begun : List Synced) (file : File) : Type 0 where
+  pub member : IsIn older begun
+  pub more : newest.generation < older.generation
+  pub may : MayBeClosed file
+
+-- Which sync the other file has, by its gate: an earlier one, or a later one whose opening failed.
+abbrev pub IsOrdered : Gate → Synced → Synced → List Synced → List Synced → File → Type 0
+IsOrdered Open newest older begun past file = IsEarlier newest older past
+IsOrdered Closed newest older begun past file = Unit {0}
+IsOrdered Unknown newest older begun past file = IsEarlier newest older past ⊎ IsLater newest older begun file
+
+-- The pair fits the folder. In each image the newer file stands with what the last acknowledged sync wrote, and the other one is
+-- not open, or has what one of the earlier syncs wrote, or one of those that were begun since and failed.
+pub record IsFit (files : Known) (disk : Disk) (newest : Synced) (begun past : List Synced) : Type 0 where
+  pub named : AreNames files.names
+  pub newer_number : ℕ
+  pub older_number : ℕ
+  pub differ : newer_number ≢ older_number
+  pub newer : FileAlways disk (name_of files.names files.newer) newer_number (λ file. Leaves file (Holds (body_of files.names.file newest)))
+  pub older_sync : Synced
+  pub older : FileAlways disk (name_of files.names (other_side files.newer)) older_number (Fits files.gate (body_of files.names.file older_sync))
+  pub ordered : IsOrdered files.gate newest older_sync begun past (disk.files older_number)
+  pub newer_used : newest.generation ≤ files.generation
+  pub older_used : older_sync.generation ≤ files.generation
+  pub bound : files.generation ≤ 2 ^ 63
+
+-- While a sync writes: all other names are spared, and in each image the files offer the newest sync, this one, or one that was
+-- begun since the newest.
+pub record Syncing (files : Known) (sync : Synced) (old new : Disk) : Type 0 where
+  pub spared : (newest : Synced) (begun past : List Synced) → IsFit files old newest begun past → SameAt (is_apart files.names) old new
+  pub safe : (newest : Synced) (begun past : List Synced) → IsFit files old newest begun past → Recovers files.names (newest ∷ sync ∷ begun) (newest ∷ past) new
+
+-- ---- texts
+
+-- The pages and the head of the sync are those of this text.
+pub record IsTextOf (sync : Synced) (text : List (List ℕ)) : Type 0 where
+  pub is_text : IsText text
+  pub depth : ℕ
+  pub lines : HasLines tree_format sync.pages depth (stored text)
+  pub empty : sync.head.empty ≡ (length text == 0)
+
+-- The generation is above each that stands in some image.
+abbrev pub IsAbove : Names → Disk → ℕ → Type 0
+IsAbove names disk generation =
+    (image : Image) (g : ℕ) (text : List (List ℕ)) → IsImage disk image → StandsIn (image names.swp) g text ⊎ StandsIn (image names.swo) g text → g < generation
+
+-- the file stands in each image of the new folder, with a generation above each that stood in some image of the old one
+abbrev pub RisesAt : Names → Side → Disk → Disk → Type 0
+RisesAt names side old new = (image : Image) → IsImage new image → (g : ℕ) × (text : List (List ℕ)) × StandsIn (image (name_of names side)) g text × IsAbove names old g
+
+abbrev pub Rises : Names → Disk → Disk → Type 0
+Rises names old new = (side : Side) × RisesAt names side old new

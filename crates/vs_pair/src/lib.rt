@@ -1,0 +1,15 @@
+//! The two swap files of a session: made, synced in turn so that one of them stands at each moment, and removed.
+#![tactic(auto)]
+
+mod files;
+mod gate;
+mod head;
+mod pair;
+mod side;
+mod writing;
+
+pub use files::SwapFiles;
+pub use gate::Gate;
+pub use head::Head;
+pub use pair::SwapPair;
+pub use side::Side;

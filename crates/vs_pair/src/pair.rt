@@ -1,0 +1,86 @@
+// The swap pair of a session.
+ghost use Rattle.std.specs.Prelude.{◌≡◌, ◌+◌, ◌<◌, ◌≤◌, ◌^◌, ◌∷◌, [], ℕ, List, OnOk, OnErr, IfOk, IsErr, IsTrue};
+ghost use Rattle.vs_faults.specs.Faults.{HasCause};
+ghost use Rattle.vs_host.specs.Names.{AreNames, is_allowed, names_of_file};
+ghost use Rattle.vs_pages.specs.Maps.{first_pages};
+ghost use Rattle.vs_pages.specs.Memory.{committed_of, present_of};
+ghost use Rattle.vs_pair.specs.Acts.{Acts, NoneFails};
+ghost use Rattle.vs_pair.specs.Swap.{Synced, page_zero};
+ghost use Rattle.vs_pair.specs.Pair.{IsFit, Syncing, IsTextOf, Rises};
+
+use crate::head::page_zero;
+use crate::writing::sync_file;
+use crate::side::{Side, swap_name};
+use crate::{Gate, Head, SwapFiles};
+use std::alloc::{AllocError, Global};
+use vs_host::{Failed, Folder, NameErr, Names};
+use vs_pages::MemPages;
+
+/// The pages of a session, and the two swap files that keep them. The files are synced in turn: while one is written, the other
+/// one stands.
+#[derive(Drop)]
+pub struct SwapPair {
+    pub(crate) pages: MemPages,
+    pub(crate) files: SwapFiles,
+}
+
+impl SwapPair {
+    ghost use Rattle.vs_pair.specs.Pair.{known_of, sync_of};
+
+    /// A pair for the file of this name, with the pages 0, 1 and 2 as zeros. It makes no file.
+    pub fn new(alloc: Global, name: &str) -> Result<SwapPair, AllocError>
+        requires { IsTrue (is_allowed name.now) }
+        ensures names { IfOk result (λ pair. pair.files.names ≡ names_of_file name.now) }
+        ensures present { IfOk result (λ pair. present_of pair.pages ≡ first_pages) }
+        ensures committed { IfOk result (λ pair. committed_of pair.pages ≡ first_pages) }
+        ensures generation { IfOk result (λ pair. pair.files.generation ≡ 0) }
+    {
+        let names = match Names::of(alloc, name) {
+            Ok(names) => names,
+            Err(NameErr::NoMemory) => return Err(AllocError),
+            Err(NameErr::NotAllowed) => unreachable!(),
+        };
+        Ok(SwapPair {
+            pages: MemPages::new(alloc)?,
+            files: SwapFiles {
+                names,
+                newer: Side::Swo,
+                gate: Gate::Open,
+                generation: 0,
+            },
+        })
+    }
+
+    /// Writes the committed pages into the file that does not hold the last acknowledged sync, which is then the newer one.
+    pub fn sync<F: Folder>(&mut self, host: &mut F, head: &Head) -> Result<(), Failed>
+        requires started { 2 ≤ self.old.files.generation }
+        requires room { self.old.files.generation < 2 ^ 63 }
+        requires fits { IsTrue F.tells.folder → (newest : Synced) × (begun : List Synced) × (past : List Synced) × IsFit (known_of self.old) (F.scene host.old).folder newest begun past }
+
+        ensures acts { Acts F.tells (Syncing (known_of self.old) (sync_of self.old head.now)) (F.scene host.old) (F.scene host.new) }
+        ensures ok { OnOk result (IsTrue F.tells.folder → (newest : Synced) (begun past : List Synced) → IsFit (known_of self.old) (F.scene host.old).folder newest begun past
+            → IsFit (known_of self.new) (F.scene host.new).folder (sync_of self.old head.now) [] (newest ∷ past)) }
+        ensures err { OnErr result (IsTrue F.tells.folder → (newest : Synced) (begun past : List Synced) → IsFit (known_of self.old) (F.scene host.old).folder newest begun past
+            → IsFit (known_of self.new) (F.scene host.new).folder newest (sync_of self.old head.now ∷ begun) past) }
+
+        // Some file stands in every image with a generation above all before, exactly where the sync is acknowledged.
+        ensures rises { OnOk result (IsTrue F.tells.folder → (text : List (List ℕ)) → IsTextOf (sync_of self.old head.now) text
+            → Rises self.old.files.names (F.scene host.old).folder (F.scene host.new).folder) }
+        ensures stays { OnErr result (IsTrue F.tells.folder → (newest : Synced) (begun past : List Synced) → IsFit (known_of self.old) (F.scene host.old).folder newest begun past
+            → (text : List (List ℕ)) → IsTextOf newest text → Rises self.old.files.names (F.scene host.old).folder (F.scene host.new).folder → ⊥) }
+        ensures pages { self.new.pages ≡ self.old.pages }
+        ensures names { self.new.files.names ≡ self.old.files.names }
+        ensures generation { self.new.files.generation ≡ self.old.files.generation + 1 }
+        ensures none { OnOk result (NoneFails F.tells (F.scene host.old) (F.scene host.new)) }
+        ensures cause { HasCause (F.scene host.old).folder_faults (F.scene host.new).folder_faults (IsErr result) }
+    {
+        let files = &mut self.files;
+        files.generation += 1;
+        let older = files.newer.other();
+        let first = page_zero(files.names.file.as_str(), files.generation, head);
+        let name = swap_name(&files.names, older);
+        sync_file(host, name, &mut files.gate, &first, &self.pages)?;
+        files.newer = older;
+        Ok(())
+    }
+}

@@ -1,0 +1,117 @@
+// How one swap file is written: its gate is closed, then the pages are written after it, then the gate is opened.
+ghost use Rattle.std.specs.Prelude.{◌≡◌, ◌≢◌, ◌≤◌, ℕ, List, Some, length, OnOk, OnErr, IsErr, IsTrue};
+ghost use Rattle.vs_faults.specs.Faults.{HasCause};
+ghost use Rattle.vs_host.specs.File.{Leaves};
+ghost use Rattle.vs_host.specs.Disk.{ChangesFile, Name};
+ghost use Rattle.vs_disk.specs.Images.{FileHas, KeepsImages};
+ghost use Rattle.vs_pages.specs.Memory.{committed_of};
+ghost use Rattle.vs_pair.specs.Acts.{Acts, NoneFails};
+ghost use Rattle.vs_pair.specs.Swap.{Body, Holds, HasMark, ChangesMark, KeepsMark, WritesBody, Fits, CloseStep, Closes, SyncStep, FailedSync};
+
+use crate::Gate;
+use vs_host::{Failed, Folder};
+use vs_pages::{MemPages, PAGE_SIZE};
+
+// a page of zeros
+const ZEROS: [u8; PAGE_SIZE] = [0; PAGE_SIZE];
+
+// the identifier of an open swap file, and that of a closed one
+pub(crate) const OPEN: &[u8] = b"b0";
+const CLOSED: &[u8] = &[0, 0];
+
+// Writes the identifier in a write of its own, and syncs the file.
+fn mark<F: Folder>(host: &mut F, name: &str, identifier: &[u8]) -> Result<(), Failed>
+    requires two { length identifier.now ≡ 2 }
+    requires there { IsTrue F.tells.folder → FileHas (F.scene host.old).folder name.now (λ file. Unit {0}) }
+
+    // At each moment each image is one from before, but for its identifier.
+    ensures acts { Acts F.tells (ChangesFile name.now ChangesMark) (F.scene host.old) (F.scene host.new) }
+    ensures marked { OnOk result (IsTrue F.tells.folder → FileHas (F.scene host.new).folder name.now (λ file. Leaves file (HasMark identifier.now))) }
+    ensures failed { OnErr result (IsTrue F.tells.folder → ChangesFile name.now KeepsImages (F.scene host.old).folder (F.scene host.new).folder) }
+    ensures none { OnOk result (NoneFails F.tells (F.scene host.old) (F.scene host.new)) }
+    ensures cause { HasCause (F.scene host.old).folder_faults (F.scene host.new).folder_faults (IsErr result) }
+{
+    host.write_at(name, 0, identifier)?;
+    host.sync(name)
+}
+
+// The bytes that a page number has in the file: those of the committed page, and zeros where there is none.
+fn page_or_zeros(pages: &MemPages, at: u64) -> &[u8]
+    ensures size { length result.now ≡ 4096 }
+    ensures page { (page : List ℕ) → committed_of pages.now at ≡ Some page → result.now ≡ page }
+{
+    match pages.committed_page(at) {
+        Some(page) => page,
+        None => &ZEROS,
+    }
+}
+
+// Writes all that stands after the identifier, and syncs the file. What `first` has before that is not written.
+pub(crate) fn write_pages<F: Folder>(host: &mut F, name: &str, first: &[u8], pages: &MemPages) -> Result<(), Failed>
+    requires size { length first.now ≡ 4096 }
+    requires there { IsTrue F.tells.folder → FileHas (F.scene host.old).folder name.now (λ file. 2 ≤ length file.bytes) }
+
+    // At each moment each image has an identifier from before.
+    ensures acts { Acts F.tells (ChangesFile name.now KeepsMark) (F.scene host.old) (F.scene host.new) }
+    ensures written { OnOk result (IsTrue F.tells.folder → ChangesFile name.now (WritesBody (record { first = first.now; pages = committed_of pages.now })) (F.scene host.old).folder (F.scene host.new).folder) }
+    ensures none { OnOk result (NoneFails F.tells (F.scene host.old) (F.scene host.new)) }
+    ensures cause { HasCause (F.scene host.old).folder_faults (F.scene host.new).folder_faults (IsErr result) }
+{
+    host.write_at(name, 2, &first[2..])?;
+    for at in 1..pages.committed_end() {
+        host.write_at(name, at * PAGE_SIZE as u64, page_or_zeros(pages, at))?;
+    }
+    host.sync(name)
+}
+
+// Closes the gate, unless it stands closed: zeros that are not synced could read as `b0` before torn pages.
+fn close<F: Folder>(host: &mut F, name: &str, gate: &mut Gate) -> Result<(), Failed>
+    requires there { IsTrue F.tells.folder → FileHas (F.scene host.old).folder name.now (λ file. Unit {0}) }
+    ensures acts { Acts F.tells (ChangesFile name.now (CloseStep gate.old)) (F.scene host.old) (F.scene host.new) }
+    ensures closed { OnOk result (gate.new ≡ Gate.Closed) }
+    ensures closes { OnOk result (IsTrue F.tells.folder → ChangesFile name.now (Closes gate.old) (F.scene host.old).folder (F.scene host.new).folder) }
+    ensures was { OnErr result (gate.old ≢ Gate.Closed) }
+    ensures unknown { OnErr result (gate.new ≡ Gate.Unknown) }
+    ensures failed { OnErr result (IsTrue F.tells.folder → ChangesFile name.now KeepsImages (F.scene host.old).folder (F.scene host.new).folder) }
+    ensures none { OnOk result (NoneFails F.tells (F.scene host.old) (F.scene host.new)) }
+    ensures cause { HasCause (F.scene host.old).folder_faults (F.scene host.new).folder_faults (IsErr result) }
+{
+    match *gate {
+        Gate::Closed => Ok(()),
+        Gate::Open | Gate::Unknown => {
+            *gate = Gate::Unknown;
+            mark(host, name, CLOSED)?;
+            *gate = Gate::Closed;
+            Ok(())
+        }
+    }
+}
+
+// Syncs the file: closes its gate, writes the pages after it, and opens it.
+pub(crate) fn sync_file<F: Folder>(
+    host: &mut F,
+    name: &str,
+    gate: &mut Gate,
+    first: &[u8],
+    pages: &MemPages,
+) -> Result<(), Failed>
+    requires size { length first.now ≡ 4096 }
+    requires fits { IsTrue F.tells.folder → (before : Body) × FileHas (F.scene host.old).folder name.now (Fits gate.old before) }
+
+    // At each moment each image is not open, or has the body before or this one.
+    ensures acts { Acts F.tells (ChangesFile name.now (SyncStep gate.old (record { first = first.now; pages = committed_of pages.now }))) (F.scene host.old) (F.scene host.new) }
+    ensures opened { OnOk result (gate.new ≡ Gate.Open) }
+    ensures stands { OnOk result (IsTrue F.tells.folder
+        → FileHas (F.scene host.new).folder name.now (λ file. Leaves file (Holds (record { first = first.now; pages = committed_of pages.now })))) }
+    ensures failed { OnErr result (IsTrue F.tells.folder
+        → ChangesFile name.now (FailedSync gate.old gate.new (record { first = first.now; pages = committed_of pages.now })) (F.scene host.old).folder (F.scene host.new).folder) }
+    ensures none { OnOk result (NoneFails F.tells (F.scene host.old) (F.scene host.new)) }
+    ensures cause { HasCause (F.scene host.old).folder_faults (F.scene host.new).folder_faults (IsErr result) }
+{
+    close(host, name, gate)?;
+    write_pages(host, name, first, pages)?;
+    *gate = Gate::Unknown;
+    mark(host, name, OPEN)?;
+    *gate = Gate::Open;
+    Ok(())
+}
