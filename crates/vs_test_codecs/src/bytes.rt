@@ -1,7 +1,7 @@
 // Values from outside: magic numbers as they lie in the swap files (little-endian) and undo files
 // (big-endian) that Vim writes, and the ends of the signed ranges.
 
-use super::*;
+use vs_bytes::*;
 
 #[test]
 fn reads_numbers_of_swap_files(rt: HostRuntime) {

@@ -1,0 +1,5 @@
+//! Tests of the number fields and of the blocks of a swap file, through the public calls of their crates.
+#![tactic(auto)]
+
+#[cfg(test)]
+mod bytes;
