@@ -410,5 +410,3 @@ impl DataView {
     }
 }
 
-#[cfg(test)]
-mod tests;

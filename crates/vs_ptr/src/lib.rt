@@ -293,5 +293,3 @@ impl PtrView {
     }
 }
 
-#[cfg(test)]
-mod tests;

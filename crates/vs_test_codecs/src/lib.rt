@@ -3,3 +3,9 @@
 
 #[cfg(test)]
 mod bytes;
+#[cfg(test)]
+mod data;
+#[cfg(test)]
+mod ptr;
+#[cfg(test)]
+mod zero;

@@ -1,7 +1,7 @@
-use super::*;
 use std::alloc::{AllocError, Global};
 use std::process::Abort;
 use std::test::Fail;
+use vs_data::*;
 
 // One more line, where what `insert` requires holds.
 fn put(rt: &impl Abort, view: &mut DataView, block: &mut [u8], at: u32, line: &[u8]) {

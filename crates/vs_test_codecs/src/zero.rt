@@ -1,6 +1,6 @@
 // Pages as Vim 9.0 lays them out on a 64-bit little-endian machine, typed by hand.
 
-use super::*;
+use vs_zero::*;
 
 const ZERO: Zero = Zero {
     page_size: 4096,

@@ -1,48 +1,31 @@
 // Some thousand generated changes, moves and writes, beside a tree that keeps the whole text of each state.
-ghost use Rattle.std.specs.Prelude.{◌<◌};
 ghost use Rattle.vs_undo.specs.Moves.{IsReady};
 
 use super::rows::start;
 use super::{Editor, Step, file_of, take};
-use crate::{Leaf, UndoErr};
 use std::alloc::{AllocError, Global};
 use std::process::Abort;
 use std::test::Fail;
 use vs_edit::LineStore;
+use vs_test_stores::Numbers;
+use vs_undo::{Leaf, UndoErr};
 
-// Numbers that look like chance, and are the same in each run.
-#[derive(Drop)]
-struct Numbers(u64);
-
-impl Numbers {
-    fn below(&mut self, n: u64) -> u64
-        requires { 0 < n }
-        ensures { result < n }
-    {
-        self.0 = self
-            .0
-            .wrapping_mul(6_364_136_223_846_793_005)
-            .wrapping_add(1_442_695_040_888_963_407);
-        (self.0 >> 33) % n
-    }
-
-    // A step on a text with this number of lines, after this number of changes.
-    fn step(&mut self, lines: u64, last: u64) -> Step {
-        match self.below(14) {
-            0 => Step::Undo,
-            1 => Step::Redo,
-            2 | 3 => Step::Goto(self.below(last.saturating_add(2).max(1))),
-            4 => Step::Earlier(self.below(4).max(1)),
-            5 => Step::Later(self.below(4).max(1)),
-            6 => Step::EarlierWrites(self.below(3).max(1)),
-            7 => Step::LaterWrites(self.below(3).max(1)),
-            8 | 9 => Step::Write,
-            _ => {
-                let top = self.below(lines.saturating_add(1).max(1));
-                let old = self.below(lines.saturating_sub(top).min(4) + 1);
-                let count = self.below(if lines > 12 { 2 } else { 4 });
-                Step::Change(top, old, count, self.below(256) as u8)
-            }
+// A step on a text with this number of lines, after this number of changes.
+fn next_step(numbers: &mut Numbers, lines: u64, last: u64) -> Step {
+    match numbers.below(14) {
+        0 => Step::Undo,
+        1 => Step::Redo,
+        2 | 3 => Step::Goto(numbers.below(last.saturating_add(2).max(1))),
+        4 => Step::Earlier(numbers.below(4).max(1)),
+        5 => Step::Later(numbers.below(4).max(1)),
+        6 => Step::EarlierWrites(numbers.below(3).max(1)),
+        7 => Step::LaterWrites(numbers.below(3).max(1)),
+        8 | 9 => Step::Write,
+        _ => {
+            let top = numbers.below(lines.saturating_add(1).max(1));
+            let old = numbers.below(lines.saturating_sub(top).min(4) + 1);
+            let count = numbers.below(if lines > 12 { 2 } else { 4 });
+            Step::Change(top, old, count, numbers.below(256) as u8)
         }
     }
 }
@@ -330,7 +313,7 @@ fn play<S: LineStore>(
     ensures { IsReady S.LineStore editor.new.tree editor.new.text }
 {
     let lines = plain.file(alloc)?.len() as u64 / 2;
-    let step = numbers.step(lines, plain.last());
+    let step = next_step(numbers, lines, plain.last());
     let wanted = plain.take(alloc, step);
     assert_eq!(rt; take(alloc, editor, step), wanted, "{step:?}");
     assert_eq!(rt; editor.tree.current(), plain.current, "{step:?}");
@@ -351,7 +334,7 @@ fn play_all<S: LineStore>(
     requires { IsReady S.LineStore editor.old.tree editor.old.text }
     ensures { IsReady S.LineStore editor.new.tree editor.new.text }
 {
-    let mut numbers = Numbers(1);
+    let mut numbers = Numbers::new(1);
     for _ in 0..3_000 {
         play(rt, alloc, editor, plain, &mut numbers)?;
     }

@@ -1,10 +1,11 @@
-ghost use Rattle.std.specs.Prelude.{◌+◌, ◌<◌, ◌≤◌, length};
+ghost use Rattle.std.specs.Prelude.{◌+◌, ◌≤◌, length};
 
-use crate::failing::FailingStore;
-use crate::{LineStore, StoreErr, VecStore, allows_splice, splice_or_rollback, text_of};
+use crate::Numbers;
 use std::alloc::{AllocError, Global};
 use std::process::Abort;
 use std::test::Fail;
+use vs_edit::failing::FailingStore;
+use vs_edit::{LineStore, StoreErr, VecStore, allows_splice, splice_or_rollback, text_of};
 use vs_text::{Line, Text, from_stored, write_text};
 
 // Splices where all that a splice asks for holds.
@@ -51,29 +52,13 @@ fn spliced(
     Ok(next)
 }
 
-// Numbers that look like chance, and are the same in each run.
-#[derive(Drop)]
-struct Numbers(u64);
-
-impl Numbers {
-    fn below(&mut self, n: u64) -> u64
-        requires { 0 < n }
-        ensures { result < n }
-    {
-        self.0 = self
-            .0
-            .wrapping_mul(6_364_136_223_846_793_005)
-            .wrapping_add(1_442_695_040_888_963_407);
-        (self.0 >> 33) % n
+// Fewer bytes than `most`, or none.
+fn bytes(alloc: Global, numbers: &mut Numbers, most: u64) -> Result<Vec<u8>, AllocError> {
+    let mut bytes = Vec::new(alloc);
+    for _ in 0..numbers.below(most.max(1)) {
+        bytes.push(numbers.below(256) as u8)?;
     }
-
-    fn bytes(&mut self, alloc: Global, most: u64) -> Result<Vec<u8>, AllocError> {
-        let mut bytes = Vec::new(alloc);
-        for _ in 0..self.below(most.max(1)) {
-            bytes.push(self.below(256) as u8)?;
-        }
-        Ok(bytes)
-    }
+    Ok(bytes)
 }
 
 // Asserts that the store has these lines, by each of its calls that reads.
@@ -129,7 +114,7 @@ fn play<S: LineStore>(
             let len = plain.now.len() as u64;
             let top = numbers.below(len + 1);
             let old = numbers.below((len - top).min(6) + 1);
-            let new = numbers.bytes(alloc, 8)?;
+            let new = bytes(alloc, numbers, 8)?;
             let lines = lines_of(alloc, &new)?;
             assert!(rt; splice_if_allowed(alloc, store, top, old, &lines)?);
             plain.now = spliced(alloc, &plain.now, top as usize, old as usize, &new)?;
@@ -146,7 +131,7 @@ fn follows_a_plain_list(rt: HostRuntime) -> Result<(), Fail> {
         now: Vec::new(alloc),
         committed: Vec::new(alloc),
     };
-    let mut numbers = Numbers(1);
+    let mut numbers = Numbers::new(1);
     for _ in 0..400 {
         play(&rt, alloc, &mut store, &mut plain, &mut numbers)?;
     }

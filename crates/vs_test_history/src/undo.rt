@@ -5,11 +5,11 @@ mod failing;
 mod generated;
 mod rows;
 
-use crate::{UndoErr, UndoTree, change};
 use std::alloc::{AllocError, Global};
 use std::test::Fail;
 use vs_edit::{LineStore, StoreErr, allows_splice, text_of};
 use vs_text::{Line, from_stored, write_text};
+use vs_undo::{UndoErr, UndoTree, change};
 
 // One call on a tree and its text.
 #[derive(Clone, Copy, Debug)]

@@ -3,12 +3,12 @@ ghost use Rattle.std.specs.Prelude.{IfOk};
 ghost use Rattle.vs_undo.specs.Moves.{IsReady};
 
 use super::{Editor, Step, file_of, take};
-use crate::{UndoErr, UndoTree};
 use std::alloc::{AllocError, Global};
 use std::process::Abort;
 use std::test::Fail;
 use vs_edit::failing::FailingStore;
 use vs_edit::{LineStore, VecStore};
+use vs_undo::{UndoErr, UndoTree};
 
 fn start(alloc: Global) -> Result<Editor<FailingStore<VecStore>>, AllocError>
     ensures { IfOk result (λ editor. IsReady ⟦<FailingStore<VecStore> as LineStore>⟧ editor.tree editor.text) }

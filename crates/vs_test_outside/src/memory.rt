@@ -1,8 +1,8 @@
 // Hosts in memory, by hand: what each call leaves, and what a stop leaves.
-use crate::{Choice, Keep, MemHost};
 use std::alloc::Global;
 use std::test::Fail;
 use vs_host::{Clock, Folder, Out, Script};
+use vs_memory::{Choice, Keep, MemHost};
 
 fn host_with(alloc: Global, name: &str, bytes: &[u8]) -> Result<MemHost, Fail> {
     let mut host = MemHost::new(alloc, Vec::from_slice(alloc, b"q\n")?)?;

@@ -3,9 +3,9 @@
 ghost use Rattle.vs_ufile.specs.Decode.{IsWellFormed};
 ghost use Rattle.vs_ufile.specs.Values.{history_of};
 
-use super::*;
 use std::alloc::{AllocError, Global};
 use std::test::*;
+use vs_ufile::*;
 
 // SHA-256 of one zero byte: the digest of one empty line.
 const DIGEST: [u8; 32] = [

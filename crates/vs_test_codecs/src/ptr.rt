@@ -1,7 +1,7 @@
 ghost use Rattle.std.specs.Prelude.{◌≡◌, Ok, length};
 ghost use Rattle.vs_ptr.specs.Blocks.{view_in};
 
-use super::*;
+use vs_ptr::*;
 
 /// The counts of a header.
 fn counts(count: u16, most: u16) -> PtrView {

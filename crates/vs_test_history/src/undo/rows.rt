@@ -3,11 +3,11 @@ ghost use Rattle.std.specs.Prelude.{IfOk};
 ghost use Rattle.vs_undo.specs.Moves.{IsReady};
 
 use super::{Editor, Step, file_of, take};
-use crate::{Leaf, UndoErr, UndoTree};
 use std::alloc::{AllocError, Global};
 use std::process::Abort;
 use std::test::Fail;
 use vs_edit::{LineStore, VecStore};
+use vs_undo::{Leaf, UndoErr, UndoTree};
 
 type Row = (Step, Result<u64, UndoErr>, &'static [u8]);
 
