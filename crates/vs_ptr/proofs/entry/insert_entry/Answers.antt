@@ -2,7 +2,7 @@
 use Rattle.std.proofs.Common.{◌+◌, ◌-◌, take, ap, ◌∙◌, arith}
 use Rattle.vs_ptr.specs.Blocks.{bytes_of_entry}
 use Rattle.vs_ptr.proofs.Slots.{slots_opened, take-copy_within}
-use Rattle.vs_ptr.proofs.insert_entry.Goals as goal
+use Rattle.vs_ptr.proofs.entry.insert_entry.Goals as goal
 
 pub returns-clause-header : goal.returns-clause-header
 returns-clause-header c =

@@ -3,7 +3,7 @@ use Rattle.std.proofs.Common.{◌≡◌, ◌+◌, ◌*◌, ◌-◌, ◌%◌, ◌
 use Rattle.vs_bytes.specs.Fields.{Little, number_at, with_number}
 use Rattle.vs_data.specs.Blocks.{entry_at, start_at}
 use Rattle.vs_data.proofs.Entries.{EntriesMoved, entry_after, none_moved, one_more_moved}
-use Rattle.vs_data.proofs.move_starts.Goals as goal
+use Rattle.vs_data.proofs.index.move_starts.Goals as goal
 
 -- the entry that a turn reads
 entry_was : (old block : List ℕ) (first line start to place entry : ℕ) → EntriesMoved old block first line start to → place ≡ 24 + 4 * line → entry ≡ number_at Little 4 block place

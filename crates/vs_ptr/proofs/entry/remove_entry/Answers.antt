@@ -1,7 +1,7 @@
 -- The copy closes the slot, and stands past the header.
 use Rattle.std.proofs.Common.{suc, ◌-◌, ◌+◌, arith}
 use Rattle.vs_ptr.proofs.Slots.{slots_closed, take-copy_within}
-use Rattle.vs_ptr.proofs.remove_entry.Goals as goal
+use Rattle.vs_ptr.proofs.entry.remove_entry.Goals as goal
 
 pub returns-clause-header : goal.returns-clause-header
 returns-clause-header c =

@@ -1,5 +1,5 @@
 use Rattle.vs_data.proofs.Entries.{EntriesMoved}
-use Rattle.vs_data.proofs.move_starts.Given as goal
+use Rattle.vs_data.proofs.index.move_starts.Given as goal
 
 -- the entries before this one are moved
 abbrev pub invariant-loop-line : goal.invariant-loop-line

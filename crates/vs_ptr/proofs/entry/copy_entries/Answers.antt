@@ -1,7 +1,7 @@
 -- The bytes that are copied are whole slots.
 use Rattle.std.proofs.Common.{◌≡◌, ◌+◌, ◌-◌, ◌*◌, arith, refl, ◌∙◌}
 use Rattle.vs_ptr.proofs.Slots.{slots_copied}
-use Rattle.vs_ptr.proofs.copy_entries.Goals as goal
+use Rattle.vs_ptr.proofs.entry.copy_entries.Goals as goal
 
 pub returns-clause-slots : goal.returns-clause-slots
 returns-clause-slots c =

@@ -1,7 +1,7 @@
 -- The entry is written past the header.
 use Rattle.std.proofs.Common.{◌+◌, ◌-◌, arith}
 use Rattle.std.proofs.lemmas.Slice.{take-put_mid_below}
-use Rattle.vs_ptr.proofs.put_entry.Goals as goal
+use Rattle.vs_ptr.proofs.entry.put_entry.Goals as goal
 
 pub returns-clause-header : goal.returns-clause-header
 returns-clause-header c =
