@@ -7,8 +7,6 @@
 #![tactic(auto)]
 
 mod fields;
-#[cfg(test)]
-mod tests;
 
 pub use fields::{
     be_u16, be_u32, be_u64, le_i32, le_i64, le_u16, le_u32, le_u64, put_be_u16, put_be_u32,

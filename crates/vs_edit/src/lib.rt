@@ -7,8 +7,6 @@ pub mod failing;
 mod generic;
 mod room;
 mod store;
-#[cfg(test)]
-mod tests;
 mod vec_store;
 
 pub use generic::{splice_or_rollback, text_of};

@@ -1,6 +1,7 @@
 // One image of a folder as a new host.
 ghost use Rattle.std.specs.Prelude.{◌≡◌, ◌≤◌, ◌<◌, ◌⊎◌, ◌+◌, reverse, [], get_or, ℕ, List, All, IfOk, OnOk, IsSome, length};
 ghost use Rattle.vs_host.specs.Disk.{IsImage, content_in};
+ghost use Rattle.vs_host.specs.File.{put};
 ghost use Rattle.vs_memory.specs.Folders.{file_of, ranges_of, before_change, undone, IsBelow};
 ghost use Rattle.vs_memory.specs.Present.{disk_in};
 ghost use Rattle.vs_memory.specs.Memory.{fresh_memory, folder_of};
@@ -34,11 +35,24 @@ fn fill_all(bytes: &mut [u8], ranges: &[Changed], byte: u8)
     }
 }
 
-/// Puts back what was there before a range changed.
+/// Puts a piece in the place of as many bytes.
+fn put_over(bytes: &mut [u8], at: usize, piece: &[u8])
+    requires { at + length piece.now ≤ length bytes.old }
+    ensures { bytes.new ≡ put bytes.old at piece.now }
+{
+    bytes[at..at + piece.len()].copy_from_slice(piece);
+}
+
+/// Puts back what was there before a range changed. It touches no other bytes, unless the range had another length then and
+/// bytes come after it.
 fn undo(alloc: Global, bytes: &mut Vec<u8>, range: &Changed) -> Result<(), AllocError>
     ensures { OnOk result (bytes.new.items ≡ before_change range.now bytes.old.items) }
 {
     let end = range.at.saturating_add(range.len).min(bytes.len());
+    if range.at <= end && range.before.len() == end - range.at {
+        put_over(bytes, range.at, &range.before);
+        return Ok(());
+    }
     let rest = Vec::from_slice(alloc, &bytes[end..])?;
     bytes.truncate(range.at);
     bytes.extend_from_slice(&range.before)?;

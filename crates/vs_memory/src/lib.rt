@@ -10,8 +10,6 @@ mod image;
 mod log;
 mod names;
 mod play;
-#[cfg(test)]
-mod tests;
 mod traits;
 
 pub use choice::{Choice, Keep};

@@ -18,8 +18,6 @@ mod history;
 mod link;
 mod parents;
 mod reading;
-#[cfg(test)]
-mod tests;
 mod tree;
 mod walks;
 mod writing;

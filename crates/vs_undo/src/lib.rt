@@ -11,8 +11,6 @@ mod mark;
 mod moves;
 mod numbers;
 mod parts;
-#[cfg(test)]
-mod tests;
 mod tree;
 mod way;
 mod writes;

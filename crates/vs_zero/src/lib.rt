@@ -13,8 +13,6 @@ use vs_bytes::{put_le_u32, put_le_u64};
 
 mod layout;
 mod reading;
-#[cfg(test)]
-mod tests;
 mod writing;
 
 /// What a file of a swap pair says of the sync that wrote it.

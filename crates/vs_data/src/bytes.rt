@@ -1,0 +1,41 @@
+// Bytes that are moved within a block, and lines as bytes.
+ghost use Rattle.std.specs.Prelude.{◌≡◌, ◌+◌, ◌-◌, ◌≤◌, ◌==◌, not, length};
+ghost use Rattle.std.specs.List.{list_all};
+ghost use Rattle.vs_bytes.specs.Fields.{field_at, with_field};
+ghost use Rattle.vs_data.specs.Blocks.{is_line};
+
+fn has_no_zero(bytes: &[u8]) -> bool
+    ensures { result ≡ list_all (λ byte. not (byte == 0)) bytes.now }
+{
+    bytes.iter().all(|byte| *byte != 0)
+}
+
+// Whether the bytes from one place up to another are those of a line: some, of which the last and no other is zero.
+#[tactic(auto, unfolding(crate::specs::Blocks::is_line), using(std::proofs::lemmas::Bool::Decides::nat_tests))]
+pub(crate) fn is_line(block: &[u8], start: u32, end: u32) -> bool
+    requires { end ≤ length block.now }
+    ensures { result ≡ is_line block.now start end }
+{
+    if start >= end {
+        return false;
+    }
+    let last = end as usize - 1;
+    block[last] == 0 && has_no_zero(&block[start as usize..last])
+}
+
+// Copies the bytes from `start` up to `end` to `to`, where they may overlap with themselves.
+pub(crate) fn move_bytes(block: &mut [u8], start: usize, end: usize, to: usize)
+    requires order { start ≤ end }
+    requires within { end ≤ length block.old }
+    requires room { to + (end - start) ≤ length block.old }
+    ensures { block.new ≡ with_field block.old to (field_at block.old start (end - start)) }
+{
+    block.copy_within(start..end, to);
+}
+
+pub(crate) fn put_bytes(block: &mut [u8], at: usize, bytes: &[u8])
+    requires { at + length bytes.now ≤ length block.old }
+    ensures { block.new ≡ with_field block.old at bytes.now }
+{
+    block[at..at + bytes.len()].copy_from_slice(bytes);
+}

@@ -1,0 +1,8 @@
+//! Tests of the stores of one text, and what tests of several crates share.
+#![tactic(auto)]
+
+mod numbers;
+#[cfg(test)]
+mod vec_store;
+
+pub use numbers::Numbers;

@@ -1,5 +1,0 @@
-use Rattle.vs_undo.specs.Moves.{IsReady}
-use Rattle.vs_undo.proofs.tests.rows.play.Given as goal
-
-abbrev pub invariant-loop-step : goal.invariant-loop-step
-invariant-loop-step g l = IsReady g.S.LineStore l.editor.tree l.editor.text
