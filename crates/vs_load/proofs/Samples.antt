@@ -14,6 +14,14 @@ splice_samples n at m within =
     let all : at + m + (n - (at + 0)) ≡ n + m = omega arith in
     rw (front, back) (simp replicate-append-replicate (ap samples all))
 
+-- a line in place of another
+pub replace_samples : (n at : ℕ) → at + 1 ≤ n → splice (samples n) at 1 (samples 1) ≡ samples n
+replace_samples n at within =
+    let front : take at (samples n) ≡ samples at = take-replicate at n sample (omega arith) in
+    let back : drop (at + 1) (samples n) ≡ samples (n - (at + 1)) = drop-replicate (at + 1) n sample in
+    let all : at + 1 + (n - (at + 1)) ≡ n = omega arith in
+    rw (front, back) (simp replicate-append-replicate (ap samples all))
+
 -- the first lines of a run go after a text
 pub splice_part : (lines : List (List ℕ)) (all part n : ℕ) → lines ≡ samples all → part ≤ all → splice (samples n) n 0 (take part lines) ≡ samples (n + part)
 splice_part lines all part n is within =

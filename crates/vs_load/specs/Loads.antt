@@ -2,7 +2,7 @@
 use Rattle.std.specs.Prelude.{ℕ, ◌+◌, ◌*◌, List, replicate}
 use Rattle.vs_load.specs.declared.load.Counts.{Counts}
 use Rattle.vs_load.specs.declared.words.Load.{Load}
-use Rattle.vs_load.specs.declared.words.Load.TheVariants.{Fill, Append}
+use Rattle.vs_load.specs.declared.words.Load.TheVariants.{Fill, Once, Append, Replace}
 
 -- each line of a load: 39 bytes, all of them the letter x
 unfoldable pub sample : List ℕ
@@ -15,8 +15,10 @@ samples n = replicate n sample
 -- the number of lines that there are at the end
 abbrev pub lines_after : Load → ℕ
 lines_after (Fill lines) = lines
+lines_after (Once lines) = lines
 lines_after (Append lines more) = lines + more
+lines_after (Replace lines count) = lines
 
--- what is counted of so many lines: each has 40 bytes with its end, whose sum is 39 * 120 + 10
-abbrev pub counts_of : ℕ → Counts
-counts_of n = record { lines = n; bytes = 40 * n; sum = 4690 * n }
+-- what is counted of so many lines in so many pages: each line has 40 bytes with its end, whose sum is 39 * 120 + 10
+abbrev pub counts_of : ℕ → ℕ → Counts
+counts_of n pages = record { lines = n; bytes = 40 * n; sum = 4690 * n; pages = pages }

@@ -1,5 +1,5 @@
 // A load, carried out.
-ghost use Rattle.std.specs.Prelude.{◌≡◌, ◌+◌, ◌*◌, ◌%◌, ◌^◌, ℕ, List, IfOk, OnOk, IsTrue, sum};
+ghost use Rattle.std.specs.Prelude.{◌≡◌, ◌≤◌, ◌+◌, ◌*◌, ◌%◌, ◌^◌, ℕ, List, IfOk, OnOk, IsTrue, sum};
 ghost use Rattle.vs_edit.specs.Splices.{splice};
 ghost use Rattle.vs_tree.specs.Texts.{HasText, Fits};
 ghost use Rattle.vs_load.specs.Loads.{samples, lines_after, counts_of};
@@ -22,20 +22,21 @@ const FILL_LINES: u64 = 10_000;
 // The number of lines that are read at once.
 const READ_LINES: u64 = 1_000;
 
-/// What there is at the end of a load, and the sum of all bytes that were read, with line ends.
+/// What there is at the end of a load, the sum of all bytes that were read, with line ends, and the number of pages.
 #[derive(Clone, Copy, Debug, PartialEq, Eq)]
 pub struct Counts {
     pub lines: u64,
     pub bytes: u64,
     pub sum: u64,
+    pub pages: u64,
 }
 
 impl fmt::Display for Counts {
     fn fmt<W: fmt::Write>(&self, f: &mut fmt::Formatter<W>) -> fmt::Result {
         write!(
             f,
-            "{} lines, {} bytes, sum {}",
-            self.lines, self.bytes, self.sum
+            "{} lines, {} bytes, sum {}, {} pages",
+            self.lines, self.bytes, self.sum, self.pages
         )
     }
 }
@@ -51,16 +52,23 @@ fn sample_lines(alloc: Global, count: usize) -> Result<Vec<Line>, AllocError>
     Ok(lines)
 }
 
-// Puts lines before the line at a place, and commits.
-fn put<S: LineStore>(alloc: Global, store: &mut S, at: u64, lines: &[Line]) -> Result<(), LoadErr>
+// Puts lines in place of `old` lines from a place on, and commits.
+fn put<S: LineStore>(
+    alloc: Global,
+    store: &mut S,
+    at: u64,
+    old: u64,
+    lines: &[Line],
+) -> Result<(), LoadErr>
     requires { S.valid store.old }
-    ensures text { OnOk result ((text : List (List ℕ)) → (S.shows store.old).present.Is text → (S.shows store.new).present.Is (splice text at 0 lines.now)) }
+    ensures within { OnOk result (at + old ≤ (S.shows store.old).present.lines) }
+    ensures text { OnOk result ((text : List (List ℕ)) → (S.shows store.old).present.Is text → (S.shows store.new).present.Is (splice text at old lines.now)) }
     ensures valid { S.valid store.new }
 {
-    if !allows_splice(store, at, 0, lines) {
+    if !allows_splice(store, at, old, lines) {
         return Err(LoadErr::TooLarge);
     }
-    splice_or_rollback(alloc, store, at, 0, lines)?;
+    splice_or_rollback(alloc, store, at, old, lines)?;
     store.commit();
     Ok(())
 }
@@ -76,7 +84,7 @@ fn fill<S: LineStore>(alloc: Global, store: &mut S, count: u64) -> Result<(), Lo
     while done < count {
         let run = (count - done).min(FILL_LINES);
         let end = store.len();
-        put(alloc, store, end, &lines[..run as usize])?;
+        put(alloc, store, end, 0, &lines[..run as usize])?;
         done += run;
     }
     Ok(())
@@ -91,7 +99,33 @@ fn append<S: LineStore>(alloc: Global, store: &mut S, count: u64) -> Result<(), 
     let line = sample_lines(alloc, 1)?;
     for _ in 0..count {
         let middle = store.len() / 2;
-        put(alloc, store, middle, &line)?;
+        put(alloc, store, middle, 0, &line)?;
+    }
+    Ok(())
+}
+
+// Puts lines after the last one, all at once.
+fn fill_once<S: LineStore>(alloc: Global, store: &mut S, count: u64) -> Result<(), LoadErr>
+    requires { S.valid store.old }
+    ensures text { OnOk result ((n : ℕ) → (S.shows store.old).present.Is (samples n) → (S.shows store.new).present.Is (samples (n + count))) }
+    ensures valid { S.valid store.new }
+{
+    let lines = sample_lines(alloc, count as usize)?;
+    let end = store.len();
+    put(alloc, store, end, 0, &lines)
+}
+
+// Puts lines in place of others, spread over the text.
+fn replace<S: LineStore>(alloc: Global, store: &mut S, count: u64) -> Result<(), LoadErr>
+    requires { S.valid store.old }
+    ensures text { OnOk result ((n : ℕ) → (S.shows store.old).present.Is (samples n) → (S.shows store.new).present.Is (samples n)) }
+    ensures valid { S.valid store.new }
+{
+    let line = sample_lines(alloc, 1)?;
+    let step = store.len() / count.max(1);
+    for number in 0..count {
+        let at = step.saturating_mul(number);
+        put(alloc, store, at, 1, &line)?;
     }
     Ok(())
 }
@@ -133,16 +167,21 @@ fn put_all<S: LineStore>(alloc: Global, store: &mut S, load: Load) -> Result<(),
 {
     match load {
         Load::Fill(lines) => fill(alloc, store, lines),
+        Load::Once(lines) => fill_once(alloc, store, lines),
         Load::Append(lines, more) => {
             fill(alloc, store, lines)?;
             append(alloc, store, more)
+        }
+        Load::Replace(lines, count) => {
+            fill(alloc, store, lines)?;
+            replace(alloc, store, count)
         }
     }
 }
 
 /// Carries a load out over a tree of its own.
 pub fn run(alloc: Global, load: Load) -> Result<Counts, LoadErr>
-    ensures { IfOk result (λ counts. counts ≡ counts_of (lines_after load)) }
+    ensures { IfOk result (λ counts. counts ≡ counts_of (lines_after load) counts.pages) }
 {
     let mut memory = MemPages::new(alloc)?;
     let mut tree = LineTree::new(alloc, &mut memory)?;
@@ -155,5 +194,11 @@ pub fn run(alloc: Global, load: Load) -> Result<Counts, LoadErr>
     let bytes = store.bytes();
     let TreeStore { tree, mut pages } = store;
     let sum = read(alloc, tree, &mut pages)?;
-    Ok(Counts { lines, bytes, sum })
+    let pages = pages.count();
+    Ok(Counts {
+        lines,
+        bytes,
+        sum,
+        pages,
+    })
 }

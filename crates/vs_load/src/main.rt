@@ -1,4 +1,5 @@
-//! A program to be measured: it fills a line tree over pages in memory, puts single lines into its middle, and reads all lines.
+//! A program to be measured: it fills a line tree over pages in memory, puts single lines into its middle or in place of
+//! others, and reads all lines.
 #![tactic(auto)]
 
 mod error;
@@ -12,7 +13,7 @@ use std::process::ExitCode;
 use std::{env, io};
 use words::Load;
 
-const USAGE: &str = "usage: vs_load fill LINES | append LINES MORE";
+const USAGE: &str = "usage: vs_load fill LINES [once] | append LINES MORE | replace LINES COUNT";
 
 /// The arguments after the program's name.
 fn given_words(rt: &HostRuntime) -> io::Result<Vec<String>> {

@@ -5,8 +5,12 @@
 pub enum Load {
     /// This many lines are put in, as a file is loaded.
     Fill(u64),
+    /// This many lines are put in by one splice.
+    Once(u64),
     /// This many lines are put in, and then this many more in the middle, one after another.
     Append(u64, u64),
+    /// This many lines are put in, and then so many of them, spread over the text, are replaced one after another.
+    Replace(u64, u64),
 }
 
 impl Load {
@@ -14,8 +18,14 @@ impl Load {
     pub fn of(words: &[String]) -> Option<Load> {
         match words {
             [verb, lines] if verb.as_str() == "fill" => Some(Load::Fill(lines.parse().ok()?)),
+            [verb, lines, how] if verb.as_str() == "fill" && how.as_str() == "once" => {
+                Some(Load::Once(lines.parse().ok()?))
+            }
             [verb, lines, more] if verb.as_str() == "append" => {
                 Some(Load::Append(lines.parse().ok()?, more.parse().ok()?))
+            }
+            [verb, lines, count] if verb.as_str() == "replace" => {
+                Some(Load::Replace(lines.parse().ok()?, count.parse().ok()?))
             }
             _ => None,
         }

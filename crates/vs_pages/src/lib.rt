@@ -10,8 +10,6 @@ mod memory;
 mod page;
 mod pages;
 mod table;
-#[cfg(test)]
-mod tests;
 mod vacant;
 
 pub use lent::LentPages;

@@ -1,8 +1,8 @@
 -- How many pages a small edit changes: what the edit below a block changes, and the write of the block, add up.
-use Rattle.std.proofs.Common.{◌≡◌, ℕ, zero, suc, ◌+◌, ◌-◌, ◌*◌, ◌^◌, ◌<◌, ◌≤◌, List, [], ◌∷◌, ◌++◌, All, length, get_or, take, drop, map, Some, sym, ap, subst, ◌∙◌, arith, append-nil, length-take, length-drop}
+use Rattle.std.proofs.Common.{◌≡◌, ℕ, zero, suc, ◌+◌, ◌-◌, ◌*◌, ◌^◌, ◌<◌, ◌≤◌, List, [], ◌∷◌, All, length, get_or, take, drop, map, Some, sym, ap, subst, ◌∙◌, arith, append-nil, length-take, length-drop}
 use Rattle.std.specs.List.{AllByRecursion}
 use Rattle.std.proofs.lemmas.Grind.{common_steps}
-use Rattle.std.proofs.lemmas.List.{length-map, drop_at}
+use Rattle.std.proofs.lemmas.List.{length-map}
 use Rattle.std.proofs.lemmas.List.Elements.{All-from_recursion, recursion_from_All}
 use Rattle.std.proofs.lemmas.List.Sums.{sum_by-cons}
 use Rattle.vs_pages.specs.Maps.{Map, pages_at}
@@ -12,7 +12,6 @@ use Rattle.vs_tree_shape.specs.declared.entries.Entry.{Entry}
 use Rattle.vs_tree_shape.specs.declared.entries.Place.{Place}
 use Rattle.vs_tree_shape.specs.Trees.{read_by, lines_of}
 use Rattle.vs_tree_shape.specs.Places.{IsPlace}
-use Rattle.vs_tree_shape.specs.Changes.{splice}
 use Rattle.vs_tree_shape.specs.Paths.{IsOnPath}
 use Rattle.vs_tree_shape.specs.Differs.{Differs}
 use Rattle.vs_tree_shape.proofs.Steps.{path_down}

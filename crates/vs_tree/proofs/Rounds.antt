@@ -112,3 +112,37 @@ behind_new lines new top old le =
     let front : List (List ℕ) = take top lines ++ map stored_line new in
     let size : length front ≡ top + length new = omega (arith, length-append (take top lines) (map stored_line new), length-take top lines, length-map new stored_line) in
     ap (λ xs. take old xs) (drop_past front (drop (top + 0) lines) (top + length new) 0 (omega (arith, size)) ∙ ap (λ k. drop k lines) none)
+
+-- the last line that was kept
+
+pub bytes_kept : (lines : List (List ℕ)) (n : ℕ) → n ≤ length lines → bytes_of (without_lines lines 0 n) ≤ bytes_of lines
+bytes_kept lines n le =
+    let cut : take n lines ++ drop n lines ≡ lines = halves n lines in
+    let same : without_lines lines 0 n ≡ drop n lines = ap (λ k. drop k lines) (omega arith) in
+    omega (arith, ap bytes_of cut, bytes_of-append (take n lines) (drop n lines), ap bytes_of same)
+
+-- all lines but one go, the new ones come, and then the last one goes
+pub all_out : (lines new : List (List ℕ)) (n : ℕ) → 0 < n → length lines ≡ n → without_lines (with_lines (without_lines lines 0 (n - 1)) 0 new) (length new) 1 ≡ splice lines 0 n (map stored_line new)
+all_out lines new n some count =
+    let one : n - 1 + 1 ≡ n = omega arith in
+    let kept : List (List ℕ) = without_lines lines 0 (n - 1) in
+    let size : length kept + (n - 1) ≡ length lines = length_without lines 0 (n - 1) (omega (arith, count)) in
+    let place : length new ≡ 0 + length new = omega arith in
+    ap (λ k. without_lines (with_lines kept 0 new) k 1) place ∙ in_then_out kept new 0 1 (omega (arith, size, count, some)) ∙ splice_on lines 0 (n - 1) (omega (arith, count)) [] (map stored_line new) 1 ∙ ap (λ k. splice lines 0 k (map stored_line new)) one
+
+-- that line is the last one of all
+last_is : (lines new : List (List ℕ)) (n : ℕ) → run_of (with_lines (without_lines lines 0 (n - 1)) 0 new) (length new) 1 ≡ run_of (without_lines lines 0 (n - 1)) 0 1
+last_is lines new n =
+    let kept : List (List ℕ) = without_lines lines 0 (n - 1) in
+    let place : length new ≡ 0 + length new = omega arith in
+    ap (λ k. run_of (with_lines kept 0 new) k 1) place ∙ behind_new kept new 0 1 (omega arith)
+
+pub last_out : (lines new : List (List ℕ)) (n : ℕ) → n - 1 ≡ 0 → 0 < n → run_of lines 0 n ≡ run_of (with_lines (without_lines lines 0 (n - 1)) 0 new) (length new) 1
+last_out lines new n none some =
+    let one : n ≡ 1 = omega (arith, none, some) in
+    ap (λ k. run_of lines 0 k) one ∙ sym (last_is lines new n ∙ ap (λ k. run_of (without_lines lines 0 k) 0 1) none ∙ ap (λ xs. run_of xs 0 1) (without_none lines 0))
+
+pub bytes_last : (lines new : List (List ℕ)) (n : ℕ) → 0 < n → length lines ≡ n → bytes_of (run_of lines 0 n) ≡ bytes_of (run_of lines 0 (n - 1)) + bytes_of (run_of (with_lines (without_lines lines 0 (n - 1)) 0 new) (length new) 1)
+bytes_last lines new n some count =
+    let one : n - 1 + 1 ≡ n = omega arith in
+    ap (λ k. bytes_of (run_of lines 0 k)) (sym one) ∙ bytes_next lines 0 (n - 1) 1 (omega (arith, count)) ∙ omega (arith, ap bytes_of (last_is lines new n))

@@ -1,7 +1,7 @@
 -- The stored form of a spliced text is its stored form spliced.
-use Rattle.std.proofs.Common.{◌≡◌, ℕ, suc, ◌+◌, ◌^◌, ◌<◌, ◌≤◌, List, [], ◌∷◌, ◌++◌, length, take, drop, map, sym, refl, ap, subst, ◌∙◌, arith, length-append, append-nil}
+use Rattle.std.proofs.Common.{◌≡◌, ℕ, ◌+◌, ◌<◌, ◌≤◌, List, [], ◌∷◌, ◌++◌, length, take, drop, map, sym, refl, ap, subst, ◌∙◌, arith, append-nil}
 use Rattle.std.proofs.lemmas.Grind.{common_steps}
-use Rattle.std.proofs.lemmas.List.{length-map, map-append, take-map, drop-map, take_all, drop_all, drop_at}
+use Rattle.std.proofs.lemmas.List.{length-map, take-map, drop-map, drop_all}
 use Rattle.vs_text.specs.Text.{bytes_of, stored_line, stored}
 use Rattle.vs_edit.specs.Splices.{splice, cut_out}
 use Rattle.vs_pages.specs.Maps.{Map}

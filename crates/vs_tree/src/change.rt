@@ -1,15 +1,13 @@
 // A change at one line of the tree.
-ghost use Rattle.std.specs.Prelude.{◌≡◌, ◌≤◌, ◌<◌, ◌+◌, ◌*◌, ◌^◌, [], ℕ, List, IsErrOf, IfOk, OnOk, IsTrue, get_or, length};
+ghost use Rattle.std.specs.Prelude.{◌≡◌, ◌≤◌, ◌<◌, ◌+◌, ◌*◌, ◌^◌, [], IsErrOf, IfOk, OnOk, IsTrue, get_or, length};
 ghost use Rattle.std.specs.List.{AllByRecursion};
 ghost use Rattle.vs_faults.specs.Faults.{HasCause};
 ghost use Rattle.vs_pages.specs.Calls.{Continues};
 ghost use Rattle.vs_tree_shape.specs.Places.{lines_below};
-ghost use Rattle.vs_tree_shape.specs.Trees.{HasLines};
-ghost use Rattle.vs_tree_shape.specs.Changes.{HasLineBelow, ChangesBelow, Takes, edited};
+ghost use Rattle.vs_tree_shape.specs.Changes.{HasLineBelow};
 ghost use Rattle.vs_tree_blocks.specs.Blocks.{tree_format, FitsFields};
-ghost use Rattle.vs_tree_shape.specs.Differs.{Differs};
-ghost use Rattle.vs_tree_blocks.specs.Edits.{added_by, change_of, IsEdit, IsOnePageEdit, ChangesFew, MayTake};
-ghost use Rattle.vs_tree.specs.Runs.{HasTree};
+ghost use Rattle.vs_tree_blocks.specs.Edits.{added_by, EditsBelow, EditsFew, IsEdit, IsOnePageEdit, MayTake};
+ghost use Rattle.vs_tree.specs.Calls.{DiffersBy, EditsTree, OfTree, StandsTree};
 
 use crate::Root;
 use std::alloc::Global;
@@ -32,12 +30,12 @@ fn edit_below<P: Pages>(
     requires small { top.lines < 2 ^ 62 }
     requires edit { IsEdit edit }
     requires there { IsTrue P.tells → HasLineBelow tree_format (P.shows pages.old).present top depth at }
-    ensures wrote { IfOk result (λ after. IsTrue P.tells → ChangesBelow tree_format (P.shows pages.old).present (P.shows pages.new).present top depth at after.removed.bytes (change_of edit.entry after.removed.lines) after.entries.items) }
+    ensures wrote { IfOk result (EditsBelow P.Pages pages.old pages.new top depth at edit.entry) }
     ensures may_take { IfOk result (λ after. MayTake edit.entry after.removed.lines) }
     ensures fields { IfOk result (λ after. AllByRecursion FitsFields after.entries.items) }
     ensures few { IfOk result (λ after. length after.entries.items ≤ 3) }
     ensures lines { IfOk result (λ after. lines_below after.entries.items + after.removed.lines ≡ top.lines + added_by edit.entry) }
-    ensures differs { OnOk result (IsTrue P.tells → ChangesFew (P.shows pages.old).present (P.shows pages.new).present top depth at edit.entry (2 * depth + 3)) }
+    ensures differs { OnOk result (EditsFew P.Pages pages.old pages.new top depth at edit.entry (2 * depth + 3)) }
     ensures kept { Continues P.Pages pages.old pages.new }
     ensures cause { HasCause (P.shows pages.old).faults (P.shows pages.new).faults (IsErrOf result PageErr.Failed) }
 {
@@ -74,13 +72,12 @@ pub fn edit_tree<P: Pages>(
     requires within { at < root.lines }
     requires small { root.lines < 2 ^ 62 }
     requires edit { IsEdit edit }
-    requires there { IsTrue P.tells → (lines : List (List ℕ)) × HasTree (P.shows pages.old).present root lines }
-    ensures edited { IfOk result (λ after. IsTrue P.tells → (lines : List (List ℕ)) → HasTree (P.shows pages.old).present root lines →
-        HasLines tree_format (P.shows pages.new).present after.root.height (edited (change_of edit.entry after.removed.lines) lines at) × Takes (change_of edit.entry after.removed.lines) lines at after.removed.bytes) }
+    requires there { StandsTree P.Pages pages.old root }
+    ensures edited { IfOk result (EditsTree P.Pages pages.old pages.new root at edit.entry) }
     ensures lines { IfOk result (λ after. after.root.lines + after.removed.lines ≡ root.lines + added_by edit.entry) }
     ensures may_take { IfOk result (λ after. MayTake edit.entry after.removed.lines) }
     ensures higher { IfOk result (λ after. after.root.height ≤ root.height + 1) }
-    ensures differs { OnOk result (IsTrue P.tells → (lines : List (List ℕ)) → HasTree (P.shows pages.old).present root lines → IsOnePageEdit edit.entry (get_or lines at []) → Differs (P.shows pages.old).present (P.shows pages.new).present (2 * root.height + 4)) }
+    ensures differs { OnOk result (OfTree P.Pages pages.old root (λ lines. IsOnePageEdit edit.entry (get_or lines at []) → DiffersBy P.Pages pages.old pages.new (2 * root.height + 4))) }
     ensures kept { Continues P.Pages pages.old pages.new }
     ensures cause { HasCause (P.shows pages.old).faults (P.shows pages.new).faults (IsErrOf result PageErr.Failed) }
 {

@@ -1,11 +1,11 @@
 // Runs of lines, copied a data block at a time.
-ghost use Rattle.std.specs.Prelude.{◌≡◌, ◌≤◌, ◌<◌, ◌+◌, ◌-◌, ◌^◌, ◌++◌, ◌∷◌, [], ℕ, List, All, Some, Ok, IsErrOf, IfOk, OnOk, IsTrue, length, take, drop};
+ghost use Rattle.std.specs.Prelude.{◌≡◌, ◌≤◌, ◌<◌, ◌+◌, ◌-◌, ◌^◌, ◌++◌, ◌∷◌, [], All, Ok, IsErrOf, IfOk, OnOk, IsTrue, length, take, drop};
 ghost use Rattle.vs_faults.specs.Faults.{HasCause};
 ghost use Rattle.vs_pages.specs.Calls.{OnlyReads};
-ghost use Rattle.vs_data.specs.Blocks.{lines_in, view_in};
+ghost use Rattle.vs_data.specs.Blocks.{view_in};
 ghost use Rattle.vs_text.specs.Text.{plain_line};
 ghost use Rattle.vs_text.specs.Limits.{IsShort};
-ghost use Rattle.vs_tree.specs.Runs.{HasTree};
+ghost use Rattle.vs_tree.specs.Calls.{OfBlock, OfTree, StandsShort};
 ghost use Rattle.vs_tree.specs.Reads.{AddsLines, file_of_stored};
 
 use crate::{Root, find_line};
@@ -38,9 +38,9 @@ fn append_lines(
     requires view { view_in block.now ≡ Ok view }
     requires order { from ≤ past }
     requires within { past ≤ view.count }
-    ensures lines { IfOk result (λ all. IsTrue all → (lines : List (List ℕ)) → lines_in block.now ≡ Some lines → into.new.items ≡ into.old.items ++ file_of_stored (take (past - from) (drop from lines))) }
+    ensures lines { IfOk result (λ all. IsTrue all → OfBlock block.now (λ lines. into.new.items ≡ into.old.items ++ file_of_stored (take (past - from) (drop from lines)))) }
     ensures adds { IfOk result (λ all. IsTrue all → AddsLines into.old.items into.new.items (past - from)) }
-    ensures long { IfOk result (λ all. (lines : List (List ℕ)) → lines_in block.now ≡ Some lines → All IsShort lines → IsTrue all) }
+    ensures long { IfOk result (λ all. OfBlock block.now (λ lines. All IsShort lines → IsTrue all)) }
 {
     'lines: for line in from..past {
         let stored = view.line(block, line);
@@ -67,9 +67,9 @@ fn copy_block<P: Pages>(
     requires some { 0 < most }
     requires within { at < root.lines }
     requires small { root.lines < 2 ^ 62 }
-    requires there { IsTrue P.tells → (lines : List (List ℕ)) × HasTree (P.shows pages.old).present root lines × All IsShort lines }
+    requires there { StandsShort P.Pages pages.old root }
     ensures some { IfOk result (λ count. (0 < count) × (count ≤ most)) }
-    ensures lines { IfOk result (λ count. IsTrue P.tells → (lines : List (List ℕ)) → HasTree (P.shows pages.old).present root lines → into.new.items ≡ into.old.items ++ file_of_stored (take count (drop at lines))) }
+    ensures lines { IfOk result (λ count. OfTree P.Pages pages.old root (λ lines. into.new.items ≡ into.old.items ++ file_of_stored (take count (drop at lines)))) }
     ensures adds { IfOk result (λ count. AddsLines into.old.items into.new.items count) }
     ensures kept { OnlyReads P.Pages pages.old pages.new }
     ensures cause { HasCause (P.shows pages.old).faults (P.shows pages.new).faults (IsErrOf result PageErr.Failed) }
@@ -99,8 +99,8 @@ pub fn copy_stored<P: Pages>(
     requires valid { P.valid pages.old }
     requires within { at + count ≤ root.lines }
     requires small { root.lines < 2 ^ 62 }
-    requires there { IsTrue P.tells → (lines : List (List ℕ)) × HasTree (P.shows pages.old).present root lines × All IsShort lines }
-    ensures lines { OnOk result (IsTrue P.tells → (lines : List (List ℕ)) → HasTree (P.shows pages.old).present root lines → into.new.items ≡ into.old.items ++ file_of_stored (take count (drop at lines))) }
+    requires there { StandsShort P.Pages pages.old root }
+    ensures lines { OnOk result (OfTree P.Pages pages.old root (λ lines. into.new.items ≡ into.old.items ++ file_of_stored (take count (drop at lines)))) }
     ensures adds { OnOk result (AddsLines into.old.items into.new.items count) }
     ensures kept { OnlyReads P.Pages pages.old pages.new }
     ensures cause { HasCause (P.shows pages.old).faults (P.shows pages.new).faults (IsErrOf result PageErr.Failed) }

@@ -4,8 +4,6 @@
 mod change;
 mod copy;
 mod runs;
-#[cfg(test)]
-mod tests;
 mod texts;
 mod tree;
 mod walk;

@@ -1,13 +1,14 @@
 // Runs of lines that are put into the tree or taken out, a data block at a time.
-ghost use Rattle.std.specs.Prelude.{◌≡◌, ◌≤◌, ◌<◌, ◌+◌, ◌*◌, ◌^◌, ◌∷◌, [], ℕ, List, All, IsErrOf, IfOk, OnOk, IsTrue, get_or, length, map, take};
+ghost use Rattle.std.specs.Prelude.{◌≡◌, ◌≤◌, ◌<◌, ◌+◌, ◌*◌, ◌^◌, ◌⊎◌, [], All, IsErrOf, IfOk, OnOk, get_or, length, map, take};
 ghost use Rattle.vs_faults.specs.Faults.{HasCause};
 ghost use Rattle.vs_pages.specs.Calls.{Continues};
 ghost use Rattle.vs_text.specs.Text.{bytes_of, stored_line};
 ghost use Rattle.vs_text.specs.Limits.{IsShort};
+ghost use Rattle.vs_text.specs.declared.TheConstants.{MAX_LINES};
 ghost use Rattle.vs_tree_shape.specs.Changes.{splice};
-ghost use Rattle.vs_tree_shape.specs.Differs.{Differs};
 ghost use Rattle.vs_tree_blocks.specs.Edits.{FitsPage, IsStored};
 ghost use Rattle.vs_data.specs.Blocks.{space_of};
+ghost use Rattle.vs_tree.specs.Calls.{DiffersBy, IsUntouched, OfTree, StandsTree};
 ghost use Rattle.vs_tree.specs.Runs.{ExchangesLine, HasTree, with_lines, without_lines, run_of};
 
 use crate::{Root, edit_tree};
@@ -62,11 +63,11 @@ pub fn put_run<P: Pages>(
     requires some { 0 < root.lines }
     requires small { root.lines < 2 ^ 61 }
     requires few { length run.now < 2 ^ 61 }
-    requires there { IsTrue P.tells → (lines : List (List ℕ)) × HasTree (P.shows pages.old).present root lines }
-    ensures put { IfOk result (λ now. IsTrue P.tells → (lines : List (List ℕ)) → HasTree (P.shows pages.old).present root lines → HasTree (P.shows pages.new).present now (splice lines at 0 run.now)) }
+    requires there { StandsTree P.Pages pages.old root }
+    ensures put { IfOk result (λ now. OfTree P.Pages pages.old root (λ lines. HasTree (P.shows pages.new).present now (splice lines at 0 run.now))) }
     ensures lines { IfOk result (λ now. now.lines ≡ root.lines + length run.now) }
     ensures higher { IfOk result (λ now. now.height ≤ root.height + 1) }
-    ensures differs { OnOk result (IsTrue P.tells → (lines : List (List ℕ)) → HasTree (P.shows pages.old).present root lines → space_of run.now ≤ 4072 → Differs (P.shows pages.old).present (P.shows pages.new).present (2 * root.height + 4)) }
+    ensures differs { OnOk result (OfTree P.Pages pages.old root (λ lines. space_of run.now ≤ 4072 → DiffersBy P.Pages pages.old pages.new (2 * root.height + 4))) }
     ensures kept { Continues P.Pages pages.old pages.new }
     ensures cause { HasCause (P.shows pages.old).faults (P.shows pages.new).faults (IsErrOf result PageErr.Failed) }
 {
@@ -78,7 +79,8 @@ pub fn put_run<P: Pages>(
     Ok(after.root)
 }
 
-/// Puts lines before the line at `at`, or last where `at` is the number of lines, and gives the root then.
+/// Puts lines before the line at `at`, or last where `at` is the number of lines, and gives the root then. A tree has no
+/// more lines than a text may have, but for one that stands alone and is to go.
 pub fn put_lines<P: Pages>(
     alloc: Global,
     pages: &mut P,
@@ -91,11 +93,12 @@ pub fn put_lines<P: Pages>(
     requires within { at ≤ root.lines }
     requires some { 0 < root.lines }
     requires small { root.lines + length new.now < 2 ^ 61 }
-    requires there { IsTrue P.tells → (lines : List (List ℕ)) × HasTree (P.shows pages.old).present root lines }
-    ensures put { IfOk result (λ now. IsTrue P.tells → (lines : List (List ℕ)) → HasTree (P.shows pages.old).present root lines → HasTree (P.shows pages.new).present now (with_lines lines at new.now)) }
+    requires room { (root.lines ≡ 1) ⊎ (root.lines + length new.now ≤ MAX_LINES) }
+    requires there { StandsTree P.Pages pages.old root }
+    ensures put { IfOk result (λ now. OfTree P.Pages pages.old root (λ lines. HasTree (P.shows pages.new).present now (with_lines lines at new.now))) }
     ensures lines { IfOk result (λ now. now.lines ≡ root.lines + length new.now) }
     ensures higher { IfOk result (λ now. now.height ≤ root.height + length new.now) }
-    ensures differs { OnOk result (IsTrue P.tells → (lines : List (List ℕ)) → HasTree (P.shows pages.old).present root lines → length new.now ≤ 1 → All FitsPage new.now → Differs (P.shows pages.old).present (P.shows pages.new).present (2 * root.height + 4)) }
+    ensures differs { OnOk result (OfTree P.Pages pages.old root (λ lines. length new.now ≤ 1 → All FitsPage new.now → DiffersBy P.Pages pages.old pages.new (2 * root.height + 4))) }
     ensures kept { Continues P.Pages pages.old pages.new }
     ensures cause { HasCause (P.shows pages.old).faults (P.shows pages.new).faults (IsErrOf result PageErr.Failed) }
 {
@@ -128,12 +131,13 @@ pub fn take_lines<P: Pages>(
     requires valid { P.valid pages.old }
     requires within { at + count ≤ root.lines }
     requires small { root.lines < 2 ^ 61 }
-    requires there { IsTrue P.tells → (lines : List (List ℕ)) × HasTree (P.shows pages.old).present root lines }
-    ensures taken { IfOk result (λ taken. IsTrue P.tells → (lines : List (List ℕ)) → HasTree (P.shows pages.old).present root lines → HasTree (P.shows pages.new).present taken.root (without_lines lines at count)) }
-    ensures bytes { IfOk result (λ taken. IsTrue P.tells → (lines : List (List ℕ)) → HasTree (P.shows pages.old).present root lines → bytes_of lines < 2 ^ 63 → taken.bytes ≡ bytes_of (run_of lines at count)) }
+    requires there { StandsTree P.Pages pages.old root }
+    ensures taken { IfOk result (λ taken. OfTree P.Pages pages.old root (λ lines. HasTree (P.shows pages.new).present taken.root (without_lines lines at count))) }
+    ensures bytes { IfOk result (λ taken. OfTree P.Pages pages.old root (λ lines. bytes_of lines < 2 ^ 63 → taken.bytes ≡ bytes_of (run_of lines at count))) }
     ensures lines { IfOk result (λ taken. taken.root.lines + count ≡ root.lines) }
+    ensures none { IfOk result (λ taken. count ≡ 0 → (taken.root ≡ root) × IsUntouched P.Pages pages.old pages.new) }
     ensures higher { IfOk result (λ taken. taken.root.height ≤ root.height + count) }
-    ensures differs { OnOk result (IsTrue P.tells → (lines : List (List ℕ)) → HasTree (P.shows pages.old).present root lines → count ≤ 1 → All FitsPage (run_of lines at count) → Differs (P.shows pages.old).present (P.shows pages.new).present (2 * root.height + 4)) }
+    ensures differs { OnOk result (OfTree P.Pages pages.old root (λ lines. count ≤ 1 → All FitsPage (run_of lines at count) → DiffersBy P.Pages pages.old pages.new (2 * root.height + 4))) }
     ensures kept { Continues P.Pages pages.old pages.new }
     ensures cause { HasCause (P.shows pages.old).faults (P.shows pages.new).faults (IsErrOf result PageErr.Failed) }
 {
@@ -149,8 +153,36 @@ pub fn take_lines<P: Pages>(
     Ok(Taken { root: now, bytes })
 }
 
+// Puts lines in place of all others. A tree has one line at least, so the last one goes when the new ones have come.
+fn replace_all<P: Pages>(
+    alloc: Global,
+    pages: &mut P,
+    root: Root,
+    new: &[Line],
+) -> Result<Taken, PageErr>
+    requires valid { P.valid pages.old }
+    requires short { All IsShort new.now }
+    requires some { 0 < root.lines }
+    requires come { 0 < length new.now }
+    requires small { root.lines + length new.now < 2 ^ 61 }
+    requires there { StandsTree P.Pages pages.old root }
+    ensures exchanged { IfOk result (λ taken. OfTree P.Pages pages.old root (λ lines. HasTree (P.shows pages.new).present taken.root (splice lines 0 root.lines (map stored_line new.now)))) }
+    ensures bytes { IfOk result (λ taken. OfTree P.Pages pages.old root (λ lines. bytes_of lines + bytes_of new.now < 2 ^ 63 → taken.bytes ≡ bytes_of (run_of lines 0 root.lines))) }
+    ensures differs { OnOk result (OfTree P.Pages pages.old root (λ lines. ExchangesLine lines 0 root.lines new.now → DiffersBy P.Pages pages.old pages.new (4 * root.height + 10))) }
+    ensures kept { Continues P.Pages pages.old pages.new }
+    ensures cause { HasCause (P.shows pages.old).faults (P.shows pages.new).faults (IsErrOf result PageErr.Failed) }
+{
+    let most = take_lines(alloc, pages, root, 0, root.lines - 1)?;
+    let now = put_lines(alloc, pages, most.root, 0, new)?;
+    let last = take_lines(alloc, pages, now, new.len() as u64, 1)?;
+    Ok(Taken {
+        root: last.root,
+        bytes: most.bytes.saturating_add(last.bytes),
+    })
+}
+
 /// Puts lines in place of `old` lines from the line at `top` on, where lines stay or come. Lines go out first, so that the new
-/// ones find the room that they leave; only where all lines go, the new ones come first, since a tree has one line at least.
+/// ones find the room that they leave.
 pub fn exchange_lines<P: Pages>(
     alloc: Global,
     pages: &mut P,
@@ -165,21 +197,21 @@ pub fn exchange_lines<P: Pages>(
     requires some { 0 < root.lines }
     requires left { old < root.lines + length new.now }
     requires small { root.lines + length new.now < 2 ^ 61 }
-    requires there { IsTrue P.tells → (lines : List (List ℕ)) × HasTree (P.shows pages.old).present root lines }
-    ensures exchanged { IfOk result (λ taken. IsTrue P.tells → (lines : List (List ℕ)) → HasTree (P.shows pages.old).present root lines → HasTree (P.shows pages.new).present taken.root (splice lines top old (map stored_line new.now))) }
-    ensures bytes { IfOk result (λ taken. IsTrue P.tells → (lines : List (List ℕ)) → HasTree (P.shows pages.old).present root lines → bytes_of lines + bytes_of new.now < 2 ^ 63 → taken.bytes ≡ bytes_of (run_of lines top old)) }
-    ensures differs { OnOk result (IsTrue P.tells → (lines : List (List ℕ)) → HasTree (P.shows pages.old).present root lines → ExchangesLine lines top old new.now → Differs (P.shows pages.old).present (P.shows pages.new).present (4 * root.height + 10)) }
+    requires few { root.lines + length new.now ≤ MAX_LINES + old }
+    requires there { StandsTree P.Pages pages.old root }
+    ensures exchanged { IfOk result (λ taken. OfTree P.Pages pages.old root (λ lines. HasTree (P.shows pages.new).present taken.root (splice lines top old (map stored_line new.now)))) }
+    ensures bytes { IfOk result (λ taken. OfTree P.Pages pages.old root (λ lines. bytes_of lines + bytes_of new.now < 2 ^ 63 → taken.bytes ≡ bytes_of (run_of lines top old))) }
+    ensures differs { OnOk result (OfTree P.Pages pages.old root (λ lines. ExchangesLine lines top old new.now → DiffersBy P.Pages pages.old pages.new (4 * root.height + 10))) }
     ensures kept { Continues P.Pages pages.old pages.new }
     ensures cause { HasCause (P.shows pages.old).faults (P.shows pages.new).faults (IsErrOf result PageErr.Failed) }
 {
-    if old < root.lines {
-        let taken = take_lines(alloc, pages, root, top, old)?;
-        let now = put_lines(alloc, pages, taken.root, top, new)?;
-        return Ok(Taken {
-            root: now,
-            bytes: taken.bytes,
-        });
+    if old == root.lines {
+        return replace_all(alloc, pages, root, new);
     }
-    let now = put_lines(alloc, pages, root, top, new)?;
-    take_lines(alloc, pages, now, top + new.len() as u64, old)
+    let taken = take_lines(alloc, pages, root, top, old)?;
+    let now = put_lines(alloc, pages, taken.root, top, new)?;
+    Ok(Taken {
+        root: now,
+        bytes: taken.bytes,
+    })
 }

@@ -6,8 +6,8 @@ ghost use Rattle.vs_text.specs.Text.{IsText, bytes_of};
 ghost use Rattle.vs_text.specs.Limits.{IsShort};
 ghost use Rattle.vs_text.specs.declared.TheConstants.{MAX_LINES, MAX_TEXT_BYTES};
 ghost use Rattle.vs_edit.specs.Splices.{splice};
-ghost use Rattle.vs_tree_shape.specs.Differs.{Differs};
 ghost use Rattle.vs_tree_blocks.specs.Edits.{FitsPage};
+ghost use Rattle.vs_tree.specs.Calls.{DiffersLittle, OfText};
 ghost use Rattle.vs_tree.specs.Texts.{HasText, Fits, IsSmallSplice};
 
 use crate::{Root, exchange_lines};
@@ -68,7 +68,7 @@ fn fill_text<P: Pages>(
     requires few_bytes { IsTrue P.tells → bytes_of new.now ≤ MAX_TEXT_BYTES }
     ensures text { IfOk result (λ extent. IsTrue P.tells → HasText (P.shows pages.new).present extent new.now) }
     ensures lines { IfOk result (λ extent. extent.lines ≡ length new.now) }
-    ensures differs { OnOk result (IsTrue P.tells → length new.now ≤ 1 → All FitsPage new.now → Differs (P.shows pages.old).present (P.shows pages.new).present (4 * now.height + 10)) }
+    ensures differs { OnOk result (IsTrue P.tells → length new.now ≤ 1 → All FitsPage new.now → DiffersLittle P.Pages pages.old pages.new now) }
     ensures kept { Continues P.Pages pages.old pages.new }
     ensures cause { HasCause (P.shows pages.old).faults (P.shows pages.new).faults (IsErrOf result PageErr.Failed) }
 {
@@ -90,7 +90,7 @@ fn clear_text<P: Pages>(alloc: Global, pages: &mut P, now: Extent) -> Result<Ext
     requires full { 0 < now.lines }
     ensures text { IfOk result (λ extent. IsTrue P.tells → HasText (P.shows pages.new).present extent []) }
     ensures lines { IfOk result (λ extent. extent.lines ≡ 0) }
-    ensures differs { OnOk result (IsTrue P.tells → (text : List (List ℕ)) → HasText (P.shows pages.old).present now text → now.lines ≤ 1 → All FitsPage text → Differs (P.shows pages.old).present (P.shows pages.new).present (4 * now.height + 10)) }
+    ensures differs { OnOk result (OfText P.Pages pages.old now (λ text. now.lines ≤ 1 → All FitsPage text → DiffersLittle P.Pages pages.old pages.new now)) }
     ensures kept { Continues P.Pages pages.old pages.new }
     ensures cause { HasCause (P.shows pages.old).faults (P.shows pages.new).faults (IsErrOf result PageErr.Failed) }
 {
@@ -119,10 +119,10 @@ fn replace_lines<P: Pages>(
     requires left { old < now.lines + length new.now }
     requires few_lines { now.lines + length new.now ≤ MAX_LINES + old }
     requires short_lines { All IsShort new.now }
-    requires few_bytes { IsTrue P.tells → (text : List (List ℕ)) → HasText (P.shows pages.old).present now text → bytes_of (splice text top old new.now) ≤ MAX_TEXT_BYTES }
-    ensures text { IfOk result (λ extent. IsTrue P.tells → (text : List (List ℕ)) → HasText (P.shows pages.old).present now text → HasText (P.shows pages.new).present extent (splice text top old new.now)) }
+    requires few_bytes { OfText P.Pages pages.old now (λ text. bytes_of (splice text top old new.now) ≤ MAX_TEXT_BYTES) }
+    ensures text { IfOk result (λ extent. OfText P.Pages pages.old now (λ text. HasText (P.shows pages.new).present extent (splice text top old new.now))) }
     ensures lines { IfOk result (λ extent. extent.lines + old ≡ now.lines + length new.now) }
-    ensures differs { OnOk result (IsTrue P.tells → (text : List (List ℕ)) → HasText (P.shows pages.old).present now text → IsSmallSplice text top old new.now → Differs (P.shows pages.old).present (P.shows pages.new).present (4 * now.height + 10)) }
+    ensures differs { OnOk result (OfText P.Pages pages.old now (λ text. IsSmallSplice text top old new.now → DiffersLittle P.Pages pages.old pages.new now)) }
     ensures kept { Continues P.Pages pages.old pages.new }
     ensures cause { HasCause (P.shows pages.old).faults (P.shows pages.new).faults (IsErrOf result PageErr.Failed) }
 {
@@ -153,10 +153,10 @@ pub fn splice_text<P: Pages>(
     requires within { top + old ≤ now.lines }
     requires few_lines { now.lines + length new.now ≤ MAX_LINES + old }
     requires short_lines { All IsShort new.now }
-    requires few_bytes { IsTrue P.tells → (text : List (List ℕ)) → HasText (P.shows pages.old).present now text → bytes_of (splice text top old new.now) ≤ MAX_TEXT_BYTES }
-    ensures text { IfOk result (λ extent. IsTrue P.tells → (text : List (List ℕ)) → HasText (P.shows pages.old).present now text → HasText (P.shows pages.new).present extent (splice text top old new.now)) }
+    requires few_bytes { OfText P.Pages pages.old now (λ text. bytes_of (splice text top old new.now) ≤ MAX_TEXT_BYTES) }
+    ensures text { IfOk result (λ extent. OfText P.Pages pages.old now (λ text. HasText (P.shows pages.new).present extent (splice text top old new.now))) }
     ensures lines { IfOk result (λ extent. extent.lines + old ≡ now.lines + length new.now) }
-    ensures differs { OnOk result (IsTrue P.tells → (text : List (List ℕ)) → HasText (P.shows pages.old).present now text → IsSmallSplice text top old new.now → Differs (P.shows pages.old).present (P.shows pages.new).present (4 * now.height + 10)) }
+    ensures differs { OnOk result (OfText P.Pages pages.old now (λ text. IsSmallSplice text top old new.now → DiffersLittle P.Pages pages.old pages.new now)) }
     ensures kept { Continues P.Pages pages.old pages.new }
     ensures cause { HasCause (P.shows pages.old).faults (P.shows pages.new).faults (IsErrOf result PageErr.Failed) }
 {

@@ -29,7 +29,7 @@ pub struct LineTree {
 }
 
 impl LineTree {
-    ghost use Rattle.vs_tree_shape.specs.Differs.{Differs};
+    ghost use Rattle.vs_tree.specs.Calls.{DiffersLittle, OfText};
     ghost use Rattle.vs_tree.specs.Texts.{HasText, Fits, IsSmallSplice};
 
     /// Writes the tree of the text without lines into the pages 1 and 2, and commits the pages.
@@ -81,7 +81,7 @@ impl LineTree {
         requires valid { P.valid pages.old }
         requires fits { Fits P.tells (P.shows pages.old).present self.old.present }
         requires within { at < self.old.present.lines }
-        ensures line { OnOk result (IsTrue P.tells → (text : List (List ℕ)) → HasText (P.shows pages.old).present self.old.present text → into.new.items ≡ get_or text at []) }
+        ensures line { OnOk result (OfText P.Pages pages.old self.old.present (λ text. into.new.items ≡ get_or text at [])) }
         ensures is_line { OnOk result (IsLine into.new.items) }
         ensures is_short { OnOk result (IsShort into.new.items) }
         ensures tree { self.new ≡ self.old }
@@ -112,7 +112,7 @@ impl LineTree {
         requires valid { P.valid pages.old }
         requires fits { Fits P.tells (P.shows pages.old).present self.old.present }
         requires within { at + count ≤ self.old.present.lines }
-        ensures lines { OnOk result (IsTrue P.tells → (text : List (List ℕ)) → HasText (P.shows pages.old).present self.old.present text → into.new.items ≡ into.old.items ++ file_of (take count (drop at text))) }
+        ensures lines { OnOk result (OfText P.Pages pages.old self.old.present (λ text. into.new.items ≡ into.old.items ++ file_of (take count (drop at text)))) }
         ensures adds { OnOk result (AddsLines into.old.items into.new.items count) }
         ensures tree { self.new ≡ self.old }
         ensures kept { OnlyReads P.Pages pages.old pages.new }
@@ -135,11 +135,11 @@ impl LineTree {
         requires within { top + old ≤ self.old.present.lines }
         requires few_lines { self.old.present.lines + length new.now ≤ MAX_LINES + old }
         requires short_lines { All IsShort new.now }
-        requires few_bytes { IsTrue P.tells → (text : List (List ℕ)) → HasText (P.shows pages.old).present self.old.present text → bytes_of (splice text top old new.now) ≤ MAX_TEXT_BYTES }
-        ensures text { OnOk result (IsTrue P.tells → (text : List (List ℕ)) → HasText (P.shows pages.old).present self.old.present text → HasText (P.shows pages.new).present self.new.present (splice text top old new.now)) }
+        requires few_bytes { OfText P.Pages pages.old self.old.present (λ text. bytes_of (splice text top old new.now) ≤ MAX_TEXT_BYTES) }
+        ensures text { OnOk result (OfText P.Pages pages.old self.old.present (λ text. HasText (P.shows pages.new).present self.new.present (splice text top old new.now))) }
         ensures fits { OnOk result (Fits P.tells (P.shows pages.new).present self.new.present) }
         ensures lines { OnOk result (self.new.present.lines + old ≡ self.old.present.lines + length new.now) }
-        ensures differs { OnOk result (IsTrue P.tells → (text : List (List ℕ)) → HasText (P.shows pages.old).present self.old.present text → IsSmallSplice text top old new.now → Differs (P.shows pages.old).present (P.shows pages.new).present (4 * self.old.present.height + 10)) }
+        ensures differs { OnOk result (OfText P.Pages pages.old self.old.present (λ text. IsSmallSplice text top old new.now → DiffersLittle P.Pages pages.old pages.new self.old.present)) }
         ensures before { self.new.committed ≡ self.old.committed }
         ensures kept { Continues P.Pages pages.old pages.new }
         ensures cause { HasCause (P.shows pages.old).faults (P.shows pages.new).faults (IsErrOf result PageErr.Failed) }
@@ -176,12 +176,12 @@ pub struct TreeStore<'t, P: Pages> {
 }
 
 impl<'t, P: Pages + Drop> LineStore for TreeStore<'t, P> {
-    ghost use Rattle.vs_tree.specs.Texts.{text_of, Fits};
+    ghost use Rattle.vs_tree.specs.Texts.{texts_of, Fits};
     ghost use Rattle.vs_tree.specs.Sames.{one_text};
 
     ghost tells = { P.tells };
 
-    ghost shows = { λ s. record { present = text_of P.tells (P.shows s.pages).present s.tree.now.present; committed = text_of P.tells (P.shows s.pages).committed s.tree.now.committed; faults = (P.shows s.pages).faults } };
+    ghost shows = { λ s. texts_of P.tells (P.shows s.pages) s.tree.now };
 
     ghost valid = { λ s. P.valid s.pages × Fits P.tells (P.shows s.pages).present s.tree.now.present × Fits P.tells (P.shows s.pages).committed s.tree.now.committed };
 

@@ -1,9 +1,9 @@
 // The way from block 1 to a line.
-ghost use Rattle.std.specs.Prelude.{◌≡◌, ◌≤◌, ◌<◌, ◌^◌, [], ℕ, List, IsErrOf, IfOk, OnOk, IsTrue, length, get_or};
+ghost use Rattle.std.specs.Prelude.{◌≡◌, ◌≤◌, ◌<◌, ◌^◌, [], IsErrOf, IfOk, OnOk, get_or};
 ghost use Rattle.vs_faults.specs.Faults.{HasCause};
 ghost use Rattle.vs_pages.specs.Calls.{OnlyReads};
 ghost use Rattle.vs_tree.specs.Reads.{IsFound};
-ghost use Rattle.vs_tree.specs.Runs.{HasTree};
+ghost use Rattle.vs_tree.specs.Calls.{OfTree, StandsTree};
 
 use std::alloc::Global;
 use vs_pages::{PageErr, Pages};
@@ -49,8 +49,8 @@ pub fn find_line<P: Pages>(
     requires valid { P.valid pages.old }
     requires within { at < root.lines }
     requires small { root.lines < 2 ^ 62 }
-    requires there { IsTrue P.tells → (lines : List (List ℕ)) × HasTree (P.shows pages.old).present root lines }
-    ensures found { IfOk result (λ found. IsTrue P.tells → (lines : List (List ℕ)) → HasTree (P.shows pages.old).present root lines → IsFound (P.shows pages.old).present lines at found) }
+    requires there { StandsTree P.Pages pages.old root }
+    ensures found { IfOk result (λ found. OfTree P.Pages pages.old root (λ lines. IsFound (P.shows pages.old).present lines at found)) }
     ensures within { IfOk result (λ found. found.rest < found.entry.lines) }
     ensures kept { OnlyReads P.Pages pages.old pages.new }
     ensures cause { HasCause (P.shows pages.old).faults (P.shows pages.new).faults (IsErrOf result PageErr.Failed) }
@@ -81,8 +81,8 @@ pub fn load_stored<P: Pages>(
     requires valid { P.valid pages.old }
     requires within { at < root.lines }
     requires small { root.lines < 2 ^ 62 }
-    requires there { IsTrue P.tells → (lines : List (List ℕ)) × HasTree (P.shows pages.old).present root lines }
-    ensures line { OnOk result (IsTrue P.tells → (lines : List (List ℕ)) → HasTree (P.shows pages.old).present root lines → into.new.items ≡ get_or lines at []) }
+    requires there { StandsTree P.Pages pages.old root }
+    ensures line { OnOk result (OfTree P.Pages pages.old root (λ lines. into.new.items ≡ get_or lines at [])) }
     ensures kept { OnlyReads P.Pages pages.old pages.new }
     ensures cause { HasCause (P.shows pages.old).faults (P.shows pages.new).faults (IsErrOf result PageErr.Failed) }
 {

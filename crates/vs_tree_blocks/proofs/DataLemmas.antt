@@ -1,5 +1,6 @@
 -- What the calls that write data blocks leave, over plain variables.
-use Rattle.std.proofs.Common.{◌≡◌, ℕ, zero, suc, ◌+◌, ◌-◌, ◌/◌, ◌<◌, ◌≤◌, List, [], ◌∷◌, ◌++◌, length, take, drop, insert, get_or, slice_get, Option, Some, None, Ok, IsSome, IsSomeAnd, nat_le, nat_lt, if◌then◌else◌, cond, Bool, true, false, sym, refl, ap, subst, ◌∙◌, arith, append-nil, append_assoc, length-take, length-drop, inl, inr}
+use Rattle.std.proofs.Common.{◌≡◌, ℕ, zero, suc, ◌+◌, ◌-◌, ◌/◌, ◌^◌, ◌<◌, ◌≤◌, List, [], ◌∷◌, ◌++◌, length, map, take, drop, insert, get_or, slice_get, Option, Some, None, Ok, IsSome, IsSomeAnd, nat_le, nat_lt, if◌then◌else◌, cond, Bool, true, false, sym, refl, ap, subst, ◌∙◌, arith, append-nil, append_assoc, length-take, length-drop, inl, inr}
+use Rattle.std.specs.List.{AllByRecursion, flat_map}
 use Rattle.std.specs.Option.{option_map, option_and_then}
 use Rattle.std.proofs.lemmas.Grind.{common_steps}
 use Rattle.std.proofs.lemmas.Bool.Decides.{nat_tests}
@@ -11,13 +12,16 @@ use Rattle.vs_data.specs.Blocks.{lines_in, view_in, Measures}
 use Rattle.vs_data.proofs.Lines.{measured}
 use Rattle.vs_data.proofs.Reading.{has_view, view_bounds}
 use Rattle.vs_tree_shape.specs.declared.entries.Entry.{Entry}
-use Rattle.vs_tree_shape.specs.Trees.{leaf, read_by}
+use Rattle.vs_tree_shape.specs.Places.{lines_below}
+use Rattle.vs_tree_shape.specs.Trees.{Leaf, leaf, read_by}
 use Rattle.vs_tree_shape.specs.Changes.{Change, Takes, edited, ChangesBelow, Replaces, ReplacedBy, Stored, Added, splice}
 use Rattle.vs_tree_shape.proofs.Writes.{put_leaf, new_leaf, kept_leaf, freed, promise_leaf, replaces_behind, replaces_before, wrote_leaves}
 use Rattle.vs_tree_shape.proofs.Shapes.{read_from}
 use Rattle.vs_tree_shape.proofs.Sums.{halves}
 use Rattle.vs_tree_shape.proofs.Splices.{splice_mid, length_splice}
-use Rattle.vs_tree_blocks.specs.Blocks.{tree_format, data_lines, long_line, lines_at}
+use Rattle.vs_tree_blocks.specs.Blocks.{tree_format, data_lines, long_line, lines_at, FitsFields}
+use Rattle.vs_tree_blocks.specs.Cuts.{all_lines}
+use Rattle.vs_tree_blocks.specs.Writes.{HasBlocks, IsWritten}
 
 pub one_page : (bytes : List ℕ) (pages : ℕ) → pages ≡ 1 → data_lines pages bytes ≡ lines_in bytes
 unfolding data_lines
@@ -27,7 +31,7 @@ pub thin : (bytes : List ℕ) (pages : ℕ) → pages ≤ 1 → data_lines pages
 unfolding data_lines
 thin bytes pages few = grind (arith, nat_tests)
 
-abbrev entry_with : ℕ → ℕ → ℕ → Entry
+abbrev pub entry_with : ℕ → ℕ → ℕ → Entry
 entry_with block pages lines = record { block = block; pages = pages; lines = lines }
 
 long_case : (b : Bool) (line : List ℕ) (ls : List (List ℕ)) → cond b (Some (line ∷ [])) None ≡ Some ls → (let o : Option (List (List ℕ)) = Some (line ∷ []) in o ≡ Some ls) × (length ls ≡ 1)
@@ -70,51 +74,128 @@ pub long_reads : (bytes line : List ℕ) (pages : ℕ) → 2 ≤ pages → 4067 
 unfolding data_lines
 long_reads bytes line pages many long is = sym (several pages (lines_in bytes) many) ∙ ap long_line is ∙ grind (arith, nat_tests)
 
--- a block written in place
-pub wrote_place : (m n : Map) (block count : ℕ) (bytes : List ℕ) (ls : List (List ℕ)) (entries : List Entry) → Stored m n block 1 bytes → lines_in bytes ≡ Some ls → count ≡ length ls → entries ≡ record { block = block; pages = 1; lines = count } ∷ [] → ReplacedBy tree_format m n (λ k. span block 1 k) 0 ls entries
-wrote_place m n block count bytes ls entries s reads count_is is =
-    wrote_leaves tree_format m n (λ k. span block 1 k) ls entries (leaf block 1 ls ∷ []) (put_leaf tree_format m n block 1 bytes ls s (omega arith) (one_page bytes 1 refl ∙ reads))
-    (is ∙ ap (λ (i : ℕ). entry_with block 1 i ∷ []) count_is) (append-nil ls)
+-- the lines of all leaves
+lines_all : (us : List Leaf) → flat_map (λ (u : Leaf). u.lines) us ≡ all_lines (map (λ (u : Leaf). u.lines) us)
+lines_all [] = refl
+lines_all (u ∷ us) = ap (λ xs. u.lines ++ xs) (lines_all us)
+
+-- blocks in place of a block are trees with the lines of all of them
+pub replaced_by : (m n : Map) (old : ℕ → ℕ) (blocks : List (List (List ℕ))) (entries : List Entry) (ls : List (List ℕ)) → HasBlocks m n old blocks entries → all_lines blocks ≡ ls → ReplacedBy tree_format m n old 0 ls entries
+replaced_by m n old blocks entries ls h all = wrote_leaves tree_format m n old ls entries h.leaves h.replaces h.entries_are (lines_all h.leaves ∙ ap all_lines h.blocks_are ∙ all)
+
+-- what is written in place of a block
+
+pub page_fits : (block lines : ℕ) → block < 2 ^ 63 → lines ≤ 1024 → FitsFields (entry_with block 1 lines)
+page_fits block lines at few = record { block = at; pages = omega arith; lines = omega (arith, few); leads = refl }
+
+-- one block in place
+pub written_place : (T : Type 0) (m n : Map) (block : ℕ) (bytes : List ℕ) (ls : List (List ℕ)) (entries : List Entry) → block < 2 ^ 63 → length ls ≤ 1024 → (T → Stored m n block 1 bytes) → lines_in bytes ≡ Some ls → entries ≡ entry_with block 1 (length ls) ∷ [] → IsWritten T m n block (ls ∷ []) entries
+written_place T m n block bytes ls entries at few stored reads is = record {
+  stand = λ t. record { leaves = leaf block 1 ls ∷ []; entries_are = is; replaces = put_leaf tree_format m n block 1 bytes ls (stored t) (omega arith) (one_page bytes 1 refl ∙ reads); blocks_are = refl };
+  fields = subst (λ (es : List Entry). AllByRecursion FitsFields es) (sym is) (page_fits block (length ls) at few, tt);
+  few = omega (arith, ap length is);
+  lines = omega (arith, ap lines_below is);
+}
 
 -- a block in two parts, the second in a new block
-pub wrote_parts : (m n1 n2 : Map) (block other i j : ℕ) (first second : List ℕ) (a b : List (List ℕ)) (entries : List Entry) → Stored m n1 block 1 first → lines_in first ≡ Some a → i ≡ length a → Added n1 n2 other 1 second → lines_in second ≡ Some b → j ≡ length b
-    → entries ≡ record { block = block; pages = 1; lines = i } ∷ record { block = other; pages = 1; lines = j } ∷ [] → ReplacedBy tree_format m n2 (λ k. span block 1 k) 0 (a ++ b) entries
-wrote_parts m n1 n2 block other i j first second a b entries s reads_first i_is t reads_second j_is is =
-    wrote_leaves tree_format m n2 (λ k. span block 1 k) (a ++ b) entries (leaf block 1 a ∷ leaf other 1 b ∷ [])
-    (replaces_behind tree_format m n1 n2 0 (λ k. span block 1 k) (leaf block 1 a ∷ []) (leaf other 1 b ∷ []) (put_leaf tree_format m n1 block 1 first a s (omega arith) (one_page first 1 refl ∙ reads_first)) (new_leaf tree_format n1 n2 other 1 second b t (omega arith) (one_page second 1 refl ∙ reads_second)))
-    (is ∙ ap (λ (k : ℕ). entry_with block 1 k ∷ entry_with other 1 j ∷ []) i_is ∙ ap (λ (k : ℕ). entry_with block 1 (length a) ∷ entry_with other 1 k ∷ []) j_is) (ap (λ xs. a ++ xs) (append-nil b))
+pub written_parts : (T : Type 0) (m n1 n2 : Map) (block other : ℕ) (first second : List ℕ) (a b : List (List ℕ)) (entries : List Entry) → block < 2 ^ 63 → other < 2 ^ 63 → length a ≤ 1024 → length b ≤ 1024 → (T → Stored m n1 block 1 first) → lines_in first ≡ Some a
+    → (T → Added n1 n2 other 1 second) → lines_in second ≡ Some b → entries ≡ entry_with block 1 (length a) ∷ entry_with other 1 (length b) ∷ [] → IsWritten T m n2 block (a ∷ b ∷ []) entries
+written_parts T m n1 n2 block other first second a b entries at at2 few few2 stored reads added reads2 is = record {
+  stand = λ t. record {
+    leaves = leaf block 1 a ∷ leaf other 1 b ∷ [];
+    entries_are = is;
+    replaces = replaces_behind tree_format m n1 n2 0 (λ k. span block 1 k) (leaf block 1 a ∷ []) (leaf other 1 b ∷ []) (put_leaf tree_format m n1 block 1 first a (stored t) (omega arith) (one_page first 1 refl ∙ reads)) (new_leaf tree_format n1 n2 other 1 second b (added t) (omega arith) (one_page second 1 refl ∙ reads2));
+    blocks_are = refl;
+  };
+  fields = subst (λ (es : List Entry). AllByRecursion FitsFields es) (sym is) (page_fits block (length a) at few, (page_fits other (length b) at2 few2, tt));
+  few = omega (arith, ap length is);
+  lines = omega (arith, ap lines_below is);
+}
 
--- a block left alone, and a new one before it
+-- a block in two parts, and a run in a new one between them
+pub written_between : (T : Type 0) (m n1 n2 n3 : Map) (block other : ℕ) (first second : List ℕ) (a b run : List (List ℕ)) (new : Entry) (entries : List Entry) → block < 2 ^ 63 → other < 2 ^ 63 → length a ≤ 1024 → length b ≤ 1024 → FitsFields new → (T → Stored m n1 block 1 first) → lines_in first ≡ Some a
+    → (T → Replaces tree_format n1 n2 (λ k. 0) 0 (leaf new.block new.pages run ∷ [])) → new.lines ≡ length run → (T → Added n2 n3 other 1 second) → lines_in second ≡ Some b → entries ≡ entry_with block 1 (length a) ∷ new ∷ entry_with other 1 (length b) ∷ [] → IsWritten T m n3 block (a ∷ run ∷ b ∷ []) entries
+written_between T m n1 n2 n3 block other first second a b run new entries at at2 few few2 fits stored reads put count added reads2 is = record {
+  stand = λ t.
+      let two = replaces_behind tree_format m n1 n2 0 (λ k. span block 1 k) (leaf block 1 a ∷ []) (leaf new.block new.pages run ∷ []) (put_leaf tree_format m n1 block 1 first a (stored t) (omega arith) (one_page first 1 refl ∙ reads)) (put t) in
+      record {
+        leaves = leaf block 1 a ∷ leaf new.block new.pages run ∷ leaf other 1 b ∷ [];
+        entries_are = is ∙ ap (λ (k : ℕ). entry_with block 1 (length a) ∷ entry_with new.block new.pages k ∷ entry_with other 1 (length b) ∷ []) count;
+        replaces = replaces_behind tree_format m n2 n3 0 (λ k. span block 1 k) (leaf block 1 a ∷ leaf new.block new.pages run ∷ []) (leaf other 1 b ∷ []) two (new_leaf tree_format n2 n3 other 1 second b (added t) (omega arith) (one_page second 1 refl ∙ reads2));
+        blocks_are = refl;
+      };
+  fields = subst (λ (es : List Entry). AllByRecursion FitsFields es) (sym is) (page_fits block (length a) at few, (fits, (page_fits other (length b) at2 few2, tt)));
+  few = omega (arith, ap length is);
+  lines = omega (arith, ap lines_below is, count);
+}
+
+-- a block left alone, and a new one before it or after it
+
+pub stand_before : (m n : Map) (block pages : ℕ) (ls run : List (List ℕ)) (new : Entry) (entries : List Entry) → lines_at m block pages ≡ Some ls → 1 ≤ pages → Replaces tree_format m n (λ k. 0) 0 (leaf new.block new.pages run ∷ []) → new.lines ≡ length run
+    → entries ≡ new ∷ entry_with block pages (length ls) ∷ [] → HasBlocks m n (λ k. span block pages k) (run ∷ ls ∷ []) entries
+stand_before m n block pages ls run new entries reads some r count is = record {
+  leaves = leaf new.block new.pages run ∷ leaf block pages ls ∷ [];
+  entries_are = is ∙ ap (λ (k : ℕ). entry_with new.block new.pages k ∷ entry_with block pages (length ls) ∷ []) count;
+  replaces = replaces_before tree_format m m n 0 (λ k. span block pages k) (leaf block pages ls ∷ []) (leaf new.block new.pages run ∷ []) (kept_leaf tree_format m block pages ls reads some) r;
+  blocks_are = refl;
+}
+
+pub stand_behind : (m n : Map) (block pages : ℕ) (ls run : List (List ℕ)) (new : Entry) (entries : List Entry) → lines_at m block pages ≡ Some ls → 1 ≤ pages → Replaces tree_format m n (λ k. 0) 0 (leaf new.block new.pages run ∷ []) → new.lines ≡ length run
+    → entries ≡ entry_with block pages (length ls) ∷ new ∷ [] → HasBlocks m n (λ k. span block pages k) (ls ∷ run ∷ []) entries
+stand_behind m n block pages ls run new entries reads some r count is = record {
+  leaves = leaf block pages ls ∷ leaf new.block new.pages run ∷ [];
+  entries_are = is ∙ ap (λ (k : ℕ). entry_with block pages (length ls) ∷ entry_with new.block new.pages k ∷ []) count;
+  replaces = replaces_behind tree_format m m n 0 (λ k. span block pages k) (leaf block pages ls ∷ []) (leaf new.block new.pages run ∷ []) (kept_leaf tree_format m block pages ls reads some) r;
+  blocks_are = refl;
+}
+
 pub wrote_before : (m n : Map) (block pages i : ℕ) (ls run : List (List ℕ)) (new : Entry) (entries : List Entry) → lines_at m block pages ≡ Some ls → 1 ≤ pages → i ≡ length ls → Replaces tree_format m n (λ k. 0) 0 (leaf new.block new.pages run ∷ []) → new.lines ≡ length run
-    → entries ≡ new ∷ record { block = block; pages = pages; lines = i } ∷ [] → ReplacedBy tree_format m n (λ k. span block pages k) 0 (run ++ ls) entries
+    → entries ≡ new ∷ entry_with block pages i ∷ [] → ReplacedBy tree_format m n (λ k. span block pages k) 0 (run ++ ls) entries
 wrote_before m n block pages i ls run new entries reads some i_is r count is =
-    wrote_leaves tree_format m n (λ k. span block pages k) (run ++ ls) entries (leaf new.block new.pages run ∷ leaf block pages ls ∷ [])
-    (replaces_before tree_format m m n 0 (λ k. span block pages k) (leaf block pages ls ∷ []) (leaf new.block new.pages run ∷ []) (kept_leaf tree_format m block pages ls reads some) r)
-    (is ∙ ap (λ (k : ℕ). new ∷ entry_with block pages k ∷ []) i_is ∙ ap (λ (k : ℕ). entry_with new.block new.pages k ∷ entry_with block pages (length ls) ∷ []) count) (ap (λ xs. run ++ xs) (append-nil ls))
+    replaced_by m n (λ k. span block pages k) (run ∷ ls ∷ []) entries (run ++ ls) (stand_before m n block pages ls run new entries reads some r count (is ∙ ap (λ (k : ℕ). new ∷ entry_with block pages k ∷ []) i_is)) (ap (λ xs. run ++ xs) (append-nil ls))
 
--- a block left alone, and a new one after it
 pub wrote_behind : (m n : Map) (block pages i : ℕ) (ls run : List (List ℕ)) (new : Entry) (entries : List Entry) → lines_at m block pages ≡ Some ls → 1 ≤ pages → i ≡ length ls → Replaces tree_format m n (λ k. 0) 0 (leaf new.block new.pages run ∷ []) → new.lines ≡ length run
-    → entries ≡ record { block = block; pages = pages; lines = i } ∷ new ∷ [] → ReplacedBy tree_format m n (λ k. span block pages k) 0 (ls ++ run) entries
+    → entries ≡ entry_with block pages i ∷ new ∷ [] → ReplacedBy tree_format m n (λ k. span block pages k) 0 (ls ++ run) entries
 wrote_behind m n block pages i ls run new entries reads some i_is r count is =
-    wrote_leaves tree_format m n (λ k. span block pages k) (ls ++ run) entries (leaf block pages ls ∷ leaf new.block new.pages run ∷ [])
-    (replaces_behind tree_format m m n 0 (λ k. span block pages k) (leaf block pages ls ∷ []) (leaf new.block new.pages run ∷ []) (kept_leaf tree_format m block pages ls reads some) r)
-    (is ∙ ap (λ (k : ℕ). entry_with block pages k ∷ new ∷ []) i_is ∙ ap (λ (k : ℕ). entry_with block pages (length ls) ∷ entry_with new.block new.pages k ∷ []) count) (ap (λ xs. ls ++ xs) (append-nil run))
+    replaced_by m n (λ k. span block pages k) (ls ∷ run ∷ []) entries (ls ++ run) (stand_behind m n block pages ls run new entries reads some r count (is ∙ ap (λ (k : ℕ). entry_with block pages k ∷ new ∷ []) i_is)) (ap (λ xs. ls ++ xs) (append-nil run))
 
--- a block in two parts, and a new one between them
-pub wrote_between : (m n1 n2 n3 : Map) (block other i j : ℕ) (first second : List ℕ) (a b run : List (List ℕ)) (new : Entry) (entries : List Entry) → Stored m n1 block 1 first → lines_in first ≡ Some a → i ≡ length a
-    → Replaces tree_format n1 n2 (λ k. 0) 0 (leaf new.block new.pages run ∷ []) → new.lines ≡ length run → Added n2 n3 other 1 second → lines_in second ≡ Some b → j ≡ length b
-    → entries ≡ record { block = block; pages = 1; lines = i } ∷ new ∷ record { block = other; pages = 1; lines = j } ∷ [] → ReplacedBy tree_format m n3 (λ k. span block 1 k) 0 (a ++ (run ++ b)) entries
-wrote_between m n1 n2 n3 block other i j first second a b run new entries s reads_first i_is r count t reads_second j_is is =
-    let two = replaces_behind tree_format m n1 n2 0 (λ k. span block 1 k) (leaf block 1 a ∷ []) (leaf new.block new.pages run ∷ []) (put_leaf tree_format m n1 block 1 first a s (omega arith) (one_page first 1 refl ∙ reads_first)) r in
-    wrote_leaves tree_format m n3 (λ k. span block 1 k) (a ++ (run ++ b)) entries (leaf block 1 a ∷ leaf new.block new.pages run ∷ leaf other 1 b ∷ [])
-    (replaces_behind tree_format m n2 n3 0 (λ k. span block 1 k) (leaf block 1 a ∷ leaf new.block new.pages run ∷ []) (leaf other 1 b ∷ []) two (new_leaf tree_format n2 n3 other 1 second b t (omega arith) (one_page second 1 refl ∙ reads_second)))
-    (is ∙ ap (λ (k : ℕ). entry_with block 1 k ∷ new ∷ entry_with other 1 j ∷ []) i_is ∙ ap (λ (k : ℕ). entry_with block 1 (length a) ∷ new ∷ entry_with other 1 k ∷ []) j_is
-    ∙ ap (λ (k : ℕ). entry_with block 1 (length a) ∷ entry_with new.block new.pages k ∷ entry_with other 1 (length b) ∷ []) count) (ap (λ xs. a ++ (run ++ xs)) (append-nil b))
+pub nothing_left : (ls : List (List ℕ)) → length ls ≡ 0 → [] ≡ ls
+nothing_left [] none = refl
+nothing_left (line ∷ ls) none = absurd (omega arith)
+
+pub written_before : (T : Type 0) (m n : Map) (block : ℕ) (ls run : List (List ℕ)) (new : Entry) (entries : List Entry) → block < 2 ^ 63 → length ls ≤ 1024 → FitsFields new → (T → lines_at m block 1 ≡ Some ls) → (T → Replaces tree_format m n (λ k. 0) 0 (leaf new.block new.pages run ∷ [])) → new.lines ≡ length run
+    → entries ≡ new ∷ entry_with block 1 (length ls) ∷ [] → IsWritten T m n block (run ∷ ls ∷ []) entries
+written_before T m n block ls run new entries at few fits reads put count is = record {
+  stand = λ t. stand_before m n block 1 ls run new entries (reads t) (omega arith) (put t) count is;
+  fields = subst (λ (es : List Entry). AllByRecursion FitsFields es) (sym is) (fits, (page_fits block (length ls) at few, tt));
+  few = omega (arith, ap length is);
+  lines = omega (arith, ap lines_below is, count);
+}
+
+pub written_behind : (T : Type 0) (m n : Map) (block : ℕ) (ls run : List (List ℕ)) (new : Entry) (entries : List Entry) → block < 2 ^ 63 → length ls ≤ 1024 → FitsFields new → (T → lines_at m block 1 ≡ Some ls) → (T → Replaces tree_format m n (λ k. 0) 0 (leaf new.block new.pages run ∷ [])) → new.lines ≡ length run
+    → entries ≡ entry_with block 1 (length ls) ∷ new ∷ [] → IsWritten T m n block (ls ∷ run ∷ []) entries
+written_behind T m n block ls run new entries at few fits reads put count is = record {
+  stand = λ t. stand_behind m n block 1 ls run new entries (reads t) (omega arith) (put t) count is;
+  fields = subst (λ (es : List Entry). AllByRecursion FitsFields es) (sym is) (page_fits block (length ls) at few, (fits, tt));
+  few = omega (arith, ap length is);
+  lines = omega (arith, ap lines_below is, count);
+}
 
 -- a block given back
-pub wrote_gone : (m n : Map) (block pages : ℕ) (ls : List (List ℕ)) (entries : List Entry) → n ≡ without m block pages → length ls ≡ 0 → entries ≡ [] → ReplacedBy tree_format m n (λ k. span block pages k) 0 ls entries
-wrote_gone m n block pages [] entries is none empty = wrote_leaves tree_format m n (λ k. span block pages k) [] entries [] (freed tree_format m n block pages 0 (λ k. span block pages k) is (λ k. omega arith)) empty refl
-wrote_gone m n block pages (x ∷ ls) entries is none empty = absurd (omega arith)
+pub stand_gone : (m n : Map) (block pages : ℕ) (entries : List Entry) → n ≡ without m block pages → entries ≡ [] → HasBlocks m n (λ k. span block pages k) [] entries
+stand_gone m n block pages entries is none = record { leaves = []; entries_are = none; replaces = freed tree_format m n block pages 0 (λ k. span block pages k) is (λ k. omega arith); blocks_are = refl }
+
+pub written_gone : (T : Type 0) (m n : Map) (block : ℕ) (entries : List Entry) → (T → n ≡ without m block 1) → entries ≡ [] → IsWritten T m n block [] entries
+written_gone T m n block entries is none = record {
+  stand = λ t. stand_gone m n block 1 entries (is t) none;
+  fields = subst (λ (es : List Entry). AllByRecursion FitsFields es) (sym none) tt;
+  few = omega (arith, ap length none);
+  lines = omega (arith, ap lines_below none);
+}
+
+-- the same blocks, said otherwise
+pub written_as : (T : Type 0) (m n : Map) (block : ℕ) (blocks others : List (List (List ℕ))) (entries : List Entry) → blocks ≡ others → IsWritten T m n block blocks entries → IsWritten T m n block others entries
+written_as T m n block blocks others entries same w = subst (λ (bs : List (List (List ℕ))). IsWritten T m n block bs entries) same w
 
 pub insert_splice : (ls : List (List ℕ)) (at : ℕ) (line : List ℕ) → insert ls at line ≡ splice ls at 0 (line ∷ [])
 insert_splice ls at line = grind (arith, common_steps)

@@ -1,4 +1,5 @@
 pub mod ChangesLemmas
+pub mod CutsLemmas
 pub mod DataLemmas
 pub mod EditedLemmas
 pub mod EntriesLemmas
@@ -7,5 +8,6 @@ pub mod RemovedLemmas
 pub mod LoadLemmas
 pub mod OneList
 pub mod Outcomes
+pub mod PlacedLemmas
 pub mod PointersLemmas
 pub mod RunsLemmas

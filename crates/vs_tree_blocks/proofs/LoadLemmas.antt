@@ -1,6 +1,6 @@
 -- Bytes that were loaded are a data block as the entry says just where the checks of the code pass.
-use Rattle.std.proofs.Common.{◌≡◌, ℕ, ◌+◌, ◌-◌, ◌<◌, ◌≤◌, List, [], ◌∷◌, length, Option, Some, None, Ok, Bool, true, IsSome, is_some, sym, refl, ap, subst, ◌∙◌, arith, inl, inr}
-use Rattle.std.proofs.lemmas.Bool.{cases_eq, cases_lt}
+use Rattle.std.proofs.Common.{◌≡◌, ℕ, ◌-◌, ◌<◌, ◌≤◌, List, [], ◌∷◌, length, Option, Some, None, Ok, true, IsSome, sym, refl, ap, ◌∙◌, arith, inl, inr}
+use Rattle.std.proofs.lemmas.Bool.{cases_lt}
 use Rattle.std.proofs.lemmas.Bool.Decides.{nat_tests}
 use Rattle.vs_text.specs.Text.{bytes_of}
 use Rattle.vs_pages.specs.Maps.{Map, pages_at}
@@ -8,8 +8,8 @@ use Rattle.vs_data.specs.declared.DataView.{DataView}
 use Rattle.vs_data.specs.Blocks.{lines_in, view_in}
 use Rattle.vs_tree_shape.specs.declared.entries.Entry.{Entry}
 use Rattle.vs_tree_shape.specs.Trees.{read_by}
-use Rattle.vs_tree_blocks.specs.Blocks.{data_lines, lines_at, may_lead, FitsFields, IsDataOf, LeadsToData}
-use Rattle.vs_tree_blocks.proofs.DataLemmas.{thin, only_same, long_one, long_reads, count_is, long_alone}
+use Rattle.vs_tree_blocks.specs.Blocks.{data_lines, may_lead, FitsFields, IsDataOf, LeadsToData}
+use Rattle.vs_tree_blocks.proofs.DataLemmas.{thin, only_same, long_one, long_reads, count_is}
 use Rattle.vs_tree_blocks.proofs.RunsLemmas.{told}
 use Rattle.vs_tree_blocks.proofs.RemovedLemmas.{text_bytes}
 use Rattle.vs_tree_blocks.specs.Runs.{lines_within}

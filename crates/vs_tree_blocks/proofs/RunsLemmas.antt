@@ -11,6 +11,7 @@ use Rattle.vs_data.proofs.Lines.{measured}
 use Rattle.vs_data.proofs.Reading.{has_view, view_bounds}
 use Rattle.vs_tree_shape.specs.Changes.{splice}
 use Rattle.vs_tree_shape.proofs.Splices.{splice_mid}
+use Rattle.vs_tree_shape.proofs.Sums.{halves}
 use Rattle.vs_tree_blocks.specs.Blocks.{data_lines, may_lead}
 use Rattle.vs_tree_blocks.specs.Runs.{or_none, lines_within, IsRun}
 use Rattle.vs_tree_blocks.proofs.DataLemmas.{one_page, long_alone, long_one, alone_reads, insert_splice, line_at}
@@ -101,6 +102,7 @@ insert_behind ls at line last = grind (arith, common_steps)
 pub record Half (old now : List ℕ) (view whole : DataView) (run : List (List ℕ)) (at i : ℕ) : Type 0 where
   pub view_is : view_in now ≡ Ok whole
   pub size : length now ≡ 4096
+  pub end : whole.text_end ≡ view.text_end
   pub count : whole.count ≡ view.count + i
   pub room : space_of (drop i run) ≤ free_space whole
   pub lines : lines_in now ≡ Some (splice (lines_within old) at 0 (take i run))
@@ -128,10 +130,18 @@ half_more old now next view whole after run at i place line h le lt place_is nex
     record {
       view_is = reads;
       size = size ∙ h.size;
+      end = ap (λ (v : DataView). v.text_end) header ∙ h.end;
       count = omega (arith, h.count, ap (λ (v : DataView). v.count) header);
       room = omega (arith, h.room, ap space_of next_is.1, sum_by-cons (λ (l : List ℕ). length l + 5) line (drop (i + 1) run), ap free_space header);
       lines = lines ∙ ap (λ o. option_map (λ ls. insert ls place line) o) h.lines ∙ ap (λ xs. Some xs) (put_more (lines_within old) run at i place line le lt place_is next_is);
     }
+
+-- what one line more takes
+pub space_more : (run : List (List ℕ)) (i : ℕ) (line : List ℕ) → IsNext run i line → space_of (take (i + 1) run) ≡ space_of (take i run) + (length line + 5)
+space_more run i line next = ap space_of next.0 ∙ space-behind (take i run) line
+
+pub space_part : (i : ℕ) (ls : List (List ℕ)) → space_of (take i ls) ≤ space_of ls
+space_part i ls = omega (arith, sum_by-append (λ (l : List ℕ). length l + 5) (take i ls) (drop i ls), ap space_of (halves i ls))
 
 pub half_none : (old now : List ℕ) (view : DataView) (run : List (List ℕ)) (at : ℕ) → now ≡ old → view_in old ≡ Ok view → length old ≡ 4096 → space_of run ≤ free_space view → Half old now view view run at 0
 half_none old now view run at same is size room =
@@ -139,6 +149,7 @@ half_none old now view run at same is size room =
     record {
       view_is = ap view_in same ∙ is;
       size = ap length same ∙ size;
+      end = refl;
       count = omega arith;
       room = room;
       lines = ap lines_in same ∙ (told old view is).lines_are ∙ ap (λ ls. Some ls) none;
@@ -147,10 +158,18 @@ half_none old now view run at same is size room =
 pub half_room : (run : List (List ℕ)) (i : ℕ) (line : List ℕ) (free : ℕ) → IsNext run i line → space_of (drop i run) ≤ free → length line + 5 ≤ free
 half_room run i line free next room = omega (arith, room, ap space_of next.1, sum_by-cons (λ (l : List ℕ). length l + 5) line (drop (i + 1) run))
 
-pub half_all : (old now : List ℕ) (view whole : DataView) (run : List (List ℕ)) (at i : ℕ) → i ≡ length run → view_in old ≡ Ok view → Half old now view whole run at i → lines_in now ≡ option_map (λ ls. splice ls at 0 run) (lines_in old)
-half_all old now view whole run at i all is h =
+pub half_all : (old now : List ℕ) (view whole : DataView) (run : List (List ℕ)) (at i : ℕ) → i ≡ length run → Half old now view whole run at i → lines_within now ≡ splice (lines_within old) at 0 run
+half_all old now view whole run at i all h =
     let whole_run : take i run ≡ run = grind (arith, common_steps) in
-    h.lines ∙ ap (λ xs. Some (splice (lines_within old) at 0 xs)) whole_run ∙ sym (ap (λ o. option_map (λ ls. splice ls at 0 run) o) (told old view is).lines_are)
+    within_is now (splice (lines_within old) at 0 (take i run)) h.lines ∙ ap (λ xs. splice (lines_within old) at 0 xs) whole_run
+
+-- a block's lines and free space fill its room
+pub room_is : (bytes : List ℕ) (view : DataView) → view_in bytes ≡ Ok view → space_of (lines_within bytes) + free_space view ≡ view.text_end - 24
+room_is bytes view is = let t = told bytes view is in omega (arith, t.space)
+
+-- what a page has room for
+pub page_small : (bytes : List ℕ) (view : DataView) → view_in bytes ≡ Ok view → length bytes ≡ 4096 → length (lines_within bytes) ≤ 1024
+page_small bytes view is size = let t = told bytes view is in omega (arith, t.count, t.index, t.text, t.within, size)
 
 -- the entry of a run's block: it has several pages only for one line
 pub run_leads : (bytes : List ℕ) (view : DataView) (pages : ℕ) → IsRun bytes view pages → may_lead pages (length (lines_within bytes)) ≡ true

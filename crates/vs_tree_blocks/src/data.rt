@@ -1,16 +1,17 @@
 // Data blocks in pages, edited.
-ghost use Rattle.std.specs.Prelude.{◌≡◌, ◌≤◌, ◌<◌, ◌+◌, ◌-◌, ◌^◌, [], ℕ, List, Some, Ok, IsErrOf, IfOk, OnOk, IsTrue, length, take, drop};
+ghost use Rattle.std.specs.Prelude.{◌≡◌, ◌≤◌, ◌<◌, ◌+◌, ◌-◌, ◌^◌, [], Ok, IsErrOf, IfOk, OnOk, IsTrue, length, take, drop};
 ghost use Rattle.std.specs.List.{AllByRecursion};
 ghost use Rattle.vs_faults.specs.Faults.{HasCause};
 ghost use Rattle.vs_text.specs.Text.{bytes_of};
 ghost use Rattle.vs_pages.specs.Calls.{Continues};
-ghost use Rattle.vs_pages.specs.Maps.{pages_at, span};
-ghost use Rattle.vs_data.specs.Blocks.{lines_in, view_in};
-ghost use Rattle.vs_tree_shape.specs.Differs.{Differs};
-ghost use Rattle.vs_tree_shape.specs.Changes.{HasLineBelow, ChangesBelow, ReplacedBy, splice};
+ghost use Rattle.vs_data.specs.Blocks.{view_in};
+ghost use Rattle.vs_tree_shape.specs.Changes.{HasLineBelow, splice};
 ghost use Rattle.vs_tree_shape.specs.Places.{lines_below};
 ghost use Rattle.vs_tree_blocks.specs.Blocks.{tree_format, FitsFields};
-ghost use Rattle.vs_tree_blocks.specs.Edits.{added_by, change_of, ChangesFew, IsEdit, MayTake};
+ghost use Rattle.vs_tree_blocks.specs.Cuts.{part};
+ghost use Rattle.vs_tree_blocks.specs.Edits.{added_by, CutsBlock, EditsBelow, EditsFew, IsEdit, MayTake};
+ghost use Rattle.vs_tree_blocks.specs.Runs.{lines_within};
+ghost use Rattle.vs_tree_blocks.specs.Writes.{HasPage, Touches, Writes};
 
 use crate::long::edit_long;
 use crate::put::{put_run, write_whole};
@@ -33,17 +34,14 @@ fn remove_lines<P: Pages>(
 ) -> Result<Edited, PageErr>
     requires valid { P.valid pages.old }
     requires block { block < 2 ^ 63 }
-    requires there { IsTrue P.tells → pages_at (P.shows pages.old).present block 1 ≡ Some bytes.now }
+    requires there { HasPage P.Pages pages.old block bytes.now }
     requires size { length bytes.now ≡ 4096 }
     requires view { view_in bytes.now ≡ Ok view }
     requires within { at + count ≤ view.count }
-    ensures wrote { IfOk result (λ after. IsTrue P.tells → (lines : List (List ℕ)) → lines_in bytes.now ≡ Some lines → ReplacedBy tree_format (P.shows pages.old).present (P.shows pages.new).present (λ k. span block 1 k) 0 (splice lines at count []) after.entries.items) }
+    ensures wrote { IfOk result (λ after. Writes P.Pages pages.old pages.new block (part (splice (lines_within bytes.now) at count [])) after.entries.items) }
     ensures gone { IfOk result (λ after. after.removed.lines ≡ count) }
-    ensures bytes { IfOk result (λ after. (lines : List (List ℕ)) → lines_in bytes.now ≡ Some lines → after.removed.bytes ≡ bytes_of (take count (drop at lines))) }
-    ensures fields { IfOk result (λ after. AllByRecursion FitsFields after.entries.items) }
-    ensures few { IfOk result (λ after. length after.entries.items ≤ 3) }
-    ensures lines { IfOk result (λ after. lines_below after.entries.items + count ≡ view.count) }
-    ensures differs { OnOk result (IsTrue P.tells → Differs (P.shows pages.old).present (P.shows pages.new).present 1) }
+    ensures bytes { IfOk result (λ after. after.removed.bytes ≡ bytes_of (take count (drop at (lines_within bytes.now)))) }
+    ensures differs { OnOk result (Touches P.Pages pages.old pages.new 1) }
     ensures kept { Continues P.Pages pages.old pages.new }
     ensures cause { HasCause (P.shows pages.old).faults (P.shows pages.new).faults (IsErrOf result PageErr.Failed) }
 {
@@ -56,7 +54,7 @@ fn remove_lines<P: Pages>(
         });
     }
     let left = without_lines(alloc, view, bytes, at, count)?;
-    let entries = write_whole(alloc, pages, block, u64::from(left.view.count), &left.bytes)?;
+    let entries = write_whole(alloc, pages, block, &left)?;
     Ok(Edited {
         entries,
         removed: Removed {
@@ -91,12 +89,13 @@ pub fn edit_data<P: Pages>(
     requires within { at < entry.lines }
     requires edit { IsEdit edit }
     requires there { IsTrue P.tells → HasLineBelow tree_format (P.shows pages.old).present entry 0 at }
-    ensures wrote { IfOk result (λ after. IsTrue P.tells → ChangesBelow tree_format (P.shows pages.old).present (P.shows pages.new).present entry 0 at after.removed.bytes (change_of edit.entry after.removed.lines) after.entries.items) }
+    ensures wrote { IfOk result (EditsBelow P.Pages pages.old pages.new entry 0 at edit.entry) }
+    ensures blocks { IfOk result (CutsBlock P.Pages pages.old pages.new entry at edit.entry) }
     ensures may_take { IfOk result (λ after. MayTake edit.entry after.removed.lines) }
     ensures fields { IfOk result (λ after. AllByRecursion FitsFields after.entries.items) }
     ensures few { IfOk result (λ after. length after.entries.items ≤ 3) }
     ensures lines { IfOk result (λ after. lines_below after.entries.items + after.removed.lines ≡ entry.lines + added_by edit.entry) }
-    ensures differs { OnOk result (IsTrue P.tells → ChangesFew (P.shows pages.old).present (P.shows pages.new).present entry 0 at edit.entry 3) }
+    ensures differs { OnOk result (EditsFew P.Pages pages.old pages.new entry 0 at edit.entry 3) }
     ensures kept { Continues P.Pages pages.old pages.new }
     ensures cause { HasCause (P.shows pages.old).faults (P.shows pages.new).faults (IsErrOf result PageErr.Failed) }
 {

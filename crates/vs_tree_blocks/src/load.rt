@@ -1,10 +1,11 @@
 // Data blocks, read from pages.
-ghost use Rattle.std.specs.Prelude.{◌≡◌, ◌≤◌, ◌<◌, ◌-◌, ◌*◌, ◌↔◌, [], ℕ, List, Some, Ok, IsErrOf, IfOk, OnOk, IfSome, OnSome, IfNone, IsTrue, length, get_or};
+ghost use Rattle.std.specs.Prelude.{◌≡◌, ◌≤◌, ◌<◌, ◌-◌, ◌*◌, ◌↔◌, [], Some, Ok, IsErrOf, IfOk, OnOk, IfSome, OnSome, IfNone, IsTrue, length, get_or};
 ghost use Rattle.vs_faults.specs.Faults.{HasCause};
 ghost use Rattle.vs_pages.specs.Calls.{OnlyReads};
 ghost use Rattle.vs_pages.specs.Maps.{pages_at};
 ghost use Rattle.vs_data.specs.Blocks.{view_in};
-ghost use Rattle.vs_tree_blocks.specs.Blocks.{lines_at, IsDataOf, LeadsToData};
+ghost use Rattle.vs_tree_blocks.specs.Blocks.{IsDataOf, LeadsToData};
+ghost use Rattle.vs_tree_blocks.specs.Writes.{OfLines};
 ghost use Rattle.vs_tree_blocks.specs.declared.load.TheConstants.{MOST_TEXT};
 
 use std::alloc::Global;
@@ -79,7 +80,7 @@ pub fn load_line<P: Pages>(
     requires valid { P.valid pages.old }
     requires within { at < entry.lines }
     requires there { IsTrue P.tells → LeadsToData (P.shows pages.old).present entry }
-    ensures line { OnOk result (IsTrue P.tells → (lines : List (List ℕ)) → lines_at (P.shows pages.old).present entry.block entry.pages ≡ Some lines → into.new.items ≡ get_or lines at []) }
+    ensures line { OnOk result (OfLines P.Pages pages.old entry (λ lines. into.new.items ≡ get_or lines at [])) }
     ensures kept { OnlyReads P.Pages pages.old pages.new }
     ensures cause { HasCause (P.shows pages.old).faults (P.shows pages.new).faults (IsErrOf result PageErr.Failed) }
 {

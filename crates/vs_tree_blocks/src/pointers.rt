@@ -1,14 +1,14 @@
 // Pointer blocks in pages.
-ghost use Rattle.std.specs.Prelude.{◌≡◌, ◌≤◌, ◌<◌, ◌+◌, ◌*◌, ◌^◌, ◌∷◌, [], ℕ, suc, List, Some, None, IsErrOf, IfOk, OnOk, IsTrue, IsSome, length};
-ghost use Rattle.std.specs.List.{AllByRecursion, flat_map};
+ghost use Rattle.std.specs.Prelude.{◌≡◌, ◌≤◌, ◌<◌, ◌+◌, ◌^◌, ◌∷◌, [], suc, Some, IsErrOf, IfOk, OnOk, IsTrue, length, take, drop};
+ghost use Rattle.std.specs.List.{AllByRecursion};
 ghost use Rattle.vs_faults.specs.Faults.{HasCause};
 ghost use Rattle.vs_pages.specs.Calls.{Continues, OnlyReads};
-ghost use Rattle.vs_pages.specs.Maps.{pages_at, one, total};
 ghost use Rattle.vs_tree_shape.specs.Places.{lines_below};
-ghost use Rattle.vs_tree_shape.specs.Trees.{Tree, lines_of, uses};
-ghost use Rattle.vs_tree_shape.specs.Differs.{Differs};
-ghost use Rattle.vs_tree_shape.specs.Changes.{Below, ReplacedBy, pointer_entry};
-ghost use Rattle.vs_tree_blocks.specs.Blocks.{tree_format, entries_at, points_in, FitsFields, IsListOf, LeadsToPointers};
+ghost use Rattle.vs_tree_shape.specs.Changes.{pointer_entry};
+ghost use Rattle.vs_tree_blocks.specs.Blocks.{entries_at, points_in, FitsFields, IsListOf, LeadsToPointers};
+ghost use Rattle.vs_tree_blocks.specs.Cuts.{half_of};
+ghost use Rattle.vs_tree_blocks.specs.Pointers.{HasRoot, IsHalvedBelow, Leads, halves_of, levels_more, pointer_blocks};
+ghost use Rattle.vs_tree_blocks.specs.Writes.{IsThere, StandsOver, Touches};
 
 use crate::add_block;
 use crate::bytes::{from_ptr, pointer_bytes};
@@ -28,7 +28,7 @@ fn read_entries(alloc: Global, bytes: &[u8]) -> Result<Option<Vec<Entry>>, Alloc
     let Ok(view) = PtrView::read(bytes) else {
         return Ok(None);
     };
-    let mut entries = Vec::new(alloc);
+    let mut entries = Vec::with_capacity(alloc, usize::from(view.count))?;
     for at in 0..view.count {
         let Some(entry) = from_ptr(&view.entry(bytes, at)) else {
             return Ok(None);
@@ -93,16 +93,17 @@ fn write_one<P: Pages>(
     entries: &[Entry],
 ) -> Result<Vec<Entry>, PageErr>
     requires valid { P.valid pages.old }
-    requires there { IsTrue P.tells → IsSome (pages_at (P.shows pages.old).present block 1) }
+    requires there { IsThere P.Pages pages.old block }
     requires small { lines_below entries.now < 2 ^ 63 }
     requires block { block < 2 ^ 63 }
     requires fields { AllByRecursion FitsFields entries.now }
     requires few { length entries.now ≤ 127 }
-    ensures wrote { IfOk result (λ above. IsTrue P.tells → (d : ℕ) (kids : List (Tree d)) → Below tree_format (P.shows pages.old).present block d kids entries.now → ReplacedBy tree_format (P.shows pages.old).present (P.shows pages.new).present (λ k. one block k + total (λ u. uses d u k) kids) (suc d) (flat_map (λ u. lines_of d u) kids) above.items) }
+    ensures wrote { IfOk result (λ above. StandsOver P.Pages pages.old pages.new block suc entries.now above.items) }
+    ensures blocks { IfOk result (λ above. Leads P.Pages pages.new above.items (entries.now ∷ [])) }
     ensures fields { IfOk result (λ above. AllByRecursion FitsFields above.items) }
     ensures few { IfOk result (λ above. length above.items ≤ 3) }
     ensures lines { IfOk result (λ above. lines_below above.items ≡ lines_below entries.now) }
-    ensures differs { OnOk result (IsTrue P.tells → Differs (P.shows pages.old).present (P.shows pages.new).present 1) }
+    ensures differs { OnOk result (Touches P.Pages pages.old pages.new 1) }
     ensures kept { Continues P.Pages pages.old pages.new }
     ensures cause { HasCause (P.shows pages.old).faults (P.shows pages.new).faults (IsErrOf result PageErr.Failed) }
 {
@@ -110,6 +111,14 @@ fn write_one<P: Pages>(
     let bytes = pointer_bytes(alloc, entries)?;
     pages.touch(alloc, block, 1, &bytes)?;
     Ok(above)
+}
+
+// The first half of entries, rounded up, and the others.
+fn halve(entries: &[Entry]) -> (&[Entry], &[Entry])
+    ensures first { result.0.now ≡ take (half_of (length entries.now)) entries.now }
+    ensures second { result.1.now ≡ drop (half_of (length entries.now)) entries.now }
+{
+    entries.split_at(entries.len() - entries.len() / 2)
 }
 
 // Writes the first half of entries, rounded up, into a pointer block and the second half into a new one.
@@ -120,21 +129,21 @@ fn write_two<P: Pages>(
     entries: &[Entry],
 ) -> Result<Vec<Entry>, PageErr>
     requires valid { P.valid pages.old }
-    requires there { IsTrue P.tells → IsSome (pages_at (P.shows pages.old).present block 1) }
+    requires there { IsThere P.Pages pages.old block }
     requires small { lines_below entries.now < 2 ^ 63 }
     requires block { block < 2 ^ 63 }
     requires fields { AllByRecursion FitsFields entries.now }
     requires few { length entries.now ≤ 254 }
-    ensures wrote { IfOk result (λ above. IsTrue P.tells → (d : ℕ) (kids : List (Tree d)) → Below tree_format (P.shows pages.old).present block d kids entries.now → ReplacedBy tree_format (P.shows pages.old).present (P.shows pages.new).present (λ k. one block k + total (λ u. uses d u k) kids) (suc d) (flat_map (λ u. lines_of d u) kids) above.items) }
+    ensures wrote { IfOk result (λ above. StandsOver P.Pages pages.old pages.new block suc entries.now above.items) }
+    ensures blocks { IfOk result (λ above. Leads P.Pages pages.new above.items (halves_of entries.now)) }
     ensures fields { IfOk result (λ above. AllByRecursion FitsFields above.items) }
     ensures few { IfOk result (λ above. length above.items ≤ 3) }
     ensures lines { IfOk result (λ above. lines_below above.items ≡ lines_below entries.now) }
-    ensures differs { OnOk result (IsTrue P.tells → Differs (P.shows pages.old).present (P.shows pages.new).present 2) }
+    ensures differs { OnOk result (Touches P.Pages pages.old pages.new 2) }
     ensures kept { Continues P.Pages pages.old pages.new }
     ensures cause { HasCause (P.shows pages.old).faults (P.shows pages.new).faults (IsErrOf result PageErr.Failed) }
 {
-    let half = entries.len() - entries.len() / 2;
-    let (first, second) = entries.split_at(half);
+    let (first, second) = halve(entries);
     let bytes = pointer_bytes(alloc, first)?;
     let more = pointer_bytes(alloc, second)?;
     pages.touch(alloc, block, 1, &bytes)?;
@@ -153,16 +162,17 @@ pub fn write_pointers<P: Pages>(
     entries: Vec<Entry>,
 ) -> Result<Vec<Entry>, PageErr>
     requires valid { P.valid pages.old }
-    requires there { IsTrue P.tells → IsSome (pages_at (P.shows pages.old).present block 1) }
+    requires there { IsThere P.Pages pages.old block }
     requires small { lines_below entries.items < 2 ^ 63 }
     requires block { block < 2 ^ 63 }
     requires fields { AllByRecursion FitsFields entries.items }
     requires few { length entries.items ≤ 254 }
-    ensures wrote { IfOk result (λ above. IsTrue P.tells → (d : ℕ) (kids : List (Tree d)) → Below tree_format (P.shows pages.old).present block d kids entries.items → ReplacedBy tree_format (P.shows pages.old).present (P.shows pages.new).present (λ k. one block k + total (λ u. uses d u k) kids) (suc d) (flat_map (λ u. lines_of d u) kids) above.items) }
+    ensures wrote { IfOk result (λ above. StandsOver P.Pages pages.old pages.new block suc entries.items above.items) }
+    ensures blocks { IfOk result (λ above. Leads P.Pages pages.new above.items (pointer_blocks entries.items)) }
     ensures fields { IfOk result (λ above. AllByRecursion FitsFields above.items) }
     ensures few { IfOk result (λ above. length above.items ≤ 3) }
     ensures lines { IfOk result (λ above. lines_below above.items ≡ lines_below entries.items) }
-    ensures differs { OnOk result (IsTrue P.tells → Differs (P.shows pages.old).present (P.shows pages.new).present 2) }
+    ensures differs { OnOk result (Touches P.Pages pages.old pages.new 2) }
     ensures kept { Continues P.Pages pages.old pages.new }
     ensures cause { HasCause (P.shows pages.old).faults (P.shows pages.new).faults (IsErrOf result PageErr.Failed) }
 {
@@ -179,17 +189,17 @@ pub fn write_pointers<P: Pages>(
 // Moves each half of entries to a new block, the first half rounded up, and writes a block 1 that leads to these alone.
 fn lift_root<P: Pages>(alloc: Global, pages: &mut P, entries: &[Entry]) -> Result<(), PageErr>
     requires valid { P.valid pages.old }
-    requires there { IsTrue P.tells → IsSome (pages_at (P.shows pages.old).present 1 1) }
+    requires there { IsThere P.Pages pages.old 1 }
     requires small { lines_below entries.now < 2 ^ 63 }
     requires fields { AllByRecursion FitsFields entries.now }
     requires few { length entries.now ≤ 254 }
-    ensures wrote { OnOk result (IsTrue P.tells → (d : ℕ) (kids : List (Tree d)) → Below tree_format (P.shows pages.old).present 1 d kids entries.now → ReplacedBy tree_format (P.shows pages.old).present (P.shows pages.new).present (λ k. one 1 k + total (λ u. uses d u k) kids) (suc (suc d)) (flat_map (λ u. lines_of d u) kids) (pointer_entry 1 (lines_below entries.now) ∷ [])) }
-    ensures differs { OnOk result (IsTrue P.tells → Differs (P.shows pages.old).present (P.shows pages.new).present 3) }
+    ensures wrote { OnOk result (StandsOver P.Pages pages.old pages.new 1 (λ d. suc (suc d)) entries.now (pointer_entry 1 (lines_below entries.now) ∷ [])) }
+    ensures blocks { OnOk result (IsTrue P.tells → IsHalvedBelow (P.shows pages.new).present entries.now) }
+    ensures differs { OnOk result (Touches P.Pages pages.old pages.new 3) }
     ensures kept { Continues P.Pages pages.old pages.new }
     ensures cause { HasCause (P.shows pages.old).faults (P.shows pages.new).faults (IsErrOf result PageErr.Failed) }
 {
-    let half = entries.len() - entries.len() / 2;
-    let (first, second) = entries.split_at(half);
+    let (first, second) = halve(entries);
     let bytes = pointer_bytes(alloc, first)?;
     let moved = add_block(alloc, pages, 1, &bytes)?;
     let more = pointer_bytes(alloc, second)?;
@@ -208,13 +218,15 @@ pub fn write_root<P: Pages>(
     entries: Vec<Entry>,
 ) -> Result<u64, PageErr>
     requires valid { P.valid pages.old }
-    requires there { IsTrue P.tells → IsSome (pages_at (P.shows pages.old).present 1 1) }
+    requires there { IsThere P.Pages pages.old 1 }
     requires small { lines_below entries.items < 2 ^ 63 }
     requires fields { AllByRecursion FitsFields entries.items }
     requires few { length entries.items ≤ 254 }
-    ensures wrote { IfOk result (λ more. IsTrue P.tells → (d : ℕ) (kids : List (Tree d)) → Below tree_format (P.shows pages.old).present 1 d kids entries.items → ReplacedBy tree_format (P.shows pages.old).present (P.shows pages.new).present (λ k. one 1 k + total (λ u. uses d u k) kids) (more + suc d) (flat_map (λ u. lines_of d u) kids) (pointer_entry 1 (lines_below entries.items) ∷ [])) }
+    ensures wrote { IfOk result (λ more. StandsOver P.Pages pages.old pages.new 1 (λ d. more + suc d) entries.items (pointer_entry 1 (lines_below entries.items) ∷ [])) }
     ensures more { IfOk result (λ more. more ≤ 1) }
-    ensures differs { OnOk result (IsTrue P.tells → Differs (P.shows pages.old).present (P.shows pages.new).present 3) }
+    ensures deeper { IfOk result (λ more. more ≡ levels_more entries.items) }
+    ensures blocks { IfOk result (λ more. IsTrue P.tells → HasRoot (P.shows pages.new).present entries.items more) }
+    ensures differs { OnOk result (Touches P.Pages pages.old pages.new 3) }
     ensures kept { Continues P.Pages pages.old pages.new }
     ensures cause { HasCause (P.shows pages.old).faults (P.shows pages.new).faults (IsErrOf result PageErr.Failed) }
 {

@@ -1,16 +1,19 @@
 // Lines that are put in together.
-ghost use Rattle.std.specs.Prelude.{◌≡◌, ◌≤◌, ◌<◌, ◌+◌, ◌*◌, ◌/◌, ◌^◌, ◌↔◌, ◌++◌, ◌∷◌, [], ℕ, List, Some, Ok, IsErrOf, IfOk, OnOk, IsTrue, length, false};
-ghost use Rattle.std.specs.Option.{option_map};
+ghost use Rattle.std.specs.Prelude.{◌≡◌, ◌≤◌, ◌<◌, ◌+◌, ◌*◌, ◌/◌, ◌^◌, ◌↔◌, ◌++◌, ◌∷◌, [], Some, Ok, IsErrOf, IfOk, OnOk};
+ghost use Rattle.std.specs.Prelude.{ℕ, List, IsTrue, length, false};
 ghost use Rattle.vs_faults.specs.Faults.{HasCause};
 ghost use Rattle.vs_pages.specs.Calls.{Continues};
 ghost use Rattle.vs_data.specs.Blocks.{lines_in, view_in, free_space, space_of};
 ghost use Rattle.vs_tree_shape.specs.Trees.{leaf};
-ghost use Rattle.vs_tree_shape.specs.Differs.{Differs};
 ghost use Rattle.vs_tree_shape.specs.Changes.{Replaces, splice};
 ghost use Rattle.vs_tree_blocks.specs.Blocks.{tree_format, FitsFields};
 ghost use Rattle.vs_tree_blocks.specs.Edits.{IsStored};
+ghost use Rattle.vs_tree_blocks.specs.Parts.{IsPage};
+ghost use Rattle.vs_tree_blocks.specs.Runs.{lines_within};
+ghost use Rattle.vs_tree_blocks.specs.Writes.{Touches};
 
 use crate::add_block;
+use crate::split::Page;
 use std::alloc::{AllocError, Global};
 use std::marker::Model;
 use vs_data::DataView;
@@ -89,36 +92,46 @@ impl Run {
         &self.bytes
     }
 
+    /// What the lines take in a data block: the bytes of each, a zero byte and an index entry.
+    pub fn space(&self) -> u64
+        ensures is { result ≡ space_of self.now }
+        ensures bound { result < 2 ^ 36 }
+    {
+        let text = u64::from(self.view.text_end) - u64::from(self.view.text_start);
+        text + 4 * self.len()
+    }
+
     /// Whether a data block with this header has room for the lines.
     pub fn fits(&self, view: DataView) -> bool
         ensures { IsTrue result ↔ (space_of self.now ≤ free_space view) }
     {
-        let text = u64::from(self.view.text_end) - u64::from(self.view.text_start);
         let index = u64::from(view.count) * 4 + 24;
-        text + 4 * self.len() <= u64::from(view.text_start).saturating_sub(index)
+        self.space() <= u64::from(view.text_start).saturating_sub(index)
     }
 
-    /// A copy of a data block of one page, with the lines before its line `at`, or last where `at` is its count.
-    pub fn put_into(
+    // A copy of a data block of one page, with the lines before its line `at`, or last where `at` is its count.
+    pub(crate) fn put_into(
         &self,
         alloc: Global,
         view: DataView,
         bytes: &[u8],
         at: u32,
-    ) -> Result<Vec<u8>, AllocError>
+    ) -> Result<Page, AllocError>
         requires view { view_in bytes.now ≡ Ok view }
         requires size { length bytes.now ≡ 4096 }
         requires at { at ≤ view.count }
         requires fits { space_of self.now ≤ free_space view }
-        ensures size { IfOk result (λ now. length now.items ≡ 4096) }
-        ensures lines { IfOk result (λ now. lines_in now.items ≡ option_map (λ lines. splice lines at 0 self.now) (lines_in bytes.now)) }
+        ensures { IfOk result (IsPage (splice (lines_within bytes.now) at 0 self.now) view.text_end) }
     {
         let mut now = Vec::from_slice(alloc, bytes)?;
         let mut whole = view;
         'lines: for line in 0..self.view.count {
             whole.insert(&mut now, at + line, self.view.line(&self.bytes, line));
         }
-        Ok(now)
+        Ok(Page {
+            view: whole,
+            bytes: now,
+        })
     }
 
     /// Adds the lines as a data block of their own.
@@ -127,7 +140,7 @@ impl Run {
         ensures added { IfOk result (λ new. IsTrue P.tells → Replaces tree_format (P.shows pages.old).present (P.shows pages.new).present (λ k. 0) 0 (leaf new.block new.pages self.now ∷ [])) }
         ensures lines { IfOk result (λ new. new.lines ≡ length self.now) }
         ensures fields { IfOk result FitsFields }
-        ensures differs { OnOk result (IsTrue P.tells → space_of self.now ≤ 4072 → Differs (P.shows pages.old).present (P.shows pages.new).present 1) }
+        ensures differs { OnOk result (space_of self.now ≤ 4072 → Touches P.Pages pages.old pages.new 1) }
         ensures kept { Continues P.Pages pages.old pages.new }
         ensures cause { HasCause (P.shows pages.old).faults (P.shows pages.new).faults (IsErrOf result PageErr.Failed) }
     {

@@ -64,7 +64,8 @@ pub fn replace_entry(
     requires { index < length entries.now }
     ensures { IfOk result (λ all. all.items ≡ take index entries.now ++ (by.now ++ drop (index + 1) entries.now)) }
 {
-    let mut all = Vec::from_slice(alloc, &entries[..index])?;
+    let mut all = Vec::with_capacity(alloc, entries.len().saturating_add(by.len()))?;
+    all.extend_from_slice(&entries[..index])?;
     all.extend_from_slice(by)?;
     all.extend_from_slice(&entries[index + 1..])?;
     Ok(all)

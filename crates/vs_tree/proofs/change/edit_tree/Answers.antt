@@ -1,5 +1,5 @@
-use Rattle.std.proofs.Common.{◌≡◌, ℕ, ◌+◌, ◌-◌, ◌*◌, List, arith, sym, ap, subst, refl, ◌∙◌}
-use Rattle.vs_pages.specs.Maps.{Map, pages_at}
+use Rattle.std.proofs.Common.{◌≡◌, ℕ, ◌+◌, ◌-◌, ◌*◌, List, arith, sym, ap, subst, ◌∙◌}
+use Rattle.vs_pages.specs.Maps.{Map}
 use Rattle.vs_tree_shape.specs.declared.entries.Entry.{Entry}
 use Rattle.vs_tree_shape.specs.Changes.{HasLineBelow, pointer_entry}
 use Rattle.vs_tree_shape.specs.Places.{IsPlace, lines_below}

@@ -1,4 +1,4 @@
-use Rattle.std.proofs.Common.{◌≡◌, ℕ, ◌+◌, ◌-◌, ◌*◌, ◌≤◌, List, [], length, take, drop, map, refl, sym, ap, subst, ◌∙◌, arith}
+use Rattle.std.proofs.Common.{◌≡◌, ℕ, ◌+◌, ◌-◌, ◌*◌, ◌≤◌, List, length, take, drop, map, refl, sym, ap, subst, ◌∙◌, arith}
 use Rattle.vs_text.specs.Text.{stored_line}
 use Rattle.vs_pages.proofs.Steps.{Continues-none, Continues-trans}
 use Rattle.vs_tree_shape.proofs.Differences.{differs_none, differs_from}

@@ -1,4 +1,4 @@
-use Rattle.std.proofs.Common.{◌≡◌, ℕ, ◌+◌, ◌*◌, ◌≤◌, ◌<◌, ◌^◌, List, [], length, get_or, refl, sym, ap, subst, ◌∙◌, arith}
+use Rattle.std.proofs.Common.{◌≡◌, ℕ, ◌+◌, ◌*◌, ◌≤◌, List, [], length, get_or, refl, sym, ap, subst, ◌∙◌, arith}
 use Rattle.vs_text.specs.Text.{bytes_of}
 use Rattle.vs_pages.proofs.Steps.{Continues-none, Continues-trans}
 use Rattle.vs_tree_shape.proofs.Differences.{differs_none, differs_from}
@@ -65,6 +65,9 @@ pub returns-clause-bytes : goal.returns-clause-bytes
 returns-clause-bytes g c = λ told lines has few.
     let all : c.rounds.removed ≡ c.args.count = omega (arith, c.rounds.invariant.within, c.rounds-test.false) in
     c.rounds.invariant.bytes told lines has few ∙ ap (λ i. bytes_of (run_of lines c.args.at i)) all
+
+pub returns-clause-none : goal.returns-clause-none
+returns-clause-none g c = λ none. c.rounds.invariant.start (omega (arith, none, c.rounds.invariant.within))
 
 pub returns-clause-taken : goal.returns-clause-taken
 returns-clause-taken g c = λ told lines has.

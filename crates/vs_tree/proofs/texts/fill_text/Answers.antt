@@ -1,10 +1,9 @@
-use Rattle.std.proofs.Common.{◌≡◌, ℕ, ◌+◌, ◌*◌, ◌<◌, ◌≤◌, List, [], ◌∷◌, All, length, map, refl, sym, ap, subst, ◌∙◌, arith}
+use Rattle.std.proofs.Common.{◌≡◌, ℕ, ◌+◌, ◌*◌, ◌<◌, List, [], ◌∷◌, All, length, refl, sym, ap, subst, ◌∙◌, arith}
 use Rattle.std.proofs.lemmas.List.Elements.{All-from_recursion}
-use Rattle.vs_text.specs.Text.{bytes_of, stored, stored_line}
+use Rattle.vs_text.specs.Text.{stored}
 use Rattle.vs_tree_shape.specs.Trees.{HasLines}
 use Rattle.vs_tree_blocks.specs.Blocks.{tree_format}
 use Rattle.vs_tree_blocks.specs.Edits.{FitsPage}
-use Rattle.vs_edit.specs.Splices.{splice}
 use Rattle.vs_tree_shape.proofs.Differences.{differs_none, differs_most}
 use Rattle.std.proofs.Common.{take, drop}
 use Rattle.vs_tree.specs.declared.walk.Root.{Root}

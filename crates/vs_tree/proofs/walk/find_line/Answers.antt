@@ -1,4 +1,4 @@
-use Rattle.std.proofs.Common.{◌≡◌, ℕ, ◌+◌, ◌-◌, ◌<◌, List, arith, sym, ap, subst, ◌∙◌}
+use Rattle.std.proofs.Common.{◌≡◌, ℕ, ◌+◌, ◌-◌, List, arith, sym, ap, subst}
 use Rattle.vs_pages.specs.Maps.{Map}
 use Rattle.vs_pages.proofs.Steps.{OnlyReads-none, OnlyReads-trans}
 use Rattle.vs_tree_shape.specs.declared.entries.Entry.{Entry}

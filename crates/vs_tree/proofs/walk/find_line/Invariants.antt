@@ -1,4 +1,4 @@
-use Rattle.std.proofs.Common.{◌≡◌, ℕ, ◌-◌, ◌<◌, ◌≤◌, List, IsTrue}
+use Rattle.std.proofs.Common.{ℕ, ◌-◌, ◌<◌, ◌≤◌, List, IsTrue}
 use Rattle.vs_pages.specs.Calls.{OnlyReads}
 use Rattle.vs_tree_shape.specs.Paths.{IsOnPath}
 use Rattle.vs_tree_blocks.specs.Blocks.{tree_format}

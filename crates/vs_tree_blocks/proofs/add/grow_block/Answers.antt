@@ -1,6 +1,6 @@
-use Rattle.std.proofs.Common.{◌≡◌, ℕ, ◌-◌, IsSome, ap, subst, ◌∙◌, arith, [], ◌∷◌}
+use Rattle.std.proofs.Common.{◌≡◌, ℕ, ◌-◌, ap, subst, ◌∙◌, arith, [], ◌∷◌}
 use Rattle.std.proofs.lemmas.Result.{IfOk-weaker}
-use Rattle.vs_pages.specs.Maps.{Map, IsVacant, put_pages, zeros, without, pages_at}
+use Rattle.vs_pages.specs.Maps.{Map, IsVacant, put_pages, zeros, without}
 use Rattle.vs_pages.proofs.MapsLemmas.{length-zeros}
 use Rattle.vs_tree_shape.proofs.Writes.{grown, grown_again, zero_alone, rest_there}
 use Rattle.vs_tree_blocks.proofs.Outcomes.{if_ok_both}

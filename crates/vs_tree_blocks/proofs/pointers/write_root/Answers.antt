@@ -7,7 +7,7 @@ use Rattle.vs_tree_shape.specs.Changes.{ReplacedBy, pointer_entry}
 use Rattle.vs_tree_shape.specs.Places.{lines_below}
 use Rattle.vs_tree_shape.proofs.Writes.{wrote_pointers}
 use Rattle.vs_tree_blocks.specs.Blocks.{tree_format, points_in}
-use Rattle.vs_tree_blocks.proofs.PointersLemmas.{stored_as}
+use Rattle.vs_tree_blocks.proofs.PointersLemmas.{root_stored, stored_as}
 use Rattle.vs_tree_shape.proofs.Differences.{differs_put, differs_most}
 use Rattle.vs_tree_blocks.proofs.pointers.write_root.Goals as goal
 
@@ -20,3 +20,8 @@ returns-clause-wrote g c = λ told d kids below.
 
 pub returns-clause-differs : goal.returns-clause-differs
 returns-clause-differs g c = λ told. differs_most _ _ 1 3 (omega arith) (differs_put _ _ 1 _ (c.in_ok-touch.ensures.ok told))
+
+pub returns-clause-blocks : goal.returns-clause-blocks
+returns-clause-blocks g c = λ told.
+    let reads : points_in c.in_ok-bytes.bytes.items ≡ Some c.args.entries.items = c.in_ok-bytes.ensures.entries ∙ ap (λ (xs : List Entry). Some xs) c.deref-2.ensures.value in
+    root_stored _ _ c.in_ok-bytes.bytes.items c.args.entries.items (stored_as _ _ _ _ _ (c.in_ok-touch.ensures.ok told) c.deref-3.ensures.value c.in_ok-bytes.ensures.size) reads

@@ -1,12 +1,24 @@
-use Rattle.std.proofs.Common.{arith, refl}
-use Rattle.vs_tree_shape.proofs.Writes.{stored}
-use Rattle.vs_tree_blocks.proofs.DataLemmas.{wrote_parts}
+use Rattle.std.proofs.Common.{◌≡◌, ℕ, [], ◌∷◌, length, refl, ap, sym, ◌∙◌, arith}
+use Rattle.vs_tree_shape.specs.declared.entries.Entry.{Entry}
+use Rattle.vs_tree_blocks.specs.Parts.{page_lines}
+use Rattle.vs_tree_blocks.proofs.RunsLemmas.{told, page_small}
+use Rattle.vs_tree_blocks.proofs.PointersLemmas.{stored_as, added_as}
+use Rattle.vs_tree_blocks.proofs.DataLemmas.{entry_with, written_parts}
 use Rattle.vs_tree_shape.proofs.Differences.{differs_put, differs_then}
 use Rattle.vs_tree_blocks.proofs.put.write_parts.Goals as goal
 
 pub returns-clause-wrote : goal.returns-clause-wrote
-returns-clause-wrote g c = λ told a b reads_first front_is reads_second back_is.
-    wrote_parts _ _ _ c.args.block c.in_ok-other.other c.args.front c.args.back c.args.first.now c.args.second.now a b _ (stored _ _ _ _ c.args.first.now (c.in_ok-touch.ensures.ok told) (omega (arith, c.requires.first))) reads_first front_is (c.in_ok-other.ensures.added told) reads_second back_is c.in_ok-vec.ensures.items
+returns-clause-wrote g c =
+    let p = c.args.parts.now in
+    let a = told p.first.bytes.items p.first.view c.requires.first.view_is in
+    let b = told p.second.bytes.items p.second.view c.requires.second.view_is in
+    let one : c.entry-one.result ≡ entry_with c.args.block 1 (length (page_lines p.first)) = c.entry-one.ensures ∙ ap (λ (n : ℕ). entry_with c.args.block 1 n) (sym a.count) in
+    let two : c.entry-two.result ≡ entry_with c.in_ok-other.other 1 (length (page_lines p.second)) = c.entry-two.ensures ∙ ap (λ (n : ℕ). entry_with c.in_ok-other.other 1 n) (sym b.count) in
+    written_parts _ _ _ _ c.args.block c.in_ok-other.other p.first.bytes.items p.second.bytes.items (page_lines p.first) (page_lines p.second) _ c.requires.block (omega (arith, c.in_ok-other.ensures.bound))
+    (page_small _ _ c.requires.first.view_is c.requires.first.size) (page_small _ _ c.requires.second.view_is c.requires.second.size)
+    (λ told-pages. stored_as _ _ _ _ _ (c.in_ok-touch.ensures.ok told-pages) c.deref.ensures.value c.requires.first.size) a.lines_are
+    (λ told-pages. added_as _ _ _ _ _ _ (c.in_ok-other.ensures.added told-pages) c.deref-2.ensures.value) b.lines_are
+    (c.in_ok-vec.ensures.items ∙ ap (λ (e : Entry). e ∷ c.entry-two.result ∷ []) one ∙ ap (λ (e : Entry). entry_with c.args.block 1 (length (page_lines p.first)) ∷ e ∷ []) two)
 
 pub returns-clause-differs : goal.returns-clause-differs
-returns-clause-differs g c = λ told. differs_then _ _ _ 1 1 2 (omega arith) (differs_put _ _ c.args.block c.args.first.now (c.in_ok-touch.ensures.ok told)) (c.in_ok-other.ensures.differs told refl)
+returns-clause-differs g c = λ told-pages. differs_then _ _ _ 1 1 2 (omega arith) (differs_put _ _ c.args.block _ (c.in_ok-touch.ensures.ok told-pages)) (c.in_ok-other.ensures.differs told-pages refl)

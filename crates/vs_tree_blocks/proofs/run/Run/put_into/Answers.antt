@@ -42,9 +42,13 @@ lines-preserved c =
     (half_more old c.lines.now.items now c.args.view c.lines.whole c.insert.new.self run c.args.at c.lines.line (c.args.at + c.lines.line) c.line.result.now c.lines.invariant (omega (arith, c.requires.at, (told old c.args.view c.requires.view).count)) lt (omega arith) next
     c.insert.ensures.view (omega arith) c.insert.ensures.header before)
 
-pub returns-clause-lines : goal.returns-clause-lines
-returns-clause-lines c =
+pub returns : goal.returns
+returns c =
     let t = told c.self.inside.bytes.items c.self.inside.view c.self.invariant.view_is in
     let all : c.lines.line ≡ length (lines_within c.self.inside.bytes.items) = omega (arith, t.count, c.lines-test.false) in
-    half_all c.args.bytes.now c.lines.now.items c.args.view c.lines.whole (lines_within c.self.inside.bytes.items) c.args.at c.lines.line all c.requires.view c.lines.invariant
-    ∙ ap (λ (run : List (List ℕ)). option_map (λ ls. splice ls c.args.at 0 run) (lines_in c.args.bytes.now)) c.self.view_is
+    record {
+      view_is = c.lines.invariant.view_is;
+      size = c.lines.invariant.size;
+      end_is = c.lines.invariant.end;
+      lines_are = half_all c.args.bytes.now c.lines.now.items c.args.view c.lines.whole (lines_within c.self.inside.bytes.items) c.args.at c.lines.line all c.lines.invariant ∙ ap (λ (run : List (List ℕ)). splice (lines_within c.args.bytes.now) c.args.at 0 run) c.self.view_is;
+    }

@@ -1,0 +1,5 @@
+use Rattle.vs_tree_blocks.proofs.FirstLemmas.{fresh_first}
+use Rattle.vs_test_tree.proofs.generated.follows_a_plain_text.Goals as goal
+
+pub new-requires-2-clause-there : goal.new-requires-2-clause-there
+new-requires-2-clause-there g c = λ _. fresh_first _ c.in_ok-memory.ensures.present

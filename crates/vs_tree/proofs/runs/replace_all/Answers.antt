@@ -1,0 +1,59 @@
+use Rattle.std.proofs.Common.{◌≡◌, ℕ, ◌+◌, ◌-◌, ◌*◌, List, ap, subst, inl, arith, All}
+use Rattle.vs_pages.proofs.Steps.{Continues-trans}
+use Rattle.vs_tree_shape.proofs.Differences.{differs_then, differs_from}
+use Rattle.vs_tree_blocks.specs.Edits.{FitsPage}
+use Rattle.vs_tree.specs.declared.walk.Root.{Root}
+use Rattle.vs_tree.specs.Runs.{HasTree, with_lines, without_lines}
+use Rattle.vs_tree.proofs.Rounds.{all_out, last_out, bytes_last, bytes_kept, behind_new, without_none}
+use Rattle.vs_tree.proofs.StoredLemmas.{bytes_of-with}
+use Rattle.vs_tree.proofs.runs.replace_all.Goals as goal
+
+pub take_lines-requires-clause-there : goal.take_lines-requires-clause-there
+take_lines-requires-clause-there g c = λ told. c.requires.there told
+
+pub put_lines-requires-clause-room : goal.put_lines-requires-clause-room
+put_lines-requires-clause-room g c = inl (omega (arith, c.in_ok-most.ensures.lines, c.requires.some))
+
+pub put_lines-requires-clause-there : goal.put_lines-requires-clause-there
+put_lines-requires-clause-there g c = λ told. let r = c.requires.there told in (without_lines r.0 0 (c.args.root.lines - 1), c.in_ok-most.ensures.taken told r.0 r.1)
+
+pub take_lines-requires-2-clause-there : goal.take_lines-requires-2-clause-there
+take_lines-requires-2-clause-there g c = λ told.
+    let r = c.requires.there told in
+    (with_lines (without_lines r.0 0 (c.args.root.lines - 1)) 0 c.args.new.now, c.in_ok-now.ensures.put told (without_lines r.0 0 (c.args.root.lines - 1)) (c.in_ok-most.ensures.taken told r.0 r.1))
+
+pub returns-in_err-last-clause-kept : goal.returns-in_err-last-clause-kept
+returns-in_err-last-clause-kept g c = Continues-trans g.met.P.Pages.stays_on (Continues-trans g.met.P.Pages.stays_on c.take_lines.ensures.kept c.put_lines.ensures.kept) c.take_lines-2.ensures.kept
+
+pub returns-clause-kept : goal.returns-clause-kept
+returns-clause-kept g c = Continues-trans g.met.P.Pages.stays_on (Continues-trans g.met.P.Pages.stays_on c.take_lines.ensures.kept c.put_lines.ensures.kept) c.take_lines-2.ensures.kept
+
+pub returns-clause-exchanged : goal.returns-clause-exchanged
+returns-clause-exchanged g c = λ told lines has.
+    let kept : List (List ℕ) = without_lines lines 0 (c.args.root.lines - 1) in
+    let put = c.in_ok-now.ensures.put told kept (c.in_ok-most.ensures.taken told lines has) in
+    subst (λ (xs : List (List ℕ)). HasTree (g.P.Pages.shows c.take_lines-2.new.pages).present c.in_ok-last.last.root xs) (all_out lines c.args.new.now c.args.root.lines c.requires.some has.count)
+    (c.in_ok-last.ensures.taken told (with_lines kept 0 c.args.new.now) put)
+
+pub returns-clause-bytes : goal.returns-clause-bytes
+returns-clause-bytes g c = λ told lines has few.
+    let kept : List (List ℕ) = without_lines lines 0 (c.args.root.lines - 1) in
+    let put = c.in_ok-now.ensures.put told kept (c.in_ok-most.ensures.taken told lines has) in
+    let sum = bytes_kept lines (c.args.root.lines - 1) (omega (arith, has.count)) in
+    let last = c.in_ok-last.ensures.bytes told (with_lines kept 0 c.args.new.now) put (omega (arith, few, sum, bytes_of-with kept c.args.new.now 0)) in
+    let most = c.in_ok-most.ensures.bytes told lines has (omega (arith, few)) in
+    let all = bytes_last lines c.args.new.now c.args.root.lines c.requires.some has.count in
+    omega (arith, c.saturating_add.ensures, last, most, all, few, Rattle.vs_tree.proofs.Rounds.bytes_run lines 0 c.args.root.lines)
+
+pub returns-clause-differs : goal.returns-clause-differs
+returns-clause-differs g c = λ told lines has small.
+    let nothing : c.args.root.lines - 1 ≡ 0 = omega (arith, small.few_out) in
+    let same = c.in_ok-most.ensures.none nothing in
+    let kept : List (List ℕ) = without_lines lines 0 (c.args.root.lines - 1) in
+    let put = c.in_ok-now.ensures.put told kept (c.in_ok-most.ensures.taken told lines has) in
+    let height = ap (λ (r : Root). r.height) same.0 in
+    differs_from _ (g.P.Pages.shows c.take_lines.new.pages).present _ (4 * c.in_ok-most.most.root.height + 10) (4 * c.args.root.height + 10) (omega (arith, height)) (same.1 told)
+    (differs_then _ _ _ (2 * c.in_ok-most.most.root.height + 4) (2 * c.in_ok-now.now.height + 4) (4 * c.in_ok-most.most.root.height + 10) (omega (arith, c.in_ok-now.ensures.higher, small.few_in))
+    (c.in_ok-now.ensures.differs told kept (c.in_ok-most.ensures.taken told lines has) small.few_in small.brief_in)
+    (c.in_ok-last.ensures.differs told (with_lines kept 0 c.args.new.now) put (omega arith)
+    (subst (λ (xs : List (List ℕ)). All FitsPage xs) (last_out lines c.args.new.now c.args.root.lines nothing c.requires.some) small.brief_out)))

@@ -1,5 +1,0 @@
-use Rattle.vs_tree_blocks.proofs.FirstLemmas.{fresh_first}
-use Rattle.vs_tree.proofs.tests.generated.follows_a_plain_text.Goals as goal
-
-pub new-requires-2-clause-there : goal.new-requires-2-clause-there
-new-requires-2-clause-there g c = λ _. fresh_first _ c.in_ok-memory.ensures.present

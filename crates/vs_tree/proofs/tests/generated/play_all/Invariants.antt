@@ -1,4 +1,0 @@
-use Rattle.vs_tree.proofs.tests.generated.play_all.Given as goal
-
-abbrev pub invariant-loop-call : goal.invariant-loop-call
-invariant-loop-call g l = g.S.LineStore.valid l.tree × g.T.LineStore.valid l.plain

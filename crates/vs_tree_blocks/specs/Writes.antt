@@ -1,0 +1,55 @@
+-- What calls leave of the pages of a store: blocks in place of a block, and how many pages differ.
+use Rattle.std.specs.Prelude.{◌≡◌, ℕ, ◌+◌, ◌≤◌, IsTrue, List, length, map, Some, IsSome}
+use Rattle.std.specs.List.{AllByRecursion, flat_map}
+use Rattle.vs_pages.specs.Maps.{Map, one, span, total, pages_at}
+use Rattle.vs_pages.specs.declared.pages.Pages.{Ghosts}
+use Rattle.vs_tree_shape.specs.declared.entries.Entry.{Entry}
+use Rattle.vs_tree_shape.specs.Places.{lines_below}
+use Rattle.vs_tree_shape.specs.Trees.{Leaf, Tree, entry_of, lines_of, uses}
+use Rattle.vs_tree_shape.specs.Changes.{Below, Replaces, ReplacedBy}
+use Rattle.vs_tree_shape.specs.Differs.{Differs}
+use Rattle.vs_tree_blocks.specs.Blocks.{tree_format, lines_at, FitsFields}
+
+-- Data blocks with these lines stand in place of what used these pages, and the entries lead to them.
+pub record HasBlocks (m n : Map) (old : ℕ → ℕ) (blocks : List (List (List ℕ))) (entries : List Entry) : Type 0 where
+  pub leaves : List Leaf
+  pub entries_are : entries ≡ map (λ u. entry_of 0 u) leaves
+  pub replaces : Replaces tree_format m n old 0 leaves
+  pub blocks_are : map (λ (u : Leaf). u.lines) leaves ≡ blocks
+
+-- In place of a data block of one page at most three stand, with these lines, and their entries have room in a pointer block.
+pub record IsWritten (Told : Type 0) (m n : Map) (block : ℕ) (blocks : List (List (List ℕ))) (entries : List Entry) : Type 0 where
+  pub stand : Told → HasBlocks m n (λ k. span block 1 k) blocks entries
+  pub fields : AllByRecursion FitsFields entries
+  pub few : length entries ≤ 3
+  pub lines : lines_below entries ≡ total (λ (ls : List (List ℕ)). length ls) blocks
+
+abbrev pub Writes : {P : Type 0} → Ghosts P → P → P → ℕ → List (List (List ℕ)) → List Entry → Type 0
+Writes g old new block blocks entries = IsWritten (IsTrue g.tells) (g.shows old).present (g.shows new).present block blocks entries
+
+-- at most so many pages differ
+abbrev pub Touches : {P : Type 0} → Ghosts P → P → P → ℕ → Type 0
+Touches g old new count = IsTrue g.tells → Differs (g.shows old).present (g.shows new).present count
+
+-- a block of one page has these bytes
+abbrev pub HasPage : {P : Type 0} → Ghosts P → P → ℕ → List ℕ → Type 0
+HasPage g s block bytes = IsTrue g.tells → pages_at (g.shows s).present block 1 ≡ Some bytes
+
+-- the page is there
+abbrev pub IsThere : {P : Type 0} → Ghosts P → P → ℕ → Type 0
+IsThere g s block = IsTrue g.tells → IsSome (pages_at (g.shows s).present block 1)
+
+-- What holds of the lines of a data block, where the store tells them.
+abbrev pub OfLines : {P : Type 0} → Ghosts P → P → Entry → (List (List ℕ) → Type 0) → Type 0
+OfLines g s entry Holds = IsTrue g.tells → (lines : List (List ℕ)) → lines_at (g.shows s).present entry.block entry.pages ≡ Some lines → Holds lines
+
+-- Trees with these lines stand in place of a data block.
+abbrev pub Leaves : {P : Type 0} → Ghosts P → P → P → Entry → List (List ℕ) → List Entry → Type 0
+Leaves g old new entry lines entries = ReplacedBy tree_format (g.shows old).present (g.shows new).present (λ k. span entry.block entry.pages k) 0 lines entries
+
+-- In place of a pointer block over trees to which the entries lead, these entries lead to trees with the same lines. They
+-- lie as deep as is said for each depth of those trees.
+abbrev pub StandsOver : {P : Type 0} → Ghosts P → P → P → ℕ → (ℕ → ℕ) → List Entry → List Entry → Type 0
+StandsOver g old new block depth entries above =
+    IsTrue g.tells → (d : ℕ) (kids : List (Tree d)) → Below tree_format (g.shows old).present block d kids entries
+    → ReplacedBy tree_format (g.shows old).present (g.shows new).present (λ k. one block k + total (λ u. uses d u k) kids) (depth d) (flat_map (λ u. lines_of d u) kids) above
