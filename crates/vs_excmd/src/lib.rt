@@ -12,7 +12,9 @@ mod meaning;
 mod moving;
 mod place;
 mod reads;
+mod replacing;
 mod request;
+mod substituting;
 #[cfg(test)]
 mod tests;
 
