@@ -16,3 +16,8 @@ pushed text start now new top i line below so_far is put =
 pub bytes-more : (text : List (List ℕ)) (top i : ℕ) → top + i < length text → bytes_of (cut_out text top (i + 1)) ≡ bytes_of (cut_out text top i) + length (get_or text (top + i) []) + 1
 bytes-more text top i below =
     ap bytes_of (sym (cut_out-more text top i below)) ∙ bytes_of-append (cut_out text top i) (get_or text (top + i) [] ∷ []) ∙ omega arith
+
+-- the bytes of lines, and of one line more
+pub pushed-bytes : (lines new : List (List ℕ)) (line : List ℕ) (bytes more : ℕ) → bytes ≡ bytes_of lines → new ≡ lines ++ line ∷ [] → more ≡ bytes + length line + 1 → more ≡ bytes_of new
+pushed-bytes lines new line bytes more counted is sum =
+    omega (arith, counted, sum, ap bytes_of is, bytes_of-append lines (line ∷ []))

@@ -45,7 +45,7 @@ pub not-within : (text : List (List ℕ)) → PassLimits text → is_within text
 not-within text (inl many) = grind (arith, nat_tests)
 not-within text (inr large) = grind (arith, nat_tests)
 
-too-much : (text new : List (List ℕ)) (top old : ℕ) → top + old ≤ length text → PassLimits new → is_within (splice text top old new) ≡ false
+pub too-much : (text new : List (List ℕ)) (top old : ℕ) → top + old ≤ length text → PassLimits new → is_within (splice text top old new) ≡ false
 too-much text new top old within (inl many) = not-within (splice text top old new) (inl (omega (arith, length-splice text top old within new)))
 too-much text new top old within (inr large) =
     not-within (splice text top old new) (inr (omega (arith, bytes_of-splice text new top old within, bytes_of-cut_out text top old within)))

@@ -12,9 +12,9 @@ mod meaning;
 mod moving;
 mod place;
 mod reads;
+mod replacing;
 mod request;
-#[cfg(test)]
-mod tests;
+mod substituting;
 
 pub use answer::{Plan, PlanErr};
 pub use meaning::{changes_text, plan};

@@ -12,6 +12,7 @@ use crate::block::{deletion, put_block};
 use crate::joining::{addresses_of, join_lines};
 use crate::limits::bounded;
 use crate::moving::{copy_lines, move_lines};
+use crate::substituting::substitute;
 use crate::{Block, Place, Plan, PlanErr, place_of};
 use std::alloc::Global;
 use vs_edit::LineStore;
@@ -79,7 +80,12 @@ fn effect<S: LineStore>(
         Command::Join { range, bang, count } => {
             join_lines(alloc, view, lines, bang, addresses_of(range, count))
         }
-        Command::Substitute { .. } => Err(PlanErr::NoMemory),
+        Command::Substitute {
+            pattern,
+            replacement,
+            all,
+            ..
+        } => substitute(alloc, view, lines, pattern, replacement, all),
         Command::Print { .. }
         | Command::Number { .. }
         | Command::Equals { .. }
