@@ -1,5 +1,5 @@
 -- What each command comes to, by its kind.
-use Rattle.std.proofs.Common.{◌≡◌, ℕ, List, true, false, Ok, Err, Result, refl, sym, ap, ◌∙◌, subst}
+use Rattle.std.proofs.Common.{◌≡◌, ℕ, List, true, Err, Result, refl, sym, ap, ◌∙◌, subst}
 use Rattle.vs_exparse.specs.Command.{Command, result_of}
 use Rattle.vs_exparse.specs.Command.Command.{Append, Insert, Change, Delete, Move, CopyTo, T, Join, Substitute, Print, Number, Equals, Undo, Redo, Earlier, Later, UndoList, Write, Preserve, Quit, Set, WriteUndo, ReadUndo}
 use Rattle.vs_exparse.specs.declared.command.ExErr.{ExErr}

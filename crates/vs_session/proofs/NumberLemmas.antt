@@ -1,10 +1,10 @@
 -- Numbered lines grow by lines, and by runs of them.
-use Rattle.std.proofs.Common.{◌≡◌, ℕ, ◌+◌, ◌-◌, ◌<◌, ◌≤◌, List, [], ◌∷◌, ◌++◌, length, take, drop, decimal, refl, sym, ap, ◌∙◌, arith, length-append, append_assoc}
+use Rattle.std.proofs.Common.{◌≡◌, ℕ, ◌+◌, ◌-◌, ◌<◌, ◌≤◌, List, [], ◌∷◌, ◌++◌, length, take, drop, decimal, sym, ap, ◌∙◌, arith, length-append}
 use Rattle.std.proofs.Math.Seq.{take-add}
 use Rattle.std.proofs.lemmas.Grind.{common_steps, flat_map-append}
 use Rattle.std.proofs.lemmas.List.{drop-drop, length-take, length-drop}
 use Rattle.std.proofs.lemmas.List.Elements.{All-head, All-tail, All-take, All-drop}
-use Rattle.vs_text.specs.Text.{IsLine, IsText, file_of, bytes_of}
+use Rattle.vs_text.specs.Text.{IsLine, IsText, file_of}
 use Rattle.vs_text.proofs.FileForm.{length-file_of}
 use Rattle.vs_edit.specs.Splices.{cut_out, HoldsLines}
 use Rattle.vs_session.specs.Shown.{padded, with_number, numbered}

@@ -2,8 +2,7 @@
 use Rattle.std.specs.Prelude.{◌≡◌, ℕ, List}
 use Rattle.vs_edit.specs.State.{SameText}
 use Rattle.vs_edit.specs.declared.store.LineStore.{Ghosts}
-use Rattle.vs_excmd.specs.Request.{Instruction, IsRequest}
-use Rattle.vs_excmd.specs.declared.request.Request.{Request}
+use Rattle.vs_excmd.specs.Request.{Instruction}
 use Rattle.vs_session.specs.Machine.{State, Meaning, meaning_of, done_reply, done_state}
 use Rattle.vs_session.specs.declared.answer.Answered.{Answered}
 use Rattle.vs_session.specs.declared.answer.Position.{Position}

@@ -175,12 +175,14 @@ fn change<S: LineStore>(
             reply: Reply::no_change(),
             position,
         }),
-        Ok(Plan::Splice {
-            top,
-            old,
-            new,
-            cursor,
-        }) => make_change(alloc, store, position, top, old, &new, cursor),
+        Ok(
+            Plan::Splice {
+                top,
+                old,
+                new,
+                cursor,
+            },
+        ) => make_change(alloc, store, position, top, old, &new, cursor),
         Err(PlanErr::Ex(error)) => Ok(refused(error, position)),
         Err(PlanErr::NoMemory) => Err(StoreErr::NoMemory),
         Err(PlanErr::Failed) => Err(StoreErr::Failed),

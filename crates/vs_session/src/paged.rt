@@ -1,7 +1,8 @@
 // A text in pages in memory.
 ghost use Rattle.std.specs.Prelude.{◌≡◌, ◌≢◌, ◌++◌, [], true, IfOk, OnOk, OnErr, length};
-ghost use Rattle.vs_pages.specs.Memory.{present_of};
+ghost use Rattle.vs_pages.specs.Memory.{committed_of, present_of};
 ghost use Rattle.vs_tree.specs.TextIn.{text_in};
+ghost use Rattle.vs_tree.specs.Texts.{Fits};
 ghost use Rattle.vs_text.specs.Limits.{IsWithinLimits};
 ghost use Rattle.vs_excmd.specs.Request.{Instruction, IsRequest};
 ghost use Rattle.vs_session.specs.Answers.{AnswersAs, meaning_at, state_at};
@@ -12,7 +13,7 @@ ghost use Rattle.vs_session.specs.Request.{IsFormed};
 use crate::answer::{Answered, Position, answer, splice};
 use std::alloc::{AllocError, Global};
 use std::marker::Model;
-use vs_edit::StoreErr;
+use vs_edit::{LineStore, StoreErr};
 use vs_excmd::Request;
 use vs_pages::{LentPages, MemPages, PageErr};
 use vs_text::Line;
@@ -56,6 +57,20 @@ fn memory_of_store(error: StoreErr) -> AllocError
         StoreErr::NoMemory => AllocError,
         StoreErr::Failed => unreachable!(),
     }
+}
+
+// Commits a text in pages.
+fn commit_in(tree: &mut LineTree, pages: &mut MemPages)
+    requires present { Fits true (present_of pages.old) tree.old.present }
+    requires committed { Fits true (committed_of pages.old) tree.old.committed }
+    ensures text { text_in (present_of pages.new) tree.new.present ≡ text_in (present_of pages.old) tree.old.present }
+    ensures committed { IsCommitted pages.new tree.new }
+{
+    let mut store = TreeStore {
+        tree,
+        pages: LentPages { pages },
+    };
+    store.commit();
 }
 
 // Puts lines at the end of a text in pages.
@@ -115,10 +130,12 @@ impl PagedText {
         ensures { IfOk result (λ text. text ≡ []) }
     {
         let mut pages = MemPages::new(alloc)?;
-        match LineTree::new(alloc, &mut pages) {
-            Ok(tree) => Ok(PagedText { tree, pages }),
-            Err(error) => Err(memory_of_pages(error)),
-        }
+        let mut tree = match LineTree::new(alloc, &mut pages) {
+            Ok(tree) => tree,
+            Err(error) => return Err(memory_of_pages(error)),
+        };
+        commit_in(&mut tree, &mut pages);
+        Ok(PagedText { tree, pages })
     }
 
     /// The number of lines.

@@ -20,11 +20,7 @@ const NUMBER_WIDTH: usize = 6;
 const RUN_LINES: u64 = 64;
 
 // The lines of a span, each with its newline.
-fn printed<S: LineStore>(
-    alloc: Global,
-    store: &mut S,
-    span: Span,
-) -> Result<Vec<u8>, StoreErr>
+fn printed<S: LineStore>(alloc: Global, store: &mut S, span: Span) -> Result<Vec<u8>, StoreErr>
     requires valid { S.valid store.old }
     requires some { 0 < span.first }
     requires lies { IsSpanIn (S.shows store.old).present.lines span }

@@ -1,4 +1,4 @@
-use Rattle.std.proofs.Common.{◌≡◌, ℕ, List, ap, sym, arith, rules}
+use Rattle.std.proofs.Common.{◌≡◌, ℕ, List, ap, sym, rules}
 use Rattle.vs_edit.proofs.Steps.{OnlyReads-none}
 use Rattle.vs_exparse.specs.Command.{command_of}
 use Rattle.vs_exparse.specs.declared.command.ExErr.TheVariants.{E492}

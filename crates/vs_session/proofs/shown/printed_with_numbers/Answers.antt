@@ -1,8 +1,7 @@
-use Rattle.std.proofs.Common.{◌≡◌, ◌++◌, ◌+◌, ◌-◌, ◌<◌, ◌≤◌, List, ℕ, length, ap, subst, sym, ◌∙◌, arith}
+use Rattle.std.proofs.Common.{◌≡◌, ◌+◌, ◌<◌, ◌≤◌, List, ℕ, length, subst, sym, ◌∙◌, arith}
 use Rattle.vs_text.specs.Text.{IsText, file_of}
 use Rattle.vs_edit.specs.Splices.{cut_out, HoldsLines}
 use Rattle.vs_edit.proofs.Steps.{OnlyReads-trans}
-use Rattle.vs_session.specs.Shown.{numbered}
 use Rattle.vs_session.proofs.NumberLemmas.{number_run, number_some, is_text-cut_out}
 use Rattle.vs_session.proofs.shown.printed_with_numbers.Goals as goal
 

@@ -1,5 +1,5 @@
 -- The lines up to `at` are numbered.
-use Rattle.std.proofs.Common.{◌≡◌, ◌≤◌, ◌<◌, ◌-◌, ◌+◌, List, ℕ, length}
+use Rattle.std.proofs.Common.{◌≡◌, ◌≤◌, ◌<◌, ◌-◌, List, ℕ, length}
 use Rattle.vs_text.specs.Text.{file_of}
 use Rattle.vs_edit.specs.Calls.{OnlyReads}
 use Rattle.vs_edit.specs.Splices.{cut_out}

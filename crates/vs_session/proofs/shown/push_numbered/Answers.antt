@@ -1,7 +1,4 @@
-use Rattle.std.proofs.Common.{◌≡◌, ◌++◌, ◌∷◌, [], ◌+◌, ◌<◌, ◌≤◌, List, ℕ, length, refl, ap, sym, ◌∙◌, arith, length-append, rules}
-use Rattle.std.proofs.lemmas.Grind.{common_steps}
-use Rattle.vs_text.specs.Text.{IsText, file_of}
-use Rattle.vs_session.specs.Shown.{numbered}
+use Rattle.std.proofs.Common.{◌≡◌, ◌++◌, List, ℕ, length, ap, ◌∙◌, arith, length-append, rules}
 use Rattle.vs_session.proofs.NumberLemmas.{number_one, none_left}
 use Rattle.vs_session.proofs.shown.push_numbered.Goals as goal
 
