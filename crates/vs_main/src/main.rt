@@ -4,8 +4,6 @@
 
 mod help;
 mod host;
-#[cfg(test)]
-mod tests;
 
 use host::RealHost;
 use std::alloc::AllocError;

@@ -1,5 +1,5 @@
 // Each call of a run fails in turn, and is the last one.
-use super::{edit_f, host_with};
+use crate::helpers::{edit_f, host_with};
 use std::test::Fail;
 
 /// The calls of the run below, in order: three on the folder, the opening reply, one read that takes the whole script, one
@@ -28,7 +28,7 @@ fn each_failing_call_has_its_status(rt: HostRuntime) -> Result<(), Fail> {
     let alloc = rt.alloc();
     let mut script = Vec::new(alloc);
     for _ in 0..COMMANDS / 4 {
-        script.extend_from_slice(b"%p\n1a\n.\n9a\n.\nq\n")?;
+        script.extend_from_slice(b"%p\n1a\n.\n9a\n.\nx\n")?;
     }
     for call in 1..LAST_READ + 2 {
         let mut expected = Vec::new(alloc);

@@ -1,9 +1,4 @@
-// Whole runs over a host in memory, against outputs that are written out.
-mod faults;
-mod limits;
-mod pieces;
-mod runs;
-
+// A host with a file and a script, and a run over it.
 ghost use Rattle.std.specs.Prelude.{◌≡◌, [], IfOk, IsTrue};
 
 use std::alloc::Global;
@@ -13,7 +8,7 @@ use vs_memory::MemHost;
 use vs_top::{Report, run};
 
 /// A host with the file `f`, where there is one, and a script.
-fn host_with(alloc: Global, file: Option<&[u8]>, script: &[u8]) -> Result<MemHost, Fail>
+pub fn host_with(alloc: Global, file: Option<&[u8]>, script: &[u8]) -> Result<MemHost, Fail>
     ensures { IfOk result (λ host. host.answers ≡ []) }
 {
     let mut host = MemHost::new(alloc, Vec::from_slice(alloc, script)?)?;
@@ -23,7 +18,7 @@ fn host_with(alloc: Global, file: Option<&[u8]>, script: &[u8]) -> Result<MemHos
     Ok(host)
 }
 
-fn arguments_of(alloc: Global, arguments: &[&str]) -> Result<Vec<String>, Fail> {
+pub fn arguments_of(alloc: Global, arguments: &[&str]) -> Result<Vec<String>, Fail> {
     let mut list = Vec::new(alloc);
     for argument in arguments {
         list.push(String::from_str(alloc, argument)?)?;
@@ -32,7 +27,7 @@ fn arguments_of(alloc: Global, arguments: &[&str]) -> Result<Vec<String>, Fail> 
 }
 
 /// Runs `edit f`.
-fn edit_f<H: Host>(alloc: Global, host: &mut H) -> Result<Report, Fail>
+pub fn edit_f<H: Host>(alloc: Global, host: &mut H) -> Result<Report, Fail>
     requires { IsTrue (H.tells).clock → (H.scene host.old).answers ≡ [] }
 {
     let arguments = arguments_of(alloc, &["edit", "f"])?;

@@ -1,5 +1,5 @@
 // The replies to each kind of command, and the statuses 0, 1 and 2.
-use super::{arguments_of, edit_f, host_with};
+use crate::helpers::{arguments_of, edit_f, host_with};
 use std::test::Fail;
 use vs_top::run;
 
@@ -13,7 +13,7 @@ struct Case {
     marks: usize,
 }
 
-const CASES: [Case; 14] = [
+const CASES: [Case; 15] = [
     Case {
         shows: "a block is put after a line, and all lines are printed",
         file: Some(b"a\nb\nc\n"),
@@ -47,12 +47,12 @@ const CASES: [Case; 14] = [
         marks: 1,
     },
     Case {
-        shows: "other lines are no commands, and take no block",
+        shows: "a line that is refused takes no block",
         file: Some(b"a\n"),
-        script: b"a\n1\n12345678a\n%p \n",
-        output: b"\"f\" 1L, 2B\nE492: Not an editor command\nE492: Not an editor command\nE492: Not an editor command\nE492: Not an editor command\n",
+        script: b"0a x\n%p\n.\n2z\n%p 0\n",
+        output: b"\"f\" 1L, 2B\nE488: Trailing characters\na\na\nE492: Not an editor command\nE939: Positive count required\n",
         status: 1,
-        marks: 4,
+        marks: 5,
     },
     Case {
         shows: "empty lines are no commands and have no reply",
@@ -116,6 +116,14 @@ const CASES: [Case; 14] = [
         script: b"0a\n..\n .\n.\n%p\n",
         output: b"\"f\" 0L, 0B\nchange 1, 2 lines\n..\n .\n",
         status: 0,
+        marks: 2,
+    },
+    Case {
+        shows: "the block of a command that is refused belongs to it",
+        file: Some(b"a\n"),
+        script: b"9a\n%p\n.\n2,1c\n=\n",
+        output: b"\"f\" 1L, 2B\nE16: Invalid range\nE493: Backwards range given\n",
+        status: 1,
         marks: 2,
     },
     Case {

@@ -1,0 +1,149 @@
+// A host whose script is one comment, again and again. It tells nothing, and has no file.
+ghost use Rattle.std.specs.Prelude.{◌≡◌, [], false, true, OnOk};
+ghost use Rattle.vs_test_runs.specs.Untold.{never, no_folder};
+
+use std::alloc::Global;
+use std::test::Fail;
+use vs_host::{Clock, Failed, Folder, Host, Out, Script, World};
+
+#[derive(Drop)]
+pub struct Comments {
+    /// The line with its end.
+    pub line: Vec<u8>,
+    /// How many times it is still to come.
+    pub left: u64,
+    /// What comes after the last one.
+    pub tail: Vec<u8>,
+    pub output: Vec<u8>,
+    out_faults: u64,
+    folder_faults: u64,
+}
+
+impl Comments {
+    /// A comment of 65,535 bytes and its end, 16,384 times, and these bytes after it.
+    pub fn of_a_gibibyte(alloc: Global, tail: &[u8]) -> Result<Comments, Fail> {
+        let mut line = Vec::from_slice(alloc, b"\"")?;
+        line.resize(65_535, b'x')?;
+        line.push(b'\n')?;
+        Ok(Comments {
+            line,
+            left: 16_384,
+            tail: Vec::from_slice(alloc, tail)?,
+            output: Vec::new(alloc),
+            out_faults: 0,
+            folder_faults: 0,
+        })
+    }
+
+    fn fail(&mut self) -> Failed {
+        self.folder_faults = self.folder_faults.saturating_add(1);
+        Failed
+    }
+}
+
+impl World for Comments {
+    ghost tells = { record { folder = false; output = false; script = false; clock = false } };
+
+    ghost scene = { λ s. record {
+      folder = no_folder;
+      output = [];
+      script = [];
+      answers = [];
+      script_faults = 0;
+      out_faults = s.out_faults;
+      folder_faults = s.folder_faults;
+      trace = [];
+    } };
+
+    ghost plays = { λ _ _ _. Unit {0} };
+
+    ghost is_folder = { λ host told. never told };
+
+    ghost newest = { λ host told. never told };
+}
+
+/// Copies the front of some bytes, and answers how many.
+fn copy(from: &[u8], into: &mut [u8]) -> usize {
+    let count = from.len().min(into.len());
+    into[..count].copy_from_slice(&from[..count]);
+    count
+}
+
+impl Script for Comments {
+    // Each read takes a whole line, for which the reader has room.
+    fn read(&mut self, into: &mut [u8]) -> Result<usize, Failed> {
+        if self.left > 0 {
+            self.left -= 1;
+            return Ok(copy(&self.line, into));
+        }
+        let count = copy(&self.tail, into);
+        self.tail.clear();
+        Ok(count)
+    }
+}
+
+impl Out for Comments {
+    fn write(&mut self, piece: &[u8]) -> Result<(), Failed> {
+        match self.output.extend_from_slice(piece) {
+            Ok(()) => Ok(()),
+            Err(_) => {
+                self.out_faults = self.out_faults.saturating_add(1);
+                Err(Failed)
+            }
+        }
+    }
+}
+
+impl Clock for Comments {
+    fn now(&mut self) -> u64 {
+        0
+    }
+}
+
+impl Folder for Comments {
+    fn has(&mut self, _name: &str) -> Result<bool, Failed> {
+        Ok(false)
+    }
+
+    fn create(&mut self, _name: &str) -> Result<(), Failed> {
+        Err(self.fail())
+    }
+
+    fn len(&mut self, _name: &str) -> Result<u64, Failed> {
+        Err(self.fail())
+    }
+
+    fn read_at(&mut self, _name: &str, _at: u64, _into: &mut [u8]) -> Result<(), Failed> {
+        Err(self.fail())
+    }
+
+    fn write_at(&mut self, _name: &str, _at: u64, _piece: &[u8]) -> Result<(), Failed> {
+        Err(self.fail())
+    }
+
+    fn cut(&mut self, _name: &str, _len: u64) -> Result<(), Failed> {
+        Err(self.fail())
+    }
+
+    fn sync(&mut self, _name: &str) -> Result<(), Failed> {
+        Err(self.fail())
+    }
+
+    fn rename(&mut self, _from: &str, _to: &str) -> Result<(), Failed> {
+        Err(self.fail())
+    }
+
+    fn remove(&mut self, _name: &str) -> Result<(), Failed> {
+        Err(self.fail())
+    }
+
+    fn sync_names(&mut self) -> Result<(), Failed> {
+        Err(self.fail())
+    }
+
+    fn damaged(&mut self) {
+        let _ = self.fail();
+    }
+}
+
+impl Host for Comments {}
