@@ -2,44 +2,39 @@
 use std::test::Fail;
 use vs_host::{NameErr, Names, allowed, laws_of_names};
 
-fn are_names(names: &Names, wanted: &[&str; 8]) -> bool {
-    names.file.as_str() == wanted[0]
-        && names.swp.as_str() == wanted[1]
-        && names.swo.as_str() == wanted[2]
-        && names.undo.as_str() == wanted[3]
-        && names.file_new.as_str() == wanted[4]
-        && names.swp_new.as_str() == wanted[5]
-        && names.swo_new.as_str() == wanted[6]
-        && names.undo_new.as_str() == wanted[7]
+fn kept(names: &Names) -> [&str; 4] {
+    let file = names.file.as_str();
+    let undo = names.undo.as_str();
+    [file, names.swp.as_str(), names.swo.as_str(), undo]
+}
+
+fn temporaries(names: &Names) -> [&str; 4] {
+    let file = names.file_new.as_str();
+    let undo = names.undo_new.as_str();
+    [file, names.swp_new.as_str(), names.swo_new.as_str(), undo]
 }
 
 #[test]
 fn a_file_has_seven_names_beside_its_own(rt: HostRuntime) -> Result<(), Fail> {
-    let notes = Names::of(rt.alloc(), "notes").ok().ok_or("it is allowed")?;
-    let of_notes = [
-        "notes",
-        ".notes.swp",
-        ".notes.swo",
-        ".notes.un~",
-        "notes.vsnew",
-        ".notes.swp.vsnew",
-        ".notes.swo.vsnew",
-        ".notes.un~.vsnew",
+    let names = Names::of(rt.alloc(), "a.c").ok().ok_or("it is allowed")?;
+    let named = ["a.c", ".a.c.swp", ".a.c.swo", ".a.c.un~"];
+    let made = [
+        "a.c.vsnew",
+        ".a.c.swp.vsnew",
+        ".a.c.swo.vsnew",
+        ".a.c.un~.vsnew",
     ];
-    assert!(rt; are_names(&notes, &of_notes));
-    let hidden = Names::of(rt.alloc(), ".rc").ok().ok_or("it is allowed")?;
-    let of_hidden = [
-        ".rc",
-        ".rc.swp",
-        ".rc.swo",
-        ".rc.un~",
-        ".rc.vsnew",
-        ".rc.swp.vsnew",
-        ".rc.swo.vsnew",
-        ".rc.un~.vsnew",
-    ];
-    assert!(rt; are_names(&hidden, &of_hidden));
+    assert!(rt; kept(&names) == named);
+    assert!(rt; temporaries(&names) == made);
     laws_of_names();
+    Ok(())
+}
+
+#[test]
+fn a_hidden_file_gets_no_second_dot(rt: HostRuntime) -> Result<(), Fail> {
+    let names = Names::of(rt.alloc(), ".rc").ok().ok_or("it is allowed")?;
+    let named = [".rc", ".rc.swp", ".rc.swo", ".rc.un~"];
+    assert!(rt; kept(&names) == named);
     Ok(())
 }
 
