@@ -181,6 +181,25 @@ unfolding repeat next_mark
 mark_more n before bytes mark after h =
     ap (λ q. carry (carry q (λ _. give (Some (before + 1)))) (λ found. elim found as (λ _. Read ℕ) [ None ↦ give before | Some next ↦ repeat n next_mark next ])) h
 
+marks_step : (n before : ℕ) (bytes mark mid : List ℕ) (m : ℕ) (rest : List ℕ) → run 12 bytes ≡ Ok (mark, mid) → repeat (suc n) next_mark before bytes ≡ Ok (m, rest)
+    → repeat n next_mark (before + 1) mid ≡ Ok (m, rest)
+marks_step n before bytes mark mid m rest first e = sym (mark_more n before bytes mark mid first) ∙ e
+
+-- a mark, and then those that follow it
+marks_grow : (n before m : ℕ) (bytes mark mid rest : List ℕ) → length mark ≡ 12 → Takes (Is mark ∷ []) bytes mid → (m ≡ before + 1 + n) × Takes (Any (12 * n) ∷ []) mid rest
+    → (m ≡ before + suc n) × Takes (Any (12 * suc n) ∷ []) bytes rest
+marks_grow n before m bytes mark mid rest twelve t more =
+    let row = row_one (Is mark) t.part (length mid) t.in_order in
+    let tail = row_one (Any (12 * n)) more.1.part (length rest) more.1.in_order in
+    let wide : length (t.part ++ more.1.part) ≡ 12 * suc n = omega (arith, length-append t.part more.1.part, ap length row.same, twelve, tail.wide) in (
+      omega (arith, more.0),
+      record {
+        part = t.part ++ more.1.part;
+        whole = t.whole ∙ ap (λ (y : List ℕ). t.part ++ y) more.1.whole ∙ sym (append_assoc t.part more.1.part rest);
+        in_order = one_row (Any (12 * suc n)) (t.part ++ more.1.part) (length rest) (record { wide = wide });
+      },
+    )
+
 marks_take : (n before : ℕ) (bytes : List ℕ) (m : ℕ) (rest : List ℕ) → repeat n next_mark before bytes ≡ Ok (m, rest) → (m ≡ before + n) × Takes (Any (12 * n) ∷ []) bytes rest
 unfolding repeat next_mark
 marks_take zero before bytes m rest e =
@@ -191,18 +210,9 @@ marks_take (suc n) before bytes m rest e =
     let f = λ (found : Option ℕ). elim found as (λ _. Read ℕ) [ None ↦ give before | Some next ↦ repeat n next_mark next ] in
     let a = carry_ok (next_mark before bytes) f (m, rest) e in
     let b = carry_ok (run 12 bytes) (λ _. give (Some (before + 1))) a.0 a.1 in
-    let more = marks_take n (before + 1) b.0.1 m rest (sym (mark_more n before bytes b.0.0 b.0.1 b.1) ∙ e) in
+    let next = marks_step n before bytes b.0.0 b.0.1 m rest b.1 e in
     let t = (reads_run 12).takes bytes b.0.0 b.0.1 b.1 in
-    let row = row_one (Is b.0.0) t.1.part (length b.0.1) t.1.in_order in
-    let tail = row_one (Any (12 * n)) more.1.part (length rest) more.1.in_order in
-    let wide : length (t.1.part ++ more.1.part) ≡ 12 * suc n = omega (arith, length-append t.1.part more.1.part, ap length row.same, t.0, tail.wide) in (
-      omega (arith, more.0),
-      record {
-        part = t.1.part ++ more.1.part;
-        whole = t.1.whole ∙ ap (λ (y : List ℕ). t.1.part ++ y) more.1.whole ∙ sym (append_assoc t.1.part more.1.part rest);
-        in_order = one_row (Any (12 * suc n)) (t.1.part ++ more.1.part) (length rest) (record { wide = wide });
-      },
-    )
+    marks_grow n before m bytes b.0.0 b.0.1 rest t.0 t.1 (marks_take n (before + 1) b.0.1 m rest next)
 
 marks_again : (n before : ℕ) (part rest : List ℕ) → length part ≡ 12 * n → repeat n next_mark before (part ++ rest) ≡ Ok (before + n, rest)
 unfolding repeat next_mark

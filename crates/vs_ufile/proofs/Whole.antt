@@ -102,6 +102,27 @@ line_more : (n : ℕ) (before : List (List ℕ)) (x bytes after : List ℕ) → 
 unfolding repeat adding
 line_more n before x bytes after h = rw h refl
 
+lines_step : (n : ℕ) (before all : List (List ℕ)) (x bytes mid rest : List ℕ) → line bytes ≡ Ok (x, mid) → repeat (suc n) (adding next_line) before bytes ≡ Ok (all, rest)
+    → repeat n (adding next_line) (before ++ x ∷ []) mid ≡ Ok (all, rest)
+lines_step n before all x bytes mid rest first e = sym (line_more n before x bytes mid first) ∙ e
+
+-- a line, and then those that follow it
+lines_grow : (n : ℕ) (before all : List (List ℕ)) (x bytes mid rest : List ℕ) → Takes (line_rows x) bytes mid → Lines (before ++ x ∷ []) all n mid rest → Lines before all (suc n) bytes rest
+lines_grow n before all x bytes mid rest t l =
+    let m = row_one (Each line_rows l.xs) l.takes.part (length rest) l.takes.in_order in
+    let size : length mid ≡ length l.takes.part + length rest = ap length l.takes.whole ∙ length-append l.takes.part rest in
+    record {
+      xs = x ∷ l.xs;
+      all_is = l.all_is ∙ append_assoc before (x ∷ []) l.xs;
+      count = ap suc l.count;
+      takes = record {
+        part = t.part ++ l.takes.part;
+        whole = t.whole ∙ ap (λ (y : List ℕ). t.part ++ y) l.takes.whole ∙ sym (append_assoc t.part l.takes.part rest);
+        in_order = one_row (Each line_rows (x ∷ l.xs)) (t.part ++ l.takes.part) (length rest)
+            (t.part, l.takes.part, refl, subst (λ (k : ℕ). InOrder (line_rows x) t.part k) size t.in_order, m);
+      };
+    }
+
 lines_take : (n : ℕ) (before all : List (List ℕ)) (bytes rest : List ℕ) → repeat n (adding next_line) before bytes ≡ Ok (all, rest) → Lines before all n bytes rest
 unfolding repeat adding
 lines_take zero before all bytes rest e =
@@ -117,22 +138,8 @@ lines_take (suc n) before all bytes rest e =
     let a = carry_ok (adding next_line before bytes) f (all, rest) e in
     let b = carry_ok (next_line before bytes) (λ found. give (added before found)) a.0 a.1 in
     let d = carry_ok (line bytes) (λ found. give (Some found)) b.0 b.1 in
-    let one = line_more n before d.0.0 bytes d.0.1 d.1 in
-    let l = lines_take n (before ++ d.0.0 ∷ []) all d.0.1 rest (sym one ∙ e) in
-    let t = (reads_line.takes bytes d.0.0 d.0.1 d.1).1 in
-    let m = row_one (Each line_rows l.xs) l.takes.part (length rest) l.takes.in_order in
-    let size : length d.0.1 ≡ length l.takes.part + length rest = ap length l.takes.whole ∙ length-append l.takes.part rest in
-    record {
-      xs = d.0.0 ∷ l.xs;
-      all_is = l.all_is ∙ append_assoc before (d.0.0 ∷ []) l.xs;
-      count = ap suc l.count;
-      takes = record {
-        part = t.part ++ l.takes.part;
-        whole = t.whole ∙ ap (λ (y : List ℕ). t.part ++ y) l.takes.whole ∙ sym (append_assoc t.part l.takes.part rest);
-        in_order = one_row (Each line_rows (d.0.0 ∷ l.xs)) (t.part ++ l.takes.part) (length rest)
-            (t.part, l.takes.part, refl, subst (λ (k : ℕ). InOrder (line_rows d.0.0) t.part k) size t.in_order, m);
-      };
-    }
+    let next = lines_step n before all d.0.0 bytes d.0.1 rest d.1 e in
+    lines_grow n before all d.0.0 bytes d.0.1 rest (reads_line.takes bytes d.0.0 d.0.1 d.1).1 (lines_take n (before ++ d.0.0 ∷ []) all d.0.1 rest next)
 
 lines_again : (xs before : List (List ℕ)) (part rest : List ℕ) → Each line_rows xs part (length rest) → repeat (length xs) (adding next_line) before (part ++ rest) ≡ Ok (before ++ xs, rest)
 unfolding repeat adding
