@@ -6,3 +6,7 @@ pub mod Gates
 pub mod Reading
 pub mod Offers
 pub mod Fitting
+pub mod MadeFiles
+pub mod Starts
+pub mod Ends
+pub mod Lending

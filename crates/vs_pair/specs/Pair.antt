@@ -33,6 +33,10 @@ abbrev pub name_of : Names → Side → Name
 name_of names Swp = names.swp
 name_of names Swo = names.swo
 
+abbrev pub temporary_of : Names → Side → Name
+temporary_of names Swp = names.swp_new
+temporary_of names Swo = names.swo_new
+
 -- the two swap files
 abbrev pub is_swap : Names → Name → Bool
 is_swap names name = bytes_eq names.swp name || bytes_eq names.swo name
@@ -100,9 +104,13 @@ pub record Known : Type 0 where
 abbrev pub known_of : SwapPair → Known
 known_of pair = record { names = pair.files.names; newer = pair.files.newer; gate = pair.files.gate; generation = pair.files.generation }
 
+-- a sync of the committed pages
+abbrev pub sync_with : SwapPair → ℕ → Head → Synced
+sync_with pair generation head = record { generation = generation; head = head; pages = committed_of pair.pages }
+
 -- the sync that is about to begin
 abbrev pub sync_of : SwapPair → Head → Synced
-sync_of pair head = record { generation = pair.files.generation + 1; head = head; pages = committed_of pair.pages }
+sync_of pair head = sync_with pair (pair.files.generation + 1) head
 
 pub record IsEarlier (newest older : Synced) (past : List Synced) : Type 0 where
   pub member : IsIn older past
