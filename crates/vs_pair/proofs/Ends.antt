@@ -15,23 +15,23 @@ use Rattle.vs_pair.specs.declared.side.Side.{Side}
 use Rattle.vs_pair.specs.declared.side.Side.TheVariants.{Swp, Swo}
 use Rattle.vs_pair.specs.Acts.{Acts, NoneFails}
 use Rattle.vs_pair.specs.Swap.{Synced, Body, body_of, IsOpen, HasBody, Holds, Fits}
-use Rattle.vs_pair.specs.Pair.{Image, Known, name_of, other_side, is_apart, IsIn, HasEarlier, Offers, RecoversOrNone, NoneThere, IsFit, IsOrdered}
+use Rattle.vs_pair.specs.Pair.{Image, Known, name_of, other_side, is_apart, IsIn, HasEarlier, HasLater, Offers, RecoversOrNone, NoneThere, IsFit, IsOrdered}
 use Rattle.vs_pair.specs.Steps.{IsAbsent, Ending}
 use Rattle.vs_pair.proofs.Acts.{acts_as, acts_then}
-use Rattle.vs_pair.proofs.Fitting.{side_outside, two_sides}
+use Rattle.vs_pair.proofs.FitLemmas.{side_outside, two_sides}
 use Rattle.vs_pair.proofs.Gates.{zeros_not_open}
 use Rattle.vs_pair.proofs.MadeFiles.{gone_now, removed_same, synced_same}
-use Rattle.vs_pair.proofs.Offers.{HasLater, two_offer, offers, there_some, below_none}
+use Rattle.vs_pair.proofs.Offers.{two_offer, with_newest, offers, there_some, below_none}
 
 some_same : (a b : ℕ) → Some a ≡ Some b → a ≡ b
 some_same a b e = cc
 
 -- which sync an open image of the other file has
-class : (file : Name) (newest older : Synced) (begun past : List Synced) → older.generation < 2 ^ 64 → (gate : Gate) (x : File) → Fits gate (body_of file older) x → IsOrdered gate newest older begun past x
-    → Leaves x (λ c. IsOpen c → HasEarlier file newest (newest ∷ past) c ⊎ HasLater file newest begun c)
+pub class : (file : Name) (newest older : Synced) (begun past : List Synced) → older.generation < 2 ^ 64 → (gate : Gate) (x : File) → Fits gate (body_of file older) x → IsOrdered gate newest older begun past x
+    → Leaves x (λ c. IsOpen c → HasEarlier file newest past c ⊎ HasLater file newest begun c)
 class file newest older begun past small Closed x fits ordered c image opened = absurd (zeros_not_open c (fits c image) opened)
-class file newest older begun past small Open x fits ordered c image opened = inl (record { earlier = older; member = inr ordered.member; body = (fits c image).whole; less = ordered.less })
-class file newest older begun past small Unknown x fits (inl earlier) c image opened = inl (record { earlier = older; member = inr earlier.member; body = fits c image; less = earlier.less })
+class file newest older begun past small Open x fits ordered c image opened = inl (record { earlier = older; member = ordered.member; body = (fits c image).whole; less = ordered.less })
+class file newest older begun past small Unknown x fits (inl earlier) c image opened = inl (record { earlier = older; member = earlier.member; body = fits c image; less = earlier.less })
 class file newest older begun past small Unknown x fits (inr later) c image opened = inr (record { sync = older; member = later.member; body = fits c image; more = later.more; small = small })
 
 module _ (files : Known) (newest : Synced) (begun past : List Synced) (old : Disk) (fit : IsFit files old newest begun past) where
@@ -126,10 +126,10 @@ module _ (files : Known) (newest : Synced) (begun past : List Synced) (old : Dis
                   offers files.names files.newer (newest ∷ past) image newest small (there_some files.names.file newest (image newer) one.0 one.1 one.2) (below_none files.names.file newest (newest ∷ past) (image older) (gone older none)),
                 )
               | inr there ↦
-                  let two = image_of disk going older fit.older_number (λ c. IsOpen c → HasEarlier files.names.file newest (newest ∷ past) c ⊎ HasLater files.names.file newest begun c)
+                  let two = image_of disk going older fit.older_number (λ c. IsOpen c → HasEarlier files.names.file newest past c ⊎ HasLater files.names.file newest begun c)
                       (class files.names.file newest fit.older_sync begun past (omega (arith, fit.older_used, fit.bound)) files.gate (old.files fit.older_number) fit.older.has fit.ordered)
                       (names_at disk lost older) there (image older) (whole.1 older) in
-                  inr (two_offer files.names files.newer newest past begun image small one.0 two.0 one.1 two.1 one.2 two.2)
+                  inr (two_offer files.names files.newer newest past begun image small one.0 two.0 one.1 two.1 one.2 (λ opened. with_newest files.names.file newest past begun two.0 (two.2 opened)))
             ]
       ]
 

@@ -1,23 +1,9 @@
 -- Calls on pages in memory leave what is known of the swap files, and the folder.
 use Rattle.std.proofs.Common.{◌≡◌, ◌+◌, ◌<◌, ◌≤◌, ℕ, inl, inr, IsTrue, refl, sym, ◌∙◌, ap, arith}
 use Rattle.vs_faults.specs.Faults.{HasCause, HasRisen}
-use Rattle.vs_host.specs.World.{Tells, Scene, ReadsFolder, CountsFault}
-use Rattle.vs_disk.proofs.Runs.{starts, looks_on, reads_change}
+use Rattle.vs_host.specs.World.{Tells, Scene, CountsFault}
 use Rattle.vs_pair.specs.declared.files.SwapFiles.{SwapFiles}
 use Rattle.vs_pair.specs.Lent.{KeepsFiles}
-
-pub keeps_none : (tells : Tells) (files : SwapFiles) (scene : Scene) → KeepsFiles tells files files scene scene
-keeps_none tells files scene = record { files = refl; frame = refl; looks = λ told. starts (λ a b. b ≡ a) scene refl }
-
-reads_then : (old mid new : Scene) → ReadsFolder old mid → ReadsFolder mid new → ReadsFolder old new
-reads_then old mid new first second = second ∙ ap (λ (s : Scene). record s { folder_faults = new.folder_faults; trace = new.trace }) first
-
-pub keeps_then : (tells : Tells) (a b c : SwapFiles) (old mid new : Scene) → KeepsFiles tells a b old mid → KeepsFiles tells b c mid new → KeepsFiles tells a c old new
-keeps_then tells a b c old mid new first second = record {
-  files = second.files ∙ first.files;
-  frame = reads_then old mid new first.frame second.frame;
-  looks = λ told. looks_on old mid new (reads_change old mid first.frame) (first.looks told) (second.looks told);
-}
 
 -- pages in memory do not fail
 pub no_cause : (Failed : Type 0) (n : ℕ) → HasCause 0 0 Failed → HasCause n n Failed

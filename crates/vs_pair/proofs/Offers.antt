@@ -14,7 +14,7 @@ use Rattle.vs_swap.proofs.Standing.{written_stands}
 use Rattle.vs_pair.specs.declared.side.Side.{Side}
 use Rattle.vs_pair.specs.declared.side.Side.TheVariants.{Swp, Swo}
 use Rattle.vs_pair.specs.Swap.{Synced, body_of, IsOpen, HasBody, Holds, open_mark}
-use Rattle.vs_pair.specs.Pair.{Image, name_of, other_side, IsIn, IsThere, HasEarlier, IsBelow, Offers, IsTextOf}
+use Rattle.vs_pair.specs.Pair.{Image, name_of, other_side, IsIn, IsThere, HasEarlier, HasLater, IsBelow, Offers, IsTextOf}
 use Rattle.vs_pair.proofs.Reading.{head_reads, stands_open, stands_generation}
 
 -- the image of a file to which the name always leads
@@ -28,14 +28,6 @@ open_cases c = elim (cases_Bool (bytes_eq (take 2 c) open_mark)) [
   | inl same ↦ inl ((bytes_eq-Decides (take 2 c) open_mark).0 same)
   | inr not ↦ inr (λ opened. true≢false (sym ((bytes_eq-Decides (take 2 c) open_mark).1 opened) ∙ not))
 ]
-
--- The file has what a later sync of these wrote.
-pub record HasLater (file : Name) (newest : Synced) (later : List Synced) (c : List ℕ) : Type 0 where
-  pub sync : Synced
-  pub member : IsIn sync later
-  pub body : HasBody (body_of file sync) c
-  pub more : newest.generation < sync.generation
-  pub small : sync.generation < 2 ^ 64
 
 -- ---- the two files by their sides
 
@@ -89,6 +81,11 @@ module _ (names : Names) (side : Side) (newest : Synced) (past later : List Sync
     | inl opened ↦ elim (either opened) [ inl earlier ↦ newest_wins (λ open_it. earlier) | inr has ↦ later_wins opened has ]
     | inr not ↦ newest_wins (λ opened. absurd (not opened))
   ]
+
+-- an earlier sync of the past is one of the newest and the past
+pub with_newest : (file : Name) (newest : Synced) (past later : List Synced) (c : List ℕ) → HasEarlier file newest past c ⊎ HasLater file newest later c → HasEarlier file newest (newest ∷ past) c ⊎ HasLater file newest later c
+with_newest file newest past later c (inl earlier) = inl (record { earlier = earlier.earlier; member = inr earlier.member; body = earlier.body; less = earlier.less })
+with_newest file newest past later c (inr has) = inr has
 
 -- ---- what is recovered
 

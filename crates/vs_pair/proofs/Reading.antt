@@ -21,16 +21,14 @@ opened_is page = refl
 is_writable : (file : Name) (sync : Synced) → IsTrue (is_allowed file) → sync.generation < 2 ^ 64 → IsWritable (zero_of sync.generation sync.head) (pair_of sync.generation sync.head) file
 is_writable file sync allowed small = record { sized = refl; known = inl refl; short = grind (arith, allowed); paired = refl; counted = small }
 
-pub head_reads : (file : Name) (sync : Synced) → IsTrue (is_allowed file) → sync.generation < 2 ^ 64 → (c : List ℕ) → Holds (body_of file sync) c → IsHead c sync.generation sync.head.empty
-head_reads file sync allowed small c holds =
+pub holds_reads : (file : Name) (sync : Synced) → IsTrue (is_allowed file) → sync.generation < 2 ^ 64 → (c : List ℕ) → Holds (body_of file sync) c → reading_of (take 4096 c) ≡ Ok (zero_of sync.generation sync.head)
+holds_reads file sync allowed small c holds =
     let page : List ℕ = page_zero file sync.generation sync.head in
     let same : take 4096 c ≡ opened page = front c ∙ (λ i. holds.opened i ++ holds.whole.rest i) ∙ sym (opened_is page) in
-    record {
-      zero = zero_of sync.generation sync.head;
-      reads = ap (λ (l : List ℕ). reading_of l) same ∙ opened_reads (zero_of sync.generation sync.head) (pair_of sync.generation sync.head) file (is_writable file sync allowed small);
-      size = refl;
-      paired = refl;
-    }
+    ap (λ (l : List ℕ). reading_of l) same ∙ opened_reads (zero_of sync.generation sync.head) (pair_of sync.generation sync.head) file (is_writable file sync allowed small)
+
+pub head_reads : (file : Name) (sync : Synced) → IsTrue (is_allowed file) → sync.generation < 2 ^ 64 → (c : List ℕ) → Holds (body_of file sync) c → IsHead c sync.generation sync.head.empty
+head_reads file sync allowed small c holds = record { zero = zero_of sync.generation sync.head; reads = holds_reads file sync allowed small c holds; size = refl; paired = refl }
 
 pub stands_open : (c : List ℕ) (g : ℕ) (text : List (List ℕ)) → StandsFor c g text → IsOpen c
 stands_open c g text stands = sym (take-take 2 4096 c (omega arith)) ∙ (reads (take 4096 c) stands.head.zero stands.head.reads).identifier

@@ -3,3 +3,4 @@ pub mod Pair
 pub mod Swap
 pub mod Steps
 pub mod Lent
+pub mod LentLaws

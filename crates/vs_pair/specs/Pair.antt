@@ -70,6 +70,14 @@ pub record HasEarlier (file : Name) (sync : Synced) (older : List Synced) (c : L
   pub body : HasBody (body_of file earlier) c
   pub less : earlier.generation < sync.generation
 
+-- The file has what a later sync of these wrote.
+pub record HasLater (file : Name) (newest : Synced) (later : List Synced) (c : List ℕ) : Type 0 where
+  pub sync : Synced
+  pub member : IsIn sync later
+  pub body : HasBody (body_of file sync) c
+  pub more : newest.generation < sync.generation
+  pub small : sync.generation < 2 ^ 64
+
 -- the file is not there, or not open, or has what an earlier sync wrote
 abbrev pub IsBelow : Name → Synced → List Synced → Option (List ℕ) → Type 0
 IsBelow file sync older None = Unit {0}
@@ -147,6 +155,17 @@ pub record IsFit (files : Known) (disk : Disk) (newest : Synced) (begun past : L
 pub record Syncing (files : Known) (sync : Synced) (old new : Disk) : Type 0 where
   pub spared : (newest : Synced) (begun past : List Synced) → IsFit files old newest begun past → SameAt (is_apart files.names) old new
   pub safe : (newest : Synced) (begun past : List Synced) → IsFit files old newest begun past → Recovers files.names (newest ∷ sync ∷ begun) (newest ∷ past) new
+
+-- the file is not there, or not open, or has what an earlier sync of these wrote, or a later one
+abbrev pub IsBeside : Name → Synced → List Synced → List Synced → Option (List ℕ) → Type 0
+IsBeside file newest begun past None = Unit {0}
+IsBeside file newest begun past (Some c) = IsOpen c → HasEarlier file newest past c ⊎ HasLater file newest begun c
+
+-- Between two calls: in each image one file stands with what the last acknowledged sync wrote, and the other one is beside it.
+pub record IsBetween (names : Names) (newest : Synced) (begun past : List Synced) (disk : Disk) : Type 0 where
+  pub side : Side
+  pub newest_there : (image : Image) → IsImage disk image → IsThere names.file newest (image (name_of names side))
+  pub beside : (image : Image) → IsImage disk image → IsBeside names.file newest begun past (image (name_of names (other_side side)))
 
 -- ---- texts
 

@@ -11,6 +11,9 @@ use vs_pages::{PageErr, Pages};
 
 /// A store of the pages of a pair, over a pair and a folder that were lent. Whoever lent them finds them, when the store is
 /// given up, as the store last held them. No call of the store writes a file: only a sync of the pair does.
+///
+/// Over a folder that is not told, pages that are not there are a fault: a page that was read back was not the one that was
+/// written.
 #[derive(Drop)]
 pub struct PairPages<'p, 'h, F: Folder> {
     pub pair: &'p mut SwapPair,
@@ -19,7 +22,7 @@ pub struct PairPages<'p, 'h, F: Folder> {
 
 impl<'p, 'h, F: Folder> Pages for PairPages<'p, 'h, F> {
     ghost use Rattle.std.proofs.Common.{◌∙◌, refl};
-    ghost use Rattle.vs_pair.proofs.Lending.{keeps_none, keeps_then};
+    ghost use Rattle.vs_pair.specs.LentLaws.{keeps_none, keeps_then};
 
     ghost tells = { F.tells.folder };
 
@@ -50,10 +53,18 @@ impl<'p, 'h, F: Folder> Pages for PairPages<'p, 'h, F> {
         pages: u32,
         into: &mut Vec<u8>,
     ) -> Result<(), PageErr> {
+        if !self.pair.pages.has(at, pages) {
+            self.host.damaged();
+            return Err(PageErr::Failed);
+        }
         self.pair.pages.load(alloc, at, pages, into)
     }
 
     fn touch(&mut self, alloc: Global, at: u64, pages: u32, bytes: &[u8]) -> Result<(), PageErr> {
+        if !self.pair.pages.has(at, pages) {
+            self.host.damaged();
+            return Err(PageErr::Failed);
+        }
         self.pair.pages.touch(alloc, at, pages, bytes)
     }
 
@@ -62,6 +73,10 @@ impl<'p, 'h, F: Folder> Pages for PairPages<'p, 'h, F> {
     }
 
     fn free(&mut self, alloc: Global, at: u64, pages: u32) -> Result<(), PageErr> {
+        if !self.pair.pages.has(at, pages) {
+            self.host.damaged();
+            return Err(PageErr::Failed);
+        }
         self.pair.pages.free(alloc, at, pages)
     }
 

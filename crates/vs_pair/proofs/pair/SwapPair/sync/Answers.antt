@@ -10,7 +10,7 @@ use Rattle.vs_pair.specs.Swap.{Body, body_of, Fits, Holds, SyncStep, FailedSync}
 use Rattle.vs_pair.specs.Pair.{Known, known_of, sync_of, name_of, other_side, IsFit, Syncing}
 use Rattle.vs_pair.proofs.Acts.{acts_as}
 use Rattle.vs_pair.proofs.Calls.{on_err_from}
-use Rattle.vs_pair.proofs.Fitting.{body_is, moved, moved_has, syncing, there, failed, done, rises, none_rises, above_newest}
+use Rattle.vs_pair.proofs.FitLemmas.{body_is, moved, moved_has, syncing, there, failed, done, rises, none_rises, above_newest}
 use Rattle.vs_pair.proofs.pair.SwapPair.sync.Goals as goal
 
 pub sync_file-requires-clause-fits : goal.sync_file-requires-clause-fits

@@ -21,9 +21,9 @@ use Rattle.vs_pair.specs.declared.side.Side.{Side}
 use Rattle.vs_pair.specs.declared.side.Side.TheVariants.{Swp, Swo}
 use Rattle.vs_pair.specs.Swap.{Synced, Body, body_of, page_zero, IsOpen, HasMark, HasBody, Holds, Fits, MayBeClosed, SyncStep, FailedSync, closed_mark, open_mark}
 use Rattle.vs_pair.specs.Swap.FailedSync.{InClosing, InWriting, InOpening}
-use Rattle.vs_pair.specs.Pair.{Image, Known, name_of, other_side, is_swap, is_apart, IsIn, HasEarlier, Recovers, IsFit, IsEarlier, IsLater, IsOrdered, Syncing, IsTextOf, IsAbove, RisesAt, Rises}
+use Rattle.vs_pair.specs.Pair.{Image, Known, name_of, other_side, is_swap, is_apart, IsIn, HasEarlier, HasLater, Recovers, IsFit, IsEarlier, IsLater, IsOrdered, Syncing, IsTextOf, IsAbove, RisesAt, Rises}
 use Rattle.vs_pair.proofs.Gates.{body_stays, fits_body, has_at, zeros_not_open}
-use Rattle.vs_pair.proofs.Offers.{image_at, open_cases, HasLater, two_offer, other_twice, holds_stands}
+use Rattle.vs_pair.proofs.Offers.{image_at, open_cases, two_offer, other_twice, holds_stands}
 use Rattle.vs_pair.proofs.Reading.{stands_open, stands_generation}
 
 some_same : (a b : ℕ) → Some a ≡ Some b → a ≡ b
