@@ -1,5 +1,5 @@
 -- Calls on one file as work on the folder.
-use Rattle.std.proofs.Common.{◌≡◌, ◌⊎◌, ◌≤◌, ℕ, List, [], ◌∷◌, length, ap, Result, Ok, Err, OnOk, OnErr, IsErr, IsTrue, IsSome, inl, inr, refl, sym, subst}
+use Rattle.std.proofs.Common.{◌≡◌, ◌⊎◌, ℕ, List, [], ◌∷◌, ap, Result, Ok, Err, OnOk, OnErr, IsErr, IsTrue, IsSome, inl, inr, refl, sym, subst}
 use Rattle.std.specs.Prelude.{IsSomeAnd}
 use Rattle.std.specs.declared.option.Option.{Option}
 use Rattle.vs_faults.specs.Faults.{HasCause}

@@ -1,24 +1,23 @@
 -- Both files as they are removed: in each state of the names that a stop may leave, the newer one is there while the older one is.
-use Rattle.std.proofs.Common.{◌≡◌, ◌≢◌, ◌⊎◌, inl, inr, ℕ, zero, suc, ◌+◌, ◌<◌, ◌≤◌, ◌^◌, List, [], ◌∷◌, Option, Some, None, IsTrue, IsSome, refl, sym, ◌∙◌, ap, subst, arith}
+use Rattle.std.proofs.Common.{◌≡◌, ◌≢◌, ◌⊎◌, inl, inr, ℕ, zero, suc, ◌<◌, ◌^◌, List, ◌∷◌, Option, Some, None, IsTrue, IsSome, refl, sym, ◌∙◌, ap, subst, arith}
 use Rattle.std.specs.Str.{bytes_eq}
-use Rattle.std.proofs.lemmas.Bool.{cond-true, cond-false}
+use Rattle.std.proofs.lemmas.Bool.{cond-false}
 use Rattle.vs_host.specs.File.{File, IsFileImage, Leaves}
-use Rattle.vs_host.specs.Disk.{Disk, Name, Removes, ChangesNames, SyncsNames, IsImage, IsImageOf, changed_names, names_of, names_at, content_in, read_under}
-use Rattle.vs_host.specs.declared.names.Names.{Names}
+use Rattle.vs_host.specs.Disk.{Disk, Name, Removes, ChangesNames, SyncsNames, IsImageOf, changed_names, names_of, names_at, content_in, read_under}
 use Rattle.vs_host.specs.World.{Tells, Scene}
 use Rattle.vs_disk.specs.Names.{SameAt}
-use Rattle.vs_disk.proofs.Steps.{at_name, differ, itself, newest_names, older_names, settled}
+use Rattle.vs_disk.proofs.Steps.{at_name, differ, newest_names, older_names, settled}
 use Rattle.vs_disk.proofs.Others.{same_none, same_then}
 use Rattle.vs_pair.specs.declared.gate.Gate.{Gate}
 use Rattle.vs_pair.specs.declared.gate.Gate.TheVariants.{Open, Closed, Unknown}
 use Rattle.vs_pair.specs.declared.side.Side.{Side}
 use Rattle.vs_pair.specs.declared.side.Side.TheVariants.{Swp, Swo}
 use Rattle.vs_pair.specs.Acts.{Acts, NoneFails}
-use Rattle.vs_pair.specs.Swap.{Synced, Body, body_of, IsOpen, HasBody, Holds, Fits}
-use Rattle.vs_pair.specs.Pair.{Image, Known, name_of, other_side, is_apart, IsIn, HasEarlier, HasLater, Offers, RecoversOrNone, NoneThere, IsFit, IsOrdered}
+use Rattle.vs_pair.specs.Swap.{Synced, body_of, IsOpen, Holds, Fits}
+use Rattle.vs_pair.specs.Pair.{Image, Known, name_of, other_side, is_apart, HasEarlier, HasLater, RecoversOrNone, NoneThere, IsFit, IsOrdered}
 use Rattle.vs_pair.specs.Steps.{IsAbsent, Ending}
 use Rattle.vs_pair.proofs.Acts.{acts_as, acts_then}
-use Rattle.vs_pair.proofs.FitLemmas.{side_outside, two_sides}
+use Rattle.vs_pair.proofs.FitLemmas.{side_outside}
 use Rattle.vs_pair.proofs.Gates.{zeros_not_open}
 use Rattle.vs_pair.proofs.MadeFiles.{gone_now, removed_same, synced_same}
 use Rattle.vs_pair.proofs.Offers.{two_offer, with_newest, offers, there_some, below_none}
@@ -121,14 +120,14 @@ module _ (files : Known) (newest : Synced) (begun past : List Synced) (old : Dis
             let one = image_of disk going newer fit.newer_number (Holds (body_of files.names.file newest)) fit.newer.has (names_at disk lost newer) left.0 (image newer) (whole.1 newer) in
             elim left.1 [
               | inl none ↦ inr (
-                  newest,
-                  inl refl,
-                  offers files.names files.newer (newest ∷ past) image newest small (there_some files.names.file newest (image newer) one.0 one.1 one.2) (below_none files.names.file newest (newest ∷ past) (image older) (gone older none)),
-                )
+                newest,
+                inl refl,
+                offers files.names files.newer (newest ∷ past) image newest small (there_some files.names.file newest (image newer) one.0 one.1 one.2) (below_none files.names.file newest (newest ∷ past) (image older) (gone older none)),
+              )
               | inr there ↦
                   let two = image_of disk going older fit.older_number (λ c. IsOpen c → HasEarlier files.names.file newest past c ⊎ HasLater files.names.file newest begun c)
-                      (class files.names.file newest fit.older_sync begun past (omega (arith, fit.older_used, fit.bound)) files.gate (old.files fit.older_number) fit.older.has fit.ordered)
-                      (names_at disk lost older) there (image older) (whole.1 older) in
+                  (class files.names.file newest fit.older_sync begun past (omega (arith, fit.older_used, fit.bound)) files.gate (old.files fit.older_number) fit.older.has fit.ordered)
+                  (names_at disk lost older) there (image older) (whole.1 older) in
                   inr (two_offer files.names files.newer newest past begun image small one.0 two.0 one.1 two.1 one.2 (λ opened. with_newest files.names.file newest past begun two.0 (two.2 opened)))
             ]
       ]

@@ -1,5 +1,5 @@
 -- Calls on pages in memory leave what is known of the swap files, and the folder.
-use Rattle.std.proofs.Common.{◌≡◌, ◌+◌, ◌<◌, ◌≤◌, ℕ, inl, inr, IsTrue, refl, sym, ◌∙◌, ap, arith}
+use Rattle.std.proofs.Common.{ℕ, inl, inr, IsTrue, refl, sym, ◌∙◌, ap, arith}
 use Rattle.vs_faults.specs.Faults.{HasCause, HasRisen}
 use Rattle.vs_host.specs.World.{Tells, Scene, CountsFault}
 use Rattle.vs_pair.specs.declared.files.SwapFiles.{SwapFiles}

@@ -1,17 +1,17 @@
 -- A name that leads to no file until a synced file is renamed to it.
-use Rattle.std.proofs.Common.{◌≡◌, ◌≢◌, ◌⊎◌, inl, inr, ℕ, zero, suc, ◌+◌, ◌≤◌, Bool, true, false, not, ◌||◌, cond, List, [], ◌∷◌, length, take, drop, Option, Some, None, is_some, IsTrue, refl, sym, ◌∙◌, ap, subst, arith, length-take}
+use Rattle.std.proofs.Common.{◌≡◌, ◌≢◌, ◌⊎◌, inl, inr, ℕ, zero, suc, ◌+◌, ◌≤◌, Bool, true, false, not, ◌||◌, cond, List, [], length, take, drop, Some, None, IsTrue, refl, sym, ◌∙◌, ap, subst, arith, length-take}
 use Rattle.std.specs.Str.{bytes_eq}
 use Rattle.std.proofs.lemmas.Slice.Eq.{bytes_eq-Decides}
-use Rattle.std.proofs.lemmas.Bool.{cases_Bool, cond-true, cond-false, true≢false, or_parts}
+use Rattle.std.proofs.lemmas.Bool.{cond-true, true≢false, or_parts}
 use Rattle.std.proofs.lemmas.List.{take_at}
 use Rattle.vs_host.specs.File.{File, IsFileImage, Leaves, Writes, synced_file}
 use Rattle.vs_host.specs.Disk.{Disk, Name, Directory, Change, Renames, Removes, Creates, ChangesFile, ChangesNames, CreatesFile, SyncsNames, changed_names, names_of, names_at, content_in}
-use Rattle.vs_disk.specs.Images.{FileHas, FileAlways, HoldsAt}
+use Rattle.vs_disk.specs.Images.{FileHas}
 use Rattle.vs_disk.specs.Names.{SameAt, IsApart}
 use Rattle.vs_disk.proofs.Images.{synced_image}
 use Rattle.vs_disk.proofs.Steps.{at_name, differ, itself, newest_names, older_names, settled, file_after}
 use Rattle.vs_disk.proofs.Others.{same_none, same_then, file_outside, create_outside, rename_outside, remove_outside}
-use Rattle.vs_pair.specs.Swap.{Body, HasMark, HasBody, Holds, WritesBody, open_mark}
+use Rattle.vs_pair.specs.Swap.{Body, HasMark, Holds, WritesBody, open_mark}
 use Rattle.vs_host.specs.World.{Tells, Scene}
 use Rattle.vs_pair.specs.Acts.{Acts, NoneFails}
 use Rattle.std.specs.Prelude.{IsSomeAnd}
@@ -165,7 +165,7 @@ module _ (temporary name : Name) (apart : temporary ≢ name) (body : Body) (old
     made_at (suc l) = inl (
         at_name (names_at new (suc l)) (names_at mid l) name (older_names (Renames temporary name) mid new renames.synced renames.pending l)
         ∙ absent_stays (is_not temporary) name old mid (not_other temporary name apart) making.same absent l
-    )
+        )
 
     pub renamed_makes : Makes temporary name body old new
     renamed_makes = record {

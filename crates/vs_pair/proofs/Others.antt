@@ -1,8 +1,8 @@
 -- What a pair that fits gives, and what is done to other names keeps.
-use Rattle.std.proofs.Common.{◌≡◌, ◌⊎◌, inl, inr, ℕ, ◌+◌, ◌<◌, ◌≤◌, ◌^◌, Bool, true, List, [], ◌∷◌, Option, Some, None, refl, sym, ◌∙◌, ap, subst, arith}
+use Rattle.std.proofs.Common.{◌≡◌, ◌⊎◌, inl, inr, ℕ, Bool, true, List, [], ◌∷◌, Option, None, sym, ◌∙◌, subst, arith}
 use Rattle.std.proofs.lemmas.Bool.{cond-true}
 use Rattle.vs_host.specs.File.{File, Leaves}
-use Rattle.vs_host.specs.Disk.{Disk, Name, IsImage, IsImageOf, names_at, content_in}
+use Rattle.vs_host.specs.Disk.{Disk, Name, IsImage, content_in}
 use Rattle.vs_host.specs.declared.names.Names.{Names}
 use Rattle.vs_disk.specs.Images.{FileAlways}
 use Rattle.vs_disk.specs.Names.{SameAt, IsImageAt}
@@ -11,11 +11,10 @@ use Rattle.vs_disk.proofs.Parts.{with_rest, image_with_rest}
 use Rattle.vs_disk.proofs.Steps.{one_state}
 use Rattle.vs_disk.proofs.Contents.{leads_nowhere}
 use Rattle.vs_swap.specs.Recovery.{StandsIn}
-use Rattle.vs_pair.specs.declared.gate.Gate.{Gate}
 use Rattle.vs_pair.specs.declared.side.Side.{Side}
 use Rattle.vs_pair.specs.declared.side.Side.TheVariants.{Swp, Swo}
-use Rattle.vs_pair.specs.Swap.{Synced, Body, body_of, IsOpen, Holds, Fits}
-use Rattle.vs_pair.specs.Pair.{Image, Known, name_of, other_side, is_swap, IsIn, IsThere, IsBelow, HasEarlier, HasLater, IsBeside, IsBetween, Offers, Recovers, IsFit, IsOrdered, RisesAt, Rises}
+use Rattle.vs_pair.specs.Swap.{Synced, body_of, IsOpen, Holds, Fits}
+use Rattle.vs_pair.specs.Pair.{Image, Known, name_of, other_side, is_swap, IsThere, IsBelow, HasEarlier, HasLater, IsBeside, IsBetween, Recovers, IsFit, IsOrdered, RisesAt, Rises}
 use Rattle.vs_pair.specs.Steps.{IsFresh}
 use Rattle.vs_pair.proofs.Ends.{class}
 use Rattle.vs_pair.proofs.FitLemmas.{side_is_swap}
@@ -59,9 +58,9 @@ always_same inside old new same name number P is always =
 pub fit_kept : (files : Known) (old new : Disk) (newest : Synced) (begun past : List Synced) → SameAt (is_swap files.names) old new → IsFit files old newest begun past → IsFit files new newest begun past
 fit_kept files old new newest begun past same fit =
     let before : FileAlways old (name_of files.names (other_side files.newer)) fit.older_number (λ x. Fits files.gate (body_of files.names.file fit.older_sync) x × IsOrdered files.gate newest fit.older_sync begun past x) =
-        record { leads = fit.older.leads; has = (fit.older.has, fit.ordered) } in
+    record { leads = fit.older.leads; has = (fit.older.has, fit.ordered) } in
     let now = always_same (is_swap files.names) old new same (name_of files.names (other_side files.newer)) fit.older_number
-        (λ x. Fits files.gate (body_of files.names.file fit.older_sync) x × IsOrdered files.gate newest fit.older_sync begun past x) (side_is_swap files.names (other_side files.newer)) before in
+    (λ x. Fits files.gate (body_of files.names.file fit.older_sync) x × IsOrdered files.gate newest fit.older_sync begun past x) (side_is_swap files.names (other_side files.newer)) before in
     record {
       named = fit.named;
       newer_number = fit.newer_number;
@@ -81,8 +80,7 @@ module _ (names : Names) (old new : Disk) (same : SameAt (is_swap names) old new
   before : (image : Image) → IsImage new image → (was : Image) × IsImage old was × (was names.swp ≡ image names.swp) × (was names.swo ≡ image names.swo)
   before image whole =
       let at_new : IsImageAt (is_swap names) new image = (whole.0, λ name is. whole.1 name) in
-      let at_old = image_before (is_swap names) old new same image at_new in
-      (
+      let at_old = image_before (is_swap names) old new same image at_new in (
         with_rest (is_swap names) old at_old.0 image,
         image_with_rest (is_swap names) old image at_old,
         cond-true (is_swap names names.swp) (image names.swp) _ (side_is_swap names Swp),
@@ -93,8 +91,7 @@ module _ (names : Names) (old new : Disk) (same : SameAt (is_swap names) old new
   recovers_kept syncs older all image whole =
       let was = before image whole in
       let given = all was.0 was.1 in
-      let files = given.2.files in
-      (
+      let files = given.2.files in (
         given.0,
         given.1,
         record {

@@ -1,23 +1,22 @@
 -- Both files as they are made: in each state of the names that a stop may leave, each of them is absent or whole.
-use Rattle.std.proofs.Common.{◌≡◌, ◌≢◌, ◌⊎◌, inl, inr, ℕ, zero, suc, ◌<◌, ◌≤◌, ◌^◌, Bool, true, false, not, ◌||◌, List, [], ◌∷◌, Option, Some, None, IsTrue, refl, sym, ◌∙◌, ap, subst, arith}
+use Rattle.std.proofs.Common.{◌≡◌, ◌≢◌, ◌⊎◌, inl, inr, ℕ, Bool, true, false, not, ◌||◌, List, [], ◌∷◌, Option, Some, None, IsTrue, refl, sym, ◌∙◌, ap, subst, arith}
 use Rattle.std.specs.Str.{bytes_eq}
 use Rattle.std.proofs.lemmas.Bool.{true≢false, or_parts}
 use Rattle.vs_host.specs.File.{File, Leaves}
-use Rattle.vs_host.specs.Disk.{Disk, Name, SyncsNames, IsImage, IsImageOf, IsFolder, names_of, names_at}
+use Rattle.vs_host.specs.Disk.{Disk, Name, SyncsNames, IsImage, IsImageOf, IsFolder}
 use Rattle.vs_host.specs.Names.{AreNames}
 use Rattle.vs_host.specs.declared.names.Names.{Names}
 use Rattle.vs_host.specs.World.{Tells, Scene}
 use Rattle.vs_host.proofs.Apart.{names_apart}
-use Rattle.vs_disk.specs.Images.{FileHas, FileAlways, HoldsAt}
-use Rattle.vs_disk.specs.Names.{SameAt}
-use Rattle.vs_disk.proofs.Steps.{settled, differ}
-use Rattle.vs_disk.proofs.Others.{same_none, same_then}
+use Rattle.vs_disk.specs.Images.{FileHas, FileAlways}
+use Rattle.vs_disk.proofs.Steps.{settled}
+use Rattle.vs_disk.proofs.Others.{same_then}
 use Rattle.vs_pair.specs.declared.gate.Gate.TheVariants.{Open}
 use Rattle.vs_pair.specs.declared.side.Side.{Side}
 use Rattle.vs_pair.specs.declared.side.Side.TheVariants.{Swp, Swo}
 use Rattle.vs_pair.specs.Acts.{Acts, NoneFails}
 use Rattle.vs_pair.specs.Swap.{Synced, Body, body_of, Holds}
-use Rattle.vs_pair.specs.Pair.{Image, Known, name_of, temporary_of, is_foreign, is_swap, is_pair_name, IsIn, IsThere, IsBelow, Offers, RecoversOrNone, NoneThere, IsFit}
+use Rattle.vs_pair.specs.Pair.{Image, name_of, temporary_of, is_foreign, is_swap, is_pair_name, RecoversOrNone, IsFit}
 use Rattle.vs_pair.specs.Steps.{IsAbsent, MayHold, is_neither, Makes, IsFresh, Starting}
 use Rattle.vs_pair.proofs.Acts.{acts_as, acts_then}
 use Rattle.vs_pair.proofs.MadeFiles.{neither_apart, same_weaker, synced_same, absent_stays, may_stays, has_stays}
@@ -76,24 +75,24 @@ two_may names one two disk first_is second_is first second image whole =
           elim (image_may disk names.swo (body_of names.file two) second image whole) [
             | inl none_two ↦ inl (none, none_two)
             | inr holds ↦ inr (
-                two,
-                inr (inl refl),
-                offers names Swo (one ∷ []) image two (omega (arith, second_is)) (there_some names.file two (image names.swo) holds.0 holds.1 holds.2) (below_none names.file two (one ∷ []) (image names.swp) none),
-              )
+              two,
+              inr (inl refl),
+              offers names Swo (one ∷ []) image two (omega (arith, second_is)) (there_some names.file two (image names.swo) holds.0 holds.1 holds.2) (below_none names.file two (one ∷ []) (image names.swp) none),
+            )
           ]
       | inr held ↦
           elim (image_may disk names.swo (body_of names.file two) second image whole) [
             | inl none_two ↦ inr (
-                one,
-                inl refl,
-                offers names Swp (one ∷ []) image one (omega (arith, first_is)) (there_some names.file one (image names.swp) held.0 held.1 held.2) (below_none names.file one (one ∷ []) (image names.swo) none_two),
-              )
+              one,
+              inl refl,
+              offers names Swp (one ∷ []) image one (omega (arith, first_is)) (there_some names.file one (image names.swp) held.0 held.1 held.2) (below_none names.file one (one ∷ []) (image names.swo) none_two),
+            )
             | inr holds ↦ inr (
-                two,
-                inr (inl refl),
-                offers names Swo (one ∷ []) image two (omega (arith, second_is)) (there_some names.file two (image names.swo) holds.0 holds.1 holds.2)
-                (below_some names.file two (one ∷ []) (image names.swp) held.0 held.1 (λ opened. record { earlier = one; member = inl refl; body = held.2.whole; less = omega (arith, first_is, second_is) })),
-              )
+              two,
+              inr (inl refl),
+              offers names Swo (one ∷ []) image two (omega (arith, second_is)) (there_some names.file two (image names.swo) holds.0 holds.1 holds.2)
+                  (below_some names.file two (one ∷ []) (image names.swp) held.0 held.1 (λ opened. record { earlier = one; member = inl refl; body = held.2.whole; less = omega (arith, first_is, second_is) })),
+            )
           ]
     ]
 
@@ -105,10 +104,10 @@ may_synced : (name : Name) (body : Body) (old new : Disk) → SyncsNames old new
 may_synced name body old new syncs may lost = elim (may 0) [
   | inl none ↦ inl (settled old new syncs lost name ∙ none)
   | inr holds ↦ inr (record {
-      number = holds.number;
-      leads = settled old new syncs lost name ∙ holds.leads;
-      leaves = subst (λ (f : File). Leaves f (Holds body)) (sym (ap (λ (files : ℕ → File). files holds.number) syncs.files)) holds.leaves;
-    })
+    number = holds.number;
+    leads = settled old new syncs lost name ∙ holds.leads;
+    leaves = subst (λ (f : File). Leaves f (Holds body)) (sym (ap (λ (files : ℕ → File). files holds.number) syncs.files)) holds.leaves;
+  })
 ]
 
 always_synced : (name : Name) (P : File → Type 0) (old new : Disk) → SyncsNames old new → (has : FileHas old name P) → FileAlways new name has.number P
@@ -159,12 +158,12 @@ module _ (tells : Tells) (names : Names) (are : AreNames names) (one two : Synce
       acts_then tells Step (λ a b. SyncsNames a b ⊎ (b ≡ a)) Step old second new (λ told d same. same)
       (λ told here d either. elim either [
         | inl syncs ↦ record {
-            spared = same_then (is_foreign names) old.folder second.folder d here.spared (synced_same (is_foreign names) second.folder d syncs);
-            safe = two_may names one two d first_is second_is
-                (may_synced names.swp (body_of names.file one) second.folder d syncs
-                (may_stays (is_neither names.swo_new names.swo) names.swp (body_of names.file one) first.folder second.folder (swp_apart names are) (two_made told).spared (one_made told).made))
-                (may_synced names.swo (body_of names.file two) second.folder d syncs (two_made told).made);
-          }
+          spared = same_then (is_foreign names) old.folder second.folder d here.spared (synced_same (is_foreign names) second.folder d syncs);
+          safe = two_may names one two d first_is second_is
+              (may_synced names.swp (body_of names.file one) second.folder d syncs
+              (may_stays (is_neither names.swo_new names.swo) names.swp (body_of names.file one) first.folder second.folder (swp_apart names are) (two_made told).spared (one_made told).made))
+              (may_synced names.swo (body_of names.file two) second.folder d syncs (two_made told).made);
+        }
         | inr same ↦ subst (λ (e : Disk). Step old.folder e) (sym same) here
       ]) none so_far acts
 

@@ -11,7 +11,9 @@ use Rattle.vs_pair.specs.Steps.{IsFresh}
 
 -- The pair was not started and no image has a swap file, or it was started and fits the folder.
 abbrev pub IsReady : SwapPair → Disk → Type 0
-IsReady pair disk = ((pair.files.generation ≡ 0) × IsFresh pair.files.names disk) ⊎ ((newest : Synced) × (begun : List Synced) × (past : List Synced) × IsFit (known_of pair) disk newest begun past)
+IsReady pair disk =
+    ((pair.files.generation ≡ 0) × IsFresh pair.files.names disk)
+    ⊎ ((newest : Synced) × (begun : List Synced) × (past : List Synced) × IsFit (known_of pair) disk newest begun past)
 
 -- The swap files are as they were known, and the folder was only looked at.
 pub record KeepsFiles (tells : Tells) (files_old files_new : SwapFiles) (old new : Scene) : Type 0 where

@@ -1,5 +1,5 @@
 -- The files of a pair go on being as they were known, from call to call.
-use Rattle.std.proofs.Common.{◌≡◌, IsTrue, refl, ◌∙◌, ap}
+use Rattle.std.proofs.Common.{◌≡◌, refl, ◌∙◌, ap}
 use Rattle.vs_host.specs.World.{Tells, Scene, ReadsFolder}
 use Rattle.vs_disk.proofs.Runs.{starts, looks_on, reads_change}
 use Rattle.vs_pair.specs.declared.files.SwapFiles.{SwapFiles}

@@ -2,7 +2,7 @@
 use Rattle.std.specs.Prelude.{◌≡◌, ◌≢◌, ◌⊎◌, ℕ, ◌+◌, ◌^◌, ◌<◌, ◌≤◌, ◌==◌, Bool, not, ◌||◌, List, [], ◌∷◌, length, Option, Some, None}
 use Rattle.std.specs.Str.{bytes_eq}
 use Rattle.vs_host.specs.File.{File, Leaves}
-use Rattle.vs_host.specs.Disk.{Disk, Name, IsImage, names_at}
+use Rattle.vs_host.specs.Disk.{Disk, Name, IsImage}
 use Rattle.vs_host.specs.declared.names.Names.{Names}
 use Rattle.vs_host.specs.Names.{AreNames}
 use Rattle.vs_disk.specs.Images.{FileAlways}
@@ -18,7 +18,7 @@ use Rattle.vs_pair.specs.declared.gate.Gate.TheVariants.{Open, Closed, Unknown}
 use Rattle.vs_pair.specs.declared.side.Side.{Side}
 use Rattle.vs_pair.specs.declared.side.Side.TheVariants.{Swp, Swo}
 use Rattle.vs_pair.specs.declared.pair.SwapPair.{SwapPair}
-use Rattle.vs_pair.specs.Swap.{Synced, Body, body_of, IsOpen, HasBody, Holds, Fits, MayBeClosed}
+use Rattle.vs_pair.specs.Swap.{Synced, body_of, IsOpen, HasBody, Holds, Fits, MayBeClosed}
 
 abbrev pub Image : Type 0
 Image = Name → Option (List ℕ)

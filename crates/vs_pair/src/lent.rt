@@ -27,9 +27,9 @@ impl<'p, 'h, F: Folder> Pages for PairPages<'p, 'h, F> {
     ghost tells = { F.tells.folder };
 
     ghost shows = { λ store. record {
-        present = present_of store.pair.now.pages;
-        committed = committed_of store.pair.now.pages;
-        faults = (F.scene store.host.now).folder_faults;
+      present = present_of store.pair.now.pages;
+      committed = committed_of store.pair.now.pages;
+      faults = (F.scene store.host.now).folder_faults;
     } };
 
     ghost valid = { λ store. IsTrue F.tells.folder → IsReady store.pair.now (F.scene store.host.now).folder };
@@ -43,8 +43,11 @@ impl<'p, 'h, F: Folder> Pages for PairPages<'p, 'h, F> {
 
     ghost stays_itself = { λ store. (refl, refl, keeps_none F.tells store.pair.now.files (F.scene store.host.now)) };
 
-    ghost stays_on = { λ p q r first second. (second.0 ∙ first.0, second.1 ∙ first.1,
-        keeps_then F.tells p.pair.now.files q.pair.now.files r.pair.now.files (F.scene p.host.now) (F.scene q.host.now) (F.scene r.host.now) first.2 second.2) };
+    ghost stays_on = { λ p q r first second. (
+      second.0 ∙ first.0,
+      second.1 ∙ first.1,
+      keeps_then F.tells p.pair.now.files q.pair.now.files r.pair.now.files (F.scene p.host.now) (F.scene q.host.now) (F.scene r.host.now) first.2 second.2,
+    ) };
 
     fn load(
         &mut self,

@@ -16,7 +16,13 @@ use vs_host::{Failed, Folder};
 
 impl SwapPair {
     // Makes one of the files, with this generation.
-    fn make<F: Folder>(&self, host: &mut F, side: Side, generation: u64, head: &Head) -> Result<(), Failed>
+    fn make<F: Folder>(
+        &self,
+        host: &mut F,
+        side: Side,
+        generation: u64,
+        head: &Head,
+    ) -> Result<(), Failed>
         requires absent { IsTrue F.tells.folder → IsAbsent (name_of self.now.files.names side) (F.scene host.old).folder }
         ensures acts { Acts F.tells (Makes (temporary_of self.now.files.names side) (name_of self.now.files.names side) (body_of self.now.files.names.file (sync_with self.now generation head.now)))
             (F.scene host.old) (F.scene host.new) }
@@ -27,7 +33,13 @@ impl SwapPair {
     {
         let names = &self.files.names;
         let first = page_zero(names.file.as_str(), generation, head);
-        make_file(host, temporary_name(names, side), swap_name(names, side), &first, &self.pages)
+        make_file(
+            host,
+            temporary_name(names, side),
+            swap_name(names, side),
+            &first,
+            &self.pages,
+        )
     }
 
     /// Makes both files, with the generations 1 and 2. After an error the pair is as before, and is of no more use.

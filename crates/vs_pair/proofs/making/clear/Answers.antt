@@ -1,7 +1,7 @@
 use Rattle.std.proofs.Common.{Option, List, ℕ, None, Some, is_some, false, refl, sym, ◌∙◌, ◌≡◌}
 use Rattle.std.proofs.lemmas.Bool.{true≢false}
 use Rattle.std.proofs.lemmas.Result.{on_ok_weaker}
-use Rattle.vs_host.specs.Disk.{Disk, ChangesNames, Removes, content_in, names_of}
+use Rattle.vs_host.specs.Disk.{ChangesNames, Removes, content_in, names_of}
 use Rattle.vs_host.specs.Trace.{Looked, Removed}
 use Rattle.vs_disk.specs.Names.{SameAt}
 use Rattle.vs_disk.proofs.Others.{same_none, same_then}
@@ -10,7 +10,7 @@ use Rattle.std.specs.Prelude.{IsSome}
 use Rattle.vs_pair.specs.Steps.{is_not}
 use Rattle.vs_pair.proofs.Acts.{acts_as, acts_on, none_call, none_then}
 use Rattle.vs_pair.proofs.Calls.{look_acts, look_none, look_same, either_acts}
-use Rattle.vs_pair.proofs.MadeFiles.{not_itself, removed_same, same_or, gone_now}
+use Rattle.vs_pair.proofs.MadeFiles.{not_itself, same_or, gone_now}
 use Rattle.vs_pair.proofs.making.clear.Goals as goal
 
 pub returns-in_err-has-clause-acts : goal.returns-in_err-has-clause-acts

@@ -1,4 +1,3 @@
-use Rattle.std.proofs.Common.{refl}
 use Rattle.std.proofs.lemmas.Result.{on_ok_weaker}
 use Rattle.vs_host.specs.Disk.{ChangesNames, CreatesFile, Renames}
 use Rattle.vs_host.specs.File.{WritesSome}

@@ -1,4 +1,4 @@
-use Rattle.std.proofs.Common.{refl, sym, subst, ap, ◌∙◌, IsSome}
+use Rattle.std.proofs.Common.{sym, subst, ap, ◌∙◌, IsSome}
 use Rattle.std.proofs.lemmas.Result.{on_ok_weaker}
 use Rattle.vs_host.specs.Disk.{Name, ChangesNames, SyncsNames, Removes, content_in}
 use Rattle.vs_host.specs.Trace.{Removed, SyncedNames}

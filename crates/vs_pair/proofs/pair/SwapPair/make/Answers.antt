@@ -1,7 +1,7 @@
-use Rattle.std.proofs.Common.{◌≡◌, ◌≢◌, sym, subst, ◌∙◌, ap}
+use Rattle.std.proofs.Common.{sym, subst, ◌∙◌}
 use Rattle.std.proofs.lemmas.Result.{on_ok_weaker}
 use Rattle.vs_host.specs.Disk.{Name}
-use Rattle.vs_pair.specs.Pair.{name_of, temporary_of, sync_with}
+use Rattle.vs_pair.specs.Pair.{sync_with}
 use Rattle.vs_pair.specs.Steps.{IsAbsent}
 use Rattle.vs_pair.proofs.FitLemmas.{body_is}
 use Rattle.vs_pair.proofs.Starts.{made_as, has_as, side_differs}
