@@ -1,11 +1,11 @@
 -- How work on a folder goes on by one call or by a function more: the trace is cut where the first part ended.
-use Rattle.std.proofs.Common.{◌≡◌, ◌≤◌, List, ◌++◌, Result, IsErr, IsTrue, OnOk, Ok, Err, refl, sym, ◌∙◌, ap, arith, append_assoc}
+use Rattle.std.proofs.Common.{◌≡◌, List, ◌++◌, Result, IsErr, IsTrue, refl, sym, ◌∙◌, ap, arith, append_assoc}
 use Rattle.vs_faults.specs.Faults.{HasCause}
 use Rattle.vs_host.specs.Disk.{Disk, Name}
-use Rattle.vs_host.specs.Trace.{Kind, Snapshot, Each}
-use Rattle.vs_host.specs.World.{Tells, Scene, IsTold, ChangesFolder, ReadsFolder}
-use Rattle.vs_disk.specs.Runs.{Runs, HasNoFault, FailsLast}
-use Rattle.vs_disk.proofs.Runs.{Quiet, starts, one_call, runs_as, runs_then, frames, reads_change, fails_none, fails_call, quiet_none, quiet_call, goes_then, goes_weaker, Each-append, Each-weaker}
+use Rattle.vs_host.specs.Trace.{Kind, Snapshot}
+use Rattle.vs_host.specs.World.{Tells, Scene, IsTold, ChangesFolder}
+use Rattle.vs_disk.specs.Runs.{HasNoFault, FailsLast}
+use Rattle.vs_disk.proofs.Runs.{Quiet, starts, one_call, runs_as, runs_then, frames, fails_none, fails_call, quiet_none, quiet_call, goes_then, goes_weaker, Each-append, Each-weaker}
 use Rattle.vs_pair.specs.Acts.{Acts, NoneFails}
 
 -- ---- no call failed

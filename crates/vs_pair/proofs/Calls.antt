@@ -1,16 +1,17 @@
 -- Calls on one file as work on the folder.
-use Rattle.std.proofs.Common.{◌≡◌, ◌≤◌, ℕ, List, [], ◌∷◌, length, Result, Ok, Err, OnOk, OnErr, IsErr, IsTrue, IsSome, inl, inr, refl, sym, subst}
+use Rattle.std.proofs.Common.{◌≡◌, ◌⊎◌, ℕ, List, [], ◌∷◌, ap, Result, Ok, Err, OnOk, OnErr, IsErr, IsTrue, IsSome, inl, inr, refl, sym, subst}
 use Rattle.std.specs.Prelude.{IsSomeAnd}
 use Rattle.std.specs.declared.option.Option.{Option}
 use Rattle.vs_faults.specs.Faults.{HasCause}
 use Rattle.vs_host.specs.File.{File, WritesSome, Syncs}
 use Rattle.vs_host.specs.Disk.{Disk, Name, ChangesFile, content_in, read_under}
 use Rattle.vs_host.specs.Trace.{Kind, Wrote, Synced}
-use Rattle.vs_host.specs.World.{Tells, Scene, IsTold, ChangesFolder}
+use Rattle.vs_host.specs.World.{Tells, Scene, IsTold, ChangesFolder, ReadsFolder}
 use Rattle.vs_disk.specs.Images.{FileHas, MaySync}
 use Rattle.vs_disk.proofs.Steps.{same_file, file_then, file_as}
 use Rattle.vs_pair.specs.Acts.{Acts, NoneFails}
-use Rattle.vs_pair.proofs.Acts.{acts_call, acts_then}
+use Rattle.vs_disk.proofs.Runs.{reads_change}
+use Rattle.vs_pair.proofs.Acts.{acts_call, acts_then, none_call}
 
 pub both_files : (name : Name) (S T : File → File → Type 0) (old new : Disk) → ChangesFile name S old new → ChangesFile name T old new → ChangesFile name (λ a b. S a b × T a b) old new
 both_files name S T old new first second = record {
@@ -69,3 +70,29 @@ on_err_from (Err failed) P holds = holds
 pub on_ok_not : {T E : Type 0} (result : Result T E) (P : Type 0) → IsErr result → OnOk result P
 on_ok_not (Ok done) P failed = absurd (Rattle.std.proofs.lemmas.Bool.false≢true failed)
 on_ok_not (Err failed) P is = tt
+
+-- ---- calls that look, and calls on names
+
+pub look_acts : (tells : Tells) (S : Disk → Disk → Type 0) (kind : Kind) (names : List Name) {T E : Type 0} (result : Result T E) (old new : Scene) → ReadsFolder old new → HasCause old.folder_faults new.folder_faults (IsErr result)
+    → (IsTrue tells.folder → IsTold kind names result old new) → (IsTrue tells.folder → S old.folder old.folder) → Acts tells S old new
+look_acts tells S kind names result old new frame cause told same =
+    acts_call tells S kind names result old new (reads_change old new frame) cause told (λ tells_it. subst (λ (d : Disk). S old.folder d) (sym (ap (λ (s : Scene). s.folder) frame)) (same tells_it))
+
+pub look_none : (tells : Tells) (kind : Kind) (names : List Name) {T E : Type 0} (result : Result T E) (old new : Scene) → ReadsFolder old new → (IsTrue tells.folder → IsTold kind names result old new)
+    → new.folder_faults ≡ old.folder_faults → NoneFails tells old new
+look_none tells kind names result old new frame told same = none_call tells kind names result old new (reads_change old new frame) told same
+
+pub look_same : (P : Disk → Type 0) (old new : Scene) → ReadsFolder old new → P old.folder → P new.folder
+look_same P old new frame holds = subst P (sym (ap (λ (s : Scene). s.folder) frame)) holds
+
+pub on_either : {T E : Type 0} (result : Result T E) (A B P : Type 0) → OnOk result A → OnErr result B → (A → P) → (B → P) → P
+on_either (Ok done) A B P ok err from_ok from_err = from_ok ok
+on_either (Err failed) A B P ok err from_ok from_err = from_err err
+
+-- a call that did what it says, or left the folder
+pub either_acts : (tells : Tells) (A : Disk → Disk → Type 0) (kind : Kind) (names : List Name) {T E : Type 0} (result : Result T E) (old new : Scene) → OnOk result (IsTrue tells.folder → A old.folder new.folder)
+    → OnErr result (new.folder ≡ old.folder) → HasCause old.folder_faults new.folder_faults (IsErr result) → (IsTrue tells.folder → IsTold kind names result old new) → ChangesFolder old new
+    → Acts tells (λ a b. A a b ⊎ (b ≡ a)) old new
+either_acts tells A kind names result old new ok err cause told frame =
+    acts_call tells (λ a b. A a b ⊎ (b ≡ a)) kind names result old new frame cause told
+    (λ tells_it. on_either result (IsTrue tells.folder → A old.folder new.folder) (new.folder ≡ old.folder) (A old.folder new.folder ⊎ (new.folder ≡ old.folder)) ok err (λ did. inl (did tells_it)) (λ same. inr same))

@@ -9,12 +9,12 @@ use Rattle.vs_host.specs.World.{Tells, Scene}
 use Rattle.vs_disk.specs.Images.{FileHas, KeepsImages}
 use Rattle.vs_disk.proofs.Images.{read_image, synced_image}
 use Rattle.vs_disk.proofs.Contents.{some_bytes}
-use Rattle.vs_disk.proofs.Steps.{same_at, same_file, file_as, file_then, file_after}
+use Rattle.vs_disk.proofs.Steps.{same_at, file_as, file_then, file_after}
 use Rattle.vs_pair.specs.declared.gate.Gate.{Gate}
 use Rattle.vs_pair.specs.declared.gate.Gate.TheVariants.{Open, Closed, Unknown}
 use Rattle.vs_swap.specs.Files.{page_in}
 use Rattle.vs_pair.specs.Acts.{Acts, NoneFails}
-use Rattle.vs_pair.specs.Swap.{Body, HasBody, Holds, IsOpen, HasMark, ChangesMark, KeepsMark, WritesBody, MayBeClosed, Fits, CloseStep, Closes, HasEither, SyncStep, FailedSync, open_mark, closed_mark}
+use Rattle.vs_pair.specs.Swap.{Body, HasBody, Holds, IsOpen, HasMark, ChangesMark, KeepsMark, WritesBody, Fits, CloseStep, Closes, SyncStep, FailedSync, open_mark, closed_mark}
 use Rattle.vs_pair.specs.Swap.FailedSync.{InClosing, InWriting, InOpening}
 use Rattle.vs_pair.proofs.Acts.{acts_as, acts_then}
 use Rattle.vs_pair.proofs.Calls.{both_files}

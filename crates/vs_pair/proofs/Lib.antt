@@ -5,4 +5,9 @@ pub mod PageWrites
 pub mod Gates
 pub mod Reading
 pub mod Offers
-pub mod Fitting
+pub mod FitLemmas
+pub mod MadeFiles
+pub mod Starts
+pub mod Ends
+pub mod Lending
+pub mod Others

@@ -1,5 +1,5 @@
 -- A write of the identifier leaves what stands after it, and a sync leaves what was left before.
-use Rattle.std.proofs.Common.{◌≡◌, ◌≤◌, inl, inr, ℕ, ◌+◌, List, length, take, drop, refl, sym, ◌∙◌, ap, subst}
+use Rattle.std.proofs.Common.{◌≡◌, inl, inr, ℕ, ◌+◌, List, length, take, drop, refl, sym, ◌∙◌, ap, subst}
 use Rattle.std.proofs.lemmas.List.{take_at}
 use Rattle.vs_host.specs.File.{File, IsFileImage, WritesSome, Writes, Syncs, Leaves}
 use Rattle.vs_host.specs.Disk.{Disk, Name, ChangesFile}

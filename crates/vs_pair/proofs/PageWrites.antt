@@ -1,6 +1,6 @@
 -- What the writes of page 0 and of the pages after it leave, page after page: the part before a write stays.
-use Rattle.std.proofs.Common.{◌≡◌, inl, inr, ℕ, zero, suc, ◌+◌, ◌*◌, ◌-◌, ◌<◌, ◌≤◌, max, List, [], ◌∷◌, ◌++◌, length, take, drop, Option, Some, None, refl, sym, ◌∙◌, ap, subst, arith, length-append, length-take, length-drop}
-use Rattle.std.proofs.lemmas.Bool.{cases_lt, cases_eq}
+use Rattle.std.proofs.Common.{◌≡◌, inl, inr, ℕ, ◌+◌, ◌*◌, ◌<◌, ◌≤◌, max, List, ◌++◌, length, take, drop, Some, None, refl, sym, ◌∙◌, ap, subst, arith, length-append, length-take, length-drop}
+use Rattle.std.proofs.lemmas.Bool.{cases_lt}
 use Rattle.std.proofs.lemmas.Bool.Decides.{nat_tests}
 use Rattle.std.proofs.lemmas.List.{take_at, drop_at, take-take, drop-take, take-append-le}
 use Rattle.vs_host.specs.File.{File, IsFileImage, WritesSome, Writes, Syncs, put, synced_file}
@@ -9,7 +9,7 @@ use Rattle.vs_disk.specs.Images.{FileHas, MaySync}
 use Rattle.vs_disk.proofs.Images.{length-put, torn_image, sync_narrows}
 use Rattle.vs_disk.proofs.Steps.{file_after, file_then}
 use Rattle.vs_pages.specs.Maps.{Map}
-use Rattle.vs_swap.specs.Files.{page_in, HoldsPages}
+use Rattle.vs_swap.specs.Files.{page_in}
 use Rattle.vs_pair.specs.Swap.{KeepsMark, HasBody, WritesBody}
 
 -- ---- the identifier stays
@@ -116,8 +116,10 @@ has_first name first map piece whole is old new there writes = record {
   where
     size : length piece ≡ 4094
     size = ap length is ∙ omega (arith, whole, length-drop 2 first)
+
     some_same : (a b : ℕ) → Some a ≡ Some b → a ≡ b
     some_same a b e = cc
+
     long : (number : ℕ) → names_of old name ≡ Some number → 2 ≤ length (old.files number).bytes
     long number leads = subst (λ (n : ℕ). 2 ≤ length (old.files n).bytes) (some_same there.number number (sym there.leads ∙ leads)) there.has
 

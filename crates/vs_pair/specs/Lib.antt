@@ -1,3 +1,6 @@
 pub mod Acts
 pub mod Pair
 pub mod Swap
+pub mod Steps
+pub mod Lent
+pub mod LentLaws

@@ -2,7 +2,7 @@
 use Rattle.std.specs.Prelude.{◌≡◌, ◌≢◌, ◌⊎◌, ℕ, ◌+◌, ◌^◌, ◌<◌, ◌≤◌, ◌==◌, Bool, not, ◌||◌, List, [], ◌∷◌, length, Option, Some, None}
 use Rattle.std.specs.Str.{bytes_eq}
 use Rattle.vs_host.specs.File.{File, Leaves}
-use Rattle.vs_host.specs.Disk.{Disk, Name, IsImage, names_at}
+use Rattle.vs_host.specs.Disk.{Disk, Name, IsImage}
 use Rattle.vs_host.specs.declared.names.Names.{Names}
 use Rattle.vs_host.specs.Names.{AreNames}
 use Rattle.vs_disk.specs.Images.{FileAlways}
@@ -18,7 +18,7 @@ use Rattle.vs_pair.specs.declared.gate.Gate.TheVariants.{Open, Closed, Unknown}
 use Rattle.vs_pair.specs.declared.side.Side.{Side}
 use Rattle.vs_pair.specs.declared.side.Side.TheVariants.{Swp, Swo}
 use Rattle.vs_pair.specs.declared.pair.SwapPair.{SwapPair}
-use Rattle.vs_pair.specs.Swap.{Synced, Body, body_of, IsOpen, HasBody, Holds, Fits, MayBeClosed}
+use Rattle.vs_pair.specs.Swap.{Synced, body_of, IsOpen, HasBody, Holds, Fits, MayBeClosed}
 
 abbrev pub Image : Type 0
 Image = Name → Option (List ℕ)
@@ -32,6 +32,10 @@ other_side Swo = Swp
 abbrev pub name_of : Names → Side → Name
 name_of names Swp = names.swp
 name_of names Swo = names.swo
+
+abbrev pub temporary_of : Names → Side → Name
+temporary_of names Swp = names.swp_new
+temporary_of names Swo = names.swo_new
 
 -- the two swap files
 abbrev pub is_swap : Names → Name → Bool
@@ -65,6 +69,14 @@ pub record HasEarlier (file : Name) (sync : Synced) (older : List Synced) (c : L
   pub member : IsIn earlier older
   pub body : HasBody (body_of file earlier) c
   pub less : earlier.generation < sync.generation
+
+-- The file has what a later sync of these wrote.
+pub record HasLater (file : Name) (newest : Synced) (later : List Synced) (c : List ℕ) : Type 0 where
+  pub sync : Synced
+  pub member : IsIn sync later
+  pub body : HasBody (body_of file sync) c
+  pub more : newest.generation < sync.generation
+  pub small : sync.generation < 2 ^ 64
 
 -- the file is not there, or not open, or has what an earlier sync wrote
 abbrev pub IsBelow : Name → Synced → List Synced → Option (List ℕ) → Type 0
@@ -100,9 +112,13 @@ pub record Known : Type 0 where
 abbrev pub known_of : SwapPair → Known
 known_of pair = record { names = pair.files.names; newer = pair.files.newer; gate = pair.files.gate; generation = pair.files.generation }
 
+-- a sync of the committed pages
+abbrev pub sync_with : SwapPair → ℕ → Head → Synced
+sync_with pair generation head = record { generation = generation; head = head; pages = committed_of pair.pages }
+
 -- the sync that is about to begin
 abbrev pub sync_of : SwapPair → Head → Synced
-sync_of pair head = record { generation = pair.files.generation + 1; head = head; pages = committed_of pair.pages }
+sync_of pair head = sync_with pair (pair.files.generation + 1) head
 
 pub record IsEarlier (newest older : Synced) (past : List Synced) : Type 0 where
   pub member : IsIn older past
@@ -139,6 +155,17 @@ pub record IsFit (files : Known) (disk : Disk) (newest : Synced) (begun past : L
 pub record Syncing (files : Known) (sync : Synced) (old new : Disk) : Type 0 where
   pub spared : (newest : Synced) (begun past : List Synced) → IsFit files old newest begun past → SameAt (is_apart files.names) old new
   pub safe : (newest : Synced) (begun past : List Synced) → IsFit files old newest begun past → Recovers files.names (newest ∷ sync ∷ begun) (newest ∷ past) new
+
+-- the file is not there, or not open, or has what an earlier sync of these wrote, or a later one
+abbrev pub IsBeside : Name → Synced → List Synced → List Synced → Option (List ℕ) → Type 0
+IsBeside file newest begun past None = Unit {0}
+IsBeside file newest begun past (Some c) = IsOpen c → HasEarlier file newest past c ⊎ HasLater file newest begun c
+
+-- Between two calls: in each image one file stands with what the last acknowledged sync wrote, and the other one is beside it.
+pub record IsBetween (names : Names) (newest : Synced) (begun past : List Synced) (disk : Disk) : Type 0 where
+  pub side : Side
+  pub newest_there : (image : Image) → IsImage disk image → IsThere names.file newest (image (name_of names side))
+  pub beside : (image : Image) → IsImage disk image → IsBeside names.file newest begun past (image (name_of names (other_side side)))
 
 -- ---- texts
 

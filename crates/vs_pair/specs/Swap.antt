@@ -1,5 +1,5 @@
 -- What one sync writes into a swap file, and what is known of the images of the file while it is written.
-use Rattle.std.specs.Prelude.{◌≡◌, ◌≢◌, ◌⊎◌, ℕ, ◌*◌, ◌+◌, ◌<◌, ◌≤◌, List, [], ◌∷◌, take, drop, length, Some}
+use Rattle.std.specs.Prelude.{◌≡◌, ◌≢◌, ◌⊎◌, ℕ, List, [], ◌∷◌, take, drop, Some}
 use Rattle.vs_pages.specs.Maps.{Map}
 use Rattle.vs_zero.specs.declared.Pair.{Pair}
 use Rattle.vs_zero.specs.declared.Zero.{Zero}
@@ -7,7 +7,7 @@ use Rattle.vs_zero.specs.Zero.{closed_page}
 use Rattle.vs_host.specs.File.{File, IsFileImage, Leaves, synced_file}
 use Rattle.vs_host.specs.Disk.{Name}
 use Rattle.vs_disk.specs.Images.{KeepsImages}
-use Rattle.vs_swap.specs.Files.{page_in, HoldsPages}
+use Rattle.vs_swap.specs.Files.{HoldsPages}
 use Rattle.vs_pair.specs.declared.head.Head.{Head}
 use Rattle.vs_pair.specs.declared.gate.Gate.{Gate}
 use Rattle.vs_pair.specs.declared.gate.Gate.TheVariants.{Open, Closed, Unknown}

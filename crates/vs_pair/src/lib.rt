@@ -1,15 +1,22 @@
 //! The two swap files of a session: made, synced in turn so that one of them stands at each moment, and removed.
 #![tactic(auto)]
 
+mod ending;
 mod files;
 mod gate;
 mod head;
+mod laws;
+mod lent;
+mod making;
 mod pair;
 mod side;
+mod start;
 mod writing;
 
 pub use files::SwapFiles;
 pub use gate::Gate;
 pub use head::Head;
+pub use laws::{beginning, fitting, leaving, recovering};
+pub use lent::PairPages;
 pub use pair::SwapPair;
 pub use side::Side;

@@ -9,8 +9,8 @@ ghost use Rattle.vs_pair.specs.Swap.{Synced, page_zero};
 ghost use Rattle.vs_pair.specs.Pair.{IsFit, Syncing, IsTextOf, Rises};
 
 use crate::head::page_zero;
-use crate::writing::sync_file;
 use crate::side::{Side, swap_name};
+use crate::writing::sync_file;
 use crate::{Gate, Head, SwapFiles};
 use std::alloc::{AllocError, Global};
 use vs_host::{Failed, Folder, NameErr, Names};

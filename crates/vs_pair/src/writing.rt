@@ -17,6 +17,7 @@ const ZEROS: [u8; PAGE_SIZE] = [0; PAGE_SIZE];
 
 // the identifier of an open swap file, and that of a closed one
 pub(crate) const OPEN: &[u8] = b"b0";
+
 const CLOSED: &[u8] = &[0, 0];
 
 // Writes the identifier in a write of its own, and syncs the file.
@@ -47,13 +48,19 @@ fn page_or_zeros(pages: &MemPages, at: u64) -> &[u8]
 }
 
 // Writes all that stands after the identifier, and syncs the file. What `first` has before that is not written.
-pub(crate) fn write_pages<F: Folder>(host: &mut F, name: &str, first: &[u8], pages: &MemPages) -> Result<(), Failed>
+pub(crate) fn write_pages<F: Folder>(
+    host: &mut F,
+    name: &str,
+    first: &[u8],
+    pages: &MemPages,
+) -> Result<(), Failed>
     requires size { length first.now ≡ 4096 }
     requires there { IsTrue F.tells.folder → FileHas (F.scene host.old).folder name.now (λ file. 2 ≤ length file.bytes) }
 
     // At each moment each image has an identifier from before.
     ensures acts { Acts F.tells (ChangesFile name.now KeepsMark) (F.scene host.old) (F.scene host.new) }
-    ensures written { OnOk result (IsTrue F.tells.folder → ChangesFile name.now (WritesBody (record { first = first.now; pages = committed_of pages.now })) (F.scene host.old).folder (F.scene host.new).folder) }
+    ensures written { OnOk result (IsTrue F.tells.folder
+        → ChangesFile name.now (WritesBody (record { first = first.now; pages = committed_of pages.now })) (F.scene host.old).folder (F.scene host.new).folder) }
     ensures none { OnOk result (NoneFails F.tells (F.scene host.old) (F.scene host.new)) }
     ensures cause { HasCause (F.scene host.old).folder_faults (F.scene host.new).folder_faults (IsErr result) }
 {

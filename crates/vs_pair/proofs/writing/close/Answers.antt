@@ -1,9 +1,8 @@
-use Rattle.std.proofs.Common.{refl}
 use Rattle.vs_host.specs.Disk.{ChangesFile}
 use Rattle.vs_disk.proofs.Steps.{same_file}
 use Rattle.vs_pair.specs.Swap.{CloseStep, Closes}
 use Rattle.vs_pair.proofs.Acts.{acts_none, none_fails}
-use Rattle.vs_pair.proofs.Calls.{on_err_from, on_ok_not}
+use Rattle.vs_pair.proofs.Calls.{on_err_from}
 use Rattle.vs_pair.proofs.Gates.{not_closed, close_same, closes_same, close_acts, mark_closes}
 use Rattle.vs_pair.proofs.writing.close.Goals as goal
 

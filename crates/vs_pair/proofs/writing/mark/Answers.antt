@@ -1,4 +1,3 @@
-use Rattle.std.proofs.Common.{refl}
 use Rattle.std.proofs.lemmas.Result.{on_ok_weaker, on_err_weaker}
 use Rattle.vs_host.specs.Trace.{Wrote, Synced}
 use Rattle.vs_pair.specs.Swap.{ChangesMark}

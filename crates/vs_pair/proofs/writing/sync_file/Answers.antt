@@ -1,8 +1,8 @@
-use Rattle.std.proofs.Common.{subst, sym, refl}
+use Rattle.std.proofs.Common.{subst, sym}
 use Rattle.vs_host.specs.Disk.{ChangesFile}
 use Rattle.vs_pages.specs.Memory.{committed_of}
 use Rattle.vs_pair.specs.declared.gate.Gate.{Gate}
-use Rattle.vs_pair.specs.Swap.{Body, KeepsMark, ChangesMark, CloseStep, Fits, FailedSync, SyncStep}
+use Rattle.vs_pair.specs.Swap.{Body, Fits, FailedSync}
 use Rattle.vs_pair.proofs.Acts.{none_then}
 use Rattle.vs_pair.proofs.Calls.{on_err_from}
 use Rattle.vs_pair.proofs.Gates.{ShutsWith, closing_acts, closing_failed, writing_acts, writing_failed, written_file, opening_acts, opening_failed, opened_file, long_enough, still_there}

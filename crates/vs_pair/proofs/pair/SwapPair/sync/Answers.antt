@@ -1,4 +1,4 @@
-use Rattle.std.proofs.Common.{◌≡◌, ◌+◌, ◌∙◌, refl, sym, subst, ap, length}
+use Rattle.std.proofs.Common.{◌≡◌, ◌+◌, ◌∙◌, refl, sym, subst, ap}
 use Rattle.std.specs.Prelude.{[], ◌∷◌}
 use Rattle.vs_host.specs.File.{Leaves}
 use Rattle.vs_host.specs.Disk.{ChangesFile}
@@ -10,17 +10,16 @@ use Rattle.vs_pair.specs.Swap.{Body, body_of, Fits, Holds, SyncStep, FailedSync}
 use Rattle.vs_pair.specs.Pair.{Known, known_of, sync_of, name_of, other_side, IsFit, Syncing}
 use Rattle.vs_pair.proofs.Acts.{acts_as}
 use Rattle.vs_pair.proofs.Calls.{on_err_from}
-use Rattle.vs_pair.proofs.Fitting.{body_is, moved, moved_has, syncing, there, failed, done, rises, none_rises, above_newest}
+use Rattle.vs_pair.proofs.FitLemmas.{body_is, moved, moved_has, syncing, there, failed, done, rises, none_rises, above_newest}
 use Rattle.vs_pair.proofs.pair.SwapPair.sync.Goals as goal
 
 pub sync_file-requires-clause-fits : goal.sync_file-requires-clause-fits
 sync_file-requires-clause-fits g c told =
     let fits = c.requires.fits told in
-    let name = c.swap_name-name.ensures ∙ ap (λ (s : Side). name_of c.args.self.now.files.names s) c.other-older.ensures in
-    (
+    let name = c.swap_name-name.ensures ∙ ap (λ (s : Side). name_of c.args.self.now.files.names s) c.other-older.ensures in (
       body_of c.args.self.now.files.names.file fits.3.older_sync,
       moved_has (name_of c.args.self.now.files.names (other_side c.args.self.now.files.newer)) c.swap_name-name.result.now (sym name) _ _ refl (Fits c.args.self.now.files.gate) _
-      (there (known_of c.args.self.now) fits.0 fits.1 fits.2 _ fits.3 (sync_of c.args.self.now c.args.head.now) refl c.requires.room),
+          (there (known_of c.args.self.now) fits.0 fits.1 fits.2 _ fits.3 (sync_of c.args.self.now c.args.head.now) refl c.requires.room),
     )
 
 pub returns-in_err-sync_file-clause-acts : goal.returns-in_err-sync_file-clause-acts

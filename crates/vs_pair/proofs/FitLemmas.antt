@@ -1,11 +1,10 @@
 -- The pair through a sync of its older file.
-use Rattle.std.proofs.Common.{◌≡◌, ◌≢◌, ◌⊎◌, inl, inr, ℕ, ◌+◌, ◌<◌, ◌≤◌, ◌^◌, Bool, true, false, not, ◌||◌, cond, List, [], ◌∷◌, take, Option, Some, None, option_map, IsTrue, refl, sym, ◌∙◌, ap, subst, arith}
+use Rattle.std.proofs.Common.{◌≡◌, ◌≢◌, ◌⊎◌, inl, inr, ℕ, ◌+◌, ◌<◌, ◌≤◌, ◌^◌, Bool, true, false, not, ◌||◌, cond, List, [], ◌∷◌, Option, Some, option_map, refl, sym, ◌∙◌, ap, subst, arith}
 use Rattle.std.specs.Str.{bytes_eq}
 use Rattle.std.proofs.lemmas.Slice.Eq.{bytes_eq-Decides}
 use Rattle.std.proofs.lemmas.Bool.{cases_Bool, cond-true, cond-false, true≢false, or_cases}
 use Rattle.vs_host.specs.File.{File, IsFileImage, Leaves}
 use Rattle.vs_host.specs.Disk.{Disk, Name, ChangesFile, IsImage, IsImageOf, IsFolder, names_of, names_at}
-use Rattle.vs_host.specs.Names.{AreNames}
 use Rattle.vs_host.specs.declared.names.Names.{Names}
 use Rattle.vs_disk.specs.Images.{FileHas, FileAlways, KeepsImages}
 use Rattle.vs_disk.specs.Names.{SameAt, IsApart}
@@ -19,11 +18,11 @@ use Rattle.vs_pair.specs.declared.gate.Gate.{Gate}
 use Rattle.vs_pair.specs.declared.gate.Gate.TheVariants.{Open, Closed, Unknown}
 use Rattle.vs_pair.specs.declared.side.Side.{Side}
 use Rattle.vs_pair.specs.declared.side.Side.TheVariants.{Swp, Swo}
-use Rattle.vs_pair.specs.Swap.{Synced, Body, body_of, page_zero, IsOpen, HasMark, HasBody, Holds, Fits, MayBeClosed, SyncStep, FailedSync, closed_mark, open_mark}
+use Rattle.vs_pair.specs.Swap.{Synced, Body, body_of, page_zero, IsOpen, HasBody, Holds, Fits, SyncStep, FailedSync}
 use Rattle.vs_pair.specs.Swap.FailedSync.{InClosing, InWriting, InOpening}
-use Rattle.vs_pair.specs.Pair.{Image, Known, name_of, other_side, is_swap, is_apart, IsIn, HasEarlier, Recovers, IsFit, IsEarlier, IsLater, IsOrdered, Syncing, IsTextOf, IsAbove, RisesAt, Rises}
+use Rattle.vs_pair.specs.Pair.{Image, Known, name_of, other_side, is_swap, is_apart, HasEarlier, HasLater, Recovers, IsFit, IsOrdered, Syncing, IsTextOf, IsAbove, RisesAt, Rises}
 use Rattle.vs_pair.proofs.Gates.{body_stays, fits_body, has_at, zeros_not_open}
-use Rattle.vs_pair.proofs.Offers.{image_at, open_cases, HasLater, two_offer, other_twice, holds_stands}
+use Rattle.vs_pair.proofs.Offers.{image_at, two_offer, other_twice, holds_stands}
 use Rattle.vs_pair.proofs.Reading.{stands_open, stands_generation}
 
 some_same : (a b : ℕ) → Some a ≡ Some b → a ≡ b
@@ -194,9 +193,9 @@ step_class file newest older sync begun past more small older_small Open x y fit
 step_class file newest older sync begun past more small older_small Unknown x y fits ordered step c image opened =
     elim (step (body_of file older) fits c image opened) [
       | inl has ↦ elim ordered [
-          | inl earlier ↦ inl (record { earlier = older; member = inr earlier.member; body = has; less = earlier.less })
-          | inr later ↦ inr (record { sync = older; member = inr later.member; body = has; more = later.more; small = older_small })
-        ]
+        | inl earlier ↦ inl (record { earlier = older; member = inr earlier.member; body = has; less = earlier.less })
+        | inr later ↦ inr (record { sync = older; member = inr later.member; body = has; more = later.more; small = older_small })
+      ]
       | inr has ↦ inr (record { sync = sync; member = inl refl; body = has; more = more; small = small })
     ]
 
@@ -274,31 +273,31 @@ module _ (files : Known) (newest : Synced) (begun past : List Synced) (old : Dis
       let first = newest_stays (FailedSync files.gate gate (body_of file sync)) new changes in
       elim now.has [
         | inl same ↦ record {
-            named = fit.named;
-            newer_number = fit.newer_number;
-            older_number = fit.older_number;
-            differ = fit.differ;
-            newer = first;
-            older_sync = fit.older_sync;
-            older = record { leads = now.leads; has = same.0 };
-            ordered = same.1;
-            newer_used = omega (arith, fit.newer_used);
-            older_used = omega (arith, fit.older_used);
-            bound = omega (arith, room);
-          }
+          named = fit.named;
+          newer_number = fit.newer_number;
+          older_number = fit.older_number;
+          differ = fit.differ;
+          newer = first;
+          older_sync = fit.older_sync;
+          older = record { leads = now.leads; has = same.0 };
+          ordered = same.1;
+          newer_used = omega (arith, fit.newer_used);
+          older_used = omega (arith, fit.older_used);
+          bound = omega (arith, room);
+        }
         | inr later ↦ record {
-            named = fit.named;
-            newer_number = fit.newer_number;
-            older_number = fit.older_number;
-            differ = fit.differ;
-            newer = first;
-            older_sync = sync;
-            older = record { leads = now.leads; has = later.0 };
-            ordered = later.1;
-            newer_used = omega (arith, fit.newer_used);
-            older_used = omega (arith, next);
-            bound = omega (arith, room);
-          }
+          named = fit.named;
+          newer_number = fit.newer_number;
+          older_number = fit.older_number;
+          differ = fit.differ;
+          newer = first;
+          older_sync = sync;
+          older = record { leads = now.leads; has = later.0 };
+          ordered = later.1;
+          newer_used = omega (arith, fit.newer_used);
+          older_used = omega (arith, next);
+          bound = omega (arith, room);
+        }
       ]
 
   -- after a sync that was acknowledged: the older file is the newer one from now on
@@ -332,8 +331,7 @@ module _ (files : Known) (newest : Synced) (begun past : List Synced) (old : Dis
     rises text is = (
       other_side files.newer,
       λ image whole.
-          let at = image_at new older fit.older_number (Holds (body_of file sync)) now_newer image whole in
-          (
+          let at = image_at new older fit.older_number (Holds (body_of file sync)) now_newer image whole in (
             sync.generation,
             text,
             subst (λ (o : Option (List ℕ)). StandsIn o sync.generation text) (sym at.1) (holds_stands files.names fit.named.allowed [] sync text is (omega (arith, next, room)) at.0 at.2),

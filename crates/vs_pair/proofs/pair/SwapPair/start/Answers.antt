@@ -1,0 +1,40 @@
+use Rattle.std.proofs.Common.{refl}
+use Rattle.vs_host.specs.Disk.{SyncsNames}
+use Rattle.vs_host.specs.Trace.{SyncedNames}
+use Rattle.vs_pair.specs.Pair.{sync_with}
+use Rattle.vs_pair.proofs.Acts.{none_call, none_then}
+use Rattle.vs_pair.proofs.Calls.{either_acts}
+use Rattle.vs_pair.proofs.Starts.{making_first, making_second, second_absent, syncing_names, both_fit}
+use Rattle.vs_pair.proofs.pair.SwapPair.start.Goals as goal
+
+pub returns-in_err-make-clause-acts : goal.returns-in_err-make-clause-acts
+returns-in_err-make-clause-acts g c = making_first g.F.World.tells c.args.self.now.files.names c.args.self.now.files.named (sync_with c.args.self.now 1 c.args.head.now) (sync_with c.args.self.now 2 c.args.head.now) refl refl (g.F.World.scene c.args.host.now) c.requires.fresh _ c.make.ensures.acts
+
+pub make-requires-2 : goal.make-requires-2
+make-requires-2 g c = record { absent = λ told. second_absent g.F.World.tells c.args.self.now.files.names c.args.self.now.files.named (sync_with c.args.self.now 1 c.args.head.now) (sync_with c.args.self.now 2 c.args.head.now) refl refl (g.F.World.scene c.args.host.now) c.requires.fresh (g.F.World.scene c.make.new.host) told (c.make.ensures.acts.runs told).now }
+
+pub returns-in_err-make-2-clause-acts : goal.returns-in_err-make-2-clause-acts
+returns-in_err-make-2-clause-acts g c = making_second g.F.World.tells c.args.self.now.files.names c.args.self.now.files.named (sync_with c.args.self.now 1 c.args.head.now) (sync_with c.args.self.now 2 c.args.head.now) refl refl (g.F.World.scene c.args.host.now) c.requires.fresh _ _ c.in_ok-make.ensures.none c.make.ensures.acts c.make-2.ensures.acts
+
+pub returns-in_err-sync_names-clause-acts : goal.returns-in_err-sync_names-clause-acts
+returns-in_err-sync_names-clause-acts g c =
+    syncing_names g.F.World.tells c.args.self.now.files.names c.args.self.now.files.named (sync_with c.args.self.now 1 c.args.head.now) (sync_with c.args.self.now 2 c.args.head.now) refl refl (g.F.World.scene c.args.host.now) c.requires.fresh (g.F.World.scene c.make.new.host) (g.F.World.scene c.make-2.new.host) _ (none_then g.F.World.tells _ _ _ c.in_ok-make.ensures.none c.in_ok-make-2.ensures.none)
+    (making_second g.F.World.tells c.args.self.now.files.names c.args.self.now.files.named (sync_with c.args.self.now 1 c.args.head.now) (sync_with c.args.self.now 2 c.args.head.now) refl refl (g.F.World.scene c.args.host.now) c.requires.fresh _ _ c.in_ok-make.ensures.none c.make.ensures.acts c.make-2.ensures.acts)
+    (λ told. (c.make.ensures.acts.runs told).now) (λ told. (c.make-2.ensures.acts.runs told).now)
+    (either_acts g.F.World.tells SyncsNames SyncedNames _ c.sync_names.result _ _ c.sync_names.ensures.ok c.sync_names.ensures.err c.sync_names.ensures.cause c.sync_names.ensures.told c.sync_names.ensures.frame)
+
+pub returns-clause-acts : goal.returns-clause-acts
+returns-clause-acts g c =
+    syncing_names g.F.World.tells c.args.self.now.files.names c.args.self.now.files.named (sync_with c.args.self.now 1 c.args.head.now) (sync_with c.args.self.now 2 c.args.head.now) refl refl (g.F.World.scene c.args.host.now) c.requires.fresh (g.F.World.scene c.make.new.host) (g.F.World.scene c.make-2.new.host) _ (none_then g.F.World.tells _ _ _ c.in_ok-make.ensures.none c.in_ok-make-2.ensures.none)
+    (making_second g.F.World.tells c.args.self.now.files.names c.args.self.now.files.named (sync_with c.args.self.now 1 c.args.head.now) (sync_with c.args.self.now 2 c.args.head.now) refl refl (g.F.World.scene c.args.host.now) c.requires.fresh _ _ c.in_ok-make.ensures.none c.make.ensures.acts c.make-2.ensures.acts)
+    (λ told. (c.make.ensures.acts.runs told).now) (λ told. (c.make-2.ensures.acts.runs told).now)
+    (either_acts g.F.World.tells SyncsNames SyncedNames _ c.sync_names.result _ _ c.sync_names.ensures.ok c.sync_names.ensures.err c.sync_names.ensures.cause c.sync_names.ensures.told c.sync_names.ensures.frame)
+
+pub returns-clause-ok : goal.returns-clause-ok
+returns-clause-ok g c told =
+    both_fit g.F.World.tells c.args.self.now.files.names c.args.self.now.files.named (sync_with c.args.self.now 1 c.args.head.now) (sync_with c.args.self.now 2 c.args.head.now) refl refl (g.F.World.scene c.args.host.now) c.requires.fresh (g.F.World.scene c.make.new.host).folder (g.F.World.scene c.make-2.new.host).folder (g.F.World.scene c.sync_names.new.self).folder (g.F.World.is_folder c.sync_names.new.self told)
+    (c.in_ok-make.ensures.made told) (c.make-2.ensures.acts.runs told).now (c.in_ok-make-2.ensures.made told) (c.in_ok-sync_names.ensures.ok told)
+
+pub returns-clause-none : goal.returns-clause-none
+returns-clause-none g c =
+    none_then g.F.World.tells _ _ _ (none_then g.F.World.tells _ _ _ c.in_ok-make.ensures.none c.in_ok-make-2.ensures.none) (none_call g.F.World.tells SyncedNames _ c.sync_names.result _ _ c.sync_names.ensures.frame c.sync_names.ensures.told c.in_ok-sync_names.ensures.quiet)

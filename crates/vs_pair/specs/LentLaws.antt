@@ -1,0 +1,19 @@
+-- The files of a pair go on being as they were known, from call to call.
+use Rattle.std.proofs.Common.{◌≡◌, refl, ◌∙◌, ap}
+use Rattle.vs_host.specs.World.{Tells, Scene, ReadsFolder}
+use Rattle.vs_disk.proofs.Runs.{starts, looks_on, reads_change}
+use Rattle.vs_pair.specs.declared.files.SwapFiles.{SwapFiles}
+use Rattle.vs_pair.specs.Lent.{KeepsFiles}
+
+pub keeps_none : (tells : Tells) (files : SwapFiles) (scene : Scene) → KeepsFiles tells files files scene scene
+keeps_none tells files scene = record { files = refl; frame = refl; looks = λ told. starts (λ a b. b ≡ a) scene refl }
+
+reads_then : (old mid new : Scene) → ReadsFolder old mid → ReadsFolder mid new → ReadsFolder old new
+reads_then old mid new first second = second ∙ ap (λ (s : Scene). record s { folder_faults = new.folder_faults; trace = new.trace }) first
+
+pub keeps_then : (tells : Tells) (a b c : SwapFiles) (old mid new : Scene) → KeepsFiles tells a b old mid → KeepsFiles tells b c mid new → KeepsFiles tells a c old new
+keeps_then tells a b c old mid new first second = record {
+  files = second.files ∙ first.files;
+  frame = reads_then old mid new first.frame second.frame;
+  looks = λ told. looks_on old mid new (reads_change old mid first.frame) (first.looks told) (second.looks told);
+}

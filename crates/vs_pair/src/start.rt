@@ -1,0 +1,66 @@
+// The start of a pair.
+ghost use Rattle.std.specs.Prelude.{◌≡◌, ◌∷◌, [], OnOk, IsErr, IsTrue};
+ghost use Rattle.vs_faults.specs.Faults.{HasCause};
+ghost use Rattle.vs_pair.specs.Acts.{Acts, NoneFails};
+ghost use Rattle.vs_pair.specs.Pair.{IsFit, known_of, name_of, temporary_of, sync_with};
+ghost use Rattle.vs_pair.specs.Steps.{IsAbsent, IsFresh, Makes, Starting};
+ghost use Rattle.vs_pair.specs.Swap.{Holds, body_of};
+ghost use Rattle.vs_host.specs.File.{Leaves};
+ghost use Rattle.vs_disk.specs.Images.{FileHas};
+
+use crate::head::page_zero;
+use crate::making::make_file;
+use crate::side::{swap_name, temporary_name};
+use crate::{Gate, Head, Side, SwapPair};
+use vs_host::{Failed, Folder};
+
+impl SwapPair {
+    // Makes one of the files, with this generation.
+    fn make<F: Folder>(
+        &self,
+        host: &mut F,
+        side: Side,
+        generation: u64,
+        head: &Head,
+    ) -> Result<(), Failed>
+        requires absent { IsTrue F.tells.folder → IsAbsent (name_of self.now.files.names side) (F.scene host.old).folder }
+        ensures acts { Acts F.tells (Makes (temporary_of self.now.files.names side) (name_of self.now.files.names side) (body_of self.now.files.names.file (sync_with self.now generation head.now)))
+            (F.scene host.old) (F.scene host.new) }
+        ensures made { OnOk result (IsTrue F.tells.folder → FileHas (F.scene host.new).folder (name_of self.now.files.names side)
+            (λ file. Leaves file (Holds (body_of self.now.files.names.file (sync_with self.now generation head.now))))) }
+        ensures none { OnOk result (NoneFails F.tells (F.scene host.old) (F.scene host.new)) }
+        ensures cause { HasCause (F.scene host.old).folder_faults (F.scene host.new).folder_faults (IsErr result) }
+    {
+        let names = &self.files.names;
+        let first = page_zero(names.file.as_str(), generation, head);
+        make_file(
+            host,
+            temporary_name(names, side),
+            swap_name(names, side),
+            &first,
+            &self.pages,
+        )
+    }
+
+    /// Makes both files, with the generations 1 and 2. After an error the pair is as before, and is of no more use.
+    pub fn start<F: Folder>(&mut self, host: &mut F, head: &Head) -> Result<(), Failed>
+        requires new { self.old.files.generation ≡ 0 }
+        requires fresh { IsTrue F.tells.folder → IsFresh self.old.files.names (F.scene host.old).folder }
+        ensures acts { Acts F.tells (Starting self.old.files.names (sync_with self.old 1 head.now) (sync_with self.old 2 head.now)) (F.scene host.old) (F.scene host.new) }
+        ensures ok { OnOk result (IsTrue F.tells.folder
+            → IsFit (known_of self.new) (F.scene host.new).folder (sync_with self.old 2 head.now) [] (sync_with self.old 1 head.now ∷ [])) }
+        ensures generation { OnOk result (self.new.files.generation ≡ 2) }
+        ensures pages { self.new.pages ≡ self.old.pages }
+        ensures names { self.new.files.names ≡ self.old.files.names }
+        ensures none { OnOk result (NoneFails F.tells (F.scene host.old) (F.scene host.new)) }
+        ensures cause { HasCause (F.scene host.old).folder_faults (F.scene host.new).folder_faults (IsErr result) }
+    {
+        self.make(host, Side::Swp, 1, head)?;
+        self.make(host, Side::Swo, 2, head)?;
+        host.sync_names()?;
+        self.files.newer = Side::Swo;
+        self.files.gate = Gate::Open;
+        self.files.generation = 2;
+        Ok(())
+    }
+}

@@ -1,0 +1,6 @@
+//! Tests of the swap pair: what a stop after each call leaves, and the bytes of its files.
+#![tactic(auto)]
+
+pub mod life;
+#[cfg(test)]
+mod stops;

@@ -1,0 +1,159 @@
+// What recovery may find after a stop or a fault, at each call of a life.
+ghost use Rattle.std.specs.Prelude.{IfOk, codes};
+ghost use Rattle.vs_host.specs.Names.{names_of_file};
+ghost use Rattle.vs_memory.specs.Memory.{folder_of};
+ghost use Rattle.vs_pair.specs.Steps.{IsFresh};
+
+use crate::life::{Life, live};
+use std::alloc::Global;
+use std::process::Abort;
+use std::test::Fail;
+use vs_memory::{Choice, Keep, MemHost};
+use vs_pages::PAGE_SIZE;
+use vs_zero::Zero;
+
+// The calls of a life without faults: 17 of the start, 8 of each sync and 3 of the end.
+const CALLS: u64 = 36;
+
+// The calls of a start.
+const START: u64 = 17;
+
+// A stop leaves these bytes where a file was changed and not synced.
+const KEEPS: [Keep; 5] = [
+    Keep::Read,
+    Keep::Synced,
+    Keep::Byte(0),
+    Keep::Byte(b'b'),
+    Keep::Byte(0xff),
+];
+
+// A folder without files.
+fn empty_folder(alloc: Global) -> Result<MemHost, Fail>
+    ensures { IfOk result (λ host. IsFresh (names_of_file (codes "f")) (folder_of host)) }
+{
+    Ok(MemHost::new(alloc, Vec::new(alloc))?)
+}
+
+// The generation and the text of a swap file that is open; an open file with a torn page is no file of a pair.
+fn open_text(bytes: &[u8]) -> Result<Option<(u64, u8)>, Fail> {
+    let Ok(zero) = Zero::read(bytes) else {
+        return Ok(None);
+    };
+    let Some(pair) = zero.pair else {
+        return Err(Fail::new("an open file without its tag"));
+    };
+    if bytes.len() != 3 * PAGE_SIZE {
+        return Err(Fail::new("an open file that is not whole"));
+    }
+    let text = bytes[2 * PAGE_SIZE];
+    if bytes[2 * PAGE_SIZE..].iter().all(|byte| *byte == text) {
+        return Ok(Some((pair.generation, text)));
+    }
+    Err(Fail::new("an open file with a torn page"))
+}
+
+fn text_under(image: &MemHost, name: &str) -> Result<Option<(u64, u8)>, Fail> {
+    match image.file(name) {
+        Some(bytes) => open_text(bytes),
+        None => Ok(None),
+    }
+}
+
+// The text that is recovered: that of the open file with the greater generation.
+fn recovered(image: &MemHost) -> Result<Option<u8>, Fail> {
+    let swp = text_under(image, ".f.swp")?;
+    let swo = text_under(image, ".f.swo")?;
+    Ok(match (swp, swo) {
+        (None, None) => None,
+        (Some((_, text)), None) | (None, Some((_, text))) => Some(text),
+        (Some((first, one)), Some((second, two))) => Some(if second > first { two } else { one }),
+    })
+}
+
+// Whether a stop after this life may leave this: the last text that was acknowledged or a later one, and none only where the
+// start or the end did not succeed before.
+fn is_allowed(life: &Life, text: Option<u8>, over: bool) -> bool {
+    match text {
+        None => !life.started || over,
+        Some(text) => {
+            let [first, second] = life.synced;
+            let least = if second {
+                3
+            } else if first {
+                2
+            } else {
+                1
+            };
+            least <= text && text <= 3
+        }
+    }
+}
+
+fn check_images(
+    alloc: Global,
+    host: &MemHost,
+    life: &Life,
+    over: bool,
+    prefixes: &[u32],
+) -> Result<(), Fail> {
+    for names in prefixes {
+        for keep in KEEPS {
+            let image = host.image(
+                alloc,
+                &Choice {
+                    names: *names,
+                    keep,
+                },
+                Vec::new(alloc),
+            )?;
+            if !is_allowed(life, recovered(&image)?, over) {
+                return Err(Fail::new("a text that may not be recovered"));
+            }
+        }
+    }
+    Ok(())
+}
+
+#[test]
+fn a_life_without_faults_ends_without_files(rt: HostRuntime) -> Result<(), Fail> {
+    let alloc = rt.alloc();
+    let mut host = empty_folder(alloc)?;
+    let life = live(alloc, &mut host)?;
+    assert!(rt; life.ended && life.synced == [true, true]);
+    assert_eq!(rt; host.calls(), CALLS);
+    assert!(rt; host.file(".f.swp").is_none() && host.file(".f.swo").is_none());
+    Ok(())
+}
+
+#[test]
+fn each_stop_leaves_a_text_that_may_be_recovered(rt: HostRuntime) -> Result<(), Fail> {
+    let alloc = rt.alloc();
+    for calls in 0..=CALLS {
+        let mut host = empty_folder(alloc)?;
+        host.stop_after(calls);
+        let life = live(alloc, &mut host)?;
+        check_images(
+            alloc,
+            &host,
+            &life,
+            calls > CALLS - 3,
+            &[0, 1, 2, 3, 4, 5, 6],
+        )?;
+    }
+    Ok(())
+}
+
+#[test]
+fn each_fault_leaves_a_text_that_may_be_recovered(rt: HostRuntime) -> Result<(), Fail> {
+    let alloc = rt.alloc();
+    for failing in 1..=CALLS {
+        for calls in failing..=CALLS {
+            let mut host = empty_folder(alloc)?;
+            host.fail_call(alloc, failing)?;
+            host.stop_after(calls);
+            let life = live(alloc, &mut host)?;
+            check_images(alloc, &host, &life, calls > START, &[0, 6])?;
+        }
+    }
+    Ok(())
+}
