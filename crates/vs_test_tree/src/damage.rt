@@ -158,7 +158,7 @@ fn overwrite<P: Pages>(
     let mut bytes = load_page(alloc, pages, page)?;
     'parts: for (at, part) in patch {
         let from = *at as usize;
-        if *at <= 4_092 {
+        if from <= 4_092 && from + 4 <= bytes.len() {
             bytes[from..from + 4].copy_from_slice(part);
         }
     }
