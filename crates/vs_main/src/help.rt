@@ -10,10 +10,21 @@ Usage: levertaupe edit NAME < SCRIPT
 Runs a script of Ex commands over the file NAME of the current folder, and
 answers each command on standard output.
 
-Commands, one on a line:
-  {N}a  puts the lines that follow, up to a line `.`, after line {N}
-        (0: before the first line)
-  %p    prints all lines
+Commands, one on a line; the lines that they work on stand in front:
+  {range}a[ppend]        puts the lines that follow, up to a line `.`, after the
+                         range; i[nsert] before it, c[hange] in its place
+  {range}d[elete] [n]    deletes lines
+  {range}m[ove] {line}   moves lines below a line; co[py] and t copy them there
+  {range}j[oin][!] [n]   joins lines; with ! their blanks stay as they are
+  {range}s[ubstitute]/\\V{text}/{replacement}/[g]
+                         replaces a literal text, once in a line or each time
+  {range}p[rint] [n]     prints lines; nu[mber] prints them with their numbers
+  {range}=               prints the number of the range's last line
+  \" {text}               a comment
+
+A range is nothing (the current line), % (all lines), an address, or two with a
+comma. An address is a line number, . (the current line) or $ (the last one),
+and any +n and -n after it. A count [n] is of lines from the range's last on.
 
 Example:
   $ printf 'a\\nb\\n' > f
@@ -34,8 +45,9 @@ Exit status; from 2 on a line on standard error says the same:
    6  the output cannot be written
    7  the file cannot be read
    8  there is not enough memory
-  12  the file has more than 1,048,576 bytes
-  13  the script has more than 1,048,576 bytes
+  12  the file has more than 4,000,000 lines, more than 268,435,456 bytes, or
+      more than 1,048,576 bytes in a line
+  13  the script has more than 1,073,741,824 bytes
 
 The manual is docs/COMMANDS.md; tools/manual makes a manual page of it.
 ";
