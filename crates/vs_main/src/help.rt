@@ -10,7 +10,7 @@ Usage: levertaupe edit NAME < SCRIPT
 Runs a script of Ex commands over the file NAME of the current folder, and
 answers each command on standard output.
 
-Commands, one on a line; the lines that they work on stand in front:
+Commands, one on a line, with the range of lines before them:
   {range}a[ppend]        puts the lines that follow, up to a line `.`, after the
                          range; i[nsert] before it, c[hange] in its place
   {range}d[elete] [n]    deletes lines
@@ -28,7 +28,7 @@ and any +n and -n after it. A count [n] is of lines from the range's last on.
 
 Example:
   $ printf 'a\\nb\\n' > f
-  $ printf '1a\\nx\\n.\\n%p\\n' | levertaupe edit f
+  $ printf '1a\\nx\\n.\\n%%p\\n' | levertaupe edit f
   \"f\" 2L, 4B
   change 1, 3 lines
   a
