@@ -56,17 +56,27 @@ fn check_row<S: LineStore>(
     Ok(())
 }
 
+fn check_in_memory(rt: &impl Abort, alloc: Global, row: &Row) -> Result<(), Fail> {
+    let mut store = VecStore::new(alloc)?;
+    check_row(rt, alloc, &mut store, row)?;
+    Ok(())
+}
+
+fn check_in_a_tree(rt: &impl Abort, alloc: Global, row: &Row) -> Result<(), Fail> {
+    let mut memory = MemPages::new(alloc)?;
+    let mut tree = LineTree::new(alloc, &mut memory)?;
+    let mut store = TreeStore {
+        tree: &mut tree,
+        pages: memory,
+    };
+    check_row(rt, alloc, &mut store, row)?;
+    Ok(())
+}
+
 fn check_rows(rt: &impl Abort, alloc: Global, rows: &[Row]) -> Result<(), Fail> {
     for row in rows {
-        let mut store = VecStore::new(alloc)?;
-        check_row(rt, alloc, &mut store, row)?;
-        let mut memory = MemPages::new(alloc)?;
-        let mut tree = LineTree::new(alloc, &mut memory)?;
-        let mut store = TreeStore {
-            tree: &mut tree,
-            pages: memory,
-        };
-        check_row(rt, alloc, &mut store, row)?;
+        check_in_memory(rt, alloc, row)?;
+        check_in_a_tree(rt, alloc, row)?;
     }
     Ok(())
 }

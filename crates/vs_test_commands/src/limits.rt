@@ -24,11 +24,12 @@ fn outcome(
     lengths: &[usize],
     line: &[u8],
 ) -> Result<Outcome, StoreErr> {
-    let mut store = VecStore::new(alloc)?;
+    let mut lines = Vec::new(alloc);
     for len in lengths {
-        let line = [line_of(alloc, 9, *len)?];
-        put(rt, alloc, &mut store, &line)?;
+        lines.push(line_of(alloc, 9, *len)?)?;
     }
+    let mut store = VecStore::new(alloc)?;
+    put(rt, alloc, &mut store, &lines)?;
     run(rt, alloc, &mut store, line, b"\n", 1)
 }
 
