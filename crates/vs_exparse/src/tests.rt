@@ -1,7 +1,6 @@
-// Command lines with what they mean.
+use super::*;
 use std::alloc::{AllocError, Global};
 use std::test::Fail;
-use vs_exparse::{Address, Base, Command, ExErr, NAMES, Parsed, Range, Setting, parse};
 
 /// An address.
 macro_rules! address {
