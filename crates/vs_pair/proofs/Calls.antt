@@ -66,10 +66,10 @@ pub on_err_from : {T E : Type 0} (result : Result T E) (P : Type 0) → P → On
 on_err_from (Ok done) P holds = tt
 on_err_from (Err failed) P holds = holds
 
--- and nothing is owed for success
-pub on_ok_not : {T E : Type 0} (result : Result T E) (P : Type 0) → IsErr result → OnOk result P
-on_ok_not (Ok done) P failed = absurd (Rattle.std.proofs.lemmas.Bool.false≢true failed)
-on_ok_not (Err failed) P is = tt
+-- what follows from two facts of a failed call
+pub on_err_both : {T E : Type 0} (result : Result T E) {A B P : Type 0} → OnErr result A → OnErr result B → (A → B → P) → OnErr result P
+on_err_both (Ok done) a b leads = tt
+on_err_both (Err failed) a b leads = leads a b
 
 -- ---- calls that look, and calls on names
 

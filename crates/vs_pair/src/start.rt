@@ -1,5 +1,5 @@
 // The start of a pair.
-ghost use Rattle.std.specs.Prelude.{◌≡◌, ◌∷◌, [], OnOk, IsErr, IsTrue};
+ghost use Rattle.std.specs.Prelude.{◌≡◌, ◌∷◌, [], OnOk, OnErr, IsErr, IsTrue};
 ghost use Rattle.vs_faults.specs.Faults.{HasCause};
 ghost use Rattle.vs_pair.specs.Acts.{Acts, NoneFails};
 ghost use Rattle.vs_pair.specs.Pair.{IsFit, known_of, name_of, temporary_of, sync_with};
@@ -50,6 +50,7 @@ impl SwapPair {
         ensures ok { OnOk result (IsTrue F.tells.folder
             → IsFit (known_of self.new) (F.scene host.new).folder (sync_with self.old 2 head.now) [] (sync_with self.old 1 head.now ∷ [])) }
         ensures generation { OnOk result (self.new.files.generation ≡ 2) }
+        ensures stays { OnErr result (self.new.files ≡ self.old.files) }
         ensures pages { self.new.pages ≡ self.old.pages }
         ensures names { self.new.files.names ≡ self.old.files.names }
         ensures none { OnOk result (NoneFails F.tells (F.scene host.old) (F.scene host.new)) }

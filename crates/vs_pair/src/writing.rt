@@ -6,7 +6,7 @@ ghost use Rattle.vs_host.specs.Disk.{ChangesFile, Name};
 ghost use Rattle.vs_disk.specs.Images.{FileHas, KeepsImages};
 ghost use Rattle.vs_pages.specs.Memory.{committed_of};
 ghost use Rattle.vs_pair.specs.Acts.{Acts, NoneFails};
-ghost use Rattle.vs_pair.specs.Swap.{Body, Holds, HasMark, ChangesMark, KeepsMark, WritesBody, Fits, CloseStep, Closes, SyncStep, FailedSync};
+ghost use Rattle.vs_pair.specs.Swap.{Body, Holds, HasMark, ChangesMark, KeepsMark, WritesBody, Fits, CloseStep, Closes, SyncStep, FailedSync, open_mark};
 
 use crate::Gate;
 use vs_host::{Failed, Folder};
@@ -72,7 +72,7 @@ pub(crate) fn write_pages<F: Folder>(
 }
 
 // Closes the gate, unless it stands closed: zeros that are not synced could read as `b0` before torn pages.
-fn close<F: Folder>(host: &mut F, name: &str, gate: &mut Gate) -> Result<(), Failed>
+fn close_gate<F: Folder>(host: &mut F, name: &str, gate: &mut Gate) -> Result<(), Failed>
     requires there { IsTrue F.tells.folder → FileHas (F.scene host.old).folder name.now (λ file. Unit {0}) }
     ensures acts { Acts F.tells (ChangesFile name.now (CloseStep gate.old)) (F.scene host.old) (F.scene host.new) }
     ensures closed { OnOk result (gate.new ≡ Gate.Closed) }
@@ -92,6 +92,23 @@ fn close<F: Folder>(host: &mut F, name: &str, gate: &mut Gate) -> Result<(), Fai
             Ok(())
         }
     }
+}
+
+// Opens the gate.
+fn open_gate<F: Folder>(host: &mut F, name: &str, gate: &mut Gate) -> Result<(), Failed>
+    requires there { IsTrue F.tells.folder → FileHas (F.scene host.old).folder name.now (λ file. Unit {0}) }
+    ensures acts { Acts F.tells (ChangesFile name.now ChangesMark) (F.scene host.old) (F.scene host.new) }
+    ensures opened { OnOk result (gate.new ≡ Gate.Open) }
+    ensures marked { OnOk result (IsTrue F.tells.folder → FileHas (F.scene host.new).folder name.now (λ file. Leaves file (HasMark open_mark))) }
+    ensures unknown { OnErr result (gate.new ≡ Gate.Unknown) }
+    ensures failed { OnErr result (IsTrue F.tells.folder → ChangesFile name.now KeepsImages (F.scene host.old).folder (F.scene host.new).folder) }
+    ensures none { OnOk result (NoneFails F.tells (F.scene host.old) (F.scene host.new)) }
+    ensures cause { HasCause (F.scene host.old).folder_faults (F.scene host.new).folder_faults (IsErr result) }
+{
+    *gate = Gate::Unknown;
+    mark(host, name, OPEN)?;
+    *gate = Gate::Open;
+    Ok(())
 }
 
 // Syncs the file: closes its gate, writes the pages after it, and opens it.
@@ -115,10 +132,7 @@ pub(crate) fn sync_file<F: Folder>(
     ensures none { OnOk result (NoneFails F.tells (F.scene host.old) (F.scene host.new)) }
     ensures cause { HasCause (F.scene host.old).folder_faults (F.scene host.new).folder_faults (IsErr result) }
 {
-    close(host, name, gate)?;
+    close_gate(host, name, gate)?;
     write_pages(host, name, first, pages)?;
-    *gate = Gate::Unknown;
-    mark(host, name, OPEN)?;
-    *gate = Gate::Open;
-    Ok(())
+    open_gate(host, name, gate)
 }

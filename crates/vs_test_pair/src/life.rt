@@ -1,7 +1,7 @@
 // One life of a pair: it is started, synced and ended. The text is the byte that fills page 2.
 ghost use Rattle.std.specs.Prelude.{◌≡◌, ◌+◌, ◌<◌, ◌≤◌, ◌^◌, List, Some, IfOk, IfSome, OnOk, IsSome, IsTrue, codes};
 ghost use Rattle.vs_host.specs.Names.{names_of_file};
-ghost use Rattle.vs_pages.specs.Maps.{pages_at};
+ghost use Rattle.vs_pages.specs.Maps.{first_pages};
 ghost use Rattle.vs_pages.specs.Memory.{present_of};
 ghost use Rattle.vs_pair.specs.Swap.{Synced};
 ghost use Rattle.vs_pair.specs.Pair.{IsFit, known_of};
@@ -14,6 +14,7 @@ use std::test::Fail;
 use vs_host::Folder;
 use vs_pages::{PAGE_SIZE, Pages};
 use vs_pair::{Head, PairPages, SwapPair};
+use vs_tree::LineTree;
 
 /// The name of the file.
 pub const NAME: &str = "f";
@@ -110,4 +111,29 @@ pub fn live<F: Folder>(alloc: Global, host: &mut F) -> Result<Life, Fail>
         synced: [first, second],
         ended,
     })
+}
+
+// Makes the text without lines the text.
+fn put_tree<F: Folder>(alloc: Global, pair: &mut SwapPair, host: &mut F) -> Result<(), Fail>
+    requires ready { IsTrue F.tells.folder → IsReady pair.old (F.scene host.old).folder }
+    requires present { present_of pair.old.pages ≡ first_pages }
+    ensures files { OnOk result (pair.new.files ≡ pair.old.files) }
+    ensures folder { OnOk result ((F.scene host.new).folder ≡ (F.scene host.old).folder) }
+{
+    let mut store = PairPages { pair, host };
+    LineTree::new(alloc, &mut store)?;
+    Ok(())
+}
+
+/// Starts a pair of the text without lines, and says whether that succeeded.
+pub fn start_empty<F: Folder>(alloc: Global, host: &mut F) -> Result<bool, Fail>
+    requires fresh { IsTrue F.tells.folder → IsFresh (names_of_file (codes "f")) (F.scene host.old).folder }
+{
+    let mut pair = SwapPair::new(alloc, NAME)?;
+    put_tree(alloc, &mut pair, host)?;
+    let head = Head {
+        dirty: false,
+        empty: true,
+    };
+    Ok(pair.start(host, &head).is_ok())
 }

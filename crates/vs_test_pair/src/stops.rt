@@ -27,11 +27,14 @@ const KEEPS: [Keep; 5] = [
     Keep::Byte(0xff),
 ];
 
-// A folder without files.
-fn empty_folder(alloc: Global) -> Result<MemHost, Fail>
+// A folder without files, in which this call fails, and each one after `stop`. Calls are counted from 1.
+pub fn empty_folder(alloc: Global, failing: u64, stop: u64) -> Result<MemHost, Fail>
     ensures { IfOk result (λ host. IsFresh (names_of_file (codes "f")) (folder_of host)) }
 {
-    Ok(MemHost::new(alloc, Vec::new(alloc))?)
+    let mut host = MemHost::new(alloc, Vec::new(alloc))?;
+    host.fail_call(alloc, failing)?;
+    host.stop_after(stop);
+    Ok(host)
 }
 
 // The generation and the text of a swap file that is open; an open file with a torn page is no file of a pair.
@@ -117,7 +120,7 @@ fn check_images(
 #[test]
 fn a_life_without_faults_ends_without_files(rt: HostRuntime) -> Result<(), Fail> {
     let alloc = rt.alloc();
-    let mut host = empty_folder(alloc)?;
+    let mut host = empty_folder(alloc, 0, CALLS)?;
     let life = live(alloc, &mut host)?;
     assert!(rt; life.ended && life.synced == [true, true]);
     assert_eq!(rt; host.calls(), CALLS);
@@ -129,8 +132,7 @@ fn a_life_without_faults_ends_without_files(rt: HostRuntime) -> Result<(), Fail>
 fn each_stop_leaves_a_text_that_may_be_recovered(rt: HostRuntime) -> Result<(), Fail> {
     let alloc = rt.alloc();
     for calls in 0..=CALLS {
-        let mut host = empty_folder(alloc)?;
-        host.stop_after(calls);
+        let mut host = empty_folder(alloc, 0, calls)?;
         let life = live(alloc, &mut host)?;
         check_images(
             alloc,
@@ -148,9 +150,7 @@ fn each_fault_leaves_a_text_that_may_be_recovered(rt: HostRuntime) -> Result<(),
     let alloc = rt.alloc();
     for failing in 1..=CALLS {
         for calls in failing..=CALLS {
-            let mut host = empty_folder(alloc)?;
-            host.fail_call(alloc, failing)?;
-            host.stop_after(calls);
+            let mut host = empty_folder(alloc, failing, calls)?;
             let life = live(alloc, &mut host)?;
             check_images(alloc, &host, &life, calls > START, &[0, 6])?;
         }

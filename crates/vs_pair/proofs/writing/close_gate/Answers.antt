@@ -4,7 +4,7 @@ use Rattle.vs_pair.specs.Swap.{CloseStep, Closes}
 use Rattle.vs_pair.proofs.Acts.{acts_none, none_fails}
 use Rattle.vs_pair.proofs.Calls.{on_err_from}
 use Rattle.vs_pair.proofs.Gates.{not_closed, close_same, closes_same, close_acts, mark_closes}
-use Rattle.vs_pair.proofs.writing.close.Goals as goal
+use Rattle.vs_pair.proofs.writing.close_gate.Goals as goal
 
 pub returns-in-Closed-clause-acts : goal.returns-in-Closed-clause-acts
 returns-in-Closed-clause-acts g c =
