@@ -1,0 +1,5 @@
+pub mod Calls
+pub mod Copying
+pub mod Filling
+pub mod Frames
+pub mod Kept
