@@ -1,5 +1,5 @@
 -- Writing over a file in its place: until the copy stands under the backup name the file has the old bytes, and then the copy has.
-use Rattle.std.proofs.Common.{◌≡◌, ◌≢◌, ◌⊎◌, ◌×◌, inl, inr, ℕ, List, [], ◌∷◌, Option, Some, None, length, OnOk, OnErr, IfOk, Result, Ok, Err, refl, sym, ◌∙◌, ap, subst}
+use Rattle.std.proofs.Common.{◌≡◌, ◌≢◌, ◌⊎◌, inl, inr, ℕ, List, [], ◌∷◌, Option, Some, None, length, OnOk, OnErr, IfOk, Result, Ok, Err, refl, sym, ◌∙◌, ap, subst, ◌≤◌, arith}
 use Rattle.std.specs.Prelude.{IsErrOf}
 use Rattle.vs_host.specs.File.{File, Cuts, cut_to}
 use Rattle.vs_host.specs.Disk.{Disk, Name, names_of, content_in, ChangesFile, IsFolder}
@@ -9,11 +9,12 @@ use Rattle.vs_host.specs.declared.traits.Failed.{Failed}
 use Rattle.vs_disk.specs.Images.{Changes, HoldsBytes, IsSynced, MayLeave}
 use Rattle.vs_disk.specs.Runs.{Runs}
 use Rattle.vs_disk.proofs.Steps.{same_at, file_as}
-use Rattle.vs_disk.proofs.Images.{cut_keeps_images}
+use Rattle.vs_disk.proofs.Images.{cut_keeps_images, read_image}
 use Rattle.vs_disk.proofs.Runs.{one_call, runs_as, runs_then, frames}
 use Rattle.vs_disk.proofs.Contents.{file_of_content, content_of_file, holds_synced}
 use Rattle.vs_backup.specs.Works.{ChangesOne, Fills, IsAlone, Spares, one_name, two_names, three_names}
 use Rattle.vs_backup.specs.Writing.{IsKept, IsSettled, StartsOver, WritesOver, MayLackNew, MayLackOld, OldIn, stopped}
+use Rattle.vs_backup.specs.declared.errors.Place.{Place}
 use Rattle.vs_backup.specs.declared.errors.Place.TheVariants as place
 use Rattle.vs_backup.specs.declared.errors.Stop.{Stop}
 use Rattle.vs_backup.specs.declared.errors.Stop.TheVariants as stop
@@ -86,12 +87,13 @@ module _ (name backup temporary : Name) (old : List ℕ) (s0 s1 : Scene) (differ
       → IsTold Cut (name ∷ []) result s1 s2 → OnOk result (ChangesFile name (Cuts 0) s1.folder s2.folder) → OnErr result (s2.folder ≡ s1.folder)
       → StartsOver (three_names name temporary backup) name backup old s0 s2 result
   cut_over (Ok x) s2 frame apart settled folder framed told ok err =
-      let runs_cut : Runs (ChangesOne name) s1 s2 = one_call (ChangesOne name) Cut (name ∷ []) (Ok {E = Failed} x) s1 s2 framed told (changes_by name (Cuts 0) s1.folder s2.folder ok) in
+      let answer : Result (Unit {0}) Failed = Ok x in
+      let runs_cut : Runs (ChangesOne name) s1 s2 = one_call (ChangesOne name) Cut (name ∷ []) answer s1 s2 framed told (changes_by name (Cuts 0) s1.folder s2.folder ok) in
       let keeps : Fills name s1.folder s2.folder = record {
         synced = ok.synced;
         pending = ok.pending;
         others = ok.others;
-        this = λ number leads. cut_keeps_images 0 (s1.folder.files number) (s2.folder.files number) (zero_le (length (s1.folder.files number).bytes)) (ok.this number leads);
+        this = λ number leads. cut_keeps_images 0 (s1.folder.files number) (s2.folder.files number) (omega arith) (ok.this number leads);
       } in
       record {
         spares = spares_on (three_names name temporary backup) s0 s1 s2 frame copy_spares (over_spares name backup temporary old s1 s2 apart settled folder old copy_content runs_cut);
@@ -103,12 +105,92 @@ module _ (name backup temporary : Name) (old : List ℕ) (s0 s1 : Scene) (differ
       }
   cut_over (Err e) s2 frame apart settled folder framed told ok err =
       let on = three_names name temporary backup in
+      let answer : Result (Unit {0}) Failed = Err e in
       record {
-        spares = spares_on on s0 s1 s2 frame copy_spares (one_call (Spares on) Cut (name ∷ []) (Err {T = Unit {0}} e) s1 s2 framed told (spares_same on s1.folder s2.folder err));
+        spares = spares_on on s0 s1 s2 frame copy_spares (one_call (Spares on) Cut (name ∷ []) answer s1 s2 framed told (spares_same on s1.folder s2.folder err));
         kept = kept_on (IsKept name backup old) s0 s1 s2 frame copy_kept
-            (one_call (λ a b. IsKept name backup old b) Cut (name ∷ []) (Err {T = Unit {0}} e) s1 s2 framed told (subst (λ (d : Disk). IsKept name backup old d) (sym err) (kept_by_name name backup old s1.folder copy_holds)));
+            (one_call (λ a b. IsKept name backup old b) Cut (name ∷ []) answer s1 s2 framed told (subst (λ (d : Disk). IsKept name backup old d) (sym err) (kept_by_name name backup old s1.folder copy_holds)));
         backed = tt;
         empty = tt;
         may_leave = tt;
         not_done = subst (λ (d : Disk). HoldsBytes name old d) (sym err) copy_holds;
       }
+
+-- ---- the whole
+pub never_file : (why : Stop) {T : Type 0} → OldIn {T = T} place.File (Err (stopped why place.Backup)) → ⊥
+never_file stop.Failed (inl is) = cc
+never_file stop.Failed (inr is) = cc
+never_file stop.NoMemory (inl is) = cc
+never_file stop.NoMemory (inr is) = cc
+
+pub never_nowhere : (why : Stop) {T : Type 0} → OldIn {T = T} place.Nowhere (Err (stopped why place.Backup)) → ⊥
+never_nowhere stop.Failed (inl is) = cc
+never_nowhere stop.Failed (inr is) = cc
+never_nowhere stop.NoMemory (inl is) = cc
+never_nowhere stop.NoMemory (inr is) = cc
+
+pub never_no_name : (why : Stop) {T : Type 0} → IsErrOf {T = T} (Err (stopped why place.Backup)) error.NoBackupName → ⊥
+never_no_name stop.Failed is = cc
+never_no_name stop.NoMemory is = cc
+
+never_refused : (size : ℕ) (at : Place) → OldIn at (Ok size) → ⊥
+never_refused size at (inl is) = cc
+never_refused size at (inr is) = cc
+
+only_file : (at : Place) → (at ≡ place.File → ⊥) → OldIn {T = ℕ} at (Err (error.Failed place.File)) → ⊥
+only_file at other (inl is) = let same : place.File ≡ at = cc in other (sym same)
+only_file at other (inr is) = cc
+
+-- what each image has, a stop may leave
+may_leave_held : (name : Name) (bytes : List ℕ) (disk : Disk) → HoldsBytes name bytes disk → MayLeave disk name (Some bytes)
+may_leave_held name bytes disk holds =
+    let here = holds 0 in
+    let now : content_in disk name ≡ Some bytes = content_of_file disk name bytes (record { number = here.number; leads = here.leads; has = here.leaves (disk.files here.number).bytes (read_image (disk.files here.number)) }) in
+    may_leave_now name bytes disk now
+
+-- after the file was emptied, the text was written, or not
+module _ (name backup temporary : Name) (old new : List ℕ) (s0 s1 s2 : Scene) (frame : ChangesFolder s0 s1) (differ : backup ≡ name → ⊥) (folder : IsFolder s1.folder)
+    (over : StartsOver (three_names name temporary backup) name backup old s0 s1 (Ok tt)) (runs : Runs (ChangesOne name) s1 s2) where
+  all_spares : Runs (Spares (three_names name temporary backup)) s0 s2
+  all_spares = spares_on (three_names name temporary backup) s0 s1 s2 frame over.spares (over_spares name backup temporary old s1 s2 differ over.backed folder [] over.empty runs)
+
+  all_kept : Runs (λ a b. IsKept name backup old b) s0 s2
+  all_kept = kept_on (IsKept name backup old) s0 s1 s2 frame over.kept (over_kept name backup temporary old s1 s2 differ over.backed folder [] over.empty runs)
+
+  backed : IsSettled backup old s2.folder
+  backed = over_backed name backup temporary old s1 s2 differ over.backed folder [] over.empty runs
+
+  pub copying_done : (size : ℕ) → size ≡ length new → IsSynced name new s2.folder → WritesOver (three_names name temporary backup) name backup old new s0 s2 (Ok size)
+  copying_done size is synced = record {
+    spares = all_spares;
+    kept = all_kept;
+    written = (is, holds_synced name new s2.folder backed.pending synced, settled_holds backup old s2.folder backed);
+    not_written = tt;
+    in_file = λ refused. absurd (never_refused size place.File refused);
+    in_backup = λ refused. absurd (never_refused size place.Backup refused);
+    somewhere = (λ refused. never_refused size place.Nowhere refused, λ is. cc);
+  }
+
+  pub copying_stopped : (why : Stop) → Fills name s1.folder s2.folder → WritesOver (three_names name temporary backup) name backup old new s0 s2 (Err (stopped why place.Backup))
+  copying_stopped why fills = record {
+    spares = all_spares;
+    kept = all_kept;
+    written = tt;
+    not_written = inl (may_leave_filled name old s1.folder s2.folder fills over.may_leave);
+    in_file = λ refused. absurd (never_file why refused);
+    in_backup = λ refused some. (Some [], may_leave_filled name [] s1.folder s2.folder fills (may_leave_now name [] s1.folder over.empty), λ same. some (let is : [] ≡ old = cc in sym is));
+    somewhere = (λ refused. never_nowhere why refused, λ is. never_no_name why is);
+  }
+
+-- the file is as it was
+pub copying_not_begun : (on : Name → Type 0) (name backup : Name) (old new : List ℕ) (s0 s1 : Scene) → Runs (Spares on) s0 s1 → Runs (λ a b. IsKept name backup old b) s0 s1 → HoldsBytes name old s1.folder
+    → WritesOver on name backup old new s0 s1 (Err (error.Failed place.File))
+copying_not_begun on name backup old new s0 s1 spares kept holds = record {
+  spares = spares;
+  kept = kept;
+  written = tt;
+  not_written = inl (may_leave_held name old s1.folder holds);
+  in_file = λ refused. holds;
+  in_backup = λ refused. absurd (only_file place.Backup (λ is. cc) refused);
+  somewhere = (λ refused. only_file place.Nowhere (λ is. cc) refused, λ is. cc);
+}
