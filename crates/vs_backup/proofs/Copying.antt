@@ -133,7 +133,7 @@ pub never_no_name : (why : Stop) {T : Type 0} → IsErrOf {T = T} (Err (stopped 
 never_no_name stop.Failed is = cc
 never_no_name stop.NoMemory is = cc
 
-never_refused : (size : ℕ) (at : Place) → OldIn at (Ok size) → ⊥
+pub never_refused : (size : ℕ) (at : Place) → OldIn at (Ok size) → ⊥
 never_refused size at (inl is) = cc
 never_refused size at (inr is) = cc
 

@@ -3,3 +3,4 @@ pub mod Copying
 pub mod Filling
 pub mod Frames
 pub mod Kept
+pub mod Moving

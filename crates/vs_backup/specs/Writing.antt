@@ -5,7 +5,7 @@ use Rattle.vs_host.specs.Disk.{Disk, Name, IsImage, names_of, names_at, content_
 use Rattle.vs_host.specs.World.{Scene}
 use Rattle.vs_disk.specs.Images.{Holds, HoldsBytes, IsSynced, MayLeave}
 use Rattle.vs_disk.specs.Runs.{Runs}
-use Rattle.vs_backup.specs.Works.{Spares}
+use Rattle.vs_backup.specs.Works.{Spares, one_name}
 use Rattle.vs_host.specs.declared.traits.Failed.{Failed}
 use Rattle.vs_backup.specs.declared.errors.Place.{Place}
 use Rattle.vs_backup.specs.declared.errors.Place.TheVariants.{File, Backup, Nowhere}
@@ -82,3 +82,11 @@ pub record WritesOver (on : Name → Type 0) (name backup : Name) (old new : Lis
   pub in_file : OldIn File result → HoldsBytes name old after.folder
   pub in_backup : OldIn Backup result → (old ≡ [] → ⊥) → MayLackOld name old after.folder
   pub somewhere : (OldIn Nowhere result → ⊥) × (IsErrOf result error.NoBackupName → ⊥)
+
+-- From a file that was renamed to the backup name, until the name is made anew: other names are left alone, and at each moment,
+-- in each image, the name or the backup name leads to the old file.
+pub record WritesAnew (name backup : Name) (number : ℕ) (old new : List ℕ) (before after : Scene) (result : Result ℕ Stop) : Type 0 where
+  pub spares : Runs (Spares (one_name name)) before after
+  pub guarded : Runs (λ a b. IsGuarded name backup number old b) before after
+  pub written : IfOk result (λ size. (size ≡ length new) × IsSettled name new after.folder)
+  pub absent : OnErr result (MayLeave after.folder name None)

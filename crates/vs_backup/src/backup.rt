@@ -1,14 +1,15 @@
 // Writing over a file that is there, with a backup.
-ghost use Rattle.std.specs.Prelude.{◌≡◌, ◌≢◌, ℕ, List, length, IsErr, OnErr, OnOk, IsErrOf, IsTrue, Some, IsSome};
+ghost use Rattle.std.specs.Prelude.{◌≡◌, ◌≢◌, ℕ, List, length, IsErr, OnErr, OnOk, IsErrOf, IsTrue, Some, None, IsSome};
 ghost use Rattle.vs_faults.specs.Faults.{HasCause, HasRisen};
 ghost use Rattle.vs_text.specs.Text.{file_of};
+ghost use Rattle.vs_host.specs.Disk.{Name};
 ghost use Rattle.vs_host.specs.World.{content_of, ChangesFolder};
 ghost use Rattle.vs_disk.specs.Runs.{Runs};
 ghost use Rattle.vs_backup.specs.Works.{Spares, three_names, two_names};
-ghost use Rattle.vs_backup.specs.Writing.{IsFailed, IsSettled, StartsOver, WritesOver};
+ghost use Rattle.vs_backup.specs.Writing.{IsFailed, IsGuarded, IsSettled, StartsOver, WritesAnew, WritesOver};
 
 use crate::Desk;
-use crate::errors::{Place, WriteErr};
+use crate::errors::{Place, Stop, WriteErr};
 use crate::files::{make_anew, take_name};
 use crate::fill::{PIECE, fill_copy, fill_text};
 use std::alloc::Global;
@@ -98,6 +99,61 @@ fn write_copying<D: Desk>(
 {
     match start_over(desk, name, backup, temporary, piece) {
         Ok(()) => match fill_text(alloc, desk, name, piece) {
+            Ok(size) => Ok(size),
+            Err(stop) => Err(stop.with(Place::Backup)),
+        },
+        Err(_) => Err(WriteErr::Failed {
+            old_in: Place::File,
+        }),
+    }
+}
+
+/// Makes the file, writes the text into it, and syncs the file and the names. Gives the number of bytes.
+fn write_anew<D: Desk>(
+    alloc: Global,
+    desk: &mut D,
+    name: &str,
+    piece: &mut Vec<u8>,
+) -> Result<u64, Stop>
+    requires valid { D.valid desk.old }
+    requires apart { D.reads desk.old name.now → ⊥ }
+    requires free { IsTrue (D.tells).folder → content_of (D.scene desk.old) name.now ≡ None }
+    ensures anew { IsTrue (D.tells).folder → (backup : Name) (number : ℕ) (old : List ℕ) → (backup ≡ name.now → ⊥)
+        → IsGuarded name.now backup number old (D.scene desk.old).folder → (text : List (List ℕ)) → D.has_text desk.old text
+        → WritesAnew name.now backup number old (file_of text) (D.scene desk.old) (D.scene desk.new) result }
+    ensures cause { HasCause (D.scene desk.old).folder_faults (D.scene desk.new).folder_faults (IsErrOf result Stop.Failed) }
+    ensures frame { ChangesFolder (D.scene desk.old) (D.scene desk.new) }
+    ensures valid { D.valid desk.new }
+    ensures stays { D.stays desk.old desk.new }
+{
+    desk.create(name)?;
+    let size = fill_text(alloc, desk, name, piece)?;
+    desk.sync_names()?;
+    Ok(size)
+}
+
+/// Writes the file anew, after it was renamed to the backup.
+fn write_moving<D: Desk>(
+    alloc: Global,
+    desk: &mut D,
+    name: &str,
+    backup: &str,
+    piece: &mut Vec<u8>,
+) -> Result<u64, WriteErr>
+    requires valid { D.valid desk.old }
+    requires apart { D.reads desk.old name.now → ⊥ }
+    requires apart_backup { D.reads desk.old backup.now → ⊥ }
+    requires differ_name { name.now ≢ backup.now }
+    requires settled { IsTrue (D.tells).folder → (old : List ℕ) × IsSettled name.now old (D.scene desk.old).folder }
+    ensures over { IsTrue (D.tells).folder → (old : List ℕ) → IsSettled name.now old (D.scene desk.old).folder → (text : List (List ℕ)) → D.has_text desk.old text
+        → WritesOver (two_names name.now backup.now) name.now backup.now old (file_of text) (D.scene desk.old) (D.scene desk.new) result }
+    ensures cause { HasCause (D.scene desk.old).folder_faults (D.scene desk.new).folder_faults (IsFailed result) }
+    ensures frame { ChangesFolder (D.scene desk.old) (D.scene desk.new) }
+    ensures valid { D.valid desk.new }
+    ensures stays { D.stays desk.old desk.new }
+{
+    match desk.rename(name, backup) {
+        Ok(()) => match write_anew(alloc, desk, name, piece) {
             Ok(size) => Ok(size),
             Err(stop) => Err(stop.with(Place::Backup)),
         },
