@@ -137,7 +137,7 @@ pub never_refused : (size : ℕ) (at : Place) → OldIn at (Ok size) → ⊥
 never_refused size at (inl is) = cc
 never_refused size at (inr is) = cc
 
-only_file : (at : Place) → (at ≡ place.File → ⊥) → OldIn {T = ℕ} at (Err (error.Failed place.File)) → ⊥
+pub only_file : (at : Place) → (at ≡ place.File → ⊥) → OldIn {T = ℕ} at (Err (error.Failed place.File)) → ⊥
 only_file at other (inl is) = let same : place.File ≡ at = cc in other (sym same)
 only_file at other (inr is) = cc
 

@@ -1,3 +1,4 @@
+pub mod Backed
 pub mod Calls
 pub mod Copying
 pub mod Filling

@@ -1,11 +1,12 @@
 -- What a write promises of the file and its backup.
-use Rattle.std.specs.Prelude.{◌≡◌, ◌⊎◌, ℕ, List, [], length, Option, Some, None, IsSomeAnd, IfOk, OnOk, OnErr, IsErrOf, Result}
+use Rattle.std.specs.Prelude.{◌≡◌, ◌⊎◌, ℕ, List, [], length, Option, Some, None, IsSomeAnd, IfOk, OnOk, OnErr, IsErr, IsErrOf, Result, Bool, true, false}
+use Rattle.vs_faults.specs.Faults.{HasRisen}
 use Rattle.vs_host.specs.File.{Leaves}
 use Rattle.vs_host.specs.Disk.{Disk, Name, IsImage, names_of, names_at, content_in}
 use Rattle.vs_host.specs.World.{Scene}
 use Rattle.vs_disk.specs.Images.{Holds, HoldsBytes, IsSynced, MayLeave}
 use Rattle.vs_disk.specs.Runs.{Runs}
-use Rattle.vs_backup.specs.Works.{Spares, one_name}
+use Rattle.vs_backup.specs.Works.{Narrowed, Spares, one_name, two_names, three_names}
 use Rattle.vs_host.specs.declared.traits.Failed.{Failed}
 use Rattle.vs_backup.specs.declared.errors.Place.{Place}
 use Rattle.vs_backup.specs.declared.errors.Place.TheVariants.{File, Backup, Nowhere}
@@ -33,6 +34,11 @@ IsFailed result = (place : Place) × IsErrOf result (error.Failed place)
 -- the write was refused with this place of the old bytes
 abbrev pub OldIn : {T : Type 0} → Place → Result T WriteErr → Type 0
 OldIn place result = IsErrOf result (error.Failed place) ⊎ IsErrOf result (error.NoMemory place)
+
+-- the names on which a write with a backup works, by whether it copies
+abbrev pub backed_names : Bool → Name → Name → Name → Name → Type 0
+backed_names true name temporary backup = three_names name temporary backup
+backed_names false name temporary backup = two_names name backup
 
 -- in each image the name or the backup name has the old bytes
 abbrev pub IsKept : Name → Name → List ℕ → Disk → Type 0
@@ -90,3 +96,24 @@ pub record WritesAnew (name backup : Name) (number : ℕ) (old new : List ℕ) (
   pub guarded : Runs (λ a b. IsGuarded name backup number old b) before after
   pub written : IfOk result (λ size. (size ≡ length new) × IsSettled name new after.folder)
   pub absent : OnErr result (MayLeave after.folder name None)
+
+-- After the two syncs at the beginning, at each moment, in each image, the file or its backup is whole, and other names are left
+-- alone; until then nothing has changed.
+pub record BeginsWhole (on : Name → Type 0) (name backup : Name) (old new : List ℕ) (before after : Scene) : Type 0 where
+  pub begun : Scene
+  pub looked : Runs Narrowed before begun
+  pub settled : IsSettled name old begun.folder
+  pub whole : Runs (λ a b. IsWhole name backup old new b) begun after
+  pub spares : Runs (Spares on) begun after
+
+-- A write over a file that is there, with this backup, which is kept or removed.
+pub record WritesBacked (on : Name → Type 0) (keep : Bool) (name backup : Name) (old new : List ℕ) (before after : Scene) (result : Result ℕ WriteErr) : Type 0 where
+  pub moments : BeginsWhole on name backup old new before after ⊎ (Runs Narrowed before after × IsErr result)
+  pub written : IfOk result (λ size. (size ≡ length new) × HoldsBytes name new after.folder)
+  pub kept : keep ≡ true → OnOk result (HoldsBytes backup old after.folder)
+  pub gone : keep ≡ false → OnOk result ((HasRisen before.folder_faults after.folder_faults → ⊥) → (lost : ℕ) → names_at after.folder lost backup ≡ None)
+  pub not_written : OnErr result (MayLackNew name old after.folder)
+  -- where the old bytes are said to stand
+  pub in_file : OldIn File result → Runs Narrowed before after ⊎ HoldsBytes name old after.folder
+  pub in_backup : OldIn Backup result → IsKept name backup old after.folder × ((old ≡ [] → ⊥) → MayLackOld name old after.folder)
+  pub somewhere : (OldIn Nowhere result → ⊥) × (IsErrOf result error.NoBackupName → ⊥)

@@ -6,11 +6,11 @@ ghost use Rattle.vs_host.specs.Disk.{Name};
 ghost use Rattle.vs_host.specs.World.{content_of, ChangesFolder};
 ghost use Rattle.vs_disk.specs.Runs.{Runs};
 ghost use Rattle.vs_backup.specs.Works.{Spares, three_names, two_names};
-ghost use Rattle.vs_backup.specs.Writing.{IsFailed, IsGuarded, IsSettled, StartsOver, WritesAnew, WritesOver};
+ghost use Rattle.vs_backup.specs.Writing.{IsFailed, IsGuarded, IsSettled, StartsOver, WritesAnew, WritesBacked, WritesOver, backed_names};
 
 use crate::Desk;
 use crate::errors::{Place, Stop, WriteErr};
-use crate::files::{make_anew, take_name};
+use crate::files::{drop_name, make_anew, settle, take_name};
 use crate::fill::{PIECE, fill_copy, fill_text};
 use std::alloc::Global;
 use vs_host::Failed;
@@ -157,6 +157,109 @@ fn write_moving<D: Desk>(
             Ok(size) => Ok(size),
             Err(stop) => Err(stop.with(Place::Backup)),
         },
+        Err(_) => Err(WriteErr::Failed {
+            old_in: Place::File,
+        }),
+    }
+}
+
+/// Writes over a file that is settled, with a backup that stays.
+fn write_over<D: Desk>(
+    alloc: Global,
+    desk: &mut D,
+    name: &str,
+    backup: &str,
+    temporary: &str,
+    copying: bool,
+    piece: &mut Vec<u8>,
+) -> Result<u64, WriteErr>
+    requires valid { D.valid desk.old }
+    requires apart { D.reads desk.old name.now → ⊥ }
+    requires apart_backup { D.reads desk.old backup.now → ⊥ }
+    requires apart_temporary { D.reads desk.old temporary.now → ⊥ }
+    requires differ { name.now ≢ temporary.now }
+    requires differ_backup { temporary.now ≢ backup.now }
+    requires differ_name { name.now ≢ backup.now }
+    requires buffer { length piece.old.items ≡ PIECE }
+    requires settled { IsTrue (D.tells).folder → (old : List ℕ) × IsSettled name.now old (D.scene desk.old).folder }
+    ensures over { IsTrue (D.tells).folder → (old : List ℕ) → IsSettled name.now old (D.scene desk.old).folder → (text : List (List ℕ)) → D.has_text desk.old text
+        → WritesOver (backed_names copying name.now temporary.now backup.now) name.now backup.now old (file_of text) (D.scene desk.old) (D.scene desk.new) result }
+    ensures cause { HasCause (D.scene desk.old).folder_faults (D.scene desk.new).folder_faults (IsFailed result) }
+    ensures frame { ChangesFolder (D.scene desk.old) (D.scene desk.new) }
+    ensures valid { D.valid desk.new }
+    ensures stays { D.stays desk.old desk.new }
+{
+    if copying {
+        return write_copying(alloc, desk, name, backup, temporary, piece);
+    }
+    write_moving(alloc, desk, name, backup, piece)
+}
+
+/// Writes over a file that is settled, with a backup that is kept or removed.
+fn write_backed<D: Desk>(
+    alloc: Global,
+    desk: &mut D,
+    name: &str,
+    backup: &str,
+    temporary: &str,
+    copying: bool,
+    keep: bool,
+    piece: &mut Vec<u8>,
+) -> Result<u64, WriteErr>
+    requires valid { D.valid desk.old }
+    requires apart { D.reads desk.old name.now → ⊥ }
+    requires apart_backup { D.reads desk.old backup.now → ⊥ }
+    requires apart_temporary { D.reads desk.old temporary.now → ⊥ }
+    requires differ { name.now ≢ temporary.now }
+    requires differ_backup { temporary.now ≢ backup.now }
+    requires differ_name { name.now ≢ backup.now }
+    requires buffer { length piece.old.items ≡ PIECE }
+    requires settled { IsTrue (D.tells).folder → (old : List ℕ) × IsSettled name.now old (D.scene desk.old).folder }
+    ensures backed { IsTrue (D.tells).folder → (old : List ℕ) → IsSettled name.now old (D.scene desk.old).folder → (text : List (List ℕ)) → D.has_text desk.old text
+        → WritesBacked (backed_names copying name.now temporary.now backup.now) keep name.now backup.now old (file_of text) (D.scene desk.old) (D.scene desk.new) result }
+    ensures cause { HasCause (D.scene desk.old).folder_faults (D.scene desk.new).folder_faults (IsFailed result) }
+    ensures frame { ChangesFolder (D.scene desk.old) (D.scene desk.new) }
+    ensures valid { D.valid desk.new }
+    ensures stays { D.stays desk.old desk.new }
+{
+    let size = write_over(alloc, desk, name, backup, temporary, copying, piece)?;
+    if keep {
+        return Ok(size);
+    }
+    // The new bytes stand under the name, so a backup that stays is no reason to refuse the write.
+    let _ = drop_name(desk, backup);
+    Ok(size)
+}
+
+/// Writes over a file that is there, with a backup.
+pub(crate) fn write_with_backup<D: Desk>(
+    alloc: Global,
+    desk: &mut D,
+    name: &str,
+    backup: &str,
+    temporary: &str,
+    copying: bool,
+    keep: bool,
+    piece: &mut Vec<u8>,
+) -> Result<u64, WriteErr>
+    requires valid { D.valid desk.old }
+    requires apart { D.reads desk.old name.now → ⊥ }
+    requires apart_backup { D.reads desk.old backup.now → ⊥ }
+    requires apart_temporary { D.reads desk.old temporary.now → ⊥ }
+    requires differ { name.now ≢ temporary.now }
+    requires differ_backup { temporary.now ≢ backup.now }
+    requires differ_name { name.now ≢ backup.now }
+    requires buffer { length piece.old.items ≡ PIECE }
+    requires there { IsTrue (D.tells).folder → IsSome (content_of (D.scene desk.old) name.now) }
+    ensures backed { IsTrue (D.tells).folder → (old : List ℕ) → content_of (D.scene desk.old) name.now ≡ Some old → (text : List (List ℕ)) → D.has_text desk.old text
+        → WritesBacked (backed_names copying name.now temporary.now backup.now) keep name.now backup.now old (file_of text) (D.scene desk.old) (D.scene desk.new) result }
+    ensures cause { HasCause (D.scene desk.old).folder_faults (D.scene desk.new).folder_faults (IsFailed result) }
+    ensures frame { ChangesFolder (D.scene desk.old) (D.scene desk.new) }
+    ensures valid { D.valid desk.new }
+    ensures stays { D.stays desk.old desk.new }
+{
+    match settle(desk, name) {
+        Ok(()) => write_backed(alloc, desk, name, backup, temporary, copying, keep, piece),
         Err(_) => Err(WriteErr::Failed {
             old_in: Place::File,
         }),
