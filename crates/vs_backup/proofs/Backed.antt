@@ -49,7 +49,7 @@ risen_before : (a b c : ℕ) → a ≤ b → HasRisen b c → HasRisen a c
 risen_before a b c le (inl lt) = inl (omega arith)
 risen_before a b c le (inr full) = inr full
 
-narrowed_content : (name : Name) (a b : Disk) → Narrowed a b → content_in b name ≡ content_in a name
+pub narrowed_content : (name : Name) (a b : Disk) → Narrowed a b → content_in b name ≡ content_in a name
 narrowed_content name a b narrowed = ap (λ (at : Option ℕ). read_under b at) (narrowed.now name) ∙ same (names_of a name)
   where
     same : (at : Option ℕ) → read_under b at ≡ read_under a at

@@ -1,6 +1,6 @@
 -- Each call leaves alone the names that it does not name: the names of files are changed for these alone, and no other name leads
 -- to a file that is written.
-use Rattle.std.proofs.Common.{◌≡◌, ◌⊎◌, inl, inr, ℕ, zero, suc, Bool, true, false, cond, List, [], Option, Some, None, OnOk, OnErr, Result, Ok, Err, refl, sym, ◌∙◌, ap, subst}
+use Rattle.std.proofs.Common.{◌≡◌, ◌⊎◌, inl, inr, ℕ, zero, suc, Bool, true, false, cond, List, [], Option, Some, None, IfOk, OnOk, OnErr, Result, Ok, Err, refl, sym, ◌∙◌, ap, subst}
 use Rattle.std.specs.Str.{bytes_eq}
 use Rattle.std.proofs.lemmas.Slice.Eq.{bytes_eq-Decides}
 use Rattle.std.proofs.lemmas.Bool.Decides.{eqb_tells}
@@ -261,3 +261,12 @@ pub absent_before : (from to : Name) (old new : Disk) → ChangesNames (Renames 
 absent_before from to old new renames none =
     let leads = at_name (names_at new 1) (names_at old 0) to (older_names (Renames from to) old new renames.synced renames.pending 0) ∙ leads_nowhere old to none in
     (1, subst (λ (at : Option ℕ). IsImageOf new at None) (sym leads) refl)
+
+-- what a call says that is handed on, with what is known
+pub ok_with : {T E : Type 0} (result : Result T E) (A B : T → Type 0) → ((v : T) → A v → B v) → IfOk result A → IfOk result B
+ok_with (Ok v) A B leads is = leads v is
+ok_with (Err e) A B leads is = tt
+
+pub err_with : {T E : Type 0} (result : Result T E) (A B : Type 0) → (A → B) → OnErr result A → OnErr result B
+err_with (Ok v) A B leads is = tt
+err_with (Err e) A B leads is = leads is

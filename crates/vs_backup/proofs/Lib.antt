@@ -5,3 +5,4 @@ pub mod Filling
 pub mod Frames
 pub mod Kept
 pub mod Moving
+pub mod Unbacked

@@ -4,7 +4,7 @@ use Rattle.vs_faults.specs.Faults.{HasRisen}
 use Rattle.vs_host.specs.File.{Leaves}
 use Rattle.vs_host.specs.Disk.{Disk, Name, IsImage, names_of, names_at, content_in}
 use Rattle.vs_host.specs.World.{Scene}
-use Rattle.vs_disk.specs.Images.{Holds, HoldsBytes, IsSynced, MayLeave}
+use Rattle.vs_disk.specs.Images.{Holds, HoldsBytes, IsSynced, MayLeave, Takes}
 use Rattle.vs_disk.specs.Runs.{Runs}
 use Rattle.vs_backup.specs.Works.{Narrowed, Spares, one_name, two_names, three_names}
 use Rattle.vs_host.specs.declared.traits.Failed.{Failed}
@@ -117,3 +117,18 @@ pub record WritesBacked (on : Name → Type 0) (keep : Bool) (name backup : Name
   pub in_file : OldIn File result → Runs Narrowed before after ⊎ HoldsBytes name old after.folder
   pub in_backup : OldIn Backup result → IsKept name backup old after.folder × ((old ≡ [] → ⊥) → MayLackOld name old after.folder)
   pub somewhere : (OldIn Nowhere result → ⊥) × (IsErrOf result error.NoBackupName → ⊥)
+
+-- A write over a file that is there, without a backup: before the two syncs nothing changes, and after them only the file.
+pub record WritesPlain (name : Name) (old new : List ℕ) (before after : Scene) (result : Result ℕ Stop) : Type 0 where
+  pub begun : Scene
+  pub looked : Runs Narrowed before begun
+  pub spares : Runs (Spares (one_name name)) begun after
+  pub written : IfOk result (λ size. (size ≡ length new) × HoldsBytes name new after.folder)
+  pub not_written : OnErr result (MayLackNew name old after.folder)
+
+-- A write of a file that was not there: at each moment a stop leaves the new bytes under the name, or what it left before.
+pub record WritesFresh (on : Name → Type 0) (name : Name) (new : List ℕ) (before after : Scene) (result : Result ℕ Stop) : Type 0 where
+  pub takes : Runs (Takes name new) before after
+  pub spares : Runs (Spares on) before after
+  pub written : IfOk result (λ size. (size ≡ length new) × HoldsBytes name new after.folder)
+  pub not_written : OnErr result (MayLeave after.folder name None)

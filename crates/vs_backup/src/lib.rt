@@ -7,6 +7,7 @@ mod errors;
 mod files;
 mod fill;
 mod options;
+mod plain;
 
 pub use desk::Desk;
 pub use errors::{Place, WriteErr};
