@@ -1,0 +1,57 @@
+use Rattle.std.proofs.Common.{◌≡◌, ◌∙◌, ◌+◌, ◌-◌, ◌*◌, ◌<◌, ◌≤◌, ◌++◌, [], ◌∷◌, ℕ, List, Bool, Option, Some, None, IsTrue, Result, OnOk, OnErr, length, take, drop, get_or, refl, sym, ap, subst, arith, append_assoc, append-nil, length-append, length-take}
+use Rattle.std.specs.Prelude.{IsSomeAnd}
+use Rattle.std.proofs.lemmas.Grind.{common_steps}
+use Rattle.std.proofs.lemmas.Result.{err_from_is_err_and}
+use Rattle.vs_text.specs.Text.{file_of}
+use Rattle.vs_text.specs.declared.TheConstants.{MAX_LINE_BYTES, MAX_LINES}
+use Rattle.vs_backup.specs.declared.fill.TheConstants.{PIECE}
+use Rattle.vs_host.specs.File.{File, Syncs, Writes, WritesSome}
+use Rattle.vs_host.specs.Disk.{Disk, Name, content_in, ChangesFile}
+use Rattle.vs_host.specs.Trace.{Wrote, Read, Synced, Measured}
+use Rattle.vs_host.specs.World.{Scene, ChangesFolder, content_of}
+use Rattle.std.proofs.lemmas.List.{take_all}
+use Rattle.vs_disk.specs.Images.{IsSynced, Changes}
+use Rattle.vs_disk.specs.Runs.{Runs, Looks}
+use Rattle.vs_disk.proofs.Runs.{one_call, one_look, starts, frames, reads_change, call_on}
+use Rattle.vs_disk.proofs.Contents.{synced_content, of_bytes, some_bytes, some_content}
+use Rattle.vs_backup.specs.Works.{Fills, ChangesOne, IsAlone, Spares, one_name}
+use Rattle.vs_backup.proofs.Frames.{either, ok_leads, err_leads, err_is, spares_file, alone_file, content_spared}
+use Rattle.vs_backup.proofs.Filling.{fills_none, fills_then, fills_same, fills_write, changes_none, changes_then, changes_same, changes_by, fills_changes, fills_on, changes_on, then_looks, looks_fills, looks_changes, sync_changes, size_is, size_at, bytes_at, written_end, file_more, piece_more}
+use Rattle.vs_backup.proofs.fill.fill_text.Goals as goal
+
+pub returns-in_err-sync-clause-runs : goal.returns-in_err-sync-clause-runs
+returns-in_err-sync-clause-runs g c told =
+    let s0 : Scene = g.D.World.scene c.args.desk.now in
+    let s1 : Scene = g.D.World.scene c.write_text.new.desk in
+    let s2 : Scene = g.D.World.scene c.sync.new.self in
+    sync_changes c.args.name.now (IsTrue g.D.World.tells.folder) c.sync.result s0 s1 s2 told c.write_text.ensures.frame (fills_changes c.args.name.now s0 s1 (c.write_text.ensures.runs told)) c.sync.ensures.ok c.sync.ensures.err c.sync.ensures.frame (c.sync.ensures.told told)
+
+pub returns-clause-runs : goal.returns-clause-runs
+returns-clause-runs g c told =
+    let s0 : Scene = g.D.World.scene c.args.desk.now in
+    let s1 : Scene = g.D.World.scene c.write_text.new.desk in
+    let s2 : Scene = g.D.World.scene c.sync.new.self in
+    sync_changes c.args.name.now (IsTrue g.D.World.tells.folder) c.sync.result s0 s1 s2 told c.write_text.ensures.frame (fills_changes c.args.name.now s0 s1 (c.write_text.ensures.runs told)) c.sync.ensures.ok c.sync.ensures.err c.sync.ensures.frame (c.sync.ensures.told told)
+
+pub returns-in_err-size-clause-runs : goal.returns-in_err-size-clause-runs
+returns-in_err-size-clause-runs g c told = fills_changes c.args.name.now (g.D.World.scene c.args.desk.now) (g.D.World.scene c.write_text.new.desk) (c.write_text.ensures.runs told)
+
+pub returns-in_err-size-clause-err : goal.returns-in_err-size-clause-err
+returns-in_err-size-clause-err g c =
+    err_is (IsTrue g.D.World.tells.folder → Fills c.args.name.now (g.D.World.scene c.args.desk.now).folder (g.D.World.scene c.write_text.new.desk).folder) c.from_residual.result
+    (λ told. (c.write_text.ensures.runs told).now)
+
+pub returns-in_err-sync-clause-err : goal.returns-in_err-sync-clause-err
+returns-in_err-sync-clause-err g c =
+    let s0 : Scene = g.D.World.scene c.args.desk.now in
+    let s1 : Scene = g.D.World.scene c.write_text.new.desk in
+    let s2 : Scene = g.D.World.scene c.sync.new.self in
+    err_is (IsTrue g.D.World.tells.folder → Fills c.args.name.now s0.folder s2.folder) c.from_residual-in_err-sync.result
+    (λ told. subst (λ (d : Disk). Fills c.args.name.now s0.folder d) (sym c.in_err-sync.ensures.err) (c.write_text.ensures.runs told).now)
+
+pub returns-clause-ok : goal.returns-clause-ok
+returns-clause-ok g c told text has =
+    let s1 : Scene = g.D.World.scene c.write_text.new.desk in
+    let s2 : Scene = g.D.World.scene c.sync.new.self in
+    let done = c.in_ok-size.ensures.ok told text has in
+    (done.0, synced_content c.args.name.now (file_of text) s1.folder s2.folder (c.in_ok-sync.ensures.ok told) done.1)

@@ -1,0 +1,14 @@
+//! Writing a file with the options of a backup: at every moment the file or its backup is whole.
+#![tactic(auto)]
+
+mod backup;
+mod desk;
+mod errors;
+mod files;
+mod fill;
+mod options;
+mod plain;
+
+pub use desk::Desk;
+pub use errors::{Place, WriteErr};
+pub use options::{CopyMode, WriteOptions};
