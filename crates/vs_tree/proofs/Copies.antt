@@ -1,10 +1,17 @@
 -- Neighbouring lines of a block are neighbouring lines of the tree, and their file forms join.
-use Rattle.std.proofs.Common.{◌≡◌, ℕ, zero, suc, ◌+◌, ◌-◌, ◌<◌, ◌≤◌, List, [], ◌∷◌, ◌++◌, length, get_or, take, drop, map, refl, sym, ap, ◌∙◌, arith, append-nil, append_assoc, length-drop}
+use Rattle.std.proofs.Common.{◌≡◌, ℕ, zero, suc, ◌+◌, ◌-◌, ◌<◌, ◌≤◌, List, [], ◌∷◌, ◌++◌, length, get_or, take, drop, map, Some, refl, sym, ap, ◌∙◌, arith, append-nil, append_assoc, length-drop}
 use Rattle.std.proofs.lemmas.Grind.{common_steps}
 use Rattle.std.proofs.lemmas.List.{map-append, take-map, drop-map, take-append-le, drop-append-le}
 use Rattle.std.proofs.lemmas.List.Concat.{flat_map-append}
 use Rattle.vs_text.specs.Text.{IsText, file_of, plain_line, stored, stored_line}
+use Rattle.vs_pages.specs.Maps.{Map}
+use Rattle.vs_tree_shape.specs.declared.entries.Entry.{Entry}
+use Rattle.vs_tree_shape.specs.declared.entries.Place.{Place}
+use Rattle.vs_tree_shape.specs.Paths.{HasLine, IsOnPath}
+use Rattle.vs_tree_shape.specs.Places.{IsPlace}
 use Rattle.vs_tree_shape.proofs.Splices.{drop_past}
+use Rattle.vs_tree_shape.proofs.Steps.{path_down, path_line}
+use Rattle.vs_tree_blocks.specs.Blocks.{tree_format, entries_at}
 use Rattle.vs_tree.specs.Reads.{file_of_stored}
 use Rattle.vs_tree.specs.Sames.{each_line}
 
@@ -60,3 +67,26 @@ run_stored [] at count is le =
 run_stored (line ∷ text) at count is le =
     let all : List (List ℕ) = line ∷ text in
     sym (take-map plain_line count (drop at (map stored_line all))) ∙ ap (λ xs. take count xs) (sym (drop-map plain_line at (map stored_line all)) ∙ ap (λ xs. drop at xs) (each_line all is))
+
+pub file_after : (lines : List (List ℕ)) (at i n : ℕ) (old now new : List ℕ) → now ≡ old ++ file_of_stored (take i (drop at lines)) → new ≡ now ++ file_of_stored (take n (drop (at + i) lines)) → new ≡ old ++ file_of_stored (take (i + n) (drop at lines))
+file_after lines at i n old now new now_is new_is =
+    let run : take (i + n) (drop at lines) ≡ take i (drop at lines) ++ take n (drop (at + i) lines) = take_more (drop at lines) i n ∙ ap (λ xs. take i (drop at lines) ++ take n xs) (sym (drop_more lines at i)) in
+    new_is ∙ ap (λ xs. xs ++ file_of_stored (take n (drop (at + i) lines))) now_is ∙ append_assoc old (file_of_stored (take i (drop at lines))) (file_of_stored (take n (drop (at + i) lines)))
+    ∙ ap (λ xs. old ++ xs) (sym (file_joined (take i (drop at lines)) (take n (drop (at + i) lines))) ∙ ap file_of_stored (sym run))
+
+-- a walk to a line leads to each line after it below the same block
+path_along : (m : Map) (top : Entry) (depth rest k : ℕ) (lines : List (List ℕ)) (at : ℕ) → rest + k < top.lines → IsOnPath tree_format m top depth rest lines at → IsOnPath tree_format m top depth (rest + k) lines (at + k)
+path_along m top depth rest k lines at lt path = record {
+  above = record { tree = path.above.tree; stands = path.above.stands; lines = path.above.lines; within = omega (arith, lt, path.above.lines); small = path.above.small };
+  before = path.before;
+  after = path.after;
+  cut = path.cut;
+  place = omega (arith, path.place);
+}
+
+-- a line below the last pointer block on a walk, in its data block
+pub line_below : (m : Map) (top : Entry) (depth rest k : ℕ) (lines : List (List ℕ)) (at : ℕ) (es : List Entry) (place : Place) → depth ≡ 1 → entries_at m top.block ≡ Some es → IsPlace es (rest + k) place → rest + k < top.lines → IsOnPath tree_format m top depth rest lines at
+    → HasLine tree_format m lines (at + k) place.entry place.rest
+line_below m top depth rest k lines at es place one reads is lt path =
+    path_line tree_format m place.entry (depth - 1) place.rest lines (at + k) (omega (arith, one))
+    (path_down tree_format m top depth (rest + k) lines (at + k) es place (λ none. omega (arith, one, none)) reads is (path_along m top depth rest k lines at lt path))

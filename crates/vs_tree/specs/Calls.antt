@@ -3,6 +3,8 @@ use Rattle.std.specs.Prelude.{◌≡◌, ℕ, ◌+◌, ◌*◌, IsTrue, List, Al
 use Rattle.vs_pages.specs.declared.pages.Pages.{Ghosts}
 use Rattle.vs_text.specs.Limits.{IsShort}
 use Rattle.vs_data.specs.Blocks.{lines_in}
+use Rattle.vs_tree_shape.specs.declared.entries.Place.{Place}
+use Rattle.vs_tree_shape.specs.Paths.{HasLine}
 use Rattle.vs_tree_shape.specs.Trees.{HasLines}
 use Rattle.vs_tree_shape.specs.Changes.{Takes, edited}
 use Rattle.vs_tree_shape.specs.Differs.{Differs}
@@ -26,6 +28,14 @@ StandsShort g s root = IsTrue g.tells → (lines : List (List ℕ)) × HasTree (
 -- what holds of the lines of the tree
 abbrev pub OfTree : {P : Type 0} → Ghosts P → P → Root → (List (List ℕ) → Type 0) → Type 0
 OfTree g s root Holds = IsTrue g.tells → (lines : List (List ℕ)) → HasTree (g.shows s).present root lines → Holds lines
+
+-- The pages have lines, none of them too long, and one of them stands at the place.
+abbrev pub StandsAt : {P : Type 0} → Ghosts P → P → Place → Type 0
+StandsAt g s place = IsTrue g.tells → (lines : List (List ℕ)) × (at : ℕ) × HasLine tree_format (g.shows s).present lines at place.entry place.rest × All IsShort lines
+
+-- what holds of lines of which one, at this number, stands at the place
+abbrev pub OfPlace : {P : Type 0} → Ghosts P → P → Place → (List (List ℕ) → ℕ → Type 0) → Type 0
+OfPlace g s place Holds = IsTrue g.tells → (lines : List (List ℕ)) (at : ℕ) → HasLine tree_format (g.shows s).present lines at place.entry place.rest → Holds lines at
 
 -- what holds of the text with these numbers
 abbrev pub OfText : {P : Type 0} → Ghosts P → P → Extent → (List (List ℕ) → Type 0) → Type 0

@@ -14,4 +14,4 @@ use runs::exchange_lines;
 pub use texts::Extent;
 use texts::splice_text;
 pub use tree::{LineTree, TreeStore};
-use walk::{Root, find_line, load_stored};
+use walk::{Root, load_stored, walk_down};

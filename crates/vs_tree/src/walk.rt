@@ -1,8 +1,8 @@
 // The way from block 1 to a line.
-ghost use Rattle.std.specs.Prelude.{◌≡◌, ◌≤◌, ◌<◌, ◌^◌, [], IsErrOf, IfOk, OnOk, get_or};
+ghost use Rattle.std.specs.Prelude.{◌≡◌, ◌≤◌, ◌<◌, ◌-◌, ◌^◌, [], IsErrOf, IfOk, OnOk, get_or};
 ghost use Rattle.vs_faults.specs.Faults.{HasCause};
 ghost use Rattle.vs_pages.specs.Calls.{OnlyReads};
-ghost use Rattle.vs_tree.specs.Reads.{IsFound};
+ghost use Rattle.vs_tree.specs.Reads.{IsAbove, IsFound};
 ghost use Rattle.vs_tree.specs.Calls.{OfTree, StandsTree};
 
 use std::alloc::Global;
@@ -39,13 +39,41 @@ pub struct Found {
     pub rest: u64,
 }
 
-/// Finds the data block of the line of the tree at a place, counted from 0.
-pub fn find_line<P: Pages>(
+/// Walks from block 1 so many levels down towards the line of the tree at a place, counted from 0.
+pub fn walk_down<P: Pages>(
     alloc: Global,
     pages: &mut P,
     root: Root,
     at: u64,
+    levels: u64,
 ) -> Result<Found, PageErr>
+    requires valid { P.valid pages.old }
+    requires within { at < root.lines }
+    requires small { root.lines < 2 ^ 62 }
+    requires levels { levels ≤ root.height }
+    requires there { StandsTree P.Pages pages.old root }
+    ensures found { IfOk result (λ found. OfTree P.Pages pages.old root (λ lines. IsAbove (P.shows pages.old).present found (root.height - levels) lines at)) }
+    ensures within { IfOk result (λ found. found.rest < found.entry.lines) }
+    ensures kept { OnlyReads P.Pages pages.old pages.new }
+    ensures cause { HasCause (P.shows pages.old).faults (P.shows pages.new).faults (IsErrOf result PageErr.Failed) }
+{
+    let mut found = Found {
+        entry: root.entry(),
+        rest: at,
+    };
+    'walk: for _level in 0..levels {
+        let entries = load_entries(alloc, pages, found.entry)?;
+        let place = find_place(&entries, found.rest);
+        found = Found {
+            entry: place.entry,
+            rest: place.rest,
+        };
+    }
+    Ok(found)
+}
+
+// Finds the data block of the line of the tree at a place, counted from 0.
+fn find_line<P: Pages>(alloc: Global, pages: &mut P, root: Root, at: u64) -> Result<Found, PageErr>
     requires valid { P.valid pages.old }
     requires within { at < root.lines }
     requires small { root.lines < 2 ^ 62 }
@@ -55,19 +83,7 @@ pub fn find_line<P: Pages>(
     ensures kept { OnlyReads P.Pages pages.old pages.new }
     ensures cause { HasCause (P.shows pages.old).faults (P.shows pages.new).faults (IsErrOf result PageErr.Failed) }
 {
-    let mut found = Found {
-        entry: root.entry(),
-        rest: at,
-    };
-    'walk: for _level in 0..root.height {
-        let entries = load_entries(alloc, pages, found.entry)?;
-        let place = find_place(&entries, found.rest);
-        found = Found {
-            entry: place.entry,
-            rest: place.rest,
-        };
-    }
-    Ok(found)
+    walk_down(alloc, pages, root, at, root.height)
 }
 
 /// Makes `into` the line of the tree at a place, counted from 0, in its stored form.
