@@ -65,6 +65,7 @@ pub(crate) fn line_kind(line: &[u8]) -> ScriptLine
 }
 
 /// The command of a line that is one by itself, or the error of the line.
+// It is parsed once more here, since what borrows from a line cannot leave the loop that reads lines.
 pub(crate) fn alone(line: &[u8]) -> Result<Command<'_>, ExErr>
     requires { is_alone (kind_of line.now) ≡ true }
     ensures command { kind_of line.now ≡ Alone (result_of result) }

@@ -27,7 +27,7 @@ impl Model for LineBuffer {
 }
 
 impl LineBuffer {
-    /// Takes the room. No later call takes memory.
+    /// Takes the room, and no memory later.
     pub fn new(alloc: Global) -> Result<LineBuffer, AllocError>
         ensures { IfOk result (λ line. line ≡ []) }
     {
@@ -37,7 +37,7 @@ impl LineBuffer {
     }
 
     /// The bytes that are kept of the line, without its end.
-    pub fn bytes(&self) -> &[u8]
+    pub(crate) fn bytes(&self) -> &[u8]
         ensures { result.now ≡ self.now }
     {
         self.bytes.as_slice()

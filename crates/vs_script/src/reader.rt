@@ -36,7 +36,7 @@ impl From<Failed> for ScriptErr {
     }
 }
 
-/// Reads a script line by line. Seen as the bytes that were read ahead, how many bytes were taken from the host, and whether
+/// Reads a script command by command. Seen as the bytes that were read ahead, how many bytes were taken from the host, and whether
 /// the script's end was seen.
 #[derive(Drop)]
 pub struct ScriptReader {
@@ -70,7 +70,7 @@ fn line_end(bytes: &[u8]) -> Option<usize>
 }
 
 impl ScriptReader {
-    /// A reader that has read nothing yet. It takes its buffer here, and no memory later.
+    /// A reader that has read nothing yet. Its buffer of 65,536 bytes is taken here.
     pub fn new(alloc: Global) -> Result<ScriptReader, AllocError>
         ensures { IfOk result (λ reader. reader ≡ record { bytes = []; taken = 0; ended = false }) }
     {
@@ -138,7 +138,7 @@ impl ScriptReader {
     }
 
     /// Puts the next line into `line`. It ends at byte 10 or at the script's end. `false` where there is none.
-    pub fn next_line<S: Script>(
+    pub(crate) fn next_line<S: Script>(
         &mut self,
         host: &mut S,
         line: &mut LineBuffer,

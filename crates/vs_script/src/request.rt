@@ -79,7 +79,11 @@ impl ScriptReader {
         Ok(ScriptLine::NoCommand)
     }
 
-    /// The next command with its block, and `None` at the script's end. Its line is kept in `line`.
+    /// The next command with its block, and `None` at the script's end. A command borrows from its line, which is kept in
+    /// `line`. A block is read to its end also where its lines are not kept; want of memory for them is told by the block.
+    ///
+    /// `Failed` is for a read that failed, `TooLong` for the first byte after 1,073,741,824 of them. Neither hands over a
+    /// command whose end was not seen.
     pub fn next_request<'a, S: Script>(
         &mut self,
         alloc: Global,

@@ -1,5 +1,6 @@
 // A host whose script is one comment, again and again. It tells nothing, and has no file.
-ghost use Rattle.std.specs.Prelude.{◌≡◌, [], false, true, OnOk};
+ghost use Rattle.std.specs.Prelude.{◌≡◌, ◌≤◌, [], false, length};
+ghost use Rattle.vs_faults.specs.Faults.{HasRisen};
 ghost use Rattle.vs_test_runs.specs.Untold.{never, no_folder};
 
 use std::alloc::Global;
@@ -35,7 +36,11 @@ impl Comments {
         })
     }
 
-    fn fail(&mut self) -> Failed {
+    fn fail(&mut self) -> Failed
+        ensures later { self.old.folder_faults ≤ self.new.folder_faults }
+        ensures rose { HasRisen self.old.folder_faults self.new.folder_faults }
+        ensures same { self.new.out_faults ≡ self.old.out_faults }
+    {
         self.folder_faults = self.folder_faults.saturating_add(1);
         Failed
     }
@@ -63,7 +68,9 @@ impl World for Comments {
 }
 
 /// Copies the front of some bytes, and answers how many.
-fn copy(from: &[u8], into: &mut [u8]) -> usize {
+fn copy(from: &[u8], into: &mut [u8]) -> usize
+    ensures { result ≤ length into.new }
+{
     let count = from.len().min(into.len());
     into[..count].copy_from_slice(&from[..count]);
     count

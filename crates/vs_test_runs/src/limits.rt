@@ -50,7 +50,7 @@ fn a_file_has_four_million_lines_and_no_more(rt: HostRuntime) -> Result<(), Fail
 /// A script that puts a line of this many bytes, and then prints the number of the last line.
 fn script_with(alloc: Global, size: usize) -> Result<Vec<u8>, Fail> {
     let mut script = Vec::from_slice(alloc, b"0a\n")?;
-    script.resize(3 + size, b'x')?;
+    script.resize(size.saturating_add(3), b'x')?;
     script.extend_from_slice(b"\n.\n=\n")?;
     Ok(script)
 }
