@@ -1,5 +1,6 @@
 pub mod Backed
 pub mod Calls
+pub mod Choosing
 pub mod Copying
 pub mod Filling
 pub mod Frames

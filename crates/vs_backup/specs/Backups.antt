@@ -1,7 +1,9 @@
 -- Which backup a write makes.
-use Rattle.std.specs.Prelude.{ℕ, ◌-◌, Bool, List, [], ◌∷◌, ◌++◌, length, map, take, codes, Option, Some, None, is_some, if◌then◌else◌, ◌||◌}
+use Rattle.std.specs.Prelude.{◌≡◌, ℕ, zero, suc, ◌+◌, ◌-◌, Bool, true, false, List, [], ◌∷◌, ◌++◌, length, map, take, codes, Option, Some, None, is_some, if◌then◌else◌, ◌||◌}
 use Rattle.vs_host.specs.Disk.{Disk, Name, content_in}
 use Rattle.vs_host.specs.Names.{temporary}
+use Rattle.vs_backup.specs.declared.options.CopyMode.{CopyMode}
+use Rattle.vs_backup.specs.declared.options.CopyMode.TheVariants.{Yes, No, Auto}
 use Rattle.vs_backup.specs.declared.options.WriteOptions.{WriteOptions}
 
 -- the backup name that replaces an older backup
@@ -12,16 +14,17 @@ backup_name name = name ++ codes "~"
 abbrev pub lettered : Name → ℕ → Name
 lettered name letter = take (length name - 1) name ++ letter ∷ codes "~"
 
--- the letters from `z` down to `a`
-abbrev pub letters : List ℕ
-letters = codes "zyxwvutsrqponmlkjihgfedcba"
+-- the first n letters of the alphabet, the last of them first
+unfoldable pub letters : ℕ → List ℕ
+letters zero = []
+letters (suc n) = (97 + n) ∷ letters n
 
 -- the names that a backup may get where it may replace none, in the order in which they are tried
-abbrev pub candidates : Name → List Name
-candidates name = backup_name name ∷ map (lettered name) letters
+unfoldable pub candidates : Name → List Name
+candidates name = backup_name name ∷ map (lettered name) (letters 26)
 
 -- the first of these names that is not there
-abbrev pub first_free : Disk → List Name → Option Name
+unfoldable pub first_free : Disk → List Name → Option Name
 first_free disk [] = None
 first_free disk (name ∷ names) = if is_some (content_in disk name) then first_free disk names else Some name
 
@@ -32,3 +35,15 @@ backs_up options = options.backup || options.writebackup
 -- the name of the backup that a write over a file makes
 abbrev pub backup_of : WriteOptions → Name → Disk → Option Name
 backup_of options name disk = if options.backup then Some (backup_name name) else (if options.writebackup then first_free disk (candidates name) else None)
+
+-- A name that a backup may get: one byte longer than that of the file, and with `~` at its end.
+pub record IsBackupName (name backup : Name) : Type 0 where
+  pub stem : Name
+  pub ends : backup ≡ stem ++ codes "~"
+  pub longer : length backup ≡ length name + 1
+
+-- whether the file is copied to its backup, and not renamed
+abbrev pub copies : CopyMode → Bool
+copies Yes = true
+copies No = false
+copies Auto = false

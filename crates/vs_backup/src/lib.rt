@@ -2,6 +2,7 @@
 #![tactic(auto)]
 
 mod backup;
+mod choose;
 mod desk;
 mod errors;
 mod files;
