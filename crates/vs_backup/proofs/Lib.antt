@@ -1,9 +1,0 @@
-pub mod Backed
-pub mod Calls
-pub mod Choosing
-pub mod Copying
-pub mod Filling
-pub mod Frames
-pub mod Kept
-pub mod Moving
-pub mod Unbacked

@@ -1,3 +1,0 @@
-pub mod Backups
-pub mod Works
-pub mod Writing
