@@ -15,8 +15,6 @@ mod reads;
 mod replacing;
 mod request;
 mod substituting;
-#[cfg(test)]
-mod tests;
 
 pub use answer::{Plan, PlanErr};
 pub use meaning::{changes_text, plan};

@@ -17,6 +17,9 @@ use vs_edit::{LineStore, StoreErr};
 use vs_exparse::ExErr;
 use vs_text::{Line, MAX_LINE_BYTES, MAX_LINES, MAX_TEXT_BYTES};
 
+// A command line has room for a line of a text.
+const _: () = prove!(vs_exparse::MAX_LINE_BYTES == MAX_LINE_BYTES);
+
 // The number of bytes of lines, up to the greatest number of its type.
 fn count_bytes(lines: &[Line]) -> u64
     ensures { result ≡ min (bytes_of lines.now) (2 ^ 64 - 1) }
@@ -111,7 +114,8 @@ pub(crate) fn fits_copied<S: LineStore>(
 ) -> Result<bool, StoreErr>
     requires valid { S.valid view.old }
     requires within { top + count ≤ (S.shows view.old).present.lines }
-    ensures value { IfOk result (λ fits. (text : List (List ℕ)) (to : ℕ) → (S.shows view.old).present.Is text → to ≤ length text → fits ≡ is_within (splice text to 0 (cut_out text top count))) }
+    ensures value { IfOk result (λ fits. (text : List (List ℕ)) (to : ℕ) → (S.shows view.old).present.Is text → to ≤ length text
+        → fits ≡ is_within (splice text to 0 (cut_out text top count))) }
     ensures kept { OnlyReads S.LineStore view.old view.new }
     ensures cause { HasCause (S.shows view.old).faults (S.shows view.new).faults (IsErrOf result StoreErr.Failed) }
 {

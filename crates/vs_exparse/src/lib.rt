@@ -20,6 +20,3 @@ pub use line::{MAX_LINE_BYTES, first_bytes_decide, parse};
 pub use pieces::{Piece, next_piece};
 pub use table::NameTable;
 pub use words::{NAMES, Rule, Word, names_do_not_clash};
-
-#[cfg(test)]
-mod tests;

@@ -1,6 +1,7 @@
-use super::*;
+// Where commands work.
 use std::process::Abort;
 use std::test::Fail;
+use vs_excmd::{Place, Span, number_shown, place_of, shown};
 use vs_exparse::{Address, Base, ExErr, Parsed, Range, parse};
 
 // The lines of a text, the cursor, a command line, and its first line, last line and destination.

@@ -1,6 +1,7 @@
-use super::*;
+// Command lines with what they mean.
 use std::alloc::{AllocError, Global};
 use std::test::Fail;
+use vs_exparse::{Address, Base, Command, ExErr, NAMES, Parsed, Range, Setting, parse};
 
 /// An address.
 macro_rules! address {
