@@ -9,10 +9,10 @@ new-requires-clause-there g c = λ told. fresh_first _ c.requires.present
 
 pub returns-clause-files : goal.returns-clause-files
 returns-clause-files g c =
-    let back = c.pair-2-1.given.1 (sym c.new.ensures.stays.0) in
+    let back = c.pair-1.given.1 (sym c.new.ensures.stays.0) in
     ap (λ (p : SwapPair). p.files) back ∙ c.new.ensures.stays.2.files
 
 pub returns-clause-folder : goal.returns-clause-folder
 returns-clause-folder g c =
-    let back = c.host-2-1.given.1 (sym c.new.ensures.stays.1) in
+    let back = c.host-1.given.1 (sym c.new.ensures.stays.1) in
     ap (λ (h : g.row.F.Denot). (g.F.World.scene h).folder) back ∙ ap (λ (s : Scene). s.folder) c.new.ensures.stays.2.frame
