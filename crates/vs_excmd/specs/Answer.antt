@@ -1,5 +1,5 @@
 -- What an answer about a command of the text says.
-use Rattle.std.specs.Prelude.{ℕ, ◌≡◌, ◌≤◌, ◌+◌, ◌⊎◌, ⊤, List, Some, None, Result, Ok, Err}
+use Rattle.std.specs.Prelude.{ℕ, ◌≡◌, ◌≤◌, ◌+◌, ◌⊎◌, ⊤, List, Some, None, Result, Ok, Err, IfErr}
 use Rattle.vs_edit.specs.State.{TextState, AllowsSplice}
 use Rattle.vs_edit.specs.declared.store.StoreErr.{StoreErr}
 use Rattle.vs_edit.specs.declared.store.StoreErr.TheVariants as store
@@ -27,13 +27,15 @@ Answers meant (Err error.Failed) = ⊤
 abbrev pub IsAfterPlace : ExErr → Type 0
 IsAfterPlace error = (error ≡ ex.E486) ⊎ ((error ≡ ex.LineTooLong) ⊎ (error ≡ ex.TextFull))
 
--- The answer is the error of a command's place, or comes of none.
+abbrev pub IsLate : PlanErr → Type 0
+IsLate (error.Ex e) = IsAfterPlace e
+IsLate error.NoMemory = ⊤
+IsLate error.Failed = ⊤
+
+-- The answer is the error of a command's place, or none that could come of a place.
 abbrev pub IsPlaced : Result Place ExErr → Result Plan PlanErr → Type 0
 IsPlaced (Err e) answer = answer ≡ Err (error.Ex e)
-IsPlaced (Ok place) (Ok plan) = ⊤
-IsPlaced (Ok place) (Err (error.Ex e)) = IsAfterPlace e
-IsPlaced (Ok place) (Err error.NoMemory) = ⊤
-IsPlaced (Ok place) (Err error.Failed) = ⊤
+IsPlaced (Ok place) answer = IfErr answer IsLate
 
 -- A text may be spliced as planned.
 abbrev pub Allows : TextState → Plan → Type 0

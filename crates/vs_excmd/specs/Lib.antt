@@ -5,4 +5,5 @@ pub mod Join
 pub mod Meaning
 pub mod Place
 pub mod Request
+pub mod Rewriting
 pub mod Substitute

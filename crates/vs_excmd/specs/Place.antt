@@ -1,7 +1,7 @@
 -- The lines that a command works on, by the numbers of the text's lines and of the cursor alone.
 use Rattle.std.specs.Prelude.{◌≡◌, ◌≤◌, ℕ, ℤ, pos, negsuc, zero, suc, ◌+ℤ◌, ◌+◌, ◌-◌, Bool, false, not, ◌==◌, ◌&&◌, if◌then◌else◌, nat_le, nat_lt, int_lt, min, Option, Some, None, Result, Ok, Err}
 use Rattle.vs_exparse.specs.Command.{Command}
-use Rattle.vs_exparse.specs.Command.Command.{Append, Insert, Change, Delete, Move, CopyTo, T, Join, Substitute}
+use Rattle.vs_exparse.specs.Command.Command.{Append, Insert, Change, Delete, Move, CopyTo, T, Join, Substitute, Print, Number, Equals, Undo, Redo, Earlier, Later, UndoList, Write, Preserve, Quit, Set, WriteUndo, ReadUndo}
 use Rattle.vs_exparse.specs.declared.command.Base.{Base}
 use Rattle.vs_exparse.specs.declared.command.Base.TheVariants.{Current, Last, Number}
 use Rattle.vs_exparse.specs.declared.command.Address.{Address}
@@ -112,7 +112,20 @@ place_of (CopyTo range to) lines cursor = lines_to range to lines cursor
 place_of (T range to) lines cursor = lines_to range to lines cursor
 place_of (Join range bang count) lines cursor = on (located_counted range count lines cursor) lines_alone
 place_of (Substitute range pattern replacement all) lines cursor = on (located zero.IsFirst range lines cursor) lines_alone
-place_of _ lines cursor = Err E16
+place_of (Print range count) lines cursor = Err E16
+place_of (Number range count) lines cursor = Err E16
+place_of (Equals range) lines cursor = Err E16
+place_of (Undo number) lines cursor = Err E16
+place_of Redo lines cursor = Err E16
+place_of (Earlier by writes) lines cursor = Err E16
+place_of (Later by writes) lines cursor = Err E16
+place_of UndoList lines cursor = Err E16
+place_of (Write bang) lines cursor = Err E16
+place_of Preserve lines cursor = Err E16
+place_of (Quit bang) lines cursor = Err E16
+place_of (Set setting) lines cursor = Err E16
+place_of WriteUndo lines cursor = Err E16
+place_of ReadUndo lines cursor = Err E16
 
 -- the lines that `p` and `nu` show
 abbrev pub shown : Range → Option ℕ → ℕ → ℕ → Result Span ExErr
@@ -142,3 +155,13 @@ pub record IsPlaceIn (lines : ℕ) (place : Place) : Type 0 where
 abbrev pub IsOutside : Command → Place → Type 0
 IsOutside (Move range to) place = is_into_itself place ≡ false
 IsOutside command place = Unit {0}
+
+-- The lines of a command that puts nothing in begin at a line, and not before the first.
+abbrev pub BeginsAtLine : Command → Place → Type 0
+BeginsAtLine (Delete range count) place = 1 ≤ place.lines.first
+BeginsAtLine (Move range to) place = 1 ≤ place.lines.first
+BeginsAtLine (CopyTo range to) place = 1 ≤ place.lines.first
+BeginsAtLine (T range to) place = 1 ≤ place.lines.first
+BeginsAtLine (Join range bang count) place = 1 ≤ place.lines.first
+BeginsAtLine (Substitute range pattern replacement all) place = 1 ≤ place.lines.first
+BeginsAtLine command place = Unit {0}

@@ -37,9 +37,11 @@ rewritten hits f top lines =
     let new = map f (up_to_last hits (drop before lines)) in
     record { top = top + before; old = length new; new = new; cursor = top + before + length new }
 
--- E486 where no line matches
+-- what becomes of these lines, which stand after `top` lines; E486 where none matches
+abbrev pub substituted_lines : (List ℕ → Bool) → (List ℕ → List ℕ) → ℕ → List (List ℕ) → Result Effect ExErr
+substituted_lines hits f top lines = check (list_any hits lines) E486 (Ok (Some (rewritten hits f top lines)))
+
 abbrev pub substituted : List ℕ → List ℕ → Bool → List (List ℕ) → Span → Result Effect ExErr
 substituted pattern replacement all text span =
     let literal = literal_of pattern in
-    check (list_any (has_match literal) (lines_in text span)) E486 (
-    Ok (Some (rewritten (has_match literal) (replaced all literal (replaced_by literal replacement)) (before span) (lines_in text span))))
+    substituted_lines (has_match literal) (replaced all literal (replaced_by literal replacement)) (before span) (lines_in text span)

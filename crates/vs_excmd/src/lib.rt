@@ -5,9 +5,16 @@
 #![tactic(auto)]
 
 mod answer;
+mod block;
+mod joining;
+mod limits;
 mod meaning;
+mod moving;
 mod place;
+mod reads;
+mod replacing;
 mod request;
+mod substituting;
 #[cfg(test)]
 mod tests;
 

@@ -1,15 +1,19 @@
 // The meaning of the commands of the text.
-ghost use Rattle.std.specs.Prelude.{◌≡◌, ℕ, List, IfOk, IsErrOf, IsTrue, not};
+ghost use Rattle.std.specs.Prelude.{◌≡◌, ℕ, List, IfOk, IfErr, IsErrOf, IsTrue, not};
 ghost use Rattle.vs_faults.specs.Faults.{HasCause};
 ghost use Rattle.vs_edit.specs.Calls.{OnlyReads};
 ghost use Rattle.vs_exparse.specs.Command.{HasForm, command_of, wants_block};
-ghost use Rattle.vs_excmd.specs.Answer.{Allows, Answers, IsPlaced};
-ghost use Rattle.vs_excmd.specs.Meaning.{changes_text, planned};
-ghost use Rattle.vs_excmd.specs.Place.{place_of};
+ghost use Rattle.vs_excmd.specs.Answer.{Allows, Answers, IsLate, IsPlaced, Leads, LiesIn};
+ghost use Rattle.vs_excmd.specs.Meaning.{changes_text, effect, planned};
+ghost use Rattle.vs_excmd.specs.Place.{BeginsAtLine, IsOutside, IsPlaceIn, place_of};
 ghost use Rattle.vs_excmd.specs.Request.{StandsFor, is_absent};
 
-use crate::place::place_of;
-use crate::{Block, Plan, PlanErr};
+use crate::block::{deletion, put_block};
+use crate::joining::{addresses_of, join_lines};
+use crate::limits::bounded;
+use crate::moving::{copy_lines, move_lines};
+use crate::substituting::substitute;
+use crate::{Block, Place, Plan, PlanErr, place_of};
 use std::alloc::Global;
 use vs_edit::LineStore;
 use vs_exparse::Command;
@@ -45,6 +49,60 @@ pub fn changes_text(command: &Command) -> bool
     }
 }
 
+// What a command does at its place, before the limits of a text are looked at.
+fn effect<S: LineStore>(
+    alloc: Global,
+    command: &Command,
+    block: &Block,
+    view: &mut S,
+    place: Place,
+) -> Result<Plan, PlanErr>
+    requires valid { S.valid view.old }
+    requires lies { IsPlaceIn (S.shows view.old).present.lines place }
+    requires begins { BeginsAtLine (command_of command.now) place }
+    requires outside { IsOutside (command_of command.now) place }
+    requires form { HasForm (command_of command.now) }
+    ensures leads { (text lines : List (List ℕ)) → (S.shows view.old).present.Is text → StandsFor block.now lines → Leads text (effect (command_of command.now) lines text place) result }
+    ensures lies { IfOk result (λ plan. LiesIn (S.shows view.old).present.lines plan) }
+    ensures late { IfErr result IsLate }
+    ensures kept { OnlyReads S.LineStore view.old view.new }
+    ensures cause { HasCause (S.shows view.old).faults (S.shows view.new).faults (IsErrOf result PlanErr.Failed) }
+{
+    let len = view.len();
+    let lines = place.lines;
+    match *command {
+        Command::Append { .. } => put_block(alloc, block, len, lines.last, 0),
+        Command::Insert { .. } => put_block(alloc, block, len, lines.last.saturating_sub(1), 0),
+        Command::Change { .. } => put_block(alloc, block, len, lines.before(), lines.size()),
+        Command::Delete { .. } => Ok(deletion(alloc, len, lines.before(), lines.size())),
+        Command::Move { .. } => Ok(move_lines(alloc, view, place)?),
+        Command::CopyTo { .. } | Command::T { .. } => copy_lines(alloc, view, place),
+        Command::Join { range, bang, count } => {
+            join_lines(alloc, view, lines, bang, addresses_of(range, count))
+        }
+        Command::Substitute {
+            pattern,
+            replacement,
+            all,
+            ..
+        } => substitute(alloc, view, lines, pattern, replacement, all),
+        Command::Print { .. }
+        | Command::Number { .. }
+        | Command::Equals { .. }
+        | Command::Undo { .. }
+        | Command::Redo
+        | Command::Earlier { .. }
+        | Command::Later { .. }
+        | Command::UndoList
+        | Command::Write { .. }
+        | Command::Preserve
+        | Command::Quit { .. }
+        | Command::Set { .. }
+        | Command::WriteUndo
+        | Command::ReadUndo => Ok(Plan::NoChange),
+    }
+}
+
 /// What a command of the text does to the text of a store, which stays as it is, with the cursor on this line, counted
 /// from 1; it is 0 in the empty text.
 ///
@@ -68,6 +126,7 @@ pub fn plan<S: LineStore>(
     ensures kept { OnlyReads S.LineStore view.old view.new }
     ensures cause { HasCause (S.shows view.old).faults (S.shows view.new).faults (IsErrOf result PlanErr.Failed) }
 {
-    let _ = place_of(command, view.len(), cursor)?;
-    Err(PlanErr::NoMemory)
+    let place = place_of(command, view.len(), cursor)?;
+    let plan = effect(alloc, command, block, view, place)?;
+    bounded(alloc, view, plan)
 }

@@ -1,9 +1,10 @@
 // The lines that a command works on.
-ghost use Rattle.std.specs.Prelude.{◌≡◌, ◌≤◌, ◌<◌, ◌^◌, IfOk, IfSome, IsTrue, Ok, not};
+ghost use Rattle.std.specs.Prelude.{pos, ◌≡◌, ◌≢◌, ◌≤◌, ◌<◌, ◌^◌, IfOk, IfSome, IsTrue, Ok, not};
+ghost use Rattle.vs_excmd.specs.Change.{before, size_of};
 ghost use Rattle.vs_excmd.specs.Errors.{check, on};
 ghost use Rattle.vs_exparse.specs.declared.command.ExErr.TheVariants.{E134};
 ghost use Rattle.vs_exparse.specs.Command.{HasCount, HasForm, command_of};
-ghost use Rattle.vs_excmd.specs.Place.{IsOutside, IsPlaceIn, IsSpanIn, base_line, counted, destination, first_at, is_into_itself, last_at, line_at, line_in, lines_to, located, located_counted, meant, number_shown, or_last, place_of, shown, span_of};
+ghost use Rattle.vs_excmd.specs.Place.{BeginsAtLine, IsOutside, IsPlaceIn, IsSpanIn, base_line, counted, destination, first_at, is_into_itself, last_at, line_at, line_in, lines_to, located, located_counted, meant, number_shown, or_last, place_of, shown, span_of};
 
 use vs_exparse::{Address, Base, Command, ExErr, Range};
 
@@ -25,6 +26,23 @@ pub enum LineZero {
 pub struct Span {
     pub first: u64,
     pub last: u64,
+}
+
+impl Span {
+    /// The number of lines before the first one. None stand before line 0.
+    pub fn before(self) -> u64
+        ensures { result ≡ before self }
+    {
+        self.first.saturating_sub(1)
+    }
+
+    /// The number of lines. Line 0 is none.
+    pub fn size(self) -> u64
+        requires { self.first ≤ self.last }
+        ensures { result ≡ size_of self }
+    {
+        self.last - self.before()
+    }
 }
 
 /// Where a command of the text works.
@@ -52,7 +70,8 @@ fn line_at(address: Address, lines: u64, cursor: u64) -> i128
 }
 
 fn meant(zero: LineZero, lines: u64, line: i128) -> i128
-    ensures { result ≡ meant zero lines line }
+    ensures value { result ≡ meant zero lines line }
+    ensures positive { zero ≡ LineZero.IsFirst → result ≢ pos 0 }
 {
     match (zero, lines, line) {
         (LineZero::IsBeforeFirst | LineZero::IsFirstIfAny, 0, 1) => 0,
@@ -95,6 +114,7 @@ fn line_in(lines: u64, line: i128) -> Option<u64>
 
 fn span_of(lines: u64, first: i128, last: i128) -> Result<Span, ExErr>
     ensures value { result ≡ span_of lines first last }
+    ensures positive { first ≢ pos 0 → IfOk result (λ span. 1 ≤ span.first) }
     ensures lies { IfOk result (λ span. IsSpanIn lines span) }
 {
     if first > last {
@@ -111,6 +131,7 @@ fn span_of(lines: u64, first: i128, last: i128) -> Result<Span, ExErr>
 
 fn locate(zero: LineZero, range: Range, lines: u64, cursor: u64) -> Result<Span, ExErr>
     ensures value { result ≡ located zero range lines cursor }
+    ensures positive { zero ≡ LineZero.IsFirst → IfOk result (λ span. 1 ≤ span.first) }
     ensures lies { IfOk result (λ span. IsSpanIn lines span) }
 {
     let first = meant(zero, lines, first_at(range, lines, cursor));
@@ -123,6 +144,7 @@ fn counted(count: Option<u32>, lines: u64, span: Span) -> Span
     requires form { HasCount count }
     requires lies { IsSpanIn lines span }
     ensures value { result ≡ counted count lines span }
+    ensures positive { 1 ≤ span.first → 1 ≤ result.first }
     ensures lies { IsSpanIn lines result }
 {
     match count {
@@ -155,6 +177,7 @@ fn lines_alone(lines: Span) -> Place
 
 fn lines_to(range: Range, to: Address, lines: u64, cursor: u64) -> Result<Place, ExErr>
     ensures value { result ≡ lines_to range to lines cursor }
+    ensures positive { IfOk result (λ place. 1 ≤ place.lines.first) }
     ensures lies { IfOk result (λ place. IsPlaceIn lines place) }
 {
     let span = locate(LineZero::IsFirst, range, lines, cursor)?;
@@ -170,6 +193,7 @@ fn is_into_itself(place: Place) -> bool
 
 fn place_of_move(range: Range, to: Address, lines: u64, cursor: u64) -> Result<Place, ExErr>
     ensures value { result ≡ on (lines_to range to lines cursor) (λ place. check (not (is_into_itself place)) E134 (Ok place)) }
+    ensures positive { IfOk result (λ place. 1 ≤ place.lines.first) }
     ensures lies { IfOk result (λ place. IsPlaceIn lines place) }
 {
     let place = lines_to(range, to, lines, cursor)?;
@@ -190,6 +214,7 @@ pub fn place_of(command: &Command, lines: u64, cursor: u64) -> Result<Place, ExE
     requires form { HasForm (command_of command.now) }
     ensures value { result ≡ place_of (command_of command.now) lines cursor }
     ensures lies { IfOk result (λ place. IsPlaceIn lines place) }
+    ensures begins { IfOk result (λ place. BeginsAtLine (command_of command.now) place) }
     ensures outside { IfOk result (λ place. IsOutside (command_of command.now) place) }
 {
     let span = match *command {
@@ -205,7 +230,20 @@ pub fn place_of(command: &Command, lines: u64, cursor: u64) -> Result<Place, ExE
             shown(range, count, lines, cursor)?
         }
         Command::Substitute { range, .. } => locate(LineZero::IsFirst, range, lines, cursor)?,
-        _ => return Err(ExErr::E16),
+        Command::Print { .. }
+        | Command::Number { .. }
+        | Command::Equals { .. }
+        | Command::Undo { .. }
+        | Command::Redo
+        | Command::Earlier { .. }
+        | Command::Later { .. }
+        | Command::UndoList
+        | Command::Write { .. }
+        | Command::Preserve
+        | Command::Quit { .. }
+        | Command::Set { .. }
+        | Command::WriteUndo
+        | Command::ReadUndo => return Err(ExErr::E16),
     };
     Ok(lines_alone(span))
 }
@@ -219,6 +257,7 @@ pub fn shown(range: Range, count: Option<u32>, lines: u64, cursor: u64) -> Resul
     requires small { lines < 2 ^ 32 }
     requires form { HasCount count }
     ensures value { result ≡ shown range count lines cursor }
+    ensures positive { IfOk result (λ span. 1 ≤ span.first) }
     ensures lies { IfOk result (λ span. IsSpanIn lines span) }
 {
     let found = locate(LineZero::IsFirst, range, lines, cursor)?;
