@@ -4,7 +4,8 @@ ghost use Rattle.vs_excmd.specs.Change.{before, size_of};
 ghost use Rattle.vs_excmd.specs.Errors.{check, on};
 ghost use Rattle.vs_exparse.specs.declared.command.ExErr.TheVariants.{E134};
 ghost use Rattle.vs_exparse.specs.Command.{HasCount, HasForm, command_of};
-ghost use Rattle.vs_excmd.specs.Place.{BeginsAtLine, IsOutside, IsPlaceIn, IsSpanIn, base_line, counted, destination, first_at, is_into_itself, last_at, line_at, line_in, lines_to, located, located_counted, meant, number_shown, or_last, place_of, shown, span_of};
+ghost use Rattle.vs_excmd.specs.Place.{BeginsAtLine, IsOutside, IsPlaceIn, IsSpanIn, base_line, counted, destination, first_at, is_into_itself, last_at};
+ghost use Rattle.vs_excmd.specs.Place.{line_at, line_in, lines_to, located, located_counted, meant, number_shown, or_last, place_of, shown, span_of};
 
 use vs_exparse::{Address, Base, Command, ExErr, Range};
 

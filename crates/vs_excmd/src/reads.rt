@@ -44,7 +44,6 @@ pub(crate) fn bytes_in<S: LineStore>(
     ensures kept { OnlyReads S.LineStore view.old view.new }
     ensures cause { HasCause (S.shows view.old).faults (S.shows view.new).faults (IsErrOf result StoreErr.Failed) }
 {
-    let _ = view.len();
     let mut line = Vec::new(alloc);
     let mut bytes = 0u64;
     for i in 0..count {

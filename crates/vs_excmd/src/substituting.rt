@@ -145,7 +145,6 @@ fn rewrite<S: LineStore>(
     ensures kept { OnlyReads S.LineStore view.old view.new }
     ensures cause { HasCause (S.shows view.old).faults (S.shows view.new).faults (IsErrOf result PlanErr.Failed) }
 {
-    let _ = view.len();
     let mut state = Rewriting {
         before: 0,
         lines: Vec::new(alloc),
@@ -226,7 +225,6 @@ fn substitute_lines<S: LineStore>(
     ensures kept { OnlyReads S.LineStore view.old view.new }
     ensures cause { HasCause (S.shows view.old).faults (S.shows view.new).faults (IsErrOf result PlanErr.Failed) }
 {
-    let _ = view.len();
     let state = rewrite(alloc, view, top, count, finder, new, all)?;
     if is_none(state.lines.as_slice()) {
         return Err(PlanErr::Ex(ExErr::E486));
