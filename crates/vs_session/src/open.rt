@@ -76,8 +76,10 @@ fn read_piece<H: Host>(
     requires read { (fed : List ℕ) × HasRead reader.old text.old fed }
     ensures piece { OnOk result (IsTrue (H.tells).folder → IfSome (content_of (H.scene host.old) name.now) (λ bytes. piece.new ≡ take (length piece.old) (drop at bytes))) }
     ensures read { OnOk result ((fed : List ℕ) → HasRead reader.old text.old fed → HasRead reader.new text.new (fed ++ piece.new)) }
-    ensures limit { (size : ℕ) → IsErrOf result (OpenErr.TextLimit size) → (fed more : List ℕ) → HasRead reader.old text.old fed → PassesLimit (lines_of ((fed ++ piece.new) ++ more)) size }
-    ensures told { (size : ℕ) → IsErrOf result (OpenErr.TextLimit size) → IsTrue (H.tells).folder → IfSome (content_of (H.scene host.old) name.now) (λ bytes. piece.new ≡ take (length piece.old) (drop at bytes)) }
+    ensures limit { (size : ℕ) → IsErrOf result (OpenErr.TextLimit size) → (fed more : List ℕ) → HasRead reader.old text.old fed
+        → PassesLimit (lines_of ((fed ++ piece.new) ++ more)) size }
+    ensures told { (size : ℕ) → IsErrOf result (OpenErr.TextLimit size) → IsTrue (H.tells).folder
+        → IfSome (content_of (H.scene host.old) name.now) (λ bytes. piece.new ≡ take (length piece.old) (drop at bytes)) }
     ensures cause { HasCause (H.scene host.old).folder_faults (H.scene host.new).folder_faults (IsErrOf result OpenErr.Failed) }
     ensures quiet { IsQuiet (H.scene host.old).folder_faults (H.scene host.new).folder_faults (IsErrOf result OpenErr.Failed) }
     ensures frame { ReadsFolder (H.scene host.old) (H.scene host.new) }

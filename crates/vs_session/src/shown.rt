@@ -42,7 +42,8 @@ fn printed<S: LineStore>(alloc: Global, store: &mut S, span: Span) -> Result<Vec
 // The first line of some, with its newline, and the lines after it.
 fn split_line(lines: &[u8]) -> Option<(&[u8], &[u8])>
     ensures some { IfSome result (λ (line, after). (line.now ++ after.now ≡ lines.now) × (0 < length line.now)) }
-    ensures first { (line : List ℕ) (after : List (List ℕ)) → IsLine line → lines.now ≡ file_of (line ∷ after) → IfSome result (λ parts. (parts.0.now ≡ line ++ 10 ∷ []) × (parts.1.now ≡ file_of after)) }
+    ensures first { (line : List ℕ) (after : List (List ℕ)) → IsLine line → lines.now ≡ file_of (line ∷ after)
+        → IfSome result (λ parts. (parts.0.now ≡ line ++ 10 ∷ []) × (parts.1.now ≡ file_of after)) }
     ensures none { IsNone result → lines.now ≡ [] }
 {
     if lines.is_empty() {
