@@ -1,25 +1,25 @@
 -- The whole of a write with a backup: before the two syncs nothing changes, and after them the file or its backup is whole.
-use Rattle.std.proofs.Common.{◌≡◌, ◌⊎◌, inl, inr, ℕ, ◌+◌, ◌<◌, ◌≤◌, Bool, true, false, List, [], Option, Some, None, length, OnOk, OnErr, IfOk, Result, Ok, Err, refl, sym, ◌∙◌, ap, subst, arith}
+use Rattle.std.proofs.Common.{◌≡◌, ◌⊎◌, inl, inr, ℕ, ◌≤◌, Bool, true, false, List, Option, Some, None, OnOk, Result, Ok, Err, refl, sym, ◌∙◌, ap, subst, arith}
 use Rattle.std.specs.Prelude.{IsErr, IsErrOf, IsSome, IsSomeAnd}
 use Rattle.std.proofs.lemmas.Bool.{true≢false}
 use Rattle.std.proofs.lemmas.Result.{on_ok_weaker}
 use Rattle.vs_faults.specs.Faults.{HasCause, HasRisen}
-use Rattle.vs_host.specs.Disk.{Disk, Name, names_of, names_at, read_under, content_in, IsImage}
+use Rattle.vs_host.specs.Disk.{Disk, Name, names_of, names_at, read_under, content_in}
 use Rattle.vs_host.specs.World.{Scene, ChangesFolder}
 use Rattle.vs_host.specs.declared.traits.Failed.{Failed}
 use Rattle.vs_disk.specs.Images.{HoldsBytes, MayLeave}
 use Rattle.vs_disk.specs.Runs.{Runs}
-use Rattle.vs_disk.proofs.Runs.{runs_as, runs_on, starts, frames}
+use Rattle.vs_disk.proofs.Runs.{runs_as, runs_on, starts}
 use Rattle.vs_disk.proofs.Contents.{image_holds}
 use Rattle.vs_backup.specs.Works.{Narrowed, Spares, one_name}
-use Rattle.vs_backup.specs.Writing.{IsKept, IsWhole, IsSettled, OldIn, WritesOver, WritesBacked, BeginsWhole, backed_names, MayLackNew}
+use Rattle.vs_backup.specs.Writing.{IsKept, IsWhole, IsSettled, OldIn, WritesOver, WritesBacked, BeginsWhole, backed_names}
 use Rattle.vs_backup.specs.declared.errors.Place.TheVariants as place
 use Rattle.vs_backup.specs.declared.errors.WriteErr.{WriteErr}
 use Rattle.vs_backup.specs.declared.errors.WriteErr.TheVariants as error
 use Rattle.vs_backup.proofs.Calls.{runs_wider, spares_on}
 use Rattle.vs_backup.proofs.Frames.{narrowed_none, narrowed_then, holds_spared}
 use Rattle.vs_backup.proofs.Kept.{may_leave_now}
-use Rattle.vs_backup.proofs.Copying.{kept_on, never_refused, only_file}
+use Rattle.vs_backup.proofs.Copying.{kept_on, never_refused}
 
 some_and : (at : Option (List ℕ)) (bytes : List ℕ) (P : List ℕ → Type 0) → at ≡ Some bytes → P bytes → IsSomeAnd at P
 some_and at bytes P is holds = subst (λ (o : Option (List ℕ)). IsSomeAnd o P) (sym is) holds
@@ -109,7 +109,7 @@ module _ (copying keep : Bool) (name temporary backup : Name) (old new : List �
           settled = is;
           whole = kept_on (IsWhole name backup old new) s0 s1 s2 frame before.whole
               (runs_as (Spares (one_name backup)) (λ a b. IsWhole name backup old new b) s1 s2
-                (λ d spares. whole_new name backup old new d (holds_spared (one_name backup) name (λ c. c ≡ new) s1.folder d differ spares holds)) drops);
+              (λ d spares. whole_new name backup old new d (holds_spared (one_name backup) name (λ c. c ≡ new) s1.folder d differ spares holds)) drops);
           spares = spares_on on s0 s1 s2 frame over.spares (runs_wider (one_name backup) on s1 s2 (λ n same. backup_named copying name temporary backup n same) drops);
         });
         written = (over.written.0, holds_spared (one_name backup) name (λ c. c ≡ new) s1.folder s2.folder differ drops.now holds);
@@ -180,3 +180,9 @@ holds_there name bytes disk holds = let here = holds 0 in there_at disk (names_o
     there_at : (disk : Disk) (at : Option ℕ) (number : ℕ) → at ≡ Some number → IsSome (read_under disk at)
     there_at disk None number leads = cc
     there_at disk (Some other) number leads = refl
+
+-- there was no memory before anything changed
+pub backed_no_memory : (on : Name → Type 0) (keep : Bool) (name backup : Name) (old new : List ℕ) (s0 : Scene) → content_in s0.folder name ≡ Some old
+    → WritesBacked on keep name backup old new s0 s0 (Err (error.NoMemory place.File))
+backed_no_memory on keep name backup old new s0 content =
+    backed_not_begun on keep name backup old new s0 s0 content (narrowed_starts s0) (error.NoMemory place.File) (λ refused. elim refused [ inl is ↦ cc | inr is ↦ cc ]) (λ refused. elim refused [ inl is ↦ cc | inr is ↦ cc ]) (λ e. cc)

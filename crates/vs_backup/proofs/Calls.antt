@@ -1,20 +1,16 @@
 -- How a part of a write goes on by one call, at each moment and at its end.
-use Rattle.std.proofs.Common.{◌≡◌, ◌≢◌, ◌⊎◌, inl, inr, ℕ, zero, suc, Bool, false, List, [], ◌∷◌, Option, Some, None, OnOk, OnErr, Result, Ok, Err, refl, sym, ◌∙◌, ap, subst}
-use Rattle.vs_host.specs.File.{File, Syncs, synced_file}
-use Rattle.vs_host.specs.Disk.{Disk, Name, Renames, Removes, names_of, names_at, content_in, IsImageOf, ChangesFile, ChangesNames, CreatesFile, SyncsNames, IsFolder}
-use Rattle.vs_host.specs.Trace.{Kind, Created, Synced, Renamed, Removed, SyncedNames, Looked}
+use Rattle.std.proofs.Common.{◌≡◌, ℕ, Bool, List, [], ◌∷◌, Option, Some, Result, ap}
+use Rattle.vs_host.specs.File.{File}
+use Rattle.vs_host.specs.Disk.{Disk, Name, content_in}
+use Rattle.vs_host.specs.Trace.{Looked}
 use Rattle.vs_host.specs.World.{Scene, IsTold, ChangesFolder, ReadsFolder}
 use Rattle.std.specs.Prelude.{is_some, IsSome}
-use Rattle.vs_disk.specs.Images.{Changes, IsSynced, MayLeave, Takes}
-use Rattle.vs_disk.specs.Names.{IsApart, SameAt}
+use Rattle.vs_disk.specs.Images.{Changes, IsSynced}
 use Rattle.vs_disk.specs.Runs.{Runs}
-use Rattle.vs_disk.proofs.Steps.{at_name, same_at, older_names, one_state, settled}
-use Rattle.vs_disk.proofs.Runs.{one_call, runs_as, runs_on, call_on, reads_change}
-use Rattle.vs_disk.proofs.Others.{same_none, same_then, file_outside, sync_outside}
-use Rattle.vs_disk.proofs.Contents.{synced_content, takes_renamed, takes_then, leads_to, leads_nowhere, content_of_file}
-use Rattle.vs_backup.specs.Works.{ChangesOne, IsAlone, Narrowed, Spares, one_name, two_names}
-use Rattle.vs_backup.specs.Writing.{IsSettled}
-use Rattle.vs_backup.proofs.Frames.{either, narrowed_none, narrowed_then, narrowed_file, narrowed_names, spares_none, spares_same, spares_then, spares_removed, spares_renamed, spares_created, spares_synced, spares_wider, spares_file, takes_spared}
+use Rattle.vs_disk.proofs.Runs.{one_call, runs_as, runs_on, reads_change}
+use Rattle.vs_disk.proofs.Contents.{content_of_file}
+use Rattle.vs_backup.specs.Works.{ChangesOne, IsAlone, Spares, one_name}
+use Rattle.vs_backup.proofs.Frames.{spares_same, spares_then, spares_wider, spares_file}
 
 -- ---- calls on names
 module _ (on : Name → Type 0) where

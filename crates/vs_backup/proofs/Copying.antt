@@ -1,27 +1,27 @@
 -- Writing over a file in its place: until the copy stands under the backup name the file has the old bytes, and then the copy has.
-use Rattle.std.proofs.Common.{◌≡◌, ◌≢◌, ◌⊎◌, inl, inr, ℕ, List, [], ◌∷◌, Option, Some, None, length, OnOk, OnErr, IfOk, Result, Ok, Err, refl, sym, ◌∙◌, ap, subst, ◌≤◌, arith}
+use Rattle.std.proofs.Common.{◌≡◌, inl, inr, ℕ, List, [], ◌∷◌, Some, length, OnOk, OnErr, Result, Ok, Err, sym, ◌∙◌, ap, subst, arith}
 use Rattle.std.specs.Prelude.{IsErrOf}
-use Rattle.vs_host.specs.File.{File, Cuts, cut_to}
-use Rattle.vs_host.specs.Disk.{Disk, Name, names_of, content_in, ChangesFile, IsFolder}
+use Rattle.vs_host.specs.File.{File, Cuts}
+use Rattle.vs_host.specs.Disk.{Disk, Name, content_in, ChangesFile, IsFolder}
 use Rattle.vs_host.specs.Trace.{Cut}
 use Rattle.vs_host.specs.World.{Scene, ChangesFolder, IsTold}
 use Rattle.vs_host.specs.declared.traits.Failed.{Failed}
-use Rattle.vs_disk.specs.Images.{Changes, HoldsBytes, IsSynced, MayLeave}
+use Rattle.vs_disk.specs.Images.{HoldsBytes, IsSynced, MayLeave}
 use Rattle.vs_disk.specs.Runs.{Runs}
-use Rattle.vs_disk.proofs.Steps.{same_at, file_as}
+use Rattle.vs_disk.proofs.Steps.{same_at}
 use Rattle.vs_disk.proofs.Images.{cut_keeps_images, read_image}
-use Rattle.vs_disk.proofs.Runs.{one_call, runs_as, runs_then, frames}
+use Rattle.vs_disk.proofs.Runs.{one_call, runs_as, runs_then}
 use Rattle.vs_disk.proofs.Contents.{file_of_content, content_of_file, holds_synced}
 use Rattle.vs_backup.specs.Works.{ChangesOne, Fills, IsAlone, Spares, one_name, two_names, three_names}
-use Rattle.vs_backup.specs.Writing.{IsKept, IsSettled, StartsOver, WritesOver, MayLackNew, MayLackOld, OldIn, stopped}
+use Rattle.vs_backup.specs.Writing.{IsKept, IsSettled, StartsOver, WritesOver, OldIn, stopped}
 use Rattle.vs_backup.specs.declared.errors.Place.{Place}
 use Rattle.vs_backup.specs.declared.errors.Place.TheVariants as place
 use Rattle.vs_backup.specs.declared.errors.Stop.{Stop}
 use Rattle.vs_backup.specs.declared.errors.Stop.TheVariants as stop
 use Rattle.vs_backup.specs.declared.errors.WriteErr.TheVariants as error
 use Rattle.vs_backup.proofs.Calls.{runs_wider, runs_file, spares_on, synced_bytes}
-use Rattle.vs_backup.proofs.Frames.{alone_settled, holds_spared, synced_spared, spares_same, spares_file, spares_none}
-use Rattle.vs_backup.proofs.Filling.{changes_by, fills_changes}
+use Rattle.vs_backup.proofs.Frames.{alone_settled, holds_spared, synced_spared, spares_same}
+use Rattle.vs_backup.proofs.Filling.{changes_by}
 use Rattle.vs_backup.proofs.Kept.{kept_by_name, kept_by_backup, settled_holds, may_leave_now, may_leave_filled}
 
 -- a predicate that holds at each moment of two runs

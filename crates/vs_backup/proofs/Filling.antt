@@ -1,19 +1,19 @@
 -- How a file grows piece by piece: what was written and what is still held are the bytes so far.
-use Rattle.std.proofs.Common.{◌≡◌, ℕ, ◌+◌, ◌<◌, ◌≤◌, List, [], ◌∷◌, ◌++◌, length, take, drop, get_or, Option, Some, None, IsSome, IfSome, OnOk, OnErr, Result, Ok, Err, refl, sym, ◌∙◌, ap, subst, arith, append_assoc, append-nil, length-append, length-take}
+use Rattle.std.proofs.Common.{◌≡◌, ℕ, ◌+◌, ◌<◌, List, [], ◌∷◌, ◌++◌, length, take, drop, get_or, Option, Some, None, OnOk, OnErr, Result, refl, sym, ◌∙◌, ap, subst, arith}
 use Rattle.std.specs.Prelude.{IsSomeAnd}
 use Rattle.std.proofs.lemmas.Grind.{common_steps}
 use Rattle.std.proofs.Math.Seq.{take-add}
 use Rattle.vs_text.specs.Text.{file_of}
-use Rattle.vs_host.specs.File.{File, IsFileImage, Writes, WritesSome, Syncs, put, synced_file}
+use Rattle.vs_host.specs.File.{File, Writes, WritesSome, Syncs, put}
 use Rattle.vs_host.specs.Disk.{Disk, Name, ChangesFile, content_in}
-use Rattle.vs_host.specs.Trace.{Kind, Synced}
-use Rattle.vs_host.specs.World.{Scene, IsTold, ChangesFolder, ReadsFolder}
-use Rattle.vs_disk.specs.Images.{Changes, KeepsImages, IsSynced}
+use Rattle.vs_host.specs.Trace.{Synced}
+use Rattle.vs_host.specs.World.{Scene, IsTold, ChangesFolder}
+use Rattle.vs_disk.specs.Images.{Changes, KeepsImages}
 use Rattle.vs_disk.specs.Runs.{Runs, Looks}
 use Rattle.vs_disk.proofs.Steps.{same_file, file_then, file_as}
 use Rattle.vs_disk.proofs.Images.{write_keeps_images}
-use Rattle.vs_disk.proofs.Runs.{one_call, one_look, runs_as, runs_then, runs_on, call_on, reads_change}
-use Rattle.vs_disk.proofs.Contents.{written_content, put_end, of_bytes, some_bytes}
+use Rattle.vs_disk.proofs.Runs.{runs_as, runs_then, runs_on, call_on}
+use Rattle.vs_disk.proofs.Contents.{written_content, put_end}
 use Rattle.vs_backup.specs.Works.{Fills, ChangesOne}
 use Rattle.vs_backup.proofs.Frames.{either}
 
@@ -70,7 +70,7 @@ pub sync_changes : {T E : Type 0} (name : Name) (told : Type 0) (result : Result
 sync_changes name told result s0 s1 s2 is frame first ok err framed told_of =
     let here : ChangesOne name s1.folder s2.folder =
     either (told → ChangesFile name Syncs s1.folder s2.folder) (s2.folder ≡ s1.folder) (ChangesOne name s1.folder s2.folder) result ok err
-        (λ syncs. changes_by name Syncs s1.folder s2.folder (syncs is)) (λ same. changes_same name s1.folder s2.folder same) in
+    (λ syncs. changes_by name Syncs s1.folder s2.folder (syncs is)) (λ same. changes_same name s1.folder s2.folder same) in
     call_on (ChangesOne name) (changes_then name) Synced (name ∷ []) result s0 s1 s2 frame first framed here told_of
 
 -- ---- bytes

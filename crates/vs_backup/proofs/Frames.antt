@@ -4,10 +4,10 @@ use Rattle.std.proofs.Common.{◌≡◌, ◌⊎◌, inl, inr, ℕ, zero, suc, Bo
 use Rattle.std.specs.Str.{bytes_eq}
 use Rattle.std.proofs.lemmas.Slice.Eq.{bytes_eq-Decides}
 use Rattle.std.proofs.lemmas.Bool.Decides.{eqb_tells}
-use Rattle.std.proofs.lemmas.Bool.{cases_Bool, cond-true, cond-false, true≢false}
-use Rattle.vs_host.specs.File.{File, IsFileImage, synced_file, Syncs}
+use Rattle.std.proofs.lemmas.Bool.{cond-true, cond-false}
+use Rattle.vs_host.specs.File.{File, IsFileImage, Syncs}
 use Rattle.vs_host.specs.Disk.{Disk, Name, Directory, Change, Creates, Renames, Removes, changed_names, names_of, names_at, read_under, content_in, IsImageOf, ChangesFile, ChangesNames, CreatesFile, SyncsNames, IsFolder}
-use Rattle.vs_disk.specs.Images.{FileHas, Holds, HoldsAt, IsSynced, Narrows, MayLeave, Takes}
+use Rattle.vs_disk.specs.Images.{Holds, IsSynced, Narrows, MayLeave, Takes}
 use Rattle.vs_disk.specs.Names.{SameAt}
 use Rattle.vs_disk.proofs.Steps.{at_name, differ, itself, same_at, older_names, newest_names, settled, one_state}
 use Rattle.vs_disk.proofs.Images.{sync_narrows}
@@ -70,8 +70,8 @@ spares_removed gone old new changes = spares_names (one_name gone) (Removes gone
 pub spares_renamed : (from to : Name) (old new : Disk) → ChangesNames (Renames from to) old new → Spares (two_names from to) old new
 spares_renamed from to old new changes = spares_names (two_names from to) (Renames from to) old new changes
     (λ names name other.
-        cond-false (bytes_eq to name) (names from) (cond (bytes_eq from name) None (names name)) (not_same to name (λ e. other (inr e)))
-        ∙ cond-false (bytes_eq from name) None (names name) (not_same from name (λ e. other (inl e))))
+    cond-false (bytes_eq to name) (names from) (cond (bytes_eq from name) None (names name)) (not_same to name (λ e. other (inr e)))
+    ∙ cond-false (bytes_eq from name) None (names name) (not_same from name (λ e. other (inl e))))
 
 module _ (made : Name) (old new : Disk) (creates : CreatesFile made old new) where
   left : (name : Name) → (name ≡ made → ⊥) → names_of new name ≡ names_of old name

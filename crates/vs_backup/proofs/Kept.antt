@@ -1,17 +1,15 @@
 -- Where the old bytes stand while a file is written over: in a copy that other calls leave alone, or in the file that was renamed.
-use Rattle.std.proofs.Common.{◌≡◌, ◌⊎◌, inl, inr, ℕ, ◌+◌, ◌≤◌, zero, suc, Bool, true, false, cond, List, [], Option, Some, None, length, OnOk, OnErr, Result, Ok, Err, refl, sym, ◌∙◌, ap, subst, arith}
+use Rattle.std.proofs.Common.{◌≡◌, ◌⊎◌, inl, inr, ℕ, zero, suc, cond, List, [], Option, Some, None, refl, sym, ◌∙◌, ap, subst}
 use Rattle.std.specs.Str.{bytes_eq}
 use Rattle.std.proofs.lemmas.Bool.{cond-true, cond-false}
-use Rattle.vs_host.specs.File.{File, IsFileImage, Leaves, Cuts, synced_file}
-use Rattle.vs_host.specs.Disk.{Disk, Name, Directory, Creates, Renames, changed_names, names_of, names_at, content_in, IsImage, IsImageOf, ChangesFile, ChangesNames, CreatesFile, SyncsNames, IsFolder}
-use Rattle.vs_host.specs.World.{Scene}
-use Rattle.vs_disk.specs.Images.{Changes, KeepsImages, FileHas, Holds, HoldsBytes, IsSynced, MayLeave}
-use Rattle.vs_disk.specs.Runs.{Runs}
+use Rattle.vs_host.specs.File.{File, IsFileImage, Leaves}
+use Rattle.vs_host.specs.Disk.{Disk, Name, Creates, Renames, changed_names, names_of, names_at, content_in, IsImage, IsImageOf, ChangesFile, ChangesNames, CreatesFile, SyncsNames}
+use Rattle.vs_disk.specs.Images.{Changes, KeepsImages, HoldsBytes, MayLeave}
 use Rattle.vs_disk.proofs.Steps.{at_name, itself, same_at, older_names, newest_names, settled, one_state}
-use Rattle.vs_disk.proofs.Images.{synced_image, read_image, cut_keeps_images}
-use Rattle.vs_disk.proofs.Contents.{file_of_content, holds_synced, image_holds, not_there, leads_nowhere}
+use Rattle.vs_disk.proofs.Images.{synced_image, read_image}
+use Rattle.vs_disk.proofs.Contents.{file_of_content, holds_synced}
 use Rattle.vs_backup.specs.Works.{Fills, IsAlone}
-use Rattle.vs_backup.specs.Writing.{IsKept, IsSettled, IsGuarded, MayLackNew, MayLackOld}
+use Rattle.vs_backup.specs.Writing.{IsKept, IsSettled, IsGuarded}
 use Rattle.vs_backup.proofs.Frames.{not_same, some_or_none}
 
 -- ---- what each image has

@@ -6,4 +6,5 @@ pub mod Filling
 pub mod Frames
 pub mod Kept
 pub mod Moving
+pub mod NamesApart
 pub mod Unbacked

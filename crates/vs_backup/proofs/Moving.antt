@@ -1,22 +1,21 @@
 -- Writing a file anew after it was renamed to its backup: in each image the name or the backup name leads to the old file.
-use Rattle.std.proofs.Common.{◌≡◌, ◌⊎◌, inl, inr, ℕ, List, [], ◌∷◌, Option, Some, None, length, OnOk, OnErr, IfOk, Result, Ok, Err, refl, sym, ◌∙◌, ap, subst}
-use Rattle.vs_host.specs.Disk.{Disk, Name, Creates, Renames, names_of, names_at, content_in, IsImageOf, ChangesNames, CreatesFile, SyncsNames, IsFolder}
+use Rattle.std.proofs.Common.{◌≡◌, inl, inr, ℕ, List, [], ◌∷◌, Option, None, length, OnOk, Result, Ok, Err, refl, sym, ◌∙◌, subst}
+use Rattle.vs_host.specs.Disk.{Disk, Name, Creates, Renames, names_at, content_in, IsImageOf, ChangesNames, CreatesFile, SyncsNames}
 use Rattle.vs_host.specs.Trace.{Created, SyncedNames, Renamed}
 use Rattle.vs_host.specs.World.{Scene, ChangesFolder, IsTold}
 use Rattle.vs_host.specs.declared.traits.Failed.{Failed}
-use Rattle.vs_disk.specs.Images.{Changes, HoldsBytes, IsSynced, MayLeave}
+use Rattle.vs_disk.specs.Images.{Changes, IsSynced, MayLeave}
 use Rattle.vs_disk.specs.Runs.{Runs}
 use Rattle.vs_disk.proofs.Steps.{at_name, same_at, older_names}
-use Rattle.vs_disk.proofs.Runs.{one_call, runs_as, frames}
+use Rattle.vs_disk.proofs.Runs.{one_call, runs_as}
 use Rattle.vs_disk.proofs.Contents.{leads_nowhere}
 use Rattle.vs_backup.specs.Works.{ChangesOne, IsAlone, Spares, one_name, two_names}
-use Rattle.vs_backup.specs.Writing.{IsKept, IsSettled, IsGuarded, WritesAnew, WritesOver, OldIn, stopped}
+use Rattle.vs_backup.specs.Writing.{IsKept, IsSettled, IsGuarded, WritesAnew, WritesOver, stopped}
 use Rattle.vs_backup.specs.declared.errors.Place.TheVariants as place
 use Rattle.vs_backup.specs.declared.errors.Stop.{Stop}
-use Rattle.vs_backup.specs.declared.errors.WriteErr.TheVariants as error
 use Rattle.vs_backup.proofs.Calls.{runs_wider, runs_file, spares_on}
 use Rattle.vs_backup.proofs.Frames.{alone_created, spares_same, spares_created, spares_synced, spares_renamed, settled_now}
-use Rattle.vs_backup.proofs.Kept.{guard_kept, guard_same, guard_created, guard_file, guard_synced, guard_moved, guard_bytes, settled_holds, kept_by_name}
+use Rattle.vs_backup.proofs.Kept.{guard_kept, guard_same, guard_created, guard_file, guard_synced, guard_moved, guard_bytes, settled_holds}
 use Rattle.vs_backup.proofs.Copying.{kept_on, never_file, never_nowhere, never_no_name, never_refused}
 
 -- ---- the name is made anew

@@ -1,23 +1,23 @@
 -- Writing without a backup: the file alone changes, or its temporary name until the file takes its own.
-use Rattle.std.proofs.Common.{◌≡◌, ◌⊎◌, inl, inr, ℕ, ◌≤◌, List, [], ◌∷◌, Option, Some, None, length, OnOk, OnErr, IfOk, Result, Ok, Err, refl, sym, ◌∙◌, ap, subst, arith}
-use Rattle.vs_host.specs.File.{File, Cuts}
+use Rattle.std.proofs.Common.{◌≡◌, inl, ℕ, List, [], ◌∷◌, Some, None, length, OnOk, OnErr, IfOk, Result, Ok, Err, sym, ◌∙◌, subst, arith}
+use Rattle.vs_host.specs.File.{Cuts}
 use Rattle.vs_host.specs.Disk.{Disk, Name, content_in, ChangesFile, IsFolder}
 use Rattle.vs_host.specs.Trace.{Cut}
 use Rattle.vs_host.specs.World.{Scene, ChangesFolder, IsTold}
 use Rattle.vs_host.specs.declared.traits.Failed.{Failed}
-use Rattle.vs_disk.specs.Images.{HoldsBytes, IsSynced, MayLeave, Takes}
+use Rattle.vs_disk.specs.Images.{IsSynced, MayLeave, Takes}
 use Rattle.vs_disk.specs.Runs.{Runs}
 use Rattle.vs_disk.proofs.Images.{cut_keeps_images}
-use Rattle.vs_disk.proofs.Runs.{one_call, runs_as, runs_on, starts, frames}
+use Rattle.vs_disk.proofs.Runs.{one_call, runs_as, runs_on, starts}
 use Rattle.vs_disk.proofs.Contents.{holds_synced, takes_then}
 use Rattle.vs_backup.specs.Works.{ChangesOne, Fills, IsAlone, Narrowed, Spares, one_name, two_names}
 use Rattle.vs_backup.specs.Writing.{IsSettled, WritesFresh, WritesPlain}
 use Rattle.vs_backup.specs.declared.errors.Stop.{Stop}
 use Rattle.vs_backup.proofs.Calls.{runs_wider, runs_file, spares_on, synced_bytes}
-use Rattle.vs_backup.proofs.Frames.{spares_none, spares_same, spares_file, takes_spared, content_spared, absent_now}
+use Rattle.vs_backup.proofs.Frames.{spares_none, spares_same, takes_spared, content_spared, absent_now}
 use Rattle.vs_backup.proofs.Filling.{changes_by, changes_then}
 use Rattle.vs_backup.proofs.Kept.{may_leave_now, may_leave_filled, settled_holds}
-use Rattle.vs_backup.proofs.Copying.{alone_now, cut_content}
+use Rattle.vs_backup.proofs.Copying.{alone_now}
 use Rattle.vs_backup.proofs.Backed.{narrowed_content}
 
 -- ---- over a file that is there

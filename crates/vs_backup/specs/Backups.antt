@@ -1,7 +1,6 @@
 -- Which backup a write makes.
 use Rattle.std.specs.Prelude.{◌≡◌, ℕ, zero, suc, ◌+◌, ◌-◌, Bool, true, false, List, [], ◌∷◌, ◌++◌, length, map, take, codes, Option, Some, None, is_some, if◌then◌else◌, ◌||◌}
 use Rattle.vs_host.specs.Disk.{Disk, Name, content_in}
-use Rattle.vs_host.specs.Names.{temporary}
 use Rattle.vs_backup.specs.declared.options.CopyMode.{CopyMode}
 use Rattle.vs_backup.specs.declared.options.CopyMode.TheVariants.{Yes, No, Auto}
 use Rattle.vs_backup.specs.declared.options.WriteOptions.{WriteOptions}

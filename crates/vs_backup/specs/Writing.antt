@@ -4,7 +4,7 @@ use Rattle.vs_faults.specs.Faults.{HasRisen}
 use Rattle.vs_host.specs.File.{Leaves}
 use Rattle.vs_host.specs.Disk.{Disk, Name, IsImage, names_of, names_at, content_in}
 use Rattle.vs_host.specs.World.{Scene}
-use Rattle.vs_disk.specs.Images.{Holds, HoldsBytes, IsSynced, MayLeave, Takes}
+use Rattle.vs_disk.specs.Images.{HoldsBytes, IsSynced, MayLeave, Takes}
 use Rattle.vs_disk.specs.Runs.{Runs}
 use Rattle.vs_backup.specs.Works.{Narrowed, Spares, one_name, two_names, three_names}
 use Rattle.vs_host.specs.declared.traits.Failed.{Failed}

@@ -9,6 +9,7 @@ mod files;
 mod fill;
 mod options;
 mod plain;
+mod write;
 
 pub use desk::Desk;
 pub use errors::{Place, WriteErr};

@@ -1,16 +1,13 @@
-use Rattle.std.proofs.Common.{◌≡◌, ◌⊎◌, ◌∙◌, [], ◌∷◌, inl, inr, ℕ, List, Bool, Option, Some, None, IsTrue, Result, Ok, Err, OnOk, OnErr, refl, sym, ap, subst}
-use Rattle.std.specs.Prelude.{IsSome, is_some}
-use Rattle.vs_text.specs.Text.{file_of}
-use Rattle.vs_host.specs.Disk.{Disk, Name, content_in}
-use Rattle.vs_host.specs.World.{Scene, ChangesFolder, content_of}
-use Rattle.vs_disk.specs.Images.{IsSynced, Changes}
-use Rattle.vs_disk.specs.Runs.{Runs}
-use Rattle.vs_disk.proofs.Runs.{one_call, runs_as, runs_on, call_on, frames, reads_change}
+use Rattle.std.proofs.Common.{◌≡◌, ◌∙◌, inl, ℕ, List, Option, Some, IsTrue, ap}
+use Rattle.std.specs.Prelude.{is_some}
+use Rattle.vs_host.specs.World.{Scene, content_of}
+use Rattle.vs_disk.specs.Images.{IsSynced}
+use Rattle.vs_disk.proofs.Runs.{frames}
 use Rattle.vs_disk.proofs.Contents.{some_content}
-use Rattle.vs_backup.specs.Works.{IsAlone, Spares, one_name, two_names, three_names}
-use Rattle.vs_backup.specs.Writing.{IsSettled, StartsOver, WritesOver}
-use Rattle.vs_backup.proofs.Calls.{spares_on, runs_wider, runs_file, synced_there, synced_bytes}
-use Rattle.vs_backup.proofs.Frames.{either, ok_leads, err_leads, err_is, content_spared, spares_then}
+use Rattle.vs_backup.specs.Works.{one_name, two_names}
+use Rattle.vs_backup.specs.Writing.{IsSettled}
+use Rattle.vs_backup.proofs.Calls.{spares_on, runs_wider, runs_file, synced_there}
+use Rattle.vs_backup.proofs.Frames.{ok_leads, content_spared}
 use Rattle.vs_backup.proofs.backup.copy_to_backup.Goals as goal
 
 pub returns-in_err-make_anew-clause-spares : goal.returns-in_err-make_anew-clause-spares
@@ -65,6 +62,6 @@ returns-clause-ok g c =
     ok_leads (IsTrue g.D.World.tells.folder → (bytes : List ℕ) → IsSynced c.args.temporary.now bytes s2.folder → IsSettled c.args.backup.now bytes s3.folder)
     (IsTrue g.D.World.tells.folder → (old : List ℕ) → content_of s0 c.args.name.now ≡ Some old → IsSettled c.args.backup.now old s3.folder) c.take_name.result
     (λ takes told old is.
-        let same = content_spared (one_name c.args.temporary.now) c.args.name.now s0.folder s1.folder c.requires.differ (c.make_anew.ensures.spares told).now in
-        takes told old (c.in_ok-fill_copy.ensures.ok told old (same ∙ is)))
+    let same = content_spared (one_name c.args.temporary.now) c.args.name.now s0.folder s1.folder c.requires.differ (c.make_anew.ensures.spares told).now in
+    takes told old (c.in_ok-fill_copy.ensures.ok told old (same ∙ is)))
     c.take_name.ensures.ok

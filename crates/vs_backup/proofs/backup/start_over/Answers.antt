@@ -1,19 +1,11 @@
-use Rattle.std.proofs.Common.{◌≡◌, ◌⊎◌, ◌∙◌, [], ◌∷◌, inl, inr, ℕ, List, Bool, Option, Some, None, IsTrue, Result, Ok, Err, OnOk, OnErr, refl, sym, ap, subst, ◌≤◌, length, arith}
+use Rattle.std.proofs.Common.{ℕ, List, Option, IsTrue, sym, subst, ◌≤◌, length, arith}
 use Rattle.std.specs.Prelude.{IsSomeAnd}
 use Rattle.std.proofs.lemmas.Result.{err_from_is_err_and}
-use Rattle.vs_text.specs.Text.{file_of}
 use Rattle.vs_host.specs.File.{Cuts}
-use Rattle.vs_host.specs.Disk.{Disk, Name, content_in, ChangesFile}
-use Rattle.vs_host.specs.World.{Scene, ChangesFolder, content_of}
-use Rattle.vs_disk.specs.Images.{IsSynced, Changes}
-use Rattle.vs_disk.specs.Runs.{Runs}
-use Rattle.vs_disk.proofs.Runs.{one_call, runs_as, runs_on, call_on, frames, reads_change}
-use Rattle.vs_backup.specs.Works.{IsAlone, Spares, one_name, two_names, three_names}
-use Rattle.vs_backup.specs.Writing.{IsSettled, StartsOver, WritesOver, stopped}
-use Rattle.vs_backup.specs.declared.errors.Place.TheVariants as place
-use Rattle.vs_backup.specs.declared.errors.WriteErr.{WriteErr}
-use Rattle.vs_backup.proofs.Calls.{spares_on, runs_wider, runs_file, synced_there, synced_bytes}
-use Rattle.vs_backup.proofs.Frames.{either, ok_leads, err_leads, err_is, content_spared, spares_then}
+use Rattle.vs_host.specs.Disk.{ChangesFile}
+use Rattle.vs_host.specs.World.{Scene}
+use Rattle.vs_backup.proofs.Calls.{synced_there, synced_bytes}
+use Rattle.vs_backup.proofs.Frames.{ok_leads}
 use Rattle.vs_backup.proofs.Copying.{copy_failed, copy_content, cut_over}
 use Rattle.vs_backup.proofs.backup.start_over.Goals as goal
 

@@ -1,21 +1,8 @@
-use Rattle.std.proofs.Common.{◌≡◌, ◌⊎◌, ◌∙◌, [], ◌∷◌, inl, inr, ℕ, List, Bool, Option, Some, None, IsTrue, Result, Ok, Err, OnOk, OnErr, refl, sym, ap, subst}
 use Rattle.std.proofs.lemmas.Result.{err_from_is_err_and}
 use Rattle.vs_text.specs.Text.{file_of}
-use Rattle.vs_host.specs.Disk.{Disk, Name, content_in}
-use Rattle.vs_host.specs.Trace.{Renamed}
-use Rattle.vs_host.specs.World.{Scene, ChangesFolder, content_of}
-use Rattle.vs_disk.specs.Runs.{Runs}
-use Rattle.vs_disk.proofs.Runs.{one_call, frames}
-use Rattle.vs_disk.proofs.Contents.{not_there}
-use Rattle.vs_backup.specs.Works.{Spares, one_name, two_names}
-use Rattle.vs_backup.specs.Writing.{IsKept, IsSettled, IsGuarded, WritesAnew, WritesOver, stopped}
-use Rattle.vs_backup.specs.declared.errors.Place.TheVariants as place
-use Rattle.vs_backup.specs.declared.errors.WriteErr.{WriteErr}
-use Rattle.vs_backup.proofs.Calls.{synced_there}
-use Rattle.vs_backup.proofs.Frames.{spares_same}
-use Rattle.vs_backup.proofs.Kept.{guard_moved, moved_away, kept_by_name, settled_holds}
-use Rattle.vs_backup.proofs.Copying.{copying_not_begun}
-use Rattle.vs_backup.proofs.Moving.{anew_not_made, anew_not_filled, anew_not_synced, anew_done, moving_done, moving_stopped}
+use Rattle.vs_host.specs.World.{Scene}
+use Rattle.vs_disk.proofs.Runs.{frames}
+use Rattle.vs_backup.proofs.Moving.{anew_not_made, anew_not_filled, anew_not_synced, anew_done}
 use Rattle.vs_backup.proofs.backup.write_anew.Goals as goal
 
 pub returns-in_err-create-clause-anew : goal.returns-in_err-create-clause-anew

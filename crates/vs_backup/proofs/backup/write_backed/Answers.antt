@@ -1,19 +1,11 @@
-use Rattle.std.proofs.Common.{◌≡◌, ◌⊎◌, ◌∙◌, ◌≤◌, [], ◌∷◌, inl, inr, ℕ, List, Bool, true, false, Option, Some, None, IsTrue, Result, Ok, Err, OnOk, OnErr, refl, sym, ap, subst, arith}
+use Rattle.std.proofs.Common.{◌≡◌, ◌∙◌, ℕ, None, IsTrue, Result, Err, sym, ap, subst}
 use Rattle.std.proofs.lemmas.Result.{err_from_is_err_and}
-use Rattle.vs_faults.specs.Faults.{HasRisen}
 use Rattle.vs_text.specs.Text.{file_of}
-use Rattle.vs_host.specs.Disk.{Disk, Name, names_at, content_in}
-use Rattle.vs_host.specs.World.{Scene, ChangesFolder, content_of}
-use Rattle.vs_disk.specs.Runs.{Runs}
-use Rattle.vs_disk.proofs.Runs.{one_call, frames}
-use Rattle.vs_disk.proofs.Contents.{some_content}
-use Rattle.vs_backup.specs.Works.{Spares, one_name, two_names, three_names}
-use Rattle.vs_backup.specs.Writing.{IsSettled, WritesOver, WritesBacked, backed_names, stopped}
-use Rattle.vs_backup.specs.declared.errors.Place.TheVariants as place
+use Rattle.vs_host.specs.Disk.{names_at}
+use Rattle.vs_host.specs.World.{Scene}
+use Rattle.vs_backup.specs.Writing.{WritesBacked, backed_names}
 use Rattle.vs_backup.specs.declared.errors.WriteErr.{WriteErr}
-use Rattle.vs_backup.specs.declared.errors.WriteErr.TheVariants as error
-use Rattle.vs_backup.proofs.Backed.{backed_refused, backed_kept, backed_removed, backed_not_begun, backed_after, gone_unless_risen, holds_there}
-use Rattle.vs_backup.proofs.Copying.{only_file}
+use Rattle.vs_backup.proofs.Backed.{backed_refused, backed_kept, backed_removed, gone_unless_risen, holds_there}
 use Rattle.vs_backup.proofs.backup.write_backed.Goals as goal
 
 pub returns-in_err-size-clause-backed : goal.returns-in_err-size-clause-backed
@@ -39,7 +31,7 @@ returns-clause-backed g c told old is text has =
     let s1 : Scene = g.D.World.scene c.write_over.new.desk in
     let s2 : Scene = g.D.World.scene c.drop_name.new.desk in
     let gone = gone_unless_risen c.drop_name.result s0.folder_faults s1.folder_faults s2.folder_faults ((lost : ℕ) → names_at s2.folder lost c.args.backup.now ≡ None)
-        (IsTrue g.D.World.tells.folder) told c.write_over.ensures.cause.later c.drop_name.ensures.cause c.drop_name.ensures.gone in
+    (IsTrue g.D.World.tells.folder) told c.write_over.ensures.cause.later c.drop_name.ensures.cause c.drop_name.ensures.gone in
     backed_removed c.args.copying c.args.keep c.args.name.now c.args.temporary.now c.args.backup.now old (file_of text) s0 s1 is c.in_ok-size.size s2 c.if-keep.false
     c.write_over.ensures.frame c.requires.differ_name (c.in_ok-size.ensures.over told old is text has) (c.drop_name.ensures.spares told) gone
 

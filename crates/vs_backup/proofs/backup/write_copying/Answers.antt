@@ -1,18 +1,9 @@
-use Rattle.std.proofs.Common.{◌≡◌, ◌⊎◌, ◌∙◌, [], ◌∷◌, inl, inr, ℕ, List, Bool, Option, Some, None, IsTrue, Result, Ok, Err, OnOk, OnErr, refl, sym, ap, subst}
-use Rattle.std.proofs.lemmas.Result.{err_from_is_err_and}
+use Rattle.std.proofs.Common.{Err, sym, subst}
 use Rattle.vs_text.specs.Text.{file_of}
-use Rattle.vs_host.specs.File.{Cuts}
-use Rattle.vs_host.specs.Disk.{Disk, Name, content_in, ChangesFile}
-use Rattle.vs_host.specs.World.{Scene, ChangesFolder, content_of}
-use Rattle.vs_disk.specs.Images.{IsSynced, Changes}
-use Rattle.vs_disk.specs.Runs.{Runs}
-use Rattle.vs_disk.proofs.Runs.{one_call, runs_as, runs_on, call_on, frames, reads_change}
-use Rattle.vs_backup.specs.Works.{IsAlone, Spares, one_name, two_names, three_names}
-use Rattle.vs_backup.specs.Writing.{IsSettled, StartsOver, WritesOver, stopped}
-use Rattle.vs_backup.specs.declared.errors.Place.TheVariants as place
+use Rattle.vs_host.specs.World.{Scene}
+use Rattle.vs_backup.specs.Works.{three_names}
+use Rattle.vs_backup.specs.Writing.{WritesOver}
 use Rattle.vs_backup.specs.declared.errors.WriteErr.{WriteErr}
-use Rattle.vs_backup.proofs.Calls.{spares_on, runs_wider, runs_file, synced_there, synced_bytes}
-use Rattle.vs_backup.proofs.Frames.{either, ok_leads, err_leads, err_is, content_spared, spares_then}
 use Rattle.vs_backup.proofs.Copying.{copying_done, copying_stopped, copying_not_begun}
 use Rattle.vs_backup.proofs.backup.write_copying.Goals as goal
 
@@ -34,7 +25,7 @@ returns-in-Err-fill_text-clause-over g c told old is text has =
     let s2 : Scene = g.D.World.scene c.fill_text.new.desk in
     subst (λ (error : WriteErr). WritesOver on c.args.name.now c.args.backup.now old (file_of text) s0 s2 (Err error)) (sym c.with.ensures)
     (copying_stopped c.args.name.now c.args.backup.now c.args.temporary.now old (file_of text) s0 s1 s2 c.start_over.ensures.frame (λ e. c.requires.differ_name (sym e)) (g.D.World.is_folder c.start_over.new.desk told)
-      (c.in-Ok.ensures.over told old is) (c.fill_text.ensures.runs told) c.in-Err-fill_text.stop (c.in-Err-fill_text.ensures.err told))
+    (c.in-Ok.ensures.over told old is) (c.fill_text.ensures.runs told) c.in-Err-fill_text.stop (c.in-Err-fill_text.ensures.err told))
 
 pub returns-in-Err-clause-over : goal.returns-in-Err-clause-over
 returns-in-Err-clause-over g c told old is text has =

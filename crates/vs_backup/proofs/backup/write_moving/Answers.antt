@@ -1,22 +1,19 @@
-use Rattle.std.proofs.Common.{◌≡◌, ◌⊎◌, ◌∙◌, [], ◌∷◌, inl, inr, ℕ, List, Bool, Option, Some, None, IsTrue, Result, Ok, Err, OnOk, OnErr, refl, sym, ap, subst}
-use Rattle.std.proofs.lemmas.Result.{err_from_is_err_and}
+use Rattle.std.proofs.Common.{[], ◌∷◌, Err, sym, subst}
 use Rattle.vs_text.specs.Text.{file_of}
-use Rattle.vs_host.specs.Disk.{Disk, Name, content_in}
+use Rattle.vs_host.specs.Disk.{Disk}
 use Rattle.vs_host.specs.Trace.{Renamed}
-use Rattle.vs_host.specs.World.{Scene, ChangesFolder, content_of}
+use Rattle.vs_host.specs.World.{Scene}
 use Rattle.vs_disk.specs.Images.{HoldsBytes}
-use Rattle.vs_disk.specs.Runs.{Runs}
-use Rattle.vs_disk.proofs.Runs.{one_call, frames}
+use Rattle.vs_disk.proofs.Runs.{one_call}
 use Rattle.vs_disk.proofs.Contents.{not_there}
-use Rattle.vs_backup.specs.Works.{Spares, one_name, two_names}
-use Rattle.vs_backup.specs.Writing.{IsKept, IsSettled, IsGuarded, WritesAnew, WritesOver, stopped}
-use Rattle.vs_backup.specs.declared.errors.Place.TheVariants as place
+use Rattle.vs_backup.specs.Works.{Spares, two_names}
+use Rattle.vs_backup.specs.Writing.{IsKept, WritesOver}
 use Rattle.vs_backup.specs.declared.errors.WriteErr.{WriteErr}
 use Rattle.vs_backup.proofs.Calls.{synced_there}
 use Rattle.vs_backup.proofs.Frames.{spares_same}
 use Rattle.vs_backup.proofs.Kept.{guard_moved, moved_away, kept_by_name, settled_holds}
 use Rattle.vs_backup.proofs.Copying.{copying_not_begun}
-use Rattle.vs_backup.proofs.Moving.{anew_not_made, anew_not_filled, anew_not_synced, anew_done, moving_done, moving_stopped}
+use Rattle.vs_backup.proofs.Moving.{moving_done, moving_stopped}
 use Rattle.vs_backup.proofs.backup.write_moving.Goals as goal
 
 pub returns-in-Ok-write_anew-clause-over : goal.returns-in-Ok-write_anew-clause-over
@@ -42,7 +39,7 @@ returns-in-Err-write_anew-clause-over g c told old is text has =
     let kept = g.met.D.Desk.stays_text c.args.desk.now c.rename.new.self text c.rename.ensures.stays has in
     subst (λ (error : WriteErr). WritesOver (two_names name backup) name backup old (file_of text) s0 s2 (Err error)) (sym c.with.ensures)
     (moving_stopped name backup old (file_of text) s0 s1 s2 is c.rename.ensures.frame c.rename.result (c.rename.ensures.told told) renames c.in-Err-write_anew.stop
-      (c.in-Err-write_anew.ensures.anew told backup is.synced.number old (λ e. c.requires.differ_name (sym e)) (guard_moved name backup old s0.folder s1.folder is renames) text kept))
+    (c.in-Err-write_anew.ensures.anew told backup is.synced.number old (λ e. c.requires.differ_name (sym e)) (guard_moved name backup old s0.folder s1.folder is renames) text kept))
 
 pub returns-in-Err-clause-over : goal.returns-in-Err-clause-over
 returns-in-Err-clause-over g c told old is text has =

@@ -1,12 +1,10 @@
-use Rattle.std.proofs.Common.{◌≡◌, ◌∙◌, ◌+◌, ◌-◌, ◌<◌, ◌≤◌, [], ◌∷◌, ℕ, suc, List, Bool, true, false, Option, Some, None, IsTrue, length, map, refl, sym, ap, subst, arith}
+use Rattle.std.proofs.Common.{◌≡◌, ◌∙◌, ◌+◌, ◌-◌, [], ◌∷◌, suc, List, true, false, Some, map, sym, ap, subst, arith}
 use Rattle.std.specs.Prelude.{is_some}
-use Rattle.std.specs.String.{string_bytes}
 use Rattle.vs_host.specs.Disk.{Disk, Name, content_in}
 use Rattle.vs_host.specs.Trace.{Looked}
-use Rattle.vs_host.specs.World.{Scene, ReadsFolder}
-use Rattle.vs_disk.specs.Runs.{Looks}
+use Rattle.vs_host.specs.World.{Scene}
 use Rattle.vs_disk.proofs.Runs.{one_look, looks_on, reads_change}
-use Rattle.vs_backup.specs.Backups.{IsBackupName, backup_name, candidates, first_free, lettered, letters}
+use Rattle.vs_backup.specs.Backups.{IsBackupName, backup_name, first_free, lettered, letters}
 use Rattle.vs_backup.proofs.Choosing.{free_here, free_later, candidates_are, letters_next, none_left, IsBackupName-plain, IsBackupName-lettered, some_name, reads_then}
 use Rattle.vs_backup.proofs.choose.first_free.Goals as goal
 

@@ -1,5 +1,5 @@
 use Rattle.std.proofs.Common.{◌≡◌, ◌≤◌, IsTrue, map}
-use Rattle.vs_host.specs.World.{Scene, ReadsFolder}
+use Rattle.vs_host.specs.World.{ReadsFolder}
 use Rattle.vs_disk.specs.Runs.{Looks}
 use Rattle.vs_backup.specs.Backups.{candidates, first_free, lettered, letters}
 use Rattle.vs_backup.proofs.choose.first_free.Given as goal

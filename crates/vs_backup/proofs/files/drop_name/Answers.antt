@@ -1,19 +1,11 @@
-use Rattle.std.proofs.Common.{◌≡◌, ◌∙◌, [], ◌∷◌, ℕ, List, Bool, false, Option, Some, None, IsTrue, Result, OnOk, OnErr, refl, sym, ap, subst}
-use Rattle.vs_host.specs.File.{File, Syncs}
-use Rattle.vs_host.specs.Disk.{Disk, Name, Renames, Removes, names_of, names_at, content_in, ChangesFile, ChangesNames, CreatesFile, SyncsNames}
-use Rattle.vs_host.specs.Trace.{Created, Synced, Renamed, Removed, SyncedNames, Looked}
-use Rattle.vs_host.specs.World.{Scene, ChangesFolder}
-use Rattle.vs_disk.specs.Images.{IsSynced, MayLeave, Takes}
-use Rattle.vs_disk.specs.Names.{IsApart, SameAt}
-use Rattle.vs_disk.specs.Runs.{Runs}
-use Rattle.vs_disk.proofs.Runs.{one_call, runs_as, runs_on, call_on, runs_then, reads_change}
-use Rattle.vs_disk.proofs.Others.{same_none, same_then, file_outside, sync_outside}
+use Rattle.std.proofs.Common.{◌≡◌, [], ◌∷◌, ℕ, None, IsTrue}
+use Rattle.vs_host.specs.Disk.{names_at, SyncsNames}
+use Rattle.vs_host.specs.Trace.{Removed, SyncedNames}
+use Rattle.vs_host.specs.World.{Scene}
+use Rattle.vs_disk.proofs.Runs.{one_call, call_on}
 use Rattle.vs_disk.proofs.Steps.{gone_for_good}
-use Rattle.vs_disk.proofs.Contents.{takes_renamed, takes_then, synced_content}
-use Rattle.vs_backup.specs.Writing.{IsSettled}
-use Rattle.vs_backup.specs.Works.{IsAlone, Narrowed, Spares, one_name, two_names}
-use Rattle.vs_backup.proofs.Calls.{spares_on, looked_at}
-use Rattle.vs_backup.proofs.Frames.{either, narrowed_none, narrowed_then, narrowed_file, narrowed_names, spares_none, spares_same, spares_then, spares_removed, spares_renamed, spares_created, spares_synced, spares_wider, takes_spared, takes_same, alone_created, ok_leads, err_leads, err_is, settled_now, synced_renamed, absent_now, absent_before}
+use Rattle.vs_backup.specs.Works.{Spares, one_name}
+use Rattle.vs_backup.proofs.Frames.{either, spares_same, spares_then, spares_removed, spares_synced, ok_leads}
 use Rattle.vs_backup.proofs.files.drop_name.Goals as goal
 
 pub returns-in_err-remove-clause-spares : goal.returns-in_err-remove-clause-spares
@@ -32,7 +24,7 @@ returns-clause-spares g c told =
     let first = one_call (Spares on) Removed (c.args.name.now ∷ []) c.remove.result s0 s1 c.remove.ensures.frame (c.remove.ensures.told told) (spares_removed c.args.name.now s0.folder s1.folder (c.in_ok-remove.ensures.ok told)) in
     let here : Spares on s1.folder s2.folder =
     either (IsTrue g.D.World.tells.folder → SyncsNames s1.folder s2.folder) (s2.folder ≡ s1.folder) (Spares on s1.folder s2.folder) c.sync_names.result
-        c.sync_names.ensures.ok c.sync_names.ensures.err (λ syncs. spares_synced on s1.folder s2.folder (syncs told)) (λ same. spares_same on s1.folder s2.folder same) in
+    c.sync_names.ensures.ok c.sync_names.ensures.err (λ syncs. spares_synced on s1.folder s2.folder (syncs told)) (λ same. spares_same on s1.folder s2.folder same) in
     call_on (Spares on) (spares_then on) SyncedNames [] c.sync_names.result s0 s1 s2 c.remove.ensures.frame first c.sync_names.ensures.frame here (c.sync_names.ensures.told told)
 
 pub returns-clause-gone : goal.returns-clause-gone

@@ -1,22 +1,11 @@
-use Rattle.std.proofs.Common.{◌≡◌, ◌∙◌, ◌+◌, ◌-◌, ◌*◌, ◌<◌, ◌≤◌, ◌++◌, [], ◌∷◌, ℕ, List, Bool, Option, Some, None, IsTrue, Result, OnOk, OnErr, length, take, drop, get_or, refl, sym, ap, subst, arith, append_assoc, append-nil, length-append, length-take}
-use Rattle.std.specs.Prelude.{IsSomeAnd}
-use Rattle.std.proofs.lemmas.Grind.{common_steps}
-use Rattle.std.proofs.lemmas.Result.{err_from_is_err_and}
-use Rattle.vs_text.specs.Text.{file_of}
-use Rattle.vs_text.specs.declared.TheConstants.{MAX_LINE_BYTES, MAX_LINES}
-use Rattle.vs_backup.specs.declared.fill.TheConstants.{PIECE}
-use Rattle.vs_host.specs.File.{File, Syncs, Writes, WritesSome}
-use Rattle.vs_host.specs.Disk.{Disk, Name, content_in, ChangesFile}
-use Rattle.vs_host.specs.Trace.{Wrote, Read, Synced, Measured}
-use Rattle.vs_host.specs.World.{Scene, ChangesFolder, content_of}
-use Rattle.std.proofs.lemmas.List.{take_all}
-use Rattle.vs_disk.specs.Images.{IsSynced, Changes}
-use Rattle.vs_disk.specs.Runs.{Runs, Looks}
-use Rattle.vs_disk.proofs.Runs.{one_call, one_look, starts, frames, reads_change, call_on}
-use Rattle.vs_disk.proofs.Contents.{synced_content, of_bytes, some_bytes, some_content}
-use Rattle.vs_backup.specs.Works.{Fills, ChangesOne, IsAlone, Spares, one_name}
-use Rattle.vs_backup.proofs.Frames.{either, ok_leads, err_leads, err_is, spares_file, alone_file, content_spared}
-use Rattle.vs_backup.proofs.Filling.{fills_none, fills_then, fills_same, fills_write, changes_none, changes_then, changes_same, changes_by, fills_changes, fills_on, changes_on, then_looks, looks_fills, looks_changes, sync_changes, size_is, size_at, bytes_at, written_end, file_more, piece_more}
+use Rattle.std.proofs.Common.{◌≡◌, ◌∙◌, ◌+◌, ◌++◌, [], ◌∷◌, ℕ, List, Some, IsTrue, length, take, drop, sym, ap, arith, length-take}
+use Rattle.vs_host.specs.Disk.{Disk, content_in}
+use Rattle.vs_host.specs.Trace.{Read}
+use Rattle.vs_host.specs.World.{Scene, content_of}
+use Rattle.vs_disk.proofs.Runs.{one_look, reads_change}
+use Rattle.vs_disk.proofs.Contents.{of_bytes, some_bytes}
+use Rattle.vs_backup.proofs.Frames.{ok_leads}
+use Rattle.vs_backup.proofs.Filling.{fills_changes, changes_on, looks_changes, size_is, piece_more}
 use Rattle.vs_backup.proofs.fill.copy_piece.Goals as goal
 
 pub returns-in_err-read_at-clause-runs : goal.returns-in_err-read_at-clause-runs
@@ -43,11 +32,11 @@ returns-clause-ok g c =
     (IsTrue g.D.World.tells.folder → (bytes : List ℕ) → content_of s0 c.args.from.now ≡ Some bytes → content_of s2 c.args.to.now ≡ Some (take (c.args.at + length c.args.buffer.now) bytes))
     c.put_piece.result
     (λ puts told bytes is.
-        let had = c.requires.there told in
-        let one : had.0 ≡ bytes = some_bytes had.0 bytes (sym had.1 ∙ is) in
-        let read = of_bytes s0.folder c.args.from.now bytes (λ b. c.read_at.new.into ≡ take (length c.args.buffer.now) (drop c.args.at b)) is (c.in_ok-read_at.ensures.value told) in
-        let so_far : content_of s1 c.args.to.now ≡ Some (take c.args.at bytes) = ap (λ (d : Disk). content_in d c.args.to.now) same ∙ had.3 ∙ ap (λ (b : List ℕ). Some (take c.args.at b)) one in
-        puts told (take c.args.at bytes) so_far ∙ ap (λ (b : List ℕ). Some b) (piece_more bytes c.read_at.new.into c.args.at (length c.args.buffer.now) read))
+    let had = c.requires.there told in
+    let one : had.0 ≡ bytes = some_bytes had.0 bytes (sym had.1 ∙ is) in
+    let read = of_bytes s0.folder c.args.from.now bytes (λ b. c.read_at.new.into ≡ take (length c.args.buffer.now) (drop c.args.at b)) is (c.in_ok-read_at.ensures.value told) in
+    let so_far : content_of s1 c.args.to.now ≡ Some (take c.args.at bytes) = ap (λ (d : Disk). content_in d c.args.to.now) same ∙ had.3 ∙ ap (λ (b : List ℕ). Some (take c.args.at b)) one in
+    puts told (take c.args.at bytes) so_far ∙ ap (λ (b : List ℕ). Some b) (piece_more bytes c.read_at.new.into c.args.at (length c.args.buffer.now) read))
     c.put_piece.ensures.ok
 
 pub put_piece-requires-clause-there : goal.put_piece-requires-clause-there

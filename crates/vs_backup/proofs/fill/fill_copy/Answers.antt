@@ -1,22 +1,16 @@
-use Rattle.std.proofs.Common.{◌≡◌, ◌∙◌, ◌+◌, ◌-◌, ◌*◌, ◌<◌, ◌≤◌, ◌++◌, [], ◌∷◌, ℕ, List, Bool, Option, Some, None, IsTrue, Result, OnOk, OnErr, length, take, drop, get_or, refl, sym, ap, subst, arith, append_assoc, append-nil, length-append, length-take}
-use Rattle.std.specs.Prelude.{IsSomeAnd}
+use Rattle.std.proofs.Common.{◌≡◌, ◌∙◌, ◌+◌, ◌≤◌, [], ◌∷◌, ℕ, List, Some, IsTrue, length, take, sym, ap, subst, arith}
 use Rattle.std.proofs.lemmas.Grind.{common_steps}
-use Rattle.std.proofs.lemmas.Result.{err_from_is_err_and}
-use Rattle.vs_text.specs.Text.{file_of}
-use Rattle.vs_text.specs.declared.TheConstants.{MAX_LINE_BYTES, MAX_LINES}
-use Rattle.vs_backup.specs.declared.fill.TheConstants.{PIECE}
-use Rattle.vs_host.specs.File.{File, Syncs, Writes, WritesSome}
-use Rattle.vs_host.specs.Disk.{Disk, Name, content_in, ChangesFile}
-use Rattle.vs_host.specs.Trace.{Wrote, Read, Synced, Measured}
-use Rattle.vs_host.specs.World.{Scene, ChangesFolder, content_of}
+use Rattle.vs_host.specs.File.{Syncs}
+use Rattle.vs_host.specs.Disk.{Disk, content_in, ChangesFile}
+use Rattle.vs_host.specs.Trace.{Measured}
+use Rattle.vs_host.specs.World.{Scene, content_of}
 use Rattle.std.proofs.lemmas.List.{take_all}
 use Rattle.vs_disk.specs.Images.{IsSynced, Changes}
-use Rattle.vs_disk.specs.Runs.{Runs, Looks}
-use Rattle.vs_disk.proofs.Runs.{one_call, one_look, starts, frames, reads_change, call_on}
+use Rattle.vs_disk.proofs.Runs.{one_look, frames, reads_change}
 use Rattle.vs_disk.proofs.Contents.{synced_content, of_bytes, some_bytes, some_content}
-use Rattle.vs_backup.specs.Works.{Fills, ChangesOne, IsAlone, Spares, one_name}
-use Rattle.vs_backup.proofs.Frames.{either, ok_leads, err_leads, err_is, spares_file, alone_file, content_spared}
-use Rattle.vs_backup.proofs.Filling.{fills_none, fills_then, fills_same, fills_write, changes_none, changes_then, changes_same, changes_by, fills_changes, fills_on, changes_on, then_looks, looks_fills, looks_changes, sync_changes, size_is, size_at, bytes_at, written_end, file_more, piece_more}
+use Rattle.vs_backup.specs.Works.{IsAlone, one_name}
+use Rattle.vs_backup.proofs.Frames.{ok_leads, spares_file, alone_file, content_spared}
+use Rattle.vs_backup.proofs.Filling.{changes_on, looks_changes, sync_changes}
 use Rattle.vs_backup.proofs.fill.fill_copy.Goals as goal
 
 pub returns-in_err-size-clause-runs : goal.returns-in_err-size-clause-runs
@@ -93,8 +87,8 @@ returns-clause-ok g c =
     ok_leads (IsTrue g.D.World.tells.folder → ChangesFile c.args.to.now Syncs s1.folder s2.folder)
     (IsTrue g.D.World.tells.folder → (bytes : List ℕ) → content_of s0 c.args.from.now ≡ Some bytes → IsSynced c.args.to.now bytes s2.folder) c.sync.result
     (λ syncs told bytes is.
-        let had = c.pieces.invariant.copied told in
-        let one : had.0 ≡ bytes = some_bytes had.0 bytes (sym had.1 ∙ is) in
-        let all : take c.pieces.at had.0 ≡ had.0 = let past : length had.0 ≤ c.pieces.at = omega (arith, had.2) in take_all c.pieces.at had.0 past in
-        synced_content c.args.to.now bytes s1.folder s2.folder (syncs told) (had.3 ∙ ap (λ (b : List ℕ). Some b) (all ∙ one)))
+    let had = c.pieces.invariant.copied told in
+    let one : had.0 ≡ bytes = some_bytes had.0 bytes (sym had.1 ∙ is) in
+    let all : take c.pieces.at had.0 ≡ had.0 = let past : length had.0 ≤ c.pieces.at = omega (arith, had.2) in take_all c.pieces.at had.0 past in
+    synced_content c.args.to.now bytes s1.folder s2.folder (syncs told) (had.3 ∙ ap (λ (b : List ℕ). Some b) (all ∙ one)))
     c.sync.ensures.ok

@@ -1,22 +1,7 @@
-use Rattle.std.proofs.Common.{◌≡◌, ◌∙◌, ◌+◌, ◌-◌, ◌*◌, ◌<◌, ◌≤◌, ◌++◌, [], ◌∷◌, ℕ, List, Bool, Option, Some, None, IsTrue, Result, OnOk, OnErr, length, take, drop, get_or, refl, sym, ap, subst, arith, append_assoc, append-nil, length-append, length-take}
-use Rattle.std.specs.Prelude.{IsSomeAnd}
-use Rattle.std.proofs.lemmas.Grind.{common_steps}
-use Rattle.std.proofs.lemmas.Result.{err_from_is_err_and}
-use Rattle.vs_text.specs.Text.{file_of}
-use Rattle.vs_text.specs.declared.TheConstants.{MAX_LINE_BYTES, MAX_LINES}
-use Rattle.vs_backup.specs.declared.fill.TheConstants.{PIECE}
-use Rattle.vs_host.specs.File.{File, Syncs, Writes, WritesSome}
-use Rattle.vs_host.specs.Disk.{Disk, Name, content_in, ChangesFile}
-use Rattle.vs_host.specs.Trace.{Wrote, Read, Synced, Measured}
-use Rattle.vs_host.specs.World.{Scene, ChangesFolder, content_of}
-use Rattle.std.proofs.lemmas.List.{take_all}
-use Rattle.vs_disk.specs.Images.{IsSynced, Changes}
-use Rattle.vs_disk.specs.Runs.{Runs, Looks}
-use Rattle.vs_disk.proofs.Runs.{one_call, one_look, starts, frames, reads_change, call_on}
-use Rattle.vs_disk.proofs.Contents.{synced_content, of_bytes, some_bytes, some_content}
-use Rattle.vs_backup.specs.Works.{Fills, ChangesOne, IsAlone, Spares, one_name}
-use Rattle.vs_backup.proofs.Frames.{either, ok_leads, err_leads, err_is, spares_file, alone_file, content_spared}
-use Rattle.vs_backup.proofs.Filling.{fills_none, fills_then, fills_same, fills_write, changes_none, changes_then, changes_same, changes_by, fills_changes, fills_on, changes_on, then_looks, looks_fills, looks_changes, sync_changes, size_is, size_at, bytes_at, written_end, file_more, piece_more}
+use Rattle.std.proofs.Common.{◌≡◌, ◌∙◌, ◌+◌, ◌++◌, [], length, ap, arith, append_assoc, length-append}
+use Rattle.vs_host.specs.World.{Scene}
+use Rattle.vs_disk.proofs.Runs.{frames}
+use Rattle.vs_backup.proofs.Filling.{fills_on}
 use Rattle.vs_backup.proofs.fill.put_bytes.Goals as goal
 
 pub returns-in_err-now-clause-runs : goal.returns-in_err-now-clause-runs

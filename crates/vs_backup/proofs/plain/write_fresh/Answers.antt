@@ -1,20 +1,10 @@
-use Rattle.std.proofs.Common.{◌≡◌, ◌⊎◌, ◌∙◌, ◌≤◌, [], ◌∷◌, inl, inr, ℕ, List, Bool, Option, Some, None, IsTrue, Result, Ok, Err, OnOk, OnErr, IfOk, length, refl, sym, ap, subst, arith}
-use Rattle.std.specs.Prelude.{IsSomeAnd}
 use Rattle.std.proofs.lemmas.Result.{err_from_is_err_and}
 use Rattle.vs_text.specs.Text.{file_of}
-use Rattle.vs_host.specs.File.{Cuts}
-use Rattle.vs_host.specs.Disk.{Disk, Name, content_in, ChangesFile}
-use Rattle.vs_host.specs.World.{Scene, ChangesFolder, content_of}
-use Rattle.vs_disk.specs.Images.{IsSynced, MayLeave}
-use Rattle.vs_disk.specs.Runs.{Runs}
+use Rattle.vs_host.specs.World.{Scene}
 use Rattle.vs_disk.proofs.Runs.{frames}
-use Rattle.vs_disk.proofs.Contents.{some_content}
-use Rattle.vs_backup.specs.Works.{Fills, Spares, one_name, two_names}
-use Rattle.vs_backup.specs.Writing.{IsSettled, WritesFresh, WritesPlain}
-use Rattle.vs_backup.proofs.Calls.{runs_file, spares_on, synced_there, synced_bytes}
-use Rattle.vs_backup.proofs.Copying.{cut_content}
-use Rattle.vs_backup.proofs.Frames.{ok_with, err_with}
-use Rattle.vs_backup.proofs.Unbacked.{plain_not_begun, plain_not_cut, plain_filled, fresh_not_taken, fresh_free, fresh_refused, fresh_done}
+use Rattle.vs_backup.specs.Works.{one_name}
+use Rattle.vs_backup.proofs.Calls.{runs_file, spares_on, synced_there}
+use Rattle.vs_backup.proofs.Unbacked.{fresh_not_taken, fresh_free, fresh_refused, fresh_done}
 use Rattle.vs_backup.proofs.plain.write_fresh.Goals as goal
 
 pub returns-in_err-make_anew-clause-fresh : goal.returns-in_err-make_anew-clause-fresh

@@ -1,20 +1,15 @@
-use Rattle.std.proofs.Common.{◌≡◌, ◌⊎◌, ◌∙◌, ◌≤◌, [], ◌∷◌, inl, inr, ℕ, List, Bool, Option, Some, None, IsTrue, Result, Ok, Err, OnOk, OnErr, IfOk, length, refl, sym, ap, subst, arith}
+use Rattle.std.proofs.Common.{◌≡◌, ◌≤◌, ℕ, List, Option, IsTrue, length, sym, subst, arith}
 use Rattle.std.specs.Prelude.{IsSomeAnd}
 use Rattle.std.proofs.lemmas.Result.{err_from_is_err_and}
 use Rattle.vs_text.specs.Text.{file_of}
-use Rattle.vs_host.specs.File.{Cuts}
-use Rattle.vs_host.specs.Disk.{Disk, Name, content_in, ChangesFile}
-use Rattle.vs_host.specs.World.{Scene, ChangesFolder, content_of}
-use Rattle.vs_disk.specs.Images.{IsSynced, MayLeave}
-use Rattle.vs_disk.specs.Runs.{Runs}
-use Rattle.vs_disk.proofs.Runs.{frames}
+use Rattle.vs_host.specs.World.{Scene}
+use Rattle.vs_disk.specs.Images.{IsSynced}
 use Rattle.vs_disk.proofs.Contents.{some_content}
-use Rattle.vs_backup.specs.Works.{Fills, Spares, one_name, two_names}
-use Rattle.vs_backup.specs.Writing.{IsSettled, WritesFresh, WritesPlain}
-use Rattle.vs_backup.proofs.Calls.{runs_file, spares_on, synced_there, synced_bytes}
+use Rattle.vs_backup.specs.Works.{Fills}
+use Rattle.vs_backup.proofs.Calls.{synced_bytes}
 use Rattle.vs_backup.proofs.Copying.{cut_content}
 use Rattle.vs_backup.proofs.Frames.{ok_with, err_with}
-use Rattle.vs_backup.proofs.Unbacked.{plain_not_begun, plain_not_cut, plain_filled, fresh_not_taken, fresh_free, fresh_refused, fresh_done}
+use Rattle.vs_backup.proofs.Unbacked.{plain_not_begun, plain_not_cut, plain_filled}
 use Rattle.vs_backup.proofs.plain.write_plain.Goals as goal
 
 pub returns-in_err-settle-clause-plain : goal.returns-in_err-settle-clause-plain
@@ -44,7 +39,7 @@ returns-clause-plain g c told old content text has =
     plain_filled c.args.name.now old (file_of text) s0 s1 content (c.settle.ensures.narrowed told) (c.in_ok-settle.ensures.ok told old content) (g.D.World.is_folder c.settle.new.desk told)
     s2 c.cut.ensures.frame c.cut.result (c.cut.ensures.told told) (c.in_ok-cut.ensures.ok told) s3 (c.fill_text.ensures.runs told) c.fill_text.result
     (ok_with c.fill_text.result (λ size. IsTrue g.D.World.tells.folder → (t : List (List ℕ)) → g.D.Desk.has_text c.cut.new.self t → (size ≡ length (file_of t)) × IsSynced c.args.name.now (file_of t) s3.folder)
-      (λ size. (size ≡ length (file_of text)) × IsSynced c.args.name.now (file_of text) s3.folder) (λ size f. f told text kept) c.fill_text.ensures.ok)
+    (λ size. (size ≡ length (file_of text)) × IsSynced c.args.name.now (file_of text) s3.folder) (λ size f. f told text kept) c.fill_text.ensures.ok)
     (err_with c.fill_text.result (IsTrue g.D.World.tells.folder → Fills c.args.name.now s2.folder s3.folder) (Fills c.args.name.now s2.folder s3.folder) (λ f. f told) c.fill_text.ensures.err)
 
 pub cut-requires-clause-there : goal.cut-requires-clause-there

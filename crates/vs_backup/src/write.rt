@@ -1,0 +1,105 @@
+// The whole of a write, by its options.
+ghost use Rattle.std.specs.Prelude.{◌≡◌, true, false, ℕ, List, length, IfOk, IfSome, MatchOption, IsErrOf, IsTrue, Some, None, IsSome, string_bytes};
+ghost use Rattle.vs_faults.specs.Faults.{HasCause};
+ghost use Rattle.vs_text.specs.Text.{file_of};
+ghost use Rattle.vs_host.specs.Disk.{Name};
+ghost use Rattle.vs_host.specs.Names.{is_allowed, temporary};
+ghost use Rattle.vs_host.specs.World.{content_of, ChangesFolder, ReadsFolder};
+ghost use Rattle.vs_backup.specs.Backups.{IsBackupName, backs_up, backup_of, copies};
+ghost use Rattle.vs_disk.specs.Runs.{Looks};
+ghost use Rattle.vs_backup.specs.Writing.{IsFailed, WritesBacked, backed_names};
+
+use crate::backup::write_with_backup;
+use crate::choose::{backup_name, first_free, temporary_of};
+use crate::errors::{Place, Stop, WriteErr};
+use crate::fill::PIECE;
+use crate::{CopyMode, Desk, WriteOptions};
+use std::alloc::{AllocError, Global};
+
+/// Whether the file is copied to its backup, and not renamed.
+fn copies(copy: CopyMode) -> bool
+    ensures { result ≡ copies copy }
+{
+    match copy {
+        CopyMode::Yes => true,
+        CopyMode::No | CopyMode::Auto => false,
+    }
+}
+
+/// The buffer for a piece, with room for no more.
+fn buffer(alloc: Global) -> Result<Vec<u8>, AllocError>
+    ensures { IfOk result (λ piece. length piece.items ≡ PIECE) }
+{
+    vec![in alloc; 0u8; PIECE]
+}
+
+/// Writes over a file that is there, with a backup of this name.
+fn write_named<D: Desk>(
+    alloc: Global,
+    desk: &mut D,
+    name: &str,
+    backup: &str,
+    options: &WriteOptions,
+) -> Result<u64, WriteErr>
+    requires valid { D.valid desk.old }
+    requires allowed { IsTrue (is_allowed name.now) }
+    requires named { IsBackupName name.now backup.now }
+    requires apart { D.reads desk.old name.now → ⊥ }
+    requires apart_backup { D.reads desk.old backup.now → ⊥ }
+    requires apart_temporary { D.reads desk.old (temporary backup.now) → ⊥ }
+    requires there { IsTrue (D.tells).folder → IsSome (content_of (D.scene desk.old) name.now) }
+    ensures backed { IsTrue (D.tells).folder → (old : List ℕ) → content_of (D.scene desk.old) name.now ≡ Some old → (text : List (List ℕ)) → D.has_text desk.old text
+        → WritesBacked (backed_names (copies options.now.copy) name.now (temporary backup.now) backup.now) options.now.backup name.now backup.now old (file_of text) (D.scene desk.old) (D.scene desk.new) result }
+    ensures cause { HasCause (D.scene desk.old).folder_faults (D.scene desk.new).folder_faults (IsFailed result) }
+    ensures frame { ChangesFolder (D.scene desk.old) (D.scene desk.new) }
+    ensures valid { D.valid desk.new }
+    ensures stays { D.stays desk.old desk.new }
+{
+    let Ok(temporary) = temporary_of(alloc, backup) else {
+        return Err(WriteErr::NoMemory {
+            old_in: Place::File,
+        });
+    };
+    let Ok(mut piece) = buffer(alloc) else {
+        return Err(WriteErr::NoMemory {
+            old_in: Place::File,
+        });
+    };
+    write_with_backup(
+        alloc,
+        desk,
+        name,
+        backup,
+        &temporary,
+        copies(options.copy),
+        options.backup,
+        &mut piece,
+    )
+}
+
+/// The name of the backup that a write over a file makes, and none where no name is free.
+fn choose<D: Desk>(
+    alloc: Global,
+    desk: &mut D,
+    name: &str,
+    options: &WriteOptions,
+) -> Result<Option<String>, Stop>
+    requires valid { D.valid desk.old }
+    requires allowed { IsTrue (is_allowed name.now) }
+    requires apart { (backup : Name) → IsBackupName name.now backup → D.reads desk.old backup → ⊥ }
+    requires backs_up { backs_up options.now ≡ true }
+    ensures looks { IsTrue (D.tells).folder → Looks (D.scene desk.old) (D.scene desk.new) }
+    ensures found { IfOk result (λ found. IsTrue (D.tells).folder → let chosen = backup_of options.now name.now (D.scene desk.old).folder in
+        MatchOption found (chosen ≡ None) (λ backup. chosen ≡ Some (string_bytes backup))) }
+    ensures named { IfOk result (λ found. IfSome found (λ backup. IsBackupName name.now (string_bytes backup))) }
+    ensures none { IfOk result (λ found. found ≡ None → options.now.backup ≡ false) }
+    ensures cause { HasCause (D.scene desk.old).folder_faults (D.scene desk.new).folder_faults (IsErrOf result Stop.Failed) }
+    ensures frame { ReadsFolder (D.scene desk.old) (D.scene desk.new) }
+    ensures valid { D.valid desk.new }
+    ensures stays { D.stays desk.old desk.new }
+{
+    if options.backup {
+        return Ok(Some(backup_name(alloc, name)?));
+    }
+    first_free(alloc, desk, name)
+}
