@@ -8,12 +8,15 @@ use Rattle.vs_host.specs.Disk.{Disk, Name, names_of, names_at, read_under, conte
 use Rattle.vs_host.specs.World.{Scene, ChangesFolder}
 use Rattle.vs_host.specs.declared.traits.Failed.{Failed}
 use Rattle.vs_disk.specs.Images.{HoldsBytes, MayLeave}
-use Rattle.vs_disk.specs.Runs.{Runs}
+use Rattle.vs_disk.specs.Runs.{Runs, Looks}
 use Rattle.vs_disk.proofs.Runs.{runs_as, runs_on, starts}
 use Rattle.vs_disk.proofs.Contents.{image_holds}
 use Rattle.vs_backup.specs.Works.{Narrowed, Spares, one_name}
-use Rattle.vs_backup.specs.Writing.{IsKept, IsWhole, IsSettled, OldIn, WritesOver, WritesBacked, BeginsWhole, backed_names}
+use Rattle.vs_backup.specs.Writing.{IsKept, IsWhole, IsSettled, OldIn, WritesOver, WritesBacked, BeginsWhole, backed_names, stopped}
+use Rattle.vs_backup.specs.declared.errors.Place.{Place}
 use Rattle.vs_backup.specs.declared.errors.Place.TheVariants as place
+use Rattle.vs_backup.specs.declared.errors.Stop.{Stop}
+use Rattle.vs_backup.specs.declared.errors.Stop.TheVariants as stop
 use Rattle.vs_backup.specs.declared.errors.WriteErr.{WriteErr}
 use Rattle.vs_backup.specs.declared.errors.WriteErr.TheVariants as error
 use Rattle.vs_backup.proofs.Calls.{runs_wider, spares_on}
@@ -186,3 +189,27 @@ pub backed_no_memory : (on : Name → Type 0) (keep : Bool) (name backup : Name)
     → WritesBacked on keep name backup old new s0 s0 (Err (error.NoMemory place.File))
 backed_no_memory on keep name backup old new s0 content =
     backed_not_begun on keep name backup old new s0 s0 content (narrowed_starts s0) (error.NoMemory place.File) (λ refused. elim refused [ inl is ↦ cc | inr is ↦ cc ]) (λ refused. elim refused [ inl is ↦ cc | inr is ↦ cc ]) (λ e. cc)
+
+-- ---- before anything has changed
+never_elsewhere : (why : Stop) (at : Place) → (at ≡ place.File → ⊥) → OldIn {T = ℕ} at (Err (stopped why place.File)) → ⊥
+never_elsewhere stop.Failed at other (inl is) = let same : place.File ≡ at = cc in other (sym same)
+never_elsewhere stop.Failed at other (inr is) = cc
+never_elsewhere stop.NoMemory at other (inl is) = cc
+never_elsewhere stop.NoMemory at other (inr is) = let same : place.File ≡ at = cc in other (sym same)
+
+never_unnamed : (why : Stop) → IsErrOf {T = ℕ} (Err (stopped why place.File)) error.NoBackupName → ⊥
+never_unnamed stop.Failed is = cc
+never_unnamed stop.NoMemory is = cc
+
+pub looks_narrowed : (s0 s1 : Scene) → Looks s0 s1 → Runs Narrowed s0 s1
+looks_narrowed s0 s1 looks = runs_as (λ a b. b ≡ a) Narrowed s0 s1 (λ d same. narrowed_none s0.folder d same) looks
+
+pub backed_stopped : (on : Name → Type 0) (keep : Bool) (name backup : Name) (old new : List ℕ) (s0 s1 : Scene) → content_in s0.folder name ≡ Some old → Looks s0 s1 → (why : Stop)
+    → WritesBacked on keep name backup old new s0 s1 (Err (stopped why place.File))
+backed_stopped on keep name backup old new s0 s1 content looks why =
+    backed_not_begun on keep name backup old new s0 s1 content (looks_narrowed s0 s1 looks) (stopped why place.File)
+    (λ refused. never_elsewhere why place.Nowhere (λ e. cc) refused) (λ refused. never_elsewhere why place.Backup (λ e. cc) refused) (λ e. never_unnamed why e)
+
+pub old_in_file : (why : Stop) → OldIn {T = ℕ} place.File (Err (stopped why place.File))
+old_in_file stop.Failed = inl refl
+old_in_file stop.NoMemory = inr refl

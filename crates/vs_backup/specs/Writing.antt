@@ -1,11 +1,11 @@
 -- What a write promises of the file and its backup.
-use Rattle.std.specs.Prelude.{◌≡◌, ◌⊎◌, ℕ, List, [], length, Option, Some, None, IsSomeAnd, IfOk, OnOk, OnErr, IsErr, IsErrOf, Result, Bool, true, false}
+use Rattle.std.specs.Prelude.{◌≡◌, ◌⊎◌, ℕ, List, [], length, Option, Some, None, IsSomeAnd, IfOk, OnOk, OnErr, IsErr, IsErrOf, Result, Ok, Err, Bool, true, false}
 use Rattle.vs_faults.specs.Faults.{HasRisen}
 use Rattle.vs_host.specs.File.{Leaves}
 use Rattle.vs_host.specs.Disk.{Disk, Name, IsImage, names_of, names_at, content_in}
 use Rattle.vs_host.specs.World.{Scene}
 use Rattle.vs_disk.specs.Images.{HoldsBytes, IsSynced, MayLeave, Takes}
-use Rattle.vs_disk.specs.Runs.{Runs}
+use Rattle.vs_disk.specs.Runs.{Runs, Looks}
 use Rattle.vs_backup.specs.Works.{Narrowed, Spares, one_name, two_names, three_names}
 use Rattle.vs_host.specs.declared.traits.Failed.{Failed}
 use Rattle.vs_backup.specs.declared.errors.Place.{Place}
@@ -26,6 +26,11 @@ StopsAs store.NoMemory why = why ≡ stop.NoMemory
 abbrev pub stopped : Stop → Place → WriteErr
 stopped stop.Failed place = error.Failed place
 stopped stop.NoMemory place = error.NoMemory place
+
+-- the answer of a write without a backup: the old bytes stand nowhere
+abbrev pub nowhere : Result ℕ Stop → Result ℕ WriteErr
+nowhere (Ok size) = Ok size
+nowhere (Err why) = Err (stopped why Nowhere)
 
 -- a call failed
 abbrev pub IsFailed : {T : Type 0} → Result T WriteErr → Type 0
@@ -132,3 +137,13 @@ pub record WritesFresh (on : Name → Type 0) (name : Name) (new : List ℕ) (be
   pub spares : Runs (Spares on) before after
   pub written : IfOk result (λ size. (size ≡ length new) × HoldsBytes name new after.folder)
   pub not_written : OnErr result (MayLeave after.folder name None)
+
+-- It was not found out whether there is a file, and nothing has changed.
+pub record IsUnseen (before after : Scene) (result : Result ℕ WriteErr) : Type 0 where
+  pub looks : Looks before after
+  pub failed : result ≡ Err (error.Failed Nowhere)
+
+-- Every backup name is taken, and nothing has changed. A call or memory may have been missing before that was found out.
+pub record FindsNoName (before after : Scene) (result : Result ℕ WriteErr) : Type 0 where
+  pub looks : Looks before after
+  pub refused : (result ≡ Err error.NoBackupName) ⊎ OldIn File result

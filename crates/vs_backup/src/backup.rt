@@ -92,6 +92,7 @@ fn write_copying<D: Desk>(
     requires settled { IsTrue (D.tells).folder → (old : List ℕ) × IsSettled name.now old (D.scene desk.old).folder }
     ensures over { IsTrue (D.tells).folder → (old : List ℕ) → IsSettled name.now old (D.scene desk.old).folder → (text : List (List ℕ)) → D.has_text desk.old text
         → WritesOver (three_names name.now temporary.now backup.now) name.now backup.now old (file_of text) (D.scene desk.old) (D.scene desk.new) result }
+    ensures no_name { IsErrOf result WriteErr.NoBackupName → ⊥ }
     ensures cause { HasCause (D.scene desk.old).folder_faults (D.scene desk.new).folder_faults (IsFailed result) }
     ensures frame { ChangesFolder (D.scene desk.old) (D.scene desk.new) }
     ensures valid { D.valid desk.new }
@@ -147,6 +148,7 @@ fn write_moving<D: Desk>(
     requires settled { IsTrue (D.tells).folder → (old : List ℕ) × IsSettled name.now old (D.scene desk.old).folder }
     ensures over { IsTrue (D.tells).folder → (old : List ℕ) → IsSettled name.now old (D.scene desk.old).folder → (text : List (List ℕ)) → D.has_text desk.old text
         → WritesOver (two_names name.now backup.now) name.now backup.now old (file_of text) (D.scene desk.old) (D.scene desk.new) result }
+    ensures no_name { IsErrOf result WriteErr.NoBackupName → ⊥ }
     ensures cause { HasCause (D.scene desk.old).folder_faults (D.scene desk.new).folder_faults (IsFailed result) }
     ensures frame { ChangesFolder (D.scene desk.old) (D.scene desk.new) }
     ensures valid { D.valid desk.new }
@@ -184,6 +186,7 @@ fn write_over<D: Desk>(
     requires settled { IsTrue (D.tells).folder → (old : List ℕ) × IsSettled name.now old (D.scene desk.old).folder }
     ensures over { IsTrue (D.tells).folder → (old : List ℕ) → IsSettled name.now old (D.scene desk.old).folder → (text : List (List ℕ)) → D.has_text desk.old text
         → WritesOver (backed_names copying name.now temporary.now backup.now) name.now backup.now old (file_of text) (D.scene desk.old) (D.scene desk.new) result }
+    ensures no_name { IsErrOf result WriteErr.NoBackupName → ⊥ }
     ensures cause { HasCause (D.scene desk.old).folder_faults (D.scene desk.new).folder_faults (IsFailed result) }
     ensures frame { ChangesFolder (D.scene desk.old) (D.scene desk.new) }
     ensures valid { D.valid desk.new }
@@ -217,6 +220,7 @@ fn write_backed<D: Desk>(
     requires settled { IsTrue (D.tells).folder → (old : List ℕ) × IsSettled name.now old (D.scene desk.old).folder }
     ensures backed { IsTrue (D.tells).folder → (old : List ℕ) → IsSettled name.now old (D.scene desk.old).folder → (text : List (List ℕ)) → D.has_text desk.old text
         → WritesBacked (backed_names copying name.now temporary.now backup.now) keep name.now backup.now old (file_of text) (D.scene desk.old) (D.scene desk.new) result }
+    ensures no_name { IsErrOf result WriteErr.NoBackupName → ⊥ }
     ensures cause { HasCause (D.scene desk.old).folder_faults (D.scene desk.new).folder_faults (IsFailed result) }
     ensures frame { ChangesFolder (D.scene desk.old) (D.scene desk.new) }
     ensures valid { D.valid desk.new }
@@ -253,6 +257,7 @@ pub(crate) fn write_with_backup<D: Desk>(
     requires there { IsTrue (D.tells).folder → IsSome (content_of (D.scene desk.old) name.now) }
     ensures backed { IsTrue (D.tells).folder → (old : List ℕ) → content_of (D.scene desk.old) name.now ≡ Some old → (text : List (List ℕ)) → D.has_text desk.old text
         → WritesBacked (backed_names copying name.now temporary.now backup.now) keep name.now backup.now old (file_of text) (D.scene desk.old) (D.scene desk.new) result }
+    ensures no_name { IsErrOf result WriteErr.NoBackupName → ⊥ }
     ensures cause { HasCause (D.scene desk.old).folder_faults (D.scene desk.new).folder_faults (IsFailed result) }
     ensures frame { ChangesFolder (D.scene desk.old) (D.scene desk.new) }
     ensures valid { D.valid desk.new }

@@ -1,5 +1,5 @@
 // The whole of a write, by its options.
-ghost use Rattle.std.specs.Prelude.{◌≡◌, true, false, ℕ, List, length, IfOk, IfSome, MatchOption, IsErrOf, IsTrue, Some, None, IsSome, string_bytes};
+ghost use Rattle.std.specs.Prelude.{◌≡◌, ◌≢◌, true, false, ℕ, List, length, IfOk, IfSome, MatchOption, IsErrOf, IsTrue, Some, None, IsSome, string_bytes};
 ghost use Rattle.vs_faults.specs.Faults.{HasCause};
 ghost use Rattle.vs_text.specs.Text.{file_of};
 ghost use Rattle.vs_host.specs.Disk.{Name};
@@ -7,12 +7,14 @@ ghost use Rattle.vs_host.specs.Names.{is_allowed, temporary};
 ghost use Rattle.vs_host.specs.World.{content_of, ChangesFolder, ReadsFolder};
 ghost use Rattle.vs_backup.specs.Backups.{IsBackupName, backs_up, backup_of, copies};
 ghost use Rattle.vs_disk.specs.Runs.{Looks};
-ghost use Rattle.vs_backup.specs.Writing.{IsFailed, WritesBacked, backed_names};
+ghost use Rattle.vs_backup.specs.Works.{two_names};
+ghost use Rattle.vs_backup.specs.Writing.{FindsNoName, IsFailed, WritesBacked, WritesFresh, WritesPlain, backed_names, nowhere};
 
 use crate::backup::write_with_backup;
 use crate::choose::{backup_name, first_free, temporary_of};
 use crate::errors::{Place, Stop, WriteErr};
 use crate::fill::PIECE;
+use crate::plain::{write_fresh, write_plain};
 use crate::{CopyMode, Desk, WriteOptions};
 use std::alloc::{AllocError, Global};
 
@@ -23,6 +25,23 @@ fn copies(copy: CopyMode) -> bool
     match copy {
         CopyMode::Yes => true,
         CopyMode::No | CopyMode::Auto => false,
+    }
+}
+
+/// Whether a write over a file makes a backup.
+fn backs_up(options: &WriteOptions) -> bool
+    ensures { result ≡ backs_up options.now }
+{
+    options.backup || options.writebackup
+}
+
+/// The answer of a write without a backup.
+fn without_backup(answer: Result<u64, Stop>) -> Result<u64, WriteErr>
+    ensures { result ≡ nowhere answer }
+{
+    match answer {
+        Ok(size) => Ok(size),
+        Err(stop) => Err(stop.with(Place::Nowhere)),
     }
 }
 
@@ -50,6 +69,7 @@ fn write_named<D: Desk>(
     requires there { IsTrue (D.tells).folder → IsSome (content_of (D.scene desk.old) name.now) }
     ensures backed { IsTrue (D.tells).folder → (old : List ℕ) → content_of (D.scene desk.old) name.now ≡ Some old → (text : List (List ℕ)) → D.has_text desk.old text
         → WritesBacked (backed_names (copies options.now.copy) name.now (temporary backup.now) backup.now) options.now.backup name.now backup.now old (file_of text) (D.scene desk.old) (D.scene desk.new) result }
+    ensures no_name { IsErrOf result WriteErr.NoBackupName → ⊥ }
     ensures cause { HasCause (D.scene desk.old).folder_faults (D.scene desk.new).folder_faults (IsFailed result) }
     ensures frame { ChangesFolder (D.scene desk.old) (D.scene desk.new) }
     ensures valid { D.valid desk.new }
@@ -102,4 +122,73 @@ fn choose<D: Desk>(
         return Ok(Some(backup_name(alloc, name)?));
     }
     first_free(alloc, desk, name)
+}
+
+/// Writes over a file that is there, without a backup.
+fn write_unbacked<D: Desk>(alloc: Global, desk: &mut D, name: &str) -> Result<u64, Stop>
+    requires valid { D.valid desk.old }
+    requires apart { D.reads desk.old name.now → ⊥ }
+    requires there { IsTrue (D.tells).folder → IsSome (content_of (D.scene desk.old) name.now) }
+    ensures plain { IsTrue (D.tells).folder → (old : List ℕ) → content_of (D.scene desk.old) name.now ≡ Some old → (text : List (List ℕ)) → D.has_text desk.old text
+        → WritesPlain name.now old (file_of text) (D.scene desk.old) (D.scene desk.new) result }
+    ensures cause { HasCause (D.scene desk.old).folder_faults (D.scene desk.new).folder_faults (IsErrOf result Stop.Failed) }
+    ensures frame { ChangesFolder (D.scene desk.old) (D.scene desk.new) }
+    ensures valid { D.valid desk.new }
+    ensures stays { D.stays desk.old desk.new }
+{
+    let mut piece = buffer(alloc)?;
+    write_plain(alloc, desk, name, &mut piece)
+}
+
+/// Writes a file that is not there.
+fn write_new<D: Desk>(
+    alloc: Global,
+    desk: &mut D,
+    name: &str,
+    temporary: &str,
+) -> Result<u64, Stop>
+    requires valid { D.valid desk.old }
+    requires apart { D.reads desk.old name.now → ⊥ }
+    requires apart_temporary { D.reads desk.old temporary.now → ⊥ }
+    requires differ { name.now ≢ temporary.now }
+    ensures fresh { IsTrue (D.tells).folder → content_of (D.scene desk.old) name.now ≡ None → (text : List (List ℕ)) → D.has_text desk.old text
+        → WritesFresh (two_names temporary.now name.now) name.now (file_of text) (D.scene desk.old) (D.scene desk.new) result }
+    ensures cause { HasCause (D.scene desk.old).folder_faults (D.scene desk.new).folder_faults (IsErrOf result Stop.Failed) }
+    ensures frame { ChangesFolder (D.scene desk.old) (D.scene desk.new) }
+    ensures valid { D.valid desk.new }
+    ensures stays { D.stays desk.old desk.new }
+{
+    let mut piece = buffer(alloc)?;
+    write_fresh(alloc, desk, name, temporary, &mut piece)
+}
+
+/// Writes over a file that is there, with the backup that the options ask for.
+fn write_chosen<D: Desk>(
+    alloc: Global,
+    desk: &mut D,
+    name: &str,
+    options: &WriteOptions,
+) -> Result<u64, WriteErr>
+    requires valid { D.valid desk.old }
+    requires allowed { IsTrue (is_allowed name.now) }
+    requires apart { D.reads desk.old name.now → ⊥ }
+    requires apart_backup { (backup : Name) → IsBackupName name.now backup → D.reads desk.old backup → ⊥ }
+    requires apart_temporary { (other : Name) → D.reads desk.old (temporary other) → ⊥ }
+    requires backs_up { backs_up options.now ≡ true }
+    requires there { IsTrue (D.tells).folder → IsSome (content_of (D.scene desk.old) name.now) }
+    ensures backed { IsTrue (D.tells).folder → (old : List ℕ) → content_of (D.scene desk.old) name.now ≡ Some old
+        → (backup : Name) → backup_of options.now name.now (D.scene desk.old).folder ≡ Some backup → (text : List (List ℕ)) → D.has_text desk.old text
+        → WritesBacked (backed_names (copies options.now.copy) name.now (temporary backup) backup) options.now.backup name.now backup old (file_of text) (D.scene desk.old) (D.scene desk.new) result }
+    ensures all_taken { IsTrue (D.tells).folder → backup_of options.now name.now (D.scene desk.old).folder ≡ None → FindsNoName (D.scene desk.old) (D.scene desk.new) result }
+    ensures no_name { IsErrOf result WriteErr.NoBackupName → (options.now.backup ≡ false) × (IsTrue (D.tells).folder → backup_of options.now name.now (D.scene desk.old).folder ≡ None) }
+    ensures cause { HasCause (D.scene desk.old).folder_faults (D.scene desk.new).folder_faults (IsFailed result) }
+    ensures frame { ChangesFolder (D.scene desk.old) (D.scene desk.new) }
+    ensures valid { D.valid desk.new }
+    ensures stays { D.stays desk.old desk.new }
+{
+    match choose(alloc, desk, name, options) {
+        Ok(Some(backup)) => write_named(alloc, desk, name, &backup, options),
+        Ok(None) => Err(WriteErr::NoBackupName),
+        Err(stop) => Err(stop.with(Place::File)),
+    }
 }
