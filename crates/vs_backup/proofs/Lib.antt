@@ -8,3 +8,4 @@ pub mod Kept
 pub mod Moving
 pub mod NamesApart
 pub mod Unbacked
+pub mod Whole

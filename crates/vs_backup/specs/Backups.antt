@@ -1,5 +1,5 @@
 -- Which backup a write makes.
-use Rattle.std.specs.Prelude.{◌≡◌, ℕ, zero, suc, ◌+◌, ◌-◌, Bool, true, false, List, [], ◌∷◌, ◌++◌, length, map, take, codes, Option, Some, None, is_some, if◌then◌else◌, ◌||◌}
+use Rattle.std.specs.Prelude.{◌≡◌, ℕ, zero, suc, ◌+◌, ◌-◌, Bool, true, false, List, [], ◌∷◌, ◌++◌, length, map, take, codes, Option, Some, None, is_some, IsSome, IsTrue, if◌then◌else◌, ◌||◌}
 use Rattle.vs_host.specs.Disk.{Disk, Name, content_in}
 use Rattle.vs_backup.specs.declared.options.CopyMode.{CopyMode}
 use Rattle.vs_backup.specs.declared.options.CopyMode.TheVariants.{Yes, No, Auto}
@@ -46,3 +46,10 @@ abbrev pub copies : CopyMode → Bool
 copies Yes = true
 copies No = false
 copies Auto = false
+
+-- No backup name is free for this write, which asks for a backup that may replace none.
+pub record IsNoName (options : WriteOptions) (name : Name) (told : Bool) (disk : Disk) : Type 0 where
+  pub off : options.backup ≡ false
+  pub on : options.writebackup ≡ true
+  pub there : IsTrue told → IsSome (content_in disk name)
+  pub taken : IsTrue told → backup_of options name disk ≡ None

@@ -147,3 +147,14 @@ pub record IsUnseen (before after : Scene) (result : Result ℕ WriteErr) : Type
 pub record FindsNoName (before after : Scene) (result : Result ℕ WriteErr) : Type 0 where
   pub looks : Looks before after
   pub refused : (result ≡ Err error.NoBackupName) ⊎ OldIn File result
+
+-- The answer of such a write without a backup: after an error the old bytes stand nowhere.
+pub record WritesInPlace (name : Name) (old new : List ℕ) (before after : Scene) (result : Result ℕ WriteErr) : Type 0 where
+  pub answer : Result ℕ Stop
+  pub is : result ≡ nowhere answer
+  pub plain : WritesPlain name old new before after answer
+
+pub record WritesNew (temporary name : Name) (new : List ℕ) (before after : Scene) (result : Result ℕ WriteErr) : Type 0 where
+  pub answer : Result ℕ Stop
+  pub is : result ≡ nowhere answer
+  pub fresh : WritesFresh (two_names temporary name) name new before after answer

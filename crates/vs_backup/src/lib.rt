@@ -14,3 +14,4 @@ mod write;
 pub use desk::Desk;
 pub use errors::{Place, WriteErr};
 pub use options::{CopyMode, WriteOptions};
+pub use write::write_out;

@@ -1,14 +1,14 @@
 // The whole of a write, by its options.
-ghost use Rattle.std.specs.Prelude.{◌≡◌, ◌≢◌, true, false, ℕ, List, length, IfOk, IfSome, MatchOption, IsErrOf, IsTrue, Some, None, IsSome, string_bytes};
+ghost use Rattle.std.specs.Prelude.{◌≡◌, ◌≢◌, ◌⊎◌, true, false, ℕ, List, length, IfOk, IfSome, MatchOption, IsErrOf, IsTrue, Some, None, IsSome, string_bytes};
 ghost use Rattle.vs_faults.specs.Faults.{HasCause};
 ghost use Rattle.vs_text.specs.Text.{file_of};
 ghost use Rattle.vs_host.specs.Disk.{Name};
-ghost use Rattle.vs_host.specs.Names.{is_allowed, temporary};
+ghost use Rattle.vs_host.specs.Names.{AreNames, is_allowed, temporary};
 ghost use Rattle.vs_host.specs.World.{content_of, ChangesFolder, ReadsFolder};
-ghost use Rattle.vs_backup.specs.Backups.{IsBackupName, backs_up, backup_of, copies};
+ghost use Rattle.vs_backup.specs.Backups.{IsBackupName, IsNoName, backs_up, backup_of, copies};
 ghost use Rattle.vs_disk.specs.Runs.{Looks};
 ghost use Rattle.vs_backup.specs.Works.{two_names};
-ghost use Rattle.vs_backup.specs.Writing.{FindsNoName, IsFailed, WritesBacked, WritesFresh, WritesPlain, backed_names, nowhere};
+ghost use Rattle.vs_backup.specs.Writing.{FindsNoName, IsFailed, IsUnseen, WritesBacked, WritesFresh, WritesInPlace, WritesNew, WritesPlain, backed_names, nowhere};
 
 use crate::backup::write_with_backup;
 use crate::choose::{backup_name, first_free, temporary_of};
@@ -17,6 +17,7 @@ use crate::fill::PIECE;
 use crate::plain::{write_fresh, write_plain};
 use crate::{CopyMode, Desk, WriteOptions};
 use std::alloc::{AllocError, Global};
+use vs_host::Names;
 
 /// Whether the file is copied to its backup, and not renamed.
 fn copies(copy: CopyMode) -> bool
@@ -141,12 +142,7 @@ fn write_unbacked<D: Desk>(alloc: Global, desk: &mut D, name: &str) -> Result<u6
 }
 
 /// Writes a file that is not there.
-fn write_new<D: Desk>(
-    alloc: Global,
-    desk: &mut D,
-    name: &str,
-    temporary: &str,
-) -> Result<u64, Stop>
+fn write_new<D: Desk>(alloc: Global, desk: &mut D, name: &str, temporary: &str) -> Result<u64, Stop>
     requires valid { D.valid desk.old }
     requires apart { D.reads desk.old name.now → ⊥ }
     requires apart_temporary { D.reads desk.old temporary.now → ⊥ }
@@ -190,5 +186,83 @@ fn write_chosen<D: Desk>(
         Ok(Some(backup)) => write_named(alloc, desk, name, &backup, options),
         Ok(None) => Err(WriteErr::NoBackupName),
         Err(stop) => Err(stop.with(Place::File)),
+    }
+}
+
+/// Writes over a file that is there.
+fn write_there<D: Desk>(
+    alloc: Global,
+    desk: &mut D,
+    name: &str,
+    options: &WriteOptions,
+) -> Result<u64, WriteErr>
+    requires valid { D.valid desk.old }
+    requires allowed { IsTrue (is_allowed name.now) }
+    requires apart { D.reads desk.old name.now → ⊥ }
+    requires apart_backup { (backup : Name) → IsBackupName name.now backup → D.reads desk.old backup → ⊥ }
+    requires apart_temporary { (other : Name) → D.reads desk.old (temporary other) → ⊥ }
+    requires there { IsTrue (D.tells).folder → IsSome (content_of (D.scene desk.old) name.now) }
+    ensures backed { IsTrue (D.tells).folder → (old : List ℕ) → content_of (D.scene desk.old) name.now ≡ Some old
+        → (backup : Name) → backup_of options.now name.now (D.scene desk.old).folder ≡ Some backup → (text : List (List ℕ)) → D.has_text desk.old text
+        → WritesBacked (backed_names (copies options.now.copy) name.now (temporary backup) backup) options.now.backup name.now backup old (file_of text) (D.scene desk.old) (D.scene desk.new) result }
+    ensures all_taken { IsTrue (D.tells).folder → backs_up options.now ≡ true → backup_of options.now name.now (D.scene desk.old).folder ≡ None → FindsNoName (D.scene desk.old) (D.scene desk.new) result }
+    ensures no_name { IsErrOf result WriteErr.NoBackupName → (backs_up options.now ≡ true) × (options.now.backup ≡ false) × (IsTrue (D.tells).folder → backup_of options.now name.now (D.scene desk.old).folder ≡ None) }
+    ensures plain { IsTrue (D.tells).folder → (old : List ℕ) → content_of (D.scene desk.old) name.now ≡ Some old → backs_up options.now ≡ false → (text : List (List ℕ)) → D.has_text desk.old text
+        → WritesInPlace name.now old (file_of text) (D.scene desk.old) (D.scene desk.new) result }
+    ensures cause { HasCause (D.scene desk.old).folder_faults (D.scene desk.new).folder_faults (IsFailed result) }
+    ensures frame { ChangesFolder (D.scene desk.old) (D.scene desk.new) }
+    ensures valid { D.valid desk.new }
+    ensures stays { D.stays desk.old desk.new }
+{
+    if backs_up(options) {
+        return write_chosen(alloc, desk, name, options);
+    }
+    without_backup(write_unbacked(alloc, desk, name))
+}
+
+/// Writes the text of the desk into the file of these names, by these options (docs/FORMATS.md, Writing). Gives the number of
+/// bytes.
+///
+/// After an error `old_in` says where the old bytes stand. A backup that should have gone may still be there after `Ok`.
+pub fn write_out<D: Desk>(
+    alloc: Global,
+    desk: &mut D,
+    names: &Names,
+    options: &WriteOptions,
+) -> Result<u64, WriteErr>
+    requires valid { D.valid desk.old }
+    requires names { AreNames names.now }
+    requires reads { (name : Name) → D.reads desk.old name → (name ≡ names.now.swp) ⊎ (name ≡ names.now.swo) }
+
+    // A file that is there, with a backup.
+    ensures backed { IsTrue (D.tells).folder → (old : List ℕ) → content_of (D.scene desk.old) names.now.file ≡ Some old
+        → (backup : Name) → backup_of options.now names.now.file (D.scene desk.old).folder ≡ Some backup → (text : List (List ℕ)) → D.has_text desk.old text
+        → IsUnseen (D.scene desk.old) (D.scene desk.new) result
+        ⊎ WritesBacked (backed_names (copies options.now.copy) names.now.file (temporary backup) backup) options.now.backup names.now.file backup old (file_of text) (D.scene desk.old) (D.scene desk.new) result }
+
+    // A file that is there, where every backup name is taken.
+    ensures all_taken { IsTrue (D.tells).folder → IsSome (content_of (D.scene desk.old) names.now.file) → backs_up options.now ≡ true → backup_of options.now names.now.file (D.scene desk.old).folder ≡ None
+        → IsUnseen (D.scene desk.old) (D.scene desk.new) result ⊎ FindsNoName (D.scene desk.old) (D.scene desk.new) result }
+    ensures no_name { IsErrOf result WriteErr.NoBackupName → IsNoName options.now names.now.file (D.tells).folder (D.scene desk.old).folder }
+
+    // A file that is there, without a backup.
+    ensures plain { IsTrue (D.tells).folder → (old : List ℕ) → content_of (D.scene desk.old) names.now.file ≡ Some old → backs_up options.now ≡ false → (text : List (List ℕ)) → D.has_text desk.old text
+        → IsUnseen (D.scene desk.old) (D.scene desk.new) result ⊎ WritesInPlace names.now.file old (file_of text) (D.scene desk.old) (D.scene desk.new) result }
+
+    // A file that is not there.
+    ensures fresh { IsTrue (D.tells).folder → content_of (D.scene desk.old) names.now.file ≡ None → (text : List (List ℕ)) → D.has_text desk.old text
+        → IsUnseen (D.scene desk.old) (D.scene desk.new) result ⊎ WritesNew names.now.file_new names.now.file (file_of text) (D.scene desk.old) (D.scene desk.new) result }
+    ensures cause { HasCause (D.scene desk.old).folder_faults (D.scene desk.new).folder_faults (IsFailed result) }
+    ensures frame { ChangesFolder (D.scene desk.old) (D.scene desk.new) }
+    ensures valid { D.valid desk.new }
+    ensures stays { D.stays desk.old desk.new }
+{
+    let name = names.file.as_str();
+    match desk.has(name) {
+        Ok(true) => write_there(alloc, desk, name, options),
+        Ok(false) => without_backup(write_new(alloc, desk, name, names.file_new.as_str())),
+        Err(_) => Err(WriteErr::Failed {
+            old_in: Place::Nowhere,
+        }),
     }
 }

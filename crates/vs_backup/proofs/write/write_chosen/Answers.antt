@@ -1,11 +1,11 @@
-use Rattle.std.proofs.Common.{◌≡◌, ◌∙◌, ℕ, List, Bool, Option, Some, None, IsTrue, Result, Err, sym, ap, subst}
+use Rattle.std.proofs.Common.{◌≡◌, ◌∙◌, Some, Err, sym, ap, subst}
 use Rattle.std.specs.String.{string_bytes}
 use Rattle.vs_text.specs.Text.{file_of}
 use Rattle.vs_host.specs.Disk.{Disk, Name, content_in}
 use Rattle.vs_host.specs.Names.{temporary}
 use Rattle.vs_host.specs.World.{Scene, content_of}
 use Rattle.vs_disk.proofs.Runs.{reads_change}
-use Rattle.vs_backup.specs.Backups.{backup_of, copies}
+use Rattle.vs_backup.specs.Backups.{copies}
 use Rattle.vs_backup.specs.Writing.{WritesBacked, backed_names}
 use Rattle.vs_backup.specs.declared.errors.WriteErr.{WriteErr}
 use Rattle.vs_backup.proofs.Backed.{backed_after, backed_stopped, looks_narrowed}
@@ -28,7 +28,7 @@ returns-in-Ok-Some-clause-backed g c told old content backup chosen text has =
     let there : content_of s1 name ≡ Some old = ap (λ (d : Disk). content_in d name) looks.now ∙ content in
     let kept = g.met.D.Desk.stays_text c.args.desk.now c.choose.new.desk text c.choose.ensures.stays has in
     let written = subst (λ (b : Name). WritesBacked (backed_names mode name (temporary b) b) keep name b old (file_of text) s1 s2 c.write_named.result) bytes
-        (c.write_named.ensures.backed told old there text kept) in
+    (c.write_named.ensures.backed told old there text kept) in
     backed_after (backed_names mode name (temporary backup) backup) keep name backup old (file_of text) s0 s1 content (looks_narrowed s0 s1 looks) c.write_named.result s2
     (reads_change s0 s1 c.choose.ensures.frame) c.choose.ensures.cause.later written
 
