@@ -1,0 +1,215 @@
+-- The whole of a write with a backup: before the two syncs nothing changes, and after them the file or its backup is whole.
+use Rattle.std.proofs.Common.{◌≡◌, ◌⊎◌, inl, inr, ℕ, ◌≤◌, Bool, true, false, List, Option, Some, None, OnOk, Result, Ok, Err, refl, sym, ◌∙◌, ap, subst, arith}
+use Rattle.std.specs.Prelude.{IsErr, IsErrOf, IsSome, IsSomeAnd}
+use Rattle.std.proofs.lemmas.Bool.{true≢false}
+use Rattle.std.proofs.lemmas.Result.{on_ok_weaker}
+use Rattle.vs_faults.specs.Faults.{HasCause, HasRisen}
+use Rattle.vs_host.specs.Disk.{Disk, Name, names_of, names_at, read_under, content_in}
+use Rattle.vs_host.specs.World.{Scene, ChangesFolder}
+use Rattle.vs_host.specs.declared.traits.Failed.{Failed}
+use Rattle.vs_disk.specs.Images.{HoldsBytes, MayLeave}
+use Rattle.vs_disk.specs.Runs.{Runs, Looks}
+use Rattle.vs_disk.proofs.Runs.{runs_as, runs_on, starts}
+use Rattle.vs_disk.proofs.Contents.{image_holds}
+use Rattle.vs_backup.specs.Works.{Narrowed, Spares, one_name}
+use Rattle.vs_backup.specs.Writing.{IsKept, IsWhole, IsSettled, OldIn, WritesOver, WritesBacked, BeginsWhole, backed_names, stopped}
+use Rattle.vs_backup.specs.declared.errors.Place.{Place}
+use Rattle.vs_backup.specs.declared.errors.Place.TheVariants as place
+use Rattle.vs_backup.specs.declared.errors.Stop.{Stop}
+use Rattle.vs_backup.specs.declared.errors.Stop.TheVariants as stop
+use Rattle.vs_backup.specs.declared.errors.WriteErr.{WriteErr}
+use Rattle.vs_backup.specs.declared.errors.WriteErr.TheVariants as error
+use Rattle.vs_backup.proofs.Calls.{runs_wider, spares_on}
+use Rattle.vs_backup.proofs.Frames.{narrowed_none, narrowed_then, holds_spared}
+use Rattle.vs_backup.proofs.Kept.{may_leave_now}
+use Rattle.vs_backup.proofs.Copying.{kept_on, never_refused}
+
+some_and : (at : Option (List ℕ)) (bytes : List ℕ) (P : List ℕ → Type 0) → at ≡ Some bytes → P bytes → IsSomeAnd at P
+some_and at bytes P is holds = subst (λ (o : Option (List ℕ)). IsSomeAnd o P) (sym is) holds
+
+pub whole_kept : (name backup : Name) (old new : List ℕ) (disk : Disk) → IsKept name backup old disk → IsWhole name backup old new disk
+whole_kept name backup old new disk kept image is = elim (kept image is) [
+  | inl by_name ↦ inl (some_and (image name) old (λ c. (c ≡ old) ⊎ (c ≡ new)) by_name (inl refl))
+  | inr by_backup ↦ inr (some_and (image backup) old (λ c. (c ≡ old) ⊎ (c ≡ new)) by_backup (inl refl))
+]
+
+weaker : (at : Option (List ℕ)) (P Q : List ℕ → Type 0) → ((c : List ℕ) → P c → Q c) → IsSomeAnd at P → IsSomeAnd at Q
+weaker None P Q leads is = is
+weaker (Some c) P Q leads is = leads c is
+
+pub whole_new : (name backup : Name) (old new : List ℕ) (disk : Disk) → HoldsBytes name new disk → IsWhole name backup old new disk
+whole_new name backup old new disk holds image is =
+    inl (weaker (image name) (λ c. c ≡ new) (λ c. (c ≡ old) ⊎ (c ≡ new)) (λ c same. inr same) (image_holds disk name (λ c. c ≡ new) holds image is))
+
+backup_named : (copying : Bool) (name temporary backup n : Name) → n ≡ backup → backed_names copying name temporary backup n
+backup_named true name temporary backup n is = inr (inr is)
+backup_named false name temporary backup n is = inr is
+
+pub narrowed_starts : (s0 : Scene) → Runs Narrowed s0 s0
+narrowed_starts s0 = starts Narrowed s0 (narrowed_none s0.folder s0.folder refl)
+
+risen_before : (a b c : ℕ) → a ≤ b → HasRisen b c → HasRisen a c
+risen_before a b c le (inl lt) = inl (omega arith)
+risen_before a b c le (inr full) = inr full
+
+pub narrowed_content : (name : Name) (a b : Disk) → Narrowed a b → content_in b name ≡ content_in a name
+narrowed_content name a b narrowed = ap (λ (at : Option ℕ). read_under b at) (narrowed.now name) ∙ same (names_of a name)
+  where
+    same : (at : Option ℕ) → read_under b at ≡ read_under a at
+    same None = refl
+    same (Some number) = ap (λ (bytes : List ℕ). Some bytes) (narrowed.files number).bytes
+
+-- ---- from a settled file
+module _ (copying keep : Bool) (name temporary backup : Name) (old new : List ℕ) (s0 s1 : Scene) (is : IsSettled name old s0.folder) where
+  abbrev begins : (result : Result ℕ WriteErr) → WritesOver (backed_names copying name temporary backup) name backup old new s0 s1 result
+      → BeginsWhole (backed_names copying name temporary backup) name backup old new s0 s1
+  begins result over = record {
+    begun = s0;
+    looked = narrowed_starts s0;
+    settled = is;
+    whole = runs_as (λ a b. IsKept name backup old b) (λ a b. IsWhole name backup old new b) s0 s1 (λ d kept. whole_kept name backup old new d kept) over.kept;
+    spares = over.spares;
+  }
+
+  pub backed_refused : (why : WriteErr) → WritesOver (backed_names copying name temporary backup) name backup old new s0 s1 (Err why)
+      → WritesBacked (backed_names copying name temporary backup) keep name backup old new s0 s1 (Err why)
+  backed_refused why over = record {
+    moments = inl (begins (Err why) over);
+    written = tt;
+    kept = λ keeps. tt;
+    gone = λ goes. tt;
+    not_written = over.not_written;
+    in_file = λ refused. inr (over.in_file refused);
+    in_backup = λ refused. (over.kept.now, over.in_backup refused);
+    somewhere = over.somewhere;
+  }
+
+  pub backed_kept : (size : ℕ) → keep ≡ true → WritesOver (backed_names copying name temporary backup) name backup old new s0 s1 (Ok size)
+      → WritesBacked (backed_names copying name temporary backup) keep name backup old new s0 s1 (Ok size)
+  backed_kept size keeps over = record {
+    moments = inl (begins (Ok size) over);
+    written = (over.written.0, over.written.1);
+    kept = λ keeps. over.written.2;
+    gone = λ goes. absurd (true≢false (sym keeps ∙ goes));
+    not_written = tt;
+    in_file = λ refused. absurd (never_refused size place.File refused);
+    in_backup = λ refused. absurd (never_refused size place.Backup refused);
+    somewhere = (λ refused. never_refused size place.Nowhere refused, λ is. cc);
+  }
+
+  -- the backup is removed, or a call failed
+  pub backed_removed : (size : ℕ) (s2 : Scene) → keep ≡ false → ChangesFolder s0 s1 → (name ≡ backup → ⊥) → WritesOver (backed_names copying name temporary backup) name backup old new s0 s1 (Ok size)
+      → Runs (Spares (one_name backup)) s1 s2 → ((HasRisen s0.folder_faults s2.folder_faults → ⊥) → (lost : ℕ) → names_at s2.folder lost backup ≡ None)
+      → WritesBacked (backed_names copying name temporary backup) keep name backup old new s0 s2 (Ok size)
+  backed_removed size s2 goes frame differ over drops gone =
+      let on = backed_names copying name temporary backup in
+      let holds = over.written.1 in
+      let before = begins (Ok size) over in
+      record {
+        moments = inl (record {
+          begun = s0;
+          looked = narrowed_starts s0;
+          settled = is;
+          whole = kept_on (IsWhole name backup old new) s0 s1 s2 frame before.whole
+              (runs_as (Spares (one_name backup)) (λ a b. IsWhole name backup old new b) s1 s2
+              (λ d spares. whole_new name backup old new d (holds_spared (one_name backup) name (λ c. c ≡ new) s1.folder d differ spares holds)) drops);
+          spares = spares_on on s0 s1 s2 frame over.spares (runs_wider (one_name backup) on s1 s2 (λ n same. backup_named copying name temporary backup n same) drops);
+        });
+        written = (over.written.0, holds_spared (one_name backup) name (λ c. c ≡ new) s1.folder s2.folder differ drops.now holds);
+        kept = λ keeps. absurd (true≢false (sym keeps ∙ goes));
+        gone = λ goes none. gone none;
+        not_written = tt;
+        in_file = λ refused. absurd (never_refused size place.File refused);
+        in_backup = λ refused. absurd (never_refused size place.Backup refused);
+        somewhere = (λ refused. never_refused size place.Nowhere refused, λ is. cc);
+      }
+
+-- ---- from a file that is there
+module _ (on : Name → Type 0) (keep : Bool) (name backup : Name) (old new : List ℕ) (s0 s1 : Scene) (content : content_in s0.folder name ≡ Some old) (looked : Runs Narrowed s0 s1) where
+  may_leave_narrowed : MayLeave s1.folder name (Some old)
+  may_leave_narrowed = may_leave_now name old s1.folder (narrowed_content name s0.folder s1.folder looked.now ∙ content)
+
+  -- nothing has changed
+  pub backed_not_begun : (why : WriteErr) → (OldIn {T = ℕ} place.Nowhere (Err why) → ⊥) → (OldIn {T = ℕ} place.Backup (Err why) → ⊥) → (IsErrOf {T = ℕ} (Err why) error.NoBackupName → ⊥)
+      → WritesBacked on keep name backup old new s0 s1 (Err why)
+  backed_not_begun why somewhere not_backup no_name = record {
+    moments = inr (looked, refl);
+    written = tt;
+    kept = λ keeps. tt;
+    gone = λ goes. tt;
+    not_written = inl may_leave_narrowed;
+    in_file = λ refused. inl looked;
+    in_backup = λ refused. absurd (not_backup refused);
+    somewhere = (somewhere, no_name);
+  }
+
+  -- after what left all as it was
+  pub backed_after : (result : Result ℕ WriteErr) (s2 : Scene) → ChangesFolder s0 s1 → s0.folder_faults ≤ s1.folder_faults → WritesBacked on keep name backup old new s1 s2 result
+      → WritesBacked on keep name backup old new s0 s2 result
+  backed_after result s2 frame later backed = record {
+    moments = elim backed.moments [
+      | inl whole ↦ inl (record {
+        begun = whole.begun;
+        looked = runs_on Narrowed narrowed_then s0 s1 whole.begun frame looked whole.looked;
+        settled = whole.settled;
+        whole = whole.whole;
+        spares = whole.spares;
+      })
+      | inr none ↦ inr (runs_on Narrowed narrowed_then s0 s1 s2 frame looked none.0, none.1)
+    ];
+    written = backed.written;
+    kept = backed.kept;
+    gone = λ goes. gone_after result goes;
+    not_written = backed.not_written;
+    in_file = λ refused. elim (backed.in_file refused) [
+      | inl none ↦ inl (runs_on Narrowed narrowed_then s0 s1 s2 frame looked none)
+      | inr holds ↦ inr holds
+    ];
+    in_backup = backed.in_backup;
+    somewhere = backed.somewhere;
+  }
+    where
+      gone_after : (r : Result ℕ WriteErr) → keep ≡ false → OnOk result ((HasRisen s0.folder_faults s2.folder_faults → ⊥) → (lost : ℕ) → names_at s2.folder lost backup ≡ None)
+      gone_after r goes = on_ok_weaker result (λ gone none. gone (λ rose. none (risen_before s0.folder_faults s1.folder_faults s2.folder_faults later rose))) (backed.gone goes)
+
+-- a removal that failed raised the count
+pub gone_unless_risen : (result : Result (Unit {0}) Failed) (a b c : ℕ) (Gone told : Type 0) → told → a ≤ b → HasCause b c (IsErr result) → OnOk result (told → Gone) → (HasRisen a c → ⊥) → Gone
+gone_unless_risen (Ok x) a b c Gone told is later cause gone none = gone is
+gone_unless_risen (Err e) a b c Gone told is later cause gone none = absurd (none (risen_before a b c later (cause.risen refl)))
+
+pub holds_there : (name : Name) (bytes : List ℕ) (disk : Disk) → HoldsBytes name bytes disk → IsSome (content_in disk name)
+holds_there name bytes disk holds = let here = holds 0 in there_at disk (names_of disk name) here.number here.leads
+  where
+    there_at : (disk : Disk) (at : Option ℕ) (number : ℕ) → at ≡ Some number → IsSome (read_under disk at)
+    there_at disk None number leads = cc
+    there_at disk (Some other) number leads = refl
+
+-- there was no memory before anything changed
+pub backed_no_memory : (on : Name → Type 0) (keep : Bool) (name backup : Name) (old new : List ℕ) (s0 : Scene) → content_in s0.folder name ≡ Some old
+    → WritesBacked on keep name backup old new s0 s0 (Err (error.NoMemory place.File))
+backed_no_memory on keep name backup old new s0 content =
+    backed_not_begun on keep name backup old new s0 s0 content (narrowed_starts s0) (error.NoMemory place.File) (λ refused. elim refused [ inl is ↦ cc | inr is ↦ cc ]) (λ refused. elim refused [ inl is ↦ cc | inr is ↦ cc ]) (λ e. cc)
+
+-- ---- before anything has changed
+never_elsewhere : (why : Stop) (at : Place) → (at ≡ place.File → ⊥) → OldIn {T = ℕ} at (Err (stopped why place.File)) → ⊥
+never_elsewhere stop.Failed at other (inl is) = let same : place.File ≡ at = cc in other (sym same)
+never_elsewhere stop.Failed at other (inr is) = cc
+never_elsewhere stop.NoMemory at other (inl is) = cc
+never_elsewhere stop.NoMemory at other (inr is) = let same : place.File ≡ at = cc in other (sym same)
+
+never_unnamed : (why : Stop) → IsErrOf {T = ℕ} (Err (stopped why place.File)) error.NoBackupName → ⊥
+never_unnamed stop.Failed is = cc
+never_unnamed stop.NoMemory is = cc
+
+pub looks_narrowed : (s0 s1 : Scene) → Looks s0 s1 → Runs Narrowed s0 s1
+looks_narrowed s0 s1 looks = runs_as (λ a b. b ≡ a) Narrowed s0 s1 (λ d same. narrowed_none s0.folder d same) looks
+
+pub backed_stopped : (on : Name → Type 0) (keep : Bool) (name backup : Name) (old new : List ℕ) (s0 s1 : Scene) → content_in s0.folder name ≡ Some old → Looks s0 s1 → (why : Stop)
+    → WritesBacked on keep name backup old new s0 s1 (Err (stopped why place.File))
+backed_stopped on keep name backup old new s0 s1 content looks why =
+    backed_not_begun on keep name backup old new s0 s1 content (looks_narrowed s0 s1 looks) (stopped why place.File)
+    (λ refused. never_elsewhere why place.Nowhere (λ e. cc) refused) (λ refused. never_elsewhere why place.Backup (λ e. cc) refused) (λ e. never_unnamed why e)
+
+pub old_in_file : (why : Stop) → OldIn {T = ℕ} place.File (Err (stopped why place.File))
+old_in_file stop.Failed = inl refl
+old_in_file stop.NoMemory = inr refl

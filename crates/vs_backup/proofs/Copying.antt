@@ -1,0 +1,196 @@
+-- Writing over a file in its place: until the copy stands under the backup name the file has the old bytes, and then the copy has.
+use Rattle.std.proofs.Common.{◌≡◌, inl, inr, ℕ, List, [], ◌∷◌, Some, length, OnOk, OnErr, Result, Ok, Err, sym, ◌∙◌, ap, subst, arith}
+use Rattle.std.specs.Prelude.{IsErrOf}
+use Rattle.vs_host.specs.File.{File, Cuts}
+use Rattle.vs_host.specs.Disk.{Disk, Name, content_in, ChangesFile, IsFolder}
+use Rattle.vs_host.specs.Trace.{Cut}
+use Rattle.vs_host.specs.World.{Scene, ChangesFolder, IsTold}
+use Rattle.vs_host.specs.declared.traits.Failed.{Failed}
+use Rattle.vs_disk.specs.Images.{HoldsBytes, IsSynced, MayLeave}
+use Rattle.vs_disk.specs.Runs.{Runs}
+use Rattle.vs_disk.proofs.Steps.{same_at}
+use Rattle.vs_disk.proofs.Images.{cut_keeps_images, read_image}
+use Rattle.vs_disk.proofs.Runs.{one_call, runs_as, runs_then}
+use Rattle.vs_disk.proofs.Contents.{file_of_content, content_of_file, holds_synced}
+use Rattle.vs_backup.specs.Works.{ChangesOne, Fills, IsAlone, Spares, one_name, two_names, three_names}
+use Rattle.vs_backup.specs.Writing.{IsKept, IsSettled, StartsOver, WritesOver, OldIn, stopped}
+use Rattle.vs_backup.specs.declared.errors.Place.{Place}
+use Rattle.vs_backup.specs.declared.errors.Place.TheVariants as place
+use Rattle.vs_backup.specs.declared.errors.Stop.{Stop}
+use Rattle.vs_backup.specs.declared.errors.Stop.TheVariants as stop
+use Rattle.vs_backup.specs.declared.errors.WriteErr.TheVariants as error
+use Rattle.vs_backup.proofs.Calls.{runs_wider, runs_file, spares_on, synced_bytes}
+use Rattle.vs_backup.proofs.Frames.{alone_settled, holds_spared, synced_spared, spares_same}
+use Rattle.vs_backup.proofs.Filling.{changes_by}
+use Rattle.vs_backup.proofs.Kept.{kept_by_name, kept_by_backup, settled_holds, may_leave_now, may_leave_filled}
+
+-- a predicate that holds at each moment of two runs
+pub kept_on : (P : Disk → Type 0) (s0 s1 s2 : Scene) → ChangesFolder s0 s1 → Runs (λ a b. P b) s0 s1 → Runs (λ a b. P b) s1 s2 → Runs (λ a b. P b) s0 s2
+kept_on P s0 s1 s2 frame first second = runs_then (λ a b. P b) (λ a b. P b) (λ a b. P b) s0 s1 s2 (λ d is. is) (λ d is. is) frame first second
+
+pub cut_content : (name : Name) (bytes : List ℕ) (old new : Disk) → ChangesFile name (Cuts 0) old new → content_in old name ≡ Some bytes → content_in new name ≡ Some []
+cut_content name bytes old new changes is =
+    let has = file_of_content old name bytes is in
+    content_of_file new name [] (record {
+      number = has.number;
+      leads = same_at name (Cuts 0) old new changes 0 name ∙ has.leads;
+      has = ap (λ (f : File). f.bytes) (changes.this has.number has.leads);
+    })
+
+pub alone_now : (name : Name) (bytes : List ℕ) (disk : Disk) → disk.pending ≡ [] → IsFolder disk → content_in disk name ≡ Some bytes → IsAlone name disk
+alone_now name bytes disk none folder is = let has = file_of_content disk name bytes is in alone_settled name has.number disk none folder has.leads
+
+-- calls on the file once its copy is settled under the backup name
+module _ (name backup temporary : Name) (old : List ℕ) (s1 s2 : Scene) (differ : backup ≡ name → ⊥) (settled : IsSettled backup old s1.folder) (folder : IsFolder s1.folder)
+    (bytes : List ℕ) (there : content_in s1.folder name ≡ Some bytes) (runs : Runs (ChangesOne name) s1 s2) where
+  over_one : Runs (Spares (one_name name)) s1 s2
+  over_one = runs_file name s1 s2 (alone_now name bytes s1.folder settled.pending folder there) runs
+
+  pub over_spares : Runs (Spares (three_names name temporary backup)) s1 s2
+  over_spares = runs_wider (one_name name) (three_names name temporary backup) s1 s2 (λ n is. inl is) over_one
+
+  pub over_kept : Runs (λ a b. IsKept name backup old b) s1 s2
+  over_kept = runs_as (Spares (one_name name)) (λ a b. IsKept name backup old b) s1 s2
+      (λ d spares. kept_by_backup name backup old d (holds_spared (one_name name) backup (λ c. c ≡ old) s1.folder d differ spares (settled_holds backup old s1.folder settled))) over_one
+
+  pub over_backed : IsSettled backup old s2.folder
+  over_backed = record {
+    pending = runs.now.pending ∙ settled.pending;
+    synced = synced_spared (one_name name) backup old s1.folder s2.folder differ over_one.now settled.synced;
+  }
+
+-- until the copy stands under the backup name
+module _ (name backup temporary : Name) (old : List ℕ) (s0 s1 : Scene) (differ : name ≡ temporary → ⊥) (differ_name : name ≡ backup → ⊥) (is : IsSettled name old s0.folder)
+    (runs : Runs (Spares (two_names temporary backup)) s0 s1) where
+  not_two : two_names temporary backup name → ⊥
+  not_two both = elim both [ inl e ↦ differ e | inr e ↦ differ_name e ]
+
+  pub copy_spares : Runs (Spares (three_names name temporary backup)) s0 s1
+  copy_spares = runs_wider (two_names temporary backup) (three_names name temporary backup) s0 s1 (λ n is. inr is) runs
+
+  pub copy_kept : Runs (λ a b. IsKept name backup old b) s0 s1
+  copy_kept = runs_as (Spares (two_names temporary backup)) (λ a b. IsKept name backup old b) s0 s1
+      (λ d spares. kept_by_name name backup old d (holds_spared (two_names temporary backup) name (λ c. c ≡ old) s0.folder d not_two spares (settled_holds name old s0.folder is))) runs
+
+  pub copy_holds : HoldsBytes name old s1.folder
+  copy_holds = holds_spared (two_names temporary backup) name (λ c. c ≡ old) s0.folder s1.folder not_two runs.now (settled_holds name old s0.folder is)
+
+  pub copy_content : content_in s1.folder name ≡ Some old
+  copy_content = synced_bytes name old s1.folder (synced_spared (two_names temporary backup) name old s0.folder s1.folder not_two runs.now is.synced)
+
+  pub copy_failed : (result : Result (Unit {0}) Failed) → OnOk result ⊥ → StartsOver (three_names name temporary backup) name backup old s0 s1 result
+  copy_failed (Ok x) none = absurd none
+  copy_failed (Err e) none = record { spares = copy_spares; kept = copy_kept; backed = tt; empty = tt; may_leave = tt; not_done = copy_holds }
+
+  -- the file is cut, or not
+  pub cut_over : (result : Result (Unit {0}) Failed) (s2 : Scene) → ChangesFolder s0 s1 → (backup ≡ name → ⊥) → IsSettled backup old s1.folder → IsFolder s1.folder → ChangesFolder s1 s2
+      → IsTold Cut (name ∷ []) result s1 s2 → OnOk result (ChangesFile name (Cuts 0) s1.folder s2.folder) → OnErr result (s2.folder ≡ s1.folder)
+      → StartsOver (three_names name temporary backup) name backup old s0 s2 result
+  cut_over (Ok x) s2 frame apart settled folder framed told ok err =
+      let answer : Result (Unit {0}) Failed = Ok x in
+      let runs_cut : Runs (ChangesOne name) s1 s2 = one_call (ChangesOne name) Cut (name ∷ []) answer s1 s2 framed told (changes_by name (Cuts 0) s1.folder s2.folder ok) in
+      let keeps : Fills name s1.folder s2.folder = record {
+        synced = ok.synced;
+        pending = ok.pending;
+        others = ok.others;
+        this = λ number leads. cut_keeps_images 0 (s1.folder.files number) (s2.folder.files number) (omega arith) (ok.this number leads);
+      } in
+      record {
+        spares = spares_on (three_names name temporary backup) s0 s1 s2 frame copy_spares (over_spares name backup temporary old s1 s2 apart settled folder old copy_content runs_cut);
+        kept = kept_on (IsKept name backup old) s0 s1 s2 frame copy_kept (over_kept name backup temporary old s1 s2 apart settled folder old copy_content runs_cut);
+        backed = over_backed name backup temporary old s1 s2 apart settled folder old copy_content runs_cut;
+        empty = cut_content name old s1.folder s2.folder ok copy_content;
+        may_leave = may_leave_filled name old s1.folder s2.folder keeps (may_leave_now name old s1.folder copy_content);
+        not_done = tt;
+      }
+  cut_over (Err e) s2 frame apart settled folder framed told ok err =
+      let on = three_names name temporary backup in
+      let answer : Result (Unit {0}) Failed = Err e in
+      record {
+        spares = spares_on on s0 s1 s2 frame copy_spares (one_call (Spares on) Cut (name ∷ []) answer s1 s2 framed told (spares_same on s1.folder s2.folder err));
+        kept = kept_on (IsKept name backup old) s0 s1 s2 frame copy_kept
+            (one_call (λ a b. IsKept name backup old b) Cut (name ∷ []) answer s1 s2 framed told (subst (λ (d : Disk). IsKept name backup old d) (sym err) (kept_by_name name backup old s1.folder copy_holds)));
+        backed = tt;
+        empty = tt;
+        may_leave = tt;
+        not_done = subst (λ (d : Disk). HoldsBytes name old d) (sym err) copy_holds;
+      }
+
+-- ---- the whole
+pub never_file : (why : Stop) {T : Type 0} → OldIn {T = T} place.File (Err (stopped why place.Backup)) → ⊥
+never_file stop.Failed (inl is) = cc
+never_file stop.Failed (inr is) = cc
+never_file stop.NoMemory (inl is) = cc
+never_file stop.NoMemory (inr is) = cc
+
+pub never_nowhere : (why : Stop) {T : Type 0} → OldIn {T = T} place.Nowhere (Err (stopped why place.Backup)) → ⊥
+never_nowhere stop.Failed (inl is) = cc
+never_nowhere stop.Failed (inr is) = cc
+never_nowhere stop.NoMemory (inl is) = cc
+never_nowhere stop.NoMemory (inr is) = cc
+
+pub never_no_name : (why : Stop) {T : Type 0} → IsErrOf {T = T} (Err (stopped why place.Backup)) error.NoBackupName → ⊥
+never_no_name stop.Failed is = cc
+never_no_name stop.NoMemory is = cc
+
+pub never_refused : (size : ℕ) (at : Place) → OldIn at (Ok size) → ⊥
+never_refused size at (inl is) = cc
+never_refused size at (inr is) = cc
+
+pub only_file : (at : Place) → (at ≡ place.File → ⊥) → OldIn {T = ℕ} at (Err (error.Failed place.File)) → ⊥
+only_file at other (inl is) = let same : place.File ≡ at = cc in other (sym same)
+only_file at other (inr is) = cc
+
+-- what each image has, a stop may leave
+may_leave_held : (name : Name) (bytes : List ℕ) (disk : Disk) → HoldsBytes name bytes disk → MayLeave disk name (Some bytes)
+may_leave_held name bytes disk holds =
+    let here = holds 0 in
+    let now : content_in disk name ≡ Some bytes = content_of_file disk name bytes (record { number = here.number; leads = here.leads; has = here.leaves (disk.files here.number).bytes (read_image (disk.files here.number)) }) in
+    may_leave_now name bytes disk now
+
+-- after the file was emptied, the text was written, or not
+module _ (name backup temporary : Name) (old new : List ℕ) (s0 s1 s2 : Scene) (frame : ChangesFolder s0 s1) (differ : backup ≡ name → ⊥) (folder : IsFolder s1.folder)
+    (over : StartsOver (three_names name temporary backup) name backup old s0 s1 (Ok tt)) (runs : Runs (ChangesOne name) s1 s2) where
+  all_spares : Runs (Spares (three_names name temporary backup)) s0 s2
+  all_spares = spares_on (three_names name temporary backup) s0 s1 s2 frame over.spares (over_spares name backup temporary old s1 s2 differ over.backed folder [] over.empty runs)
+
+  all_kept : Runs (λ a b. IsKept name backup old b) s0 s2
+  all_kept = kept_on (IsKept name backup old) s0 s1 s2 frame over.kept (over_kept name backup temporary old s1 s2 differ over.backed folder [] over.empty runs)
+
+  backed : IsSettled backup old s2.folder
+  backed = over_backed name backup temporary old s1 s2 differ over.backed folder [] over.empty runs
+
+  pub copying_done : (size : ℕ) → size ≡ length new → IsSynced name new s2.folder → WritesOver (three_names name temporary backup) name backup old new s0 s2 (Ok size)
+  copying_done size is synced = record {
+    spares = all_spares;
+    kept = all_kept;
+    written = (is, holds_synced name new s2.folder backed.pending synced, settled_holds backup old s2.folder backed);
+    not_written = tt;
+    in_file = λ refused. absurd (never_refused size place.File refused);
+    in_backup = λ refused. absurd (never_refused size place.Backup refused);
+    somewhere = (λ refused. never_refused size place.Nowhere refused, λ is. cc);
+  }
+
+  pub copying_stopped : (why : Stop) → Fills name s1.folder s2.folder → WritesOver (three_names name temporary backup) name backup old new s0 s2 (Err (stopped why place.Backup))
+  copying_stopped why fills = record {
+    spares = all_spares;
+    kept = all_kept;
+    written = tt;
+    not_written = inl (may_leave_filled name old s1.folder s2.folder fills over.may_leave);
+    in_file = λ refused. absurd (never_file why refused);
+    in_backup = λ refused some. (Some [], may_leave_filled name [] s1.folder s2.folder fills (may_leave_now name [] s1.folder over.empty), λ same. some (let is : [] ≡ old = cc in sym is));
+    somewhere = (λ refused. never_nowhere why refused, λ is. never_no_name why is);
+  }
+
+-- the file is as it was
+pub copying_not_begun : (on : Name → Type 0) (name backup : Name) (old new : List ℕ) (s0 s1 : Scene) → Runs (Spares on) s0 s1 → Runs (λ a b. IsKept name backup old b) s0 s1 → HoldsBytes name old s1.folder
+    → WritesOver on name backup old new s0 s1 (Err (error.Failed place.File))
+copying_not_begun on name backup old new s0 s1 spares kept holds = record {
+  spares = spares;
+  kept = kept;
+  written = tt;
+  not_written = inl (may_leave_held name old s1.folder holds);
+  in_file = λ refused. holds;
+  in_backup = λ refused. absurd (only_file place.Backup (λ is. cc) refused);
+  somewhere = (λ refused. only_file place.Nowhere (λ is. cc) refused, λ is. cc);
+}

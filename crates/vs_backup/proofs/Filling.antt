@@ -1,0 +1,102 @@
+-- How a file grows piece by piece: what was written and what is still held are the bytes so far.
+use Rattle.std.proofs.Common.{◌≡◌, ℕ, ◌+◌, ◌<◌, List, [], ◌∷◌, ◌++◌, length, take, drop, get_or, Option, Some, None, OnOk, OnErr, Result, refl, sym, ◌∙◌, ap, subst, arith}
+use Rattle.std.specs.Prelude.{IsSomeAnd}
+use Rattle.std.proofs.lemmas.Grind.{common_steps}
+use Rattle.std.proofs.Math.Seq.{take-add}
+use Rattle.vs_text.specs.Text.{file_of}
+use Rattle.vs_host.specs.File.{File, Writes, WritesSome, Syncs, put}
+use Rattle.vs_host.specs.Disk.{Disk, Name, ChangesFile, content_in}
+use Rattle.vs_host.specs.Trace.{Synced}
+use Rattle.vs_host.specs.World.{Scene, IsTold, ChangesFolder}
+use Rattle.vs_disk.specs.Images.{Changes, KeepsImages}
+use Rattle.vs_disk.specs.Runs.{Runs, Looks}
+use Rattle.vs_disk.proofs.Steps.{same_file, file_then, file_as}
+use Rattle.vs_disk.proofs.Images.{write_keeps_images}
+use Rattle.vs_disk.proofs.Runs.{runs_as, runs_then, runs_on, call_on}
+use Rattle.vs_disk.proofs.Contents.{written_content, put_end}
+use Rattle.vs_backup.specs.Works.{Fills, ChangesOne}
+use Rattle.vs_backup.proofs.Frames.{either}
+
+-- ---- the step of writes and cuts, and that of all calls on one file
+pub fills_none : (name : Name) (disk : Disk) → Fills name disk disk
+fills_none name disk = same_file name KeepsImages (λ file c image. image) disk
+
+pub fills_then : (name : Name) (a b c : Disk) → Fills name a b → Fills name b c → Fills name a c
+fills_then name a b c first second = file_then name KeepsImages KeepsImages KeepsImages (λ x y z one two d image. two d (one d image)) a b c first second
+
+pub fills_same : (name : Name) (old new : Disk) → new ≡ old → Fills name old new
+fills_same name old new is = subst (λ (d : Disk). Fills name old d) (sym is) (fills_none name old)
+
+pub fills_write : (name : Name) (at n : ℕ) (old new : Disk) → ChangesFile name (WritesSome at n) old new → Fills name old new
+fills_write name at n old new changes = file_as name (WritesSome at n) KeepsImages (write_keeps_images at n) old new changes
+
+pub changes_none : (name : Name) (disk : Disk) → ChangesOne name disk disk
+changes_none name disk = same_file name Changes (λ file. tt) disk
+
+pub changes_then : (name : Name) (a b c : Disk) → ChangesOne name a b → ChangesOne name b c → ChangesOne name a c
+changes_then name a b c first second = file_then name Changes Changes Changes (λ x y z one two. tt) a b c first second
+
+pub changes_same : (name : Name) (old new : Disk) → new ≡ old → ChangesOne name old new
+changes_same name old new is = subst (λ (d : Disk). ChangesOne name old d) (sym is) (changes_none name old)
+
+pub changes_by : (name : Name) (step : File → File → Type 0) (old new : Disk) → ChangesFile name step old new → ChangesOne name old new
+changes_by name step old new changes = file_as name step Changes (λ a b is. tt) old new changes
+
+pub fills_changes : (name : Name) (s0 s1 : Scene) → Runs (Fills name) s0 s1 → Runs (ChangesOne name) s0 s1
+fills_changes name s0 s1 runs = runs_as (Fills name) (ChangesOne name) s0 s1 (λ d fills. changes_by name KeepsImages s0.folder d fills) runs
+
+-- ---- a run that goes on
+pub fills_on : (name : Name) (s0 s1 s2 : Scene) → ChangesFolder s0 s1 → Runs (Fills name) s0 s1 → Runs (Fills name) s1 s2 → Runs (Fills name) s0 s2
+fills_on name s0 s1 s2 frame first second = runs_on (Fills name) (fills_then name) s0 s1 s2 frame first second
+
+pub changes_on : (name : Name) (s0 s1 s2 : Scene) → ChangesFolder s0 s1 → Runs (ChangesOne name) s0 s1 → Runs (ChangesOne name) s1 s2 → Runs (ChangesOne name) s0 s2
+changes_on name s0 s1 s2 frame first second = runs_on (ChangesOne name) (changes_then name) s0 s1 s2 frame first second
+
+-- after a look at the folder
+pub then_looks : (step : Disk → Disk → Type 0) (s0 s1 s2 : Scene) → ChangesFolder s0 s1 → Runs step s0 s1 → Looks s1 s2 → Runs step s0 s2
+then_looks step s0 s1 s2 frame first second =
+    runs_then step (λ a b. b ≡ a) step s0 s1 s2 (λ d s. s) (λ d same. subst (λ (x : Disk). step s0.folder x) (sym same) first.now) frame first second
+
+pub looks_fills : (name : Name) (s0 s1 : Scene) → Looks s0 s1 → Runs (Fills name) s0 s1
+looks_fills name s0 s1 looks = runs_as (λ a b. b ≡ a) (Fills name) s0 s1 (λ d same. fills_same name s0.folder d same) looks
+
+pub looks_changes : (name : Name) (s0 s1 : Scene) → Looks s0 s1 → Runs (ChangesOne name) s0 s1
+looks_changes name s0 s1 looks = runs_as (λ a b. b ≡ a) (ChangesOne name) s0 s1 (λ d same. changes_same name s0.folder d same) looks
+
+-- a sync of the file after such a run
+pub sync_changes : {T E : Type 0} (name : Name) (told : Type 0) (result : Result T E) (s0 s1 s2 : Scene) → told → ChangesFolder s0 s1 → Runs (ChangesOne name) s0 s1
+    → OnOk result (told → ChangesFile name Syncs s1.folder s2.folder) → OnErr result (s2.folder ≡ s1.folder) → ChangesFolder s1 s2 → IsTold Synced (name ∷ []) result s1 s2
+    → Runs (ChangesOne name) s0 s2
+sync_changes name told result s0 s1 s2 is frame first ok err framed told_of =
+    let here : ChangesOne name s1.folder s2.folder =
+    either (told → ChangesFile name Syncs s1.folder s2.folder) (s2.folder ≡ s1.folder) (ChangesOne name s1.folder s2.folder) result ok err
+    (λ syncs. changes_by name Syncs s1.folder s2.folder (syncs is)) (λ same. changes_same name s1.folder s2.folder same) in
+    call_on (ChangesOne name) (changes_then name) Synced (name ∷ []) result s0 s1 s2 frame first framed here told_of
+
+-- ---- bytes
+pub size_is : (disk : Disk) (name : Name) (size : ℕ) (bytes : List ℕ) → content_in disk name ≡ Some bytes → size ≡ length bytes → IsSomeAnd (content_in disk name) (λ b. size ≡ length b)
+size_is disk name size bytes is long = subst (λ (o : Option (List ℕ)). IsSomeAnd o (λ b. size ≡ length b)) (sym is) long
+
+pub size_at : (disk : Disk) (name : Name) (size : ℕ) (bytes : List ℕ) → content_in disk name ≡ Some bytes → IsSomeAnd (content_in disk name) (λ b. size ≡ length b) → size ≡ length bytes
+size_at disk name size bytes is known = subst (λ (o : Option (List ℕ)). IsSomeAnd o (λ b. size ≡ length b)) is known
+
+some_bytes_at : (at : Option (List ℕ)) (size : ℕ) → IsSomeAnd at (λ b. size ≡ length b) → (bytes : List ℕ) × (at ≡ Some bytes) × (size ≡ length bytes)
+some_bytes_at None size known = absurd known
+some_bytes_at (Some bytes) size known = (bytes, refl, known)
+
+pub bytes_at : (disk : Disk) (name : Name) (size : ℕ) → IsSomeAnd (content_in disk name) (λ b. size ≡ length b) → (bytes : List ℕ) × (content_in disk name ≡ Some bytes) × (size ≡ length bytes)
+bytes_at disk name size known = some_bytes_at (content_in disk name) size known
+
+-- a piece written at the end
+pub written_end : (name : Name) (at : ℕ) (piece bytes : List ℕ) (old new : Disk) → ChangesFile name (Writes at piece) old new → content_in old name ≡ Some bytes → at ≡ length bytes
+    → content_in new name ≡ Some (bytes ++ piece)
+written_end name at piece bytes old new changes is end =
+    written_content name at piece bytes old new changes is ∙ ap (λ (b : List ℕ). Some b) (ap (λ (n : ℕ). put bytes n piece) end ∙ put_end bytes piece)
+
+-- the file form of one line more
+pub file_more : (text : List (List ℕ)) (at : ℕ) → at < length text → file_of (take (at + 1) text) ≡ file_of (take at text) ++ (get_or text at [] ++ 10 ∷ [])
+file_more text at lt = grind (arith, common_steps)
+
+-- a piece of the bytes at their end makes more of them
+pub piece_more : (bytes piece : List ℕ) (at n : ℕ) → piece ≡ take n (drop at bytes) → take at bytes ++ piece ≡ take (at + n) bytes
+piece_more bytes piece at n is = ap (λ (p : List ℕ). take at bytes ++ p) is ∙ sym (take-add at n bytes)

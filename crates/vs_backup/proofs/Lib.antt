@@ -1,0 +1,11 @@
+pub mod Backed
+pub mod Calls
+pub mod Choosing
+pub mod Copying
+pub mod Filling
+pub mod Frames
+pub mod Kept
+pub mod Moving
+pub mod NamesApart
+pub mod Unbacked
+pub mod Whole

@@ -1,0 +1,112 @@
+-- Writing without a backup: the file alone changes, or its temporary name until the file takes its own.
+use Rattle.std.proofs.Common.{◌≡◌, inl, ℕ, List, [], ◌∷◌, Some, None, length, OnOk, OnErr, IfOk, Result, Ok, Err, sym, ◌∙◌, subst, arith}
+use Rattle.vs_host.specs.File.{Cuts}
+use Rattle.vs_host.specs.Disk.{Disk, Name, content_in, ChangesFile, IsFolder}
+use Rattle.vs_host.specs.Trace.{Cut}
+use Rattle.vs_host.specs.World.{Scene, ChangesFolder, IsTold}
+use Rattle.vs_host.specs.declared.traits.Failed.{Failed}
+use Rattle.vs_disk.specs.Images.{IsSynced, MayLeave, Takes}
+use Rattle.vs_disk.specs.Runs.{Runs}
+use Rattle.vs_disk.proofs.Images.{cut_keeps_images}
+use Rattle.vs_disk.proofs.Runs.{one_call, runs_as, runs_on, starts}
+use Rattle.vs_disk.proofs.Contents.{holds_synced, takes_then}
+use Rattle.vs_backup.specs.Works.{ChangesOne, Fills, IsAlone, Narrowed, Spares, one_name, two_names}
+use Rattle.vs_backup.specs.Writing.{IsSettled, WritesFresh, WritesPlain}
+use Rattle.vs_backup.specs.declared.errors.Stop.{Stop}
+use Rattle.vs_backup.proofs.Calls.{runs_wider, runs_file, spares_on, synced_bytes}
+use Rattle.vs_backup.proofs.Frames.{spares_none, spares_same, takes_spared, content_spared, absent_now}
+use Rattle.vs_backup.proofs.Filling.{changes_by, changes_then}
+use Rattle.vs_backup.proofs.Kept.{may_leave_now, may_leave_filled, settled_holds}
+use Rattle.vs_backup.proofs.Copying.{alone_now}
+use Rattle.vs_backup.proofs.Backed.{narrowed_content}
+
+-- ---- over a file that is there
+module _ (name : Name) (old new : List ℕ) (s0 s1 : Scene) (content : content_in s0.folder name ≡ Some old) (looked : Runs Narrowed s0 s1) where
+  pub plain_not_begun : (result : Result ℕ Stop) → OnOk result ⊥ → WritesPlain name old new s0 s1 result
+  plain_not_begun (Ok size) none = absurd none
+  plain_not_begun (Err why) none = record {
+    begun = s1;
+    looked = looked;
+    spares = starts (Spares (one_name name)) s1 (spares_none (one_name name) s1.folder);
+    written = tt;
+    not_written = inl (may_leave_now name old s1.folder (narrowed_content name s0.folder s1.folder looked.now ∙ content));
+  }
+
+  module _ (settled : IsSettled name old s1.folder) (folder : IsFolder s1.folder) (s2 : Scene) (framed : ChangesFolder s1 s2) (answer : Result (Unit {0}) Failed) (told : IsTold Cut (name ∷ []) answer s1 s2) where
+    pub plain_not_cut : (result : Result ℕ Stop) → OnOk result ⊥ → s2.folder ≡ s1.folder → WritesPlain name old new s0 s2 result
+    plain_not_cut (Ok size) none same = absurd none
+    plain_not_cut (Err why) none same = record {
+      begun = s1;
+      looked = looked;
+      spares = one_call (Spares (one_name name)) Cut (name ∷ []) answer s1 s2 framed told (spares_same (one_name name) s1.folder s2.folder same);
+      written = tt;
+      not_written = inl (subst (λ (d : Disk). MayLeave d name (Some old)) (sym same) (may_leave_now name old s1.folder (synced_bytes name old s1.folder settled.synced)));
+    }
+
+    module _ (cuts : ChangesFile name (Cuts 0) s1.folder s2.folder) (s3 : Scene) (runs : Runs (ChangesOne name) s2 s3) where
+      there : content_in s1.folder name ≡ Some old
+      there = synced_bytes name old s1.folder settled.synced
+
+      keeps : Fills name s1.folder s2.folder
+      keeps = record {
+        synced = cuts.synced;
+        pending = cuts.pending;
+        others = cuts.others;
+        this = λ number leads. cut_keeps_images 0 (s1.folder.files number) (s2.folder.files number) (omega arith) (cuts.this number leads);
+      }
+
+      plain_alone : IsAlone name s1.folder
+      plain_alone = alone_now name old s1.folder settled.pending folder there
+
+      plain_spares : Runs (Spares (one_name name)) s1 s3
+      plain_spares = runs_file name s1 s3 plain_alone
+          (runs_on (ChangesOne name) (changes_then name) s1 s2 s3 framed (one_call (ChangesOne name) Cut (name ∷ []) answer s1 s2 framed told (changes_by name (Cuts 0) s1.folder s2.folder cuts)) runs)
+
+      pub plain_filled : (result : Result ℕ Stop) → IfOk result (λ size. (size ≡ length new) × IsSynced name new s3.folder) → OnErr result (Fills name s2.folder s3.folder) → WritesPlain name old new s0 s3 result
+      plain_filled (Ok size) done fills = record {
+        begun = s1;
+        looked = looked;
+        spares = plain_spares;
+        written = (done.0, holds_synced name new s3.folder (runs.now.pending ∙ cuts.pending ∙ settled.pending) done.1);
+        not_written = tt;
+      }
+      plain_filled (Err why) done fills = record {
+        begun = s1;
+        looked = looked;
+        spares = plain_spares;
+        written = tt;
+        not_written = inl (may_leave_filled name old s2.folder s3.folder fills (may_leave_filled name old s1.folder s2.folder keeps (may_leave_now name old s1.folder there)));
+      }
+
+-- ---- a file that was not there
+module _ (name temporary : Name) (new : List ℕ) (s0 s1 : Scene) (differ : name ≡ temporary → ⊥) (free : content_in s0.folder name ≡ None) (spares : Runs (Spares (one_name temporary)) s0 s1) where
+  fresh_takes : Runs (Takes name new) s0 s1
+  fresh_takes = runs_as (Spares (one_name temporary)) (Takes name new) s0 s1 (λ d here. takes_spared (one_name temporary) name new s0.folder d differ here) spares
+
+  fresh_spares : Runs (Spares (two_names temporary name)) s0 s1
+  fresh_spares = runs_wider (one_name temporary) (two_names temporary name) s0 s1 (λ n is. inl is) spares
+
+  pub fresh_free : content_in s1.folder name ≡ None
+  fresh_free = content_spared (one_name temporary) name s0.folder s1.folder differ spares.now ∙ free
+
+  pub fresh_not_taken : (result : Result ℕ Stop) → OnOk result ⊥ → WritesFresh (two_names temporary name) name new s0 s1 result
+  fresh_not_taken (Ok size) none = absurd none
+  fresh_not_taken (Err why) none = record { takes = fresh_takes; spares = fresh_spares; written = tt; not_written = absent_now name s1.folder fresh_free }
+
+  module _ (s2 : Scene) (frame : ChangesFolder s0 s1) (takes : Runs (Takes name new) s1 s2) (moved : Runs (Spares (two_names temporary name)) s1 s2) where
+    pub fresh_refused : (result : Result ℕ Stop) → OnOk result ⊥ → MayLeave s2.folder name None → WritesFresh (two_names temporary name) name new s0 s2 result
+    fresh_refused (Ok size) none absent = absurd none
+    fresh_refused (Err why) none absent = record {
+      takes = runs_on (Takes name new) (takes_then name new) s0 s1 s2 frame fresh_takes takes;
+      spares = spares_on (two_names temporary name) s0 s1 s2 frame fresh_spares moved;
+      written = tt;
+      not_written = absent;
+    }
+
+    pub fresh_done : (size : ℕ) → size ≡ length new → IsSettled name new s2.folder → WritesFresh (two_names temporary name) name new s0 s2 (Ok size)
+    fresh_done size is settled = record {
+      takes = runs_on (Takes name new) (takes_then name new) s0 s1 s2 frame fresh_takes takes;
+      spares = spares_on (two_names temporary name) s0 s1 s2 frame fresh_spares moved;
+      written = (is, settled_holds name new s2.folder settled);
+      not_written = tt;
+    }

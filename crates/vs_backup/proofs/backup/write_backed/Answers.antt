@@ -1,0 +1,42 @@
+use Rattle.std.proofs.Common.{◌≡◌, ◌∙◌, ℕ, None, IsTrue, Result, Err, sym, ap, subst}
+use Rattle.std.proofs.lemmas.Result.{err_from_is_err_and}
+use Rattle.vs_text.specs.Text.{file_of}
+use Rattle.vs_host.specs.Disk.{names_at}
+use Rattle.vs_host.specs.World.{Scene}
+use Rattle.vs_backup.specs.Writing.{WritesBacked, backed_names}
+use Rattle.vs_backup.specs.declared.errors.WriteErr.{WriteErr}
+use Rattle.vs_backup.proofs.Backed.{backed_refused, backed_kept, backed_removed, gone_unless_risen, holds_there}
+use Rattle.vs_backup.proofs.backup.write_backed.Goals as goal
+
+pub returns-in_err-size-clause-backed : goal.returns-in_err-size-clause-backed
+returns-in_err-size-clause-backed g c told old is text has =
+    let on = backed_names c.args.copying c.args.name.now c.args.temporary.now c.args.backup.now in
+    let s0 : Scene = g.D.World.scene c.args.desk.now in
+    let s1 : Scene = g.D.World.scene c.write_over.new.desk in
+    let why = c.in_err-size.field-0.0 in
+    let p = err_from_is_err_and c.from_residual.result c.from_residual.ensures.1 in
+    let same : c.from_residual.result ≡ Err why = p.1 ∙ ap (λ (e : WriteErr). Err e) p.2 in
+    subst (λ (r : Result ℕ WriteErr). WritesBacked on c.args.keep c.args.name.now c.args.backup.now old (file_of text) s0 s1 r) (sym same)
+    (backed_refused c.args.copying c.args.keep c.args.name.now c.args.temporary.now c.args.backup.now old (file_of text) s0 s1 is why (c.in_err-size.ensures.over told old is text has))
+
+pub returns-then-keep-clause-backed : goal.returns-then-keep-clause-backed
+returns-then-keep-clause-backed g c told old is text has =
+    let s0 : Scene = g.D.World.scene c.args.desk.now in
+    let s1 : Scene = g.D.World.scene c.write_over.new.desk in
+    backed_kept c.args.copying c.args.keep c.args.name.now c.args.temporary.now c.args.backup.now old (file_of text) s0 s1 is c.in_ok-size.size c.if-keep.true (c.in_ok-size.ensures.over told old is text has)
+
+pub returns-clause-backed : goal.returns-clause-backed
+returns-clause-backed g c told old is text has =
+    let s0 : Scene = g.D.World.scene c.args.desk.now in
+    let s1 : Scene = g.D.World.scene c.write_over.new.desk in
+    let s2 : Scene = g.D.World.scene c.drop_name.new.desk in
+    let gone = gone_unless_risen c.drop_name.result s0.folder_faults s1.folder_faults s2.folder_faults ((lost : ℕ) → names_at s2.folder lost c.args.backup.now ≡ None)
+    (IsTrue g.D.World.tells.folder) told c.write_over.ensures.cause.later c.drop_name.ensures.cause c.drop_name.ensures.gone in
+    backed_removed c.args.copying c.args.keep c.args.name.now c.args.temporary.now c.args.backup.now old (file_of text) s0 s1 is c.in_ok-size.size s2 c.if-keep.false
+    c.write_over.ensures.frame c.requires.differ_name (c.in_ok-size.ensures.over told old is text has) (c.drop_name.ensures.spares told) gone
+
+pub drop_name-requires-clause-there : goal.drop_name-requires-clause-there
+drop_name-requires-clause-there g c told =
+    let had = c.requires.settled told in
+    let text = g.met.D.Desk.tells_one c.args.desk.now c.requires.valid told in
+    holds_there c.args.backup.now had.0 (g.D.World.scene c.write_over.new.desk).folder (c.in_ok-size.ensures.over told had.0 had.1 text.0 text.1).written.2

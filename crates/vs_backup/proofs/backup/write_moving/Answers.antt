@@ -1,0 +1,67 @@
+use Rattle.std.proofs.Common.{[], ◌∷◌, Err, sym, subst}
+use Rattle.vs_text.specs.Text.{file_of}
+use Rattle.vs_host.specs.Disk.{Disk}
+use Rattle.vs_host.specs.Trace.{Renamed}
+use Rattle.vs_host.specs.World.{Scene}
+use Rattle.vs_disk.specs.Images.{HoldsBytes}
+use Rattle.vs_disk.proofs.Runs.{one_call}
+use Rattle.vs_disk.proofs.Contents.{not_there}
+use Rattle.vs_backup.specs.Works.{Spares, two_names}
+use Rattle.vs_backup.specs.Writing.{IsKept, WritesOver}
+use Rattle.vs_backup.specs.declared.errors.WriteErr.{WriteErr}
+use Rattle.vs_backup.proofs.Calls.{synced_there}
+use Rattle.vs_backup.proofs.Frames.{spares_same}
+use Rattle.vs_backup.proofs.Kept.{guard_moved, moved_away, kept_by_name, settled_holds}
+use Rattle.vs_backup.proofs.Copying.{copying_not_begun}
+use Rattle.vs_backup.proofs.Moving.{moving_done, moving_stopped}
+use Rattle.vs_backup.proofs.backup.write_moving.Goals as goal
+
+pub returns-in-Ok-write_anew-clause-over : goal.returns-in-Ok-write_anew-clause-over
+returns-in-Ok-write_anew-clause-over g c told old is text has =
+    let name = c.args.name.now in
+    let backup = c.args.backup.now in
+    let s0 : Scene = g.D.World.scene c.args.desk.now in
+    let s1 : Scene = g.D.World.scene c.rename.new.self in
+    let s2 : Scene = g.D.World.scene c.write_anew.new.desk in
+    let renames = c.in-Ok.ensures.ok told in
+    let kept = g.met.D.Desk.stays_text c.args.desk.now c.rename.new.self text c.rename.ensures.stays has in
+    moving_done name backup old (file_of text) s0 s1 s2 is c.rename.ensures.frame c.rename.result (c.rename.ensures.told told) renames c.in-Ok-write_anew.size
+    (c.in-Ok-write_anew.ensures.anew told backup is.synced.number old (λ e. c.requires.differ_name (sym e)) (guard_moved name backup old s0.folder s1.folder is renames) text kept)
+
+pub returns-in-Err-write_anew-clause-over : goal.returns-in-Err-write_anew-clause-over
+returns-in-Err-write_anew-clause-over g c told old is text has =
+    let name = c.args.name.now in
+    let backup = c.args.backup.now in
+    let s0 : Scene = g.D.World.scene c.args.desk.now in
+    let s1 : Scene = g.D.World.scene c.rename.new.self in
+    let s2 : Scene = g.D.World.scene c.write_anew.new.desk in
+    let renames = c.in-Ok.ensures.ok told in
+    let kept = g.met.D.Desk.stays_text c.args.desk.now c.rename.new.self text c.rename.ensures.stays has in
+    subst (λ (error : WriteErr). WritesOver (two_names name backup) name backup old (file_of text) s0 s2 (Err error)) (sym c.with.ensures)
+    (moving_stopped name backup old (file_of text) s0 s1 s2 is c.rename.ensures.frame c.rename.result (c.rename.ensures.told told) renames c.in-Err-write_anew.stop
+    (c.in-Err-write_anew.ensures.anew told backup is.synced.number old (λ e. c.requires.differ_name (sym e)) (guard_moved name backup old s0.folder s1.folder is renames) text kept))
+
+pub returns-in-Err-clause-over : goal.returns-in-Err-clause-over
+returns-in-Err-clause-over g c told old is text has =
+    let name = c.args.name.now in
+    let backup = c.args.backup.now in
+    let on = two_names name backup in
+    let s0 : Scene = g.D.World.scene c.args.desk.now in
+    let s1 : Scene = g.D.World.scene c.rename.new.self in
+    let holds = settled_holds name old s0.folder is in
+    let still = subst (λ (d : Disk). HoldsBytes name old d) (sym c.in-Err.ensures.err) holds in
+    copying_not_begun on name backup old (file_of text) s0 s1
+    (one_call (Spares on) Renamed (name ∷ backup ∷ []) c.rename.result s0 s1 c.rename.ensures.frame (c.rename.ensures.told told) (spares_same on s0.folder s1.folder c.in-Err.ensures.err))
+    (one_call (λ a b. IsKept name backup old b) Renamed (name ∷ backup ∷ []) c.rename.result s0 s1 c.rename.ensures.frame (c.rename.ensures.told told) (kept_by_name name backup old s1.folder still))
+    still
+
+pub rename-requires-clause-there : goal.rename-requires-clause-there
+rename-requires-clause-there g c told =
+    let had = c.requires.settled told in
+    synced_there c.args.name.now had.0 (g.D.World.scene c.args.desk.now).folder had.1.synced
+
+pub write_anew-requires-clause-free : goal.write_anew-requires-clause-free
+write_anew-requires-clause-free g c told =
+    let s0 : Scene = g.D.World.scene c.args.desk.now in
+    let s1 : Scene = g.D.World.scene c.rename.new.self in
+    not_there s1.folder c.args.name.now (moved_away c.args.name.now c.args.backup.now s0.folder s1.folder (λ e. c.requires.differ_name (sym e)) (c.in-Ok.ensures.ok told))

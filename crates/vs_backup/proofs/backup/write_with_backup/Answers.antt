@@ -1,0 +1,32 @@
+use Rattle.vs_text.specs.Text.{file_of}
+use Rattle.vs_host.specs.World.{Scene}
+use Rattle.vs_disk.proofs.Contents.{some_content}
+use Rattle.vs_backup.specs.Writing.{backed_names}
+use Rattle.vs_backup.specs.declared.errors.Place.TheVariants as place
+use Rattle.vs_backup.specs.declared.errors.WriteErr.TheVariants as error
+use Rattle.vs_backup.proofs.Backed.{backed_not_begun, backed_after}
+use Rattle.vs_backup.proofs.Copying.{only_file}
+use Rattle.vs_backup.proofs.backup.write_with_backup.Goals as goal
+
+pub returns-in-Ok-clause-backed : goal.returns-in-Ok-clause-backed
+returns-in-Ok-clause-backed g c told old content text has =
+    let on = backed_names c.args.copying c.args.name.now c.args.temporary.now c.args.backup.now in
+    let s0 : Scene = g.D.World.scene c.args.desk.now in
+    let s1 : Scene = g.D.World.scene c.settle.new.desk in
+    let s2 : Scene = g.D.World.scene c.write_backed.new.desk in
+    let kept = g.met.D.Desk.stays_text c.args.desk.now c.settle.new.desk text c.settle.ensures.stays has in
+    backed_after on c.args.keep c.args.name.now c.args.backup.now old (file_of text) s0 s1 content (c.settle.ensures.narrowed told) c.write_backed.result s2 c.settle.ensures.frame c.settle.ensures.cause.later
+    (c.write_backed.ensures.backed told old (c.in-Ok.ensures.ok told old content) text kept)
+
+pub returns-in-Err-clause-backed : goal.returns-in-Err-clause-backed
+returns-in-Err-clause-backed g c told old content text has =
+    let on = backed_names c.args.copying c.args.name.now c.args.temporary.now c.args.backup.now in
+    let s0 : Scene = g.D.World.scene c.args.desk.now in
+    let s1 : Scene = g.D.World.scene c.settle.new.desk in
+    backed_not_begun on c.args.keep c.args.name.now c.args.backup.now old (file_of text) s0 s1 content (c.settle.ensures.narrowed told) (error.Failed place.File)
+    (λ refused. only_file place.Nowhere (λ e. cc) refused) (λ refused. only_file place.Backup (λ e. cc) refused) (λ e. cc)
+
+pub write_backed-requires-clause-settled : goal.write_backed-requires-clause-settled
+write_backed-requires-clause-settled g c told =
+    let has = some_content (g.D.World.scene c.args.desk.now).folder c.args.name.now (c.requires.there told) in
+    (has.0, c.in-Ok.ensures.ok told has.0 has.1)

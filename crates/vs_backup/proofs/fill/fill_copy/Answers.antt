@@ -1,0 +1,94 @@
+use Rattle.std.proofs.Common.{◌≡◌, ◌∙◌, ◌+◌, ◌≤◌, [], ◌∷◌, ℕ, List, Some, IsTrue, length, take, sym, ap, subst, arith}
+use Rattle.std.proofs.lemmas.Grind.{common_steps}
+use Rattle.vs_host.specs.File.{Syncs}
+use Rattle.vs_host.specs.Disk.{Disk, content_in, ChangesFile}
+use Rattle.vs_host.specs.Trace.{Measured}
+use Rattle.vs_host.specs.World.{Scene, content_of}
+use Rattle.std.proofs.lemmas.List.{take_all}
+use Rattle.vs_disk.specs.Images.{IsSynced, Changes}
+use Rattle.vs_disk.proofs.Runs.{one_look, frames, reads_change}
+use Rattle.vs_disk.proofs.Contents.{synced_content, of_bytes, some_bytes, some_content}
+use Rattle.vs_backup.specs.Works.{IsAlone, one_name}
+use Rattle.vs_backup.proofs.Frames.{ok_leads, spares_file, alone_file, content_spared}
+use Rattle.vs_backup.proofs.Filling.{changes_on, looks_changes, sync_changes}
+use Rattle.vs_backup.proofs.fill.fill_copy.Goals as goal
+
+pub returns-in_err-size-clause-runs : goal.returns-in_err-size-clause-runs
+returns-in_err-size-clause-runs g c told =
+    let s0 : Scene = g.D.World.scene c.args.desk.now in
+    let s1 : Scene = g.D.World.scene c.len.new.self in
+    looks_changes c.args.to.now s0 s1 (one_look Measured (c.args.from.now ∷ []) c.len.result s0 s1 c.len.ensures.frame (c.len.ensures.told told))
+
+pub pieces-init : goal.pieces-init
+pieces-init g c =
+    let s0 : Scene = g.D.World.scene c.args.desk.now in
+    let s1 : Scene = g.D.World.scene c.len.new.self in
+    let same : s1.folder ≡ s0.folder = ap (λ (s : Scene). s.folder) c.len.ensures.frame in
+    record {
+      valid = c.len.ensures.valid;
+      stays = c.len.ensures.stays;
+      within = omega arith;
+      runs = λ told. looks_changes c.args.to.now s0 s1 (one_look Measured (c.args.from.now ∷ []) c.len.result s0 s1 c.len.ensures.frame (c.len.ensures.told told));
+      alone = λ told. subst (λ (d : Disk). IsAlone c.args.to.now d) (sym same) (c.requires.alone told);
+      from = λ told. ap (λ (d : Disk). content_in d c.args.from.now) same;
+      copied = λ told.
+          let has = some_content s0.folder c.args.from.now (c.requires.there told) in (
+            has.0,
+            has.1,
+            of_bytes s0.folder c.args.from.now has.0 (λ b. c.in_ok-size.size ≡ length b) has.1 (c.in_ok-size.ensures.value told),
+            ap (λ (d : Disk). content_in d c.args.to.now) same ∙ c.requires.empty told,
+          );
+      later = c.len.ensures.cause.later;
+      frame = reads_change s0 s1 c.len.ensures.frame;
+    }
+
+pub returns-in_err-copy_piece-clause-runs : goal.returns-in_err-copy_piece-clause-runs
+returns-in_err-copy_piece-clause-runs g c told =
+    let s0 : Scene = g.D.World.scene c.args.desk.now in
+    let s1 : Scene = g.D.World.scene c.pieces.desk in
+    let s2 : Scene = g.D.World.scene c.copy_piece.new.desk in
+    changes_on c.args.to.now s0 s1 s2 c.pieces.invariant.frame (c.pieces.invariant.runs told) (c.copy_piece.ensures.runs told)
+
+pub pieces-preserved : goal.pieces-preserved
+pieces-preserved g c =
+    let s0 : Scene = g.D.World.scene c.args.desk.now in
+    let s1 : Scene = g.D.World.scene c.pieces.desk in
+    let s2 : Scene = g.D.World.scene c.copy_piece.new.desk in
+    record {
+      valid = c.copy_piece.ensures.valid;
+      stays = g.met.D.Desk.stays_on c.args.desk.now c.pieces.desk c.copy_piece.new.desk c.pieces.invariant.stays c.copy_piece.ensures.stays;
+      within = omega (arith, c.min-count.ensures);
+      runs = λ told. changes_on c.args.to.now s0 s1 s2 c.pieces.invariant.frame (c.pieces.invariant.runs told) (c.copy_piece.ensures.runs told);
+      alone = λ told. alone_file c.args.to.now Changes s1.folder s2.folder (c.copy_piece.ensures.runs told).now (c.pieces.invariant.alone told);
+      from = λ told. content_spared (one_name c.args.to.now) c.args.from.now s1.folder s2.folder c.requires.differ
+          (spares_file c.args.to.now Changes s1.folder s2.folder (c.pieces.invariant.alone told) (c.copy_piece.ensures.runs told).now)
+          ∙ c.pieces.invariant.from told;
+      copied = λ told.
+          let had = c.pieces.invariant.copied told in
+          let more = c.in_ok-copy_piece.ensures.ok told had.0 (c.pieces.invariant.from told ∙ had.1) in
+          let long : length (take c.min-count.result c.pieces.buffer) ≡ c.min-count.result = grind (arith, common_steps) in
+          (had.0, had.1, had.2, more ∙ ap (λ (k : ℕ). Some (take (c.pieces.at + k) had.0)) long);
+      later = omega (arith, c.pieces.invariant.later, c.copy_piece.ensures.cause.later);
+      frame = frames s0 s1 s2 c.pieces.invariant.frame c.copy_piece.ensures.frame;
+    }
+
+pub returns-clause-runs : goal.returns-clause-runs
+returns-clause-runs g c told =
+    let s0 : Scene = g.D.World.scene c.args.desk.now in
+    let s1 : Scene = g.D.World.scene c.pieces.desk in
+    let s2 : Scene = g.D.World.scene c.sync.new.self in
+    sync_changes c.args.to.now (IsTrue g.D.World.tells.folder) c.sync.result s0 s1 s2 told c.pieces.invariant.frame (c.pieces.invariant.runs told) c.sync.ensures.ok c.sync.ensures.err c.sync.ensures.frame (c.sync.ensures.told told)
+
+pub returns-clause-ok : goal.returns-clause-ok
+returns-clause-ok g c =
+    let s0 : Scene = g.D.World.scene c.args.desk.now in
+    let s1 : Scene = g.D.World.scene c.pieces.desk in
+    let s2 : Scene = g.D.World.scene c.sync.new.self in
+    ok_leads (IsTrue g.D.World.tells.folder → ChangesFile c.args.to.now Syncs s1.folder s2.folder)
+    (IsTrue g.D.World.tells.folder → (bytes : List ℕ) → content_of s0 c.args.from.now ≡ Some bytes → IsSynced c.args.to.now bytes s2.folder) c.sync.result
+    (λ syncs told bytes is.
+    let had = c.pieces.invariant.copied told in
+    let one : had.0 ≡ bytes = some_bytes had.0 bytes (sym had.1 ∙ is) in
+    let all : take c.pieces.at had.0 ≡ had.0 = let past : length had.0 ≤ c.pieces.at = omega (arith, had.2) in take_all c.pieces.at had.0 past in
+    synced_content c.args.to.now bytes s1.folder s2.folder (syncs told) (had.3 ∙ ap (λ (b : List ℕ). Some b) (all ∙ one)))
+    c.sync.ensures.ok

@@ -1,0 +1,21 @@
+use Rattle.std.proofs.Common.{◌≡◌, ◌+◌, ◌*◌, ◌≤◌, ◌++◌, ℕ, List, Some, IsTrue, length, take}
+use Rattle.vs_text.specs.Text.{file_of}
+use Rattle.vs_text.specs.declared.TheConstants.{MAX_LINE_BYTES}
+use Rattle.vs_backup.specs.declared.fill.TheConstants.{PIECE}
+use Rattle.vs_host.specs.World.{ChangesFolder, content_of}
+use Rattle.vs_disk.specs.Runs.{Runs}
+use Rattle.vs_backup.specs.Works.{Fills}
+use Rattle.vs_backup.proofs.fill.write_text.Given as goal
+
+abbrev pub invariant-lines : goal.invariant-lines
+invariant-lines g l = record {
+  valid : g.D.Desk.valid l.desk;
+  stays : g.D.Desk.stays l.fn.desk l.desk;
+  few : length l.piece.items ≤ PIECE;
+  bound : l.size + length l.piece.items ≤ l.at * (MAX_LINE_BYTES + 1);
+  runs : IsTrue g.D.World.tells.folder → Runs (Fills l.name) (g.D.World.scene l.fn.desk) (g.D.World.scene l.desk);
+  there : IsTrue g.D.World.tells.folder → (bytes : List ℕ) × (content_of (g.D.World.scene l.desk) l.name ≡ Some bytes) × (l.size ≡ length bytes)
+      × ((text : List (List ℕ)) → g.D.Desk.has_text l.fn.desk text → bytes ++ l.piece.items ≡ file_of (take l.at text));
+  later : (g.D.World.scene l.fn.desk).folder_faults ≤ (g.D.World.scene l.desk).folder_faults;
+  frame : ChangesFolder (g.D.World.scene l.fn.desk) (g.D.World.scene l.desk);
+}

@@ -1,0 +1,60 @@
+use Rattle.std.proofs.Common.{◌≡◌, ◌≤◌, ℕ, List, Option, IsTrue, length, sym, subst, arith}
+use Rattle.std.specs.Prelude.{IsSomeAnd}
+use Rattle.std.proofs.lemmas.Result.{err_from_is_err_and}
+use Rattle.vs_text.specs.Text.{file_of}
+use Rattle.vs_host.specs.World.{Scene}
+use Rattle.vs_disk.specs.Images.{IsSynced}
+use Rattle.vs_disk.proofs.Contents.{some_content}
+use Rattle.vs_backup.specs.Works.{Fills}
+use Rattle.vs_backup.proofs.Calls.{synced_bytes}
+use Rattle.vs_backup.proofs.Copying.{cut_content}
+use Rattle.vs_backup.proofs.Frames.{ok_with, err_with}
+use Rattle.vs_backup.proofs.Unbacked.{plain_not_begun, plain_not_cut, plain_filled}
+use Rattle.vs_backup.proofs.plain.write_plain.Goals as goal
+
+pub returns-in_err-settle-clause-plain : goal.returns-in_err-settle-clause-plain
+returns-in_err-settle-clause-plain g c told old content text has =
+    let s0 : Scene = g.D.World.scene c.args.desk.now in
+    let s1 : Scene = g.D.World.scene c.settle.new.desk in
+    let p = err_from_is_err_and c.from_residual.result c.from_residual.ensures.1 in
+    plain_not_begun c.args.name.now old (file_of text) s0 s1 content (c.settle.ensures.narrowed told) c.from_residual.result (rw p.1 tt)
+
+pub returns-in_err-cut-clause-plain : goal.returns-in_err-cut-clause-plain
+returns-in_err-cut-clause-plain g c told old content text has =
+    let s0 : Scene = g.D.World.scene c.args.desk.now in
+    let s1 : Scene = g.D.World.scene c.settle.new.desk in
+    let s2 : Scene = g.D.World.scene c.cut.new.self in
+    let p = err_from_is_err_and c.from_residual-in_err-cut.result c.from_residual-in_err-cut.ensures.1 in
+    plain_not_cut c.args.name.now old (file_of text) s0 s1 content (c.settle.ensures.narrowed told) (c.in_ok-settle.ensures.ok told old content) (g.D.World.is_folder c.settle.new.desk told)
+    s2 c.cut.ensures.frame c.cut.result (c.cut.ensures.told told) c.from_residual-in_err-cut.result (rw p.1 tt) c.in_err-cut.ensures.err
+
+pub returns-clause-plain : goal.returns-clause-plain
+returns-clause-plain g c told old content text has =
+    let s0 : Scene = g.D.World.scene c.args.desk.now in
+    let s1 : Scene = g.D.World.scene c.settle.new.desk in
+    let s2 : Scene = g.D.World.scene c.cut.new.self in
+    let s3 : Scene = g.D.World.scene c.fill_text.new.desk in
+    let stays = g.met.D.Desk.stays_on c.args.desk.now c.settle.new.desk c.cut.new.self c.settle.ensures.stays c.cut.ensures.stays in
+    let kept = g.met.D.Desk.stays_text c.args.desk.now c.cut.new.self text stays has in
+    plain_filled c.args.name.now old (file_of text) s0 s1 content (c.settle.ensures.narrowed told) (c.in_ok-settle.ensures.ok told old content) (g.D.World.is_folder c.settle.new.desk told)
+    s2 c.cut.ensures.frame c.cut.result (c.cut.ensures.told told) (c.in_ok-cut.ensures.ok told) s3 (c.fill_text.ensures.runs told) c.fill_text.result
+    (ok_with c.fill_text.result (λ size. IsTrue g.D.World.tells.folder → (t : List (List ℕ)) → g.D.Desk.has_text c.cut.new.self t → (size ≡ length (file_of t)) × IsSynced c.args.name.now (file_of t) s3.folder)
+    (λ size. (size ≡ length (file_of text)) × IsSynced c.args.name.now (file_of text) s3.folder) (λ size f. f told text kept) c.fill_text.ensures.ok)
+    (err_with c.fill_text.result (IsTrue g.D.World.tells.folder → Fills c.args.name.now s2.folder s3.folder) (Fills c.args.name.now s2.folder s3.folder) (λ f. f told) c.fill_text.ensures.err)
+
+pub cut-requires-clause-there : goal.cut-requires-clause-there
+cut-requires-clause-there g c told =
+    let s0 : Scene = g.D.World.scene c.args.desk.now in
+    let s1 : Scene = g.D.World.scene c.settle.new.desk in
+    let had = some_content s0.folder c.args.name.now (c.requires.there told) in
+    let content = synced_bytes c.args.name.now had.0 s1.folder (c.in_ok-settle.ensures.ok told had.0 had.1).synced in
+    subst (λ (o : Option (List ℕ)). IsSomeAnd o (λ bytes. 0 ≤ length bytes)) (sym content) (omega arith)
+
+pub fill_text-requires-clause-empty : goal.fill_text-requires-clause-empty
+fill_text-requires-clause-empty g c told =
+    let s0 : Scene = g.D.World.scene c.args.desk.now in
+    let s1 : Scene = g.D.World.scene c.settle.new.desk in
+    let s2 : Scene = g.D.World.scene c.cut.new.self in
+    let had = some_content s0.folder c.args.name.now (c.requires.there told) in
+    let content = synced_bytes c.args.name.now had.0 s1.folder (c.in_ok-settle.ensures.ok told had.0 had.1).synced in
+    cut_content c.args.name.now had.0 s1.folder s2.folder (c.in_ok-cut.ensures.ok told) content

@@ -1,0 +1,44 @@
+-- What calls on some names leave of all others.
+use Rattle.std.specs.Prelude.{◌≡◌, ◌⊎◌, ℕ, Bool, true, Some}
+use Rattle.vs_host.specs.Disk.{Disk, Name, names_of, names_at, ChangesFile}
+use Rattle.vs_disk.specs.Images.{Changes, KeepsImages, Narrows}
+use Rattle.vs_disk.specs.Names.{SameAt}
+
+-- sets of one name, of two, and of three
+abbrev pub one_name : Name → Name → Type 0
+one_name a name = name ≡ a
+
+abbrev pub two_names : Name → Name → Name → Type 0
+two_names a b name = (name ≡ a) ⊎ (name ≡ b)
+
+abbrev pub three_names : Name → Name → Name → Name → Type 0
+three_names a b c name = (name ≡ a) ⊎ ((name ≡ b) ⊎ (name ≡ c))
+
+-- No name is in both sets.
+abbrev pub IsOutside : (Name → Type 0) → (Name → Bool) → Type 0
+IsOutside on inside = (name : Name) → inside name ≡ true → on name → ⊥
+
+-- All names but those of this set are left alone: whatever others are looked at together, they are read as before, and a stop
+-- leaves under them only what it left before.
+abbrev pub Spares : (Name → Type 0) → Disk → Disk → Type 0
+Spares on old new = (inside : Name → Bool) → IsOutside on inside → SameAt inside old new
+
+-- No other name leads to the file of this name, or led there in a state that a stop may leave.
+pub record IsAlone (name : Name) (disk : Disk) : Type 0 where
+  pub number : ℕ
+  pub leads : names_of disk name ≡ Some number
+  pub alone : (lost : ℕ) (other : Name) → (other ≡ name → ⊥) → names_at disk lost other ≡ Some number → ⊥
+
+-- All names are read as before, and a stop leaves under them together only what it left before.
+pub record Narrowed (old new : Disk) : Type 0 where
+  pub now : (name : Name) → names_of new name ≡ names_of old name
+  pub back : (lost : ℕ) → (l : ℕ) × ((name : Name) → names_at new lost name ≡ names_at old l name)
+  pub files : (number : ℕ) → Narrows (old.files number) (new.files number)
+
+-- The file of this name alone was changed, by writes and cuts: what a stop might have left of it before, it may still leave.
+abbrev pub Fills : Name → Disk → Disk → Type 0
+Fills name = ChangesFile name KeepsImages
+
+-- The file of this name alone was changed.
+abbrev pub ChangesOne : Name → Disk → Disk → Type 0
+ChangesOne name = ChangesFile name Changes

@@ -1,0 +1,160 @@
+-- What a write promises of the file and its backup.
+use Rattle.std.specs.Prelude.{◌≡◌, ◌⊎◌, ℕ, List, [], length, Option, Some, None, IsSomeAnd, IfOk, OnOk, OnErr, IsErr, IsErrOf, Result, Ok, Err, Bool, true, false}
+use Rattle.vs_faults.specs.Faults.{HasRisen}
+use Rattle.vs_host.specs.File.{Leaves}
+use Rattle.vs_host.specs.Disk.{Disk, Name, IsImage, names_of, names_at, content_in}
+use Rattle.vs_host.specs.World.{Scene}
+use Rattle.vs_disk.specs.Images.{HoldsBytes, IsSynced, MayLeave, Takes}
+use Rattle.vs_disk.specs.Runs.{Runs, Looks}
+use Rattle.vs_backup.specs.Works.{Narrowed, Spares, one_name, two_names, three_names}
+use Rattle.vs_host.specs.declared.traits.Failed.{Failed}
+use Rattle.vs_backup.specs.declared.errors.Place.{Place}
+use Rattle.vs_backup.specs.declared.errors.Place.TheVariants.{File, Backup, Nowhere}
+use Rattle.vs_backup.specs.declared.errors.Stop.{Stop}
+use Rattle.vs_backup.specs.declared.errors.Stop.TheVariants as stop
+use Rattle.vs_backup.specs.declared.errors.WriteErr.{WriteErr}
+use Rattle.vs_backup.specs.declared.errors.WriteErr.TheVariants as error
+use Rattle.vs_edit.specs.declared.store.StoreErr.{StoreErr}
+use Rattle.vs_edit.specs.declared.store.StoreErr.TheVariants as store
+
+-- why a store stopped is why the write stops
+abbrev pub StopsAs : StoreErr → Stop → Type 0
+StopsAs store.Failed why = why ≡ stop.Failed
+StopsAs store.NoMemory why = why ≡ stop.NoMemory
+
+-- the answer to a write that stopped, with the place of the old bytes
+abbrev pub stopped : Stop → Place → WriteErr
+stopped stop.Failed place = error.Failed place
+stopped stop.NoMemory place = error.NoMemory place
+
+-- the answer of a write without a backup: the old bytes stand nowhere
+abbrev pub nowhere : Result ℕ Stop → Result ℕ WriteErr
+nowhere (Ok size) = Ok size
+nowhere (Err why) = Err (stopped why Nowhere)
+
+-- a call failed
+abbrev pub IsFailed : {T : Type 0} → Result T WriteErr → Type 0
+IsFailed result = (place : Place) × IsErrOf result (error.Failed place)
+
+-- the write was refused with this place of the old bytes
+abbrev pub OldIn : {T : Type 0} → Place → Result T WriteErr → Type 0
+OldIn place result = IsErrOf result (error.Failed place) ⊎ IsErrOf result (error.NoMemory place)
+
+-- the names on which a write with a backup works, by whether it copies
+abbrev pub backed_names : Bool → Name → Name → Name → Name → Type 0
+backed_names true name temporary backup = three_names name temporary backup
+backed_names false name temporary backup = two_names name backup
+
+-- in each image the name or the backup name has the old bytes
+abbrev pub IsKept : Name → Name → List ℕ → Disk → Type 0
+IsKept name backup old disk = (image : Name → Option (List ℕ)) → IsImage disk image → (image name ≡ Some old) ⊎ (image backup ≡ Some old)
+
+-- in each image the name or the backup name has the old or the new bytes whole
+abbrev pub IsWhole : Name → Name → List ℕ → List ℕ → Disk → Type 0
+IsWhole name backup old new disk = (image : Name → Option (List ℕ)) → IsImage disk image
+    → IsSomeAnd (image name) (λ c. (c ≡ old) ⊎ (c ≡ new)) ⊎ IsSomeAnd (image backup) (λ c. (c ≡ old) ⊎ (c ≡ new))
+
+-- The file has these bytes since its last sync, and no name change is pending: so the two syncs at the beginning leave it.
+pub record IsSettled (name : Name) (bytes : List ℕ) (disk : Disk) : Type 0 where
+  pub pending : disk.pending ≡ []
+  pub synced : IsSynced name bytes disk
+
+-- A stop may leave the old bytes under the name, or no file: so the name does not hold other bytes in every image.
+abbrev pub MayLackNew : Name → List ℕ → Disk → Type 0
+MayLackNew name old disk = MayLeave disk name (Some old) ⊎ MayLeave disk name None
+
+-- A stop may leave under the name something else than the old bytes.
+abbrev pub MayLackOld : Name → List ℕ → Disk → Type 0
+MayLackOld name old disk = (found : Option (List ℕ)) × MayLeave disk name found × (found ≡ Some old → ⊥)
+
+-- In each state of the names that a stop may leave, the name or the backup name leads to this file, each image of which has the
+-- old bytes; now the backup name leads there.
+pub record IsGuarded (name backup : Name) (number : ℕ) (old : List ℕ) (disk : Disk) : Type 0 where
+  pub now : names_of disk backup ≡ Some number
+  pub each : (lost : ℕ) → (names_at disk lost name ≡ Some number) ⊎ (names_at disk lost backup ≡ Some number)
+  pub leaves : Leaves (disk.files number) (λ c. c ≡ old)
+
+-- From a file that is settled, until it is empty and a copy of it stands under the backup name.
+pub record StartsOver (on : Name → Type 0) (name backup : Name) (old : List ℕ) (before after : Scene) (result : Result (Unit {0}) Failed) : Type 0 where
+  pub spares : Runs (Spares on) before after
+  pub kept : Runs (λ a b. IsKept name backup old b) before after
+  pub backed : OnOk result (IsSettled backup old after.folder)
+  pub empty : OnOk result (content_in after.folder name ≡ Some [])
+  pub may_leave : OnOk result (MayLeave after.folder name (Some old))
+  pub not_done : OnErr result (HoldsBytes name old after.folder)
+
+-- From a file that is settled, a write with this backup, which stays. Other names are left alone; at each moment, in each image,
+-- the name or the backup has the old bytes.
+pub record WritesOver (on : Name → Type 0) (name backup : Name) (old new : List ℕ) (before after : Scene) (result : Result ℕ WriteErr) : Type 0 where
+  pub spares : Runs (Spares on) before after
+  pub kept : Runs (λ a b. IsKept name backup old b) before after
+  pub written : IfOk result (λ size. (size ≡ length new) × HoldsBytes name new after.folder × HoldsBytes backup old after.folder)
+  pub not_written : OnErr result (MayLackNew name old after.folder)
+  pub in_file : OldIn File result → HoldsBytes name old after.folder
+  pub in_backup : OldIn Backup result → (old ≡ [] → ⊥) → MayLackOld name old after.folder
+  pub somewhere : (OldIn Nowhere result → ⊥) × (IsErrOf result error.NoBackupName → ⊥)
+
+-- From a file that was renamed to the backup name, until the name is made anew: other names are left alone, and at each moment,
+-- in each image, the name or the backup name leads to the old file.
+pub record WritesAnew (name backup : Name) (number : ℕ) (old new : List ℕ) (before after : Scene) (result : Result ℕ Stop) : Type 0 where
+  pub spares : Runs (Spares (one_name name)) before after
+  pub guarded : Runs (λ a b. IsGuarded name backup number old b) before after
+  pub written : IfOk result (λ size. (size ≡ length new) × IsSettled name new after.folder)
+  pub absent : OnErr result (MayLeave after.folder name None)
+
+-- After the two syncs at the beginning, at each moment, in each image, the file or its backup is whole, and other names are left
+-- alone; until then nothing has changed.
+pub record BeginsWhole (on : Name → Type 0) (name backup : Name) (old new : List ℕ) (before after : Scene) : Type 0 where
+  pub begun : Scene
+  pub looked : Runs Narrowed before begun
+  pub settled : IsSettled name old begun.folder
+  pub whole : Runs (λ a b. IsWhole name backup old new b) begun after
+  pub spares : Runs (Spares on) begun after
+
+-- A write over a file that is there, with this backup, which is kept or removed.
+pub record WritesBacked (on : Name → Type 0) (keep : Bool) (name backup : Name) (old new : List ℕ) (before after : Scene) (result : Result ℕ WriteErr) : Type 0 where
+  pub moments : BeginsWhole on name backup old new before after ⊎ (Runs Narrowed before after × IsErr result)
+  pub written : IfOk result (λ size. (size ≡ length new) × HoldsBytes name new after.folder)
+  pub kept : keep ≡ true → OnOk result (HoldsBytes backup old after.folder)
+  pub gone : keep ≡ false → OnOk result ((HasRisen before.folder_faults after.folder_faults → ⊥) → (lost : ℕ) → names_at after.folder lost backup ≡ None)
+  pub not_written : OnErr result (MayLackNew name old after.folder)
+  -- where the old bytes are said to stand
+  pub in_file : OldIn File result → Runs Narrowed before after ⊎ HoldsBytes name old after.folder
+  pub in_backup : OldIn Backup result → IsKept name backup old after.folder × ((old ≡ [] → ⊥) → MayLackOld name old after.folder)
+  pub somewhere : (OldIn Nowhere result → ⊥) × (IsErrOf result error.NoBackupName → ⊥)
+
+-- A write over a file that is there, without a backup: before the two syncs nothing changes, and after them only the file.
+pub record WritesPlain (name : Name) (old new : List ℕ) (before after : Scene) (result : Result ℕ Stop) : Type 0 where
+  pub begun : Scene
+  pub looked : Runs Narrowed before begun
+  pub spares : Runs (Spares (one_name name)) begun after
+  pub written : IfOk result (λ size. (size ≡ length new) × HoldsBytes name new after.folder)
+  pub not_written : OnErr result (MayLackNew name old after.folder)
+
+-- A write of a file that was not there: at each moment a stop leaves the new bytes under the name, or what it left before.
+pub record WritesFresh (on : Name → Type 0) (name : Name) (new : List ℕ) (before after : Scene) (result : Result ℕ Stop) : Type 0 where
+  pub takes : Runs (Takes name new) before after
+  pub spares : Runs (Spares on) before after
+  pub written : IfOk result (λ size. (size ≡ length new) × HoldsBytes name new after.folder)
+  pub not_written : OnErr result (MayLeave after.folder name None)
+
+-- It was not found out whether there is a file, and nothing has changed.
+pub record IsUnseen (before after : Scene) (result : Result ℕ WriteErr) : Type 0 where
+  pub looks : Looks before after
+  pub failed : result ≡ Err (error.Failed Nowhere)
+
+-- Every backup name is taken, and nothing has changed. A call or memory may have been missing before that was found out.
+pub record FindsNoName (before after : Scene) (result : Result ℕ WriteErr) : Type 0 where
+  pub looks : Looks before after
+  pub refused : (result ≡ Err error.NoBackupName) ⊎ OldIn File result
+
+-- The answer of such a write without a backup: after an error the old bytes stand nowhere.
+pub record WritesInPlace (name : Name) (old new : List ℕ) (before after : Scene) (result : Result ℕ WriteErr) : Type 0 where
+  pub answer : Result ℕ Stop
+  pub is : result ≡ nowhere answer
+  pub plain : WritesPlain name old new before after answer
+
+pub record WritesNew (temporary name : Name) (new : List ℕ) (before after : Scene) (result : Result ℕ WriteErr) : Type 0 where
+  pub answer : Result ℕ Stop
+  pub is : result ≡ nowhere answer
+  pub fresh : WritesFresh (two_names temporary name) name new before after answer

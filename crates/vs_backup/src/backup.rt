@@ -1,0 +1,272 @@
+// Writing over a file that is there, with a backup.
+ghost use Rattle.std.specs.Prelude.{◌≡◌, ◌≢◌, ℕ, List, length, IsErr, OnErr, OnOk, IsErrOf, IsTrue, Some, None, IsSome};
+ghost use Rattle.vs_faults.specs.Faults.{HasCause, HasRisen};
+ghost use Rattle.vs_text.specs.Text.{file_of};
+ghost use Rattle.vs_host.specs.Disk.{Name};
+ghost use Rattle.vs_host.specs.World.{content_of, ChangesFolder};
+ghost use Rattle.vs_disk.specs.Runs.{Runs};
+ghost use Rattle.vs_backup.specs.Works.{Spares, three_names, two_names};
+ghost use Rattle.vs_backup.specs.Writing.{IsFailed, IsGuarded, IsSettled, StartsOver, WritesAnew, WritesBacked, WritesOver, backed_names};
+
+use crate::Desk;
+use crate::errors::{Place, Stop, WriteErr};
+use crate::files::{drop_name, make_anew, settle, take_name};
+use crate::fill::{PIECE, fill_copy, fill_text};
+use std::alloc::Global;
+use vs_host::Failed;
+
+/// Makes a copy of the file, and gives it the backup name when it is synced.
+fn copy_to_backup<D: Desk>(
+    desk: &mut D,
+    name: &str,
+    backup: &str,
+    temporary: &str,
+    buffer: &mut [u8],
+) -> Result<(), Failed>
+    requires valid { D.valid desk.old }
+    requires apart { D.reads desk.old name.now → ⊥ }
+    requires apart_backup { D.reads desk.old backup.now → ⊥ }
+    requires apart_temporary { D.reads desk.old temporary.now → ⊥ }
+    requires differ { name.now ≢ temporary.now }
+    requires differ_backup { temporary.now ≢ backup.now }
+    requires buffer { length buffer.old ≡ PIECE }
+    requires there { IsTrue (D.tells).folder → IsSome (content_of (D.scene desk.old) name.now) }
+    ensures spares { IsTrue (D.tells).folder → Runs (Spares (two_names temporary.now backup.now)) (D.scene desk.old) (D.scene desk.new) }
+    ensures ok { OnOk result (IsTrue (D.tells).folder → (old : List ℕ) → content_of (D.scene desk.old) name.now ≡ Some old
+        → IsSettled backup.now old (D.scene desk.new).folder) }
+    ensures cause { HasCause (D.scene desk.old).folder_faults (D.scene desk.new).folder_faults (IsErr result) }
+    ensures frame { ChangesFolder (D.scene desk.old) (D.scene desk.new) }
+    ensures valid { D.valid desk.new }
+    ensures stays { D.stays desk.old desk.new }
+{
+    make_anew(desk, temporary)?;
+    fill_copy(desk, name, temporary, buffer)?;
+    take_name(desk, temporary, backup)
+}
+
+/// Copies the file to its backup, and empties it then.
+fn start_over<D: Desk>(
+    desk: &mut D,
+    name: &str,
+    backup: &str,
+    temporary: &str,
+    buffer: &mut [u8],
+) -> Result<(), Failed>
+    requires valid { D.valid desk.old }
+    requires apart { D.reads desk.old name.now → ⊥ }
+    requires apart_backup { D.reads desk.old backup.now → ⊥ }
+    requires apart_temporary { D.reads desk.old temporary.now → ⊥ }
+    requires differ { name.now ≢ temporary.now }
+    requires differ_backup { temporary.now ≢ backup.now }
+    requires differ_name { name.now ≢ backup.now }
+    requires buffer { length buffer.old ≡ PIECE }
+    requires settled { IsTrue (D.tells).folder → (old : List ℕ) × IsSettled name.now old (D.scene desk.old).folder }
+    ensures over { IsTrue (D.tells).folder → (old : List ℕ) → IsSettled name.now old (D.scene desk.old).folder
+        → StartsOver (three_names name.now temporary.now backup.now) name.now backup.now old (D.scene desk.old) (D.scene desk.new) result }
+    ensures cause { HasCause (D.scene desk.old).folder_faults (D.scene desk.new).folder_faults (IsErr result) }
+    ensures frame { ChangesFolder (D.scene desk.old) (D.scene desk.new) }
+    ensures valid { D.valid desk.new }
+    ensures stays { D.stays desk.old desk.new }
+{
+    copy_to_backup(desk, name, backup, temporary, buffer)?;
+    desk.cut(name, 0)
+}
+
+/// Writes over the file in its place, after it was copied to the backup.
+fn write_copying<D: Desk>(
+    alloc: Global,
+    desk: &mut D,
+    name: &str,
+    backup: &str,
+    temporary: &str,
+    piece: &mut Vec<u8>,
+) -> Result<u64, WriteErr>
+    requires valid { D.valid desk.old }
+    requires apart { D.reads desk.old name.now → ⊥ }
+    requires apart_backup { D.reads desk.old backup.now → ⊥ }
+    requires apart_temporary { D.reads desk.old temporary.now → ⊥ }
+    requires differ { name.now ≢ temporary.now }
+    requires differ_backup { temporary.now ≢ backup.now }
+    requires differ_name { name.now ≢ backup.now }
+    requires buffer { length piece.old.items ≡ PIECE }
+    requires settled { IsTrue (D.tells).folder → (old : List ℕ) × IsSettled name.now old (D.scene desk.old).folder }
+    ensures over { IsTrue (D.tells).folder → (old : List ℕ) → IsSettled name.now old (D.scene desk.old).folder → (text : List (List ℕ)) → D.has_text desk.old text
+        → WritesOver (three_names name.now temporary.now backup.now) name.now backup.now old (file_of text) (D.scene desk.old) (D.scene desk.new) result }
+    ensures no_name { IsErrOf result WriteErr.NoBackupName → ⊥ }
+    ensures cause { HasCause (D.scene desk.old).folder_faults (D.scene desk.new).folder_faults (IsFailed result) }
+    ensures frame { ChangesFolder (D.scene desk.old) (D.scene desk.new) }
+    ensures valid { D.valid desk.new }
+    ensures stays { D.stays desk.old desk.new }
+{
+    match start_over(desk, name, backup, temporary, piece) {
+        Ok(()) => match fill_text(alloc, desk, name, piece) {
+            Ok(size) => Ok(size),
+            Err(stop) => Err(stop.with(Place::Backup)),
+        },
+        Err(_) => Err(WriteErr::Failed {
+            old_in: Place::File,
+        }),
+    }
+}
+
+/// Makes the file, writes the text into it, and syncs the file and the names. Gives the number of bytes.
+fn write_anew<D: Desk>(
+    alloc: Global,
+    desk: &mut D,
+    name: &str,
+    piece: &mut Vec<u8>,
+) -> Result<u64, Stop>
+    requires valid { D.valid desk.old }
+    requires apart { D.reads desk.old name.now → ⊥ }
+    requires free { IsTrue (D.tells).folder → content_of (D.scene desk.old) name.now ≡ None }
+    ensures anew { IsTrue (D.tells).folder → (backup : Name) (number : ℕ) (old : List ℕ) → (backup ≡ name.now → ⊥)
+        → IsGuarded name.now backup number old (D.scene desk.old).folder → (text : List (List ℕ)) → D.has_text desk.old text
+        → WritesAnew name.now backup number old (file_of text) (D.scene desk.old) (D.scene desk.new) result }
+    ensures cause { HasCause (D.scene desk.old).folder_faults (D.scene desk.new).folder_faults (IsErrOf result Stop.Failed) }
+    ensures frame { ChangesFolder (D.scene desk.old) (D.scene desk.new) }
+    ensures valid { D.valid desk.new }
+    ensures stays { D.stays desk.old desk.new }
+{
+    desk.create(name)?;
+    let size = fill_text(alloc, desk, name, piece)?;
+    desk.sync_names()?;
+    Ok(size)
+}
+
+/// Writes the file anew, after it was renamed to the backup.
+fn write_moving<D: Desk>(
+    alloc: Global,
+    desk: &mut D,
+    name: &str,
+    backup: &str,
+    piece: &mut Vec<u8>,
+) -> Result<u64, WriteErr>
+    requires valid { D.valid desk.old }
+    requires apart { D.reads desk.old name.now → ⊥ }
+    requires apart_backup { D.reads desk.old backup.now → ⊥ }
+    requires differ_name { name.now ≢ backup.now }
+    requires settled { IsTrue (D.tells).folder → (old : List ℕ) × IsSettled name.now old (D.scene desk.old).folder }
+    ensures over { IsTrue (D.tells).folder → (old : List ℕ) → IsSettled name.now old (D.scene desk.old).folder → (text : List (List ℕ)) → D.has_text desk.old text
+        → WritesOver (two_names name.now backup.now) name.now backup.now old (file_of text) (D.scene desk.old) (D.scene desk.new) result }
+    ensures no_name { IsErrOf result WriteErr.NoBackupName → ⊥ }
+    ensures cause { HasCause (D.scene desk.old).folder_faults (D.scene desk.new).folder_faults (IsFailed result) }
+    ensures frame { ChangesFolder (D.scene desk.old) (D.scene desk.new) }
+    ensures valid { D.valid desk.new }
+    ensures stays { D.stays desk.old desk.new }
+{
+    match desk.rename(name, backup) {
+        Ok(()) => match write_anew(alloc, desk, name, piece) {
+            Ok(size) => Ok(size),
+            Err(stop) => Err(stop.with(Place::Backup)),
+        },
+        Err(_) => Err(WriteErr::Failed {
+            old_in: Place::File,
+        }),
+    }
+}
+
+/// Writes over a file that is settled, with a backup that stays.
+fn write_over<D: Desk>(
+    alloc: Global,
+    desk: &mut D,
+    name: &str,
+    backup: &str,
+    temporary: &str,
+    copying: bool,
+    piece: &mut Vec<u8>,
+) -> Result<u64, WriteErr>
+    requires valid { D.valid desk.old }
+    requires apart { D.reads desk.old name.now → ⊥ }
+    requires apart_backup { D.reads desk.old backup.now → ⊥ }
+    requires apart_temporary { D.reads desk.old temporary.now → ⊥ }
+    requires differ { name.now ≢ temporary.now }
+    requires differ_backup { temporary.now ≢ backup.now }
+    requires differ_name { name.now ≢ backup.now }
+    requires buffer { length piece.old.items ≡ PIECE }
+    requires settled { IsTrue (D.tells).folder → (old : List ℕ) × IsSettled name.now old (D.scene desk.old).folder }
+    ensures over { IsTrue (D.tells).folder → (old : List ℕ) → IsSettled name.now old (D.scene desk.old).folder → (text : List (List ℕ)) → D.has_text desk.old text
+        → WritesOver (backed_names copying name.now temporary.now backup.now) name.now backup.now old (file_of text) (D.scene desk.old) (D.scene desk.new) result }
+    ensures no_name { IsErrOf result WriteErr.NoBackupName → ⊥ }
+    ensures cause { HasCause (D.scene desk.old).folder_faults (D.scene desk.new).folder_faults (IsFailed result) }
+    ensures frame { ChangesFolder (D.scene desk.old) (D.scene desk.new) }
+    ensures valid { D.valid desk.new }
+    ensures stays { D.stays desk.old desk.new }
+{
+    if copying {
+        return write_copying(alloc, desk, name, backup, temporary, piece);
+    }
+    write_moving(alloc, desk, name, backup, piece)
+}
+
+/// Writes over a file that is settled, with a backup that is kept or removed.
+fn write_backed<D: Desk>(
+    alloc: Global,
+    desk: &mut D,
+    name: &str,
+    backup: &str,
+    temporary: &str,
+    copying: bool,
+    keep: bool,
+    piece: &mut Vec<u8>,
+) -> Result<u64, WriteErr>
+    requires valid { D.valid desk.old }
+    requires apart { D.reads desk.old name.now → ⊥ }
+    requires apart_backup { D.reads desk.old backup.now → ⊥ }
+    requires apart_temporary { D.reads desk.old temporary.now → ⊥ }
+    requires differ { name.now ≢ temporary.now }
+    requires differ_backup { temporary.now ≢ backup.now }
+    requires differ_name { name.now ≢ backup.now }
+    requires buffer { length piece.old.items ≡ PIECE }
+    requires settled { IsTrue (D.tells).folder → (old : List ℕ) × IsSettled name.now old (D.scene desk.old).folder }
+    ensures backed { IsTrue (D.tells).folder → (old : List ℕ) → IsSettled name.now old (D.scene desk.old).folder → (text : List (List ℕ)) → D.has_text desk.old text
+        → WritesBacked (backed_names copying name.now temporary.now backup.now) keep name.now backup.now old (file_of text) (D.scene desk.old) (D.scene desk.new) result }
+    ensures no_name { IsErrOf result WriteErr.NoBackupName → ⊥ }
+    ensures cause { HasCause (D.scene desk.old).folder_faults (D.scene desk.new).folder_faults (IsFailed result) }
+    ensures frame { ChangesFolder (D.scene desk.old) (D.scene desk.new) }
+    ensures valid { D.valid desk.new }
+    ensures stays { D.stays desk.old desk.new }
+{
+    let size = write_over(alloc, desk, name, backup, temporary, copying, piece)?;
+    if keep {
+        return Ok(size);
+    }
+    // The new bytes stand under the name, so a backup that stays is no reason to refuse the write.
+    let _ = drop_name(desk, backup);
+    Ok(size)
+}
+
+/// Writes over a file that is there, with a backup.
+pub(crate) fn write_with_backup<D: Desk>(
+    alloc: Global,
+    desk: &mut D,
+    name: &str,
+    backup: &str,
+    temporary: &str,
+    copying: bool,
+    keep: bool,
+    piece: &mut Vec<u8>,
+) -> Result<u64, WriteErr>
+    requires valid { D.valid desk.old }
+    requires apart { D.reads desk.old name.now → ⊥ }
+    requires apart_backup { D.reads desk.old backup.now → ⊥ }
+    requires apart_temporary { D.reads desk.old temporary.now → ⊥ }
+    requires differ { name.now ≢ temporary.now }
+    requires differ_backup { temporary.now ≢ backup.now }
+    requires differ_name { name.now ≢ backup.now }
+    requires buffer { length piece.old.items ≡ PIECE }
+    requires there { IsTrue (D.tells).folder → IsSome (content_of (D.scene desk.old) name.now) }
+    ensures backed { IsTrue (D.tells).folder → (old : List ℕ) → content_of (D.scene desk.old) name.now ≡ Some old → (text : List (List ℕ)) → D.has_text desk.old text
+        → WritesBacked (backed_names copying name.now temporary.now backup.now) keep name.now backup.now old (file_of text) (D.scene desk.old) (D.scene desk.new) result }
+    ensures no_name { IsErrOf result WriteErr.NoBackupName → ⊥ }
+    ensures cause { HasCause (D.scene desk.old).folder_faults (D.scene desk.new).folder_faults (IsFailed result) }
+    ensures frame { ChangesFolder (D.scene desk.old) (D.scene desk.new) }
+    ensures valid { D.valid desk.new }
+    ensures stays { D.stays desk.old desk.new }
+{
+    match settle(desk, name) {
+        Ok(()) => write_backed(alloc, desk, name, backup, temporary, copying, keep, piece),
+        Err(_) => Err(WriteErr::Failed {
+            old_in: Place::File,
+        }),
+    }
+}

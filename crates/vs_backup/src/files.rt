@@ -1,0 +1,103 @@
+// Calls on one file and its name.
+ghost use Rattle.std.specs.Prelude.{◌≡◌, ◌≢◌, ◌≤◌, ◌<◌, ◌+◌, ◌^◌, ◌++◌, [], Bool, false, ℕ, List, length, IfOk, OnOk, OnErr, IsErr, IsTrue, Some, None, IsSome};
+ghost use Rattle.vs_faults.specs.Faults.{HasCause};
+ghost use Rattle.vs_host.specs.Disk.{Name, names_at};
+ghost use Rattle.vs_host.specs.World.{content_of, ChangesFolder};
+ghost use Rattle.vs_disk.specs.Images.{IsSynced, MayLeave, Takes};
+ghost use Rattle.vs_disk.specs.Names.{IsApart, SameAt};
+ghost use Rattle.vs_disk.specs.Runs.{Runs};
+ghost use Rattle.vs_backup.specs.Works.{IsAlone, Narrowed, Spares, one_name, two_names};
+ghost use Rattle.vs_backup.specs.Writing.{IsSettled};
+
+use crate::Desk;
+use vs_host::Failed;
+
+/// Syncs the file and the names.
+pub(crate) fn settle<D: Desk>(desk: &mut D, name: &str) -> Result<(), Failed>
+    requires valid { D.valid desk.old }
+    requires apart { D.reads desk.old name.now → ⊥ }
+    requires there { IsTrue (D.tells).folder → IsSome (content_of (D.scene desk.old) name.now) }
+    ensures narrowed { IsTrue (D.tells).folder → Runs Narrowed (D.scene desk.old) (D.scene desk.new) }
+    ensures same { IsTrue (D.tells).folder → (inside : Name → Bool) → inside name.now ≡ false → IsApart inside (D.scene desk.old).folder
+        → Runs (SameAt inside) (D.scene desk.old) (D.scene desk.new) }
+    ensures ok { OnOk result (IsTrue (D.tells).folder → (bytes : List ℕ) → content_of (D.scene desk.old) name.now ≡ Some bytes
+        → IsSettled name.now bytes (D.scene desk.new).folder) }
+    ensures cause { HasCause (D.scene desk.old).folder_faults (D.scene desk.new).folder_faults (IsErr result) }
+    ensures frame { ChangesFolder (D.scene desk.old) (D.scene desk.new) }
+    ensures valid { D.valid desk.new }
+    ensures stays { D.stays desk.old desk.new }
+{
+    desk.sync(name)?;
+    desk.sync_names()
+}
+
+/// Takes a name away if a file stands under it.
+pub(crate) fn clear_name<D: Desk>(desk: &mut D, name: &str) -> Result<(), Failed>
+    requires valid { D.valid desk.old }
+    requires apart { D.reads desk.old name.now → ⊥ }
+    ensures spares { IsTrue (D.tells).folder → Runs (Spares (one_name name.now)) (D.scene desk.old) (D.scene desk.new) }
+    ensures ok { OnOk result (IsTrue (D.tells).folder → content_of (D.scene desk.new) name.now ≡ None) }
+    ensures cause { HasCause (D.scene desk.old).folder_faults (D.scene desk.new).folder_faults (IsErr result) }
+    ensures frame { ChangesFolder (D.scene desk.old) (D.scene desk.new) }
+    ensures valid { D.valid desk.new }
+    ensures stays { D.stays desk.old desk.new }
+{
+    if desk.has(name)? {
+        return desk.remove(name);
+    }
+    Ok(())
+}
+
+/// Makes an empty file under the name, in place of one that may stand there.
+pub(crate) fn make_anew<D: Desk>(desk: &mut D, name: &str) -> Result<(), Failed>
+    requires valid { D.valid desk.old }
+    requires apart { D.reads desk.old name.now → ⊥ }
+    ensures spares { IsTrue (D.tells).folder → Runs (Spares (one_name name.now)) (D.scene desk.old) (D.scene desk.new) }
+    ensures empty { OnOk result (IsTrue (D.tells).folder → content_of (D.scene desk.new) name.now ≡ Some []) }
+    ensures alone { OnOk result (IsTrue (D.tells).folder → IsAlone name.now (D.scene desk.new).folder) }
+    ensures cause { HasCause (D.scene desk.old).folder_faults (D.scene desk.new).folder_faults (IsErr result) }
+    ensures frame { ChangesFolder (D.scene desk.old) (D.scene desk.new) }
+    ensures valid { D.valid desk.new }
+    ensures stays { D.stays desk.old desk.new }
+{
+    clear_name(desk, name)?;
+    desk.create(name)
+}
+
+/// Renames a file and syncs the names.
+pub(crate) fn take_name<D: Desk>(desk: &mut D, from: &str, to: &str) -> Result<(), Failed>
+    requires valid { D.valid desk.old }
+    requires apart { D.reads desk.old from.now → ⊥ }
+    requires apart_to { D.reads desk.old to.now → ⊥ }
+    requires differ { from.now ≢ to.now }
+    requires there { IsTrue (D.tells).folder → IsSome (content_of (D.scene desk.old) from.now) }
+    ensures spares { IsTrue (D.tells).folder → Runs (Spares (two_names from.now to.now)) (D.scene desk.old) (D.scene desk.new) }
+    ensures takes { IsTrue (D.tells).folder → (bytes : List ℕ) → IsSynced from.now bytes (D.scene desk.old).folder
+        → Runs (Takes to.now bytes) (D.scene desk.old) (D.scene desk.new) }
+    ensures ok { OnOk result (IsTrue (D.tells).folder → (bytes : List ℕ) → IsSynced from.now bytes (D.scene desk.old).folder
+        → IsSettled to.now bytes (D.scene desk.new).folder) }
+    ensures err { OnErr result (IsTrue (D.tells).folder → content_of (D.scene desk.old) to.now ≡ None → MayLeave (D.scene desk.new).folder to.now None) }
+    ensures cause { HasCause (D.scene desk.old).folder_faults (D.scene desk.new).folder_faults (IsErr result) }
+    ensures frame { ChangesFolder (D.scene desk.old) (D.scene desk.new) }
+    ensures valid { D.valid desk.new }
+    ensures stays { D.stays desk.old desk.new }
+{
+    desk.rename(from, to)?;
+    desk.sync_names()
+}
+
+/// Takes a name away and syncs the names.
+pub(crate) fn drop_name<D: Desk>(desk: &mut D, name: &str) -> Result<(), Failed>
+    requires valid { D.valid desk.old }
+    requires apart { D.reads desk.old name.now → ⊥ }
+    requires there { IsTrue (D.tells).folder → IsSome (content_of (D.scene desk.old) name.now) }
+    ensures spares { IsTrue (D.tells).folder → Runs (Spares (one_name name.now)) (D.scene desk.old) (D.scene desk.new) }
+    ensures gone { OnOk result (IsTrue (D.tells).folder → (lost : ℕ) → names_at (D.scene desk.new).folder lost name.now ≡ None) }
+    ensures cause { HasCause (D.scene desk.old).folder_faults (D.scene desk.new).folder_faults (IsErr result) }
+    ensures frame { ChangesFolder (D.scene desk.old) (D.scene desk.new) }
+    ensures valid { D.valid desk.new }
+    ensures stays { D.stays desk.old desk.new }
+{
+    desk.remove(name)?;
+    desk.sync_names()
+}

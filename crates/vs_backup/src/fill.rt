@@ -1,0 +1,209 @@
+// Filling a file, with the text or with the bytes of another file, in pieces.
+ghost use Rattle.std.specs.Prelude.{◌≡◌, ◌≢◌, ◌≤◌, ◌<◌, ◌+◌, ◌*◌, ◌^◌, ◌++◌, [], ℕ, List, length, take, IfOk, OnOk, OnErr, IsErr, IsErrOf, IsTrue, Some, IsSome, IsSomeAnd};
+ghost use Rattle.vs_faults.specs.Faults.{HasCause};
+ghost use Rattle.vs_text.specs.Text.{file_of};
+ghost use Rattle.vs_text.specs.Limits.{IsShort};
+ghost use Rattle.vs_host.specs.World.{content_of, ChangesFolder};
+ghost use Rattle.vs_disk.specs.Images.{IsSynced};
+ghost use Rattle.vs_disk.specs.Runs.{Runs};
+ghost use Rattle.vs_backup.specs.Works.{ChangesOne, Fills, IsAlone};
+
+use crate::Desk;
+use crate::errors::Stop;
+use std::alloc::Global;
+use vs_host::Failed;
+
+/// The greatest number of bytes that are read or written in one call.
+pub(crate) const PIECE: usize = 65_536;
+
+/// Writes a piece at the end of a file.
+fn put_piece<D: Desk>(desk: &mut D, name: &str, at: u64, piece: &[u8]) -> Result<(), Failed>
+    requires valid { D.valid desk.old }
+    requires apart { D.reads desk.old name.now → ⊥ }
+    requires few { length piece.now ≤ PIECE }
+    requires there { IsTrue (D.tells).folder → IsSomeAnd (content_of (D.scene desk.old) name.now) (λ bytes. at ≡ length bytes) }
+    ensures runs { IsTrue (D.tells).folder → Runs (Fills name.now) (D.scene desk.old) (D.scene desk.new) }
+    ensures ok { OnOk result (IsTrue (D.tells).folder → (bytes : List ℕ) → content_of (D.scene desk.old) name.now ≡ Some bytes
+        → content_of (D.scene desk.new) name.now ≡ Some (bytes ++ piece.now)) }
+    ensures cause { HasCause (D.scene desk.old).folder_faults (D.scene desk.new).folder_faults (IsErr result) }
+    ensures frame { ChangesFolder (D.scene desk.old) (D.scene desk.new) }
+    ensures valid { D.valid desk.new }
+    ensures stays { D.stays desk.old desk.new }
+{
+    desk.write_at(name, at, piece)
+}
+
+/// Writes the piece at the end of a file that has `size` bytes, and empties it. Gives the size then.
+fn flush<D: Desk>(desk: &mut D, name: &str, size: u64, piece: &mut Vec<u8>) -> Result<u64, Failed>
+    requires valid { D.valid desk.old }
+    requires apart { D.reads desk.old name.now → ⊥ }
+    requires few { length piece.old.items ≤ PIECE }
+    requires small { size + length piece.old.items < 2 ^ 64 }
+    requires there { IsTrue (D.tells).folder → IsSomeAnd (content_of (D.scene desk.old) name.now) (λ bytes. size ≡ length bytes) }
+    ensures runs { IsTrue (D.tells).folder → Runs (Fills name.now) (D.scene desk.old) (D.scene desk.new) }
+    ensures ok { OnOk result (IsTrue (D.tells).folder → (bytes : List ℕ) → content_of (D.scene desk.old) name.now ≡ Some bytes
+        → content_of (D.scene desk.new) name.now ≡ Some (bytes ++ piece.old.items)) }
+    ensures size { IfOk result (λ now. now ≡ size + length piece.old.items) }
+    ensures empty { OnOk result (piece.new.items ≡ []) }
+    ensures cause { HasCause (D.scene desk.old).folder_faults (D.scene desk.new).folder_faults (IsErr result) }
+    ensures frame { ChangesFolder (D.scene desk.old) (D.scene desk.new) }
+    ensures valid { D.valid desk.new }
+    ensures stays { D.stays desk.old desk.new }
+{
+    if piece.is_empty() {
+        return Ok(size);
+    }
+    put_piece(desk, name, size, piece)?;
+    let now = size + piece.len() as u64;
+    piece.clear();
+    Ok(now)
+}
+
+/// Adds bytes to the piece, which is written at the end of a file each time that it is full. Gives the size of the file then.
+fn put_bytes<D: Desk>(
+    desk: &mut D,
+    name: &str,
+    size: u64,
+    piece: &mut Vec<u8>,
+    bytes: &[u8],
+) -> Result<u64, Stop>
+    requires valid { D.valid desk.old }
+    requires apart { D.reads desk.old name.now → ⊥ }
+    requires few { length piece.old.items ≤ PIECE }
+    requires small { size + length piece.old.items + length bytes.now < 2 ^ 64 }
+    requires there { IsTrue (D.tells).folder → IsSomeAnd (content_of (D.scene desk.old) name.now) (λ before. size ≡ length before) }
+    ensures runs { IsTrue (D.tells).folder → Runs (Fills name.now) (D.scene desk.old) (D.scene desk.new) }
+    ensures ok { IfOk result (λ now. IsTrue (D.tells).folder → (before : List ℕ) → content_of (D.scene desk.old) name.now ≡ Some before
+        → (after : List ℕ) × (content_of (D.scene desk.new) name.now ≡ Some after) × (now ≡ length after)
+        × (after ++ piece.new.items ≡ before ++ piece.old.items ++ bytes.now)) }
+    ensures size { IfOk result (λ now. now + length piece.new.items ≡ size + length piece.old.items + length bytes.now) }
+    ensures few { OnOk result (length piece.new.items ≤ PIECE) }
+    ensures cause { HasCause (D.scene desk.old).folder_faults (D.scene desk.new).folder_faults (IsErrOf result Stop.Failed) }
+    ensures frame { ChangesFolder (D.scene desk.old) (D.scene desk.new) }
+    ensures valid { D.valid desk.new }
+    ensures stays { D.stays desk.old desk.new }
+{
+    let mut now = size;
+    let mut rest = bytes;
+    'pieces: while rest.len() > PIECE - piece.len() {
+        let (first, after) = rest.split_at(PIECE - piece.len());
+        piece.extend_from_slice(first)?;
+        now = flush(desk, name, now, piece)?;
+        rest = after;
+    }
+    piece.extend_from_slice(rest)?;
+    Ok(now)
+}
+
+/// Writes the text into an empty file. Gives the number of bytes.
+fn write_text<D: Desk>(
+    alloc: Global,
+    desk: &mut D,
+    name: &str,
+    piece: &mut Vec<u8>,
+) -> Result<u64, Stop>
+    requires valid { D.valid desk.old }
+    requires apart { D.reads desk.old name.now → ⊥ }
+    requires empty { IsTrue (D.tells).folder → content_of (D.scene desk.old) name.now ≡ Some [] }
+    ensures runs { IsTrue (D.tells).folder → Runs (Fills name.now) (D.scene desk.old) (D.scene desk.new) }
+    ensures ok { IfOk result (λ size. IsTrue (D.tells).folder → (text : List (List ℕ)) → D.has_text desk.old text
+        → (size ≡ length (file_of text)) × (content_of (D.scene desk.new) name.now ≡ Some (file_of text))) }
+    ensures cause { HasCause (D.scene desk.old).folder_faults (D.scene desk.new).folder_faults (IsErrOf result Stop.Failed) }
+    ensures frame { ChangesFolder (D.scene desk.old) (D.scene desk.new) }
+    ensures valid { D.valid desk.new }
+    ensures stays { D.stays desk.old desk.new }
+{
+    piece.clear();
+    let mut line = Vec::new(alloc);
+    let mut size = 0;
+    'lines: for at in 0..desk.text_len() {
+        desk.text_line(alloc, at, &mut line)?;
+        line.push(b'\n')?;
+        size = put_bytes(desk, name, size, piece, &line)?;
+    }
+    let size = flush(desk, name, size, piece)?;
+    Ok(size)
+}
+
+/// Writes the text into an empty file, and syncs the file. Gives the number of bytes.
+pub(crate) fn fill_text<D: Desk>(
+    alloc: Global,
+    desk: &mut D,
+    name: &str,
+    piece: &mut Vec<u8>,
+) -> Result<u64, Stop>
+    requires valid { D.valid desk.old }
+    requires apart { D.reads desk.old name.now → ⊥ }
+    requires empty { IsTrue (D.tells).folder → content_of (D.scene desk.old) name.now ≡ Some [] }
+    ensures runs { IsTrue (D.tells).folder → Runs (ChangesOne name.now) (D.scene desk.old) (D.scene desk.new) }
+    ensures ok { IfOk result (λ size. IsTrue (D.tells).folder → (text : List (List ℕ)) → D.has_text desk.old text
+        → (size ≡ length (file_of text)) × IsSynced name.now (file_of text) (D.scene desk.new).folder) }
+    ensures err { OnErr result (IsTrue (D.tells).folder → Fills name.now (D.scene desk.old).folder (D.scene desk.new).folder) }
+    ensures cause { HasCause (D.scene desk.old).folder_faults (D.scene desk.new).folder_faults (IsErrOf result Stop.Failed) }
+    ensures frame { ChangesFolder (D.scene desk.old) (D.scene desk.new) }
+    ensures valid { D.valid desk.new }
+    ensures stays { D.stays desk.old desk.new }
+{
+    let size = write_text(alloc, desk, name, piece)?;
+    desk.sync(name)?;
+    Ok(size)
+}
+
+/// Copies as many bytes as the buffer has, from the place `at` on, to the end of a file that has the bytes before them.
+fn copy_piece<D: Desk>(
+    desk: &mut D,
+    from: &str,
+    to: &str,
+    at: u64,
+    buffer: &mut [u8],
+) -> Result<(), Failed>
+    requires valid { D.valid desk.old }
+    requires apart { D.reads desk.old from.now → ⊥ }
+    requires apart_to { D.reads desk.old to.now → ⊥ }
+    requires few { length buffer.old ≤ PIECE }
+    requires there { IsTrue (D.tells).folder → (bytes : List ℕ) × (content_of (D.scene desk.old) from.now ≡ Some bytes) × (at + length buffer.old ≤ length bytes)
+        × (content_of (D.scene desk.old) to.now ≡ Some (take at bytes)) }
+    ensures runs { IsTrue (D.tells).folder → Runs (ChangesOne to.now) (D.scene desk.old) (D.scene desk.new) }
+    ensures ok { OnOk result (IsTrue (D.tells).folder → (bytes : List ℕ) → content_of (D.scene desk.old) from.now ≡ Some bytes
+        → content_of (D.scene desk.new) to.now ≡ Some (take (at + length buffer.old) bytes)) }
+    ensures cause { HasCause (D.scene desk.old).folder_faults (D.scene desk.new).folder_faults (IsErr result) }
+    ensures frame { ChangesFolder (D.scene desk.old) (D.scene desk.new) }
+    ensures valid { D.valid desk.new }
+    ensures stays { D.stays desk.old desk.new }
+{
+    desk.read_at(from, at, buffer)?;
+    put_piece(desk, to, at, buffer)
+}
+
+/// Copies a file into an empty one, and syncs that.
+pub(crate) fn fill_copy<D: Desk>(
+    desk: &mut D,
+    from: &str,
+    to: &str,
+    buffer: &mut [u8],
+) -> Result<(), Failed>
+    requires valid { D.valid desk.old }
+    requires apart { D.reads desk.old from.now → ⊥ }
+    requires apart_to { D.reads desk.old to.now → ⊥ }
+    requires differ { from.now ≢ to.now }
+    requires buffer { length buffer.old ≡ PIECE }
+    requires there { IsTrue (D.tells).folder → IsSome (content_of (D.scene desk.old) from.now) }
+    requires empty { IsTrue (D.tells).folder → content_of (D.scene desk.old) to.now ≡ Some [] }
+    requires alone { IsTrue (D.tells).folder → IsAlone to.now (D.scene desk.old).folder }
+    ensures runs { IsTrue (D.tells).folder → Runs (ChangesOne to.now) (D.scene desk.old) (D.scene desk.new) }
+    ensures ok { OnOk result (IsTrue (D.tells).folder → (bytes : List ℕ) → content_of (D.scene desk.old) from.now ≡ Some bytes
+        → IsSynced to.now bytes (D.scene desk.new).folder) }
+    ensures cause { HasCause (D.scene desk.old).folder_faults (D.scene desk.new).folder_faults (IsErr result) }
+    ensures frame { ChangesFolder (D.scene desk.old) (D.scene desk.new) }
+    ensures valid { D.valid desk.new }
+    ensures stays { D.stays desk.old desk.new }
+{
+    let size = desk.len(from)?;
+    let mut at = 0;
+    'pieces: while at < size {
+        let count = (size - at).min(PIECE as u64) as usize;
+        copy_piece(desk, from, to, at, &mut buffer[..count])?;
+        at += count as u64;
+    }
+    desk.sync(to)
+}

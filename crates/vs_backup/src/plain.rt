@@ -1,0 +1,60 @@
+// Writing without a backup: over a file that is there, and a file that was not there.
+ghost use Rattle.std.specs.Prelude.{◌≡◌, ◌≢◌, ℕ, List, IsErrOf, IsTrue, Some, None, IsSome};
+ghost use Rattle.vs_faults.specs.Faults.{HasCause};
+ghost use Rattle.vs_text.specs.Text.{file_of};
+ghost use Rattle.vs_host.specs.World.{content_of, ChangesFolder};
+ghost use Rattle.vs_backup.specs.Works.{two_names};
+ghost use Rattle.vs_backup.specs.Writing.{WritesFresh, WritesPlain};
+
+use crate::Desk;
+use crate::errors::Stop;
+use crate::files::{make_anew, settle, take_name};
+use crate::fill::fill_text;
+use std::alloc::Global;
+
+/// Writes over a file that is there, in its place. Gives the number of bytes.
+pub(crate) fn write_plain<D: Desk>(
+    alloc: Global,
+    desk: &mut D,
+    name: &str,
+    piece: &mut Vec<u8>,
+) -> Result<u64, Stop>
+    requires valid { D.valid desk.old }
+    requires apart { D.reads desk.old name.now → ⊥ }
+    requires there { IsTrue (D.tells).folder → IsSome (content_of (D.scene desk.old) name.now) }
+    ensures plain { IsTrue (D.tells).folder → (old : List ℕ) → content_of (D.scene desk.old) name.now ≡ Some old → (text : List (List ℕ)) → D.has_text desk.old text
+        → WritesPlain name.now old (file_of text) (D.scene desk.old) (D.scene desk.new) result }
+    ensures cause { HasCause (D.scene desk.old).folder_faults (D.scene desk.new).folder_faults (IsErrOf result Stop.Failed) }
+    ensures frame { ChangesFolder (D.scene desk.old) (D.scene desk.new) }
+    ensures valid { D.valid desk.new }
+    ensures stays { D.stays desk.old desk.new }
+{
+    settle(desk, name)?;
+    desk.cut(name, 0)?;
+    fill_text(alloc, desk, name, piece)
+}
+
+/// Writes a file that is not there under a temporary name, which it changes when it is synced. Gives the number of bytes.
+pub(crate) fn write_fresh<D: Desk>(
+    alloc: Global,
+    desk: &mut D,
+    name: &str,
+    temporary: &str,
+    piece: &mut Vec<u8>,
+) -> Result<u64, Stop>
+    requires valid { D.valid desk.old }
+    requires apart { D.reads desk.old name.now → ⊥ }
+    requires apart_temporary { D.reads desk.old temporary.now → ⊥ }
+    requires differ { name.now ≢ temporary.now }
+    ensures fresh { IsTrue (D.tells).folder → content_of (D.scene desk.old) name.now ≡ None → (text : List (List ℕ)) → D.has_text desk.old text
+        → WritesFresh (two_names temporary.now name.now) name.now (file_of text) (D.scene desk.old) (D.scene desk.new) result }
+    ensures cause { HasCause (D.scene desk.old).folder_faults (D.scene desk.new).folder_faults (IsErrOf result Stop.Failed) }
+    ensures frame { ChangesFolder (D.scene desk.old) (D.scene desk.new) }
+    ensures valid { D.valid desk.new }
+    ensures stays { D.stays desk.old desk.new }
+{
+    make_anew(desk, temporary)?;
+    let size = fill_text(alloc, desk, temporary, piece)?;
+    take_name(desk, temporary, name)?;
+    Ok(size)
+}

@@ -1,0 +1,268 @@
+// The whole of a write, by its options.
+ghost use Rattle.std.specs.Prelude.{◌≡◌, ◌≢◌, ◌⊎◌, true, false, ℕ, List, length, IfOk, IfSome, MatchOption, IsErrOf, IsTrue, Some, None, IsSome, string_bytes};
+ghost use Rattle.vs_faults.specs.Faults.{HasCause};
+ghost use Rattle.vs_text.specs.Text.{file_of};
+ghost use Rattle.vs_host.specs.Disk.{Name};
+ghost use Rattle.vs_host.specs.Names.{AreNames, is_allowed, temporary};
+ghost use Rattle.vs_host.specs.World.{content_of, ChangesFolder, ReadsFolder};
+ghost use Rattle.vs_backup.specs.Backups.{IsBackupName, IsNoName, backs_up, backup_of, copies};
+ghost use Rattle.vs_disk.specs.Runs.{Looks};
+ghost use Rattle.vs_backup.specs.Works.{two_names};
+ghost use Rattle.vs_backup.specs.Writing.{FindsNoName, IsFailed, IsUnseen, WritesBacked, WritesFresh, WritesInPlace, WritesNew, WritesPlain, backed_names, nowhere};
+
+use crate::backup::write_with_backup;
+use crate::choose::{backup_name, first_free, temporary_of};
+use crate::errors::{Place, Stop, WriteErr};
+use crate::fill::PIECE;
+use crate::plain::{write_fresh, write_plain};
+use crate::{CopyMode, Desk, WriteOptions};
+use std::alloc::{AllocError, Global};
+use vs_host::Names;
+
+/// Whether the file is copied to its backup, and not renamed.
+fn copies(copy: CopyMode) -> bool
+    ensures { result ≡ copies copy }
+{
+    match copy {
+        CopyMode::Yes => true,
+        CopyMode::No | CopyMode::Auto => false,
+    }
+}
+
+/// Whether a write over a file makes a backup.
+fn backs_up(options: &WriteOptions) -> bool
+    ensures { result ≡ backs_up options.now }
+{
+    options.backup || options.writebackup
+}
+
+/// The answer of a write without a backup.
+fn without_backup(answer: Result<u64, Stop>) -> Result<u64, WriteErr>
+    ensures { result ≡ nowhere answer }
+{
+    match answer {
+        Ok(size) => Ok(size),
+        Err(stop) => Err(stop.with(Place::Nowhere)),
+    }
+}
+
+/// The buffer for a piece, with room for no more.
+fn buffer(alloc: Global) -> Result<Vec<u8>, AllocError>
+    ensures { IfOk result (λ piece. length piece.items ≡ PIECE) }
+{
+    vec![in alloc; 0u8; PIECE]
+}
+
+/// Writes over a file that is there, with a backup of this name.
+fn write_named<D: Desk>(
+    alloc: Global,
+    desk: &mut D,
+    name: &str,
+    backup: &str,
+    options: &WriteOptions,
+) -> Result<u64, WriteErr>
+    requires valid { D.valid desk.old }
+    requires allowed { IsTrue (is_allowed name.now) }
+    requires named { IsBackupName name.now backup.now }
+    requires apart { D.reads desk.old name.now → ⊥ }
+    requires apart_backup { D.reads desk.old backup.now → ⊥ }
+    requires apart_temporary { D.reads desk.old (temporary backup.now) → ⊥ }
+    requires there { IsTrue (D.tells).folder → IsSome (content_of (D.scene desk.old) name.now) }
+    ensures backed { IsTrue (D.tells).folder → (old : List ℕ) → content_of (D.scene desk.old) name.now ≡ Some old → (text : List (List ℕ)) → D.has_text desk.old text
+        → WritesBacked (backed_names (copies options.now.copy) name.now (temporary backup.now) backup.now) options.now.backup name.now backup.now old (file_of text) (D.scene desk.old) (D.scene desk.new) result }
+    ensures no_name { IsErrOf result WriteErr.NoBackupName → ⊥ }
+    ensures cause { HasCause (D.scene desk.old).folder_faults (D.scene desk.new).folder_faults (IsFailed result) }
+    ensures frame { ChangesFolder (D.scene desk.old) (D.scene desk.new) }
+    ensures valid { D.valid desk.new }
+    ensures stays { D.stays desk.old desk.new }
+{
+    let Ok(temporary) = temporary_of(alloc, backup) else {
+        return Err(WriteErr::NoMemory {
+            old_in: Place::File,
+        });
+    };
+    let Ok(mut piece) = buffer(alloc) else {
+        return Err(WriteErr::NoMemory {
+            old_in: Place::File,
+        });
+    };
+    write_with_backup(
+        alloc,
+        desk,
+        name,
+        backup,
+        &temporary,
+        copies(options.copy),
+        options.backup,
+        &mut piece,
+    )
+}
+
+/// The name of the backup that a write over a file makes, and none where no name is free.
+fn choose<D: Desk>(
+    alloc: Global,
+    desk: &mut D,
+    name: &str,
+    options: &WriteOptions,
+) -> Result<Option<String>, Stop>
+    requires valid { D.valid desk.old }
+    requires allowed { IsTrue (is_allowed name.now) }
+    requires apart { (backup : Name) → IsBackupName name.now backup → D.reads desk.old backup → ⊥ }
+    requires backs_up { backs_up options.now ≡ true }
+    ensures looks { IsTrue (D.tells).folder → Looks (D.scene desk.old) (D.scene desk.new) }
+    ensures found { IfOk result (λ found. IsTrue (D.tells).folder → let chosen = backup_of options.now name.now (D.scene desk.old).folder in
+        MatchOption found (chosen ≡ None) (λ backup. chosen ≡ Some (string_bytes backup))) }
+    ensures named { IfOk result (λ found. IfSome found (λ backup. IsBackupName name.now (string_bytes backup))) }
+    ensures none { IfOk result (λ found. found ≡ None → options.now.backup ≡ false) }
+    ensures cause { HasCause (D.scene desk.old).folder_faults (D.scene desk.new).folder_faults (IsErrOf result Stop.Failed) }
+    ensures frame { ReadsFolder (D.scene desk.old) (D.scene desk.new) }
+    ensures valid { D.valid desk.new }
+    ensures stays { D.stays desk.old desk.new }
+{
+    if options.backup {
+        return Ok(Some(backup_name(alloc, name)?));
+    }
+    first_free(alloc, desk, name)
+}
+
+/// Writes over a file that is there, without a backup.
+fn write_unbacked<D: Desk>(alloc: Global, desk: &mut D, name: &str) -> Result<u64, Stop>
+    requires valid { D.valid desk.old }
+    requires apart { D.reads desk.old name.now → ⊥ }
+    requires there { IsTrue (D.tells).folder → IsSome (content_of (D.scene desk.old) name.now) }
+    ensures plain { IsTrue (D.tells).folder → (old : List ℕ) → content_of (D.scene desk.old) name.now ≡ Some old → (text : List (List ℕ)) → D.has_text desk.old text
+        → WritesPlain name.now old (file_of text) (D.scene desk.old) (D.scene desk.new) result }
+    ensures cause { HasCause (D.scene desk.old).folder_faults (D.scene desk.new).folder_faults (IsErrOf result Stop.Failed) }
+    ensures frame { ChangesFolder (D.scene desk.old) (D.scene desk.new) }
+    ensures valid { D.valid desk.new }
+    ensures stays { D.stays desk.old desk.new }
+{
+    let mut piece = buffer(alloc)?;
+    write_plain(alloc, desk, name, &mut piece)
+}
+
+/// Writes a file that is not there.
+fn write_new<D: Desk>(alloc: Global, desk: &mut D, name: &str, temporary: &str) -> Result<u64, Stop>
+    requires valid { D.valid desk.old }
+    requires apart { D.reads desk.old name.now → ⊥ }
+    requires apart_temporary { D.reads desk.old temporary.now → ⊥ }
+    requires differ { name.now ≢ temporary.now }
+    ensures fresh { IsTrue (D.tells).folder → content_of (D.scene desk.old) name.now ≡ None → (text : List (List ℕ)) → D.has_text desk.old text
+        → WritesFresh (two_names temporary.now name.now) name.now (file_of text) (D.scene desk.old) (D.scene desk.new) result }
+    ensures cause { HasCause (D.scene desk.old).folder_faults (D.scene desk.new).folder_faults (IsErrOf result Stop.Failed) }
+    ensures frame { ChangesFolder (D.scene desk.old) (D.scene desk.new) }
+    ensures valid { D.valid desk.new }
+    ensures stays { D.stays desk.old desk.new }
+{
+    let mut piece = buffer(alloc)?;
+    write_fresh(alloc, desk, name, temporary, &mut piece)
+}
+
+/// Writes over a file that is there, with the backup that the options ask for.
+fn write_chosen<D: Desk>(
+    alloc: Global,
+    desk: &mut D,
+    name: &str,
+    options: &WriteOptions,
+) -> Result<u64, WriteErr>
+    requires valid { D.valid desk.old }
+    requires allowed { IsTrue (is_allowed name.now) }
+    requires apart { D.reads desk.old name.now → ⊥ }
+    requires apart_backup { (backup : Name) → IsBackupName name.now backup → D.reads desk.old backup → ⊥ }
+    requires apart_temporary { (other : Name) → D.reads desk.old (temporary other) → ⊥ }
+    requires backs_up { backs_up options.now ≡ true }
+    requires there { IsTrue (D.tells).folder → IsSome (content_of (D.scene desk.old) name.now) }
+    ensures backed { IsTrue (D.tells).folder → (old : List ℕ) → content_of (D.scene desk.old) name.now ≡ Some old
+        → (backup : Name) → backup_of options.now name.now (D.scene desk.old).folder ≡ Some backup → (text : List (List ℕ)) → D.has_text desk.old text
+        → WritesBacked (backed_names (copies options.now.copy) name.now (temporary backup) backup) options.now.backup name.now backup old (file_of text) (D.scene desk.old) (D.scene desk.new) result }
+    ensures all_taken { IsTrue (D.tells).folder → backup_of options.now name.now (D.scene desk.old).folder ≡ None → FindsNoName (D.scene desk.old) (D.scene desk.new) result }
+    ensures no_name { IsErrOf result WriteErr.NoBackupName → (options.now.backup ≡ false) × (IsTrue (D.tells).folder → backup_of options.now name.now (D.scene desk.old).folder ≡ None) }
+    ensures cause { HasCause (D.scene desk.old).folder_faults (D.scene desk.new).folder_faults (IsFailed result) }
+    ensures frame { ChangesFolder (D.scene desk.old) (D.scene desk.new) }
+    ensures valid { D.valid desk.new }
+    ensures stays { D.stays desk.old desk.new }
+{
+    match choose(alloc, desk, name, options) {
+        Ok(Some(backup)) => write_named(alloc, desk, name, &backup, options),
+        Ok(None) => Err(WriteErr::NoBackupName),
+        Err(stop) => Err(stop.with(Place::File)),
+    }
+}
+
+/// Writes over a file that is there.
+fn write_there<D: Desk>(
+    alloc: Global,
+    desk: &mut D,
+    name: &str,
+    options: &WriteOptions,
+) -> Result<u64, WriteErr>
+    requires valid { D.valid desk.old }
+    requires allowed { IsTrue (is_allowed name.now) }
+    requires apart { D.reads desk.old name.now → ⊥ }
+    requires apart_backup { (backup : Name) → IsBackupName name.now backup → D.reads desk.old backup → ⊥ }
+    requires apart_temporary { (other : Name) → D.reads desk.old (temporary other) → ⊥ }
+    requires there { IsTrue (D.tells).folder → IsSome (content_of (D.scene desk.old) name.now) }
+    ensures backed { IsTrue (D.tells).folder → (old : List ℕ) → content_of (D.scene desk.old) name.now ≡ Some old
+        → (backup : Name) → backup_of options.now name.now (D.scene desk.old).folder ≡ Some backup → (text : List (List ℕ)) → D.has_text desk.old text
+        → WritesBacked (backed_names (copies options.now.copy) name.now (temporary backup) backup) options.now.backup name.now backup old (file_of text) (D.scene desk.old) (D.scene desk.new) result }
+    ensures all_taken { IsTrue (D.tells).folder → backs_up options.now ≡ true → backup_of options.now name.now (D.scene desk.old).folder ≡ None → FindsNoName (D.scene desk.old) (D.scene desk.new) result }
+    ensures no_name { IsErrOf result WriteErr.NoBackupName → (backs_up options.now ≡ true) × (options.now.backup ≡ false) × (IsTrue (D.tells).folder → backup_of options.now name.now (D.scene desk.old).folder ≡ None) }
+    ensures plain { IsTrue (D.tells).folder → (old : List ℕ) → content_of (D.scene desk.old) name.now ≡ Some old → backs_up options.now ≡ false → (text : List (List ℕ)) → D.has_text desk.old text
+        → WritesInPlace name.now old (file_of text) (D.scene desk.old) (D.scene desk.new) result }
+    ensures cause { HasCause (D.scene desk.old).folder_faults (D.scene desk.new).folder_faults (IsFailed result) }
+    ensures frame { ChangesFolder (D.scene desk.old) (D.scene desk.new) }
+    ensures valid { D.valid desk.new }
+    ensures stays { D.stays desk.old desk.new }
+{
+    if backs_up(options) {
+        return write_chosen(alloc, desk, name, options);
+    }
+    without_backup(write_unbacked(alloc, desk, name))
+}
+
+/// Writes the text of the desk into the file of these names, by these options (docs/FORMATS.md, Writing). Gives the number of
+/// bytes.
+///
+/// After an error `old_in` says where the old bytes stand. A backup that should have gone may still be there after `Ok`.
+pub fn write_out<D: Desk>(
+    alloc: Global,
+    desk: &mut D,
+    names: &Names,
+    options: &WriteOptions,
+) -> Result<u64, WriteErr>
+    requires valid { D.valid desk.old }
+    requires names { AreNames names.now }
+    requires reads { (name : Name) → D.reads desk.old name → (name ≡ names.now.swp) ⊎ (name ≡ names.now.swo) }
+
+    // A file that is there, with a backup.
+    ensures backed { IsTrue (D.tells).folder → (old : List ℕ) → content_of (D.scene desk.old) names.now.file ≡ Some old
+        → (backup : Name) → backup_of options.now names.now.file (D.scene desk.old).folder ≡ Some backup → (text : List (List ℕ)) → D.has_text desk.old text
+        → IsUnseen (D.scene desk.old) (D.scene desk.new) result
+        ⊎ WritesBacked (backed_names (copies options.now.copy) names.now.file (temporary backup) backup) options.now.backup names.now.file backup old (file_of text) (D.scene desk.old) (D.scene desk.new) result }
+
+    // A file that is there, where every backup name is taken.
+    ensures all_taken { IsTrue (D.tells).folder → IsSome (content_of (D.scene desk.old) names.now.file) → backs_up options.now ≡ true → backup_of options.now names.now.file (D.scene desk.old).folder ≡ None
+        → IsUnseen (D.scene desk.old) (D.scene desk.new) result ⊎ FindsNoName (D.scene desk.old) (D.scene desk.new) result }
+    ensures no_name { IsErrOf result WriteErr.NoBackupName → IsNoName options.now names.now.file (D.tells).folder (D.scene desk.old).folder }
+
+    // A file that is there, without a backup.
+    ensures plain { IsTrue (D.tells).folder → (old : List ℕ) → content_of (D.scene desk.old) names.now.file ≡ Some old → backs_up options.now ≡ false → (text : List (List ℕ)) → D.has_text desk.old text
+        → IsUnseen (D.scene desk.old) (D.scene desk.new) result ⊎ WritesInPlace names.now.file old (file_of text) (D.scene desk.old) (D.scene desk.new) result }
+
+    // A file that is not there.
+    ensures fresh { IsTrue (D.tells).folder → content_of (D.scene desk.old) names.now.file ≡ None → (text : List (List ℕ)) → D.has_text desk.old text
+        → IsUnseen (D.scene desk.old) (D.scene desk.new) result ⊎ WritesNew names.now.file_new names.now.file (file_of text) (D.scene desk.old) (D.scene desk.new) result }
+    ensures cause { HasCause (D.scene desk.old).folder_faults (D.scene desk.new).folder_faults (IsFailed result) }
+    ensures frame { ChangesFolder (D.scene desk.old) (D.scene desk.new) }
+    ensures valid { D.valid desk.new }
+    ensures stays { D.stays desk.old desk.new }
+{
+    let name = names.file.as_str();
+    match desk.has(name) {
+        Ok(true) => write_there(alloc, desk, name, options),
+        Ok(false) => without_backup(write_new(alloc, desk, name, names.file_new.as_str())),
+        Err(_) => Err(WriteErr::Failed {
+            old_in: Place::Nowhere,
+        }),
+    }
+}
