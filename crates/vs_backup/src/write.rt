@@ -205,9 +205,12 @@ fn write_there<D: Desk>(
     ensures backed { IsTrue (D.tells).folder → (old : List ℕ) → content_of (D.scene desk.old) name.now ≡ Some old
         → (backup : Name) → backup_of options.now name.now (D.scene desk.old).folder ≡ Some backup → (text : List (List ℕ)) → D.has_text desk.old text
         → WritesBacked (backed_names (copies options.now.copy) name.now (temporary backup) backup) options.now.backup name.now backup old (file_of text) (D.scene desk.old) (D.scene desk.new) result }
-    ensures all_taken { IsTrue (D.tells).folder → backs_up options.now ≡ true → backup_of options.now name.now (D.scene desk.old).folder ≡ None → FindsNoName (D.scene desk.old) (D.scene desk.new) result }
-    ensures no_name { IsErrOf result WriteErr.NoBackupName → (backs_up options.now ≡ true) × (options.now.backup ≡ false) × (IsTrue (D.tells).folder → backup_of options.now name.now (D.scene desk.old).folder ≡ None) }
-    ensures plain { IsTrue (D.tells).folder → (old : List ℕ) → content_of (D.scene desk.old) name.now ≡ Some old → backs_up options.now ≡ false → (text : List (List ℕ)) → D.has_text desk.old text
+    ensures all_taken { IsTrue (D.tells).folder → backs_up options.now ≡ true → backup_of options.now name.now (D.scene desk.old).folder ≡ None
+        → FindsNoName (D.scene desk.old) (D.scene desk.new) result }
+    ensures no_name { IsErrOf result WriteErr.NoBackupName → (backs_up options.now ≡ true) × (options.now.backup ≡ false)
+        × (IsTrue (D.tells).folder → backup_of options.now name.now (D.scene desk.old).folder ≡ None) }
+    ensures plain { IsTrue (D.tells).folder → (old : List ℕ) → content_of (D.scene desk.old) name.now ≡ Some old
+        → backs_up options.now ≡ false → (text : List (List ℕ)) → D.has_text desk.old text
         → WritesInPlace name.now old (file_of text) (D.scene desk.old) (D.scene desk.new) result }
     ensures cause { HasCause (D.scene desk.old).folder_faults (D.scene desk.new).folder_faults (IsFailed result) }
     ensures frame { ChangesFolder (D.scene desk.old) (D.scene desk.new) }
@@ -241,12 +244,14 @@ pub fn write_out<D: Desk>(
         ⊎ WritesBacked (backed_names (copies options.now.copy) names.now.file (temporary backup) backup) options.now.backup names.now.file backup old (file_of text) (D.scene desk.old) (D.scene desk.new) result }
 
     // A file that is there, where every backup name is taken.
-    ensures all_taken { IsTrue (D.tells).folder → IsSome (content_of (D.scene desk.old) names.now.file) → backs_up options.now ≡ true → backup_of options.now names.now.file (D.scene desk.old).folder ≡ None
+    ensures all_taken { IsTrue (D.tells).folder → IsSome (content_of (D.scene desk.old) names.now.file)
+        → backs_up options.now ≡ true → backup_of options.now names.now.file (D.scene desk.old).folder ≡ None
         → IsUnseen (D.scene desk.old) (D.scene desk.new) result ⊎ FindsNoName (D.scene desk.old) (D.scene desk.new) result }
     ensures no_name { IsErrOf result WriteErr.NoBackupName → IsNoName options.now names.now.file (D.tells).folder (D.scene desk.old).folder }
 
     // A file that is there, without a backup.
-    ensures plain { IsTrue (D.tells).folder → (old : List ℕ) → content_of (D.scene desk.old) names.now.file ≡ Some old → backs_up options.now ≡ false → (text : List (List ℕ)) → D.has_text desk.old text
+    ensures plain { IsTrue (D.tells).folder → (old : List ℕ) → content_of (D.scene desk.old) names.now.file ≡ Some old
+        → backs_up options.now ≡ false → (text : List (List ℕ)) → D.has_text desk.old text
         → IsUnseen (D.scene desk.old) (D.scene desk.new) result ⊎ WritesInPlace names.now.file old (file_of text) (D.scene desk.old) (D.scene desk.new) result }
 
     // A file that is not there.
