@@ -8,7 +8,6 @@ use Rattle.vs_zero.specs.declared.ZeroErr.{ZeroErr}
 use Rattle.vs_recover.specs.declared.choices.Root.TheVariants as root
 use Rattle.vs_zero.specs.Zero.{reading_of}
 use Rattle.vs_recover.specs.declared.choices.Version.{Version}
-use Rattle.vs_swap.specs.Files.{StandsFor}
 use Rattle.vs_recover.specs.Files.{IsFile}
 use Rattle.vs_recover.specs.declared.choices.Root.{Root}
 use Rattle.vs_recover.specs.declared.error.Fault.{Fault}
@@ -25,17 +24,9 @@ use Rattle.std.specs.Prelude.{codes, ◌++◌, ◌∷◌, []}
 use Rattle.vs_recover.specs.declared.image.Image.{Image}
 use Rattle.vs_recover.specs.Images.{IsImage, refused_image}
 use Rattle.vs_recover.specs.Infos.{IsInfo, image_words}
-use Rattle.vs_swap.specs.Recovery.{StandsIn, Recovered, IsNewest, IsNewer}
+use Rattle.vs_swap.specs.Recovery.{StandsIn}
 use Rattle.vs_swap.proofs.Standing.{once}
-use Rattle.vs_recover.specs.Choices.{Recovers, StandsNowhere, IsVersion, newer, root_in, root_reads, root_of, IsRefusal}
-
-pub version_some : (o : Option (List ℕ)) (g : ℕ) (t : List (List ℕ)) → is_some o ≡ true → ((file : List ℕ) → o ≡ Some file → StandsFor file g t) → StandsIn o g t
-version_some None g t there stands = absurd (cc)
-version_some (Some file) g t there stands = stands file refl
-
-pub version_none : (o : Option (List ℕ)) → ((file : List ℕ) → o ≡ Some file → StandsNot file) → (g : ℕ) (t : List (List ℕ)) → StandsIn o g t → ⊥
-version_none None not g t s = s
-version_none (Some file) not g t s = not file refl g t s
+use Rattle.vs_recover.specs.Choices.{Recovers, NoneStands, StandsNowhere, root_chosen, IsVersion, version_of, newer, root_in, root_reads, root_of, IsRefusal}
 
 -- a file whose page 0 does not read does not stand
 pub refused_not : (file : List ℕ) (why : ZeroErr) → reading_of (take 4096 file) ≡ Err why → StandsNot file
@@ -64,6 +55,10 @@ newer_recovers swp swo (Some a) (Some b) x y = elim (cases_lt a.generation b.gen
 pub found_file : (tells : Tells) (scene : Scene) (name file : List ℕ) → IsTrue tells.folder → content_of scene name ≡ Some file → IsFile tells scene name file
 found_file tells scene name file told there = record { told = told; there = there }
 
+pub root_absent : (o : Option (List ℕ)) → is_some o ≡ false → root.Absent ≡ root_of o
+root_absent None not = refl
+root_absent (Some file) not = absurd (cc)
+
 pub root_some : (o : Option (List ℕ)) (r : Root) → is_some o ≡ true → ((file : List ℕ) → o ≡ Some file → r ≡ root_in file (reading_of (take 4096 file))) → r ≡ root_of o
 root_some None r there is = absurd (cc)
 root_some (Some file) r there is = is file refl
@@ -85,6 +80,15 @@ fault_failed fault.NoMemory is = absurd (cc)
 pub fault_said : {T : Type 0} (R : Type 0) (result : Result T Fault) (f : Fault) (e : RecErr) → result ≡ Err f → e ≡ error_of f → (result ≡ Err fault.Failed → R) → e ≡ error.Failed → R
 fault_said R result f e is became said failed = said (is ∙ ap (λ (x : Fault). Err x) (fault_failed f (sym became ∙ failed)))
 
+-- a refusal that the roots of the files give
+pub roots_refuse : (swp swo : Option (List ℕ)) (why : RecErr) → NoneStands swp swo → root_chosen (root_of swp) (root_of swo) ≡ Err why → IsRefusal swp swo why
+roots_refuse swp swo error.NoSwap none is = (none, is)
+roots_refuse swp swo error.Encrypted none is = (none, is)
+roots_refuse swp swo error.NotSwap none is = (none, is)
+roots_refuse swp swo error.NotTree none is = (none, is)
+roots_refuse swp swo error.Failed none is = tt
+roots_refuse swp swo error.NoMemory none is = tt
+
 -- what a file is whose page 0 does not read
 pub image_refused : (file : List ℕ) (why : ZeroErr) → reading_of (take 4096 file) ≡ Err why → IsImage file (refused_image why)
 image_refused file refusal.Closed is = is
@@ -93,14 +97,21 @@ image_refused file refusal.Short is = (refusal.Short, is, λ e. cc, λ e. cc)
 image_refused file refusal.BadMagic is = (refusal.BadMagic, is, λ e. cc, λ e. cc)
 image_refused file (refusal.BadPageSize size) is = (refusal.BadPageSize size, is, λ e. cc, λ e. cc)
 
--- the image of a file that does not stand
-pub image_version : (o : Option (List ℕ)) (image : Image) → ((g : ℕ) (t : List (List ℕ)) → image ≡ Standing g t → ⊥) → ((file : List ℕ) → o ≡ Some file → IsImage file image) → StandsNowhere o
-image_version None image other is = λ g t s. s
-image_version (Some file) (Standing g t) other is = absurd (other g t refl)
-image_version (Some file) (Open size) other is = λ g t s. (is file refl).3 g t s
-image_version (Some file) Closed other is = refused_not file refusal.Closed (is file refl)
-image_version (Some file) Encrypted other is = refused_not file refusal.Encrypted (is file refl)
-image_version (Some file) NoSwapFile other is = let foreign = is file refl in refused_not file foreign.0 foreign.1
+-- what the file of an image stands for
+image_versions : (file : List ℕ) (image : Image) → IsImage file image → IsVersion (Some file) (version_of image)
+image_versions file (Standing g t) is = is
+image_versions file (Open size) is = λ g t s. is.3 g t s
+image_versions file Closed is = refused_not file refusal.Closed is
+image_versions file Encrypted is = refused_not file refusal.Encrypted is
+image_versions file NoSwapFile is = refused_not file is.0 is.1
+
+pub version_found : (o : Option (List ℕ)) (image : Image) → is_some o ≡ true → ((file : List ℕ) → o ≡ Some file → IsImage file image) → IsVersion o (version_of image)
+version_found None image there is = absurd (cc)
+version_found (Some file) image there is = image_versions file image (is file refl)
+
+pub version_absent : (o : Option (List ℕ)) → is_some o ≡ false → StandsNowhere o
+version_absent None not = λ g t s. s
+version_absent (Some file) not = absurd (cc)
 
 pub root_tree : (file : List ℕ) (fields : Zero) (reads : Bool) → reading_of (take 4096 file) ≡ Ok fields → reads ≡ root_reads file fields.page_size → reads ≡ true → root.Tree ≡ root_in file (reading_of (take 4096 file))
 root_tree file fields reads ok is value = sym (ap (λ (z : Result Zero ZeroErr). root_in file z) ok ∙ ap (λ (b : Bool). if b then root.Tree else root.NoTree) (sym is ∙ value))
@@ -109,6 +120,10 @@ pub root_no_tree : (file : List ℕ) (fields : Zero) (reads : Bool) → reading_
 root_no_tree file fields reads ok is value = sym (ap (λ (z : Result Zero ZeroErr). root_in file z) ok ∙ ap (λ (b : Bool). if b then root.Tree else root.NoTree) (sym is ∙ value))
 
 -- ---- info
+
+pub info_absent : (o : Option (List ℕ)) (name bytes : List ℕ) → is_some o ≡ false → bytes ≡ [] → IsInfo o name bytes
+info_absent None name bytes not none = none
+info_absent (Some file) name bytes not none = absurd (cc)
 
 pub info_some : (o : Option (List ℕ)) (name bytes : List ℕ) (image : Image) → is_some o ≡ true → ((file : List ℕ) → o ≡ Some file → IsImage file image) → bytes ≡ name ++ (codes ": " ++ (image_words image ++ 10 ∷ [])) → IsInfo o name bytes
 info_some None name bytes image there is line = absurd (cc)

@@ -71,6 +71,9 @@ lacks_past file n k is le = ap (λ o. lacks o) (page_gone file k (omega arith))
 pub file_stays : (tells : Tells) (old new : Scene) (name file : List ℕ) → ReadsFolder old new → IsFile tells old name file → IsFile tells new name file
 file_stays tells old new name file frame is = record { told = is.told; there = ap (λ (s : Scene). content_of s name) frame ∙ is.there }
 
+pub file_was : (tells : Tells) (old new : Scene) (name file : List ℕ) → ReadsFolder old new → IsFile tells new name file → IsFile tells old name file
+file_was tells old new name file frame is = record { told = is.told; there = sym (ap (λ (s : Scene). content_of s name) frame) ∙ is.there }
+
 pub if_some : {X : Type 0} (o : Option X) (x : X) (P : X → Type 0) → o ≡ Some x → IfSome o P → P x
 if_some None x P is h = absurd (cc)
 if_some (Some y) x P is h = let e : y ≡ x = cc in subst P e h

@@ -1,7 +1,6 @@
 -- How reading goes on: after a part in which no call failed, one part more.
-use Rattle.std.proofs.Common.{◌≡◌, ◌≤◌, ℕ, List, ◌++◌, Option, Some, None, Result, IsErr, IsTrue, IsSome, is_some, true, refl, sym, ◌∙◌, ap, subst, arith, append_assoc}
+use Rattle.std.proofs.Common.{◌≡◌, ℕ, List, ◌++◌, Option, Some, None, Result, IsTrue, IsSome, is_some, true, refl, sym, ◌∙◌, ap, subst, append_assoc}
 use Rattle.std.specs.Prelude.{IsSomeAnd, IfSome}
-use Rattle.vs_faults.specs.Faults.{HasCause, HasRisen}
 use Rattle.vs_host.specs.Disk.{Name}
 use Rattle.vs_host.specs.Trace.{Kind, Snapshot}
 use Rattle.vs_host.specs.World.{Tells, Scene, IsTold, ReadsFolder, content_of}
@@ -72,13 +71,13 @@ reads_on {tells} {old} {mid} {new} none first second = record {
 
 -- ---- the file that is read
 
-there_at : {P : List ℕ → Type 0} (o : Option (List ℕ)) (file : List ℕ) → o ≡ Some file → IsSomeAnd o P → P file
-there_at {P} None file is has = absurd (cc)
-there_at {P} (Some bytes) file is has = let e : bytes ≡ file = cc in subst P e has
+there_at : (P : List ℕ → Type 0) (o : Option (List ℕ)) (file : List ℕ) → o ≡ Some file → IsSomeAnd o P → P file
+there_at P None file is has = absurd (cc)
+there_at P (Some bytes) file is has = let e : bytes ≡ file = cc in subst P e has
 
 -- what is said of the file that is there is said of this file
 pub file_has : (tells : Tells) (scene : Scene) (name file : List ℕ) (P : List ℕ → Type 0) → IsThere tells scene name P → IsFile tells scene name file → P file
-file_has tells scene name file P there is = there_at {P = P} (content_of scene name) file is.there (there is.told)
+file_has tells scene name file P there is = there_at P (content_of scene name) file is.there (there is.told)
 
 some_as : (o : Option (List ℕ)) (P Q : List ℕ → Type 0) → ((file : List ℕ) → P file → Q file) → IsSomeAnd o P → IsSomeAnd o Q
 some_as None P Q leads has = absurd has
@@ -92,19 +91,15 @@ pub there_stays : (tells : Tells) (old new : Scene) (name : List ℕ) (P : List 
 there_stays tells old new name P frame there = λ told. subst (λ (o : Option (List ℕ)). IsSomeAnd o P) (sym (ap (λ (s : Scene). content_of s name) frame)) (there told)
 
 if_there : (o : Option (List ℕ)) (P : List ℕ → Type 0) → IsSome o → IfSome o P → IsSomeAnd o P
-if_there None P some has = absurd some
+if_there None P some has = absurd (cc)
 if_there (Some file) P some has = has
 
 pub measured : (tells : Tells) (scene : Scene) (name : List ℕ) (P : List ℕ → Type 0) → (IsTrue tells.folder → IsSome (content_of scene name)) → (IsTrue tells.folder → IfSome (content_of scene name) P) → IsThere tells scene name P
 measured tells scene name P some has = λ told. if_there (content_of scene name) P (some told) (has told)
 
-some_is : (o : Option (List ℕ)) → is_some o ≡ true → IsSome o
-some_is None is = absurd (cc)
-some_is (Some file) is = tt
-
 -- a file that was found is there
 pub there_found : (tells : Tells) (old new : Scene) (name : List ℕ) → ReadsFolder old new → (IsTrue tells.folder → true ≡ is_some (content_of old name)) → IsTrue tells.folder → IsSome (content_of new name)
-there_found tells old new name frame is told = subst (λ (o : Option (List ℕ)). IsSome o) (sym (ap (λ (s : Scene). content_of s name) frame)) (some_is (content_of old name) (sym (is told)))
+there_found tells old new name frame is told = subst (λ (o : Option (List ℕ)). IsSome o) (sym (ap (λ (s : Scene). content_of s name) frame)) (sym (is told))
 
 pub some_stays : (tells : Tells) (old new : Scene) (name : List ℕ) → ReadsFolder old new → (IsTrue tells.folder → IsSome (content_of old name)) → IsTrue tells.folder → IsSome (content_of new name)
 some_stays tells old new name frame some told = subst (λ (o : Option (List ℕ)). IsSome o) (sym (ap (λ (s : Scene). content_of s name) frame)) (some told)

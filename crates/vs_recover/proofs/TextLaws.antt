@@ -7,7 +7,7 @@ use Rattle.std.proofs.lemmas.Bool.Decides.{nat_tests}
 use Rattle.std.proofs.lemmas.List.{get_or_default}
 use Rattle.std.proofs.lemmas.List.Elements.{recursion_from_All, All-from_recursion}
 use Rattle.vs_text.specs.Text.{stored_byte, plain_byte, stored_line, plain_line, stored, unstored, IsLine, IsText}
-use Rattle.vs_text.proofs.StoredForm.{unstored-stored, IsLine-plain_line, same_from_stored}
+use Rattle.vs_text.proofs.StoredForm.{unstored-stored, IsLine-plain_line}
 use Rattle.vs_pages.specs.Maps.{Map, pages_at}
 use Rattle.vs_tree_shape.specs.Trees.{Tree, lines_of, IsTree}
 use Rattle.vs_tree_shape.proofs.Shapes.{read_from, each-append}

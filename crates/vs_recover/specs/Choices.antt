@@ -1,5 +1,5 @@
 -- What is recovered of the two swap files, and which of them is salvaged where neither stands.
-use Rattle.std.specs.Prelude.{◌≡◌, ◌⊎◌, ◌<◌, ◌≤◌, ◌*◌, ◌&&◌, ℕ, Bool, nat_lt, nat_le, is_ok, if◌then◌else◌, List, length, take, drop, Option, Some, None, Result, Ok, Err}
+use Rattle.std.specs.Prelude.{◌≡◌, ◌*◌, ◌&&◌, ℕ, Bool, nat_lt, nat_le, is_ok, if◌then◌else◌, List, length, take, drop, Option, Some, None, Result, Ok, Err}
 use Rattle.vs_zero.specs.declared.Zero.{Zero}
 use Rattle.vs_zero.specs.declared.ZeroErr.{ZeroErr}
 use Rattle.vs_zero.specs.declared.ZeroErr.TheVariants as refusal
@@ -14,6 +14,8 @@ use Rattle.vs_recover.specs.declared.choices.Swap.{Swap}
 use Rattle.vs_recover.specs.declared.choices.Swap.TheVariants.{Swp, Swo}
 use Rattle.vs_recover.specs.declared.error.RecErr.{RecErr}
 use Rattle.vs_recover.specs.declared.error.RecErr.TheVariants as error
+use Rattle.vs_recover.specs.declared.image.Image.{Image}
+use Rattle.vs_recover.specs.declared.image.Image.TheVariants.{Standing}
 use Rattle.vs_swap.specs.Recovery.{StandsIn, Recovered}
 
 -- The file, where it is there, stands for no text.
@@ -33,6 +35,11 @@ Recovers swp swo None = NoneStands swp swo
 abbrev pub IsVersion : Option (List ℕ) → Option Version → Type 0
 IsVersion file (Some version) = StandsIn file version.generation version.text
 IsVersion file None = StandsNowhere file
+
+-- what a file stands for, where it does
+abbrev pub version_of : Image → Option Version
+version_of (Standing generation text) = Some record { generation = generation; text = text }
+version_of image = None
 
 -- the newer text of two, and the first at a tie
 abbrev pub newer : Option Version → Option Version → Option (List (List ℕ))

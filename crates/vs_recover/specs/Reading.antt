@@ -1,5 +1,5 @@
 -- What a call says of a folder that it only reads.
-use Rattle.std.specs.Prelude.{◌≡◌, ◌≤◌, ℕ, List, IsTrue, IsSomeAnd}
+use Rattle.std.specs.Prelude.{◌≡◌, ℕ, List, IsTrue, IsSomeAnd}
 use Rattle.vs_host.specs.Disk.{Name}
 use Rattle.vs_host.specs.World.{Tells, Scene, ReadsFolder, content_of}
 use Rattle.vs_disk.specs.Runs.{Looks, FailsLast}

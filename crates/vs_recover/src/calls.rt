@@ -34,12 +34,7 @@ pub fn file_len<F: Folder>(host: &mut F, name: &str) -> Result<u64, Fault>
 }
 
 /// Fills `into` with the bytes of the file from the place `at` on, counted from 0.
-pub fn read_part<F: Folder>(
-    host: &mut F,
-    name: &str,
-    at: u64,
-    into: &mut [u8],
-) -> Result<(), Fault>
+pub fn read_part<F: Folder>(host: &mut F, name: &str, at: u64, into: &mut [u8]) -> Result<(), Fault>
     requires inside { IsThere F.tells (F.scene host.old) name.now (λ file. at + length into.old ≤ length file) }
     ensures value { OnOk result ((file : List ℕ) → IsFile F.tells (F.scene host.old) name.now file → into.new ≡ take (length into.old) (drop at file)) }
     ensures later { (F.scene host.old).folder_faults ≤ (F.scene host.new).folder_faults }

@@ -4,10 +4,11 @@ ghost use Rattle.vs_faults.specs.Faults.{HasRisen};
 ghost use Rattle.vs_host.specs.World.{content_of};
 ghost use Rattle.vs_recover.specs.Files.{IsFile};
 ghost use Rattle.vs_zero.specs.Zero.{reading_of};
-ghost use Rattle.vs_recover.specs.Choices.{IsChoice, IsVersion, Recovers, newer, refused_root, root_chosen, root_in, root_of, root_reads};
+ghost use Rattle.vs_recover.specs.Choices.{IsChoice, IsVersion, Recovers, newer, refused_root, root_chosen, root_in, root_of, root_reads, version_of};
 ghost use Rattle.vs_recover.specs.Reading.{IsThere, NoneFails, Reads};
 
 use crate::calls::{has_file, read_part};
+use crate::error::error_of;
 use crate::image::{Image, Opening, find_image, read_opening};
 use crate::{Fault, RecErr};
 use std::alloc::Global;
@@ -45,6 +46,16 @@ pub enum Root {
     Tree,
 }
 
+// What a file stands for, where it does.
+fn version_of(image: Image) -> Option<Version>
+    ensures { result ≡ version_of image }
+{
+    match image {
+        Image::Standing { generation, text } => Some(Version { generation, text }),
+        Image::Open { .. } | Image::Closed | Image::Encrypted | Image::NoSwapFile => None,
+    }
+}
+
 // What the file under a name stands for, where it is there and stands.
 fn read_version<F: Folder>(
     alloc: Global,
@@ -60,15 +71,11 @@ fn read_version<F: Folder>(
     if !has_file(host, name)? {
         return Ok(None);
     }
-    match find_image(alloc, host, name)? {
-        Image::Standing { generation, text } => Ok(Some(Version { generation, text })),
-        Image::Open { page_size: _ } => Ok(None),
-        Image::Closed => Ok(None),
-        Image::Encrypted => Ok(None),
-        Image::NoSwapFile => Ok(None),
-    }
+    let image = find_image(alloc, host, name)?;
+    Ok(version_of(image))
 }
 
+// The text with the greater generation, and the first one at a tie.
 fn newer(first: Option<Version>, second: Option<Version>) -> Option<Text>
     ensures { result ≡ newer first second }
 {
@@ -156,12 +163,18 @@ fn refused_root(why: ZeroErr) -> Root
 {
     match why {
         ZeroErr::Encrypted => Root::Encrypted,
-        ZeroErr::Short | ZeroErr::Closed | ZeroErr::BadMagic | ZeroErr::BadPageSize(_) => Root::Foreign,
+        ZeroErr::Short | ZeroErr::Closed | ZeroErr::BadMagic | ZeroErr::BadPageSize(_) =>
+            Root::Foreign,
     }
 }
 
 // What page 0 and block 1 of a file read as, whose page 0 was read.
-fn opened_root<F: Folder>(alloc: Global, host: &mut F, name: &str, opening: &Opening) -> Result<Root, Fault>
+fn opened_root<F: Folder>(
+    alloc: Global,
+    host: &mut F,
+    name: &str,
+    opening: &Opening,
+) -> Result<Root, Fault>
     requires len { IsThere F.tells (F.scene host.old) name.now (λ file. opening.now.len ≡ length file) }
     requires zero { (file : List ℕ) → IsFile F.tells (F.scene host.old) name.now file → opening.now.zero ≡ reading_of (take 4096 file) }
     ensures root { IfOk result (λ root. (file : List ℕ) → IsFile F.tells (F.scene host.old) name.now file → root ≡ root_in file (reading_of (take 4096 file))) }
@@ -227,10 +240,17 @@ fn choose_of<F: Folder>(alloc: Global, host: &mut F, swp: &str, swo: &str) -> Re
     ensures reads { Reads F.tells (F.scene host.old) (F.scene host.new) }
     ensures none { OnOk result (NoneFails F.tells (F.scene host.old) (F.scene host.new)) }
 {
-    if let Some(text) = recover(alloc, host, swp, swo)? {
+    let found = match recover(alloc, host, swp, swo) {
+        Ok(found) => found,
+        Err(fault) => return Err(error_of(fault)),
+    };
+    if let Some(text) = found {
         return Ok(Chosen::Text(text));
     }
-    let roots = read_roots(alloc, host, swp, swo)?;
+    let roots = match read_roots(alloc, host, swp, swo) {
+        Ok(roots) => roots,
+        Err(fault) => return Err(error_of(fault)),
+    };
     match choose_root(roots.swp, roots.swo) {
         Ok(which) => Ok(Chosen::Salvage(which)),
         Err(why) => Err(why),

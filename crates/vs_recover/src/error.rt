@@ -1,4 +1,7 @@
 // Why nothing was recovered.
+ghost use Rattle.std.specs.Prelude.{◌≡◌};
+ghost use Rattle.vs_recover.specs.Faults.{error_of};
+
 use std::alloc::{AllocError, AllocFailed};
 use vs_host::Failed;
 
@@ -58,16 +61,12 @@ impl<T: Drop> From<AllocFailed<T>> for Fault {
     }
 }
 
-impl From<Fault> for RecErr {
-    ghost use Rattle.std.specs.Prelude.{◌≡◌};
-    ghost use Rattle.vs_recover.specs.Faults.{error_of};
-
-    ghost from_gives = { λ fault e. e ≡ error_of fault };
-
-    fn from(fault: Fault) -> Self {
-        match fault {
-            Fault::Failed => RecErr::Failed,
-            Fault::NoMemory => RecErr::NoMemory,
-        }
+/// The error that a fault is.
+pub fn error_of(fault: Fault) -> RecErr
+    ensures { result ≡ error_of fault }
+{
+    match fault {
+        Fault::Failed => RecErr::Failed,
+        Fault::NoMemory => RecErr::NoMemory,
     }
 }

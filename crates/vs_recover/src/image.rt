@@ -9,6 +9,7 @@ ghost use Rattle.vs_recover.specs.Images.{IsImage, refused_image, text_in};
 ghost use Rattle.vs_recover.specs.Reading.{IsThere, NoneFails, Reads};
 
 use crate::calls::{file_len, read_part};
+use crate::error::error_of;
 use crate::tree::read_tree;
 use crate::{Fault, RecErr};
 use std::alloc::Global;
@@ -162,6 +163,8 @@ pub fn read_image<F: Folder>(alloc: Global, host: &mut F, swap: &str) -> Result<
     ensures reads { Reads F.tells (F.scene host.old) (F.scene host.new) }
     ensures none { OnOk result (NoneFails F.tells (F.scene host.old) (F.scene host.new)) }
 {
-    let image = find_image(alloc, host, swap)?;
-    Ok(image)
+    match find_image(alloc, host, swap) {
+        Ok(image) => Ok(image),
+        Err(fault) => Err(error_of(fault)),
+    }
 }

@@ -1,11 +1,12 @@
 // What `info` says.
-ghost use Rattle.std.specs.Prelude.{◌≡◌, ◌≢◌, ◌≤◌, IfOk, IfErr, IsTrue, Err, OnOk, string_bytes, ◌++◌};
+ghost use Rattle.std.specs.Prelude.{◌≡◌, ◌≢◌, ◌≤◌, IfOk, IfErr, IsTrue, Err, OnOk, string_bytes, codes, ◌++◌, ◌∷◌, []};
 ghost use Rattle.vs_faults.specs.Faults.{HasRisen};
-ghost use Rattle.vs_host.specs.World.{content_of};
+ghost use Rattle.vs_host.specs.World.{ReadsFolder, content_of};
 ghost use Rattle.vs_recover.specs.Infos.{IsInfo, IsInfos, image_words, standing_words};
 ghost use Rattle.vs_recover.specs.Reading.{NoneFails, Reads};
 
 use crate::calls::has_file;
+use crate::error::error_of;
 use crate::image::{Image, find_image};
 use crate::{Fault, RecErr};
 use std::alloc::{AllocError, Global};
@@ -33,11 +34,20 @@ fn image_words(alloc: Global, image: &Image) -> Result<String, AllocError>
     }
 }
 
+fn info_line(alloc: Global, name: &str, image: &Image) -> Result<String, AllocError>
+    ensures { IfOk result (λ line. string_bytes line ≡ name.now ++ (codes ": " ++ (image_words image.now ++ 10 ∷ []))) }
+{
+    let words = image_words(alloc, image)?;
+    let line = format!(in alloc; "{name}: {words}\n")?;
+    Ok(line)
+}
+
 /// The line of `info` for the swap file under a name; nothing where it is not there.
 pub fn file_info<F: Folder>(alloc: Global, host: &mut F, name: &str) -> Result<String, Fault>
     ensures info { IfOk result (λ line. IsTrue F.tells.folder → IsInfo (content_of (F.scene host.old) name.now) name.now (string_bytes line)) }
     ensures later { (F.scene host.old).folder_faults ≤ (F.scene host.new).folder_faults }
     ensures failed { result ≡ Err Fault.Failed → HasRisen (F.scene host.old).folder_faults (F.scene host.new).folder_faults }
+    ensures frame { ReadsFolder (F.scene host.old) (F.scene host.new) }
     ensures reads { Reads F.tells (F.scene host.old) (F.scene host.new) }
     ensures none { OnOk result (NoneFails F.tells (F.scene host.old) (F.scene host.new)) }
 {
@@ -45,8 +55,7 @@ pub fn file_info<F: Folder>(alloc: Global, host: &mut F, name: &str) -> Result<S
         return Ok(String::new(alloc));
     }
     let image = find_image(alloc, host, name)?;
-    let words = image_words(alloc, &image)?;
-    let line = format!(in alloc; "{name}: {words}\n")?;
+    let line = info_line(alloc, name, &image)?;
     Ok(line)
 }
 
@@ -68,13 +77,21 @@ fn info_of<F: Folder>(alloc: Global, host: &mut F, swp: &str, swo: &str) -> Resu
     ensures reads { Reads F.tells (F.scene host.old) (F.scene host.new) }
     ensures none { OnOk result (NoneFails F.tells (F.scene host.old) (F.scene host.new)) }
 {
-    let first = file_info(alloc, host, swp)?;
-    let second = file_info(alloc, host, swo)?;
+    let first = match file_info(alloc, host, swp) {
+        Ok(first) => first,
+        Err(fault) => return Err(error_of(fault)),
+    };
+    let second = match file_info(alloc, host, swo) {
+        Ok(second) => second,
+        Err(fault) => return Err(error_of(fault)),
+    };
     if first.is_empty() && second.is_empty() {
         return Err(RecErr::NoSwap);
     }
-    let bytes = joined(&first, &second, alloc)?;
-    Ok(bytes)
+    match joined(&first, &second, alloc) {
+        Ok(bytes) => Ok(bytes),
+        Err(fault) => Err(error_of(fault)),
+    }
 }
 
 /// One line for each swap file that is there, the first one's before that of the second: docs/FORMATS.md, "Standing, choosing,

@@ -1,28 +1,28 @@
 use Rattle.std.proofs.Common.{sym, subst, ◌∙◌}
-use Rattle.vs_zero.specs.declared.ZeroErr.TheVariants as refusal
-use Rattle.vs_recover.specs.Images.{IsImage}
+use Rattle.vs_host.specs.World.{content_of}
+use Rattle.vs_recover.specs.Choices.{IsVersion}
 use Rattle.vs_recover.proofs.PageLaws.{file_stays}
-use Rattle.vs_recover.proofs.ChoiceLaws.{found_file, version_some, version_none, refused_not}
+use Rattle.vs_recover.proofs.ChoiceLaws.{found_file, version_found, version_absent}
+use Rattle.vs_recover.proofs.ReadingLaws.{none_then, reads_on, there_found}
 use Rattle.vs_recover.proofs.choices.read_version.Goals as goal
 
-pub returns-in-Standing-clause-version : goal.returns-in-Standing-clause-version
-returns-in-Standing-clause-version g c = λ told.
-    version_some _ c.in-Standing.generation c.in-Standing.text (sym (c.in_ok-has.ensures.value told) ∙ c.if-not-branch.false)
-    (λ file is. subst (λ i. IsImage file i) c.in-Standing.is (c.in_ok-generation.ensures.image file (file_stays _ _ _ _ file c.in_ok-has.ensures.reads.frame (found_file g.F.World.tells (g.F.World.scene c.args.host.now) c.args.name.now file told is))))
+pub find_image-requires : goal.find_image-requires
+find_image-requires g c = record { there = there_found g.F.World.tells (g.F.World.scene c.args.host.now) (g.F.World.scene c.has_file.new.host) c.args.name.now c.has_file.ensures.reads.frame (λ told. sym c.if-not-branch.false ∙ c.in_ok-has_file.ensures.value told) }
 
-pub returns-in-Open-clause-version : goal.returns-in-Open-clause-version
-returns-in-Open-clause-version g c = λ told.
-    version_none _ (λ file is. (subst (λ i. IsImage file i) c.in-Open.is (c.in_ok-generation.ensures.image file (file_stays _ _ _ _ file c.in_ok-has.ensures.reads.frame (found_file g.F.World.tells (g.F.World.scene c.args.host.now) c.args.name.now file told is)))).3)
+pub returns-then-not-branch-clause-version : goal.returns-then-not-branch-clause-version
+returns-then-not-branch-clause-version g c = λ told. version_absent _ (sym (c.in_ok-has_file.ensures.value told) ∙ c.if-not-branch.true)
 
-pub returns-in-Closed-clause-version : goal.returns-in-Closed-clause-version
-returns-in-Closed-clause-version g c = λ told.
-    version_none _ (λ file is. refused_not file refusal.Closed (subst (λ i. IsImage file i) c.in-Closed.is (c.in_ok-generation.ensures.image file (file_stays _ _ _ _ file c.in_ok-has.ensures.reads.frame (found_file g.F.World.tells (g.F.World.scene c.args.host.now) c.args.name.now file told is)))))
+pub returns-in_err-image-clause-reads : goal.returns-in_err-image-clause-reads
+returns-in_err-image-clause-reads g c = reads_on c.in_ok-has_file.ensures.none c.has_file.ensures.reads c.find_image.ensures.reads
 
-pub returns-in-Encrypted-clause-version : goal.returns-in-Encrypted-clause-version
-returns-in-Encrypted-clause-version g c = λ told.
-    version_none _ (λ file is. refused_not file refusal.Encrypted (subst (λ i. IsImage file i) c.in-Encrypted.is (c.in_ok-generation.ensures.image file (file_stays _ _ _ _ file c.in_ok-has.ensures.reads.frame (found_file g.F.World.tells (g.F.World.scene c.args.host.now) c.args.name.now file told is)))))
+pub returns-clause-version : goal.returns-clause-version
+returns-clause-version g c = λ told.
+    let found = version_found (content_of (g.F.World.scene c.args.host.now) c.args.name.now) c.in_ok-image.image (sym (c.in_ok-has_file.ensures.value told) ∙ c.if-not-branch.false)
+    (λ file is. c.in_ok-image.ensures.image file (file_stays _ _ _ _ file c.has_file.ensures.reads.frame (found_file g.F.World.tells (g.F.World.scene c.args.host.now) c.args.name.now file told is))) in
+    subst (λ v. IsVersion (content_of (g.F.World.scene c.args.host.now) c.args.name.now) v) (sym c.version_of.ensures) found
 
-pub returns-in-NoSwapFile-clause-version : goal.returns-in-NoSwapFile-clause-version
-returns-in-NoSwapFile-clause-version g c = λ told.
-    version_none _ (λ file is. let foreign = subst (λ i. IsImage file i) c.in-NoSwapFile.is (c.in_ok-generation.ensures.image file (file_stays _ _ _ _ file c.in_ok-has.ensures.reads.frame (found_file g.F.World.tells (g.F.World.scene c.args.host.now) c.args.name.now file told is))) in
-    refused_not file foreign.0 foreign.1)
+pub returns-clause-reads : goal.returns-clause-reads
+returns-clause-reads g c = reads_on c.in_ok-has_file.ensures.none c.has_file.ensures.reads c.find_image.ensures.reads
+
+pub returns-clause-none : goal.returns-clause-none
+returns-clause-none g c = none_then c.in_ok-has_file.ensures.none c.in_ok-image.ensures.none

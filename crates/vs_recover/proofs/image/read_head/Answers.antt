@@ -1,6 +1,7 @@
-use Rattle.std.proofs.Common.{◌≡◌, ◌≤◌, ◌+◌, length, take, drop, arith, sym}
+use Rattle.std.proofs.Common.{◌≡◌, ◌≤◌, ◌+◌, length, arith, sym}
 use Rattle.vs_recover.proofs.PageLaws.{head_loaded}
 use Rattle.vs_recover.proofs.ReadingLaws.{file_has, there_as}
+use Rattle.vs_recover.proofs.ReadingLaws.{reads_none}
 use Rattle.vs_recover.proofs.image.read_head.Goals as goal
 
 pub read_part-requires : goal.read_part-requires
@@ -17,3 +18,6 @@ returns-clause-value g c = λ file is.
     let read = c.in_ok-read_part.ensures.value file is in
     let room : length c.deref_mut.result.now ≡ c.in_ok-head.head.len = omega (arith, c.deref_mut.ensures.len) in
     head_loaded file c.read_part.new.into _ c.args.len (length c.deref_mut.result.now) 0 c.in_ok-head.head.len n (omega (arith, room, c.in_ok-head.ensures.len, c.min-size.ensures)) (omega arith) (sym room) read
+
+pub returns-in_err-head-clause-reads : goal.returns-in_err-head-clause-reads
+returns-in_err-head-clause-reads g c = reads_none g.F.World.tells _

@@ -10,6 +10,7 @@ use Rattle.vs_recover.proofs.MarkLaws.{used_most}
 use Rattle.vs_recover.proofs.PageLaws.{pages_past, file_stays, gives_none, gives_list, if_some, if_none, no_items}
 use Rattle.vs_recover.proofs.StageLaws.{stage_begins, stage_next, stage_ends, stage_empty, no_root, no_wide_root, no_first}
 use Rattle.vs_recover.proofs.ReadingLaws.{file_has, reads_on, none_then}
+use Rattle.vs_recover.proofs.ReadingLaws.{none_fails, reads_none, there_stays}
 use Rattle.vs_recover.proofs.tree.read_tree.Goals as goal
 
 pub returns-then-count-lt2-clause-value : goal.returns-then-count-lt2-clause-value
@@ -69,3 +70,34 @@ levels-preserved g c = record {
 pub returns-clause-value : goal.returns-clause-value
 returns-clause-value g c = λ file is.
     stage_empty (pages_in file) (λ k. used_in c.levels.marks k) c.levels.level.items c.new-2.result (λ k. used_most c.levels.marks k) (no_items _ (grind (arith, nat_tests, c.levels-test.ensures))) c.new-2.ensures.items (c.levels.invariant.stage file is)
+
+pub open_level-requires : goal.open_level-requires
+open_level-requires g c = record {
+  bound = c.requires.bound;
+  count = there_stays g.F.World.tells (g.F.World.scene c.args.host.now) (g.F.World.scene c.levels.host) c.args.name.now (λ file. c.args.count ≡ length file / 4096) c.levels.invariant.reads.frame c.requires.count;
+}
+
+pub gather_level-requires : goal.gather_level-requires
+gather_level-requires g c = record {
+  bound = c.requires.bound;
+  count = there_stays g.F.World.tells (g.F.World.scene c.levels.host) (g.F.World.scene c.open_level.new.host) c.args.name.now (λ file. c.args.count ≡ length file / 4096) c.open_level.ensures.reads.frame
+      (there_stays g.F.World.tells (g.F.World.scene c.args.host.now) (g.F.World.scene c.levels.host) c.args.name.now (λ file. c.args.count ≡ length file / 4096) c.levels.invariant.reads.frame c.requires.count);
+}
+
+pub returns-then-count-lt2-clause-reads : goal.returns-then-count-lt2-clause-reads
+returns-then-count-lt2-clause-reads g c = reads_none g.F.World.tells _
+
+pub returns-then-count-lt2-clause-none : goal.returns-then-count-lt2-clause-none
+returns-then-count-lt2-clause-none g c = none_fails g.F.World.tells _
+
+pub returns-in_err-next-clause-reads : goal.returns-in_err-next-clause-reads
+returns-in_err-next-clause-reads g c = reads_on c.levels.invariant.none c.levels.invariant.reads c.open_level.ensures.reads
+
+pub returns-in_err-lines-clause-reads : goal.returns-in_err-lines-clause-reads
+returns-in_err-lines-clause-reads g c = reads_on c.levels.invariant.none c.levels.invariant.reads (reads_on c.in_ok-next.ensures.none c.open_level.ensures.reads c.gather_level.ensures.reads)
+
+pub returns-in_default-2-clause-reads : goal.returns-in_default-2-clause-reads
+returns-in_default-2-clause-reads g c = reads_on c.levels.invariant.none c.levels.invariant.reads (reads_on c.in_ok-next.ensures.none c.open_level.ensures.reads c.gather_level.ensures.reads)
+
+pub returns-in_default-2-clause-none : goal.returns-in_default-2-clause-none
+returns-in_default-2-clause-none g c = none_then c.levels.invariant.none (none_then c.in_ok-next.ensures.none c.in_ok-lines.ensures.none)
