@@ -1,0 +1,99 @@
+-- What each element of a list gives, put together one after the other.
+use Rattle.std.proofs.Common.{◌≡◌, ℕ, ◌+◌, ◌<◌, ◌≤◌, List, [], ◌∷◌, ◌++◌, length, get_or, take, drop, map, Option, Some, None, sym, refl, ap, ◌∙◌, arith, append_assoc, append-nil}
+use Rattle.std.proofs.lemmas.List.{at_drop_more, at_drop_all}
+use Rattle.std.proofs.lemmas.List.{map-append}
+use Rattle.std.proofs.lemmas.Grind.{common_steps}
+use Rattle.std.proofs.lemmas.List.{take_all}
+use Rattle.vs_text.specs.Text.{plain_line}
+use Rattle.vs_tree_shape.specs.declared.entries.Entry.{Entry}
+use Rattle.vs_tree_shape.proofs.Sums.{total-append}
+use Rattle.vs_recover.specs.Files.{plain}
+use Rattle.vs_recover.specs.Levels.{chained, chain, taken, Clashes}
+
+chained_twice : {X : Type 0} (xs ys : List X) (o : Option (List X)) → chained (Some xs) (chained (Some ys) o) ≡ chained (Some (xs ++ ys)) o
+chained_twice xs ys None = refl
+chained_twice xs ys (Some zs) = ap (λ us. Some us) (sym (append_assoc xs ys zs))
+
+first : {X : Type 0} (o : Option (List X)) → chained (Some []) o ≡ o
+first None = refl
+first (Some xs) = refl
+
+cut_of : {Y : Type 0} (out : List Y) (o : Option (List Y)) (all : List Y) → chained (Some out) o ≡ Some all → (rest : List Y) × (all ≡ out ++ rest)
+cut_of out None all is = absurd (cc)
+cut_of out (Some rest) all is = (rest, cc)
+
+-- the list so far, before what the rest gives
+abbrev pub So : {X Y : Type 0} → (X → Option (List Y)) → List X → ℕ → List Y → Type 0
+So f xs i out = chained (Some out) (chain f (drop i xs)) ≡ chain f xs
+
+pub chain_begins : {X Y : Type 0} (f : X → Option (List Y)) (xs : List X) → So f xs 0 []
+chain_begins f xs = first (chain f xs)
+
+pub chain_more : {X Y : Type 0} (f : X → Option (List Y)) (xs : List X) (i : ℕ) (d : X) (out more : List Y) → i < length xs → f (get_or xs i d) ≡ Some more → So f xs i out → So f xs (i + 1) (out ++ more)
+chain_more f xs i d out more lt is so =
+    let rest = chain f (drop (i + 1) xs) in
+    sym (chained_twice out more rest) ∙ ap (λ o. chained (Some out) (chained o rest)) (sym is) ∙ sym (at_drop_more (λ ys. chained (Some out) (chain f ys)) xs i d lt) ∙ so
+
+chained_assoc : {X : Type 0} (a b c : Option (List X)) → chained (chained a b) c ≡ chained a (chained b c)
+chained_assoc None b c = refl
+chained_assoc (Some a) None c = refl
+chained_assoc (Some a) (Some b) c = sym (chained_twice a b c)
+
+pub chain_add : {X Y : Type 0} (f : X → Option (List Y)) (xs : List X) (i : ℕ) (d : X) (out new : List Y) → i < length xs → chained (Some out) (f (get_or xs i d)) ≡ Some new → So f xs i out → So f xs (i + 1) new
+chain_add f xs i d out new lt is so =
+    let rest = chain f (drop (i + 1) xs) in
+    ap (λ o. chained o rest) (sym is) ∙ chained_assoc (Some out) (f (get_or xs i d)) rest ∙ sym (at_drop_more (λ ys. chained (Some out) (chain f ys)) xs i d lt) ∙ so
+
+plain_chained : (a b : Option (List (List ℕ))) → plain (chained a b) ≡ chained (plain a) (plain b)
+plain_chained None b = refl
+plain_chained (Some a) None = refl
+plain_chained (Some a) (Some b) = ap (λ zs. Some zs) (map-append plain_line a b)
+
+-- the plain form of a chain is the chain of the plain forms
+pub plain_chain : {X : Type 0} (f : X → Option (List (List ℕ))) (xs : List X) → chain (λ x. plain (f x)) xs ≡ plain (chain f xs)
+plain_chain f [] = refl
+plain_chain f (x ∷ xs) = ap (λ o. chained (plain (f x)) o) (plain_chain f xs) ∙ sym (plain_chained (f x) (chain f xs))
+
+pub chain_stops : {X Y : Type 0} (f : X → Option (List Y)) (xs : List X) (i : ℕ) (d : X) (out : List Y) → i < length xs → f (get_or xs i d) ≡ None → So f xs i out → chain f xs ≡ None
+chain_stops f xs i d out lt is so =
+    sym so ∙ at_drop_more (λ ys. chained (Some out) (chain f ys)) xs i d lt ∙ ap (λ o. chained (Some out) (chained o (chain f (drop (i + 1) xs)))) is
+
+pub chain_ends : {X Y : Type 0} (f : X → Option (List Y)) (xs : List X) (i : ℕ) (out : List Y) → length xs ≤ i → So f xs i out → chain f xs ≡ Some out
+chain_ends f xs i out le so = sym so ∙ at_drop_all (λ ys. chained (Some out) (chain f ys)) xs i le ∙ ap (λ ys. Some ys) (append-nil out)
+
+-- ---- the next level
+
+pub taken-append : (xs ys : List Entry) (k : ℕ) → taken (xs ++ ys) k ≡ taken xs k + taken ys k
+taken-append xs ys k = total-append _ xs ys
+
+-- what the whole chain gives begins with what it gives so far
+chain_cut : {X Y : Type 0} (f : X → Option (List Y)) (xs : List X) (i : ℕ) (d : X) (out more all : List Y) → i < length xs → f (get_or xs i d) ≡ Some more → So f xs i out → chain f xs ≡ Some all → (rest : List Y) × (all ≡ (out ++ more) ++ rest)
+chain_cut f xs i d out more all lt is so whole = cut_of (out ++ more) (chain f (drop (i + 1) xs)) all (chain_more f xs i d out more lt is so ∙ whole)
+
+-- a clash of the pages of one block is a clash of the level
+pub clash_one : (f : Entry → Option (List Entry)) (xs : List Entry) (i : ℕ) (d : Entry) (out more : List Entry) (used now : ℕ → ℕ) → i < length xs → f (get_or xs i d) ≡ Some more → So f xs i out
+    → ((k : ℕ) → now k ≡ used k + taken out k) → (k : ℕ) × (2 ≤ now k + taken more k) → Clashes used (chain f xs)
+clash_one f xs i d out more used now lt is so marks found = λ next whole.
+    let cut = chain_cut f xs i d out more next lt is so whole in
+    (found.0, omega (arith, found.1, marks found.0, ap (λ zs. taken zs found.0) cut.1, taken-append (out ++ more) cut.0 found.0, taken-append out more found.0))
+
+pub no_clash : (used : ℕ → ℕ) (o : Option (List Entry)) → o ≡ None → Clashes used o
+no_clash used o none = λ next is. absurd (cc)
+
+-- ---- lines in their plain form
+
+pub plain_more : (found : List (List ℕ)) (i : ℕ) (line : List ℕ) (old now new : List (List ℕ)) → i < length found → line ≡ get_or found i [] → now ≡ old ++ map plain_line (take i found) → new ≡ now ++ plain_line line ∷ [] → new ≡ old ++ map plain_line (take (i + 1) found)
+plain_more found i line old now new lt is so push =
+    let e : take (i + 1) found ≡ take i found ++ get_or found i [] ∷ [] = grind (arith, common_steps) in
+    push ∙ ap (λ ys. ys ++ plain_line line ∷ []) so ∙ append_assoc old (map plain_line (take i found)) (plain_line line ∷ [])
+    ∙ ap (λ ys. old ++ ys) (ap (λ (x : List ℕ). map plain_line (take i found) ++ plain_line x ∷ []) is ∙ sym (map-append plain_line (take i found) (get_or found i [] ∷ [])) ∙ ap (λ ys. map plain_line ys) (sym e))
+
+pub plain_all : (found : List (List ℕ)) (i : ℕ) (old now : List (List ℕ)) → length found ≤ i → now ≡ old ++ map plain_line (take i found) → now ≡ old ++ map plain_line found
+plain_all found i old now le so = so ∙ ap (λ ys. old ++ map plain_line ys) (take_all i found le)
+
+-- a block's lines after others
+pub plain_after : (o : Option (List (List ℕ))) (found old new : List (List ℕ)) → o ≡ Some found → new ≡ old ++ map plain_line found → chained (Some old) (plain o) ≡ Some new
+plain_after o found old new is so = ap (λ p. chained (Some old) (plain p)) is ∙ ap (λ ys. Some ys) (sym so)
+
+pub plain_none : (o : Option (List (List ℕ))) → o ≡ None → plain o ≡ None
+plain_none o is = ap (λ p. plain p) is

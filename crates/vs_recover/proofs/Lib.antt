@@ -1,0 +1,9 @@
+pub mod ChainLaws
+pub mod LevelLaws
+pub mod MarkLaws
+pub mod PageLaws
+pub mod StageLaws
+pub mod TextLaws
+pub mod ChoiceLaws
+pub mod BitLaws
+pub mod ReadingLaws

@@ -1,0 +1,224 @@
+// Blocks of a swap file, read through the folder.
+ghost use Rattle.std.specs.Prelude.{◌≡◌, ◌≤◌, ◌<◌, ◌+◌, ◌*◌, ◌/◌, ◌^◌, ◌&&◌, nat_eq, ◌++◌, Some, ℕ, List, Bool, IfOk, OnOk, IfSome, IsTrue, Ok, Err, length, map};
+ghost use Rattle.vs_faults.specs.Faults.{HasRisen};
+ghost use Rattle.vs_pages.specs.Maps.{pages_at};
+ghost use Rattle.vs_data.specs.Blocks.{lines_in, view_in};
+ghost use Rattle.vs_text.specs.Text.{plain_line};
+ghost use Rattle.vs_tree_shape.specs.Places.{lines_below};
+ghost use Rattle.vs_tree_shape.specs.Trees.{read_by};
+ghost use Rattle.vs_tree_blocks.specs.Blocks.{points_in, entry_read, may_lead};
+ghost use Rattle.vs_swap.specs.Files.{pages_in, swap_format};
+ghost use Rattle.vs_recover.specs.Files.{IsFile, Gives, Extends, plain};
+ghost use Rattle.vs_recover.specs.Levels.{are_wide, points_at, lines_at};
+ghost use Rattle.vs_recover.specs.Reading.{IsThere, NoneFails, Reads};
+
+use crate::Fault;
+use crate::calls::read_part;
+use std::alloc::{AllocError, Global};
+use vs_data::DataView;
+use vs_host::Folder;
+use vs_ptr::{PtrEntry, PtrView};
+use vs_text::{Line, from_stored};
+use vs_tree_shape::{Entry, count_lines};
+
+/// The bytes of neighbouring pages of a file of so many whole pages; None where it has not all of them.
+pub fn load_pages<F: Folder>(
+    alloc: Global,
+    host: &mut F,
+    name: &str,
+    count: u64,
+    block: u64,
+    pages: u32,
+) -> Result<Option<Vec<u8>>, Fault>
+    requires some { 1 ≤ pages }
+    requires bound { count < 2 ^ 52 }
+    requires count { IsThere F.tells (F.scene host.old) name.now (λ file. count ≡ length file / 4096) }
+    ensures value { IfOk result (λ found. (file : List ℕ) → IsFile F.tells (F.scene host.old) name.now file → Gives (pages_at (pages_in file) block pages) found) }
+    ensures size { IfOk result (λ found. IfSome found (λ bytes. length bytes.items ≡ 4096 * pages)) }
+    ensures later { (F.scene host.old).folder_faults ≤ (F.scene host.new).folder_faults }
+    ensures failed { result ≡ Err Fault.Failed → HasRisen (F.scene host.old).folder_faults (F.scene host.new).folder_faults }
+    ensures reads { Reads F.tells (F.scene host.old) (F.scene host.new) }
+    ensures none { OnOk result (NoneFails F.tells (F.scene host.old) (F.scene host.new)) }
+{
+    let wanted = u64::from(pages);
+    if block >= count || wanted > count - block {
+        return Ok(None);
+    }
+    let mut bytes = vec![in alloc; 0u8; wanted as usize * 4096]?;
+    read_part(host, name, block * 4096, &mut bytes)?;
+    Ok(Some(bytes))
+}
+
+/// The greatest number of pages of a block: as many as a line of 1,048,576 bytes needs.
+const MOST_PAGES: u32 = 257;
+
+// Whether a block may have these numbers of pages and lines.
+fn may_lead(pages: u32, lines: u64) -> bool
+    ensures { result ≡ may_lead pages lines }
+{
+    pages == 1 || (pages > 1 && pages <= MOST_PAGES && lines == 1)
+}
+
+// The entry as the tree takes it; None where a number is negative, or no block may have the numbers.
+fn from_ptr(entry: &PtrEntry) -> Option<Entry>
+    ensures { result ≡ entry_read entry.now }
+{
+    if entry.block < 0 || entry.pages < 0 || entry.lines < 0 {
+        return None;
+    }
+    if !may_lead(entry.pages as u32, entry.lines as u64) {
+        return None;
+    }
+    Some(Entry {
+        block: entry.block as u64,
+        pages: entry.pages as u32,
+        lines: entry.lines as u64,
+    })
+}
+
+// The entries of a pointer block of one page; None where the bytes are no such block, or a number in it is negative.
+fn read_entries(alloc: Global, bytes: &[u8]) -> Result<Option<Vec<Entry>>, AllocError>
+    requires { length bytes.now ≡ 4096 }
+    ensures { IfOk result (Gives (points_in bytes.now)) }
+{
+    let Ok(view) = PtrView::read(bytes) else {
+        return Ok(None);
+    };
+    let mut entries = Vec::new(alloc);
+    for at in 0..view.count {
+        let Some(entry) = from_ptr(&view.entry(bytes, at)) else {
+            return Ok(None);
+        };
+        entries.push(entry)?;
+    }
+    Ok(Some(entries))
+}
+
+/// The entries of the pointer block at a page; None where there is no such block.
+pub fn load_entries<F: Folder>(
+    alloc: Global,
+    host: &mut F,
+    name: &str,
+    count: u64,
+    block: u64,
+) -> Result<Option<Vec<Entry>>, Fault>
+    requires bound { count < 2 ^ 52 }
+    requires count { IsThere F.tells (F.scene host.old) name.now (λ file. count ≡ length file / 4096) }
+    ensures value { IfOk result (λ found. (file : List ℕ) → IsFile F.tells (F.scene host.old) name.now file → Gives (read_by points_in (pages_at (pages_in file) block 1)) found) }
+    ensures later { (F.scene host.old).folder_faults ≤ (F.scene host.new).folder_faults }
+    ensures failed { result ≡ Err Fault.Failed → HasRisen (F.scene host.old).folder_faults (F.scene host.new).folder_faults }
+    ensures reads { Reads F.tells (F.scene host.old) (F.scene host.new) }
+    ensures none { OnOk result (NoneFails F.tells (F.scene host.old) (F.scene host.new)) }
+{
+    let Some(bytes) = load_pages(alloc, host, name, count, block, 1)? else {
+        return Ok(None);
+    };
+    let found = read_entries(alloc, &bytes)?;
+    Ok(found)
+}
+
+/// Whether each of the entries has some pages.
+pub fn are_wide(entries: &[Entry]) -> bool
+    ensures { result ≡ are_wide entries.now }
+{
+    for entry in entries {
+        if entry.pages == 0 {
+            return false;
+        }
+    }
+    true
+}
+
+// Whether these entries are those of the pointer block that an entry leads to: they have its lines.
+fn fits(entry: &Entry, found: &[Entry]) -> bool
+    ensures { result ≡ (nat_eq entry.now.pages 1 && (nat_eq (lines_below found.now) entry.now.lines && are_wide found.now)) }
+{
+    let wanted = *entry;
+    if wanted.pages != 1 {
+        return false;
+    }
+    let Some(lines) = count_lines(found) else {
+        return false;
+    };
+    if lines != wanted.lines {
+        return false;
+    }
+    are_wide(found)
+}
+
+/// The entries of the pointer block that an entry leads to; None where there is none that fits.
+pub fn load_points<F: Folder>(
+    alloc: Global,
+    host: &mut F,
+    name: &str,
+    count: u64,
+    entry: &Entry,
+) -> Result<Option<Vec<Entry>>, Fault>
+    requires bound { count < 2 ^ 52 }
+    requires count { IsThere F.tells (F.scene host.old) name.now (λ file. count ≡ length file / 4096) }
+    ensures value { IfOk result (λ found. (file : List ℕ) → IsFile F.tells (F.scene host.old) name.now file → Gives (points_at swap_format (pages_in file) entry.now) found) }
+    ensures wide { IfOk result (λ found. IfSome found (λ entries. IsTrue (are_wide entries.items))) }
+    ensures later { (F.scene host.old).folder_faults ≤ (F.scene host.new).folder_faults }
+    ensures failed { result ≡ Err Fault.Failed → HasRisen (F.scene host.old).folder_faults (F.scene host.new).folder_faults }
+    ensures reads { Reads F.tells (F.scene host.old) (F.scene host.new) }
+    ensures none { OnOk result (NoneFails F.tells (F.scene host.old) (F.scene host.new)) }
+{
+    let Some(found) = load_entries(alloc, host, name, count, entry.block)? else {
+        return Ok(None);
+    };
+    if !fits(entry, &found) {
+        return Ok(None);
+    }
+    Ok(Some(found))
+}
+
+// Adds the lines of a data block in their plain form.
+fn add_lines(
+    alloc: Global,
+    view: &DataView,
+    bytes: &[u8],
+    lines: &mut Vec<Line>,
+) -> Result<(), AllocError>
+    requires { view_in bytes.now ≡ Ok view.now }
+    ensures { OnOk result ((found : List (List ℕ)) → lines_in bytes.now ≡ Some found → lines.new.items ≡ lines.old.items ++ map plain_line found) }
+{
+    for at in 0..view.count {
+        let mut line = Vec::from_slice(alloc, view.line(bytes, at))?;
+        from_stored(&mut line);
+        lines.push(Line::from_vec(line))?;
+    }
+    Ok(())
+}
+
+/// Adds the lines of the data block that an entry leads to, in their plain form; false where there is no block that fits.
+pub fn add_block<F: Folder>(
+    alloc: Global,
+    host: &mut F,
+    name: &str,
+    count: u64,
+    entry: &Entry,
+    lines: &mut Vec<Line>,
+) -> Result<bool, Fault>
+    requires bound { count < 2 ^ 52 }
+    requires count { IsThere F.tells (F.scene host.old) name.now (λ file. count ≡ length file / 4096) }
+    ensures value { IfOk result (λ done. (file : List ℕ) → IsFile F.tells (F.scene host.old) name.now file → Extends (plain (lines_at swap_format (pages_in file) entry.now)) lines.old.items lines.new.items done) }
+    ensures later { (F.scene host.old).folder_faults ≤ (F.scene host.new).folder_faults }
+    ensures failed { result ≡ Err Fault.Failed → HasRisen (F.scene host.old).folder_faults (F.scene host.new).folder_faults }
+    ensures reads { Reads F.tells (F.scene host.old) (F.scene host.new) }
+    ensures none { OnOk result (NoneFails F.tells (F.scene host.old) (F.scene host.new)) }
+{
+    if entry.pages == 0 {
+        return Ok(false);
+    }
+    let Some(bytes) = load_pages(alloc, host, name, count, entry.block, entry.pages)? else {
+        return Ok(false);
+    };
+    let Ok(view) = DataView::read(&bytes) else {
+        return Ok(false);
+    };
+    if u64::from(view.count) != entry.lines {
+        return Ok(false);
+    }
+    add_lines(alloc, &view, &bytes, lines)?;
+    Ok(true)
+}

@@ -1,0 +1,170 @@
+// What one swap file is.
+ghost use Rattle.std.specs.Prelude.{◌≡◌, ◌≤◌, ◌<◌, ℕ, List, IfOk, IfErr, OnOk, IsTrue, IsSome, Ok, Err, length, take};
+ghost use Rattle.vs_faults.specs.Faults.{HasRisen};
+ghost use Rattle.vs_host.specs.World.{content_of};
+ghost use Rattle.vs_zero.specs.Zero.{reading_of};
+ghost use Rattle.vs_recover.specs.Faults.{IsFault};
+ghost use Rattle.vs_recover.specs.Files.{IsFile};
+ghost use Rattle.vs_recover.specs.Images.{IsImage, refused_image, text_in};
+ghost use Rattle.vs_recover.specs.Reading.{IsThere, NoneFails, Reads};
+
+use crate::calls::{file_len, read_part};
+use crate::error::error_of;
+use crate::tree::read_tree;
+use crate::{Fault, RecErr};
+use std::alloc::Global;
+use vs_host::Folder;
+use vs_text::{Line, Text};
+use vs_zero::{Zero, ZeroErr};
+
+/// What a swap file is: docs/FORMATS.md, "Standing, choosing, info".
+#[derive(Debug, Drop)]
+pub enum Image {
+    /// The file stands for a text.
+    Standing { generation: u64, text: Text },
+    /// Page 0 reads, with pages of so many bytes, and the file does not stand.
+    Open { page_size: u32 },
+    /// Page 0 is that of a closed file.
+    Closed,
+    /// Page 0 is that of an encrypted file.
+    Encrypted,
+    /// Page 0 is not that of a swap file.
+    NoSwapFile,
+}
+
+/// The length of a swap file in bytes, and what its page 0 reads as.
+#[derive(Drop)]
+pub struct Opening {
+    pub len: u64,
+    pub zero: Result<Zero, ZeroErr>,
+}
+
+// The text of lines in their plain form; None where they are not those of the text without lines and should be, or the
+// other way round.
+fn text_of(mut lines: Vec<Line>, empty: bool) -> Option<Text>
+    ensures { result ≡ text_in empty lines.items }
+{
+    if !empty {
+        if lines.is_empty() {
+            return None;
+        }
+        return Some(Text::of(lines));
+    }
+    if lines.len() != 1 || !lines[0].bytes().is_empty() {
+        return None;
+    }
+    lines.clear();
+    Some(Text::of(lines))
+}
+
+// The first page of the file, or all of it where it is shorter.
+fn read_head<F: Folder>(alloc: Global, host: &mut F, name: &str, len: u64) -> Result<Vec<u8>, Fault>
+    requires len { IsThere F.tells (F.scene host.old) name.now (λ file. len ≡ length file) }
+    ensures value { IfOk result (λ head. (file : List ℕ) → IsFile F.tells (F.scene host.old) name.now file → head.items ≡ take 4096 file) }
+    ensures later { (F.scene host.old).folder_faults ≤ (F.scene host.new).folder_faults }
+    ensures failed { result ≡ Err Fault.Failed → HasRisen (F.scene host.old).folder_faults (F.scene host.new).folder_faults }
+    ensures reads { Reads F.tells (F.scene host.old) (F.scene host.new) }
+    ensures none { OnOk result (NoneFails F.tells (F.scene host.old) (F.scene host.new)) }
+{
+    let size = len.min(4096) as usize;
+    let mut head = vec![in alloc; 0u8; size]?;
+    read_part(host, name, 0, &mut head)?;
+    Ok(head)
+}
+
+/// The length of the file, which is there, and what its page 0 reads as.
+pub fn read_opening<F: Folder>(alloc: Global, host: &mut F, name: &str) -> Result<Opening, Fault>
+    requires there { IsTrue F.tells.folder → IsSome (content_of (F.scene host.old) name.now) }
+    ensures len { IfOk result (λ opening. IsThere F.tells (F.scene host.old) name.now (λ file. opening.len ≡ length file)) }
+    ensures zero { IfOk result (λ opening. (file : List ℕ) → IsFile F.tells (F.scene host.old) name.now file → opening.zero ≡ reading_of (take 4096 file)) }
+    ensures later { (F.scene host.old).folder_faults ≤ (F.scene host.new).folder_faults }
+    ensures failed { result ≡ Err Fault.Failed → HasRisen (F.scene host.old).folder_faults (F.scene host.new).folder_faults }
+    ensures reads { Reads F.tells (F.scene host.old) (F.scene host.new) }
+    ensures none { OnOk result (NoneFails F.tells (F.scene host.old) (F.scene host.new)) }
+{
+    let len = file_len(host, name)?;
+    let head = read_head(alloc, host, name, len)?;
+    let zero = Zero::read(&head);
+    Ok(Opening { len, zero })
+}
+
+// What a file is whose page 0 does not read.
+fn refused_image(why: ZeroErr) -> Image
+    ensures { result ≡ refused_image why }
+{
+    match why {
+        ZeroErr::Closed => Image::Closed,
+        ZeroErr::Encrypted => Image::Encrypted,
+        ZeroErr::Short | ZeroErr::BadMagic | ZeroErr::BadPageSize(_) => Image::NoSwapFile,
+    }
+}
+
+// What a file is whose page 0 reads.
+fn read_open<F: Folder>(
+    alloc: Global,
+    host: &mut F,
+    name: &str,
+    len: u64,
+    zero: &Zero,
+) -> Result<Image, Fault>
+    requires len { IsThere F.tells (F.scene host.old) name.now (λ file. len ≡ length file) }
+    requires zero { (file : List ℕ) → IsFile F.tells (F.scene host.old) name.now file → reading_of (take 4096 file) ≡ Ok zero.now }
+    ensures image { IfOk result (λ image. (file : List ℕ) → IsFile F.tells (F.scene host.old) name.now file → IsImage file image) }
+    ensures later { (F.scene host.old).folder_faults ≤ (F.scene host.new).folder_faults }
+    ensures failed { result ≡ Err Fault.Failed → HasRisen (F.scene host.old).folder_faults (F.scene host.new).folder_faults }
+    ensures reads { Reads F.tells (F.scene host.old) (F.scene host.new) }
+    ensures none { OnOk result (NoneFails F.tells (F.scene host.old) (F.scene host.new)) }
+{
+    let page_size = zero.page_size;
+    if page_size != 4096 {
+        return Ok(Image::Open { page_size });
+    }
+    let Some(pair) = zero.pair else {
+        return Ok(Image::Open { page_size });
+    };
+    let Some(lines) = read_tree(alloc, host, name, len / 4096)? else {
+        return Ok(Image::Open { page_size });
+    };
+    let Some(text) = text_of(lines, pair.empty) else {
+        return Ok(Image::Open { page_size });
+    };
+    Ok(Image::Standing {
+        generation: pair.generation,
+        text,
+    })
+}
+
+/// What the file under a name is, which is there.
+pub fn find_image<F: Folder>(alloc: Global, host: &mut F, name: &str) -> Result<Image, Fault>
+    requires there { IsTrue F.tells.folder → IsSome (content_of (F.scene host.old) name.now) }
+    ensures image { IfOk result (λ image. (file : List ℕ) → IsFile F.tells (F.scene host.old) name.now file → IsImage file image) }
+    ensures later { (F.scene host.old).folder_faults ≤ (F.scene host.new).folder_faults }
+    ensures failed { result ≡ Err Fault.Failed → HasRisen (F.scene host.old).folder_faults (F.scene host.new).folder_faults }
+    ensures reads { Reads F.tells (F.scene host.old) (F.scene host.new) }
+    ensures none { OnOk result (NoneFails F.tells (F.scene host.old) (F.scene host.new)) }
+{
+    let opening = read_opening(alloc, host, name)?;
+    match opening.zero {
+        Err(why) => Ok(refused_image(why)),
+        Ok(zero) => {
+            let image = read_open(alloc, host, name, opening.len, &zero)?;
+            Ok(image)
+        }
+    }
+}
+
+/// What the swap file under a name is, which is there. The folder is only read. `Failed` and `NoMemory` are the only errors.
+pub fn read_image<F: Folder>(alloc: Global, host: &mut F, swap: &str) -> Result<Image, RecErr>
+    requires there { IsTrue F.tells.folder → IsSome (content_of (F.scene host.old) swap.now) }
+    ensures image { IfOk result (λ image. (file : List ℕ) → IsFile F.tells (F.scene host.old) swap.now file → IsImage file image) }
+    ensures refused { IfErr result IsFault }
+    ensures later { (F.scene host.old).folder_faults ≤ (F.scene host.new).folder_faults }
+    ensures failed { result ≡ Err RecErr.Failed → HasRisen (F.scene host.old).folder_faults (F.scene host.new).folder_faults }
+    ensures reads { Reads F.tells (F.scene host.old) (F.scene host.new) }
+    ensures none { OnOk result (NoneFails F.tells (F.scene host.old) (F.scene host.new)) }
+{
+    match find_image(alloc, host, swap) {
+        Ok(image) => Ok(image),
+        Err(fault) => Err(error_of(fault)),
+    }
+}

@@ -1,0 +1,17 @@
+//! Recovery: which text the swap files of a file stand for, and what is to be said of them.
+#![tactic(auto)]
+
+mod blocks;
+mod calls;
+pub mod choices;
+mod error;
+pub mod image;
+pub mod infos;
+mod levels;
+mod marks;
+mod tree;
+
+pub use choices::{Chosen, Swap, choose};
+pub use error::{Fault, RecErr};
+pub use image::{Image, read_image};
+pub use infos::info;

@@ -1,0 +1,52 @@
+// The tree of a swap file.
+ghost use Rattle.std.specs.Prelude.{◌≡◌, ◌≤◌, ◌<◌, ◌/◌, ◌^◌, ℕ, List, IfOk, Err, length, OnOk};
+ghost use Rattle.vs_faults.specs.Faults.{HasRisen};
+ghost use Rattle.vs_swap.specs.Files.{pages_in};
+ghost use Rattle.vs_recover.specs.Files.{IsFile, Walked};
+ghost use Rattle.vs_recover.specs.Reading.{IsThere, NoneFails, Reads};
+
+use crate::Fault;
+use crate::blocks::{are_wide, load_entries};
+use crate::levels::{gather_level, open_level};
+use crate::marks::Marks;
+use std::alloc::Global;
+use vs_host::Folder;
+use vs_text::Line;
+
+/// The lines of the tree from block 1 on, in their plain form; None where the file has no such tree.
+pub fn read_tree<F: Folder>(
+    alloc: Global,
+    host: &mut F,
+    name: &str,
+    count: u64,
+) -> Result<Option<Vec<Line>>, Fault>
+    requires bound { count < 2 ^ 52 }
+    requires count { IsThere F.tells (F.scene host.old) name.now (λ file. count ≡ length file / 4096) }
+    ensures value { IfOk result (λ found. (file : List ℕ) → IsFile F.tells (F.scene host.old) name.now file → Walked (pages_in file) found) }
+    ensures later { (F.scene host.old).folder_faults ≤ (F.scene host.new).folder_faults }
+    ensures failed { result ≡ Err Fault.Failed → HasRisen (F.scene host.old).folder_faults (F.scene host.new).folder_faults }
+    ensures reads { Reads F.tells (F.scene host.old) (F.scene host.new) }
+    ensures none { OnOk result (NoneFails F.tells (F.scene host.old) (F.scene host.new)) }
+{
+    if count < 2 {
+        return Ok(None);
+    }
+    let Some(mut level) = load_entries(alloc, host, name, count, 1)? else {
+        return Ok(None);
+    };
+    if !are_wide(&level) {
+        return Ok(None);
+    }
+    let mut marks = Marks::new(alloc, count as usize)?;
+    if !marks.mark_all(&level) {
+        return Ok(None);
+    }
+    'levels: while !level.is_empty() {
+        let Some(next) = open_level(alloc, host, name, count, &level, &mut marks)? else {
+            let lines = gather_level(alloc, host, name, count, &level)?;
+            return Ok(lines);
+        };
+        level = next;
+    }
+    Ok(Some(Vec::new(alloc)))
+}
