@@ -201,7 +201,8 @@ pub fn add_block<F: Folder>(
 ) -> Result<bool, Fault>
     requires bound { count < 2 ^ 52 }
     requires count { IsThere F.tells (F.scene host.old) name.now (λ file. count ≡ length file / 4096) }
-    ensures value { IfOk result (λ done. (file : List ℕ) → IsFile F.tells (F.scene host.old) name.now file → Extends (plain (lines_at swap_format (pages_in file) entry.now)) lines.old.items lines.new.items done) }
+    ensures value { IfOk result (λ done. (file : List ℕ) → IsFile F.tells (F.scene host.old) name.now file
+        → Extends (plain (lines_at swap_format (pages_in file) entry.now)) lines.old.items lines.new.items done) }
     ensures later { (F.scene host.old).folder_faults ≤ (F.scene host.new).folder_faults }
     ensures failed { result ≡ Err Fault.Failed → HasRisen (F.scene host.old).folder_faults (F.scene host.new).folder_faults }
     ensures reads { Reads F.tells (F.scene host.old) (F.scene host.new) }

@@ -27,10 +27,12 @@ pub fn open_level<F: Folder>(
 ) -> Result<Option<Vec<Entry>>, Fault>
     requires bound { count < 2 ^ 52 }
     requires count { IsThere F.tells (F.scene host.old) name.now (λ file. count ≡ length file / 4096) }
-    ensures next { IfOk result (λ found. IfSome found (λ next. (file : List ℕ) → IsFile F.tells (F.scene host.old) name.now file → opened swap_format (pages_in file) level.now ≡ Some next.items)) }
+    ensures next { IfOk result (λ found. IfSome found (λ next. (file : List ℕ) → IsFile F.tells (F.scene host.old) name.now file
+        → opened swap_format (pages_in file) level.now ≡ Some next.items)) }
     ensures used { IfOk result (λ found. IfSome found (λ next. (k : ℕ) → used_in marks.new k ≡ used_in marks.old k + taken next.items k)) }
     ensures free { IfOk result (λ found. IfSome found (λ next. free_in marks.new + length next.items ≤ free_in marks.old)) }
-    ensures clash { IfOk result (λ found. IfNone found ((file : List ℕ) → IsFile F.tells (F.scene host.old) name.now file → Clashes (λ k. used_in marks.old k) (opened swap_format (pages_in file) level.now))) }
+    ensures clash { IfOk result (λ found. IfNone found ((file : List ℕ) → IsFile F.tells (F.scene host.old) name.now file
+        → Clashes (λ k. used_in marks.old k) (opened swap_format (pages_in file) level.now))) }
     ensures later { (F.scene host.old).folder_faults ≤ (F.scene host.new).folder_faults }
     ensures failed { result ≡ Err Fault.Failed → HasRisen (F.scene host.old).folder_faults (F.scene host.new).folder_faults }
     ensures reads { Reads F.tells (F.scene host.old) (F.scene host.new) }
