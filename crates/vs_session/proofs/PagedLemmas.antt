@@ -1,5 +1,5 @@
 -- A text in pages is what a store over them has, so each clause of the store says what the text is.
-use Rattle.std.proofs.Common.{◌≡◌, ℕ, true, List, ◌++◌, length, drop, All, refl, sym, ap, subst, ◌∙◌, arith}
+use Rattle.std.proofs.Common.{◌≡◌, ℕ, true, List, ◌++◌, length, max, drop, All, refl, sym, ap, subst, ◌∙◌, arith}
 use Rattle.std.proofs.lemmas.List.{length-append}
 use Rattle.std.proofs.lemmas.List.Elements.{All-drop}
 use Rattle.std.proofs.lemmas.Grind.{common_steps}
@@ -14,13 +14,18 @@ use Rattle.vs_tree.specs.declared.texts.Extent.{Extent}
 use Rattle.vs_tree.specs.Texts.{HasText, Fits, Tells, text_of}
 use Rattle.vs_tree.specs.TextIn.{text_in, text_in-HasText}
 use Rattle.vs_tree.specs.declared.tree.LineTree.{LineTree}
-use Rattle.vs_session.specs.Paged.{IsCommitted}
+use Rattle.vs_undo.specs.History.{FitsCount, FitsText}
+use Rattle.vs_undo.specs.declared.parts.Parts.{Parts}
+use Rattle.vs_session.specs.Paged.{FitsHistory, IsCommitted}
 
 pub text_had : (m : Map) (x : Extent) → Fits true m x → HasText m x (text_in m x)
 text_had m x fits = let r = fits.one refl in subst (λ (text : List (List ℕ)). HasText m x text) (sym (text_in-HasText m x r.0 r.1)) r.1
 
 pub text_told : (m : Map) (x : Extent) → Fits true m x → Tells true m x (text_in m x)
 text_told m x fits = record { told = refl; has = text_had m x fits }
+
+pub told_as : (m : Map) (x : Extent) (text : List (List ℕ)) → Fits true m x → text_in m x ≡ text → Tells true m x text
+told_as m x text fits same = subst (λ (t : List (List ℕ)). Tells true m x t) same (text_told m x fits)
 
 pub text_same : (m : Map) (x : Extent) (text : List (List ℕ)) → Tells true m x text → text_in m x ≡ text
 text_same m x text is = text_in-HasText m x text is.has
@@ -75,6 +80,23 @@ allows_end m x lines fits within =
           let same : splice other x.lines 0 lines ≡ text ++ lines = ap (λ (t : List (List ℕ)). splice t x.lines 0 lines) (sym (text_same m x other is)) ∙ splice_end text lines x.lines (sym has.lines) in
           omega (arith, ap bytes_of same, within.few_bytes);
     }
+
+-- the entries of an undo tree fit a text in pages as a store over them says
+pub ready_counts : (m : Map) (x : Extent) (history : Parts) → Fits true m x → FitsHistory history (text_in m x) → FitsCount history (max 1 x.lines)
+ready_counts m x history fits is = subst (λ n. FitsCount history (max 1 n)) (text_had m x fits).lines is.counts
+
+pub ready_texts : (m : Map) (x : Extent) (history : Parts) (text : List (List ℕ)) → FitsHistory history (text_in m x) → Tells true m x text → FitsText history text
+ready_texts m x history text is told = subst (λ (t : List (List ℕ)). FitsText history t) (text_same m x text told) is.texts
+
+-- the same the other way round
+pub fits_in : (m : Map) (x : Extent) (history : Parts) → Fits true m x → FitsCount history (max 1 x.lines) → ((text : List (List ℕ)) → Tells true m x text → FitsText history text) → FitsHistory history (text_in m x)
+fits_in m x history fits counts texts = record {
+  counts = subst (λ n. FitsCount history (max 1 n)) (sym (text_had m x fits).lines) counts;
+  texts = texts (text_in m x) (text_told m x fits);
+}
+
+pub fits_as : {history : Parts} {text : List (List ℕ)} (other : List (List ℕ)) → text ≡ other → FitsHistory history other → FitsHistory history text
+fits_as {history} {text} other same fits = subst (λ (t : List (List ℕ)). FitsHistory history t) (sym same) fits
 
 -- the same text, present and committed
 pub is_committed_at : (pages : MemPages) (tree : LineTree) (text : List (List ℕ)) → Fits true (present_of pages) tree.present → Fits true (committed_of pages) tree.committed

@@ -1,9 +1,3 @@
-pub mod Replies
-pub mod Shown
-pub mod Machine
-pub mod Reply
-pub mod Request
-pub mod Answers
 pub mod Paged
 pub mod Session
 pub mod Open

@@ -2,22 +2,22 @@
 use Rattle.std.specs.Prelude.{ℕ, ◌≡◌, List, [], length, None, Some}
 use Rattle.std.specs.declared.option.Option.{Option}
 use Rattle.vs_text.specs.Text.{lines_of}
-use Rattle.vs_session.specs.Machine.{State, first_state}
+use Rattle.vs_undo.specs.declared.parts.Parts.{Parts}
+use Rattle.vs_machine.specs.Machine.{State, first_state}
+use Rattle.vs_session.specs.Paged.{StandsIn}
 
 -- What a session keeps: the file's name, its numbers of lines and bytes where it was there, and the text with the cursor and the
--- number of the last change.
+-- undo tree.
 pub record Kept : Type 0 where
   pub name : List ℕ
   pub found : Option (ℕ × ℕ)
   pub text : List (List ℕ)
   pub cursor : ℕ
-  pub last : ℕ
+  pub history : Parts
 
 -- A session is in a state of the machine.
-pub record IsAt (session : Kept) (state : State) : Type 0 where
-  pub text : session.text ≡ state.text
-  pub cursor : session.cursor ≡ state.cursor
-  pub last : session.last ≡ state.last
+abbrev pub IsAt : Kept → State → Type 0
+IsAt session state = StandsIn session.text session.history session.cursor state
 
 -- a file that was opened: its name, its numbers of lines and bytes where it was there, and the state in which the machine begins
 pub record Opened : Type 0 where

@@ -5,16 +5,16 @@ ghost use Rattle.vs_tree.specs.TextIn.{text_in};
 ghost use Rattle.vs_tree.specs.Texts.{Fits};
 ghost use Rattle.vs_text.specs.Limits.{IsWithinLimits};
 ghost use Rattle.vs_excmd.specs.Request.{Instruction, IsRequest};
-ghost use Rattle.vs_session.specs.Answers.{AnswersAs, meaning_at, state_at};
-ghost use Rattle.vs_session.specs.Machine.{done_state};
-ghost use Rattle.vs_session.specs.Paged.{IsCommitted};
-ghost use Rattle.vs_session.specs.Request.{IsFormed};
+ghost use Rattle.vs_machine.specs.Answers.{meaning_at};
+ghost use Rattle.vs_machine.specs.Machine.{State, done_reply, done_state};
+ghost use Rattle.vs_session.specs.Paged.{FitsHistory, IsCommitted, StandsIn};
+ghost use Rattle.vs_machine.specs.Request.{IsFormed};
 
-use crate::answer::{Answered, Position, answer, splice};
 use std::alloc::{AllocError, Global};
 use std::marker::Model;
 use vs_edit::{LineStore, StoreErr};
 use vs_excmd::Request;
+use vs_machine::{Answered, UndoTree, answer, splice};
 use vs_pages::{LentPages, MemPages, PageErr};
 use vs_text::Line;
 use vs_tree::{LineTree, TreeStore};
@@ -102,23 +102,30 @@ fn answer_in(
     alloc: Global,
     tree: &mut LineTree,
     pages: &mut MemPages,
-    position: Position,
+    history: &mut UndoTree,
+    cursor: u64,
     request: &Request,
+    at: u64,
 ) -> Result<Answered, AllocError>
     requires committed { IsCommitted pages.old tree.old }
+    requires fits { FitsHistory history.old (text_in (present_of pages.old) tree.old.present) }
     requires form { IsFormed request.now }
-    ensures answers { IfOk result (λ answered. (instruction : Instruction) → IsRequest request.now instruction → let text = text_in (present_of pages.old) tree.old.present in
-        AnswersAs position text (meaning_at position text instruction) answered) }
-    ensures text { OnOk result ((instruction : Instruction) → IsRequest request.now instruction → let text = text_in (present_of pages.old) tree.old.present in
-        text_in (present_of pages.new) tree.new.present ≡ (done_state (state_at position text) (meaning_at position text instruction)).text) }
+    ensures reply { IfOk result (λ answered. (state : State) (instruction : Instruction)
+        → StandsIn (text_in (present_of pages.old) tree.old.present) history.old cursor state → IsRequest request.now instruction
+        → answered.reply ≡ done_reply state (meaning_at state instruction)) }
+    ensures state { IfOk result (λ answered. (state : State) (instruction : Instruction)
+        → StandsIn (text_in (present_of pages.old) tree.old.present) history.old cursor state → IsRequest request.now instruction
+        → StandsIn (text_in (present_of pages.new) tree.new.present) history.new answered.cursor (done_state state at (meaning_at state instruction))) }
     ensures err { OnErr result (text_in (present_of pages.new) tree.new.present ≡ text_in (present_of pages.old) tree.old.present) }
+    ensures err_history { OnErr result (history.new ≡ history.old) }
     ensures committed { IsCommitted pages.new tree.new }
+    ensures fits { FitsHistory history.new (text_in (present_of pages.new) tree.new.present) }
 {
     let mut store = TreeStore {
         tree,
         pages: LentPages { pages },
     };
-    match answer(alloc, &mut store, position, request) {
+    match answer(alloc, &mut store, history, cursor, request, at) {
         Ok(answered) => Ok(answered),
         Err(error) => Err(memory_of_store(error)),
     }
@@ -154,20 +161,34 @@ impl PagedText {
         push_in(alloc, &mut self.tree, &mut self.pages, lines)
     }
 
-    /// The answer to a request at a position of this text. After an `Err` the text is as before.
+    /// The answer to a request for a cursor in this text, with its undo tree, where the command began at this time. After an
+    /// `Err` text and tree are as before.
     pub fn answer(
         &mut self,
         alloc: Global,
-        position: Position,
+        history: &mut UndoTree,
+        cursor: u64,
         request: &Request,
+        at: u64,
     ) -> Result<Answered, AllocError>
-        requires { IsFormed request.now }
-        ensures answers { IfOk result (λ answered. (instruction : Instruction) → IsRequest request.now instruction →
-            AnswersAs position self.old (meaning_at position self.old instruction) answered) }
-        ensures text { OnOk result ((instruction : Instruction) → IsRequest request.now instruction →
-            self.new ≡ (done_state (state_at position self.old) (meaning_at position self.old instruction)).text) }
+        requires fits { FitsHistory history.old self.old }
+        requires form { IsFormed request.now }
+        ensures reply { IfOk result (λ answered. (state : State) (instruction : Instruction) → StandsIn self.old history.old cursor state
+            → IsRequest request.now instruction → answered.reply ≡ done_reply state (meaning_at state instruction)) }
+        ensures state { IfOk result (λ answered. (state : State) (instruction : Instruction) → StandsIn self.old history.old cursor state
+            → IsRequest request.now instruction → StandsIn self.new history.new answered.cursor (done_state state at (meaning_at state instruction))) }
         ensures err { OnErr result (self.new ≡ self.old) }
+        ensures err_history { OnErr result (history.new ≡ history.old) }
+        ensures fits { FitsHistory history.new self.new }
     {
-        answer_in(alloc, &mut self.tree, &mut self.pages, position, request)
+        answer_in(
+            alloc,
+            &mut self.tree,
+            &mut self.pages,
+            history,
+            cursor,
+            request,
+            at,
+        )
     }
 }

@@ -6,41 +6,41 @@ ghost use Rattle.vs_host.specs.World.{content_of, ReadsFolder, ChangesClock};
 ghost use Rattle.vs_text.specs.Limits.{IsWithinLimits};
 ghost use Rattle.vs_text.specs.Text.{lines_of};
 ghost use Rattle.vs_excmd.specs.Request.{Instruction, IsRequest};
-ghost use Rattle.vs_session.specs.Machine.{State, reply_of, state_after};
+ghost use Rattle.vs_machine.specs.Machine.{State, reply_of, state_after};
+ghost use Rattle.vs_undo.specs.History.{first_parts};
 ghost use Rattle.vs_session.specs.Open.{IsTooLarge};
-ghost use Rattle.vs_session.specs.Replies.{opening_of};
-ghost use Rattle.vs_session.specs.Request.{IsFormed};
+ghost use Rattle.vs_machine.specs.Replies.{opening_of};
+ghost use Rattle.vs_machine.specs.Request.{IsFormed};
 ghost use Rattle.vs_session.specs.Session.{HasOpened, IsAt, SameFile, opened};
 
-use crate::answer::{Answered, Position};
-use crate::command::{Mark, Outcome};
 use crate::open::{OpenErr, read_file};
 use crate::paged::PagedText;
-use crate::reply::Reply;
 use std::alloc::Global;
 use std::marker::Model;
 use vs_excmd::Request;
 use vs_host::Host;
+use vs_machine::{Answered, Mark, Outcome, Reply, UndoTree};
 
-/// A file that was opened, seen as its name, its size when it was opened, its text, the line of the cursor, and the number of
-/// the last change.
+/// A file that was opened, seen as its name, its size when it was opened, its text, the line of the cursor, and the undo tree.
 #[derive(Drop)]
 pub struct Session {
     name: String,
     found: Option<(u64, u64)>,
     text: PagedText,
-    position: Position,
+    cursor: u64,
+    history: UndoTree,
 }
 
 impl Model for Session {
     ghost use Rattle.vs_session.specs.Session.{Kept};
+    ghost use Rattle.vs_session.specs.Paged.{FitsHistory};
     ghost use Rattle.std.specs.Prelude.{◌≤◌, length, string_bytes};
 
     ghost Value = { Kept };
 
-    ghost view = { λ s. record { name = string_bytes s.name; found = s.found; text = s.text; cursor = s.position.cursor; last = s.position.last } };
+    ghost view = { λ s. record { name = string_bytes s.name; found = s.found; text = s.text; cursor = s.cursor; history = s.history } };
 
-    ghost invariant = { λ s. length (string_bytes s.name) ≤ 200 };
+    ghost invariant = { λ s. (length (string_bytes s.name) ≤ 200) × FitsHistory s.history s.text };
 }
 
 /// The answer to one command.
@@ -55,7 +55,7 @@ impl Session {
     pub fn open<H: Host>(alloc: Global, host: &mut H, name: &str) -> Result<Session, OpenErr>
         requires name { IsTrue (is_allowed name.now) }
         ensures opened { IfOk result (λ session. IsTrue (H.tells).folder → HasOpened (opened name.now (content_of (H.scene host.old) name.now)) session) }
-        ensures fresh { IfOk result (λ session. (session.name ≡ name.now) × (session.cursor ≡ min 1 (length session.text)) × (session.last ≡ 0)) }
+        ensures fresh { IfOk result (λ session. (session.name ≡ name.now) × (session.cursor ≡ min 1 (length session.text)) × (session.history ≡ first_parts)) }
         ensures limit { (size : ℕ) → IsErrOf result (OpenErr.TextLimit size) → IsTooLarge H.tells size (content_of (H.scene host.old) name.now) }
         ensures over { IsTrue (H.tells).folder → IfSome (content_of (H.scene host.old) name.now) (λ bytes. ¬ (IsWithinLimits (lines_of bytes)) → IsErr result) }
         ensures cause { HasCause (H.scene host.old).folder_faults (H.scene host.new).folder_faults (IsErrOf result OpenErr.Failed) }
@@ -66,11 +66,13 @@ impl Session {
         let mut text = PagedText::new(alloc)?;
         let found = read_file(alloc, host, name, &mut text)?;
         let cursor = text.len().min(1);
+        let history = UndoTree::new(alloc)?;
         Ok(Session {
             name: kept,
             found,
             text,
-            position: Position { cursor, last: 0 },
+            cursor,
+            history,
         })
     }
 
@@ -97,9 +99,10 @@ impl Session {
         ensures frame { ChangesClock (H.scene host.old) (H.scene host.new) }
     {
         let at = host.now();
-        let (reply, outcome) = match self.text.answer(alloc, self.position, request) {
-            Ok(Answered { reply, position }) => {
-                self.position = position;
+        let history = &mut self.history;
+        let (reply, outcome) = match self.text.answer(alloc, history, self.cursor, request, at) {
+            Ok(Answered { reply, cursor }) => {
+                self.cursor = cursor;
                 (reply, Outcome::Done)
             }
             Err(_) => (Reply::out_of_memory(), Outcome::NoMemory),

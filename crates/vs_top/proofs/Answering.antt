@@ -1,6 +1,6 @@
 -- The commands that were answered so far are carried along as a list; each turn of the loop adds one at its end.
-use Rattle.std.proofs.Common.{◌≡◌, ℕ, Bool, true, false, not, ◌&&◌, ◌||◌, List, [], ◌∷◌, ◌++◌, take, refl, sym, ap, subst, ◌∙◌, append_assoc, append-nil, arith, length, ◌+◌, ◌-◌, ◌<◌, ◌≤◌, ◌^◌, inl, inr}
-use Rattle.std.proofs.lemmas.List.{length-append, length-map}
+use Rattle.std.proofs.Common.{◌≡◌, ℕ, Bool, true, false, not, ◌&&◌, ◌||◌, List, [], ◌∷◌, ◌++◌, take, refl, sym, ap, subst, ◌∙◌, append_assoc, append-nil, arith, length, ◌+◌, ◌-◌, ◌<◌, ◌≤◌, inl, inr}
+use Rattle.std.proofs.lemmas.List.{length-append}
 use Rattle.std.proofs.lemmas.Bool.{true≢false}
 use Rattle.std.proofs.lemmas.Bool.Decides.{leb_tells}
 use Rattle.std.proofs.Math.Seq.{take-append_seam, take-append-add}
@@ -14,10 +14,10 @@ use Rattle.vs_script.specs.Script.{commands_of}
 use Rattle.vs_script.specs.declared.reader.ScriptErr.{ScriptErr}
 use Rattle.vs_script.specs.declared.reader.ScriptErr.TheVariants as script_error
 use Rattle.vs_script.proofs.Going.{goes_on_start, goes_on_twice, goes_on_by, goes_on_as, goes_on_in, stops_then, stops_by}
-use Rattle.vs_session.specs.Machine.{State, reply_of, state_after, replies_of, any_error, is_done}
-use Rattle.vs_session.specs.Replies.{Answer, opening_of}
+use Rattle.vs_machine.specs.Machine.{State, reply_of, state_after, replies_of, any_error, is_done}
+use Rattle.vs_machine.specs.Replies.{Answer, opening_of}
 use Rattle.vs_session.specs.Session.{Kept, IsAt, Opened}
-use Rattle.vs_session.specs.declared.command.Mark.{Mark}
+use Rattle.vs_machine.specs.declared.command.Mark.{Mark}
 use Rattle.vs_top.specs.Run.{written, written_before, commands_in, commands_within, Answers, AnswersAll, AnswersTaken, AnswersLimit, AnswersSome, IsCutShort}
 
 -- the state after a run of commands

@@ -1,5 +1,5 @@
 -- What is known at each turn of `edit`, and what follows at each of its ends.
-use Rattle.std.proofs.Common.{◌≡◌, ℕ, Bool, true, false, not, ◌&&◌, if◌then◌else◌, List, [], ◌∷◌, ◌++◌, take, map, get_or, All, ◌⊎◌, refl, sym, ap, subst, ◌∙◌, append_assoc, append-nil, arith, length, IsTrue, Some, None, IfSome, IsErrAnd, Ok, Err, ◌+◌, ◌<◌, ◌≤◌, ◌^◌, inl, inr}
+use Rattle.std.proofs.Common.{◌≡◌, ℕ, Bool, true, false, not, ◌&&◌, if◌then◌else◌, List, [], ◌∷◌, ◌++◌, take, map, get_or, All, ◌⊎◌, refl, sym, ap, subst, ◌∙◌, append_assoc, append-nil, arith, length, IsTrue, Some, None, IfSome, IsErrAnd, Ok, Err, ◌+◌, ◌<◌, ◌≤◌, ◌^◌, inl, inr, IsErrOf}
 use Rattle.std.specs.declared.option.Option.{Option}
 use Rattle.std.specs.declared.result.Result.{Result}
 use Rattle.std.proofs.lemmas.Bool.{true≢false}
@@ -8,18 +8,18 @@ use Rattle.vs_faults.specs.Faults.{HasRisen, IsQuiet}
 use Rattle.vs_faults.proofs.Causes.{risen_after}
 use Rattle.vs_host.specs.World.{Tells, Scene, ReadsFolder, ChangesScript, ChangesOutput, ChangesClock, content_of}
 use Rattle.vs_text.specs.Text.{lines_of}
-use Rattle.vs_text.specs.Limits.{IsShort, IsWithinLimits}
+use Rattle.vs_text.specs.Limits.{IsWithinLimits}
 use Rattle.vs_excmd.specs.declared.request.Request.{Request}
 use Rattle.vs_script.specs.Ahead.{Ahead, HasSeen, CountsTaken, Stops, script_limit}
 use Rattle.vs_script.specs.Requests.{TakesRequest, TakesNone, whole_commands}
 use Rattle.vs_script.specs.declared.reader.ScriptErr.{ScriptErr}
 use Rattle.vs_script.specs.declared.reader.ScriptErr.TheVariants as script_error
-use Rattle.vs_session.specs.Machine.{is_done}
+use Rattle.vs_machine.specs.Machine.{is_done}
 use Rattle.vs_session.specs.Open.{IsTooLarge}
-use Rattle.vs_session.specs.Replies.{Answer, opening_of}
+use Rattle.vs_machine.specs.Replies.{Answer, opening_of}
 use Rattle.vs_session.specs.Session.{Kept, HasOpened, Opened}
-use Rattle.vs_session.specs.declared.command.Mark.{Mark}
-use Rattle.vs_session.specs.declared.command.Outcome.TheVariants as outcome
+use Rattle.vs_machine.specs.declared.command.Mark.{Mark}
+use Rattle.vs_machine.specs.declared.command.Outcome.TheVariants as outcome
 use Rattle.vs_session.specs.declared.open.OpenErr.{OpenErr}
 use Rattle.vs_session.specs.declared.open.OpenErr.TheVariants as opening
 use Rattle.vs_top.specs.Ending.{script_ending, open_ending, ending_in}
@@ -290,6 +290,20 @@ reader_stopped tells name old start now after session fresh reader reader' marks
       times = λ clock. ap (λ (s : Scene). s.answers) read.frame ∙ turn.times clock;
       frame = runs_then old now after turn.frame (changes_script now after read.frame read.later);
     }
+
+-- there was no memory after the file was opened
+pub opened_in_vain : (tells : Tells) (name : List ℕ) (old new : Scene) (marks : List Mark) → marks ≡ [] → ReadsFolder old new → old.folder_faults ≤ new.folder_faults
+    → new.folder_faults ≡ old.folder_faults → RunsEdit tells name old new ending.NoMemory marks
+opened_in_vain tells name old new marks none frame later quiet =
+    no_memory_yet tells name old new marks none (ap (λ (s : Scene). s.output) frame) (ap (λ (s : Scene). s.script) frame) (ap (λ (s : Scene). s.answers) frame)
+    (folder_quiet old new frame quiet) (reads_folder old new frame later)
+
+-- a call that succeeded did not fail, and one that failed so failed so
+pub ok_is_no_err : {T E : Type 0} {x : T} {e : E} → Ok x ≡ Err e → ⊥
+ok_is_no_err is = absurd (cc)
+
+pub err_is : {T E : Type 0} {d e : E} → IsErrOf {T = T} (Err d) e → d ≡ e
+err_is is = cc
 
 -- there was no memory for a mark
 pub no_memory_left : (tells : Tells) (name : List ℕ) (old start now after : Scene) (session : Kept) (fresh reader reader' : Ahead) (marks : List Mark) (clean : Bool) (request : Request)

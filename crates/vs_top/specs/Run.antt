@@ -10,12 +10,12 @@ use Rattle.vs_excmd.specs.Request.{Instruction}
 use Rattle.vs_script.specs.Ahead.{script_limit}
 use Rattle.vs_script.specs.Requests.{whole_commands}
 use Rattle.vs_script.specs.Script.{commands_of}
-use Rattle.vs_session.specs.Machine.{replies_of, any_error}
+use Rattle.vs_machine.specs.Machine.{replies_of, any_error}
 use Rattle.vs_session.specs.Open.{PassesLimit}
-use Rattle.vs_session.specs.Replies.{opening_of}
+use Rattle.vs_machine.specs.Replies.{opening_of}
 use Rattle.vs_session.specs.Session.{Opened, opened}
-use Rattle.vs_session.specs.declared.command.Mark.{Mark}
-use Rattle.vs_session.specs.declared.command.Outcome.TheVariants as outcome
+use Rattle.vs_machine.specs.declared.command.Mark.{Mark}
+use Rattle.vs_machine.specs.declared.command.Outcome.TheVariants as outcome
 use Rattle.vs_top.specs.declared.ending.Ending.{Ending}
 use Rattle.vs_top.specs.declared.ending.Ending.TheVariants as ending
 

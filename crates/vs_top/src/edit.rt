@@ -4,7 +4,7 @@ ghost use Rattle.std.specs.Vec.{vec_capacity};
 ghost use Rattle.vs_host.specs.Names.{is_allowed};
 ghost use Rattle.vs_faults.specs.Faults.{HasCause, IsQuiet};
 ghost use Rattle.vs_host.specs.World.{ChangesOutput};
-ghost use Rattle.vs_session.specs.Machine.{is_done};
+ghost use Rattle.vs_machine.specs.Machine.{is_done};
 ghost use Rattle.vs_top.specs.Ending.{ending_in};
 ghost use Rattle.vs_top.specs.Run.{RunsEdit};
 

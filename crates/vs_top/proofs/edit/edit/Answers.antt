@@ -1,8 +1,10 @@
 use Rattle.std.proofs.Common.{◌≡◌, ◌∙◌, arith, ap, refl, None, Ok, Err, rules}
+use Rattle.std.proofs.lemmas.Bool.{false≢true}
 use Rattle.std.proofs.lemmas.Grind.{common_steps}
 use Rattle.vs_host.specs.World.{Scene}
-use Rattle.vs_session.specs.declared.command.Mark.{Mark}
-use Rattle.vs_top.proofs.Edits.{folder_quiet, output_quiet, output_failed, at_ending, not_opened, file_fits, opened_then, opening_cut, first_turn, next_turn, kept_on, clock_room, reader_stopped, no_memory_left, reply_cut, script_ended}
+use Rattle.vs_machine.specs.declared.command.Mark.{Mark}
+use Rattle.vs_top.specs.declared.ending.Ending.TheVariants as ending
+use Rattle.vs_top.proofs.Edits.{folder_quiet, output_quiet, output_failed, at_ending, not_opened, file_fits, opened_then, opening_cut, first_turn, next_turn, kept_on, clock_room, reader_stopped, no_memory_left, reply_cut, script_ended, opened_in_vain, ok_is_no_err, err_is}
 use Rattle.vs_top.proofs.edit.edit.Goals as goal
 
 pub returns-in_err-session : goal.returns-in_err-session
@@ -10,7 +12,7 @@ returns-in_err-session g c =
     at_ending g.H.World.tells c.args.name.now (g.H.World.scene c.args.host.now) (g.H.World.scene c.open.new.host) c.args.marks.now.items c.args.marks.now.items c.from_residual.result _ _ c.from_residual.ensures.1 refl refl
     (not_opened g.H.World.tells c.args.name.now (g.H.World.scene c.args.host.now) (g.H.World.scene c.open.new.host) c.args.marks.now.items _ c.requires.marks
     c.open.ensures.frame c.open.ensures.cause.later (λ is. c.in_err-session.ensures.cause.risen (ap Err is))
-    (λ other. c.in_err-session.ensures.quiet (λ is. other (cc))) (λ size is. c.in_err-session.ensures.limit size (ap Err is)))
+    (λ other. c.in_err-session.ensures.quiet (λ is. other (err_is is))) (λ size is. c.in_err-session.ensures.limit size (ap Err is)))
 
 pub returns-in_err-put : goal.returns-in_err-put
 returns-in_err-put g c =
@@ -22,7 +24,7 @@ returns-in_err-put g c =
     (opened_then g.H.World.tells c.args.name.now old mid new c.open.ensures.frame c.open.ensures.cause.later (λ folder. file_fits _ (c.in_ok-session.ensures.over folder))
     c.put.ensures.frame c.put.ensures.cause.later)
     c.in_ok-session.ensures.opened c.open.ensures.frame c.opening.ensures c.in_err-put.ensures.err
-    (output_failed old mid new (folder_quiet old mid c.open.ensures.frame (c.in_ok-session.ensures.quiet (λ is. absurd (cc)))) c.put.ensures.frame (c.in_err-put.ensures.cause.risen refl)))
+    (output_failed old mid new (folder_quiet old mid c.open.ensures.frame (c.in_ok-session.ensures.quiet ok_is_no_err)) c.put.ensures.frame (c.in_err-put.ensures.cause.risen refl)))
 
 pub requests-init : goal.requests-init
 requests-init g c =
@@ -35,7 +37,7 @@ requests-init g c =
           c.put.ensures.frame c.put.ensures.cause.later)
           c.in_ok-reader.ensures c.requires.marks c.in_ok-session.ensures.opened
           c.open.ensures.frame c.opening.ensures c.in_ok-put.ensures.ok
-          (output_quiet mid start c.put.ensures.frame (c.in_ok-put.ensures.quiet (λ is. absurd (cc))) ∙ folder_quiet old mid c.open.ensures.frame (c.in_ok-session.ensures.quiet (λ is. absurd (cc))));
+          (output_quiet mid start c.put.ensures.frame (c.in_ok-put.ensures.quiet false≢true) ∙ folder_quiet old mid c.open.ensures.frame (c.in_ok-session.ensures.quiet ok_is_no_err));
       few = grind (arith, common_steps);
     }
 
@@ -45,7 +47,7 @@ returns-in_err-request g c =
     (reader_stopped g.H.World.tells c.args.name.now (g.H.World.scene c.args.host.now) (g.H.World.scene c.put.new.host) (g.H.World.scene c.requests.host) (g.H.World.scene c.next_request.new.host)
     c.requests.session c.in_ok-reader.reader c.requests.reader c.next_request.new.self c.requests.marks.items c.requests.clean _ c.requests.invariant.turn
     (record { limit = c.next_request.ensures.limit; seen = c.next_request.ensures.ended; later = c.next_request.ensures.cause.later; frame = c.next_request.ensures.frame })
-    (λ is. c.in_err-request.ensures.cause.risen (ap Err is)) (λ other. c.in_err-request.ensures.quiet (λ is. other (cc))) c.in_err-request.ensures.stops)
+    (λ is. c.in_err-request.ensures.cause.risen (ap Err is)) (λ other. c.in_err-request.ensures.quiet (λ is. other (err_is is))) c.in_err-request.ensures.stops)
 
 pub returns-in_err-reserve : goal.returns-in_err-reserve
 returns-in_err-reserve g c =
@@ -53,7 +55,7 @@ returns-in_err-reserve g c =
     (no_memory_left g.H.World.tells c.args.name.now (g.H.World.scene c.args.host.now) (g.H.World.scene c.put.new.host) (g.H.World.scene c.requests.host) (g.H.World.scene c.next_request.new.host)
     c.requests.session c.in_ok-reader.reader c.requests.reader c.next_request.new.self c.requests.marks.items c.requests.clean c.in-Some.request c.requests.invariant.turn
     (record { limit = c.next_request.ensures.limit; seen = c.next_request.ensures.ended; later = c.next_request.ensures.cause.later; frame = c.next_request.ensures.frame })
-    (c.in_ok-request.ensures.quiet (λ is. absurd (cc))) c.in_ok-request.ensures.counts (rw c.in-Some.is at c.in_ok-request.ensures.request))
+    (c.in_ok-request.ensures.quiet ok_is_no_err) c.in_ok-request.ensures.counts (rw c.in-Some.is at c.in_ok-request.ensures.request))
 
 pub step-reply-requires-clause-form : goal.step-reply-requires-clause-form
 step-reply-requires-clause-form g c = rw c.in-Some.is at c.in_ok-request.ensures.form
@@ -78,11 +80,11 @@ requests-preserved g c =
             stepped_frame = c.step-reply.ensures.frame;
             later = c.put-in-Some.ensures.cause.later;
             frame = c.put-in-Some.ensures.frame;
-            quiet = c.in_ok-request.ensures.quiet (λ is. absurd (cc));
+            quiet = c.in_ok-request.ensures.quiet ok_is_no_err;
             kept = kept_on c.requests.marks.items c.reserve.new.self.items c.keep.new.marks.items m c.keep.ensures c.reserve.ensures.items;
           })
           (record { replied = c.step-reply.ensures.reply; moved = c.step-reply.ensures.state }) c.in_ok-put-2.ensures.ok
-          c.is_clean-clean.ensures (c.in_ok-put-2.ensures.quiet (λ is. absurd (cc)));
+          c.is_clean-clean.ensures (c.in_ok-put-2.ensures.quiet false≢true);
       few = grind (arith, common_steps);
     }
 
@@ -101,7 +103,7 @@ returns-in_err-put-2 g c =
       stepped_frame = c.step-reply.ensures.frame;
       later = c.put-in-Some.ensures.cause.later;
       frame = c.put-in-Some.ensures.frame;
-      quiet = c.in_ok-request.ensures.quiet (λ is. absurd (cc));
+      quiet = c.in_ok-request.ensures.quiet ok_is_no_err;
       kept = kept_on c.requests.marks.items c.reserve.new.self.items c.keep.new.marks.items m c.keep.ensures c.reserve.ensures.items;
     })
     (record { replied = c.step-reply.ensures.reply; moved = c.step-reply.ensures.state }) c.in_err-put-2.ensures.err (c.in_err-put-2.ensures.cause.risen refl))
@@ -113,4 +115,18 @@ returns g c =
     (script_ended g.H.World.tells c.args.name.now (g.H.World.scene c.args.host.now) (g.H.World.scene c.put.new.host) (g.H.World.scene c.requests.host) (g.H.World.scene c.next_request.new.host)
     c.requests.session c.in_ok-reader.reader c.requests.reader c.next_request.new.self c.requests.marks.items c.requests.clean c.requests.invariant.turn
     (record { limit = c.next_request.ensures.limit; seen = c.next_request.ensures.ended; later = c.next_request.ensures.cause.later; frame = c.next_request.ensures.frame })
-    (c.in_ok-request.ensures.quiet (λ is. absurd (cc))) c.in_ok-request.ensures.counts (c.in_ok-request.ensures.none (ap Ok none)))
+    (c.in_ok-request.ensures.quiet ok_is_no_err) c.in_ok-request.ensures.counts (c.in_ok-request.ensures.none (ap Ok none)))
+
+pub returns-in_err-reader : goal.returns-in_err-reader
+returns-in_err-reader g c =
+    let old : Scene = g.H.World.scene c.args.host.now in
+    let mid : Scene = g.H.World.scene c.open.new.host in
+    at_ending g.H.World.tells c.args.name.now old mid c.args.marks.now.items c.args.marks.now.items c.from_residual-in_err-reader.result _ ending.NoMemory c.from_residual-in_err-reader.ensures.1 refl refl
+    (opened_in_vain g.H.World.tells c.args.name.now old mid c.args.marks.now.items c.requires.marks c.open.ensures.frame c.open.ensures.cause.later (c.in_ok-session.ensures.quiet ok_is_no_err))
+
+pub returns-in_err-line : goal.returns-in_err-line
+returns-in_err-line g c =
+    let old : Scene = g.H.World.scene c.args.host.now in
+    let mid : Scene = g.H.World.scene c.open.new.host in
+    at_ending g.H.World.tells c.args.name.now old mid c.args.marks.now.items c.args.marks.now.items c.from_residual-in_err-line.result _ ending.NoMemory c.from_residual-in_err-line.ensures.1 refl refl
+    (opened_in_vain g.H.World.tells c.args.name.now old mid c.args.marks.now.items c.requires.marks c.open.ensures.frame c.open.ensures.cause.later (c.in_ok-session.ensures.quiet ok_is_no_err))

@@ -1,0 +1,5 @@
+pub mod AnswerLemmas
+pub mod GoalLemmas
+pub mod LinkLemmas
+pub mod MeaningLemmas
+pub mod NumberLemmas

@@ -1,0 +1,62 @@
+use Rattle.std.proofs.Common.{◌≡◌, ℕ, List, true, false, length, ap, sym, ◌∙◌, rules}
+use Rattle.vs_exparse.specs.Command.{command_of}
+use Rattle.vs_exparse.specs.declared.command.Command as borrowed
+use Rattle.vs_exparse.specs.declared.command.ExErr.TheVariants.{E492}
+use Rattle.vs_excmd.specs.Place.{shown}
+use Rattle.vs_machine.specs.Answers.{IsIn}
+use Rattle.vs_machine.specs.Machine.{State, meaning_in, moving, printing}
+use Rattle.vs_machine.specs.Machine.Meaning.{Refused}
+use Rattle.vs_machine.specs.Moves.{goal_of}
+use Rattle.vs_machine.specs.Shown.{shown_lines}
+use Rattle.vs_machine.specs.declared.answering.Answered.{Answered}
+use Rattle.vs_machine.specs.declared.moves.Move.{Move}
+use Rattle.vs_machine.specs.declared.moves.Move.TheVariants.{Forward}
+use Rattle.vs_machine.proofs.AnswerLemmas.{as_meant, to_move, to_read}
+use Rattle.vs_machine.proofs.answering.look_or_move.Goals as goal
+
+pub returns-in-Print-clause-answers : goal.returns-in-Print-clause-answers
+returns-in-Print-clause-answers g c =
+    to_read g.S.LineStore _ _ c.args.cursor c.args.history.now c.print.result (λ (state : State). printing (shown_lines false state.text) (shown c.in-Print.range c.in-Print.count (length state.text) state.cursor)) (command_of c.args.command.now)
+    (λ state lines. ap (λ (command : borrowed.Command). meaning_in state (command_of command) lines) (sym c.in-Print.is)) c.print.ensures.answers
+
+pub returns-in-Number-clause-answers : goal.returns-in-Number-clause-answers
+returns-in-Number-clause-answers g c =
+    to_read g.S.LineStore _ _ c.args.cursor c.args.history.now c.print-in-Number.result (λ (state : State). printing (shown_lines true state.text) (shown c.in-Number.range c.in-Number.count (length state.text) state.cursor)) (command_of c.args.command.now)
+    (λ state lines. ap (λ (command : borrowed.Command). meaning_in state (command_of command) lines) (sym c.in-Number.is)) c.print-in-Number.ensures.answers
+
+pub returns-in-Undo-clause-answers : goal.returns-in-Undo-clause-answers
+returns-in-Undo-clause-answers g c =
+    to_move g.S.LineStore _ _ _ _ c.args.cursor c.travel.result (λ (state : State). moving (goal_of c.undo_move.result state.history.links)) (command_of c.args.command.now)
+    (λ state lines. ap (λ (step : Move). moving (goal_of step state.history.links)) c.undo_move.ensures.is ∙ ap (λ (command : borrowed.Command). meaning_in state (command_of command) lines) (sym c.in-Undo.is)) c.travel.ensures.answers
+
+pub returns-in-Redo-clause-answers : goal.returns-in-Redo-clause-answers
+returns-in-Redo-clause-answers g c =
+    to_move g.S.LineStore _ _ _ _ c.args.cursor c.travel-in-Redo.result (λ (state : State). moving (goal_of Forward state.history.links)) (command_of c.args.command.now)
+    (λ state lines. ap (λ (command : borrowed.Command). meaning_in state (command_of command) lines) (sym c.in-Redo.is)) c.travel-in-Redo.ensures.answers
+
+pub returns-in-Earlier-clause-answers : goal.returns-in-Earlier-clause-answers
+returns-in-Earlier-clause-answers g c =
+    to_move g.S.LineStore _ _ _ _ c.args.cursor c.travel-in-Earlier.result (λ (state : State). moving (goal_of c.earlier_move.result state.history.links)) (command_of c.args.command.now)
+    (λ state lines. ap (λ (step : Move). moving (goal_of step state.history.links)) c.earlier_move.ensures.is ∙ ap (λ (command : borrowed.Command). meaning_in state (command_of command) lines) (sym c.in-Earlier.is)) c.travel-in-Earlier.ensures.answers
+
+pub returns-in-Later-clause-answers : goal.returns-in-Later-clause-answers
+returns-in-Later-clause-answers g c =
+    to_move g.S.LineStore _ _ _ _ c.args.cursor c.travel-in-Later.result (λ (state : State). moving (goal_of c.later_move.result state.history.links)) (command_of c.args.command.now)
+    (λ state lines. ap (λ (step : Move). moving (goal_of step state.history.links)) c.later_move.ensures.is ∙ ap (λ (command : borrowed.Command). meaning_in state (command_of command) lines) (sym c.in-Later.is)) c.travel-in-Later.ensures.answers
+
+pub returns-in-Equals-clause-answers : goal.returns-in-Equals-clause-answers
+returns-in-Equals-clause-answers g c = λ state at lines is.
+    as_meant (c.print_number.ensures state at c.args.history.now is) (ap (λ (command : borrowed.Command). meaning_in state (command_of command) lines) (sym c.in-Equals.is))
+
+pub returns-in-Append : goal.returns-in-Append
+returns-in-Append g c =
+    let meant : (state : State) (lines : List (List ℕ)) → Refused E492 ≡ meaning_in state (command_of c.args.command.now) lines = λ state lines. search rules in
+    record {
+      answers = λ state at lines is.
+          let after : IsIn g.S.LineStore c.args.store.now c.args.history.now c.refused.result.cursor state = record { text = is.text; history = is.history; cursor = ap (λ (a : Answered). a.cursor) c.refused.ensures ∙ is.cursor } in
+          as_meant (record { reply = ap (λ (a : Answered). a.reply) c.refused.ensures; after = after }) (meant state lines);
+      stayed = tt;
+      ready = c.requires.ready;
+      stays = g.met.S.LineStore.stays_itself c.args.store.now;
+      cause = search rules;
+    }

@@ -1,0 +1,50 @@
+-- Each move goes where the machine says; for those by writes the way of the current state is the one that the machine takes.
+use Rattle.vs_undo.specs.Writes.{IsEarlierWrite, IsAtOldestWrite, IsLaterWrite, IsAtNewestWrite}
+use Rattle.vs_undo.specs.declared.error.UndoErr.TheVariants.{AtOldest, AtNewest}
+use Rattle.vs_machine.proofs.GoalLemmas.{all_gone, reached, why, at_earlier_write, at_oldest_write, at_later_write, at_newest_write}
+use Rattle.vs_machine.proofs.moves.go.Goals as goal
+
+pub returns-in-Back-clause-gone : goal.returns-in-Back-clause-gone
+returns-in-Back-clause-gone g c = all_gone g.S.LineStore _ _ _ _ c.back.result c.parts.ensures.sound c.back.ensures.moved
+
+pub returns-in-To-clause-gone : goal.returns-in-To-clause-gone
+returns-in-To-clause-gone g c = all_gone g.S.LineStore _ _ _ _ c.goto.result c.parts.ensures.sound c.goto.ensures.moved
+
+pub returns-in-Forward-clause-gone : goal.returns-in-Forward-clause-gone
+returns-in-Forward-clause-gone g c = all_gone g.S.LineStore _ _ _ _ c.forward.result c.parts.ensures.sound c.forward.ensures.moved
+
+pub returns-in-Earlier-clause-gone : goal.returns-in-Earlier-clause-gone
+returns-in-Earlier-clause-gone g c = all_gone g.S.LineStore _ _ _ _ c.earlier.result c.parts.ensures.sound c.earlier.ensures.moved
+
+pub returns-in-Later-clause-gone : goal.returns-in-Later-clause-gone
+returns-in-Later-clause-gone g c = all_gone g.S.LineStore _ _ _ _ c.later.result c.parts.ensures.sound c.later.ensures.moved
+
+pub returns-in-EarlierWrites-clause-gone : goal.returns-in-EarlierWrites-clause-gone
+returns-in-EarlierWrites-clause-gone g c = all_gone g.S.LineStore _ _ _ _ c.earlier_writes.result c.parts.ensures.sound c.earlier_writes.ensures.moved
+
+pub returns-in-LaterWrites-clause-gone : goal.returns-in-LaterWrites-clause-gone
+returns-in-LaterWrites-clause-gone g c = all_gone g.S.LineStore _ _ _ _ c.later_writes.result c.parts.ensures.sound c.later_writes.ensures.moved
+
+pub returns-in-EarlierWrites-clause-goal : goal.returns-in-EarlierWrites-clause-goal
+returns-in-EarlierWrites-clause-goal g c =
+    let by = c.in-EarlierWrites.by in
+    reached c.args.history.now c.earlier_writes.result (IsEarlierWrite c.args.history.now by) c.in-EarlierWrites.is
+    (λ n is. at_earlier_write c.args.history.now by n c.parts.ensures.sound is) c.earlier_writes.ensures.goal
+
+pub returns-in-EarlierWrites-clause-err : goal.returns-in-EarlierWrites-clause-err
+returns-in-EarlierWrites-clause-err g c =
+    let by = c.in-EarlierWrites.by in
+    why c.args.history.now c.earlier_writes.result AtOldest (IsAtOldestWrite c.args.history.now by) c.in-EarlierWrites.is
+    (at_oldest_write c.args.history.now by c.parts.ensures.sound) c.earlier_writes.ensures.err
+
+pub returns-in-LaterWrites-clause-goal : goal.returns-in-LaterWrites-clause-goal
+returns-in-LaterWrites-clause-goal g c =
+    let by = c.in-LaterWrites.by in
+    reached c.args.history.now c.later_writes.result (IsLaterWrite c.args.history.now by) c.in-LaterWrites.is
+    (λ n is. at_later_write c.args.history.now by n c.parts.ensures.sound is) c.later_writes.ensures.goal
+
+pub returns-in-LaterWrites-clause-err : goal.returns-in-LaterWrites-clause-err
+returns-in-LaterWrites-clause-err g c =
+    let by = c.in-LaterWrites.by in
+    why c.args.history.now c.later_writes.result AtNewest (IsAtNewestWrite c.args.history.now by) c.in-LaterWrites.is
+    (at_newest_write c.args.history.now by c.parts.ensures.sound) c.later_writes.ensures.err

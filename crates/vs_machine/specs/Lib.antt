@@ -1,0 +1,7 @@
+pub mod Replies
+pub mod Shown
+pub mod Moves
+pub mod Machine
+pub mod Reply
+pub mod Request
+pub mod Answers

@@ -1,0 +1,175 @@
+-- The machine that answers commands: a text with a cursor, and its history.
+use Rattle.std.specs.Prelude.{ℕ, Bool, true, false, ◌+◌, ◌||◌, nat_le, not, if◌then◌else◌, List, [], ◌∷◌, ◌++◌, length, decimal, min}
+use Rattle.std.specs.declared.option.Option.{Option}
+use Rattle.std.specs.Prelude.{Some, None, Result, Ok, Err}
+use Rattle.vs_text.specs.Text.{file_of}
+use Rattle.vs_exparse.specs.Command.{Command}
+use Rattle.vs_exparse.specs.Command.Command.{Append, Insert, Change, Delete, Move, CopyTo, T, Join, Substitute, Print, Number, Equals, Undo, Redo, Earlier, Later, UndoList, Write, Preserve, Quit, Set, WriteUndo, ReadUndo}
+use Rattle.vs_exparse.specs.declared.command.ExErr.{ExErr}
+use Rattle.vs_exparse.specs.declared.command.ExErr.TheVariants.{E492}
+use Rattle.vs_excmd.specs.declared.place.Span.{Span}
+use Rattle.vs_excmd.specs.Place.{shown, number_shown}
+use Rattle.vs_excmd.specs.Change.{spliced}
+use Rattle.vs_excmd.specs.Change as effects
+use Rattle.vs_excmd.specs.Meaning.{planned}
+use Rattle.vs_excmd.specs.Request.{Instruction}
+use Rattle.vs_undo.specs.declared.error.UndoErr.{UndoErr}
+use Rattle.vs_undo.specs.declared.error.UndoErr.TheVariants.{NumbersFull}
+use Rattle.vs_undo.specs.declared.TheConstants.{MAX_NUMBER}
+use Rattle.vs_undo.specs.History.{History, first_history, history_at, history_pushed}
+use Rattle.vs_machine.specs.declared.moves.Move.TheVariants as move
+use Rattle.vs_machine.specs.Moves.{goal_of, way_of, undo_move, earlier_move, later_move, kept_within}
+use Rattle.vs_machine.specs.declared.command.Mark.{Mark}
+use Rattle.vs_machine.specs.declared.command.Outcome.{Outcome}
+use Rattle.vs_machine.specs.declared.command.Outcome.TheVariants.{Done, NoMemory}
+use Rattle.vs_machine.specs.Replies.{Answer, says, refuses, prints, error_text, undo_error_text, change_line, move_line, no_change, out_of_memory}
+use Rattle.vs_machine.specs.Shown.{shown_lines}
+
+-- Lines are counted from 1. The cursor is 0 in the text without lines. The text is that of the history's current state.
+pub record State : Type 0 where
+  pub text : List (List ℕ)
+  pub cursor : ℕ
+  pub history : History
+
+-- the number of the current state
+abbrev pub current_of : State → ℕ
+current_of state = state.history.links.current
+
+-- the number that the last change was given, or 0
+abbrev pub last_of : State → ℕ
+last_of state = state.history.links.last
+
+-- the state in which a file is opened
+abbrev pub first_state : List (List ℕ) → State
+first_state text = record { text = text; cursor = min 1 (length text); history = first_history text }
+
+-- What a command comes to: an error, no change, a change, a move to a state, nowhere to move to, or bytes to print and the line that
+-- the cursor is on afterwards.
+pub data Meaning : Type 0 where
+  Refused : ExErr → Meaning
+  Unchanged : Meaning
+  Changed : effects.Change → Meaning
+  Moved : ℕ → Meaning
+  Stayed : UndoErr → Meaning
+  Printed : List ℕ → ℕ → Meaning
+
+-- a command of the text
+abbrev pub changing : Result (Option effects.Change) ExErr → Meaning
+changing (Err error) = Refused error
+changing (Ok None) = Unchanged
+changing (Ok (Some change)) = Changed change
+
+-- a move over the history
+abbrev pub moving : Result ℕ UndoErr → Meaning
+moving (Err error) = Stayed error
+moving (Ok number) = Moved number
+
+-- lines that are printed in some form: the cursor goes to the last of them
+abbrev pub printing : (Span → List (List ℕ)) → Result Span ExErr → Meaning
+printing form (Err error) = Refused error
+printing form (Ok span) = Printed (file_of (form span)) span.last
+
+-- a number that is printed: the cursor stays
+abbrev pub counting : ℕ → Result ℕ ExErr → Meaning
+counting cursor (Err error) = Refused error
+counting cursor (Ok number) = Printed (decimal number ++ 10 ∷ []) cursor
+
+-- the meaning of a command with these lines as its block. A command that is not built yet is none of the editor's.
+abbrev pub meaning_in : State → Command → List (List ℕ) → Meaning
+meaning_in state (Append range) lines = changing (planned (Append range) lines state.text state.cursor)
+meaning_in state (Insert range) lines = changing (planned (Insert range) lines state.text state.cursor)
+meaning_in state (Change range) lines = changing (planned (Change range) lines state.text state.cursor)
+meaning_in state (Delete range count) lines = changing (planned (Delete range count) lines state.text state.cursor)
+meaning_in state (Move range to) lines = changing (planned (Move range to) lines state.text state.cursor)
+meaning_in state (CopyTo range to) lines = changing (planned (CopyTo range to) lines state.text state.cursor)
+meaning_in state (T range to) lines = changing (planned (T range to) lines state.text state.cursor)
+meaning_in state (Join range bang count) lines = changing (planned (Join range bang count) lines state.text state.cursor)
+meaning_in state (Substitute range pattern replacement all) lines = changing (planned (Substitute range pattern replacement all) lines state.text state.cursor)
+meaning_in state (Print range count) lines = printing (shown_lines false state.text) (shown range count (length state.text) state.cursor)
+meaning_in state (Number range count) lines = printing (shown_lines true state.text) (shown range count (length state.text) state.cursor)
+meaning_in state (Equals range) lines = counting state.cursor (number_shown range (length state.text) state.cursor)
+meaning_in state (Undo number) lines = moving (goal_of (undo_move number) state.history.links)
+meaning_in state Redo lines = moving (goal_of move.Forward state.history.links)
+meaning_in state (Earlier by writes) lines = moving (goal_of (earlier_move by writes) state.history.links)
+meaning_in state (Later by writes) lines = moving (goal_of (later_move by writes) state.history.links)
+meaning_in state UndoList lines = Refused E492
+meaning_in state (Write bang) lines = Refused E492
+meaning_in state Preserve lines = Refused E492
+meaning_in state (Quit bang) lines = Refused E492
+meaning_in state (Set setting) lines = Refused E492
+meaning_in state WriteUndo lines = Refused E492
+meaning_in state ReadUndo lines = Refused E492
+
+-- the meaning of a line that was parsed, with its block
+abbrev pub meaning_of : State → Result Command ExErr → List (List ℕ) → Meaning
+meaning_of state (Err error) lines = Refused error
+meaning_of state (Ok command) lines = meaning_in state command lines
+
+-- no change gets a number any more
+abbrev pub is_used_up : State → Bool
+is_used_up state = nat_le MAX_NUMBER (last_of state)
+
+-- the state after a change, which is made at this time
+abbrev pub changed_state : State → ℕ → effects.Change → State
+changed_state state at change =
+    let text = spliced state.text change in record { text = text; cursor = change.cursor; history = history_pushed text at state.history }
+
+-- the state after a move to the state of the history with this number
+abbrev pub moved_state : State → ℕ → State
+moved_state state number = let text = state.history.texts number in record {
+  text = text;
+  cursor = kept_within (length text) state.cursor;
+  history = history_at (way_of state.history.links.nodes number) state.history;
+}
+
+-- the reply to a command that was carried out
+abbrev pub done_reply : State → Meaning → Answer
+done_reply state (Refused error) = refuses (error_text error)
+done_reply state Unchanged = says no_change
+done_reply state (Changed change) =
+    if is_used_up state then refuses (undo_error_text NumbersFull) else says (change_line (last_of state + 1) (length (spliced state.text change)))
+done_reply state (Moved number) = says (move_line number (length (state.history.texts number)))
+done_reply state (Stayed error) = refuses (undo_error_text error)
+done_reply state (Printed bytes cursor) = prints bytes
+
+-- the state after it, where the command began at this time
+abbrev pub done_state : State → ℕ → Meaning → State
+done_state state at (Refused error) = state
+done_state state at Unchanged = state
+done_state state at (Changed change) = if is_used_up state then state else changed_state state at change
+done_state state at (Moved number) = moved_state state number
+done_state state at (Stayed error) = state
+done_state state at (Printed bytes cursor) = record state { cursor = cursor }
+
+-- one step: the reply to a command that ended so, and the state after it
+abbrev pub reply_by : Outcome → State → Meaning → Answer
+reply_by Done state meaning = done_reply state meaning
+reply_by NoMemory state meaning = refuses out_of_memory
+
+abbrev pub state_by : Outcome → State → ℕ → Meaning → State
+state_by Done state at meaning = done_state state at meaning
+state_by NoMemory state at meaning = state
+
+abbrev pub reply_of : State → Instruction → Mark → Answer
+reply_of state instruction mark = reply_by mark.outcome state (meaning_of state instruction.parsed instruction.block)
+
+abbrev pub state_after : State → Instruction → Mark → State
+state_after state instruction mark = state_by mark.outcome state mark.at (meaning_of state instruction.parsed instruction.block)
+
+-- the replies of a run, as far as there are marks
+abbrev pub replies_of : State → List Instruction → List Mark → List ℕ
+replies_of state [] marks = []
+replies_of state (command ∷ commands) [] = []
+replies_of state (command ∷ commands) (mark ∷ marks) =
+    (reply_of state command mark).bytes ++ replies_of (state_after state command mark) commands marks
+
+abbrev pub is_done : Outcome → Bool
+is_done Done = true
+is_done NoMemory = false
+
+-- whether some reply of a run is an error, or some command did not end as Done
+abbrev pub any_error : State → List Instruction → List Mark → Bool
+any_error state [] marks = false
+any_error state (command ∷ commands) [] = false
+any_error state (command ∷ commands) (mark ∷ marks) =
+    (not (is_done mark.outcome) || (reply_of state command mark).is_error) || any_error (state_after state command mark) commands marks

@@ -1,0 +1,76 @@
+-- Replies in bytes, as docs/COMMANDS.md lists them.
+use Rattle.std.specs.Prelude.{ℕ, Bool, true, false, List, [], ◌∷◌, ◌++◌, codes, decimal}
+use Rattle.std.specs.declared.option.Option.{Option}
+use Rattle.std.specs.Prelude.{Some, None}
+use Rattle.vs_exparse.specs.declared.command.ExErr.{ExErr}
+use Rattle.vs_exparse.specs.declared.command.ExErr.TheVariants as ex
+use Rattle.vs_undo.specs.declared.error.UndoErr.{UndoErr}
+use Rattle.vs_undo.specs.declared.error.UndoErr.TheVariants as undo
+
+-- a reply in bytes, and whether it is an error
+pub record Answer : Type 0 where
+  pub bytes : List ℕ
+  pub is_error : Bool
+
+-- a reply of one line
+abbrev pub says : List ℕ → Answer
+says text = record { bytes = text ++ 10 ∷ []; is_error = false }
+
+-- an error reply, of one line
+abbrev pub refuses : List ℕ → Answer
+refuses text = record { bytes = text ++ 10 ∷ []; is_error = true }
+
+-- printed lines, as they are
+abbrev pub prints : List ℕ → Answer
+prints bytes = record { bytes = bytes; is_error = false }
+
+-- the text of each error of a command line, or of a command of the text
+abbrev pub error_text : ExErr → List ℕ
+error_text ex.LineTooLong = codes "line too long"
+error_text ex.E492 = codes "E492: Not an editor command"
+error_text ex.E481 = codes "E481: No range allowed"
+error_text ex.E477 = codes "E477: No ! allowed"
+error_text ex.E488 = codes "E488: Trailing characters"
+error_text ex.E939 = codes "E939: Positive count required"
+error_text ex.E14 = codes "E14: Invalid address"
+error_text ex.E471 = codes "E471: Argument required"
+error_text ex.E474 = codes "E474: Invalid argument"
+error_text ex.E518 = codes "E518: Unknown option"
+error_text ex.PatternForm = codes "pattern form not supported"
+error_text ex.E493 = codes "E493: Backwards range given"
+error_text ex.E16 = codes "E16: Invalid range"
+error_text ex.E134 = codes "E134: Cannot move a range of lines into itself"
+error_text ex.E486 = codes "E486: Pattern not found"
+error_text ex.TextFull = codes "text too large"
+
+-- some words before a number, and a number of lines
+abbrev pub with_lines : List ℕ → ℕ → ℕ → List ℕ
+with_lines words number lines = words ++ decimal number ++ codes ", " ++ decimal lines ++ codes " lines"
+
+-- the reply to a change: its number, and the number of lines after it
+abbrev pub change_line : ℕ → ℕ → List ℕ
+change_line number lines = with_lines (codes "change ") number lines
+
+-- the reply to a move over the history: the number of the state, and of the lines of its text
+abbrev pub move_line : ℕ → ℕ → List ℕ
+move_line number lines = with_lines (codes "at ") number lines
+
+abbrev pub no_change : List ℕ
+no_change = codes "no change"
+
+abbrev pub out_of_memory : List ℕ
+out_of_memory = codes "out of memory"
+
+-- why a change or a move was not made
+abbrev pub undo_error_text : UndoErr → List ℕ
+undo_error_text (undo.NotKept number) = codes "E830: Undo number " ++ decimal number ++ codes " not found"
+undo_error_text undo.AtOldest = codes "Already at oldest change"
+undo_error_text undo.AtNewest = codes "Already at newest change"
+undo_error_text undo.NumbersFull = codes "change numbers used up"
+undo_error_text undo.NoMemory = out_of_memory
+undo_error_text undo.Failed = codes "device fault"
+
+-- the first reply, of a name and the numbers of the file's lines and bytes where it was there
+abbrev pub opening_of : List ℕ → Option (ℕ × ℕ) → Answer
+opening_of name None = says (codes "\"" ++ name ++ codes "\" [New]")
+opening_of name (Some (lines, bytes)) = says (codes "\"" ++ name ++ codes "\" " ++ decimal lines ++ codes "L, " ++ decimal bytes ++ codes "B")

@@ -1,0 +1,18 @@
+//! The machine that answers Ex commands over the text of any store and its undo tree, and its replies.
+#![tactic(auto)]
+
+mod answering;
+mod change;
+mod command;
+mod errors;
+mod moves;
+mod reply;
+mod show;
+mod shown;
+
+pub use answering::{Answered, answer};
+pub use change::splice;
+pub use command::{Mark, Outcome};
+pub use reply::Reply;
+pub use vs_excmd::{Block, Request};
+pub use vs_undo::UndoTree;

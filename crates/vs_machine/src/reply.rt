@@ -1,0 +1,218 @@
+// Replies. All but printed lines stand in a fixed buffer, so they take no memory.
+ghost use Rattle.std.specs.Prelude.{◌≡◌, ◌<◌, ◌≤◌, ◌+◌, ◌++◌, ◌∷◌, [], length, decimal, false, true, None, Some};
+ghost use Rattle.vs_machine.specs.Replies.{says, refuses, prints, error_text, undo_error_text, with_lines, change_line, move_line, no_change, out_of_memory, opening_of};
+
+use crate::errors::error_text;
+use arrayvec::ArrayVec;
+use itoa::Buffer;
+use std::marker::Model;
+use vs_exparse::ExErr;
+use vs_undo::UndoErr;
+
+#[derive(Drop)]
+enum Body {
+    Short(ArrayVec<u8, 320>),
+    Long(Vec<u8>),
+}
+
+/// A reply, seen as its bytes, of which there is at least one, and whether it is an error.
+#[derive(Drop)]
+pub struct Reply {
+    body: Body,
+    error: bool,
+}
+
+impl Model for Reply {
+    ghost use Rattle.std.specs.Prelude.{◌<◌, length};
+    ghost use Rattle.vs_machine.specs.Replies.{Answer};
+
+    ghost Value = { Answer };
+
+    ghost use Rattle.vs_machine.specs.Reply.{bytes_in};
+
+    ghost view = { λ reply. record { bytes = bytes_in reply.body; is_error = reply.error } };
+
+    ghost invariant = { λ reply. 0 < length (bytes_in reply.body) };
+}
+
+fn add(line: &mut ArrayVec<u8, 320>, bytes: &[u8])
+    requires { length line.old.items + length bytes.now ≤ 320 }
+    ensures { line.new.items ≡ line.old.items ++ bytes.now }
+{
+    for byte in bytes {
+        line.push(*byte);
+    }
+}
+
+impl Reply {
+    /// These bytes as they are.
+    pub fn printed(bytes: Vec<u8>) -> Reply
+        requires { 0 < length bytes.items }
+        ensures { result ≡ prints bytes.items }
+    {
+        Reply {
+            body: Body::Long(bytes),
+            error: false,
+        }
+    }
+
+    /// The reply to an error of a command.
+    pub fn error(error: ExErr) -> Reply
+        ensures { result ≡ refuses (error_text error) }
+    {
+        Reply::refuses(error_text(error))
+    }
+
+    /// A command changed nothing.
+    pub fn no_change() -> Reply
+        ensures { result ≡ says no_change }
+    {
+        Reply::says(b"no change")
+    }
+
+    /// There was no memory for a command.
+    pub fn out_of_memory() -> Reply
+        ensures { result ≡ refuses out_of_memory }
+    {
+        Reply::refuses(b"out of memory")
+    }
+
+    /// The number of a line.
+    pub fn number(number: u64) -> Reply
+        ensures { result ≡ prints (decimal number ++ 10 ∷ []) }
+    {
+        let mut digits = Buffer::new();
+        Reply::says(digits.format(number).as_bytes())
+    }
+
+    /// One line of at most 319 bytes.
+    fn says(text: &[u8]) -> Reply
+        requires { length text.now < 320 }
+        ensures { result ≡ says text.now }
+    {
+        Reply::line(text, false)
+    }
+
+    /// One line of at most 319 bytes that is an error.
+    fn refuses(text: &[u8]) -> Reply
+        requires { length text.now < 320 }
+        ensures { result ≡ refuses text.now }
+    {
+        Reply::line(text, true)
+    }
+
+    fn line(text: &[u8], error: bool) -> Reply
+        requires { length text.now < 320 }
+        ensures { result ≡ record { bytes = text.now ++ 10 ∷ []; is_error = error } }
+    {
+        let mut line = ArrayVec::new();
+        add(&mut line, text);
+        line.push(b'\n');
+        Reply {
+            body: Body::Short(line),
+            error,
+        }
+    }
+
+    /// No state of the history has this number.
+    fn not_kept(number: u64) -> Reply
+        ensures { result ≡ refuses (undo_error_text (UndoErr.NotKept number)) }
+    {
+        let mut text = ArrayVec::new();
+        let mut digits = Buffer::new();
+        add(&mut text, b"E830: Undo number ");
+        add(&mut text, digits.format(number).as_bytes());
+        add(&mut text, b" not found");
+        Reply::refuses(text.as_slice())
+    }
+
+    /// Why a change or a move over the history was not made.
+    pub fn undo_error(error: UndoErr) -> Reply
+        ensures { result ≡ refuses (undo_error_text error) }
+    {
+        match error {
+            UndoErr::NotKept(number) => Reply::not_kept(number),
+            UndoErr::AtOldest => Reply::refuses(b"Already at oldest change"),
+            UndoErr::AtNewest => Reply::refuses(b"Already at newest change"),
+            UndoErr::NumbersFull => Reply::refuses(b"change numbers used up"),
+            UndoErr::NoMemory => Reply::out_of_memory(),
+            UndoErr::Failed => Reply::refuses(b"device fault"),
+        }
+    }
+
+    /// A line of words, a number, and a number of lines.
+    fn with_lines(words: &[u8], number: u64, lines: u64) -> Reply
+        requires { length words.now ≤ 10 }
+        ensures { result ≡ says (with_lines words.now number lines) }
+    {
+        let mut text = ArrayVec::new();
+        let mut digits = Buffer::new();
+        add(&mut text, words);
+        add(&mut text, digits.format(number).as_bytes());
+        add(&mut text, b", ");
+        add(&mut text, digits.format(lines).as_bytes());
+        add(&mut text, b" lines");
+        Reply::says(text.as_slice())
+    }
+
+    /// A change of the text: its number, and the number of lines after it.
+    pub fn change(number: u64, lines: u64) -> Reply
+        ensures { result ≡ says (change_line number lines) }
+    {
+        Reply::with_lines(b"change ", number, lines)
+    }
+
+    /// A move over the history: the number of the state reached, and of the lines of its text.
+    pub fn moved(number: u64, lines: u64) -> Reply
+        ensures { result ≡ says (move_line number lines) }
+    {
+        Reply::with_lines(b"at ", number, lines)
+    }
+
+    /// The opening of a file that is not there.
+    pub fn opened_new(name: &str) -> Reply
+        requires { length name.now ≤ 200 }
+        ensures { result ≡ opening_of name.now None }
+    {
+        let mut text = ArrayVec::new();
+        add(&mut text, b"\"");
+        add(&mut text, name.as_bytes());
+        add(&mut text, b"\" [New]");
+        Reply::says(text.as_slice())
+    }
+
+    /// The opening of a file, with its numbers of lines and bytes.
+    pub fn opened(name: &str, lines: u64, bytes: u64) -> Reply
+        requires { length name.now ≤ 200 }
+        ensures { result ≡ opening_of name.now (Some (lines, bytes)) }
+    {
+        let mut text = ArrayVec::new();
+        let mut digits = Buffer::new();
+        add(&mut text, b"\"");
+        add(&mut text, name.as_bytes());
+        add(&mut text, b"\" ");
+        add(&mut text, digits.format(lines).as_bytes());
+        add(&mut text, b"L, ");
+        add(&mut text, digits.format(bytes).as_bytes());
+        add(&mut text, b"B");
+        Reply::says(text.as_slice())
+    }
+
+    /// The bytes of the reply, with a newline at their end.
+    pub fn bytes(&self) -> &[u8]
+        ensures value { result.now ≡ self.now.bytes }
+        ensures some { 0 < length result.now }
+    {
+        match &self.body {
+            Body::Short(line) => line.as_slice(),
+            Body::Long(bytes) => bytes.as_slice(),
+        }
+    }
+
+    /// Whether the reply is an error.
+    pub fn is_error(&self) -> bool
+        ensures { result ≡ self.now.is_error }
+    {
+        self.error
+    }
+}

@@ -1,8 +1,0 @@
--- What a reply holds.
-use Rattle.std.specs.Prelude.{ℕ, List}
-use Rattle.vs_session.specs.declared.reply.Body.{Body}
-use Rattle.vs_session.specs.declared.reply.Body.TheVariants.{Short, Long}
-
-abbrev pub bytes_in : Body → List ℕ
-bytes_in (Short line) = line.items
-bytes_in (Long bytes) = bytes.items
