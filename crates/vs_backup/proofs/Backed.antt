@@ -11,7 +11,7 @@ use Rattle.vs_disk.specs.Images.{HoldsBytes, MayLeave}
 use Rattle.vs_disk.specs.Runs.{Runs, Looks}
 use Rattle.vs_disk.proofs.Runs.{runs_as, runs_on, starts}
 use Rattle.vs_disk.proofs.Contents.{image_holds}
-use Rattle.vs_backup.specs.Works.{Narrowed, Spares, one_name}
+use Rattle.vs_backup.specs.Works.{Narrowed, Spares, SparesOthers, one_name}
 use Rattle.vs_backup.specs.Writing.{IsKept, IsWhole, IsSettled, OldIn, WritesOver, WritesBacked, BeginsWhole, backed_names, stopped}
 use Rattle.vs_backup.specs.declared.errors.Place.{Place}
 use Rattle.vs_backup.specs.declared.errors.Place.TheVariants as place
@@ -23,6 +23,8 @@ use Rattle.vs_backup.proofs.Calls.{runs_wider, spares_on}
 use Rattle.vs_backup.proofs.Frames.{narrowed_none, narrowed_then, holds_spared}
 use Rattle.vs_backup.proofs.Kept.{may_leave_now}
 use Rattle.vs_backup.proofs.Copying.{kept_on, never_refused}
+use Rattle.vs_backup.proofs.Others.{others_spared, others_looks, others_on, others_starts}
+use Rattle.vs_backup.proofs.Places.{places_keep, places_dropped}
 
 some_and : (at : Option (List ℕ)) (bytes : List ℕ) (P : List ℕ → Type 0) → at ≡ Some bytes → P bytes → IsSomeAnd at P
 some_and at bytes P is holds = subst (λ (o : Option (List ℕ)). IsSomeAnd o P) (sym is) holds
@@ -45,6 +47,10 @@ backup_named : (copying : Bool) (name temporary backup n : Name) → n ≡ backu
 backup_named true name temporary backup n is = inr (inr is)
 backup_named false name temporary backup n is = inr is
 
+pub file_named : (copying : Bool) (name temporary backup : Name) → backed_names copying name temporary backup name
+file_named true name temporary backup = inl refl
+file_named false name temporary backup = inl refl
+
 pub narrowed_starts : (s0 : Scene) → Runs Narrowed s0 s0
 narrowed_starts s0 = starts Narrowed s0 (narrowed_none s0.folder s0.folder refl)
 
@@ -61,20 +67,25 @@ narrowed_content name a b narrowed = ap (λ (at : Option ℕ). read_under b at) 
 
 -- ---- from a settled file
 module _ (copying keep : Bool) (name temporary backup : Name) (old new : List ℕ) (s0 s1 : Scene) (is : IsSettled name old s0.folder) where
-  abbrev begins : (result : Result ℕ WriteErr) → WritesOver (backed_names copying name temporary backup) name backup old new s0 s1 result
-      → BeginsWhole (backed_names copying name temporary backup) name backup old new s0 s1
+  abbrev begins : (result : Result ℕ WriteErr) → WritesOver copying name temporary backup old new s0 s1 result
+      → BeginsWhole copying keep name temporary backup old new s0 s1 result
   begins result over = record {
     begun = s0;
     looked = narrowed_starts s0;
     settled = is;
     whole = runs_as (λ a b. IsKept name backup old b) (λ a b. IsWhole name backup old new b) s0 s1 (λ d kept. whole_kept name backup old new d kept) over.kept;
+    places = places_keep copying keep name backup s0 s1 result over.places;
     spares = over.spares;
   }
 
-  pub backed_refused : (why : WriteErr) → WritesOver (backed_names copying name temporary backup) name backup old new s0 s1 (Err why)
-      → WritesBacked (backed_names copying name temporary backup) keep name backup old new s0 s1 (Err why)
+  others : (result : Result ℕ WriteErr) → WritesOver copying name temporary backup old new s0 s1 result → SparesOthers (backed_names copying name temporary backup) s0 s1
+  others result over = others_spared (backed_names copying name temporary backup) s0 s1 over.spares
+
+  pub backed_refused : (why : WriteErr) → WritesOver copying name temporary backup old new s0 s1 (Err why)
+      → WritesBacked copying keep name temporary backup old new s0 s1 (Err why)
   backed_refused why over = record {
     moments = inl (begins (Err why) over);
+    others = others (Err why) over;
     written = tt;
     kept = λ keeps. tt;
     gone = λ goes. tt;
@@ -84,10 +95,11 @@ module _ (copying keep : Bool) (name temporary backup : Name) (old new : List �
     somewhere = over.somewhere;
   }
 
-  pub backed_kept : (size : ℕ) → keep ≡ true → WritesOver (backed_names copying name temporary backup) name backup old new s0 s1 (Ok size)
-      → WritesBacked (backed_names copying name temporary backup) keep name backup old new s0 s1 (Ok size)
+  pub backed_kept : (size : ℕ) → keep ≡ true → WritesOver copying name temporary backup old new s0 s1 (Ok size)
+      → WritesBacked copying keep name temporary backup old new s0 s1 (Ok size)
   backed_kept size keeps over = record {
     moments = inl (begins (Ok size) over);
+    others = others (Ok size) over;
     written = (over.written.0, over.written.1);
     kept = λ keeps. over.written.2;
     gone = λ goes. absurd (true≢false (sym keeps ∙ goes));
@@ -98,13 +110,14 @@ module _ (copying keep : Bool) (name temporary backup : Name) (old new : List �
   }
 
   -- the backup is removed, or a call failed
-  pub backed_removed : (size : ℕ) (s2 : Scene) → keep ≡ false → ChangesFolder s0 s1 → (name ≡ backup → ⊥) → WritesOver (backed_names copying name temporary backup) name backup old new s0 s1 (Ok size)
+  pub backed_removed : (size : ℕ) (s2 : Scene) → keep ≡ false → ChangesFolder s0 s1 → (name ≡ backup → ⊥) → WritesOver copying name temporary backup old new s0 s1 (Ok size)
       → Runs (Spares (one_name backup)) s1 s2 → ((HasRisen s0.folder_faults s2.folder_faults → ⊥) → (lost : ℕ) → names_at s2.folder lost backup ≡ None)
-      → WritesBacked (backed_names copying name temporary backup) keep name backup old new s0 s2 (Ok size)
+      → WritesBacked copying keep name temporary backup old new s0 s2 (Ok size)
   backed_removed size s2 goes frame differ over drops gone =
       let on = backed_names copying name temporary backup in
       let holds = over.written.1 in
       let before = begins (Ok size) over in
+      let spares = spares_on on s0 s1 s2 frame over.spares (runs_wider (one_name backup) on s1 s2 (λ n same. backup_named copying name temporary backup n same) drops) in
       record {
         moments = inl (record {
           begun = s0;
@@ -113,8 +126,10 @@ module _ (copying keep : Bool) (name temporary backup : Name) (old new : List �
           whole = kept_on (IsWhole name backup old new) s0 s1 s2 frame before.whole
               (runs_as (Spares (one_name backup)) (λ a b. IsWhole name backup old new b) s1 s2
               (λ d spares. whole_new name backup old new d (holds_spared (one_name backup) name (λ c. c ≡ new) s1.folder d differ spares holds)) drops);
-          spares = spares_on on s0 s1 s2 frame over.spares (runs_wider (one_name backup) on s1 s2 (λ n same. backup_named copying name temporary backup n same) drops);
+          places = places_dropped copying keep name backup s0 s1 s2 size goes frame differ over.places drops;
+          spares = spares;
         });
+        others = others_spared on s0 s2 spares;
         written = (over.written.0, holds_spared (one_name backup) name (λ c. c ≡ new) s1.folder s2.folder differ drops.now holds);
         kept = λ keeps. absurd (true≢false (sym keeps ∙ goes));
         gone = λ goes none. gone none;
@@ -125,15 +140,17 @@ module _ (copying keep : Bool) (name temporary backup : Name) (old new : List �
       }
 
 -- ---- from a file that is there
-module _ (on : Name → Type 0) (keep : Bool) (name backup : Name) (old new : List ℕ) (s0 s1 : Scene) (content : content_in s0.folder name ≡ Some old) (looked : Runs Narrowed s0 s1) where
+module _ (copying keep : Bool) (name temporary backup : Name) (old new : List ℕ) (s0 s1 : Scene) (content : content_in s0.folder name ≡ Some old) (looked : Runs Narrowed s0 s1)
+    (spared : SparesOthers (backed_names copying name temporary backup) s0 s1) where
   may_leave_narrowed : MayLeave s1.folder name (Some old)
   may_leave_narrowed = may_leave_now name old s1.folder (narrowed_content name s0.folder s1.folder looked.now ∙ content)
 
   -- nothing has changed
   pub backed_not_begun : (why : WriteErr) → (OldIn {T = ℕ} place.Nowhere (Err why) → ⊥) → (OldIn {T = ℕ} place.Backup (Err why) → ⊥) → (IsErrOf {T = ℕ} (Err why) error.NoBackupName → ⊥)
-      → WritesBacked on keep name backup old new s0 s1 (Err why)
+      → WritesBacked copying keep name temporary backup old new s0 s1 (Err why)
   backed_not_begun why somewhere not_backup no_name = record {
     moments = inr (looked, refl);
+    others = spared;
     written = tt;
     kept = λ keeps. tt;
     gone = λ goes. tt;
@@ -144,8 +161,8 @@ module _ (on : Name → Type 0) (keep : Bool) (name backup : Name) (old new : Li
   }
 
   -- after what left all as it was
-  pub backed_after : (result : Result ℕ WriteErr) (s2 : Scene) → ChangesFolder s0 s1 → s0.folder_faults ≤ s1.folder_faults → WritesBacked on keep name backup old new s1 s2 result
-      → WritesBacked on keep name backup old new s0 s2 result
+  pub backed_after : (result : Result ℕ WriteErr) (s2 : Scene) → ChangesFolder s0 s1 → s0.folder_faults ≤ s1.folder_faults → WritesBacked copying keep name temporary backup old new s1 s2 result
+      → WritesBacked copying keep name temporary backup old new s0 s2 result
   backed_after result s2 frame later backed = record {
     moments = elim backed.moments [
       | inl whole ↦ inl (record {
@@ -153,10 +170,12 @@ module _ (on : Name → Type 0) (keep : Bool) (name backup : Name) (old new : Li
         looked = runs_on Narrowed narrowed_then s0 s1 whole.begun frame looked whole.looked;
         settled = whole.settled;
         whole = whole.whole;
+        places = whole.places;
         spares = whole.spares;
       })
       | inr none ↦ inr (runs_on Narrowed narrowed_then s0 s1 s2 frame looked none.0, none.1)
     ];
+    others = others_on (backed_names copying name temporary backup) s0 s1 s2 frame looked spared backed.others;
     written = backed.written;
     kept = backed.kept;
     gone = λ goes. gone_after result goes;
@@ -185,10 +204,10 @@ holds_there name bytes disk holds = let here = holds 0 in there_at disk (names_o
     there_at disk (Some other) number leads = refl
 
 -- there was no memory before anything changed
-pub backed_no_memory : (on : Name → Type 0) (keep : Bool) (name backup : Name) (old new : List ℕ) (s0 : Scene) → content_in s0.folder name ≡ Some old
-    → WritesBacked on keep name backup old new s0 s0 (Err (error.NoMemory place.File))
-backed_no_memory on keep name backup old new s0 content =
-    backed_not_begun on keep name backup old new s0 s0 content (narrowed_starts s0) (error.NoMemory place.File) (λ refused. elim refused [ inl is ↦ cc | inr is ↦ cc ]) (λ refused. elim refused [ inl is ↦ cc | inr is ↦ cc ]) (λ e. cc)
+pub backed_no_memory : (copying keep : Bool) (name temporary backup : Name) (old new : List ℕ) (s0 : Scene) → content_in s0.folder name ≡ Some old
+    → WritesBacked copying keep name temporary backup old new s0 s0 (Err (error.NoMemory place.File))
+backed_no_memory copying keep name temporary backup old new s0 content =
+    backed_not_begun copying keep name temporary backup old new s0 s0 content (narrowed_starts s0) (others_starts (backed_names copying name temporary backup) s0) (error.NoMemory place.File) (λ refused. elim refused [ inl is ↦ cc | inr is ↦ cc ]) (λ refused. elim refused [ inl is ↦ cc | inr is ↦ cc ]) (λ e. cc)
 
 -- ---- before anything has changed
 never_elsewhere : (why : Stop) (at : Place) → (at ≡ place.File → ⊥) → OldIn {T = ℕ} at (Err (stopped why place.File)) → ⊥
@@ -204,10 +223,10 @@ never_unnamed stop.NoMemory is = cc
 pub looks_narrowed : (s0 s1 : Scene) → Looks s0 s1 → Runs Narrowed s0 s1
 looks_narrowed s0 s1 looks = runs_as (λ a b. b ≡ a) Narrowed s0 s1 (λ d same. narrowed_none s0.folder d same) looks
 
-pub backed_stopped : (on : Name → Type 0) (keep : Bool) (name backup : Name) (old new : List ℕ) (s0 s1 : Scene) → content_in s0.folder name ≡ Some old → Looks s0 s1 → (why : Stop)
-    → WritesBacked on keep name backup old new s0 s1 (Err (stopped why place.File))
-backed_stopped on keep name backup old new s0 s1 content looks why =
-    backed_not_begun on keep name backup old new s0 s1 content (looks_narrowed s0 s1 looks) (stopped why place.File)
+pub backed_stopped : (copying keep : Bool) (name temporary backup : Name) (old new : List ℕ) (s0 s1 : Scene) → content_in s0.folder name ≡ Some old → Looks s0 s1 → (why : Stop)
+    → WritesBacked copying keep name temporary backup old new s0 s1 (Err (stopped why place.File))
+backed_stopped copying keep name temporary backup old new s0 s1 content looks why =
+    backed_not_begun copying keep name temporary backup old new s0 s1 content (looks_narrowed s0 s1 looks) (others_looks (backed_names copying name temporary backup) s0 s1 looks) (stopped why place.File)
     (λ refused. never_elsewhere why place.Nowhere (λ e. cc) refused) (λ refused. never_elsewhere why place.Backup (λ e. cc) refused) (λ e. never_unnamed why e)
 
 pub old_in_file : (why : Stop) → OldIn {T = ℕ} place.File (Err (stopped why place.File))

@@ -1,5 +1,5 @@
 -- Writing over a file in its place: until the copy stands under the backup name the file has the old bytes, and then the copy has.
-use Rattle.std.proofs.Common.{◌≡◌, inl, inr, ℕ, List, [], ◌∷◌, Some, length, OnOk, OnErr, Result, Ok, Err, sym, ◌∙◌, ap, subst, arith}
+use Rattle.std.proofs.Common.{◌≡◌, inl, inr, ℕ, Bool, true, List, [], ◌∷◌, Some, length, OnOk, OnErr, Result, Ok, Err, sym, ◌∙◌, ap, subst, arith}
 use Rattle.std.specs.Prelude.{IsErrOf}
 use Rattle.vs_host.specs.File.{File, Cuts}
 use Rattle.vs_host.specs.Disk.{Disk, Name, content_in, ChangesFile, IsFolder}
@@ -12,8 +12,8 @@ use Rattle.vs_disk.proofs.Steps.{same_at}
 use Rattle.vs_disk.proofs.Images.{cut_keeps_images, read_image}
 use Rattle.vs_disk.proofs.Runs.{one_call, runs_as, runs_then}
 use Rattle.vs_disk.proofs.Contents.{file_of_content, content_of_file, holds_synced}
-use Rattle.vs_backup.specs.Works.{ChangesOne, Fills, IsAlone, Spares, one_name, two_names, three_names}
-use Rattle.vs_backup.specs.Writing.{IsKept, IsSettled, StartsOver, WritesOver, OldIn, stopped}
+use Rattle.vs_backup.specs.Works.{ChangesOne, Fills, IsAlone, LeadsTo, Spares, one_name, two_names, three_names}
+use Rattle.vs_backup.specs.Writing.{IsKept, IsSettled, Places, StartsOver, WritesOver, OldIn, backed_names, stopped}
 use Rattle.vs_backup.specs.declared.errors.Place.{Place}
 use Rattle.vs_backup.specs.declared.errors.Place.TheVariants as place
 use Rattle.vs_backup.specs.declared.errors.Stop.{Stop}
@@ -21,7 +21,8 @@ use Rattle.vs_backup.specs.declared.errors.Stop.TheVariants as stop
 use Rattle.vs_backup.specs.declared.errors.WriteErr.TheVariants as error
 use Rattle.vs_backup.proofs.Calls.{runs_wider, runs_file, spares_on, synced_bytes}
 use Rattle.vs_backup.proofs.Frames.{alone_settled, holds_spared, synced_spared, spares_same}
-use Rattle.vs_backup.proofs.Filling.{changes_by}
+use Rattle.vs_backup.proofs.Filling.{changes_by, changes_same}
+use Rattle.vs_backup.proofs.Places.{in_place_spared, in_place_on}
 use Rattle.vs_backup.proofs.Kept.{kept_by_name, kept_by_backup, settled_holds, may_leave_now, may_leave_filled}
 
 -- a predicate that holds at each moment of two runs
@@ -72,20 +73,23 @@ module _ (name backup temporary : Name) (old : List ℕ) (s0 s1 : Scene) (differ
   copy_kept = runs_as (Spares (two_names temporary backup)) (λ a b. IsKept name backup old b) s0 s1
       (λ d spares. kept_by_name name backup old d (holds_spared (two_names temporary backup) name (λ c. c ≡ old) s0.folder d not_two spares (settled_holds name old s0.folder is))) runs
 
+  pub copy_in_place : Runs (LeadsTo name name) s0 s1
+  copy_in_place = in_place_spared (two_names temporary backup) name s0 s1 not_two is.pending runs
+
   pub copy_holds : HoldsBytes name old s1.folder
   copy_holds = holds_spared (two_names temporary backup) name (λ c. c ≡ old) s0.folder s1.folder not_two runs.now (settled_holds name old s0.folder is)
 
   pub copy_content : content_in s1.folder name ≡ Some old
   copy_content = synced_bytes name old s1.folder (synced_spared (two_names temporary backup) name old s0.folder s1.folder not_two runs.now is.synced)
 
-  pub copy_failed : (result : Result (Unit {0}) Failed) → OnOk result ⊥ → StartsOver (three_names name temporary backup) name backup old s0 s1 result
+  pub copy_failed : (result : Result (Unit {0}) Failed) → OnOk result ⊥ → StartsOver name temporary backup old s0 s1 result
   copy_failed (Ok x) none = absurd none
-  copy_failed (Err e) none = record { spares = copy_spares; kept = copy_kept; backed = tt; empty = tt; may_leave = tt; not_done = copy_holds }
+  copy_failed (Err e) none = record { spares = copy_spares; kept = copy_kept; in_place = copy_in_place; backed = tt; empty = tt; may_leave = tt; not_done = copy_holds }
 
   -- the file is cut, or not
   pub cut_over : (result : Result (Unit {0}) Failed) (s2 : Scene) → ChangesFolder s0 s1 → (backup ≡ name → ⊥) → IsSettled backup old s1.folder → IsFolder s1.folder → ChangesFolder s1 s2
       → IsTold Cut (name ∷ []) result s1 s2 → OnOk result (ChangesFile name (Cuts 0) s1.folder s2.folder) → OnErr result (s2.folder ≡ s1.folder)
-      → StartsOver (three_names name temporary backup) name backup old s0 s2 result
+      → StartsOver name temporary backup old s0 s2 result
   cut_over (Ok x) s2 frame apart settled folder framed told ok err =
       let answer : Result (Unit {0}) Failed = Ok x in
       let runs_cut : Runs (ChangesOne name) s1 s2 = one_call (ChangesOne name) Cut (name ∷ []) answer s1 s2 framed told (changes_by name (Cuts 0) s1.folder s2.folder ok) in
@@ -98,6 +102,7 @@ module _ (name backup temporary : Name) (old : List ℕ) (s0 s1 : Scene) (differ
       record {
         spares = spares_on (three_names name temporary backup) s0 s1 s2 frame copy_spares (over_spares name backup temporary old s1 s2 apart settled folder old copy_content runs_cut);
         kept = kept_on (IsKept name backup old) s0 s1 s2 frame copy_kept (over_kept name backup temporary old s1 s2 apart settled folder old copy_content runs_cut);
+        in_place = in_place_on name s0 s1 s2 frame copy_in_place runs_cut;
         backed = over_backed name backup temporary old s1 s2 apart settled folder old copy_content runs_cut;
         empty = cut_content name old s1.folder s2.folder ok copy_content;
         may_leave = may_leave_filled name old s1.folder s2.folder keeps (may_leave_now name old s1.folder copy_content);
@@ -110,6 +115,7 @@ module _ (name backup temporary : Name) (old : List ℕ) (s0 s1 : Scene) (differ
         spares = spares_on on s0 s1 s2 frame copy_spares (one_call (Spares on) Cut (name ∷ []) answer s1 s2 framed told (spares_same on s1.folder s2.folder err));
         kept = kept_on (IsKept name backup old) s0 s1 s2 frame copy_kept
             (one_call (λ a b. IsKept name backup old b) Cut (name ∷ []) answer s1 s2 framed told (subst (λ (d : Disk). IsKept name backup old d) (sym err) (kept_by_name name backup old s1.folder copy_holds)));
+        in_place = in_place_on name s0 s1 s2 frame copy_in_place (one_call (ChangesOne name) Cut (name ∷ []) answer s1 s2 framed told (changes_same name s1.folder s2.folder err));
         backed = tt;
         empty = tt;
         may_leave = tt;
@@ -150,7 +156,7 @@ may_leave_held name bytes disk holds =
 
 -- after the file was emptied, the text was written, or not
 module _ (name backup temporary : Name) (old new : List ℕ) (s0 s1 s2 : Scene) (frame : ChangesFolder s0 s1) (differ : backup ≡ name → ⊥) (folder : IsFolder s1.folder)
-    (over : StartsOver (three_names name temporary backup) name backup old s0 s1 (Ok tt)) (runs : Runs (ChangesOne name) s1 s2) where
+    (over : StartsOver name temporary backup old s0 s1 (Ok tt)) (runs : Runs (ChangesOne name) s1 s2) where
   all_spares : Runs (Spares (three_names name temporary backup)) s0 s2
   all_spares = spares_on (three_names name temporary backup) s0 s1 s2 frame over.spares (over_spares name backup temporary old s1 s2 differ over.backed folder [] over.empty runs)
 
@@ -160,10 +166,11 @@ module _ (name backup temporary : Name) (old new : List ℕ) (s0 s1 s2 : Scene) 
   backed : IsSettled backup old s2.folder
   backed = over_backed name backup temporary old s1 s2 differ over.backed folder [] over.empty runs
 
-  pub copying_done : (size : ℕ) → size ≡ length new → IsSynced name new s2.folder → WritesOver (three_names name temporary backup) name backup old new s0 s2 (Ok size)
+  pub copying_done : (size : ℕ) → size ≡ length new → IsSynced name new s2.folder → WritesOver true name temporary backup old new s0 s2 (Ok size)
   copying_done size is synced = record {
     spares = all_spares;
     kept = all_kept;
+    places = in_place_on name s0 s1 s2 frame over.in_place runs;
     written = (is, holds_synced name new s2.folder backed.pending synced, settled_holds backup old s2.folder backed);
     not_written = tt;
     in_file = λ refused. absurd (never_refused size place.File refused);
@@ -171,10 +178,11 @@ module _ (name backup temporary : Name) (old new : List ℕ) (s0 s1 s2 : Scene) 
     somewhere = (λ refused. never_refused size place.Nowhere refused, λ is. cc);
   }
 
-  pub copying_stopped : (why : Stop) → Fills name s1.folder s2.folder → WritesOver (three_names name temporary backup) name backup old new s0 s2 (Err (stopped why place.Backup))
+  pub copying_stopped : (why : Stop) → Fills name s1.folder s2.folder → WritesOver true name temporary backup old new s0 s2 (Err (stopped why place.Backup))
   copying_stopped why fills = record {
     spares = all_spares;
     kept = all_kept;
+    places = in_place_on name s0 s1 s2 frame over.in_place runs;
     written = tt;
     not_written = inl (may_leave_filled name old s1.folder s2.folder fills over.may_leave);
     in_file = λ refused. absurd (never_file why refused);
@@ -183,11 +191,13 @@ module _ (name backup temporary : Name) (old new : List ℕ) (s0 s1 s2 : Scene) 
   }
 
 -- the file is as it was
-pub copying_not_begun : (on : Name → Type 0) (name backup : Name) (old new : List ℕ) (s0 s1 : Scene) → Runs (Spares on) s0 s1 → Runs (λ a b. IsKept name backup old b) s0 s1 → HoldsBytes name old s1.folder
-    → WritesOver on name backup old new s0 s1 (Err (error.Failed place.File))
-copying_not_begun on name backup old new s0 s1 spares kept holds = record {
+pub over_not_begun : (copying : Bool) (name temporary backup : Name) (old new : List ℕ) (s0 s1 : Scene) → Runs (Spares (backed_names copying name temporary backup)) s0 s1
+    → Runs (λ a b. IsKept name backup old b) s0 s1 → Places copying true name backup s0 s1 (Err (error.Failed place.File)) → HoldsBytes name old s1.folder
+    → WritesOver copying name temporary backup old new s0 s1 (Err (error.Failed place.File))
+over_not_begun copying name temporary backup old new s0 s1 spares kept places holds = record {
   spares = spares;
   kept = kept;
+  places = places;
   written = tt;
   not_written = inl (may_leave_held name old s1.folder holds);
   in_file = λ refused. holds;

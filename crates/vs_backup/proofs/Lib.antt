@@ -7,5 +7,7 @@ pub mod Frames
 pub mod Kept
 pub mod Moving
 pub mod NamesApart
+pub mod Others
+pub mod Places
 pub mod Unbacked
 pub mod Whole

@@ -1,21 +1,22 @@
 -- Writing a file anew after it was renamed to its backup: in each image the name or the backup name leads to the old file.
-use Rattle.std.proofs.Common.{◌≡◌, inl, inr, ℕ, List, [], ◌∷◌, Option, None, length, OnOk, Result, Ok, Err, refl, sym, ◌∙◌, subst}
-use Rattle.vs_host.specs.Disk.{Disk, Name, Creates, Renames, names_at, content_in, IsImageOf, ChangesNames, CreatesFile, SyncsNames}
+use Rattle.std.proofs.Common.{◌≡◌, inl, inr, ℕ, false, List, [], ◌∷◌, Option, None, length, OnOk, Result, Ok, Err, refl, sym, ◌∙◌, subst}
+use Rattle.vs_host.specs.Disk.{Disk, Name, Creates, Renames, names_at, content_in, IsImageOf, ChangesNames, CreatesFile, IsFolder, SyncsNames}
 use Rattle.vs_host.specs.Trace.{Created, SyncedNames, Renamed}
 use Rattle.vs_host.specs.World.{Scene, ChangesFolder, IsTold}
 use Rattle.vs_host.specs.declared.traits.Failed.{Failed}
 use Rattle.vs_disk.specs.Images.{Changes, IsSynced, MayLeave}
 use Rattle.vs_disk.specs.Runs.{Runs}
-use Rattle.vs_disk.proofs.Steps.{at_name, same_at, older_names}
+use Rattle.vs_disk.proofs.Steps.{at_name, same_at, older_names, one_state}
 use Rattle.vs_disk.proofs.Runs.{one_call, runs_as}
 use Rattle.vs_disk.proofs.Contents.{leads_nowhere}
-use Rattle.vs_backup.specs.Works.{ChangesOne, IsAlone, Spares, one_name, two_names}
+use Rattle.vs_backup.specs.Works.{ChangesOne, IsAlone, LeadsTo, Spares, one_name, two_names}
 use Rattle.vs_backup.specs.Writing.{IsKept, IsSettled, IsGuarded, WritesAnew, WritesOver, stopped}
 use Rattle.vs_backup.specs.declared.errors.Place.TheVariants as place
 use Rattle.vs_backup.specs.declared.errors.Stop.{Stop}
 use Rattle.vs_backup.proofs.Calls.{runs_wider, runs_file, spares_on}
 use Rattle.vs_backup.proofs.Frames.{alone_created, spares_same, spares_created, spares_synced, spares_renamed, settled_now}
 use Rattle.vs_backup.proofs.Kept.{guard_kept, guard_same, guard_created, guard_file, guard_synced, guard_moved, guard_bytes, settled_holds}
+use Rattle.vs_backup.proofs.Places.{leads_away}
 use Rattle.vs_backup.proofs.Copying.{kept_on, never_file, never_nowhere, never_no_name, never_refused}
 
 -- ---- the name is made anew
@@ -107,10 +108,19 @@ module _ (name backup : Name) (old new : List ℕ) (s0 s1 s2 : Scene) (is : IsSe
   moved_kept result anew = kept_on (IsKept name backup old) s0 s1 s2 frame renamed_kept
       (runs_as (λ a b. IsGuarded name backup is.synced.number old b) (λ a b. IsKept name backup old b) s1 s2 (λ d here. guard_kept name backup is.synced.number old d here) anew.guarded)
 
-  pub moving_done : (size : ℕ) → WritesAnew name backup is.synced.number old new s1 s2 (Ok size) → WritesOver (two_names name backup) name backup old new s0 s2 (Ok size)
-  moving_done size anew = record {
+  backup_leads : (size : ℕ) → WritesAnew name backup is.synced.number old new s1 s2 (Ok size) → LeadsTo backup name s0.folder s2.folder
+  backup_leads size anew lost = one_state s2.folder anew.written.1.pending lost backup ∙ anew.guarded.now.now ∙ sym is.synced.leads
+
+  pub moving_done : (size : ℕ) (temporary : Name) → (name ≡ backup → ⊥) → IsFolder s2.folder → WritesAnew name backup is.synced.number old new s1 s2 (Ok size)
+      → WritesOver false name temporary backup old new s0 s2 (Ok size)
+  moving_done size temporary differ folder anew = record {
     spares = moved_spares (Ok size) anew;
     kept = moved_kept (Ok size) anew;
+    places = record {
+      another = leads_away name backup is.synced.number s0.folder s2.folder differ folder is.synced.leads (backup_leads size anew);
+      kept = λ keeps. backup_leads size anew;
+      in_backup = λ refused. absurd (never_refused size place.Backup refused);
+    };
     written = (anew.written.0, settled_holds name new s2.folder anew.written.1, guard_bytes name backup is.synced.number old s2.folder anew.written.1.pending anew.guarded.now);
     not_written = tt;
     in_file = λ refused. absurd (never_refused size place.File refused);
@@ -118,10 +128,12 @@ module _ (name backup : Name) (old new : List ℕ) (s0 s1 s2 : Scene) (is : IsSe
     somewhere = (λ refused. never_refused size place.Nowhere refused, λ is. cc);
   }
 
-  pub moving_stopped : (why : Stop) → WritesAnew name backup is.synced.number old new s1 s2 (Err why) → WritesOver (two_names name backup) name backup old new s0 s2 (Err (stopped why place.Backup))
-  moving_stopped why anew = record {
+  pub moving_stopped : (why : Stop) (temporary : Name) → WritesAnew name backup is.synced.number old new s1 s2 (Err why)
+      → WritesOver false name temporary backup old new s0 s2 (Err (stopped why place.Backup))
+  moving_stopped why temporary anew = record {
     spares = moved_spares (Err why) anew;
     kept = moved_kept (Err why) anew;
+    places = record { another = tt; kept = λ keeps. tt; in_backup = λ refused. anew.guarded.now.now ∙ sym is.synced.leads };
     written = tt;
     not_written = inr anew.absent;
     in_file = λ refused. absurd (never_file why refused);

@@ -10,35 +10,44 @@ use Rattle.vs_disk.specs.Runs.{Runs}
 use Rattle.vs_disk.proofs.Images.{cut_keeps_images}
 use Rattle.vs_disk.proofs.Runs.{one_call, runs_as, runs_on, starts}
 use Rattle.vs_disk.proofs.Contents.{holds_synced, takes_then}
-use Rattle.vs_backup.specs.Works.{ChangesOne, Fills, IsAlone, Narrowed, Spares, one_name, two_names}
+use Rattle.vs_backup.specs.Works.{ChangesOne, Fills, IsAlone, Narrowed, Spares, SparesOthers, one_name, two_names}
 use Rattle.vs_backup.specs.Writing.{IsSettled, WritesFresh, WritesPlain}
 use Rattle.vs_backup.specs.declared.errors.Stop.{Stop}
 use Rattle.vs_backup.proofs.Calls.{runs_wider, runs_file, spares_on, synced_bytes}
 use Rattle.vs_backup.proofs.Frames.{spares_none, spares_same, takes_spared, content_spared, absent_now}
-use Rattle.vs_backup.proofs.Filling.{changes_by, changes_then}
+use Rattle.vs_backup.proofs.Filling.{changes_by, changes_same, changes_then}
 use Rattle.vs_backup.proofs.Kept.{may_leave_now, may_leave_filled, settled_holds}
 use Rattle.vs_backup.proofs.Copying.{alone_now}
+use Rattle.vs_backup.proofs.Others.{others_spared, others_on}
+use Rattle.vs_backup.proofs.Places.{in_place_starts, in_place_changed}
 use Rattle.vs_backup.proofs.Backed.{narrowed_content}
 
 -- ---- over a file that is there
-module _ (name : Name) (old new : List ℕ) (s0 s1 : Scene) (content : content_in s0.folder name ≡ Some old) (looked : Runs Narrowed s0 s1) where
+module _ (name : Name) (old new : List ℕ) (s0 s1 : Scene) (content : content_in s0.folder name ≡ Some old) (looked : Runs Narrowed s0 s1) (spared : SparesOthers (one_name name) s0 s1) where
   pub plain_not_begun : (result : Result ℕ Stop) → OnOk result ⊥ → WritesPlain name old new s0 s1 result
   plain_not_begun (Ok size) none = absurd none
   plain_not_begun (Err why) none = record {
     begun = s1;
     looked = looked;
+    in_place = λ none_pending. in_place_starts name s1 none_pending;
     spares = starts (Spares (one_name name)) s1 (spares_none (one_name name) s1.folder);
+    others = spared;
     written = tt;
     not_written = inl (may_leave_now name old s1.folder (narrowed_content name s0.folder s1.folder looked.now ∙ content));
   }
 
-  module _ (settled : IsSettled name old s1.folder) (folder : IsFolder s1.folder) (s2 : Scene) (framed : ChangesFolder s1 s2) (answer : Result (Unit {0}) Failed) (told : IsTold Cut (name ∷ []) answer s1 s2) where
+  module _ (frame : ChangesFolder s0 s1) (settled : IsSettled name old s1.folder) (folder : IsFolder s1.folder) (s2 : Scene) (framed : ChangesFolder s1 s2) (answer : Result (Unit {0}) Failed) (told : IsTold Cut (name ∷ []) answer s1 s2) where
+    cut_spares : s2.folder ≡ s1.folder → Runs (Spares (one_name name)) s1 s2
+    cut_spares same = one_call (Spares (one_name name)) Cut (name ∷ []) answer s1 s2 framed told (spares_same (one_name name) s1.folder s2.folder same)
+
     pub plain_not_cut : (result : Result ℕ Stop) → OnOk result ⊥ → s2.folder ≡ s1.folder → WritesPlain name old new s0 s2 result
     plain_not_cut (Ok size) none same = absurd none
     plain_not_cut (Err why) none same = record {
       begun = s1;
       looked = looked;
-      spares = one_call (Spares (one_name name)) Cut (name ∷ []) answer s1 s2 framed told (spares_same (one_name name) s1.folder s2.folder same);
+      in_place = λ none_pending. in_place_changed name s1 s2 none_pending (one_call (ChangesOne name) Cut (name ∷ []) answer s1 s2 framed told (changes_same name s1.folder s2.folder same));
+      spares = cut_spares same;
+      others = others_on (one_name name) s0 s1 s2 frame looked spared (others_spared (one_name name) s1 s2 (cut_spares same));
       written = tt;
       not_written = inl (subst (λ (d : Disk). MayLeave d name (Some old)) (sym same) (may_leave_now name old s1.folder (synced_bytes name old s1.folder settled.synced)));
     }
@@ -58,22 +67,32 @@ module _ (name : Name) (old new : List ℕ) (s0 s1 : Scene) (content : content_i
       plain_alone : IsAlone name s1.folder
       plain_alone = alone_now name old s1.folder settled.pending folder there
 
+      plain_changes : Runs (ChangesOne name) s1 s3
+      plain_changes =
+          runs_on (ChangesOne name) (changes_then name) s1 s2 s3 framed (one_call (ChangesOne name) Cut (name ∷ []) answer s1 s2 framed told (changes_by name (Cuts 0) s1.folder s2.folder cuts)) runs
+
       plain_spares : Runs (Spares (one_name name)) s1 s3
-      plain_spares = runs_file name s1 s3 plain_alone
-          (runs_on (ChangesOne name) (changes_then name) s1 s2 s3 framed (one_call (ChangesOne name) Cut (name ∷ []) answer s1 s2 framed told (changes_by name (Cuts 0) s1.folder s2.folder cuts)) runs)
+      plain_spares = runs_file name s1 s3 plain_alone plain_changes
+
+      plain_others : SparesOthers (one_name name) s0 s3
+      plain_others = others_on (one_name name) s0 s1 s3 frame looked spared (others_spared (one_name name) s1 s3 plain_spares)
 
       pub plain_filled : (result : Result ℕ Stop) → IfOk result (λ size. (size ≡ length new) × IsSynced name new s3.folder) → OnErr result (Fills name s2.folder s3.folder) → WritesPlain name old new s0 s3 result
       plain_filled (Ok size) done fills = record {
         begun = s1;
         looked = looked;
+        in_place = λ none_pending. in_place_changed name s1 s3 none_pending plain_changes;
         spares = plain_spares;
+        others = plain_others;
         written = (done.0, holds_synced name new s3.folder (runs.now.pending ∙ cuts.pending ∙ settled.pending) done.1);
         not_written = tt;
       }
       plain_filled (Err why) done fills = record {
         begun = s1;
         looked = looked;
+        in_place = λ none_pending. in_place_changed name s1 s3 none_pending plain_changes;
         spares = plain_spares;
+        others = plain_others;
         written = tt;
         not_written = inl (may_leave_filled name old s2.folder s3.folder fills (may_leave_filled name old s1.folder s2.folder keeps (may_leave_now name old s1.folder there)));
       }

@@ -1,13 +1,18 @@
 -- The whole of a write after the first look at the folder, which has left it as it was.
-use Rattle.std.proofs.Common.{◌≡◌, ℕ, List, Result, Err, refl}
-use Rattle.vs_host.specs.Disk.{Name}
+use Rattle.std.proofs.Common.{◌≡◌, inl, inr, ℕ, Bool, true, false, List, Option, Some, None, Result, Err, refl, sym, ◌∙◌, subst}
+use Rattle.std.specs.Prelude.{is_some, IsSome}
+use Rattle.vs_host.specs.Disk.{Disk, Name, content_in}
+use Rattle.vs_host.specs.Names.{temporary}
 use Rattle.vs_host.specs.World.{Scene, ChangesFolder, ReadsFolder}
 use Rattle.vs_disk.specs.Images.{Takes}
 use Rattle.vs_disk.specs.Runs.{Looks}
 use Rattle.vs_disk.proofs.Runs.{runs_as, runs_on, looks_on, reads_change}
 use Rattle.vs_disk.proofs.Contents.{takes_then}
-use Rattle.vs_backup.specs.Works.{Narrowed, Spares, two_names}
-use Rattle.vs_backup.specs.Writing.{FindsNoName, IsUnseen, WritesFresh, WritesInPlace}
+use Rattle.vs_backup.specs.Backups.{WorksOn, backup_of, copies}
+use Rattle.vs_backup.specs.Backups.WorksOn.{TheFile, TheNewFile, TheBackup, TheCopy}
+use Rattle.vs_backup.specs.declared.options.WriteOptions.{WriteOptions}
+use Rattle.vs_backup.specs.Works.{Narrowed, Spares, SparesOthers, one_name, two_names}
+use Rattle.vs_backup.specs.Writing.{FindsNoName, IsUnseen, WritesFresh, WritesInPlace, WritesPlain, WritesWith, backed_names}
 use Rattle.vs_backup.specs.declared.errors.Place.TheVariants as place
 use Rattle.vs_backup.specs.declared.errors.Stop.{Stop}
 use Rattle.vs_backup.specs.declared.errors.WriteErr.{WriteErr}
@@ -15,6 +20,7 @@ use Rattle.vs_backup.specs.declared.errors.WriteErr.TheVariants as error
 use Rattle.vs_backup.proofs.Calls.{spares_on}
 use Rattle.vs_backup.proofs.Frames.{narrowed_then, spares_same, takes_same}
 use Rattle.vs_backup.proofs.Backed.{looks_narrowed}
+use Rattle.vs_backup.proofs.Others.{others_spared, others_looks, others_wider, others_on}
 
 pub unseen : (s0 s1 : Scene) → Looks s0 s1 → IsUnseen s0 s1 (Err (error.Failed place.Nowhere))
 unseen s0 s1 looks = record { looks = looks; failed = refl }
@@ -33,7 +39,9 @@ module _ (s0 s1 s2 : Scene) (frame : ReadsFolder s0 s1) (looks : Looks s0 s1) (r
     plain = record {
       begun = here.plain.begun;
       looked = runs_on Narrowed narrowed_then s0 s1 here.plain.begun changed (looks_narrowed s0 s1 looks) here.plain.looked;
+      in_place = here.plain.in_place;
       spares = here.plain.spares;
+      others = others_on (one_name name) s0 s1 s2 changed (looks_narrowed s0 s1 looks) (others_looks (one_name name) s0 s1 looks) here.plain.others;
       written = here.plain.written;
       not_written = here.plain.not_written;
     };
@@ -49,3 +57,53 @@ module _ (s0 s1 s2 : Scene) (frame : ReadsFolder s0 s1) (looks : Looks s0 s1) (r
         written = here.written;
         not_written = here.not_written;
       }
+
+-- ---- the names on which a write works
+none_there : (at : Option (List ℕ)) → is_some at ≡ false → at ≡ None
+none_there None is = refl
+none_there (Some bytes) is = cc
+
+module _ (options : WriteOptions) (name : Name) (s0 s1 : Scene) where
+  works_by : (copying : Bool) (backup n : Name) → IsSome (content_in s0.folder name) → backup_of options name s0.folder ≡ Some backup → copies options.copy ≡ copying
+      → backed_names copying name (temporary backup) backup n → WorksOn options name s0.folder n
+  works_by true backup n there chosen is (inl e) = TheFile e
+  works_by true backup n there chosen is (inr (inl e)) = TheCopy backup there chosen is e
+  works_by true backup n there chosen is (inr (inr e)) = TheBackup backup there chosen e
+  works_by false backup n there chosen is (inl e) = TheFile e
+  works_by false backup n there chosen is (inr e) = TheBackup backup there chosen e
+
+  chosen_as : (old new : List ℕ) (result : Result ℕ WriteErr) → IsSome (content_in s0.folder name) → (chosen : Option Name) → backup_of options name s0.folder ≡ chosen
+      → ((backup : Name) → backup_of options name s0.folder ≡ Some backup → WritesWith options name backup old new s0 s1 result)
+      → (backup_of options name s0.folder ≡ None → FindsNoName s0 s1 result) → SparesOthers (WorksOn options name s0.folder) s0 s1
+  chosen_as old new result there None is backed none = others_looks (WorksOn options name s0.folder) s0 s1 (none is).looks
+  chosen_as old new result there (Some backup) is backed none =
+      others_wider (backed_names (copies options.copy) name (temporary backup) backup) (WorksOn options name s0.folder) s0 s1
+      (λ n works. works_by (copies options.copy) backup n there is refl works) (backed backup is).others
+
+  -- a write with a backup, where a name is free for it
+  pub chosen_others : (old new : List ℕ) (result : Result ℕ WriteErr) → IsSome (content_in s0.folder name)
+      → ((backup : Name) → backup_of options name s0.folder ≡ Some backup → WritesWith options name backup old new s0 s1 result)
+      → (backup_of options name s0.folder ≡ None → FindsNoName s0 s1 result) → SparesOthers (WorksOn options name s0.folder) s0 s1
+  chosen_others old new result there backed none = chosen_as old new result there (backup_of options name s0.folder) refl backed none
+
+  pub plain_others : (old new : List ℕ) (answer : Result ℕ Stop) → WritesPlain name old new s0 s1 answer → SparesOthers (WorksOn options name s0.folder) s0 s1
+  plain_others old new answer plain = others_wider (one_name name) (WorksOn options name s0.folder) s0 s1 (λ n is. TheFile is) plain.others
+
+  works_new : (made n : Name) → content_in s0.folder name ≡ None → made ≡ temporary name → two_names made name n → WorksOn options name s0.folder n
+  works_new made n none is (inl e) = TheNewFile none (e ∙ is)
+  works_new made n none is (inr e) = TheFile e
+
+  pub fresh_others : (made : Name) (new : List ℕ) (answer : Result ℕ Stop) → content_in s0.folder name ≡ None → made ≡ temporary name → WritesFresh (two_names made name) name new s0 s1 answer
+      → SparesOthers (WorksOn options name s0.folder) s0 s1
+  fresh_others made new answer none is fresh =
+      others_wider (two_names made name) (WorksOn options name s0.folder) s0 s1 (λ n works. works_new made n none is works) (others_spared (two_names made name) s0 s1 fresh.spares)
+
+-- after a look at the folder
+pub others_after : (options : WriteOptions) (name : Name) (s0 s1 s2 : Scene) → ReadsFolder s0 s1 → Looks s0 s1 → SparesOthers (WorksOn options name s1.folder) s1 s2 → SparesOthers (WorksOn options name s0.folder) s0 s2
+others_after options name s0 s1 s2 frame looks others =
+    let on = WorksOn options name s0.folder in
+    others_on on s0 s1 s2 (reads_change s0 s1 frame) (looks_narrowed s0 s1 looks) (others_looks on s0 s1 looks)
+    (subst (λ (d : Disk). SparesOthers (WorksOn options name d) s1 s2) looks.now others)
+
+pub not_there_now : (name : Name) (disk : Disk) → false ≡ is_some (content_in disk name) → content_in disk name ≡ None
+not_there_now name disk is = none_there (content_in disk name) (sym is)

@@ -1,6 +1,7 @@
 -- Which backup a write makes.
 use Rattle.std.specs.Prelude.{◌≡◌, ℕ, zero, suc, ◌+◌, ◌-◌, Bool, true, false, List, [], ◌∷◌, ◌++◌, length, map, take, codes, Option, Some, None, is_some, IsSome, IsTrue, if◌then◌else◌, ◌||◌}
 use Rattle.vs_host.specs.Disk.{Disk, Name, content_in}
+use Rattle.vs_host.specs.Names.{temporary}
 use Rattle.vs_backup.specs.declared.options.CopyMode.{CopyMode}
 use Rattle.vs_backup.specs.declared.options.CopyMode.TheVariants.{Yes, No, Auto}
 use Rattle.vs_backup.specs.declared.options.WriteOptions.{WriteOptions}
@@ -53,3 +54,11 @@ pub record IsNoName (options : WriteOptions) (name : Name) (told : Bool) (disk :
   pub on : options.writebackup ≡ true
   pub there : IsTrue told → IsSome (content_in disk name)
   pub taken : IsTrue told → backup_of options name disk ≡ None
+
+-- The names on which a write works: the file; the name under which it is made, where it is not there; and else its backup, with
+-- the name under which a copy is made.
+pub data WorksOn (options : WriteOptions) (name : Name) (disk : Disk) (other : Name) : Type 0 where
+  TheFile : other ≡ name → WorksOn options name disk other
+  TheNewFile : content_in disk name ≡ None → other ≡ temporary name → WorksOn options name disk other
+  TheBackup : (backup : Name) → IsSome (content_in disk name) → backup_of options name disk ≡ Some backup → other ≡ backup → WorksOn options name disk other
+  TheCopy : (backup : Name) → IsSome (content_in disk name) → backup_of options name disk ≡ Some backup → copies options.copy ≡ true → other ≡ temporary backup → WorksOn options name disk other

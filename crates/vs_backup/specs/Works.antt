@@ -1,8 +1,10 @@
 -- What calls on some names leave of all others.
 use Rattle.std.specs.Prelude.{◌≡◌, ◌⊎◌, ℕ, Bool, true, Some}
 use Rattle.vs_host.specs.Disk.{Disk, Name, names_of, names_at, ChangesFile}
+use Rattle.vs_host.specs.World.{Scene}
 use Rattle.vs_disk.specs.Images.{Changes, KeepsImages, Narrows}
-use Rattle.vs_disk.specs.Names.{SameAt}
+use Rattle.vs_disk.specs.Names.{IsApart, SameAt}
+use Rattle.vs_disk.specs.Runs.{Runs}
 
 -- sets of one name, of two, and of three
 abbrev pub one_name : Name → Name → Type 0
@@ -22,6 +24,18 @@ IsOutside on inside = (name : Name) → inside name ≡ true → on name → ⊥
 -- leaves under them only what it left before.
 abbrev pub Spares : (Name → Type 0) → Disk → Disk → Type 0
 Spares on old new = (inside : Name → Bool) → IsOutside on inside → SameAt inside old new
+
+-- All names but those of this set are left alone at each moment, where no name of the set leads to a file of theirs.
+abbrev pub SparesOthers : (Name → Type 0) → Scene → Scene → Type 0
+SparesOthers on before after = (inside : Name → Bool) → IsOutside on inside → IsApart inside before.folder → Runs (SameAt inside) before after
+
+-- in each state of the names that a stop may leave, this name leads to the file to which that one led
+abbrev pub LeadsTo : Name → Name → Disk → Disk → Type 0
+LeadsTo name that old new = (lost : ℕ) → names_at new lost name ≡ names_of old that
+
+-- in no state of the names that a stop may leave does the name lead to the file to which it led
+abbrev pub LeadsAway : Name → Disk → Disk → Type 0
+LeadsAway name old new = (lost : ℕ) → names_at new lost name ≡ names_of old name → ⊥
 
 -- No other name leads to the file of this name, or led there in a state that a stop may leave.
 pub record IsAlone (name : Name) (disk : Disk) : Type 0 where

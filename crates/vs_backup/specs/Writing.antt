@@ -3,11 +3,14 @@ use Rattle.std.specs.Prelude.{◌≡◌, ◌⊎◌, ℕ, List, [], length, Optio
 use Rattle.vs_faults.specs.Faults.{HasRisen}
 use Rattle.vs_host.specs.File.{Leaves}
 use Rattle.vs_host.specs.Disk.{Disk, Name, IsImage, names_of, names_at, content_in}
+use Rattle.vs_host.specs.Names.{temporary}
 use Rattle.vs_host.specs.World.{Scene}
 use Rattle.vs_disk.specs.Images.{HoldsBytes, IsSynced, MayLeave, Takes}
 use Rattle.vs_disk.specs.Runs.{Runs, Looks}
-use Rattle.vs_backup.specs.Works.{Narrowed, Spares, one_name, two_names, three_names}
+use Rattle.vs_backup.specs.Works.{LeadsAway, LeadsTo, Narrowed, Spares, SparesOthers, one_name, two_names, three_names}
+use Rattle.vs_backup.specs.Backups.{copies}
 use Rattle.vs_host.specs.declared.traits.Failed.{Failed}
+use Rattle.vs_backup.specs.declared.options.WriteOptions.{WriteOptions}
 use Rattle.vs_backup.specs.declared.errors.Place.{Place}
 use Rattle.vs_backup.specs.declared.errors.Place.TheVariants.{File, Backup, Nowhere}
 use Rattle.vs_backup.specs.declared.errors.Stop.{Stop}
@@ -45,6 +48,17 @@ abbrev pub backed_names : Bool → Name → Name → Name → Name → Type 0
 backed_names true name temporary backup = three_names name temporary backup
 backed_names false name temporary backup = two_names name backup
 
+-- A write that does not copy: the file itself becomes the backup, and another one gets its name.
+pub record MovesAway (keep : Bool) (name backup : Name) (before after : Scene) (result : Result ℕ WriteErr) : Type 0 where
+  pub another : OnOk result (LeadsAway name before.folder after.folder)
+  pub kept : keep ≡ true → OnOk result (LeadsTo backup name before.folder after.folder)
+  pub in_backup : OldIn Backup result → names_of after.folder backup ≡ names_of before.folder name
+
+-- which file stands under which name, by whether the file is copied: then its name leads to it at each moment
+abbrev pub Places : Bool → Bool → Name → Name → Scene → Scene → Result ℕ WriteErr → Type 0
+Places true keep name backup before after result = Runs (LeadsTo name name) before after
+Places false keep name backup before after result = MovesAway keep name backup before after result
+
 -- in each image the name or the backup name has the old bytes
 abbrev pub IsKept : Name → Name → List ℕ → Disk → Type 0
 IsKept name backup old disk = (image : Name → Option (List ℕ)) → IsImage disk image → (image name ≡ Some old) ⊎ (image backup ≡ Some old)
@@ -75,9 +89,10 @@ pub record IsGuarded (name backup : Name) (number : ℕ) (old : List ℕ) (disk 
   pub leaves : Leaves (disk.files number) (λ c. c ≡ old)
 
 -- From a file that is settled, until it is empty and a copy of it stands under the backup name.
-pub record StartsOver (on : Name → Type 0) (name backup : Name) (old : List ℕ) (before after : Scene) (result : Result (Unit {0}) Failed) : Type 0 where
-  pub spares : Runs (Spares on) before after
+pub record StartsOver (name temporary backup : Name) (old : List ℕ) (before after : Scene) (result : Result (Unit {0}) Failed) : Type 0 where
+  pub spares : Runs (Spares (three_names name temporary backup)) before after
   pub kept : Runs (λ a b. IsKept name backup old b) before after
+  pub in_place : Runs (LeadsTo name name) before after
   pub backed : OnOk result (IsSettled backup old after.folder)
   pub empty : OnOk result (content_in after.folder name ≡ Some [])
   pub may_leave : OnOk result (MayLeave after.folder name (Some old))
@@ -85,9 +100,10 @@ pub record StartsOver (on : Name → Type 0) (name backup : Name) (old : List �
 
 -- From a file that is settled, a write with this backup, which stays. Other names are left alone; at each moment, in each image,
 -- the name or the backup has the old bytes.
-pub record WritesOver (on : Name → Type 0) (name backup : Name) (old new : List ℕ) (before after : Scene) (result : Result ℕ WriteErr) : Type 0 where
-  pub spares : Runs (Spares on) before after
+pub record WritesOver (copying : Bool) (name temporary backup : Name) (old new : List ℕ) (before after : Scene) (result : Result ℕ WriteErr) : Type 0 where
+  pub spares : Runs (Spares (backed_names copying name temporary backup)) before after
   pub kept : Runs (λ a b. IsKept name backup old b) before after
+  pub places : Places copying true name backup before after result
   pub written : IfOk result (λ size. (size ≡ length new) × HoldsBytes name new after.folder × HoldsBytes backup old after.folder)
   pub not_written : OnErr result (MayLackNew name old after.folder)
   pub in_file : OldIn File result → HoldsBytes name old after.folder
@@ -102,18 +118,20 @@ pub record WritesAnew (name backup : Name) (number : ℕ) (old new : List ℕ) (
   pub written : IfOk result (λ size. (size ≡ length new) × IsSettled name new after.folder)
   pub absent : OnErr result (MayLeave after.folder name None)
 
--- After the two syncs at the beginning, at each moment, in each image, the file or its backup is whole, and other names are left
--- alone; until then nothing has changed.
-pub record BeginsWhole (on : Name → Type 0) (name backup : Name) (old new : List ℕ) (before after : Scene) : Type 0 where
+-- Before the two syncs at the beginning nothing has changed. After them, at each moment, in each image, the file or its backup is
+-- whole, and other names are left alone.
+pub record BeginsWhole (copying keep : Bool) (name temporary backup : Name) (old new : List ℕ) (before after : Scene) (result : Result ℕ WriteErr) : Type 0 where
   pub begun : Scene
   pub looked : Runs Narrowed before begun
   pub settled : IsSettled name old begun.folder
   pub whole : Runs (λ a b. IsWhole name backup old new b) begun after
-  pub spares : Runs (Spares on) begun after
+  pub places : Places copying keep name backup begun after result
+  pub spares : Runs (Spares (backed_names copying name temporary backup)) begun after
 
 -- A write over a file that is there, with this backup, which is kept or removed.
-pub record WritesBacked (on : Name → Type 0) (keep : Bool) (name backup : Name) (old new : List ℕ) (before after : Scene) (result : Result ℕ WriteErr) : Type 0 where
-  pub moments : BeginsWhole on name backup old new before after ⊎ (Runs Narrowed before after × IsErr result)
+pub record WritesBacked (copying keep : Bool) (name temporary backup : Name) (old new : List ℕ) (before after : Scene) (result : Result ℕ WriteErr) : Type 0 where
+  pub moments : BeginsWhole copying keep name temporary backup old new before after result ⊎ (Runs Narrowed before after × IsErr result)
+  pub others : SparesOthers (backed_names copying name temporary backup) before after
   pub written : IfOk result (λ size. (size ≡ length new) × HoldsBytes name new after.folder)
   pub kept : keep ≡ true → OnOk result (HoldsBytes backup old after.folder)
   pub gone : keep ≡ false → OnOk result ((HasRisen before.folder_faults after.folder_faults → ⊥) → (lost : ℕ) → names_at after.folder lost backup ≡ None)
@@ -123,11 +141,18 @@ pub record WritesBacked (on : Name → Type 0) (keep : Bool) (name backup : Name
   pub in_backup : OldIn Backup result → IsKept name backup old after.folder × ((old ≡ [] → ⊥) → MayLackOld name old after.folder)
   pub somewhere : (OldIn Nowhere result → ⊥) × (IsErrOf result error.NoBackupName → ⊥)
 
--- A write over a file that is there, without a backup: before the two syncs nothing changes, and after them only the file.
+-- such a write with these options
+abbrev pub WritesWith : WriteOptions → Name → Name → List ℕ → List ℕ → Scene → Scene → Result ℕ WriteErr → Type 0
+WritesWith options name backup old new before after result = WritesBacked (copies options.copy) options.backup name (temporary backup) backup old new before after result
+
+-- A write over a file that is there, without a backup: before the two syncs nothing changes, and after them only the file, which
+-- stays where it is.
 pub record WritesPlain (name : Name) (old new : List ℕ) (before after : Scene) (result : Result ℕ Stop) : Type 0 where
   pub begun : Scene
   pub looked : Runs Narrowed before begun
+  pub in_place : begun.folder.pending ≡ [] → Runs (LeadsTo name name) begun after
   pub spares : Runs (Spares (one_name name)) begun after
+  pub others : SparesOthers (one_name name) before after
   pub written : IfOk result (λ size. (size ≡ length new) × HoldsBytes name new after.folder)
   pub not_written : OnErr result (MayLackNew name old after.folder)
 

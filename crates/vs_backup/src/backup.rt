@@ -1,12 +1,12 @@
 // Writing over a file that is there, with a backup.
-ghost use Rattle.std.specs.Prelude.{◌≡◌, ◌≢◌, ℕ, List, length, IsErr, OnErr, OnOk, IsErrOf, IsTrue, Some, None, IsSome};
+ghost use Rattle.std.specs.Prelude.{◌≡◌, ◌≢◌, true, false, ℕ, List, length, IsErr, OnErr, OnOk, IsErrOf, IsTrue, Some, None, IsSome};
 ghost use Rattle.vs_faults.specs.Faults.{HasCause, HasRisen};
 ghost use Rattle.vs_text.specs.Text.{file_of};
 ghost use Rattle.vs_host.specs.Disk.{Name};
 ghost use Rattle.vs_host.specs.World.{content_of, ChangesFolder};
 ghost use Rattle.vs_disk.specs.Runs.{Runs};
-ghost use Rattle.vs_backup.specs.Works.{Spares, three_names, two_names};
-ghost use Rattle.vs_backup.specs.Writing.{IsFailed, IsGuarded, IsSettled, StartsOver, WritesAnew, WritesBacked, WritesOver, backed_names};
+ghost use Rattle.vs_backup.specs.Works.{Spares, two_names};
+ghost use Rattle.vs_backup.specs.Writing.{IsFailed, IsGuarded, IsSettled, StartsOver, WritesAnew, WritesBacked, WritesOver};
 
 use crate::Desk;
 use crate::errors::{Place, Stop, WriteErr};
@@ -62,7 +62,7 @@ fn start_over<D: Desk>(
     requires buffer { length buffer.old ≡ PIECE }
     requires settled { IsTrue (D.tells).folder → (old : List ℕ) × IsSettled name.now old (D.scene desk.old).folder }
     ensures over { IsTrue (D.tells).folder → (old : List ℕ) → IsSettled name.now old (D.scene desk.old).folder
-        → StartsOver (three_names name.now temporary.now backup.now) name.now backup.now old (D.scene desk.old) (D.scene desk.new) result }
+        → StartsOver name.now temporary.now backup.now old (D.scene desk.old) (D.scene desk.new) result }
     ensures cause { HasCause (D.scene desk.old).folder_faults (D.scene desk.new).folder_faults (IsErr result) }
     ensures frame { ChangesFolder (D.scene desk.old) (D.scene desk.new) }
     ensures valid { D.valid desk.new }
@@ -91,7 +91,7 @@ fn write_copying<D: Desk>(
     requires buffer { length piece.old.items ≡ PIECE }
     requires settled { IsTrue (D.tells).folder → (old : List ℕ) × IsSettled name.now old (D.scene desk.old).folder }
     ensures over { IsTrue (D.tells).folder → (old : List ℕ) → IsSettled name.now old (D.scene desk.old).folder → (text : List (List ℕ)) → D.has_text desk.old text
-        → WritesOver (three_names name.now temporary.now backup.now) name.now backup.now old (file_of text) (D.scene desk.old) (D.scene desk.new) result }
+        → WritesOver true name.now temporary.now backup.now old (file_of text) (D.scene desk.old) (D.scene desk.new) result }
     ensures no_name { IsErrOf result WriteErr.NoBackupName → ⊥ }
     ensures cause { HasCause (D.scene desk.old).folder_faults (D.scene desk.new).folder_faults (IsFailed result) }
     ensures frame { ChangesFolder (D.scene desk.old) (D.scene desk.new) }
@@ -147,7 +147,7 @@ fn write_moving<D: Desk>(
     requires differ_name { name.now ≢ backup.now }
     requires settled { IsTrue (D.tells).folder → (old : List ℕ) × IsSettled name.now old (D.scene desk.old).folder }
     ensures over { IsTrue (D.tells).folder → (old : List ℕ) → IsSettled name.now old (D.scene desk.old).folder → (text : List (List ℕ)) → D.has_text desk.old text
-        → WritesOver (two_names name.now backup.now) name.now backup.now old (file_of text) (D.scene desk.old) (D.scene desk.new) result }
+        → (temporary : Name) → WritesOver false name.now temporary backup.now old (file_of text) (D.scene desk.old) (D.scene desk.new) result }
     ensures no_name { IsErrOf result WriteErr.NoBackupName → ⊥ }
     ensures cause { HasCause (D.scene desk.old).folder_faults (D.scene desk.new).folder_faults (IsFailed result) }
     ensures frame { ChangesFolder (D.scene desk.old) (D.scene desk.new) }
@@ -185,7 +185,7 @@ fn write_over<D: Desk>(
     requires buffer { length piece.old.items ≡ PIECE }
     requires settled { IsTrue (D.tells).folder → (old : List ℕ) × IsSettled name.now old (D.scene desk.old).folder }
     ensures over { IsTrue (D.tells).folder → (old : List ℕ) → IsSettled name.now old (D.scene desk.old).folder → (text : List (List ℕ)) → D.has_text desk.old text
-        → WritesOver (backed_names copying name.now temporary.now backup.now) name.now backup.now old (file_of text) (D.scene desk.old) (D.scene desk.new) result }
+        → WritesOver copying name.now temporary.now backup.now old (file_of text) (D.scene desk.old) (D.scene desk.new) result }
     ensures no_name { IsErrOf result WriteErr.NoBackupName → ⊥ }
     ensures cause { HasCause (D.scene desk.old).folder_faults (D.scene desk.new).folder_faults (IsFailed result) }
     ensures frame { ChangesFolder (D.scene desk.old) (D.scene desk.new) }
@@ -219,7 +219,7 @@ fn write_backed<D: Desk>(
     requires buffer { length piece.old.items ≡ PIECE }
     requires settled { IsTrue (D.tells).folder → (old : List ℕ) × IsSettled name.now old (D.scene desk.old).folder }
     ensures backed { IsTrue (D.tells).folder → (old : List ℕ) → IsSettled name.now old (D.scene desk.old).folder → (text : List (List ℕ)) → D.has_text desk.old text
-        → WritesBacked (backed_names copying name.now temporary.now backup.now) keep name.now backup.now old (file_of text) (D.scene desk.old) (D.scene desk.new) result }
+        → WritesBacked copying keep name.now temporary.now backup.now old (file_of text) (D.scene desk.old) (D.scene desk.new) result }
     ensures no_name { IsErrOf result WriteErr.NoBackupName → ⊥ }
     ensures cause { HasCause (D.scene desk.old).folder_faults (D.scene desk.new).folder_faults (IsFailed result) }
     ensures frame { ChangesFolder (D.scene desk.old) (D.scene desk.new) }
@@ -256,7 +256,7 @@ pub(crate) fn write_with_backup<D: Desk>(
     requires buffer { length piece.old.items ≡ PIECE }
     requires there { IsTrue (D.tells).folder → IsSome (content_of (D.scene desk.old) name.now) }
     ensures backed { IsTrue (D.tells).folder → (old : List ℕ) → content_of (D.scene desk.old) name.now ≡ Some old → (text : List (List ℕ)) → D.has_text desk.old text
-        → WritesBacked (backed_names copying name.now temporary.now backup.now) keep name.now backup.now old (file_of text) (D.scene desk.old) (D.scene desk.new) result }
+        → WritesBacked copying keep name.now temporary.now backup.now old (file_of text) (D.scene desk.old) (D.scene desk.new) result }
     ensures no_name { IsErrOf result WriteErr.NoBackupName → ⊥ }
     ensures cause { HasCause (D.scene desk.old).folder_faults (D.scene desk.new).folder_faults (IsFailed result) }
     ensures frame { ChangesFolder (D.scene desk.old) (D.scene desk.new) }

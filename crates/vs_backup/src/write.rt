@@ -5,10 +5,10 @@ ghost use Rattle.vs_text.specs.Text.{file_of};
 ghost use Rattle.vs_host.specs.Disk.{Name};
 ghost use Rattle.vs_host.specs.Names.{AreNames, is_allowed, temporary};
 ghost use Rattle.vs_host.specs.World.{content_of, ChangesFolder, ReadsFolder};
-ghost use Rattle.vs_backup.specs.Backups.{IsBackupName, IsNoName, backs_up, backup_of, copies};
+ghost use Rattle.vs_backup.specs.Backups.{IsBackupName, IsNoName, WorksOn, backs_up, backup_of, copies};
 ghost use Rattle.vs_disk.specs.Runs.{Looks};
-ghost use Rattle.vs_backup.specs.Works.{two_names};
-ghost use Rattle.vs_backup.specs.Writing.{FindsNoName, IsFailed, IsUnseen, WritesBacked, WritesFresh, WritesInPlace, WritesNew, WritesPlain, backed_names, nowhere};
+ghost use Rattle.vs_backup.specs.Works.{SparesOthers, two_names};
+ghost use Rattle.vs_backup.specs.Writing.{FindsNoName, IsFailed, IsUnseen, WritesFresh, WritesInPlace, WritesNew, WritesPlain, WritesWith, nowhere};
 
 use crate::backup::write_with_backup;
 use crate::choose::{backup_name, first_free, temporary_of};
@@ -69,7 +69,7 @@ fn write_named<D: Desk>(
     requires apart_temporary { D.reads desk.old (temporary backup.now) → ⊥ }
     requires there { IsTrue (D.tells).folder → IsSome (content_of (D.scene desk.old) name.now) }
     ensures backed { IsTrue (D.tells).folder → (old : List ℕ) → content_of (D.scene desk.old) name.now ≡ Some old → (text : List (List ℕ)) → D.has_text desk.old text
-        → WritesBacked (backed_names (copies options.now.copy) name.now (temporary backup.now) backup.now) options.now.backup name.now backup.now old (file_of text) (D.scene desk.old) (D.scene desk.new) result }
+        → WritesWith options.now name.now backup.now old (file_of text) (D.scene desk.old) (D.scene desk.new) result }
     ensures no_name { IsErrOf result WriteErr.NoBackupName → ⊥ }
     ensures cause { HasCause (D.scene desk.old).folder_faults (D.scene desk.new).folder_faults (IsFailed result) }
     ensures frame { ChangesFolder (D.scene desk.old) (D.scene desk.new) }
@@ -174,7 +174,7 @@ fn write_chosen<D: Desk>(
     requires there { IsTrue (D.tells).folder → IsSome (content_of (D.scene desk.old) name.now) }
     ensures backed { IsTrue (D.tells).folder → (old : List ℕ) → content_of (D.scene desk.old) name.now ≡ Some old
         → (backup : Name) → backup_of options.now name.now (D.scene desk.old).folder ≡ Some backup → (text : List (List ℕ)) → D.has_text desk.old text
-        → WritesBacked (backed_names (copies options.now.copy) name.now (temporary backup) backup) options.now.backup name.now backup old (file_of text) (D.scene desk.old) (D.scene desk.new) result }
+        → WritesWith options.now name.now backup old (file_of text) (D.scene desk.old) (D.scene desk.new) result }
     ensures all_taken { IsTrue (D.tells).folder → backup_of options.now name.now (D.scene desk.old).folder ≡ None → FindsNoName (D.scene desk.old) (D.scene desk.new) result }
     ensures no_name { IsErrOf result WriteErr.NoBackupName → (options.now.backup ≡ false) × (IsTrue (D.tells).folder → backup_of options.now name.now (D.scene desk.old).folder ≡ None) }
     ensures cause { HasCause (D.scene desk.old).folder_faults (D.scene desk.new).folder_faults (IsFailed result) }
@@ -204,7 +204,7 @@ fn write_there<D: Desk>(
     requires there { IsTrue (D.tells).folder → IsSome (content_of (D.scene desk.old) name.now) }
     ensures backed { IsTrue (D.tells).folder → (old : List ℕ) → content_of (D.scene desk.old) name.now ≡ Some old
         → (backup : Name) → backup_of options.now name.now (D.scene desk.old).folder ≡ Some backup → (text : List (List ℕ)) → D.has_text desk.old text
-        → WritesBacked (backed_names (copies options.now.copy) name.now (temporary backup) backup) options.now.backup name.now backup old (file_of text) (D.scene desk.old) (D.scene desk.new) result }
+        → WritesWith options.now name.now backup old (file_of text) (D.scene desk.old) (D.scene desk.new) result }
     ensures all_taken { IsTrue (D.tells).folder → backs_up options.now ≡ true → backup_of options.now name.now (D.scene desk.old).folder ≡ None
         → FindsNoName (D.scene desk.old) (D.scene desk.new) result }
     ensures no_name { IsErrOf result WriteErr.NoBackupName → (backs_up options.now ≡ true) × (options.now.backup ≡ false)
@@ -212,6 +212,7 @@ fn write_there<D: Desk>(
     ensures plain { IsTrue (D.tells).folder → (old : List ℕ) → content_of (D.scene desk.old) name.now ≡ Some old
         → backs_up options.now ≡ false → (text : List (List ℕ)) → D.has_text desk.old text
         → WritesInPlace name.now old (file_of text) (D.scene desk.old) (D.scene desk.new) result }
+    ensures others { IsTrue (D.tells).folder → SparesOthers (WorksOn options.now name.now (D.scene desk.old).folder) (D.scene desk.old) (D.scene desk.new) }
     ensures cause { HasCause (D.scene desk.old).folder_faults (D.scene desk.new).folder_faults (IsFailed result) }
     ensures frame { ChangesFolder (D.scene desk.old) (D.scene desk.new) }
     ensures valid { D.valid desk.new }
@@ -241,7 +242,7 @@ pub fn write_out<D: Desk>(
     ensures backed { IsTrue (D.tells).folder → (old : List ℕ) → content_of (D.scene desk.old) names.now.file ≡ Some old
         → (backup : Name) → backup_of options.now names.now.file (D.scene desk.old).folder ≡ Some backup → (text : List (List ℕ)) → D.has_text desk.old text
         → IsUnseen (D.scene desk.old) (D.scene desk.new) result
-        ⊎ WritesBacked (backed_names (copies options.now.copy) names.now.file (temporary backup) backup) options.now.backup names.now.file backup old (file_of text) (D.scene desk.old) (D.scene desk.new) result }
+        ⊎ WritesWith options.now names.now.file backup old (file_of text) (D.scene desk.old) (D.scene desk.new) result }
 
     // A file that is there, where every backup name is taken.
     ensures all_taken { IsTrue (D.tells).folder → IsSome (content_of (D.scene desk.old) names.now.file)
@@ -257,6 +258,9 @@ pub fn write_out<D: Desk>(
     // A file that is not there.
     ensures fresh { IsTrue (D.tells).folder → content_of (D.scene desk.old) names.now.file ≡ None → (text : List (List ℕ)) → D.has_text desk.old text
         → IsUnseen (D.scene desk.old) (D.scene desk.new) result ⊎ WritesNew names.now.file_new names.now.file (file_of text) (D.scene desk.old) (D.scene desk.new) result }
+
+    // The other names, whatever is there.
+    ensures others { IsTrue (D.tells).folder → SparesOthers (WorksOn options.now names.now.file (D.scene desk.old).folder) (D.scene desk.old) (D.scene desk.new) }
     ensures cause { HasCause (D.scene desk.old).folder_faults (D.scene desk.new).folder_faults (IsFailed result) }
     ensures frame { ChangesFolder (D.scene desk.old) (D.scene desk.new) }
     ensures valid { D.valid desk.new }

@@ -4,5 +4,6 @@ pub mod JoinLemmas
 pub mod LimitLemmas
 pub mod LongLemmas
 pub mod MatchLemmas
+pub mod ReadLemmas
 pub mod RewriteLemmas
 pub mod WrittenLemmas

@@ -122,6 +122,15 @@ fits-copied text top count to bytes within to_within few whole counted sound =
     let first : nat_le (length (splice text to 0 new)) MAX_LINES ≡ true = grind (arith, nat_tests) in
     rw first (copied-test bytes (bytes_of (splice text to 0 new)) (bytes_of text) (bytes_of new) counted (omega (arith, sum)) sound)
 
+-- copies of lines of a text that there is room for once more
+pub fits-twice : (text : List (List ℕ)) (top count to : ℕ) → top + count ≤ length text → to ≤ length text → count ≤ MAX_LINES - length text → length text ≤ MAX_LINES →
+    bytes_of text ≤ MAX_TEXT_BYTES → bytes_of text ≤ MAX_TEXT_BYTES - bytes_of text → true ≡ is_within (splice text to 0 (cut_out text top count))
+fits-twice text top count to within to_within few whole sound room =
+    let bytes = bytes_of (cut_out text top count) in
+    let less : bytes_of (cut_out text top count) ≤ MAX_TEXT_BYTES - bytes_of text = omega (arith, room, bytes_of-cut_out text top count within) in
+    let test : nat_le bytes (MAX_TEXT_BYTES - bytes_of text) ≡ true = grind (arith, nat_tests) in
+    sym test ∙ fits-copied text top count to bytes within to_within few whole refl sound
+
 pub copied-many : (text : List (List ℕ)) (top count to : ℕ) → top + count ≤ length text → to ≤ length text → MAX_LINES - length text < count → length text ≤ MAX_LINES →
     false ≡ is_within (splice text to 0 (cut_out text top count))
 copied-many text top count to within to_within many whole =

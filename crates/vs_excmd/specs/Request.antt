@@ -1,9 +1,10 @@
 -- Commands of a script with their blocks.
-use Rattle.std.specs.Prelude.{ℕ, Bool, true, false, ◌≡◌, ◌<◌, ◌⊎◌, ⊤, List, [], length, All, Result}
+use Rattle.std.specs.Prelude.{ℕ, Bool, true, false, not, ◌≡◌, ◌<◌, ◌⊎◌, ⊤, List, [], length, All, Result, Ok, Err, IsTrue}
 use Rattle.vs_text.specs.Text.{bytes_of}
 use Rattle.vs_text.specs.Limits.{IsShort}
 use Rattle.vs_text.specs.declared.TheConstants.{MAX_LINES, MAX_TEXT_BYTES}
-use Rattle.vs_exparse.specs.Command.{Command, result_of}
+use Rattle.vs_exparse.specs.Command.{Command, HasForm, command_of, result_of, wants_block}
+use Rattle.vs_exparse.specs.declared.command.Command as borrowed
 use Rattle.vs_exparse.specs.declared.command.ExErr.{ExErr}
 use Rattle.vs_excmd.specs.declared.request.Block.{Block}
 use Rattle.vs_excmd.specs.declared.request.Block.TheVariants as block
@@ -37,3 +38,12 @@ is_absent (block.Lines kept) = false
 is_absent block.TooLong = false
 is_absent block.TooMany = false
 is_absent block.NoMemory = false
+
+-- A command has the form that the grammar gives it, and a block stands with it exactly where it takes one. An error has none.
+abbrev pub FitsBlock : Result borrowed.Command ExErr → Block → Type 0
+FitsBlock (Err error) block = IsTrue (is_absent block)
+FitsBlock (Ok command) block = HasForm (command_of command) × (is_absent block ≡ not (wants_block (command_of command)))
+
+-- what holds of each request that is read from a script
+abbrev pub IsFormed : Request → Type 0
+IsFormed request = FitsBlock request.parsed request.block

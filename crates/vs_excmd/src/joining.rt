@@ -6,6 +6,7 @@ ghost use Rattle.vs_excmd.specs.Answer.{IsLate, Leads, LiesIn};
 ghost use Rattle.vs_excmd.specs.Join.{addresses_in, addresses_of, joined, joined_span, joined_two, joint};
 ghost use Rattle.vs_excmd.specs.Place.{IsSpanIn};
 
+use crate::reads::LineReader;
 use crate::{Plan, PlanErr, Span};
 use std::alloc::{AllocError, Global};
 use vs_edit::LineStore;
@@ -78,11 +79,13 @@ fn join_span<S: LineStore>(
     ensures kept { OnlyReads S.LineStore view.old view.new }
     ensures cause { HasCause (S.shows view.old).faults (S.shows view.new).faults (IsErrOf result PlanErr.Failed) }
 {
+    let _ = view.len();
+    let mut reader = LineReader::new(alloc, first - 1, last - (first - 1));
     let mut left = Vec::new(alloc);
-    view.line(alloc, first - 1, &mut left)?;
+    reader.line(alloc, view, &mut left)?;
     let mut right = Vec::new(alloc);
-    for i in 0..last - first {
-        view.line(alloc, first + i, &mut right)?;
+    for _ in 0..last - first {
+        reader.line(alloc, view, &mut right)?;
         join_two(&mut left, &right, bang)?;
         if left.len() as u64 > MAX_LINE_BYTES {
             return Err(PlanErr::Ex(ExErr::LineTooLong));

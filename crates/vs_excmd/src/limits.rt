@@ -105,7 +105,8 @@ pub(crate) fn bounded<S: LineStore>(
     }
 }
 
-/// Whether the text is within its limits with copies of `count` of its lines from line `top` on. No line is kept.
+/// Whether the text is within its limits with copies of `count` of its lines from line `top` on. No line is kept, and none is
+/// read where there is room for the whole text once more.
 pub(crate) fn fits_copied<S: LineStore>(
     alloc: Global,
     view: &mut S,
@@ -123,5 +124,8 @@ pub(crate) fn fits_copied<S: LineStore>(
         return Ok(false);
     }
     let bytes = view.bytes();
+    if bytes <= MAX_TEXT_BYTES - bytes {
+        return Ok(true);
+    }
     Ok(bytes_in(alloc, view, top, count)? <= MAX_TEXT_BYTES - bytes)
 }

@@ -159,7 +159,7 @@ pub(crate) fn rewrite_line(
         return Ok(Rewritten::Unmatched);
     };
     let width = finder.needle().len();
-    let mut out = Vec::new(alloc);
+    let mut out = Vec::with_capacity(alloc, line.len())?;
     if !put_piece(&mut out, line, 0, first, new)? {
         return Ok(Rewritten::TooLong);
     }

@@ -14,6 +14,7 @@ ghost use Rattle.vs_excmd.specs.Place.{IsSpanIn};
 ghost use Rattle.vs_excmd.specs.Rewriting.{AreKept, Finds, IsRewriting, StandsIn, is_long, is_too_long};
 ghost use Rattle.vs_excmd.specs.Substitute.{has_match, replaced, rewritten, substituted, substituted_lines};
 
+use crate::reads::LineReader;
 use crate::replacing::{Rewritten, literal, replacement, rewrite_line};
 use crate::{Plan, PlanErr, Span};
 use memchr::memmem::Finder;
@@ -111,9 +112,11 @@ fn any_long<S: LineStore>(
     ensures kept { OnlyReads S.LineStore view.old view.new }
     ensures cause { HasCause (S.shows view.old).faults (S.shows view.new).faults (IsErrOf result StoreErr.Failed) }
 {
+    let _ = view.len();
+    let mut reader = LineReader::new(alloc, top, count);
     let mut line = Vec::new(alloc);
-    for i in 0..count {
-        view.line(alloc, top + i, &mut line)?;
+    for _ in 0..count {
+        reader.line(alloc, view, &mut line)?;
         let found = rewrite_line(alloc, &line, finder, new, all)?;
         if found.is_too_long() {
             return Ok(true);
@@ -151,9 +154,11 @@ fn rewrite<S: LineStore>(
         kept: 0,
         bytes: 0,
     };
+    let _ = view.len();
+    let mut reader = LineReader::new(alloc, top, count);
     let mut line = Vec::new(alloc);
     for i in 0..count {
-        view.line(alloc, top + i, &mut line)?;
+        reader.line(alloc, view, &mut line)?;
         let read = line.as_slice();
         let found = rewrite_line(alloc, read, finder, new, all)?;
         if found.is_too_long() {

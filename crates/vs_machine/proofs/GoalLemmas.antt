@@ -12,24 +12,13 @@ use Rattle.vs_undo.specs.Moves.{HasMoved}
 use Rattle.vs_undo.specs.Sound.{IsSound}
 use Rattle.vs_undo.specs.Ways.{parent_at, start, IsTree, IsWay, IsWayOf}
 use Rattle.vs_undo.specs.Writes.{earlier_save, earlier_write, later_save, later_write, last_number, IsEarlierWrite, IsAtOldestWrite, IsLaterWrite, IsAtNewestWrite}
-use Rattle.vs_undo.proofs.ShortWays.{way_short}
+use Rattle.vs_undo.proofs.ShortWays.{way_is}
 use Rattle.vs_machine.specs.Answers.{HasGone, IsWhy}
-use Rattle.vs_machine.specs.Moves.{goal_of, way_of, way_within}
+use Rattle.vs_machine.specs.Moves.{goal_of}
+use Rattle.vs_undo.specs.Ways.{way_of}
 use Rattle.vs_machine.specs.declared.moves.Move.{Move}
 use Rattle.vs_machine.specs.declared.moves.Move.TheVariants.{EarlierWrites, LaterWrites}
 use Rattle.vs_machine.proofs.LinkLemmas.{way-bare}
-
-within_is : (most : ℕ) (nodes : List Node) (way : List ℕ) → parent_at nodes 0 ≡ None → IsWay (λ k. parent_at nodes k) way → length way ≤ most → way_within most nodes (start way) ≡ way
-within_is zero nodes [] root is short = refl
-within_is zero nodes (number ∷ way) root is short = absurd (omega (arith, short))
-within_is (suc most) nodes [] root is short = ap (λ o. unwrap_or (option_map (λ p. 0 ∷ way_within most nodes p) o) []) root
-within_is (suc most) nodes (number ∷ way) root is short =
-    ap (λ o. unwrap_or (option_map (λ p. number ∷ way_within most nodes p) o) []) is.0 ∙ ap (λ (w : List ℕ). number ∷ w) (within_is most nodes way root is.1 (omega (arith, short)))
-
--- a state's way is the only one that it has
-pub way_is : (nodes : List Node) (number : ℕ) (way : List ℕ) → IsTree nodes → IsWayOf nodes number way → way_of nodes number ≡ way
-way_is nodes number way tree is =
-    ap (way_of nodes) (sym is.starts) ∙ within_is (length nodes) nodes way (ap (option_map (λ (n : Node). n.parent)) tree.root) is.is_way (way_short nodes way tree is.is_way)
 
 -- a move of the undo tree
 pub gone : {S : Type 0} (g : Ghosts S) (old new : Parts) (before after : S) (goal : ℕ) → IsSound old → HasMoved g old new before after goal → HasGone g old new before after goal

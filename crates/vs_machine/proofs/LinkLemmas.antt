@@ -11,7 +11,8 @@ use Rattle.vs_undo.specs.Sound.{child_of}
 use Rattle.vs_undo.specs.Ways.{node_at, parent_at, save_at, start}
 use Rattle.vs_undo.specs.Writes.{earlier_save, earlier_write, later_save, later_write, lesser, last_number, nth_save_above, nth_save_below, save_above, save_below, save_on, saver}
 use Rattle.vs_undo.proofs.NodeLemmas.{at-links_of, parent_at-links_of}
-use Rattle.vs_machine.specs.Moves.{found_or, goal_of, is_kept, way_of, way_within}
+use Rattle.vs_machine.specs.Moves.{found_or, goal_of, is_kept}
+use Rattle.vs_undo.specs.Ways.{way_of, way_within}
 use Rattle.vs_machine.specs.declared.moves.Move.{Move}
 use Rattle.vs_machine.specs.declared.moves.Move.TheVariants.{Back, To, Forward, Earlier, Later, EarlierWrites, LaterWrites}
 

@@ -1,14 +1,13 @@
 -- What a session answers to a request over the text of a store with its undo tree.
 use Rattle.std.specs.Prelude.{◌≡◌, ◌⊎◌, ℕ, List, Result, Err}
-use Rattle.vs_edit.specs.State.{SameText}
 use Rattle.vs_edit.specs.declared.store.LineStore.{Ghosts}
 use Rattle.vs_excmd.specs.Request.{Instruction}
+use Rattle.vs_undo.specs.Ways.{way_of}
 use Rattle.vs_undo.specs.History.{History, IsHistory, history_at}
 use Rattle.vs_undo.specs.declared.error.UndoErr.{UndoErr}
 use Rattle.vs_undo.specs.declared.error.UndoErr.TheVariants.{NoMemory, Failed}
 use Rattle.vs_undo.specs.declared.parts.Parts.{Parts}
 use Rattle.vs_machine.specs.Machine.{State, Meaning, meaning_of, done_reply, done_state}
-use Rattle.vs_machine.specs.Moves.{way_of}
 use Rattle.vs_machine.specs.declared.answering.Answered.{Answered}
 
 -- A store, an undo tree and the line of a cursor are in a state of the machine: the store has the text of the state, and with it the
@@ -37,8 +36,3 @@ HasGone g old new before after goal =
 -- A move was not made since there is nowhere to go, or there was no memory, or the store failed.
 abbrev pub IsWhy : Result ℕ UndoErr → UndoErr → Type 0
 IsWhy goal error = (goal ≡ Err error) ⊎ ((error ≡ NoMemory) ⊎ (error ≡ Failed))
-
--- The store may be used, and its text is the committed one.
-pub record IsSettled {S : Type 0} (g : Ghosts S) (store : S) : Type 0 where
-  pub valid : g.valid store
-  pub committed : SameText (g.shows store).present (g.shows store).committed

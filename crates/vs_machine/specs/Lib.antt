@@ -3,5 +3,5 @@ pub mod Shown
 pub mod Moves
 pub mod Machine
 pub mod Reply
-pub mod Request
 pub mod Answers
+pub mod Listing

@@ -16,13 +16,15 @@ use Rattle.vs_excmd.specs.Request.{Instruction}
 use Rattle.vs_undo.specs.declared.error.UndoErr.{UndoErr}
 use Rattle.vs_undo.specs.declared.error.UndoErr.TheVariants.{NumbersFull}
 use Rattle.vs_undo.specs.declared.TheConstants.{MAX_NUMBER}
+use Rattle.vs_undo.specs.Ways.{way_of}
 use Rattle.vs_undo.specs.History.{History, first_history, history_at, history_pushed}
 use Rattle.vs_machine.specs.declared.moves.Move.TheVariants as move
-use Rattle.vs_machine.specs.Moves.{goal_of, way_of, undo_move, earlier_move, later_move, kept_within}
+use Rattle.vs_machine.specs.Moves.{goal_of, undo_move, earlier_move, later_move, kept_within}
 use Rattle.vs_machine.specs.declared.command.Mark.{Mark}
 use Rattle.vs_machine.specs.declared.command.Outcome.{Outcome}
-use Rattle.vs_machine.specs.declared.command.Outcome.TheVariants.{Done, NoMemory}
-use Rattle.vs_machine.specs.Replies.{Answer, says, refuses, prints, error_text, undo_error_text, change_line, move_line, no_change, out_of_memory}
+use Rattle.vs_machine.specs.declared.command.Outcome.TheVariants.{Done, NoMemory, Fault}
+use Rattle.vs_machine.specs.Replies.{Answer, says, refuses, prints, error_text, undo_error_text, change_line, move_line, no_change, out_of_memory, device_fault}
+use Rattle.vs_machine.specs.Listing.{listing}
 use Rattle.vs_machine.specs.Shown.{shown_lines}
 
 -- Lines are counted from 1. The cursor is 0 in the text without lines. The text is that of the history's current state.
@@ -92,7 +94,7 @@ meaning_in state (Undo number) lines = moving (goal_of (undo_move number) state.
 meaning_in state Redo lines = moving (goal_of move.Forward state.history.links)
 meaning_in state (Earlier by writes) lines = moving (goal_of (earlier_move by writes) state.history.links)
 meaning_in state (Later by writes) lines = moving (goal_of (later_move by writes) state.history.links)
-meaning_in state UndoList lines = Refused E492
+meaning_in state UndoList lines = Printed (listing state.history.links.nodes) state.cursor
 meaning_in state (Write bang) lines = Refused E492
 meaning_in state Preserve lines = Refused E492
 meaning_in state (Quit bang) lines = Refused E492
@@ -145,10 +147,12 @@ done_state state at (Printed bytes cursor) = record state { cursor = cursor }
 abbrev pub reply_by : Outcome → State → Meaning → Answer
 reply_by Done state meaning = done_reply state meaning
 reply_by NoMemory state meaning = refuses out_of_memory
+reply_by Fault state meaning = refuses device_fault
 
 abbrev pub state_by : Outcome → State → ℕ → Meaning → State
 state_by Done state at meaning = done_state state at meaning
 state_by NoMemory state at meaning = state
+state_by Fault state at meaning = state
 
 abbrev pub reply_of : State → Instruction → Mark → Answer
 reply_of state instruction mark = reply_by mark.outcome state (meaning_of state instruction.parsed instruction.block)
@@ -156,20 +160,7 @@ reply_of state instruction mark = reply_by mark.outcome state (meaning_of state 
 abbrev pub state_after : State → Instruction → Mark → State
 state_after state instruction mark = state_by mark.outcome state mark.at (meaning_of state instruction.parsed instruction.block)
 
--- the replies of a run, as far as there are marks
-abbrev pub replies_of : State → List Instruction → List Mark → List ℕ
-replies_of state [] marks = []
-replies_of state (command ∷ commands) [] = []
-replies_of state (command ∷ commands) (mark ∷ marks) =
-    (reply_of state command mark).bytes ++ replies_of (state_after state command mark) commands marks
-
 abbrev pub is_done : Outcome → Bool
 is_done Done = true
 is_done NoMemory = false
-
--- whether some reply of a run is an error, or some command did not end as Done
-abbrev pub any_error : State → List Instruction → List Mark → Bool
-any_error state [] marks = false
-any_error state (command ∷ commands) [] = false
-any_error state (command ∷ commands) (mark ∷ marks) =
-    (not (is_done mark.outcome) || (reply_of state command mark).is_error) || any_error (state_after state command mark) commands marks
+is_done Fault = false

@@ -1,25 +1,16 @@
 -- Where the moves over a history lead.
-use Rattle.std.specs.Prelude.{ℕ, zero, suc, ◌==◌, ◌&&◌, ◌||◌, if◌then◌else◌, Bool, List, [], ◌∷◌, length, min, max}
+use Rattle.std.specs.Prelude.{ℕ, ◌==◌, ◌&&◌, ◌||◌, if◌then◌else◌, Bool, List, [], ◌∷◌, length, min, max}
 use Rattle.std.specs.Prelude.{Result, Ok, Err, Option, Some, None, option_map, unwrap_or, is_some, ◌≤◌, ⊤}
 use Rattle.vs_undo.specs.declared.error.UndoErr.{UndoErr}
 use Rattle.vs_undo.specs.declared.error.UndoErr.TheVariants.{NotKept, AtOldest, AtNewest}
 use Rattle.vs_undo.specs.declared.parts.Node.{Node}
 use Rattle.vs_undo.specs.declared.parts.Parts.{Parts}
-use Rattle.vs_undo.specs.Ways.{node_at, parent_at}
+use Rattle.vs_undo.specs.Ways.{node_at, parent_at, way_of}
 use Rattle.vs_undo.specs.Sound.{child_of}
 use Rattle.vs_undo.specs.Numbers.{above, below, nth_above, nth_below}
 use Rattle.vs_undo.specs.Writes.{earlier_save, earlier_write, later_save, later_write, last_number}
 use Rattle.vs_machine.specs.declared.moves.Move.{Move}
 use Rattle.vs_machine.specs.declared.moves.Move.TheVariants.{Back, To, Forward, Earlier, Later, EarlierWrites, LaterWrites}
-
--- the way from a state up to the root, or so many changes of it where it has more
-abbrev pub way_within : ℕ → List Node → ℕ → List ℕ
-way_within zero nodes number = []
-way_within (suc most) nodes number = unwrap_or (option_map (λ parent. number ∷ way_within most nodes parent) (parent_at nodes number)) []
-
--- the way from a state up to the root, which has no more changes than there are
-abbrev pub way_of : List Node → ℕ → List ℕ
-way_of nodes number = way_within (length nodes) nodes number
 
 -- a state has this number
 abbrev pub is_kept : List Node → ℕ → Bool

@@ -61,6 +61,21 @@ no_change = codes "no change"
 abbrev pub out_of_memory : List ℕ
 out_of_memory = codes "out of memory"
 
+abbrev pub device_fault : List ℕ
+device_fault = codes "device fault"
+
+-- the reply to `preserve`, and the last line of a script that was read to its end
+abbrev pub file_preserved : List ℕ
+file_preserved = codes "File preserved"
+
+-- the last line of a script that quits
+abbrev pub quit : List ℕ
+quit = codes "quit"
+
+-- the reply to a `q` that would lose changes
+abbrev pub no_write : List ℕ
+no_write = codes "E37: No write since last change (add ! to override)"
+
 -- why a change or a move was not made
 abbrev pub undo_error_text : UndoErr → List ℕ
 undo_error_text (undo.NotKept number) = codes "E830: Undo number " ++ decimal number ++ codes " not found"
@@ -68,7 +83,7 @@ undo_error_text undo.AtOldest = codes "Already at oldest change"
 undo_error_text undo.AtNewest = codes "Already at newest change"
 undo_error_text undo.NumbersFull = codes "change numbers used up"
 undo_error_text undo.NoMemory = out_of_memory
-undo_error_text undo.Failed = codes "device fault"
+undo_error_text undo.Failed = device_fault
 
 -- the first reply, of a name and the numbers of the file's lines and bytes where it was there
 abbrev pub opening_of : List ℕ → Option (ℕ × ℕ) → Answer

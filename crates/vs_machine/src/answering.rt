@@ -3,18 +3,17 @@ ghost use Rattle.std.specs.Prelude.{◌≡◌, ◌≢◌, ℕ, List, IfErr, IfOk
 ghost use Rattle.vs_faults.specs.Faults.{HasCause};
 ghost use Rattle.vs_exparse.specs.Command.{HasForm, command_of, wants_block};
 ghost use Rattle.vs_excmd.specs.Meaning.{changes_text};
-ghost use Rattle.vs_excmd.specs.Request.{Instruction, IsRequest, StandsFor, is_absent};
+ghost use Rattle.vs_excmd.specs.Request.{Instruction, IsFormed, IsRequest, StandsFor, is_absent};
 ghost use Rattle.vs_undo.specs.Moves.{HasStayed, IsReady};
 ghost use Rattle.vs_undo.specs.Errors.{undo_err};
 ghost use Rattle.vs_machine.specs.Answers.{AnswersAs, IsIn, meaning_at};
 ghost use Rattle.vs_machine.specs.Machine.{State, meaning_in};
 ghost use Rattle.vs_machine.specs.Replies.{error_text, refuses, undo_error_text};
-ghost use Rattle.vs_machine.specs.Request.{IsFormed};
 
 use crate::change::change_text;
 use crate::moves::{Move, earlier_move, later_move, travel, undo_move};
 use crate::reply::Reply;
-use crate::show::{print, print_number};
+use crate::show::{list, print, print_number};
 use std::alloc::Global;
 use vs_edit::{LineStore, StoreErr};
 use vs_excmd::{Block, Request, changes_text};
@@ -87,6 +86,7 @@ fn look_or_move<S: LineStore>(
         Command::Later { by, writes } => {
             travel(alloc, store, history, cursor, later_move(by, writes))
         }
+        Command::UndoList => list(alloc, store, history, cursor),
         Command::Append { .. }
         | Command::Insert { .. }
         | Command::Change { .. }
@@ -96,7 +96,6 @@ fn look_or_move<S: LineStore>(
         | Command::T { .. }
         | Command::Join { .. }
         | Command::Substitute { .. }
-        | Command::UndoList
         | Command::Write { .. }
         | Command::Preserve
         | Command::Quit { .. }

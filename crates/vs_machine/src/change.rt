@@ -1,44 +1,20 @@
 // Changes of the text, each of which goes into the history.
-ghost use Rattle.std.specs.Prelude.{◌≡◌, ℕ, List, IfOk, IsErrOf, IsTrue, OnErr, OnOk, not};
+ghost use Rattle.std.specs.Prelude.{◌≡◌, ℕ, List, IfOk, IsErrOf, IsTrue, OnErr, not};
 ghost use Rattle.vs_faults.specs.Faults.{HasCause};
-ghost use Rattle.vs_edit.specs.State.{AllowsSplice, IsSpliced, SameText};
 ghost use Rattle.vs_exparse.specs.Command.{HasForm, command_of, wants_block};
 ghost use Rattle.vs_excmd.specs.Meaning.{changes_text, planned};
 ghost use Rattle.vs_excmd.specs.Request.{StandsFor, is_absent};
 ghost use Rattle.vs_undo.specs.Moves.{HasStayed, IsReady};
-ghost use Rattle.vs_machine.specs.Answers.{AnswersAs, IsIn, IsSettled};
+ghost use Rattle.vs_machine.specs.Answers.{AnswersAs, IsIn};
 ghost use Rattle.vs_machine.specs.Machine.{State, changing};
-ghost use Rattle.vs_machine.specs.Machine.Meaning.{Changed};
 
 use crate::answering::{Answered, not_made, refused};
 use crate::reply::Reply;
 use std::alloc::Global;
-use vs_edit::{LineStore, StoreErr, splice_or_rollback};
+use vs_edit::{LineStore, StoreErr};
 use vs_excmd::{Block, Plan, PlanErr, plan};
 use vs_exparse::Command;
-use vs_text::Line;
 use vs_undo::{UndoTree, change};
-
-/// Splices the text of a store and commits it, outside its history. After an `Err` the text is as before.
-pub fn splice<S: LineStore>(
-    alloc: Global,
-    store: &mut S,
-    top: u64,
-    old: u64,
-    new: &[Line],
-) -> Result<(), StoreErr>
-    requires settled { IsSettled S.LineStore store.old }
-    requires allowed { AllowsSplice (S.shows store.old).present top old new.now }
-    ensures ok { OnOk result (IsSpliced (S.shows store.old).present top old new.now (S.shows store.new).present) }
-    ensures err { OnErr result (SameText (S.shows store.old).present (S.shows store.new).present) }
-    ensures settled { IsSettled S.LineStore store.new }
-    ensures stays { S.stays store.old store.new }
-    ensures cause { HasCause (S.shows store.old).faults (S.shows store.new).faults (IsErrOf result StoreErr.Failed) }
-{
-    splice_or_rollback(alloc, store, top, old, new)?;
-    store.commit();
-    Ok(())
-}
 
 /// Does a command of the text, with its block. The command began at this time, in seconds since 1970.
 pub(crate) fn change_text<S: LineStore>(

@@ -7,6 +7,8 @@ pub enum Outcome {
     Done,
     /// There was no memory for it. Nothing has changed.
     NoMemory,
+    /// A call on the folder failed for it. Text and cursor have not changed.
+    Fault,
 }
 
 /// What is kept of a command that was answered.

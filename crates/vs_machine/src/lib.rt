@@ -5,13 +5,13 @@ mod answering;
 mod change;
 mod command;
 mod errors;
+mod listing;
 mod moves;
 mod reply;
 mod show;
 mod shown;
 
 pub use answering::{Answered, answer};
-pub use change::splice;
 pub use command::{Mark, Outcome};
 pub use reply::Reply;
 pub use vs_excmd::{Block, Request};

@@ -1,6 +1,6 @@
 // Replies. All but printed lines stand in a fixed buffer, so they take no memory.
 ghost use Rattle.std.specs.Prelude.{◌≡◌, ◌<◌, ◌≤◌, ◌+◌, ◌++◌, ◌∷◌, [], length, decimal, false, true, None, Some};
-ghost use Rattle.vs_machine.specs.Replies.{says, refuses, prints, error_text, undo_error_text, with_lines, change_line, move_line, no_change, out_of_memory, opening_of};
+ghost use Rattle.vs_machine.specs.Replies.{says, refuses, prints, error_text, undo_error_text, with_lines, change_line, move_line, no_change, out_of_memory, device_fault, file_preserved, quit, no_write, opening_of};
 
 use crate::errors::error_text;
 use arrayvec::ArrayVec;
@@ -77,6 +77,34 @@ impl Reply {
         Reply::refuses(b"out of memory")
     }
 
+    /// A call on the folder failed for a command.
+    pub fn device_fault() -> Reply
+        ensures { result ≡ refuses device_fault }
+    {
+        Reply::refuses(b"device fault")
+    }
+
+    /// The text was synced into a swap file.
+    pub fn preserved() -> Reply
+        ensures { result ≡ says file_preserved }
+    {
+        Reply::says(b"File preserved")
+    }
+
+    /// The session was left.
+    pub fn quit() -> Reply
+        ensures { result ≡ says quit }
+    {
+        Reply::says(b"quit")
+    }
+
+    /// The text has changes that were not written.
+    pub fn no_write() -> Reply
+        ensures { result ≡ refuses no_write }
+    {
+        Reply::refuses(b"E37: No write since last change (add ! to override)")
+    }
+
     /// The number of a line.
     pub fn number(number: u64) -> Reply
         ensures { result ≡ prints (decimal number ++ 10 ∷ []) }
@@ -136,7 +164,7 @@ impl Reply {
             UndoErr::AtNewest => Reply::refuses(b"Already at newest change"),
             UndoErr::NumbersFull => Reply::refuses(b"change numbers used up"),
             UndoErr::NoMemory => Reply::out_of_memory(),
-            UndoErr::Failed => Reply::refuses(b"device fault"),
+            UndoErr::Failed => Reply::device_fault(),
         }
     }
 

@@ -4,11 +4,15 @@ use vs_top::Ending;
 
 const HELP: &str = "\
 Usage: levertaupe edit NAME < SCRIPT
+       levertaupe recover NAME > FILE
+       levertaupe info NAME
+       levertaupe discard NAME
        levertaupe -h | --help
        levertaupe -V | --version
 
 Runs a script of Ex commands over the file NAME of the current folder, and
-answers each command on standard output.
+answers each command on standard output. After a crash, recover writes the text
+that the swap files of NAME have, info shows what they are, discard removes them.
 
 Commands, one on a line, with the range of lines before them:
   {range}a[ppend]        puts the lines that follow, up to a line `.`, after the
@@ -18,8 +22,14 @@ Commands, one on a line, with the range of lines before them:
   {range}j[oin][!] [n]   joins lines; with ! their blanks stay as they are
   {range}s[ubstitute]/\\V{text}/{replacement}/[g]
                          replaces a literal text, once in a line or each time
+  u[ndo] [n]             takes the last change back, or goes to state n
+  red[o]                 makes a change again that was taken back
+  ea[rlier] [n][f]       goes n states back, or n writes; lat[er] as many on
+  undol[ist]             lists the changes that no other change follows
   {range}p[rint] [n]     prints lines; nu[mber] prints them with their numbers
   {range}=               prints the number of the range's last line
+  pre[serve]             syncs the text into a swap file
+  q[uit][!]              removes the swap files and ends the run
   \" {text}               a comment
 
 A range is nothing (the current line), % (all lines), an address, or two with a
@@ -28,23 +38,29 @@ and any +n and -n after it. A count [n] is of lines from the range's last on.
 
 Example:
   $ printf 'a\\nb\\n' > f
-  $ printf '1a\\nx\\n.\\n%%p\\n' | levertaupe edit f
+  $ printf '1a\\nx\\n.\\n%%p\\nq!\\n' | levertaupe edit f
   \"f\" 2L, 4B
   change 1, 3 lines
   a
   x
   b
+  quit
 
-Nothing is saved yet: the file stays as it is.
+Writing is not built yet: the file stays as it is. A script that ends without q
+leaves swap files with its text.
 
 Exit status; from 2 on a line on standard error says the same:
-   0  every command did its work
+   0  every command did its work, or the text was recovered, and so on
    1  some reply is an error
    2  the arguments are none of the above
+   3  the file to edit has a swap file
+   4  there is no swap file
    5  the script cannot be read
    6  the output cannot be written
-   7  the file cannot be read
+   7  a file cannot be read, written or removed
    8  there is not enough memory
+   9  a swap file is encrypted, and none has a text
+  10  no swap file has a text
   12  the file has more than 4,000,000 lines, more than 268,435,456 bytes, or
       more than 1,048,576 bytes in a line
   13  the script has more than 1,073,741,824 bytes

@@ -5,6 +5,7 @@ ghost use Rattle.vs_main.specs.Untold.{no_folder, never};
 
 use std::fs::{self, File, OpenOptions};
 use std::io::{self, ErrorKind, Read, Seek, SeekFrom, Write};
+use std::os::unix::fs::OpenOptionsExt;
 use std::time::{SystemTime, UNIX_EPOCH};
 use vs_host::{Clock, Failed, Folder, Host, Out, Script, World};
 
@@ -102,10 +103,13 @@ fn is_there(rt: &HostRuntime, name: &str) -> io::Result<bool> {
     }
 }
 
+/// Makes a file that its owner alone may read: all that is made today are swap files, which have the text of a file that others
+/// may not be allowed to read.
 fn create_empty(rt: &HostRuntime, name: &str) -> io::Result<()> {
     OpenOptions::new()
         .write(true)
         .create_new(true)
+        .mode(0o600)
         .open(rt, name)?;
     Ok(())
 }

@@ -16,7 +16,7 @@ none_fails tells scene = record { faults = refl; quiet = λ told. quiet_none sce
 no_fault_as : (start old : Scene) → Quiet start old → (m : Snapshot) → HasNoFault old m → HasNoFault start m
 no_fault_as start old quiet m none = record { script = none.script ∙ quiet.script; out = none.out ∙ quiet.out; folder = none.folder ∙ quiet.folder }
 
-quiet_then : (old mid new : Scene) → Quiet old mid → Quiet mid new → Quiet old new
+pub quiet_then : (old mid new : Scene) → Quiet old mid → Quiet mid new → Quiet old new
 quiet_then old mid new first second = record {
   moments = goes_then (HasNoFault old) old.trace mid.trace new.trace first.moments (goes_weaker (HasNoFault mid) (HasNoFault old) (no_fault_as old mid first) mid.trace new.trace second.moments);
   script = second.script ∙ first.script;
@@ -66,7 +66,7 @@ acts_as tells S U old new leads acts = record {
   last = acts.last;
 }
 
-last_then : (old mid new : Scene) → Quiet old mid → FailsLast mid new → FailsLast old new
+pub last_then : (old mid new : Scene) → Quiet old mid → FailsLast mid new → FailsLast old new
 last_then old mid new quiet fails = record {
   last = fails.last;
   earlier = fails.earlier ++ quiet.moments.added;

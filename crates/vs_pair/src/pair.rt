@@ -20,7 +20,8 @@ use vs_pages::MemPages;
 /// one stands.
 #[derive(Drop)]
 pub struct SwapPair {
-    pub(crate) pages: MemPages,
+    /// The pages, which a text may be put into before the start.
+    pub pages: MemPages,
     pub(crate) files: SwapFiles,
 }
 

@@ -24,17 +24,12 @@ use Rattle.std.specs.Prelude.{codes, ◌++◌, ◌∷◌, []}
 use Rattle.vs_recover.specs.declared.image.Image.{Image}
 use Rattle.vs_recover.specs.Images.{IsImage, refused_image}
 use Rattle.vs_recover.specs.Infos.{IsInfo, image_words}
-use Rattle.vs_swap.specs.Recovery.{StandsIn}
-use Rattle.vs_swap.proofs.Standing.{once}
+use Rattle.vs_swap.proofs.Standing.{in_once}
 use Rattle.vs_recover.specs.Choices.{Recovers, NoneStands, StandsNowhere, root_chosen, IsVersion, version_of, newer, root_in, root_reads, root_of, IsRefusal}
 
 -- a file whose page 0 does not read does not stand
 pub refused_not : (file : List ℕ) (why : ZeroErr) → reading_of (take 4096 file) ≡ Err why → StandsNot file
 refused_not file why is = λ g t s. let e : Ok s.head.zero ≡ Err why = sym s.head.reads ∙ is in absurd (cc)
-
-pub in_once : (o : Option (List ℕ)) (g h : ℕ) (a b : List (List ℕ)) → StandsIn o g a → StandsIn o h b → (g ≡ h) × (a ≡ b)
-in_once None g h a b x y = absurd x
-in_once (Some file) g h a b x y = once file g h a b x y
 
 newer_second : (a b : Version) → a.generation < b.generation → newer (Some a) (Some b) ≡ Some b.text
 newer_second a b lt = grind (arith, nat_tests)

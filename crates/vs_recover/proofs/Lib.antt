@@ -3,6 +3,7 @@ pub mod LevelLaws
 pub mod MarkLaws
 pub mod PageLaws
 pub mod StageLaws
+pub mod WalkLaws
 pub mod TextLaws
 pub mod ChoiceLaws
 pub mod BitLaws

@@ -1,5 +1,5 @@
 -- How reading goes on: after a part in which no call failed, one part more.
-use Rattle.std.proofs.Common.{◌≡◌, ℕ, List, ◌++◌, Option, Some, None, Result, IsTrue, IsSome, is_some, true, refl, sym, ◌∙◌, ap, subst, append_assoc}
+use Rattle.std.proofs.Common.{◌≡◌, ℕ, ◌+◌, ◌≤◌, List, ◌++◌, length, Option, Some, None, Result, IsTrue, IsSome, is_some, true, inl, inr, refl, sym, ◌∙◌, ap, subst, append_assoc, arith}
 use Rattle.std.specs.Prelude.{IsSomeAnd, IfSome}
 use Rattle.vs_host.specs.Disk.{Name}
 use Rattle.vs_host.specs.Trace.{Kind, Snapshot}
@@ -7,7 +7,7 @@ use Rattle.vs_host.specs.World.{Tells, Scene, IsTold, ReadsFolder, content_of}
 use Rattle.vs_disk.specs.Runs.{HasNoFault, FailsLast}
 use Rattle.vs_disk.proofs.Runs.{Quiet, reads_change, starts, one_look, looks_on, fails_none, fails_call, quiet_none, quiet_call, goes_then, goes_weaker, Each-append, Each-weaker}
 use Rattle.vs_recover.specs.Files.{IsFile}
-use Rattle.vs_recover.specs.Reading.{Reads, NoneFails, IsThere}
+use Rattle.vs_recover.specs.Reading.{CallsAtMost, Reads, NoneFails, IsThere}
 
 -- ---- no call failed
 
@@ -68,6 +68,25 @@ reads_on {tells} {old} {mid} {new} none first second = record {
   looks = λ told. looks_on old mid new (reads_change old mid first.frame) (first.looks told) (second.looks told);
   last = λ told. last_then old mid new (none.quiet told) (second.last told);
 }
+
+-- ---- how many calls
+
+longer : {T E : Type 0} (kind : Kind) (names : List Name) (result : Result T E) (old new : Scene) → IsTold kind names result old new → length new.trace ≤ length old.trace + 1
+longer kind names result old new (inl told) = omega (arith, ap length told)
+longer kind names result old new (inr left) = omega (arith, ap length left.1.trace)
+
+pub no_calls : (tells : Tells) (scene : Scene) (most : ℕ) → CallsAtMost tells scene scene most
+no_calls tells scene most = λ told. omega arith
+
+pub one_call : (tells : Tells) (kind : Kind) (names : List Name) {T E : Type 0} (result : Result T E) (old new : Scene) → (IsTrue tells.folder → IsTold kind names result old new) → CallsAtMost tells old new 1
+one_call tells kind names result old new is = λ told. longer kind names result old new (is told)
+
+-- more calls after others
+pub calls_then : (tells : Tells) (old mid new : Scene) (a b most : ℕ) → CallsAtMost tells old mid a → CallsAtMost tells mid new b → a + b ≤ most → CallsAtMost tells old new most
+calls_then tells old mid new a b most first second le = λ told. omega (arith, first told, second told, le)
+
+pub calls_within : (tells : Tells) (old new : Scene) (a most : ℕ) → CallsAtMost tells old new a → a ≤ most → CallsAtMost tells old new most
+calls_within tells old new a most calls le = λ told. omega (arith, calls told, le)
 
 -- ---- the file that is read
 

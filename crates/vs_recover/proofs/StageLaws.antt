@@ -1,5 +1,5 @@
 -- A walk over the levels of a tree, from block 1 to the data blocks.
-use Rattle.std.proofs.Common.{◌≡◌, ℕ, zero, suc, ◌+◌, ◌<◌, ◌≤◌, ◌/◌, List, [], ◌∷◌, length, map, Option, Some, None, Result, Ok, Err, true, false, sym, refl, ap, subst, ◌∙◌, inl, inr, ◌⊎◌, arith}
+use Rattle.std.proofs.Common.{◌≡◌, ℕ, zero, suc, ◌+◌, ◌<◌, ◌≤◌, ◌/◌, List, [], ◌∷◌, length, map, Option, Some, None, true, false, sym, refl, ap, subst, ◌∙◌, inl, inr, ◌⊎◌, arith}
 use Rattle.std.specs.Prelude.{Vec}
 use Rattle.std.specs.declared.alloc.Global.{Global}
 use Rattle.std.specs.List.{flat_map, AllByRecursion}
@@ -8,44 +8,17 @@ use Rattle.std.proofs.lemmas.Bool.Decides.{nat_tests}
 use Rattle.vs_pages.specs.Maps.{Map, one, total, pages_at}
 use Rattle.vs_tree_shape.specs.declared.entries.Entry.{Entry}
 use Rattle.vs_tree_shape.specs.Trees.{Format, read_by, Tree, lines_of, uses, entry_of, IsTree}
-use Rattle.vs_tree_shape.specs.Depths.{AreApart, same_at_depths}
+use Rattle.vs_tree_shape.specs.Depths.{AreApart}
 use Rattle.vs_tree_shape.proofs.Shapes.{unused}
-use Rattle.vs_data.specs.declared.DataErr.{DataErr}
-use Rattle.vs_data.specs.declared.DataView.{DataView}
-use Rattle.vs_data.specs.Blocks as lines
-use Rattle.vs_data.proofs.Lines.{no_lines}
-use Rattle.vs_data.proofs.Reading.{view_holds}
-use Rattle.vs_ptr.specs.declared.PtrErr.{PtrErr}
-use Rattle.vs_ptr.specs.declared.PtrView.{PtrView}
-use Rattle.vs_ptr.specs.Blocks as pointers
-use Rattle.vs_ptr.proofs.Headers.{header_from_view}
-use Rattle.vs_tree_blocks.specs.Blocks.{points_in}
-use Rattle.vs_tree_blocks.proofs.EntriesLemmas.{points_refused}
+use Rattle.vs_swap.specs.Entries.{swap_points}
 use Rattle.vs_swap.specs.Files.{swap_format, pages_in, GivesLines}
-use Rattle.vs_recover.specs.Files.{plain, Gives, Walked}
+use Rattle.vs_swap.proofs.Standing.{apart}
+use Rattle.vs_recover.specs.Files.{plain, Walked}
 use Rattle.vs_recover.specs.Levels.{taken, are_wide, Level, points_at, opened, gathered, first_used, Reaches, AtLevel, Stage, Clashes}
 use Rattle.vs_recover.proofs.PageLaws.{lacks_past}
 use Rattle.vs_recover.proofs.LevelLaws.{uses_roots, chained_some, points_fitted, trees_wide, goes_down, goes_up, gathers, is_gathered}
 
 -- ---- pointer blocks and data blocks
-
--- a block that reads in both ways would begin with both
-no_both : (bytes : List ℕ) (found : List (List ℕ)) (entries : List Entry) (read : Result DataView DataErr) (other : Result PtrView PtrErr) → lines.view_in bytes ≡ read → pointers.view_in bytes ≡ other
-    → lines.lines_in bytes ≡ Some found → points_in bytes ≡ Some entries → ⊥
-no_both bytes found entries (Ok view) (Ok next) is also a b =
-    let first = (view_holds bytes view is).0.bounds.id in
-    let second = (header_from_view bytes next also).marked in
-    absurd (omega arith)
-no_both bytes found entries (Ok view) (Err refusal) is also a b = let none = points_refused bytes refusal also in absurd (cc)
-no_both bytes found entries (Err refusal) other is also a b = let none = no_lines bytes refusal is in absurd (cc)
-
-pub apart : AreApart swap_format
-apart = λ bytes found entries a b. no_both bytes found entries (lines.view_in bytes) (pointers.view_in bytes) refl refl a b
-
--- a swap file has one list of lines at most
-pub one_list : (m : Map) (d e : ℕ) (a b : List (List ℕ)) → GivesLines m d a → GivesLines m e b → a ≡ b
-one_list m d e a b x y =
-    sym x.lines_are ∙ same_at_depths swap_format apart d e m x.tree y.tree x.stands.tree y.stands.tree (x.stands.root ∙ sym y.stands.root) (x.stands.page_count ∙ sym y.stands.page_count) ∙ y.lines_are
 
 read_apart : (c : Format) → AreApart c → (o : Option (List ℕ)) (lines : List (List ℕ)) (entries : List Entry) → read_by (c.lines 1) o ≡ Some lines → read_by c.entries o ≡ Some entries → ⊥
 read_apart c apart None lines entries a b = absurd (cc)
@@ -185,14 +158,17 @@ no_level c m used entries lines (suc d) clash none level =
     let k = clash found.0 found.1 in
     absurd (omega (arith, k.1, found.2.once k.0))
 
-ends_with : (m : Map) (used : ℕ → ℕ) (entries : List Entry) (o : Option (List (List ℕ))) (found : Option (Vec (List ℕ) Global)) → ((k : ℕ) → used k ≤ 1) → Clashes used (opened swap_format m entries) → Stage m used entries → gathered swap_format m entries ≡ o → Gives (plain o) found → Walked m found
-ends_with m used entries None None once clash stage is gives = λ lines reached. let level = stage.down lines reached in no_level swap_format m used entries lines level.0 clash is level.1
-ends_with m used entries None (Some found) once clash stage is gives = absurd (cc)
-ends_with m used entries (Some lines) None once clash stage is gives = absurd (cc)
-ends_with m used entries (Some lines) (Some found) once clash stage is gives = (lines, stage.up lines (zero, is_gathered swap_format m used entries lines once is), cc)
+-- a level that has no lines, and no next level, has no tree above it
+pub stage_stops : (m : Map) (used : ℕ → ℕ) (entries : List Entry) → Clashes used (opened swap_format m entries) → gathered swap_format m entries ≡ None → Stage m used entries → Walked m None
+stage_stops m used entries clash none stage = λ lines reached. let level = stage.down lines reached in no_level swap_format m used entries lines level.0 clash none level.1
 
-pub stage_ends : (m : Map) (used : ℕ → ℕ) (entries : List Entry) (found : Option (Vec (List ℕ) Global)) → ((k : ℕ) → used k ≤ 1) → Clashes used (opened swap_format m entries) → Stage m used entries → Gives (plain (gathered swap_format m entries)) found → Walked m found
-stage_ends m used entries found once clash stage gives = ends_with m used entries (gathered swap_format m entries) found once clash stage refl gives
+lines_end : (m : Map) (used : ℕ → ℕ) (entries : List Entry) (o : Option (List (List ℕ))) (found : Vec (List ℕ) Global) → ((k : ℕ) → used k ≤ 1) → Stage m used entries → gathered swap_format m entries ≡ o → plain o ≡ Some found.items → Walked m (Some found)
+lines_end m used entries None found once stage is gives = absurd (cc)
+lines_end m used entries (Some lines) found once stage is gives = (lines, stage.up lines (zero, is_gathered swap_format m used entries lines once is), cc)
+
+-- the lines of a level of data blocks are those of the tree
+pub stage_ends : (m : Map) (used : ℕ → ℕ) (entries : List Entry) (found : Vec (List ℕ) Global) → ((k : ℕ) → used k ≤ 1) → Stage m used entries → plain (gathered swap_format m entries) ≡ Some found.items → Walked m (Some found)
+stage_ends m used entries found once stage gives = lines_end m used entries (gathered swap_format m entries) found once stage refl gives
 
 pub stage_empty : (m : Map) (used : ℕ → ℕ) (entries : List Entry) (found : Vec (List ℕ) Global) → ((k : ℕ) → used k ≤ 1) → entries ≡ [] → found.items ≡ [] → Stage m used entries → Walked m (Some found)
 stage_empty m used entries found once none is stage =
@@ -200,30 +176,30 @@ stage_empty m used entries found once none is stage =
 
 -- ---- files without a tree
 
-root_there : (m : Map) (lines : List (List ℕ)) (depth : ℕ) → read_by points_in (pages_at m 1 1) ≡ None → GivesLines m depth lines → ⊥
+root_there : (m : Map) (lines : List (List ℕ)) (depth : ℕ) → read_by swap_points (pages_at m 1 1) ≡ None → GivesLines m depth lines → ⊥
 root_there m lines zero none has = absurd (omega (arith, has.deep))
 root_there m lines (suc d) none has =
     let root : has.tree.0 ≡ 1 = has.stands.root in
-    let is : Some (map (λ u. entry_of d u) has.tree.1) ≡ None = sym has.stands.tree.0 ∙ ap (λ p. read_by points_in (pages_at m p 1)) root ∙ none in
+    let is : Some (map (λ u. entry_of d u) has.tree.1) ≡ None = sym has.stands.tree.0 ∙ ap (λ p. read_by swap_points (pages_at m p 1)) root ∙ none in
     absurd (cc)
 
-pub no_root : (m : Map) (lines : List (List ℕ)) → read_by points_in (pages_at m 1 1) ≡ None → Reaches m lines → ⊥
+pub no_root : (m : Map) (lines : List (List ℕ)) → read_by swap_points (pages_at m 1 1) ≡ None → Reaches m lines → ⊥
 no_root m lines none reached = root_there m lines reached.0 none reached.1
 
-root_wide : (m : Map) (lines : List (List ℕ)) (entries : List Entry) (depth : ℕ) → read_by points_in (pages_at m 1 1) ≡ Some entries → are_wide entries ≡ false → GivesLines m depth lines → ⊥
+root_wide : (m : Map) (lines : List (List ℕ)) (entries : List Entry) (depth : ℕ) → read_by swap_points (pages_at m 1 1) ≡ Some entries → are_wide entries ≡ false → GivesLines m depth lines → ⊥
 root_wide m lines entries zero reads narrow has = absurd (omega (arith, has.deep))
 root_wide m lines entries (suc d) reads narrow has =
     let root : has.tree.0 ≡ 1 = has.stands.root in
-    let is : Some (map (λ u. entry_of d u) has.tree.1) ≡ Some entries = sym has.stands.tree.0 ∙ ap (λ p. read_by points_in (pages_at m p 1)) root ∙ reads in
+    let is : Some (map (λ u. entry_of d u) has.tree.1) ≡ Some entries = sym has.stands.tree.0 ∙ ap (λ p. read_by swap_points (pages_at m p 1)) root ∙ reads in
     let same : map (λ u. entry_of d u) has.tree.1 ≡ entries = cc in
     let wide : are_wide entries ≡ true = ap (λ es. are_wide es) (sym same) ∙ trees_wide swap_format m d has.tree.1 has.stands.tree.1 in
     absurd (cc)
 
-pub no_wide_root : (m : Map) (lines : List (List ℕ)) (entries : List Entry) → read_by points_in (pages_at m 1 1) ≡ Some entries → are_wide entries ≡ false → Reaches m lines → ⊥
+pub no_wide_root : (m : Map) (lines : List (List ℕ)) (entries : List Entry) → read_by swap_points (pages_at m 1 1) ≡ Some entries → are_wide entries ≡ false → Reaches m lines → ⊥
 no_wide_root m lines entries reads narrow reached = root_wide m lines entries reached.0 reads narrow reached.1
 
 -- a page of the first level is in use already, or twice
-pub no_first : (file : List ℕ) (n : ℕ) (entries : List Entry) (lines : List (List ℕ)) → n ≡ length file / 4096 → read_by points_in (pages_at (pages_in file) 1 1) ≡ Some entries → (k : ℕ) × (2 ≤ first_used n k + taken entries k) → Reaches (pages_in file) lines → ⊥
+pub no_first : (file : List ℕ) (n : ℕ) (entries : List Entry) (lines : List (List ℕ)) → n ≡ length file / 4096 → read_by swap_points (pages_at (pages_in file) 1 1) ≡ Some entries → (k : ℕ) × (2 ≤ first_used n k + taken entries k) → Reaches (pages_in file) lines → ⊥
 no_first file n entries lines size reads clash reached =
     let level = (stage_begins file n (λ k. first_used n k + taken entries k) entries size reads (λ k. refl)).down lines reached in
     absurd (omega (arith, clash.1, level.1.once clash.0))

@@ -24,7 +24,7 @@ use Rattle.vs_swap.specs.Files.{pages_in, swap_format, GivesLines, IsHead, Stand
 use Rattle.vs_recover.specs.Files.{Walked}
 use Rattle.vs_recover.specs.Levels.{Reaches}
 use Rattle.vs_recover.specs.Images.{text_in, StandsNot}
-use Rattle.vs_recover.proofs.StageLaws.{one_list}
+use Rattle.vs_swap.proofs.Standing.{one_list}
 
 -- ---- the lines of a tree have no zero byte
 

@@ -1,6 +1,7 @@
 pub mod Files
 pub mod Levels
 pub mod Marks
+pub mod Walks
 pub mod Images
 pub mod Choices
 pub mod Faults

@@ -1,5 +1,5 @@
 -- What a call says of a folder that it only reads.
-use Rattle.std.specs.Prelude.{◌≡◌, ℕ, List, IsTrue, IsSomeAnd}
+use Rattle.std.specs.Prelude.{◌≡◌, ℕ, ◌+◌, ◌≤◌, length, List, IsTrue, IsSomeAnd}
 use Rattle.vs_host.specs.Disk.{Name}
 use Rattle.vs_host.specs.World.{Tells, Scene, ReadsFolder, content_of}
 use Rattle.vs_disk.specs.Runs.{Looks, FailsLast}
@@ -15,6 +15,10 @@ pub record Reads (tells : Tells) (old new : Scene) : Type 0 where
 pub record NoneFails (tells : Tells) (old new : Scene) : Type 0 where
   pub faults : new.folder_faults ≡ old.folder_faults
   pub quiet : IsTrue tells.folder → Quiet old new
+
+-- Where the folder is told, at most so many calls were made on the host.
+abbrev pub CallsAtMost : Tells → Scene → Scene → ℕ → Type 0
+CallsAtMost tells old new most = IsTrue tells.folder → length new.trace ≤ length old.trace + most
 
 -- Where the folder is told, a file is there under the name, and has P.
 abbrev pub IsThere : Tells → Scene → Name → (List ℕ → Type 0) → Type 0

@@ -6,11 +6,11 @@ ghost use Rattle.vs_data.specs.Blocks.{lines_in, view_in};
 ghost use Rattle.vs_text.specs.Text.{plain_line};
 ghost use Rattle.vs_tree_shape.specs.Places.{lines_below};
 ghost use Rattle.vs_tree_shape.specs.Trees.{read_by};
-ghost use Rattle.vs_tree_blocks.specs.Blocks.{points_in, entry_read, may_lead};
+ghost use Rattle.vs_swap.specs.Entries.{pointer_in, swap_points};
 ghost use Rattle.vs_swap.specs.Files.{pages_in, swap_format};
 ghost use Rattle.vs_recover.specs.Files.{IsFile, Gives, Extends, plain};
-ghost use Rattle.vs_recover.specs.Levels.{are_wide, points_at, lines_at};
-ghost use Rattle.vs_recover.specs.Reading.{IsThere, NoneFails, Reads};
+ghost use Rattle.vs_recover.specs.Levels.{are_wide, fitting_lines, fitting_points, points_at, lines_at};
+ghost use Rattle.vs_recover.specs.Reading.{CallsAtMost, IsThere, NoneFails, Reads};
 
 use crate::Fault;
 use crate::calls::read_part;
@@ -39,6 +39,7 @@ pub fn load_pages<F: Folder>(
     ensures failed { result ≡ Err Fault.Failed → HasRisen (F.scene host.old).folder_faults (F.scene host.new).folder_faults }
     ensures reads { Reads F.tells (F.scene host.old) (F.scene host.new) }
     ensures none { OnOk result (NoneFails F.tells (F.scene host.old) (F.scene host.new)) }
+    ensures calls { CallsAtMost F.tells (F.scene host.old) (F.scene host.new) 1 }
 {
     let wanted = u64::from(pages);
     if block >= count || wanted > count - block {
@@ -49,24 +50,11 @@ pub fn load_pages<F: Folder>(
     Ok(Some(bytes))
 }
 
-/// The greatest number of pages of a block: as many as a line of 1,048,576 bytes needs.
-const MOST_PAGES: u32 = 257;
-
-// Whether a block may have these numbers of pages and lines.
-fn may_lead(pages: u32, lines: u64) -> bool
-    ensures { result ≡ may_lead pages lines }
-{
-    pages == 1 || (pages > 1 && pages <= MOST_PAGES && lines == 1)
-}
-
-// The entry as the tree takes it; None where a number is negative, or no block may have the numbers.
+// The entry as a swap file has it; None where a number is negative.
 fn from_ptr(entry: &PtrEntry) -> Option<Entry>
-    ensures { result ≡ entry_read entry.now }
+    ensures { result ≡ pointer_in entry.now }
 {
     if entry.block < 0 || entry.pages < 0 || entry.lines < 0 {
-        return None;
-    }
-    if !may_lead(entry.pages as u32, entry.lines as u64) {
         return None;
     }
     Some(Entry {
@@ -76,10 +64,9 @@ fn from_ptr(entry: &PtrEntry) -> Option<Entry>
     })
 }
 
-// The entries of a pointer block of one page; None where the bytes are no such block, or a number in it is negative.
+// The entries of a pointer block; None where the bytes are no such block, or a number in it is negative.
 fn read_entries(alloc: Global, bytes: &[u8]) -> Result<Option<Vec<Entry>>, AllocError>
-    requires { length bytes.now ≡ 4096 }
-    ensures { IfOk result (Gives (points_in bytes.now)) }
+    ensures { IfOk result (Gives (swap_points bytes.now)) }
 {
     let Ok(view) = PtrView::read(bytes) else {
         return Ok(None);
@@ -104,11 +91,12 @@ pub fn load_entries<F: Folder>(
 ) -> Result<Option<Vec<Entry>>, Fault>
     requires bound { count < 2 ^ 52 }
     requires count { IsThere F.tells (F.scene host.old) name.now (λ file. count ≡ length file / 4096) }
-    ensures value { IfOk result (λ found. (file : List ℕ) → IsFile F.tells (F.scene host.old) name.now file → Gives (read_by points_in (pages_at (pages_in file) block 1)) found) }
+    ensures value { IfOk result (λ found. (file : List ℕ) → IsFile F.tells (F.scene host.old) name.now file → Gives (read_by swap_points (pages_at (pages_in file) block 1)) found) }
     ensures later { (F.scene host.old).folder_faults ≤ (F.scene host.new).folder_faults }
     ensures failed { result ≡ Err Fault.Failed → HasRisen (F.scene host.old).folder_faults (F.scene host.new).folder_faults }
     ensures reads { Reads F.tells (F.scene host.old) (F.scene host.new) }
     ensures none { OnOk result (NoneFails F.tells (F.scene host.old) (F.scene host.new)) }
+    ensures calls { CallsAtMost F.tells (F.scene host.old) (F.scene host.new) 1 }
 {
     let Some(bytes) = load_pages(alloc, host, name, count, block, 1)? else {
         return Ok(None);
@@ -146,6 +134,24 @@ fn fits(entry: &Entry, found: &[Entry]) -> bool
     are_wide(found)
 }
 
+/// The entries of the pointer block that an entry leads to, from its bytes; None where they are no pointer block that fits.
+pub fn read_points(
+    alloc: Global,
+    entry: &Entry,
+    bytes: &[u8],
+) -> Result<Option<Vec<Entry>>, AllocError>
+    ensures value { IfOk result (Gives (fitting_points entry.now (swap_points bytes.now))) }
+    ensures wide { IfOk result (λ found. IfSome found (λ entries. IsTrue (are_wide entries.items))) }
+{
+    let Some(found) = read_entries(alloc, bytes)? else {
+        return Ok(None);
+    };
+    if !fits(entry, &found) {
+        return Ok(None);
+    }
+    Ok(Some(found))
+}
+
 /// The entries of the pointer block that an entry leads to; None where there is none that fits.
 pub fn load_points<F: Folder>(
     alloc: Global,
@@ -154,6 +160,7 @@ pub fn load_points<F: Folder>(
     count: u64,
     entry: &Entry,
 ) -> Result<Option<Vec<Entry>>, Fault>
+    requires some { 1 ≤ entry.now.pages }
     requires bound { count < 2 ^ 52 }
     requires count { IsThere F.tells (F.scene host.old) name.now (λ file. count ≡ length file / 4096) }
     ensures value { IfOk result (λ found. (file : List ℕ) → IsFile F.tells (F.scene host.old) name.now file → Gives (points_at swap_format (pages_in file) entry.now) found) }
@@ -162,14 +169,13 @@ pub fn load_points<F: Folder>(
     ensures failed { result ≡ Err Fault.Failed → HasRisen (F.scene host.old).folder_faults (F.scene host.new).folder_faults }
     ensures reads { Reads F.tells (F.scene host.old) (F.scene host.new) }
     ensures none { OnOk result (NoneFails F.tells (F.scene host.old) (F.scene host.new)) }
+    ensures calls { CallsAtMost F.tells (F.scene host.old) (F.scene host.new) 1 }
 {
-    let Some(found) = load_entries(alloc, host, name, count, entry.block)? else {
+    let Some(bytes) = load_pages(alloc, host, name, count, entry.block, entry.pages)? else {
         return Ok(None);
     };
-    if !fits(entry, &found) {
-        return Ok(None);
-    }
-    Ok(Some(found))
+    let found = read_points(alloc, entry, &bytes)?;
+    Ok(found)
 }
 
 // Adds the lines of a data block in their plain form.
@@ -190,8 +196,29 @@ fn add_lines(
     Ok(())
 }
 
+/// Adds the lines of the data block that an entry leads to, from its bytes, in their plain form; false where they are no data
+/// block that fits.
+pub fn read_lines(
+    alloc: Global,
+    entry: &Entry,
+    bytes: &[u8],
+    lines: &mut Vec<Line>,
+) -> Result<bool, AllocError>
+    requires some { 1 ≤ entry.now.pages }
+    ensures value { IfOk result (λ done. Extends (plain (fitting_lines entry.now (lines_in bytes.now))) lines.old.items lines.new.items done) }
+{
+    let Ok(view) = DataView::read(bytes) else {
+        return Ok(false);
+    };
+    if u64::from(view.count) != entry.lines {
+        return Ok(false);
+    }
+    add_lines(alloc, &view, bytes, lines)?;
+    Ok(true)
+}
+
 /// Adds the lines of the data block that an entry leads to, in their plain form; false where there is no block that fits.
-pub fn add_block<F: Folder>(
+pub fn load_lines<F: Folder>(
     alloc: Global,
     host: &mut F,
     name: &str,
@@ -199,6 +226,7 @@ pub fn add_block<F: Folder>(
     entry: &Entry,
     lines: &mut Vec<Line>,
 ) -> Result<bool, Fault>
+    requires some { 1 ≤ entry.now.pages }
     requires bound { count < 2 ^ 52 }
     requires count { IsThere F.tells (F.scene host.old) name.now (λ file. count ≡ length file / 4096) }
     ensures value { IfOk result (λ done. (file : List ℕ) → IsFile F.tells (F.scene host.old) name.now file
@@ -207,19 +235,11 @@ pub fn add_block<F: Folder>(
     ensures failed { result ≡ Err Fault.Failed → HasRisen (F.scene host.old).folder_faults (F.scene host.new).folder_faults }
     ensures reads { Reads F.tells (F.scene host.old) (F.scene host.new) }
     ensures none { OnOk result (NoneFails F.tells (F.scene host.old) (F.scene host.new)) }
+    ensures calls { CallsAtMost F.tells (F.scene host.old) (F.scene host.new) 1 }
 {
-    if entry.pages == 0 {
-        return Ok(false);
-    }
     let Some(bytes) = load_pages(alloc, host, name, count, entry.block, entry.pages)? else {
         return Ok(false);
     };
-    let Ok(view) = DataView::read(&bytes) else {
-        return Ok(false);
-    };
-    if u64::from(view.count) != entry.lines {
-        return Ok(false);
-    }
-    add_lines(alloc, &view, &bytes, lines)?;
-    Ok(true)
+    let done = read_lines(alloc, entry, &bytes, lines)?;
+    Ok(done)
 }

@@ -3,7 +3,7 @@ ghost use Rattle.std.specs.Prelude.{◌≡◌, ◌≤◌, ◌+◌, ℕ, List, If
 ghost use Rattle.vs_faults.specs.Faults.{HasRisen};
 ghost use Rattle.vs_host.specs.World.{content_of};
 ghost use Rattle.vs_recover.specs.Files.{IsFile};
-ghost use Rattle.vs_recover.specs.Reading.{IsThere, NoneFails, Reads};
+ghost use Rattle.vs_recover.specs.Reading.{CallsAtMost, IsThere, NoneFails, Reads};
 
 use crate::Fault;
 use vs_host::Folder;
@@ -15,6 +15,7 @@ pub fn has_file<F: Folder>(host: &mut F, name: &str) -> Result<bool, Fault>
     ensures failed { result ≡ Err Fault.Failed → HasRisen (F.scene host.old).folder_faults (F.scene host.new).folder_faults }
     ensures reads { Reads F.tells (F.scene host.old) (F.scene host.new) }
     ensures none { OnOk result (NoneFails F.tells (F.scene host.old) (F.scene host.new)) }
+    ensures calls { CallsAtMost F.tells (F.scene host.old) (F.scene host.new) 1 }
 {
     let there = host.has(name)?;
     Ok(there)
@@ -28,6 +29,7 @@ pub fn file_len<F: Folder>(host: &mut F, name: &str) -> Result<u64, Fault>
     ensures failed { result ≡ Err Fault.Failed → HasRisen (F.scene host.old).folder_faults (F.scene host.new).folder_faults }
     ensures reads { Reads F.tells (F.scene host.old) (F.scene host.new) }
     ensures none { OnOk result (NoneFails F.tells (F.scene host.old) (F.scene host.new)) }
+    ensures calls { CallsAtMost F.tells (F.scene host.old) (F.scene host.new) 1 }
 {
     let len = host.len(name)?;
     Ok(len)
@@ -41,6 +43,7 @@ pub fn read_part<F: Folder>(host: &mut F, name: &str, at: u64, into: &mut [u8]) 
     ensures failed { result ≡ Err Fault.Failed → HasRisen (F.scene host.old).folder_faults (F.scene host.new).folder_faults }
     ensures reads { Reads F.tells (F.scene host.old) (F.scene host.new) }
     ensures none { OnOk result (NoneFails F.tells (F.scene host.old) (F.scene host.new)) }
+    ensures calls { CallsAtMost F.tells (F.scene host.old) (F.scene host.new) 1 }
 {
     host.read_at(name, at, into)?;
     Ok(())

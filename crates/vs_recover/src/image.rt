@@ -1,12 +1,12 @@
 // What one swap file is.
-ghost use Rattle.std.specs.Prelude.{◌≡◌, ◌≤◌, ◌<◌, ℕ, List, IfOk, IfErr, OnOk, IsTrue, IsSome, Ok, Err, length, take};
+ghost use Rattle.std.specs.Prelude.{◌≡◌, ◌≤◌, ◌<◌, ◌+◌, ◌-◌, ◌/◌, ℕ, List, IfOk, IfErr, OnOk, IsTrue, IsSome, Ok, Err, length, max, take};
 ghost use Rattle.vs_faults.specs.Faults.{HasRisen};
 ghost use Rattle.vs_host.specs.World.{content_of};
 ghost use Rattle.vs_zero.specs.Zero.{reading_of};
 ghost use Rattle.vs_recover.specs.Faults.{IsFault};
 ghost use Rattle.vs_recover.specs.Files.{IsFile};
 ghost use Rattle.vs_recover.specs.Images.{IsImage, refused_image, text_in};
-ghost use Rattle.vs_recover.specs.Reading.{IsThere, NoneFails, Reads};
+ghost use Rattle.vs_recover.specs.Reading.{CallsAtMost, IsThere, NoneFails, Reads};
 
 use crate::calls::{file_len, read_part};
 use crate::error::error_of;
@@ -65,6 +65,7 @@ fn read_head<F: Folder>(alloc: Global, host: &mut F, name: &str, len: u64) -> Re
     ensures failed { result ≡ Err Fault.Failed → HasRisen (F.scene host.old).folder_faults (F.scene host.new).folder_faults }
     ensures reads { Reads F.tells (F.scene host.old) (F.scene host.new) }
     ensures none { OnOk result (NoneFails F.tells (F.scene host.old) (F.scene host.new)) }
+    ensures calls { CallsAtMost F.tells (F.scene host.old) (F.scene host.new) 1 }
 {
     let size = len.min(4096) as usize;
     let mut head = vec![in alloc; 0u8; size]?;
@@ -81,6 +82,7 @@ pub fn read_opening<F: Folder>(alloc: Global, host: &mut F, name: &str) -> Resul
     ensures failed { result ≡ Err Fault.Failed → HasRisen (F.scene host.old).folder_faults (F.scene host.new).folder_faults }
     ensures reads { Reads F.tells (F.scene host.old) (F.scene host.new) }
     ensures none { OnOk result (NoneFails F.tells (F.scene host.old) (F.scene host.new)) }
+    ensures calls { CallsAtMost F.tells (F.scene host.old) (F.scene host.new) 2 }
 {
     let len = file_len(host, name)?;
     let head = read_head(alloc, host, name, len)?;
@@ -114,6 +116,7 @@ fn read_open<F: Folder>(
     ensures failed { result ≡ Err Fault.Failed → HasRisen (F.scene host.old).folder_faults (F.scene host.new).folder_faults }
     ensures reads { Reads F.tells (F.scene host.old) (F.scene host.new) }
     ensures none { OnOk result (NoneFails F.tells (F.scene host.old) (F.scene host.new)) }
+    ensures calls { CallsAtMost F.tells (F.scene host.old) (F.scene host.new) (len / 4096 - 1) }
 {
     let page_size = zero.page_size;
     if page_size != 4096 {
@@ -142,6 +145,7 @@ pub fn find_image<F: Folder>(alloc: Global, host: &mut F, name: &str) -> Result<
     ensures failed { result ≡ Err Fault.Failed → HasRisen (F.scene host.old).folder_faults (F.scene host.new).folder_faults }
     ensures reads { Reads F.tells (F.scene host.old) (F.scene host.new) }
     ensures none { OnOk result (NoneFails F.tells (F.scene host.old) (F.scene host.new)) }
+    ensures calls { (file : List ℕ) → IsFile F.tells (F.scene host.old) name.now file → CallsAtMost F.tells (F.scene host.old) (F.scene host.new) (1 + max 1 (length file / 4096)) }
 {
     let opening = read_opening(alloc, host, name)?;
     match opening.zero {
@@ -153,7 +157,8 @@ pub fn find_image<F: Folder>(alloc: Global, host: &mut F, name: &str) -> Result<
     }
 }
 
-/// What the swap file under a name is, which is there. The folder is only read. `Failed` and `NoMemory` are the only errors.
+/// What the swap file under a name is, which is there. The folder is only read, with one call for the length and at most one for
+/// each page. `Failed` and `NoMemory` are the only errors.
 pub fn read_image<F: Folder>(alloc: Global, host: &mut F, swap: &str) -> Result<Image, RecErr>
     requires there { IsTrue F.tells.folder → IsSome (content_of (F.scene host.old) swap.now) }
     ensures image { IfOk result (λ image. (file : List ℕ) → IsFile F.tells (F.scene host.old) swap.now file → IsImage file image) }
@@ -162,6 +167,7 @@ pub fn read_image<F: Folder>(alloc: Global, host: &mut F, swap: &str) -> Result<
     ensures failed { result ≡ Err RecErr.Failed → HasRisen (F.scene host.old).folder_faults (F.scene host.new).folder_faults }
     ensures reads { Reads F.tells (F.scene host.old) (F.scene host.new) }
     ensures none { OnOk result (NoneFails F.tells (F.scene host.old) (F.scene host.new)) }
+    ensures calls { (file : List ℕ) → IsFile F.tells (F.scene host.old) swap.now file → CallsAtMost F.tells (F.scene host.old) (F.scene host.new) (1 + max 1 (length file / 4096)) }
 {
     match find_image(alloc, host, swap) {
         Ok(image) => Ok(image),

@@ -1,45 +1,60 @@
 // The levels of a tree, from block 1 on.
-ghost use Rattle.std.specs.Prelude.{◌≡◌, ◌≤◌, ◌<◌, ◌+◌, ◌/◌, ◌^◌, ℕ, List, IfOk, IfSome, IfNone, Some, Err, length, OnOk};
+ghost use Rattle.std.specs.Prelude.{◌≡◌, ◌≤◌, ◌<◌, ◌+◌, ◌/◌, ◌^◌, ◌∷◌, ℕ, List, IfOk, IfSome, IfNone, IsTrue, Some, Err, length, OnOk};
 ghost use Rattle.vs_faults.specs.Faults.{HasRisen};
 ghost use Rattle.vs_swap.specs.Files.{pages_in, swap_format};
 ghost use Rattle.vs_recover.specs.Files.{IsFile, Gives, plain};
-ghost use Rattle.vs_recover.specs.Levels.{Clashes, opened, gathered, taken};
-ghost use Rattle.vs_recover.specs.Marks.{used_in, free_in};
-ghost use Rattle.vs_recover.specs.Reading.{IsThere, NoneFails, Reads};
+ghost use Rattle.vs_recover.specs.Levels.{Clashes, are_wide, chained, opened, gathered};
+ghost use Rattle.vs_recover.specs.Marks.{used_in};
+ghost use Rattle.vs_recover.specs.Reading.{CallsAtMost, IsThere, NoneFails, Reads};
+ghost use Rattle.vs_recover.specs.Walks.{FindsBelow, IsMarked, MarksBelow};
 
 use crate::Fault;
-use crate::blocks::{add_block, load_points};
+use crate::blocks::{load_lines, load_pages, load_points, read_lines, read_points};
 use crate::marks::Marks;
 use std::alloc::Global;
 use vs_host::Folder;
 use vs_text::Line;
 use vs_tree_shape::Entry;
 
-/// The level below one of pointer blocks, whose pages are marked; None where a block of this one is no pointer block that
-/// fits, or a page of the next one is not in the file or was used.
-pub fn open_level<F: Folder>(
+/// What lies below a level of blocks.
+pub enum Below {
+    /// The blocks are pointer blocks, and these are their entries.
+    Entries(Vec<Entry>),
+    /// The blocks are data blocks, and these are their lines.
+    Lines(Vec<Line>),
+}
+
+// The entries of a level of pointer blocks, whose pages are marked. Those of the first block were read. None where another
+// block is no pointer block that fits, or a page of the next level is not in the file or was used.
+fn open_level<F: Folder>(
     alloc: Global,
     host: &mut F,
     name: &str,
     count: u64,
-    level: &[Entry],
+    points: Vec<Entry>,
+    others: &[Entry],
     marks: &mut Marks,
 ) -> Result<Option<Vec<Entry>>, Fault>
+    requires points { IsTrue (are_wide points.items) }
+    requires wide { IsTrue (are_wide others.now) }
     requires bound { count < 2 ^ 52 }
     requires count { IsThere F.tells (F.scene host.old) name.now (λ file. count ≡ length file / 4096) }
     ensures next { IfOk result (λ found. IfSome found (λ next. (file : List ℕ) → IsFile F.tells (F.scene host.old) name.now file
-        → opened swap_format (pages_in file) level.now ≡ Some next.items)) }
-    ensures used { IfOk result (λ found. IfSome found (λ next. (k : ℕ) → used_in marks.new k ≡ used_in marks.old k + taken next.items k)) }
-    ensures free { IfOk result (λ found. IfSome found (λ next. free_in marks.new + length next.items ≤ free_in marks.old)) }
+        → chained (Some points.items) (opened swap_format (pages_in file) others.now) ≡ Some next.items)) }
+    ensures marked { IfOk result (λ found. IfSome found (λ next. IsMarked marks.old marks.new next.items)) }
     ensures clash { IfOk result (λ found. IfNone found ((file : List ℕ) → IsFile F.tells (F.scene host.old) name.now file
-        → Clashes (λ k. used_in marks.old k) (opened swap_format (pages_in file) level.now))) }
+        → Clashes (λ k. used_in marks.old k) (chained (Some points.items) (opened swap_format (pages_in file) others.now)))) }
     ensures later { (F.scene host.old).folder_faults ≤ (F.scene host.new).folder_faults }
     ensures failed { result ≡ Err Fault.Failed → HasRisen (F.scene host.old).folder_faults (F.scene host.new).folder_faults }
     ensures reads { Reads F.tells (F.scene host.old) (F.scene host.new) }
     ensures none { OnOk result (NoneFails F.tells (F.scene host.old) (F.scene host.new)) }
+    ensures calls { CallsAtMost F.tells (F.scene host.old) (F.scene host.new) (length others.now) }
 {
-    let mut next = Vec::new(alloc);
-    for entry in level {
+    if !marks.mark_all(&points) {
+        return Ok(None);
+    }
+    let mut next = points;
+    for entry in others {
         let Some(found) = load_points(alloc, host, name, count, entry)? else {
             return Ok(None);
         };
@@ -51,27 +66,74 @@ pub fn open_level<F: Folder>(
     Ok(Some(next))
 }
 
-/// The lines of a level of data blocks, in their plain form; None where a block is no data block that fits.
-pub fn gather_level<F: Folder>(
+// The lines of a level of data blocks, in their plain form. Those of the first block were read. None where another block is no
+// data block that fits.
+fn gather_level<F: Folder>(
     alloc: Global,
     host: &mut F,
     name: &str,
     count: u64,
-    level: &[Entry],
+    first: Vec<Line>,
+    others: &[Entry],
 ) -> Result<Option<Vec<Line>>, Fault>
+    requires wide { IsTrue (are_wide others.now) }
     requires bound { count < 2 ^ 52 }
     requires count { IsThere F.tells (F.scene host.old) name.now (λ file. count ≡ length file / 4096) }
-    ensures value { IfOk result (λ found. (file : List ℕ) → IsFile F.tells (F.scene host.old) name.now file → Gives (plain (gathered swap_format (pages_in file) level.now)) found) }
+    ensures value { IfOk result (λ found. (file : List ℕ) → IsFile F.tells (F.scene host.old) name.now file
+        → Gives (chained (Some first.items) (plain (gathered swap_format (pages_in file) others.now))) found) }
     ensures later { (F.scene host.old).folder_faults ≤ (F.scene host.new).folder_faults }
     ensures failed { result ≡ Err Fault.Failed → HasRisen (F.scene host.old).folder_faults (F.scene host.new).folder_faults }
     ensures reads { Reads F.tells (F.scene host.old) (F.scene host.new) }
     ensures none { OnOk result (NoneFails F.tells (F.scene host.old) (F.scene host.new)) }
+    ensures calls { CallsAtMost F.tells (F.scene host.old) (F.scene host.new) (length others.now) }
 {
-    let mut lines = Vec::new(alloc);
-    for entry in level {
-        if !add_block(alloc, host, name, count, entry, &mut lines)? {
+    let mut lines = first;
+    for entry in others {
+        if !load_lines(alloc, host, name, count, entry, &mut lines)? {
             return Ok(None);
         }
     }
     Ok(Some(lines))
+}
+
+/// Reads each block of a level once: the first one says whether they are pointer blocks or data blocks. None where they are
+/// not all of one kind and as their entries say, or where a page of the next level is not in the file or was used.
+pub fn read_level<F: Folder>(
+    alloc: Global,
+    host: &mut F,
+    name: &str,
+    count: u64,
+    first: &Entry,
+    others: &[Entry],
+    marks: &mut Marks,
+) -> Result<Option<Below>, Fault>
+    requires wide { IsTrue (are_wide (first.now ∷ others.now)) }
+    requires bound { count < 2 ^ 52 }
+    requires count { IsThere F.tells (F.scene host.old) name.now (λ file. count ≡ length file / 4096) }
+    ensures found { IfOk result (λ found. (file : List ℕ) → IsFile F.tells (F.scene host.old) name.now file
+        → FindsBelow (pages_in file) (λ k. used_in marks.old k) (first.now ∷ others.now) found) }
+    ensures marked { IfOk result (MarksBelow marks.old marks.new) }
+    ensures later { (F.scene host.old).folder_faults ≤ (F.scene host.new).folder_faults }
+    ensures failed { result ≡ Err Fault.Failed → HasRisen (F.scene host.old).folder_faults (F.scene host.new).folder_faults }
+    ensures reads { Reads F.tells (F.scene host.old) (F.scene host.new) }
+    ensures none { OnOk result (NoneFails F.tells (F.scene host.old) (F.scene host.new)) }
+    ensures calls { CallsAtMost F.tells (F.scene host.old) (F.scene host.new) (1 + length others.now) }
+{
+    let Some(bytes) = load_pages(alloc, host, name, count, first.block, first.pages)? else {
+        return Ok(None);
+    };
+    if let Some(points) = read_points(alloc, first, &bytes)? {
+        let Some(next) = open_level(alloc, host, name, count, points, others, marks)? else {
+            return Ok(None);
+        };
+        return Ok(Some(Below::Entries(next)));
+    }
+    let mut lines = Vec::new(alloc);
+    if !read_lines(alloc, first, &bytes, &mut lines)? {
+        return Ok(None);
+    }
+    let Some(all) = gather_level(alloc, host, name, count, lines, others)? else {
+        return Ok(None);
+    };
+    Ok(Some(Below::Lines(all)))
 }

@@ -3,15 +3,15 @@
 
 mod blocks;
 mod calls;
-pub mod choices;
+mod choices;
 mod error;
-pub mod image;
-pub mod infos;
+mod image;
+mod infos;
 mod levels;
 mod marks;
 mod tree;
 
-pub use choices::{Chosen, Swap, choose};
+pub use choices::{Chosen, Root, Swap, choose};
 pub use error::{Fault, RecErr};
 pub use image::{Image, read_image};
 pub use infos::info;

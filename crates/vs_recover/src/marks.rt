@@ -46,6 +46,7 @@ impl Marks {
         requires { 2 ≤ pages }
         ensures len { IfOk result (λ marks. length marks ≡ pages) }
         ensures used { IfOk result (λ marks. (k : ℕ) → used_in marks k ≡ first_used pages k) }
+        ensures free { IfOk result (λ marks. free_in marks + 2 ≡ pages) }
     {
         let mut bits = vec![in alloc; 0u8; pages / 8 + 1]?;
         bits[0] = 3;

@@ -1,13 +1,13 @@
 // The tree of a swap file.
-ghost use Rattle.std.specs.Prelude.{◌≡◌, ◌≤◌, ◌<◌, ◌/◌, ◌^◌, ℕ, List, IfOk, Err, length, OnOk};
+ghost use Rattle.std.specs.Prelude.{◌≡◌, ◌≤◌, ◌<◌, ◌-◌, ◌/◌, ◌^◌, ℕ, List, IfOk, Err, length, OnOk};
 ghost use Rattle.vs_faults.specs.Faults.{HasRisen};
 ghost use Rattle.vs_swap.specs.Files.{pages_in};
 ghost use Rattle.vs_recover.specs.Files.{IsFile, Walked};
-ghost use Rattle.vs_recover.specs.Reading.{IsThere, NoneFails, Reads};
+ghost use Rattle.vs_recover.specs.Reading.{CallsAtMost, IsThere, NoneFails, Reads};
 
 use crate::Fault;
 use crate::blocks::{are_wide, load_entries};
-use crate::levels::{gather_level, open_level};
+use crate::levels::{Below, read_level};
 use crate::marks::Marks;
 use std::alloc::Global;
 use vs_host::Folder;
@@ -27,6 +27,7 @@ pub fn read_tree<F: Folder>(
     ensures failed { result ≡ Err Fault.Failed → HasRisen (F.scene host.old).folder_faults (F.scene host.new).folder_faults }
     ensures reads { Reads F.tells (F.scene host.old) (F.scene host.new) }
     ensures none { OnOk result (NoneFails F.tells (F.scene host.old) (F.scene host.new)) }
+    ensures calls { CallsAtMost F.tells (F.scene host.old) (F.scene host.new) (count - 1) }
 {
     if count < 2 {
         return Ok(None);
@@ -41,12 +42,12 @@ pub fn read_tree<F: Folder>(
     if !marks.mark_all(&level) {
         return Ok(None);
     }
-    'levels: while !level.is_empty() {
-        let Some(next) = open_level(alloc, host, name, count, &level, &mut marks)? else {
-            let lines = gather_level(alloc, host, name, count, &level)?;
-            return Ok(lines);
-        };
-        level = next;
+    'levels: while let Some((first, others)) = level.split_first() {
+        match read_level(alloc, host, name, count, first, others, &mut marks)? {
+            Some(Below::Entries(next)) => level = next,
+            Some(Below::Lines(lines)) => return Ok(Some(lines)),
+            None => return Ok(None),
+        }
     }
     Ok(Some(Vec::new(alloc)))
 }

@@ -4,3 +4,4 @@ pub mod Taking
 pub mod LineKinds
 pub mod Blocks
 pub mod Commands
+pub mod ReadLemmas

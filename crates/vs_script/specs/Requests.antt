@@ -1,10 +1,8 @@
 -- How a reader takes the commands of a script.
-use Rattle.std.specs.Prelude.{ℕ, Bool, true, false, List, [], ◌∷◌, ◌≡◌, not, Result, Ok, Err, IsTrue}
+use Rattle.std.specs.Prelude.{ℕ, Bool, true, false, List, [], ◌∷◌, ◌≡◌, Ok}
 use Rattle.vs_host.specs.World.{Scene}
-use Rattle.vs_exparse.specs.Command.{Command, HasForm, command_of, wants_block}
-use Rattle.vs_exparse.specs.declared.command.Command as borrowed
-use Rattle.vs_exparse.specs.declared.command.ExErr.{ExErr}
-use Rattle.vs_excmd.specs.Request.{Instruction, IsRequest, StandsFor, is_absent}
+use Rattle.vs_exparse.specs.Command.{Command}
+use Rattle.vs_excmd.specs.Request.{Instruction, IsRequest, StandsFor}
 use Rattle.vs_excmd.specs.declared.request.Block.{Block}
 use Rattle.vs_excmd.specs.declared.request.Request.{Request}
 use Rattle.vs_script.specs.Ahead.{Ahead, GoesOn, kept_of, lines_ahead, whole_lines}
@@ -49,12 +47,3 @@ pub record TakesNone (old new : Ahead) (before after : Scene) : Type 0 where
   pub ahead : commands_ahead old before ≡ []
   pub ended : new.ended ≡ true
   pub script : after.script ≡ []
-
--- a command has a block exactly where it wants one
-abbrev pub HasItsBlock : borrowed.Command → Block → Type 0
-HasItsBlock command block = is_absent block ≡ not (wants_block (command_of command))
-
--- What holds of each request: its command has its form and its block, and an error has none.
-abbrev pub IsFormed : Result borrowed.Command ExErr → Block → Type 0
-IsFormed (Ok command) block = HasForm (command_of command) × HasItsBlock command block
-IsFormed (Err error) block = IsTrue (is_absent block)

@@ -3,6 +3,7 @@ ghost use Rattle.std.specs.Prelude.{◌≡◌, ◌<◌, ◌≤◌, ◌+◌, ◌-
 ghost use Rattle.vs_faults.specs.Faults.{HasCause, IsQuiet};
 ghost use Rattle.vs_host.specs.World.{ChangesScript};
 ghost use Rattle.vs_text.specs.Text.{IsLine};
+ghost use Rattle.vs_script.specs.Reads.{ReadsAll, ReadsOn};
 ghost use Rattle.vs_script.specs.Ahead.{Ahead, script_limit, whole_lines, bytes_left, CountsTaken, HasSeen, IsLeft, ReadsLine, Stops};
 
 use crate::line::LineBuffer;
@@ -115,6 +116,8 @@ impl ScriptReader {
         ensures at_end { result ≡ Ok false → self.new.ended ≡ true }
         ensures cause { HasCause (S.scene host.old).script_faults (S.scene host.new).script_faults (IsErrOf result ScriptErr.Failed) }
         ensures quiet { IsQuiet (S.scene host.old).script_faults (S.scene host.new).script_faults (IsErrOf result ScriptErr.Failed) }
+        ensures reads { OnOk result (IsTrue (S.tells).folder → ReadsAll (S.scene host.old) (S.scene host.new)) }
+        ensures last { IsTrue (S.tells).folder → ReadsOn (S.scene host.old) (S.scene host.new) }
         ensures frame { ChangesScript (S.scene host.old) (S.scene host.new) }
     {
         if self.ended {
@@ -155,6 +158,8 @@ impl ScriptReader {
         ensures left { OnOk result (bytes_left self.new ≤ bytes_left self.old) }
         ensures cause { HasCause (S.scene host.old).script_faults (S.scene host.new).script_faults (IsErrOf result ScriptErr.Failed) }
         ensures quiet { IsQuiet (S.scene host.old).script_faults (S.scene host.new).script_faults (IsErrOf result ScriptErr.Failed) }
+        ensures reads { OnOk result (IsTrue (S.tells).folder → ReadsAll (S.scene host.old) (S.scene host.new)) }
+        ensures last { IsTrue (S.tells).folder → ReadsOn (S.scene host.old) (S.scene host.new) }
         ensures frame { ChangesScript (S.scene host.old) (S.scene host.new) }
     {
         line.clear();

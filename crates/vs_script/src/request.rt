@@ -3,10 +3,11 @@ ghost use Rattle.std.specs.Prelude.{◌≡◌, ◌<◌, ◌≤◌, [], None, fal
 ghost use Rattle.vs_faults.specs.Faults.{HasCause, IsQuiet};
 ghost use Rattle.vs_host.specs.World.{ChangesScript};
 ghost use Rattle.vs_exparse.specs.Command.{Command};
-ghost use Rattle.vs_excmd.specs.Request.{is_absent};
+ghost use Rattle.vs_excmd.specs.Request.{IsFormed, is_absent};
 ghost use Rattle.vs_script.specs.Script.{HasHeadForm, IsKind, is_found, kind_of, whole_block};
+ghost use Rattle.vs_script.specs.Reads.{ReadsAll, ReadsOn};
 ghost use Rattle.vs_script.specs.Ahead.{script_limit, whole_lines, bytes_left, CountsTaken, HasSeen, Stops};
-ghost use Rattle.vs_script.specs.Requests.{IsFormed, FindsCommand, TakesBlock, TakesRequest, TakesNone, whole_commands};
+ghost use Rattle.vs_script.specs.Requests.{FindsCommand, TakesBlock, TakesRequest, TakesNone, whole_commands};
 
 use crate::block::BlockLines;
 use crate::kind::{ScriptLine, alone, ends_block, line_kind};
@@ -35,6 +36,8 @@ impl ScriptReader {
         ensures left { OnOk result (bytes_left self.new ≤ bytes_left self.old) }
         ensures cause { HasCause (S.scene host.old).script_faults (S.scene host.new).script_faults (IsErrOf result ScriptErr.Failed) }
         ensures quiet { IsQuiet (S.scene host.old).script_faults (S.scene host.new).script_faults (IsErrOf result ScriptErr.Failed) }
+        ensures reads { OnOk result (IsTrue (S.tells).folder → ReadsAll (S.scene host.old) (S.scene host.new)) }
+        ensures last { IsTrue (S.tells).folder → ReadsOn (S.scene host.old) (S.scene host.new) }
         ensures frame { ChangesScript (S.scene host.old) (S.scene host.new) }
     {
         let mut lines = BlockLines::new(alloc);
@@ -67,6 +70,8 @@ impl ScriptReader {
         ensures fewer { IfOk result (λ found. IsTrue (is_found found) → bytes_left self.new < bytes_left self.old) }
         ensures cause { HasCause (S.scene host.old).script_faults (S.scene host.new).script_faults (IsErrOf result ScriptErr.Failed) }
         ensures quiet { IsQuiet (S.scene host.old).script_faults (S.scene host.new).script_faults (IsErrOf result ScriptErr.Failed) }
+        ensures reads { OnOk result (IsTrue (S.tells).folder → ReadsAll (S.scene host.old) (S.scene host.new)) }
+        ensures last { IsTrue (S.tells).folder → ReadsOn (S.scene host.old) (S.scene host.new) }
         ensures frame { ChangesScript (S.scene host.old) (S.scene host.new) }
     {
         'lines: while self.next_line(host, line)? {
@@ -93,7 +98,7 @@ impl ScriptReader {
         requires ended { IsTrue (S.tells).script → HasSeen self.old (S.scene host.old) }
         ensures request { IfOk result (λ found. IfSome found (λ request. IsTrue (S.tells).script →
             TakesRequest request self.old self.new (S.scene host.old) (S.scene host.new))) }
-        ensures form { IfOk result (λ found. IfSome found (λ request. IsFormed request.parsed request.block)) }
+        ensures form { IfOk result (λ found. IfSome found (λ request. IsFormed request)) }
         ensures none { result ≡ Ok None → IsTrue (S.tells).script → TakesNone self.old self.new (S.scene host.old) (S.scene host.new) }
         ensures ended { IsTrue (S.tells).script → HasSeen self.new (S.scene host.new) }
         ensures stops { IfErr result (λ error. IsTrue (S.tells).script → Stops error whole_commands [] self.old self.new (S.scene host.old) (S.scene host.new)) }
@@ -102,6 +107,8 @@ impl ScriptReader {
         ensures fewer { IfOk result (λ found. IfSome found (λ request. bytes_left self.new < bytes_left self.old)) }
         ensures cause { HasCause (S.scene host.old).script_faults (S.scene host.new).script_faults (IsErrOf result ScriptErr.Failed) }
         ensures quiet { IsQuiet (S.scene host.old).script_faults (S.scene host.new).script_faults (IsErrOf result ScriptErr.Failed) }
+        ensures reads { OnOk result (IsTrue (S.tells).folder → ReadsAll (S.scene host.old) (S.scene host.new)) }
+        ensures last { IsTrue (S.tells).folder → ReadsOn (S.scene host.old) (S.scene host.new) }
         ensures frame { ChangesScript (S.scene host.old) (S.scene host.new) }
     {
         match self.next_command(host, line)? {

@@ -1,11 +1,14 @@
 -- Which number passed a limit, and what pieces of a file make.
-use Rattle.std.proofs.Common.{◌≡◌, ℕ, ◌+◌, ◌<◌, ◌≤◌, List, [], ◌∷◌, ◌++◌, length, take, drop, Option, Some, None, Result, Ok, Err, IsErrAnd, IsErrOf, IsSomeAnd, IfSome, IsTrue, refl, sym, ap, subst, ◌∙◌, inl, inr, arith}
+use Rattle.std.proofs.Common.{◌≡◌, ℕ, ◌+◌, ◌<◌, ◌≤◌, nat_le, Bool, true, false, ◌&&◌, not, List, [], ◌∷◌, ◌++◌, length, take, drop, Option, Some, None, Result, Ok, Err, IsErrAnd, IsErrOf, IsSomeAnd, IfSome, IsTrue, refl, sym, ap, subst, ◌∙◌, inl, inr, arith}
 use Rattle.std.proofs.Math.Seq.{take-add}
 use Rattle.std.proofs.lemmas.List.{take_all, take-append-drop}
 use Rattle.std.proofs.lemmas.Grind.{common_steps}
 use Rattle.std.proofs.lemmas.Bool.Decides.{nat_tests}
 use Rattle.vs_text.specs.Text.{lines_of}
-use Rattle.vs_text.specs.Limits.{IsRefusal, first_long}
+use Rattle.std.specs.List.{list_all}
+use Rattle.std.proofs.lemmas.Bool.{cases_Bool, true≢false}
+use Rattle.vs_host.specs.Names.{is_allowed, is_name_byte, is_reserved}
+use Rattle.vs_text.specs.Limits.{IsRefusal, IsWithinLimits, first_long}
 use Rattle.vs_text.specs.declared.TheConstants.{MAX_LINE_BYTES}
 use Rattle.vs_text.specs.declared.error.TextErr.{TextErr}
 use Rattle.vs_text.specs.declared.error.TextErr.TheVariants as text
@@ -133,3 +136,26 @@ fed_next file None bytes fed piece at count n same is read size next = absurd (c
 fed_next file (Some other) bytes fed piece at count n same is read size next =
     let one : other ≡ bytes = cc in
     fed_more fed piece bytes at count read (next ∙ (ap (λ k. take k (drop at other)) size ∙ ap (λ (l : List ℕ). take count (drop at l)) one))
+
+-- the limits of a text are no swap file
+pub never_swap : {T : Type 0} (r : Result T OpenErr) (e : TextErr) → IsErrAnd r (λ x. x ≡ open_error e) → IsErrOf r opening.SwapFound → ⊥
+never_swap (Ok x) e is of = absurd is
+never_swap (Err x) (text.TextFull n) is of = absurd (cc)
+never_swap (Err x) (text.LineTooLong n) is of = absurd (cc)
+never_swap (Err x) text.NoMemory is of = absurd (cc)
+
+-- a text that is within the limits passes none
+pub never_over : (file : Option (List ℕ)) (X : Type 0) → IfSome file (λ bytes. IsWithinLimits (lines_of bytes)) → IfSome file (λ bytes. ¬ IsWithinLimits (lines_of bytes) → X)
+never_over None X is = tt
+never_over (Some bytes) X is = λ over. absurd (over is)
+
+-- a name is short
+pub allowed_short : (name : List ℕ) → IsTrue (is_allowed name) → length name ≤ 200
+allowed_short name is = elim (cases_Bool (nat_le (length name) 200)) [
+  | inl short ↦ grind (arith, nat_tests)
+  | inr long ↦ absurd (true≢false (sym is ∙ ap (λ (b : Bool). (nat_le 1 (length name) && b) && (list_all is_name_byte name && not (is_reserved name))) long ∙ none (nat_le 1 (length name)) (list_all is_name_byte name && not (is_reserved name))))
+]
+  where
+    none : (a c : Bool) → ((a && false) && c) ≡ false
+    none true c = refl
+    none false c = refl

@@ -1,3 +1,5 @@
-pub mod Paged
 pub mod Session
+pub mod Opened
 pub mod Open
+pub mod Standing
+pub mod Fits

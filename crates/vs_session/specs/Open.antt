@@ -1,7 +1,8 @@
 -- Why a file is not opened.
-use Rattle.std.specs.Prelude.{◌<◌, ◌⊎◌, ℕ, List, IsTrue, IsSomeAnd}
+use Rattle.std.specs.Prelude.{◌≡◌, ◌<◌, ◌⊎◌, ℕ, List, IsTrue, IsSomeAnd}
 use Rattle.std.specs.declared.option.Option.{Option}
-use Rattle.vs_host.specs.World.{Tells}
+use Rattle.vs_host.specs.World.{Tells, Scene}
+use Rattle.vs_pair.specs.Acts.{Acts}
 use Rattle.vs_text.specs.Text.{lines_of}
 use Rattle.vs_text.specs.Limits.{IsRefusal}
 use Rattle.vs_text.specs.declared.TheConstants.{MAX_LINE_BYTES}
@@ -23,3 +24,7 @@ PassesLimit lines size = IsRefusal lines (text.LineTooLong size) ⊎ IsRefusal l
 pub record IsTooLarge (tells : Tells) (size : ℕ) (file : Option (List ℕ)) : Type 0 where
   pub above : MAX_LINE_BYTES < size
   pub passes : IsTrue tells.folder → IsSomeAnd file (λ bytes. PassesLimit (lines_of bytes) size)
+
+-- the folder was only looked at
+abbrev pub OnlyLooks : Tells → Scene → Scene → Type 0
+OnlyLooks tells old new = Acts tells (λ before after. after ≡ before) old new

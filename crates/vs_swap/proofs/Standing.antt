@@ -1,5 +1,5 @@
 -- A file has one page 0 and one list of lines, and a tree that a session writes is read wherever its pages stand.
-use Rattle.std.proofs.Common.{◌≡◌, ℕ, zero, suc, ◌≤◌, ◌==◌, List, [], ◌∷◌, length, Bool, Option, Some, None, Result, Ok, Err, sym, refl, ap, ◌∙◌, inl, inr, arith}
+use Rattle.std.proofs.Common.{◌≡◌, ℕ, zero, suc, ◌≤◌, ◌==◌, List, [], ◌∷◌, length, map, Bool, Option, Some, None, Result, Ok, Err, sym, refl, ap, ◌∙◌, inl, inr, arith}
 use Rattle.std.specs.List.{AllByRecursion}
 use Rattle.vs_pages.specs.Maps.{Map, pages_at, lacks}
 use Rattle.vs_text.specs.Text.{IsText, stored}
@@ -16,19 +16,21 @@ use Rattle.vs_ptr.specs.declared.PtrView.{PtrView}
 use Rattle.vs_ptr.specs.Blocks as pointers
 use Rattle.vs_ptr.proofs.Headers.{header_from_view}
 use Rattle.vs_tree_shape.specs.declared.entries.Entry.{Entry}
-use Rattle.vs_tree_shape.specs.Trees.{read_by, Tree, IsTree, uses, HasLines}
+use Rattle.vs_tree_shape.specs.Trees.{read_by, Tree, IsTree, uses, entry_of, HasLines}
 use Rattle.vs_tree_shape.specs.Depths.{AreApart, same_at_depths}
 use Rattle.vs_tree_shape.proofs.Shapes.{kept, unused}
 use Rattle.vs_tree_blocks.specs.Blocks.{tree_format, data_lines, points_in}
 use Rattle.vs_tree_blocks.proofs.DataLemmas.{only_same}
-use Rattle.vs_tree_blocks.proofs.EntriesLemmas.{points_refused}
+use Rattle.vs_swap.specs.Entries.{swap_points}
 use Rattle.vs_swap.specs.Files.{pages_in, HoldsPages, swap_format, GivesLines, IsHead, StandsFor}
 use Rattle.vs_swap.specs.Recovery.{StandsIn, Recovered}
+use Rattle.vs_swap.proofs.Pointers.{points_refused, wider_points}
 
 -- ---- one list of lines
 
+-- a block that reads in both ways would begin with both identifiers
 no_both : (bytes : List ℕ) (found : List (List ℕ)) (entries : List Entry) (read : Result DataView DataErr) (other : Result PtrView PtrErr) → lines.view_in bytes ≡ read → pointers.view_in bytes ≡ other
-    → lines.lines_in bytes ≡ Some found → points_in bytes ≡ Some entries → ⊥
+    → lines.lines_in bytes ≡ Some found → swap_points bytes ≡ Some entries → ⊥
 no_both bytes found entries (Ok view) (Ok next) is also a b =
     let first = (view_holds bytes view is).0.bounds.id in
     let second = (header_from_view bytes next also).marked in
@@ -36,10 +38,10 @@ no_both bytes found entries (Ok view) (Ok next) is also a b =
 no_both bytes found entries (Ok view) (Err refusal) is also a b = let none = points_refused bytes refusal also in absurd (cc)
 no_both bytes found entries (Err refusal) other is also a b = let none = no_lines bytes refusal is in absurd (cc)
 
-apart : AreApart swap_format
+pub apart : AreApart swap_format
 apart = λ bytes found entries a b. no_both bytes found entries (lines.view_in bytes) (pointers.view_in bytes) refl refl a b
 
-one_list : (m : Map) (d e : ℕ) (a b : List (List ℕ)) → GivesLines m d a → GivesLines m e b → a ≡ b
+pub one_list : (m : Map) (d e : ℕ) (a b : List (List ℕ)) → GivesLines m d a → GivesLines m e b → a ≡ b
 one_list m d e a b x y =
     sym x.lines_are ∙ same_at_depths swap_format apart d e m x.tree y.tree x.stands.tree y.stands.tree (x.stands.root ∙ sym y.stands.root) (x.stands.page_count ∙ sym y.stands.page_count) ∙ y.lines_are
 
@@ -59,7 +61,7 @@ once file g h a b x y =
     let head = one_head file g h (length a == 0) (length b == 0) x.head y.head in
     (head.0, same_from_stored a b x.is_text y.is_text head.1 (one_list (pages_in file) x.depth y.depth (stored a) (stored b) x.tree y.tree))
 
-in_once : (file : Option (List ℕ)) (g h : ℕ) (a b : List (List ℕ)) → StandsIn file g a → StandsIn file h b → (g ≡ h) × (a ≡ b)
+pub in_once : (file : Option (List ℕ)) (g h : ℕ) (a b : List (List ℕ)) → StandsIn file g a → StandsIn file h b → (g ≡ h) × (a ≡ b)
 in_once None g h a b x y = absurd x
 in_once (Some file) g h a b x y = once file g h a b x y
 
@@ -75,13 +77,17 @@ wider_read : (pages : ℕ) (o : Option (List ℕ)) (found : List (List ℕ)) →
 wider_read pages None found is = absurd (cc)
 wider_read pages (Some bytes) found is = only_same bytes pages found is
 
+wider_root : (o : Option (List ℕ)) (found : List Entry) → read_by points_in o ≡ Some found → read_by swap_points o ≡ Some found
+wider_root None found is = absurd (cc)
+wider_root (Some bytes) found is = wider_points bytes found is
+
 wider_each : (d : ℕ) (m : Map) → ((u : Tree d) → IsTree tree_format d m u → IsTree swap_format d m u) → (us : List (Tree d)) → AllByRecursion (λ u. IsTree tree_format d m u) us → AllByRecursion (λ u. IsTree swap_format d m u) us
 wider_each d m ih [] each = tt
 wider_each d m ih (u ∷ us) each = (ih u each.0, wider_each d m ih us each.1)
 
 wider : (d : ℕ) (m : Map) (t : Tree d) → IsTree tree_format d m t → IsTree swap_format d m t
 wider zero m t is = (is.0, wider_read t.pages (pages_at m t.page t.pages) t.lines is.1)
-wider (suc d) m t is = (is.0, wider_each d m (λ u. wider d m u) t.1 is.1)
+wider (suc d) m t is = (wider_root (pages_at m t.0 1) (map (λ u. entry_of d u) t.1) is.0, wider_each d m (λ u. wider d m u) t.1 is.1)
 
 some_page : (o : Option (List ℕ)) → (lacks o ≡ 1 → ⊥) → (page : List ℕ) × (o ≡ Some page)
 some_page None there = absurd (there refl)

@@ -6,7 +6,7 @@ use Rattle.vs_zero.specs.declared.Zero.{Zero}
 use Rattle.vs_zero.specs.Zero.{reading_of}
 use Rattle.vs_data.specs.Blocks.{lines_in}
 use Rattle.vs_tree_shape.specs.Trees.{Format, Tree, Stands, uses, lines_of}
-use Rattle.vs_tree_blocks.specs.Blocks.{points_in}
+use Rattle.vs_swap.specs.Entries.{swap_points}
 
 -- the page at a number, where it lies in the file as a whole
 abbrev pub page_in : List ℕ → ℕ → Option (List ℕ)
@@ -20,9 +20,10 @@ pages_in file = λ k. page_in file k
 abbrev pub HoldsPages : Map → List ℕ → Type 0
 HoldsPages pages file = (k : ℕ) (page : List ℕ) → 1 ≤ k → pages k ≡ Some page → page_in file k ≡ Some page
 
--- How the blocks of any swap file are read: a data block of any number of pages may have any lines.
+-- How the blocks of any swap file are read: a data block of any number of pages may have any lines, and an entry any numbers that are
+-- not negative.
 abbrev pub swap_format : Format
-swap_format = record { lines = λ pages bytes. lines_in bytes; entries = points_in }
+swap_format = record { lines = λ pages bytes. lines_in bytes; entries = swap_points }
 
 -- These are the lines of a tree of blocks from block 1 on, in pages that may also have others. Block 1 is a pointer block, all
 -- data blocks lie this deep, no page is used twice, and page 0 never.

@@ -1,4 +1,5 @@
 // A tree and its text, moved by steps whose answers are known.
+ghost use Rattle.std.specs.Prelude.{IfOk};
 ghost use Rattle.vs_undo.specs.Moves.{IsReady};
 
 mod failing;
@@ -30,6 +31,17 @@ enum Step {
 struct Editor<S> {
     tree: UndoTree,
     text: S,
+}
+
+// A history of one state, which is the text of the store.
+fn begin<S: LineStore + Drop>(alloc: Global, text: S) -> Result<Editor<S>, AllocError>
+    requires { S.valid text }
+    ensures { IfOk result (λ editor. IsReady S.LineStore editor.tree editor.text) }
+{
+    let mut text = text;
+    text.commit();
+    let tree = UndoTree::new(alloc)?;
+    Ok(Editor { tree, text })
 }
 
 fn lines_of(alloc: Global, count: u64, byte: u8) -> Result<Vec<Line>, AllocError> {

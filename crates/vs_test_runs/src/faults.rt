@@ -1,18 +1,24 @@
 // Each call of a run fails in turn, and is the last one.
 use crate::helpers::{edit_f, host_with};
+use std::alloc::Global;
 use std::test::Fail;
 
-/// The calls of the run below, in order: three on the folder, the opening reply, one read that takes the whole script, one
-/// reply for each command, and the read at the script's end.
-const BEFORE_OPENING: u64 = 3;
+/// The calls of the run below, in order: two that look for swap files, three that read the file, and those that make the swap
+/// files; the opening reply; one read that takes the whole script, one reply for each command, and the read at the script's end;
+/// the last sync, and the last line.
+const BEFORE_OPENING: u64 = 2 + 3 + 17;
 
-const OPENING: u64 = 4;
+const OPENING: u64 = BEFORE_OPENING + 1;
 
-const FIRST_READ: u64 = 5;
+const FIRST_READ: u64 = OPENING + 1;
 
 const COMMANDS: u64 = 20;
 
 const LAST_READ: u64 = FIRST_READ + COMMANDS + 1;
+
+const LAST_SYNC: u64 = LAST_READ + 8;
+
+const LAST_LINE: u64 = LAST_SYNC + 1;
 
 const OPENING_REPLY: &[u8] = b"\"f\" 1L, 2B\n";
 
@@ -23,6 +29,45 @@ const REPLIES: [&[u8]; 4] = [
     b"E492: Not an editor command\n",
 ];
 
+/// What a run answers in which a call fails: its status, the number of whole replies to commands, and of marks.
+fn answered(call: u64) -> (u8, u64, u64) {
+    if call <= BEFORE_OPENING {
+        return (7, 0, 0);
+    }
+    if call == OPENING {
+        return (6, 0, 0);
+    }
+    if call == FIRST_READ {
+        return (5, 0, 0);
+    }
+    let replies = (call - FIRST_READ - 1).min(COMMANDS);
+    if call < LAST_READ {
+        return (6, replies, replies + 1);
+    }
+    if call == LAST_READ {
+        return (5, COMMANDS, COMMANDS);
+    }
+    if call <= LAST_SYNC {
+        return (7, COMMANDS, COMMANDS);
+    }
+    let status = if call == LAST_LINE { 6 } else { 1 };
+    (status, COMMANDS, COMMANDS)
+}
+
+fn output_with(alloc: Global, call: u64, replies: u64) -> Result<Vec<u8>, Fail> {
+    let mut output = Vec::new(alloc);
+    if call > OPENING {
+        output.extend_from_slice(OPENING_REPLY)?;
+    }
+    for at in 0..replies {
+        output.extend_from_slice(REPLIES[(at % 4) as usize])?;
+    }
+    if call > LAST_LINE {
+        output.extend_from_slice(b"File preserved\n")?;
+    }
+    Ok(output)
+}
+
 #[test]
 fn each_failing_call_has_its_status(rt: HostRuntime) -> Result<(), Fail> {
     let alloc = rt.alloc();
@@ -30,39 +75,16 @@ fn each_failing_call_has_its_status(rt: HostRuntime) -> Result<(), Fail> {
     for _ in 0..COMMANDS / 4 {
         script.extend_from_slice(b"%p\n1a\n.\n9a\n.\nx\n")?;
     }
-    for call in 1..LAST_READ + 2 {
-        let mut expected = Vec::new(alloc);
-        let mut status = 1;
-        let mut marks = 0;
-        if call <= BEFORE_OPENING {
-            status = 7;
-        } else if call == OPENING {
-            status = 6;
-        } else {
-            expected.extend_from_slice(OPENING_REPLY)?;
-            let whole = if call == FIRST_READ {
-                0
-            } else {
-                (call - FIRST_READ - 1).min(COMMANDS)
-            };
-            for at in 0..whole {
-                expected.extend_from_slice(REPLIES[(at % 4) as usize])?;
-            }
-            marks = whole;
-            if call == FIRST_READ || call == LAST_READ {
-                status = 5;
-            } else if call < LAST_READ {
-                status = 6;
-                marks = whole + 1;
-            }
-        }
+    for call in 1..LAST_LINE + 2 {
+        let (status, replies, marks) = answered(call);
+        let expected = output_with(alloc, call, replies)?;
         let mut host = host_with(alloc, Some(b"a\n"), script.as_slice())?;
         host.fail_call(alloc, call)?;
         let report = edit_f(alloc, &mut host)?;
         assert_eq!(rt; report.status, status, "call {call}");
         assert_eq!(rt; host.output(), expected.as_slice(), "call {call}");
         assert_eq!(rt; report.marks.len() as u64, marks, "call {call}");
-        assert_eq!(rt; host.calls(), call.min(LAST_READ), "call {call}");
+        assert_eq!(rt; host.calls(), call.min(LAST_LINE), "call {call}");
     }
     Ok(())
 }

@@ -24,7 +24,10 @@ fn a_line_of_a_file_has_a_mebibyte_and_no_more(rt: HostRuntime) -> Result<(), Fa
     let fits = vec![in alloc; b'a'; LONGEST]?;
     let mut host = host_with(alloc, Some(fits.as_slice()), b"")?;
     assert_eq!(rt; edit_f(alloc, &mut host)?.status, 0);
-    assert_eq!(rt; host.output(), b"\"f\" 1L, 1048576B\n".as_slice());
+    assert_eq!(rt;
+        host.output(),
+        b"\"f\" 1L, 1048576B\nFile preserved\n".as_slice()
+    );
 
     let too_long = vec![in alloc; b'a'; LONGEST + 1]?;
     let mut host = host_with(alloc, Some(too_long.as_slice()), b"%p\n")?;
@@ -59,8 +62,14 @@ fn script_with(alloc: Global, size: usize) -> Result<Vec<u8>, Fail> {
 fn a_line_of_a_block_has_a_mebibyte_and_no_more(rt: HostRuntime) -> Result<(), Fail> {
     let alloc = rt.alloc();
     let replies: [(usize, &[u8]); 2] = [
-        (LONGEST, b"\"f\" 1L, 2B\nchange 1, 2 lines\n2\n"),
-        (LONGEST + 1, b"\"f\" 1L, 2B\nline too long\n1\n"),
+        (
+            LONGEST,
+            b"\"f\" 1L, 2B\nchange 1, 2 lines\n2\nFile preserved\n",
+        ),
+        (
+            LONGEST + 1,
+            b"\"f\" 1L, 2B\nline too long\n1\nFile preserved\n",
+        ),
     ];
     for (size, output) in replies {
         let inner = host_with(alloc, Some(b"a\n"), script_with(alloc, size)?.as_slice())?;

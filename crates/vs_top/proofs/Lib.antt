@@ -1,4 +1,12 @@
-mod Limits
-mod Answering
-mod Edits
 mod Words
+mod Limits
+mod Pushes
+mod Counting
+mod Closing
+mod Reading
+mod Requests
+mod Turning
+mod Stepping
+mod Opening
+mod Edits
+mod Forms

@@ -1,22 +1,31 @@
 // One script over one file.
-ghost use Rattle.std.specs.Prelude.{◌≡◌, ◌<◌, ◌^◌, ◌++◌, ◌∷◌, [], ℕ, length, take, not, ◌&&◌, if◌then◌else◌, OnOk, OnErr, IfErr, IsErr, IsTrue, vec_len};
+ghost use Rattle.std.specs.Prelude.{◌≡◌, ◌<◌, ◌^◌, ◌≤◌, ◌++◌, ◌∷◌, [], List, ℕ, length, take, not, ◌&&◌, if◌then◌else◌, OnOk, OnErr, IfErr, IsErr, IsTrue, vec_len};
 ghost use Rattle.std.specs.Vec.{vec_capacity};
 ghost use Rattle.vs_host.specs.Names.{is_allowed};
 ghost use Rattle.vs_faults.specs.Faults.{HasCause, IsQuiet};
-ghost use Rattle.vs_host.specs.World.{ChangesOutput};
+ghost use Rattle.vs_host.specs.Trace.{WroteOutput};
+ghost use Rattle.vs_host.specs.World.{ChangesOutput, Scene};
 ghost use Rattle.vs_machine.specs.Machine.{is_done};
 ghost use Rattle.vs_top.specs.Ending.{ending_in};
+ghost use Rattle.vs_safety.specs.Safety.{IsAdded};
+ghost use Rattle.vs_safety.specs.Texts.{Sync};
+ghost use Rattle.vs_safety.specs.Turns.{preserved_line, quit_line};
+ghost use Rattle.vs_session.specs.Fits.{Fits, FitsUndo, generation_of};
+ghost use Rattle.vs_session.specs.Session.{SessionState};
 ghost use Rattle.vs_top.specs.Run.{RunsEdit};
+ghost use Rattle.vs_top.specs.Turns.{IsAtClose, IsOpened};
 
 use crate::ending::Ending;
 use std::alloc::Global;
 use vs_host::{Host, Out};
 use vs_script::{LineBuffer, ScriptReader};
-use vs_session::{Mark, Outcome, Reply, Session, Step};
+use vs_session::{End, Mark, Outcome, Reply, Session, Step};
 
 fn put<O: Out>(host: &mut O, reply: Reply) -> Result<(), Ending>
+    ensures some { 0 < length reply.bytes }
     ensures ok { OnOk result (IsTrue (O.tells).output → (O.scene host.new).output ≡ (O.scene host.old).output ++ reply.bytes) }
     ensures err { OnErr result (IsTrue (O.tells).output → (n : ℕ) × ((O.scene host.new).output ≡ (O.scene host.old).output ++ take n reply.bytes)) }
+    ensures added { IsTrue (O.tells).folder → IsAdded WroteOutput [] (O.scene host.old) (O.scene host.new) }
     ensures cause { HasCause (O.scene host.old).out_faults (O.scene host.new).out_faults (IsErr result) }
     ensures quiet { IsQuiet (O.scene host.old).out_faults (O.scene host.new).out_faults (IsErr result) }
     ensures out { IfErr result (λ ending. ending ≡ Ending.OutputFault) }
@@ -33,7 +42,7 @@ fn is_clean(mark: Mark, reply: &Reply) -> bool
 {
     match mark.outcome {
         Outcome::Done => !reply.is_error(),
-        Outcome::NoMemory => false,
+        Outcome::NoMemory | Outcome::Fault => false,
     }
 }
 
@@ -54,8 +63,65 @@ fn ending_of(clean: bool) -> Ending
     Ending::WithErrors
 }
 
-/// Opens the file of a name and answers the commands of the script, each before the next is read. `Err` is an ending before
-/// the script's end. One mark for each command that was answered is kept, in order.
+// The last line of a script.
+fn last_line(how: End) -> Reply
+    ensures sync { how ≡ End.Sync → result.bytes ≡ preserved_line }
+    ensures quit { how ≡ End.Quit → result.bytes ≡ quit_line }
+{
+    match how {
+        End::Sync => Reply::preserved(),
+        End::Quit => Reply::quit(),
+    }
+}
+
+// Ends the session at the script's end or at an accepted quit, and writes the last line.
+fn close<H: Host>(session: Session, host: &mut H, how: End, clean: bool) -> Result<Ending, Ending>
+    requires room { generation_of session < 2 ^ 63 }
+    requires fits { IsTrue (H.tells).folder → (state : SessionState) × (syncs : List Sync) × Fits session (H.scene host.old).folder state syncs }
+    ensures { (name : List ℕ) (old : Scene) (marks : List Mark) → IsAtClose H.tells name old (H.scene host.old) session marks how clean
+        → RunsEdit H.tells name old (H.scene host.new) (ending_in result) marks }
+{
+    session.finish(host, how)?;
+    put(host, last_line(how))?;
+    Ok(ending_of(clean))
+}
+
+// Answers the commands of the script over a session that has opened its file, each before the next is read.
+fn serve<H: Host>(
+    alloc: Global,
+    session: Session,
+    host: &mut H,
+    marks: &mut Vec<Mark>,
+) -> Result<Ending, Ending>
+    requires marks { marks.old.items ≡ [] }
+    requires generation { generation_of session ≤ 2 }
+    requires undo { FitsUndo session }
+    requires clock { IsTrue (H.tells).clock → length (H.scene host.old).answers < 2 ^ 62 }
+    requires fits { IsTrue (H.tells).folder → (state : SessionState) × (syncs : List Sync) × Fits session (H.scene host.old).folder state syncs }
+    ensures { (name : List ℕ) (old : Scene) → IsOpened H.tells name old (H.scene host.old) session
+        → RunsEdit H.tells name old (H.scene host.new) (ending_in result) marks.new.items }
+{
+    let mut session = session;
+    let mut reader = ScriptReader::new(alloc)?;
+    let mut line = LineBuffer::new(alloc)?;
+    put(host, session.opening())?;
+    let mut clean = true;
+    'requests: while let Some(request) = reader.next_request(alloc, host, &mut line)? {
+        marks.reserve(1)?;
+        let Step::Answer { mark, reply } = session.step(alloc, host, &request) else {
+            return close(session, host, End::Quit, clean);
+        };
+        drop(request);
+        keep(marks, mark);
+        clean &= is_clean(mark, &reply);
+        put(host, reply)?;
+    }
+    close(session, host, End::Sync, clean)
+}
+
+/// Opens the file of a name and answers the commands of the script, each before the next is read. At the script's end the text
+/// is synced into the swap files, which stay; at an accepted quit nothing more is read, and they are removed. `Err` is an ending
+/// before that. One mark for each command that was answered is kept, in order; an accepted quit has none.
 pub fn edit<H: Host>(
     alloc: Global,
     name: &str,
@@ -65,20 +131,9 @@ pub fn edit<H: Host>(
     requires name { IsTrue (is_allowed name.now) }
     requires marks { marks.old.items ≡ [] }
     requires clock { IsTrue (H.tells).clock → length (H.scene host.old).answers < 2 ^ 62 }
+    requires settled { IsTrue (H.tells).folder → (H.scene host.old).folder.pending ≡ [] }
     ensures { RunsEdit H.tells name.now (H.scene host.old) (H.scene host.new) (ending_in result) marks.new.items }
 {
-    let mut session = Session::open(alloc, host, name)?;
-    let mut reader = ScriptReader::new(alloc)?;
-    let mut line = LineBuffer::new(alloc)?;
-    put(host, session.opening())?;
-    let mut clean = true;
-    'requests: while let Some(request) = reader.next_request(alloc, host, &mut line)? {
-        marks.reserve(1)?;
-        let Step { mark, reply } = session.step(alloc, host, &request);
-        drop(request);
-        keep(marks, mark);
-        clean &= is_clean(mark, &reply);
-        put(host, reply)?;
-    }
-    Ok(ending_of(clean))
+    let session = Session::open(alloc, host, name)?;
+    serve(alloc, session, host, marks)
 }

@@ -1,9 +1,11 @@
-//! The top call: one script over one file.
+//! The top call: what the arguments say, with one file.
 #![tactic(auto)]
 
 mod edit;
 mod ending;
+mod form;
 mod runs;
 
 pub use ending::Ending;
+pub use form::Mode;
 pub use runs::{Report, run};

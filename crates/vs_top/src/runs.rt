@@ -1,12 +1,19 @@
 // The top call, and the forms of its arguments.
-ghost use Rattle.std.specs.Prelude.{◌≡◌, ◌<◌, ◌^◌, [], List, ℕ, length, map, All, IfSome, IsNone, IsTrue, string_bytes};
-ghost use Rattle.vs_top.specs.Ending.{status_of, ending_in};
+ghost use Rattle.std.specs.Prelude.{◌≡◌, ◌⊎◌, ◌<◌, ◌^◌, [], List, ℕ, length, map, All, IsTrue, string_bytes};
+ghost use Rattle.vs_host.specs.Names.{is_allowed, names_of_file};
+ghost use Rattle.vs_modes.specs.Recover.{RunsRecover};
+ghost use Rattle.vs_modes.specs.Info.{RunsInfo};
+ghost use Rattle.vs_modes.specs.Discard.{RunsDiscard};
+ghost use Rattle.vs_top.specs.Ending.{status_of, ending_in, ended_by};
+ghost use Rattle.vs_top.specs.Forms.{EndsBy, Gives, IsBuilt, IsForm, IsSpared, Performs};
 ghost use Rattle.vs_top.specs.Run.{IsEdit, IsThrough, IsThroughMark, IsUnhindered, RunsEdit};
 
 use crate::edit::edit;
 use crate::ending::Ending;
+use crate::form::{Form, Mode, form_of};
 use std::alloc::Global;
-use vs_host::{Host, allowed};
+use vs_host::Host;
+use vs_modes::{ModeErr, discard, info, recover};
 use vs_session::Mark;
 
 /// What a run came to.
@@ -41,40 +48,58 @@ fn ending_in(ended: Result<Ending, Ending>) -> Ending
     }
 }
 
-/// The name after the word `edit`, where the arguments have that form.
-fn edited_name(words: &[String]) -> Option<&str>
-    ensures some { IfSome result (λ name. IsEdit (map string_bytes words.entry.now) name.now) }
-    ensures none { IsNone result → (name : List ℕ) → ¬ (IsEdit (map string_bytes words.entry.now) name) }
+/// The ending of a mode that did its work, or of one that was refused.
+fn ended(done: Result<(), ModeErr>) -> Ending
+    ensures { result ≡ ended_by done }
 {
-    let [mode, name] = words else {
-        return None;
-    };
-    if mode.as_str() != "edit" {
-        return None;
+    match done {
+        Ok(()) => Ending::Done,
+        Err(why) => Ending::from(why),
     }
-    let name = name.as_str();
-    if !allowed(name) {
-        return None;
-    }
-    Some(name)
 }
 
-/// Does what the arguments say: `edit NAME` runs the script of the host over the file of that name. With other arguments it
-/// ends with `Usage`, takes no memory and makes no call.
+/// Does what the form says. Only `edit` keeps marks.
+fn perform<H: Host>(alloc: Global, form: Form<'_>, host: &mut H, marks: &mut Vec<Mark>) -> Ending
+    requires name { IsTrue (is_allowed form.name.now) }
+    requires marks { marks.old.items ≡ [] }
+    requires clock { IsTrue (H.tells).clock → length (H.scene host.old).answers < 2 ^ 62 }
+    requires settled { IsTrue (H.tells).folder → (H.scene host.old).folder.pending ≡ [] }
+    ensures { Performs form.entry.mode H.tells form.entry.name.now (H.scene host.old) (H.scene host.new) result marks.new.items }
+{
+    match form.mode {
+        Mode::Edit => ending_in(edit(alloc, form.name, host, marks)),
+        Mode::Recover => ended(recover(alloc, form.name, host)),
+        Mode::Info => ended(info(alloc, form.name, host)),
+        Mode::Discard => ended(discard(alloc, form.name, host)),
+    }
+}
+
+/// Does what the arguments say with the file of a name: `edit NAME` runs the script of the host over it, and `recover NAME`,
+/// `info NAME` and `discard NAME` go to its swap files. With other arguments it ends with `Usage`, takes no memory and makes no
+/// call.
 pub fn run<H: Host>(alloc: Global, words: &[String], host: &mut H) -> Report
     requires clock { IsTrue (H.tells).clock → length (H.scene host.old).answers < 2 ^ 62 }
-    ensures usage { result.ending ≡ Ending.Usage → (name : List ℕ) → ¬ (IsEdit (map string_bytes words.now) name) }
+    requires settled { IsTrue (H.tells).folder → (H.scene host.old).folder.pending ≡ [] }
+    ensures usage { result.ending ≡ Ending.Usage → ¬ IsBuilt (map string_bytes words.now) }
     ensures idle { result.ending ≡ Ending.Usage → (H.scene host.new ≡ H.scene host.old) × (result.marks.items ≡ []) }
     ensures edit { (name : List ℕ) → IsEdit (map string_bytes words.now) name →
         RunsEdit H.tells name (H.scene host.old) (H.scene host.new) result.ending result.marks.items }
     ensures through { (name : List ℕ) → IsEdit (map string_bytes words.now) name → IsUnhindered H.tells name (H.scene host.old) (H.scene host.new) →
         IsThrough result.ending × All IsThroughMark result.marks.items }
-    ensures other { ((name : List ℕ) → ¬ (IsEdit (map string_bytes words.now) name)) → result.ending ≡ Ending.Usage }
+    ensures recover { (name : List ℕ) → IsForm (map string_bytes words.now) Mode.Recover name →
+        EndsBy (RunsRecover H.tells (names_of_file name) (H.scene host.old) (H.scene host.new)) result.ending result.marks.items }
+    ensures recovers { (name : List ℕ) → IsForm (map string_bytes words.now) Mode.Recover name → Gives H.tells (H.scene host.old) name →
+        IsSpared (H.scene host.old) (H.scene host.new) → (result.ending ≡ Ending.Done) ⊎ (result.ending ≡ Ending.NoMemory) }
+    ensures info { (name : List ℕ) → IsForm (map string_bytes words.now) Mode.Info name →
+        EndsBy (RunsInfo H.tells (names_of_file name) (H.scene host.old) (H.scene host.new)) result.ending result.marks.items }
+    ensures discard { (name : List ℕ) → IsForm (map string_bytes words.now) Mode.Discard name →
+        EndsBy (RunsDiscard H.tells (names_of_file name) (H.scene host.old) (H.scene host.new)) result.ending result.marks.items }
+    ensures other { ¬ IsBuilt (map string_bytes words.now) → result.ending ≡ Ending.Usage }
 {
     let mut marks = Vec::new(alloc);
-    let Some(name) = edited_name(words) else {
+    let Some(form) = form_of(words) else {
         return Report::of(Ending::Usage, marks);
     };
-    let ending = ending_in(edit(alloc, name, host, &mut marks));
+    let ending = perform(alloc, form, host, &mut marks);
     Report::of(ending, marks)
 }

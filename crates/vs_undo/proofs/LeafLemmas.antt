@@ -1,12 +1,17 @@
 -- A change has no child exactly where its child last used is 0.
-use Rattle.std.proofs.Common.{◌≡◌, ◌≢◌, ℕ, suc, ◌<◌, ◌==◌, ◌||◌, not, if◌then◌else◌, cond, Bool, true, false, List, [], ◌∷◌, length, get_or, Some, None, option_map, unwrap_or, sym, ap, ◌∙◌, arith, refl}
-use Rattle.std.specs.List.{filter, list_any}
+use Rattle.std.proofs.Common.{◌≡◌, ◌≢◌, ℕ, zero, suc, ◌<◌, ◌==◌, ◌||◌, not, if◌then◌else◌, cond, Bool, true, false, List, [], ◌∷◌, length, get_or, map, Option, Some, None, option_map, unwrap_or, sym, ap, ◌∙◌, arith, refl}
+use Rattle.std.specs.List.{filter, list_any, AllZip}
+use Rattle.std.proofs.lemmas.List.{length-map}
 use Rattle.std.proofs.lemmas.Bool.Decides.{nat_tests}
 use Rattle.vs_undo.specs.declared.parts.Node.{Node}
 use Rattle.vs_undo.specs.declared.parts.Parts.{Parts}
-use Rattle.vs_undo.specs.Ways.{node_at}
+use Rattle.vs_undo.specs.Ways.{node_at, parent_at, IsTree, way_within, way_of}
+use Rattle.vs_undo.specs.History.{without_entries}
 use Rattle.vs_undo.specs.Sound.{child_of, IsSound}
-use Rattle.vs_undo.specs.Leaves.{has_child}
+use Rattle.vs_undo.specs.Leaves.{has_child, leaf_of, leaves_of, AreLeaves, IsLeaf}
+use Rattle.vs_undo.specs.declared.leaves.Leaf.{Leaf}
+use Rattle.vs_undo.proofs.NodeLemmas.{parent_at-links_of}
+use Rattle.vs_undo.proofs.ShortWays.{way_is}
 use Rattle.vs_undo.proofs.ChangeLemmas.{was_there}
 use Rattle.vs_undo.proofs.SearchLemmas.{index_found}
 
@@ -74,3 +79,55 @@ leaves_are parts sound =
     let none : Node = record { number = 0; parent = 0; last_child = 0; time = 0; save = 0; entries = [] } in
     filter_same (λ (n : Node). n.last_child == 0) (λ (n : Node). not (has_child parts.nodes n.number)) parts.nodes none (λ k within.
     leaf_test parts sound (get_or parts.nodes k none).number (get_or parts.nodes k none) (index_found parts.nodes k none sound.numbers.rising within))
+
+-- a leaf is the one that is computed
+leaf_is : (nodes : List Node) (node : Node) (leaf : Leaf) → IsTree nodes → IsLeaf nodes node leaf → leaf ≡ leaf_of nodes node
+leaf_is nodes node leaf tree is =
+    let changes : leaf.changes ≡ length (way_of nodes node.number) = is.depth.changes ∙ ap length (sym (way_is nodes node.number is.depth.way tree is.depth.is_way)) in
+    λ i. record { number = is.number i; changes = changes i; save = is.save i }
+
+zip_is : (nodes changes : List Node) (leaves : List Leaf) → IsTree nodes → AllZip (IsLeaf nodes) changes leaves → leaves ≡ map (leaf_of nodes) changes
+zip_is nodes [] [] tree zip = refl
+zip_is nodes [] (leaf ∷ leaves) tree zip = absurd zip
+zip_is nodes (node ∷ changes) [] tree zip = absurd zip
+zip_is nodes (node ∷ changes) (leaf ∷ leaves) tree zip = ap (λ l. l ∷ leaves) (leaf_is nodes node leaf tree zip.0) ∙ ap (λ ls. leaf_of nodes node ∷ ls) (zip_is nodes changes leaves tree zip.1)
+
+pub are_leaves_of : (nodes : List Node) (leaves : List Leaf) → IsTree nodes → AreLeaves nodes leaves → leaves ≡ leaves_of nodes
+are_leaves_of nodes leaves tree are = zip_is nodes (filter (λ (n : Node). not (has_child nodes n.number)) nodes) leaves tree are
+
+has_child-links_of : (nodes : List Node) (number : ℕ) → has_child (map without_entries nodes) number ≡ has_child nodes number
+has_child-links_of [] number = refl
+has_child-links_of (node ∷ nodes) number = ap (λ b. (node.parent == number) || b) (has_child-links_of nodes number)
+
+way_within-links_of : (most : ℕ) (nodes : List Node) (number : ℕ) → way_within most (map without_entries nodes) number ≡ way_within most nodes number
+way_within-links_of zero nodes number = refl
+way_within-links_of (suc most) nodes number =
+    ap (λ o. unwrap_or (option_map (λ p. number ∷ way_within most (map without_entries nodes) p) o) []) (parent_at-links_of nodes number) ∙
+    same (parent_at nodes number) (way_within-links_of most nodes)
+  where
+    same : (o : Option ℕ) → ((p : ℕ) → way_within most (map without_entries nodes) p ≡ way_within most nodes p)
+        → unwrap_or (option_map (λ p. number ∷ way_within most (map without_entries nodes) p) o) [] ≡ unwrap_or (option_map (λ p. number ∷ way_within most nodes p) o) []
+    same None each = refl
+    same (Some p) each = ap (λ (way : List ℕ). number ∷ way) (each p)
+
+leaf_of-links_of : (nodes : List Node) (node : Node) → leaf_of (map without_entries nodes) (without_entries node) ≡ leaf_of nodes node
+leaf_of-links_of nodes node =
+    ap (λ (way : List ℕ). record { number = node.number; changes = length way; save = node.save })
+    (ap (λ most. way_within most (map without_entries nodes) node.number) (length-map nodes without_entries) ∙ way_within-links_of (length nodes) nodes node.number)
+
+leaf_list : (nodes changes : List Node) → map (leaf_of (map without_entries nodes)) (filter (λ (n : Node). not (has_child (map without_entries nodes) n.number)) (map without_entries changes))
+    ≡ map (leaf_of nodes) (filter (λ (n : Node). not (has_child nodes n.number)) changes)
+leaf_list nodes [] = refl
+leaf_list nodes (node ∷ changes) =
+    let bare = map without_entries nodes in
+    let rest = filter (λ (n : Node). not (has_child bare n.number)) (map without_entries changes) in
+    let after = filter (λ (n : Node). not (has_child nodes n.number)) changes in
+    ap (λ b. map (leaf_of bare) (cond (not b) (without_entries node ∷ rest) rest)) (has_child-links_of nodes node.number) ∙
+    elim (not (has_child nodes node.number)) as (λ b. map (leaf_of bare) (cond b (without_entries node ∷ rest) rest) ≡ map (leaf_of nodes) (cond b (node ∷ after) after)) [
+      | true ↦ ap (λ (leaf : Leaf). leaf ∷ map (leaf_of bare) rest) (leaf_of-links_of nodes node) ∙ ap (λ (leaves : List Leaf). leaf_of nodes node ∷ leaves) (leaf_list nodes changes)
+      | false ↦ leaf_list nodes changes
+    ]
+
+-- entries have no part in the leaves
+pub leaves_of-links_of : (nodes : List Node) → leaves_of (map without_entries nodes) ≡ leaves_of nodes
+leaves_of-links_of nodes = leaf_list nodes nodes

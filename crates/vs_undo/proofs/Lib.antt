@@ -1,4 +1,5 @@
 pub mod ChangeLemmas
+pub mod DepthLemmas
 pub mod EdgeLemmas
 pub mod LeafLemmas
 pub mod MarkLemmas
@@ -6,10 +7,10 @@ pub mod MoveLemmas
 pub mod NodeLemmas
 pub mod NumberLemmas
 pub mod PushLemmas
+pub mod SaveLemmas
 pub mod SearchLemmas
 pub mod ShortWays
 pub mod SoundLemmas
 pub mod StayLemmas
 pub mod WalkLemmas
 pub mod WayLemmas
-pub mod WriteLemmas

@@ -1,16 +1,19 @@
 -- What a move leaves of a tree.
-use Rattle.std.proofs.Common.{◌≡◌, ℕ, ◌==◌, not, if◌then◌else◌, true, false, List, [], ◌∷◌, ◌++◌, length, get_or, map, reverse, Option, Some, None, option_map, IsSome, inl, inr, sym, ap, subst, ◌∙◌, refl}
+use Rattle.std.proofs.Common.{◌≡◌, ℕ, ◌<◌, ◌==◌, not, if◌then◌else◌, true, false, List, [], ◌∷◌, ◌++◌, length, get_or, map, reverse, Option, Some, None, option_map, IsSome, inl, inr, sym, ap, subst, ◌∙◌, refl}
 use Rattle.std.proofs.lemmas.Bool.{eq-eqb}
 use Rattle.std.proofs.lemmas.List.Folds.{list_any_at}
 use Rattle.vs_entries.specs.declared.entry.Entry.{Entry}
+use Rattle.vs_entries.specs.Entries.{Leads}
 use Rattle.vs_undo.specs.declared.parts.Node.{Node}
 use Rattle.vs_undo.specs.declared.parts.Parts.{Parts}
 use Rattle.vs_undo.specs.Ways.{node_at, parent_at, start, IsWay, is_on, IsWayOf, IsTree, IsBetween}
 use Rattle.vs_undo.specs.Edges.{IsEdge, AreEdges, AreStates}
+use Rattle.vs_undo.specs.Turns.{all_led_back, exchanged, AreLedBack}
 use Rattle.vs_undo.specs.Walks.{IsWalk, Crosses, IsTurned, AreTurned}
 use Rattle.vs_undo.specs.History.{without_entries, links_of, changed, with_entries, installed, with_child, used, moved, arrived}
 use Rattle.vs_undo.proofs.WayLemmas.{one_way, on_turned, walk_between}
 use Rattle.vs_undo.proofs.NodeLemmas.{parent_at-links_of}
+use Rattle.vs_undo.proofs.DepthLemmas.{number_of}
 use Rattle.vs_undo.proofs.ChangeLemmas.{map-changed_same, at-changed_same, map-changed, seen, was_there, at-installed}
 
 -- a change without its child last used
@@ -235,6 +238,50 @@ crossed {X = X} L At states parts number from to path turned nodes p here tree a
     let edges = edges_of L states parts from tree a are_states in
     let done = there (crosses parts.nodes tree parts.current number from to path a b between L states edges here is) in
     (arrived_tells L states parts number from to path turned tree a b between (count ∙ ap length path_is) edges done.1, done.0)
+
+-- the entries of a change by the ways of both states
+exchanged_same : (from to : List ℕ) (texts : ℕ → List (List ℕ)) (node : Node) → is_on to node.number ≡ is_on from node.number → exchanged from to texts node ≡ node.entries
+exchanged_same from to texts node on =
+    let there = all_led_back node.entries (texts node.number) in
+    let back = all_led_back node.entries (texts node.parent) in
+    ap (λ b. if is_on from node.number then (if b then node.entries else there) else (if b then back else node.entries)) on ∙
+    elim (is_on from node.number) as (λ b. (if b then (if b then node.entries else there) else (if b then back else node.entries)) ≡ node.entries) [ true ↦ refl | false ↦ refl ]
+
+exchanged_turned : (from to : List ℕ) (texts : ℕ → List (List ℕ)) (node : Node) → is_on to node.number ≡ not (is_on from node.number)
+    → exchanged from to texts node ≡ all_led_back node.entries (texts (if is_on from node.number then node.number else node.parent))
+exchanged_turned from to texts node on =
+    let there = all_led_back node.entries (texts node.number) in
+    let back = all_led_back node.entries (texts node.parent) in
+    ap (λ b. if is_on from node.number then (if b then node.entries else there) else (if b then back else node.entries)) on ∙
+    elim (is_on from node.number) as (λ b. (if b then (if not b then node.entries else there) else (if not b then back else node.entries)) ≡ all_led_back node.entries (texts (if b then node.number else node.parent))) [ true ↦ refl | false ↦ refl ]
+
+-- the entries after a move
+pub exchanged_after : (states : ℕ → List (List ℕ)) (parts : Parts) (number : ℕ) (from to path : List ℕ) (turned : List (List Entry)) (nodes : List Node) (p : List ℕ) (here : List (List ℕ))
+    → IsTree parts.nodes → IsWayOf parts.nodes parts.current from → IsWayOf parts.nodes number to → IsBetween from to path → nodes ≡ parts.nodes → p ≡ path → length turned ≡ length p
+    → AreStates Leads parts states → states parts.current ≡ here
+    → ((cr : Crosses Leads nodes p here) → (i : ℕ) → i < length p → AreLedBack nodes cr.back cr.states (get_or p i 0) (get_or turned i []))
+    → (k : ℕ) (was now : Node) → node_at parts.nodes k ≡ Some was → node_at (arrived path turned to parts).nodes k ≡ Some now → now.entries ≡ exchanged from to states was
+exchanged_after states parts number from to path turned nodes p here tree a b between nodes_are path_is count are_states is made k was now was_at now_at =
+    let Made : List Node → List ℕ → Type 0 = λ ns xs. (cr : Crosses Leads ns xs here) → (i : ℕ) → i < length xs → AreLedBack ns cr.back cr.states (get_or xs i 0) (get_or turned i []) in
+    let there : Made parts.nodes path = subst (λ xs. Made parts.nodes xs) path_is (subst (λ ns. Made ns p) nodes_are made) in
+    let each = there (crosses parts.nodes tree parts.current number from to path a b between Leads states (edges_of Leads states parts from tree a are_states) here is) in
+    let mid = was_there childless (node_at (installed path turned parts.nodes) k) (childless now) (sym (used_at to (record parts { nodes = installed path turned parts.nodes }) k) ∙ ap (option_map childless) now_at) in
+    let entries : mid.0.entries ≡ now.entries = ap (λ (n : Node). n.entries) mid.1.1 in
+    let inst = at-installed path turned parts.nodes k mid.0 (count ∙ ap length path_is) mid.1.0 in
+    let found : Some inst.node ≡ Some was = sym inst.was ∙ was_at in
+    let same : inst.node ≡ was = cc in
+    let named : was.number ≡ k = number_of parts.nodes k was was_at in
+    let turns = path_turns parts.nodes tree parts.current number from to path a b between was.number in
+    sym entries ∙ elim inst.entries_are [
+      | inl h ↦
+          let on : is_on to was.number ≡ is_on from was.number = turns ∙ ap (λ b. if b then not (is_on from was.number) else is_on from was.number) (ap (is_on path) named ∙ h.0) in
+          h.1 ∙ (ap (λ (n : Node). n.entries) same ∙ sym (exchanged_same from to states was on))
+      | inr h ↦
+          let on_path : is_on path k ≡ true = list_any_at (λ n. n == k) path h.0 0 h.1.0 (eq-eqb (get_or path h.0 0) k h.1.1) in
+          let on : is_on to was.number ≡ not (is_on from was.number) = turns ∙ ap (λ b. if b then not (is_on from was.number) else is_on from was.number) (ap (is_on path) named ∙ on_path) in
+          let back = subst (λ m. AreLedBack parts.nodes (is_on from) states m (get_or turned h.0 [])) h.1.1 (each h.0 h.1.0) in
+          h.1.2 ∙ (back was was_at ∙ (ap (λ n. all_led_back was.entries (states (if is_on from n then n else was.parent))) (sym named) ∙ sym (exchanged_turned from to states was on)))
+    ]
 
 -- the ways of a tree are those of its links
 pub bare_way : (nodes : List Node) (number : ℕ) (way : List ℕ) → IsWayOf (map without_entries nodes) number way → IsWayOf nodes number way

@@ -1,12 +1,12 @@
 -- A way passes each change at most once, so it is no longer than the list of changes.
-use Rattle.std.proofs.Common.{◌≡◌, ℕ, ◌≤◌, ◌==◌, ◌||◌, if◌then◌else◌, nat_eq, true, false, List, [], ◌∷◌, length, map, Option, Some, None, option_map, IsSome, ap, subst, ◌∙◌, arith, refl, length-append}
+use Rattle.std.proofs.Common.{◌≡◌, ℕ, zero, suc, ◌≤◌, ◌==◌, ◌||◌, if◌then◌else◌, nat_eq, true, false, List, [], ◌∷◌, length, map, Option, Some, None, option_map, IsSome, unwrap_or, sym, ap, subst, ◌∙◌, arith, refl, length-append}
 use Rattle.std.specs.List.{IsDistinct, AllByRecursion, list_any}
 use Rattle.std.proofs.lemmas.Bool.Decides.{nat_tests}
 use Rattle.std.proofs.lemmas.Cmp.{nat_eq_equiv}
 use Rattle.std.proofs.lemmas.List.{length-map}
 use Rattle.std.proofs.lemmas.Map.Made.{length-le_from_is_member}
 use Rattle.vs_undo.specs.declared.parts.Node.{Node}
-use Rattle.vs_undo.specs.Ways.{node_at, parent_at, start, IsWay, is_on, IsTree}
+use Rattle.vs_undo.specs.Ways.{node_at, parent_at, start, IsWay, IsWayOf, is_on, IsTree, way_within, way_of}
 use Rattle.vs_undo.proofs.WayLemmas.{cut_at, one_way, way_after}
 
 module _ (parent : ℕ → Option ℕ) (root : parent 0 ≡ None) where
@@ -59,3 +59,15 @@ way_short nodes way tree is =
     let d = distinct (λ k. parent_at nodes k) root way is in
     let most = length-le_from_is_member nat_eq_equiv way (map (λ (n : Node). n.number) nodes) d (λ q h. members nodes way is q h) in
     omega (arith, most, length-map nodes (λ (n : Node). n.number))
+
+within_is : (most : ℕ) (nodes : List Node) (way : List ℕ) → parent_at nodes 0 ≡ None → IsWay (λ k. parent_at nodes k) way → length way ≤ most → way_within most nodes (start way) ≡ way
+within_is zero nodes [] root is short = refl
+within_is zero nodes (number ∷ way) root is short = absurd (omega (arith, short))
+within_is (suc most) nodes [] root is short = ap (λ o. unwrap_or (option_map (λ p. 0 ∷ way_within most nodes p) o) []) root
+within_is (suc most) nodes (number ∷ way) root is short =
+    ap (λ o. unwrap_or (option_map (λ p. number ∷ way_within most nodes p) o) []) is.0 ∙ ap (λ (w : List ℕ). number ∷ w) (within_is most nodes way root is.1 (omega (arith, short)))
+
+-- a state has no other way than the one that is computed
+pub way_is : (nodes : List Node) (number : ℕ) (way : List ℕ) → IsTree nodes → IsWayOf nodes number way → way_of nodes number ≡ way
+way_is nodes number way tree is =
+    ap (way_of nodes) (sym is.starts) ∙ within_is (length nodes) nodes way (ap (option_map (λ (n : Node). n.parent)) tree.root) is.is_way (way_short nodes way tree is.is_way)

@@ -1,6 +1,7 @@
 pub mod Ways
 pub mod Edges
 pub mod History
+pub mod Turns
 pub mod Walks
 pub mod Errors
 pub mod Sound

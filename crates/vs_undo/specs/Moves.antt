@@ -1,11 +1,13 @@
 -- What a move asks of a tree and a store with its current text, and what it leaves of them.
-use Rattle.std.specs.Prelude.{ℕ, ◌≡◌, List, [], ◌∷◌, length, max}
+use Rattle.std.specs.Prelude.{ℕ, ◌≡◌, List, [], ◌∷◌, length, max, Some}
 use Rattle.vs_edit.specs.Splices.{splice}
 use Rattle.vs_edit.specs.State.{SameText, IsSpliced}
 use Rattle.vs_edit.specs.declared.store.LineStore.{Ghosts}
 use Rattle.vs_entries.specs.Entries.{splice_back}
 use Rattle.vs_undo.specs.declared.parts.Parts.{Parts}
-use Rattle.vs_undo.specs.Ways.{IsWayOf}
+use Rattle.vs_undo.specs.declared.parts.Node.{Node}
+use Rattle.vs_undo.specs.Ways.{node_at, IsWayOf}
+use Rattle.vs_undo.specs.Turns.{exchanged}
 use Rattle.vs_undo.specs.History.{links_of, moved, pushed, history_at, history_pushed, History, IsHistory, FitsCount, FitsText}
 
 -- The store shows the text of the current state, which is committed, and the entries of the tree fit it.
@@ -16,13 +18,16 @@ pub record IsReady {S : Type 0} (g : Ghosts S) (tree : Parts) (store : S) : Type
   pub texts : (text : List (List ℕ)) → (g.shows store).present.Is text → FitsText tree text
 
 -- The tree has moved to a state: each state on the way to it is the child last used of its parent, nothing else of the history
--- has changed, and the store shows the text of that state.
+-- has changed, the store shows the text of that state, and the entries of each change are those that lead on from there.
 pub record HasMoved {S : Type 0} (g : Ghosts S) (old new : Parts) (before after : S) (number : ℕ) : Type 0 where
   pub way : List ℕ
   pub is_way : IsWayOf old.nodes number way
   pub links : links_of new ≡ moved way (links_of old)
   pub history : (text : List (List ℕ)) (history : History) → (g.shows before).present.Is text → IsHistory old text history
       → (g.shows after).present.Is (history.texts number) × IsHistory new (history.texts number) (history_at way history)
+  pub entries : (text : List (List ℕ)) (history : History) → (g.shows before).present.Is text → IsHistory old text history
+      → (from : List ℕ) → IsWayOf old.nodes old.current from
+      → (k : ℕ) (was now : Node) → node_at old.nodes k ≡ Some was → node_at new.nodes k ≡ Some now → now.entries ≡ exchanged from way history.texts was
 
 -- The tree has one more change, made at this time, with the entry that leads back, and the store shows the spliced text.
 pub record HasChanged {S : Type 0} (g : Ghosts S) (old new : Parts) (before after : S) (top count : ℕ) (lines : List (List ℕ)) (time : ℕ) : Type 0 where

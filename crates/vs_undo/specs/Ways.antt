@@ -1,5 +1,5 @@
 -- The ways of a tree of numbered states, each a list from a state up to the root, which has the number 0 and is left out.
-use Rattle.std.specs.Prelude.{ℕ, ◌≡◌, ◌≢◌, ◌-◌, ◌<◌, ◌==◌, ◌++◌, Bool, List, [], ◌∷◌, length, get_or, reverse, Option, Some, None, option_map, unwrap_or, IsSome, ◌⊎◌}
+use Rattle.std.specs.Prelude.{ℕ, zero, suc, ◌≡◌, ◌≢◌, ◌-◌, ◌<◌, ◌==◌, ◌++◌, Bool, List, [], ◌∷◌, length, get_or, reverse, Option, Some, None, option_map, unwrap_or, IsSome, ◌⊎◌}
 use Rattle.std.specs.List.{find, list_any}
 use Rattle.vs_undo.specs.declared.parts.Node.{Node}
 
@@ -33,6 +33,15 @@ is_on way number = list_any (λ n. n == number) way
 pub record IsWayOf (nodes : List Node) (number : ℕ) (way : List ℕ) : Type 0 where
   pub is_way : IsWay (λ k. parent_at nodes k) way
   pub starts : start way ≡ number
+
+-- the way from a state up to the root, or so many changes of it where it has more
+abbrev pub way_within : ℕ → List Node → ℕ → List ℕ
+way_within zero nodes number = []
+way_within (suc most) nodes number = unwrap_or (option_map (λ parent. number ∷ way_within most nodes parent) (parent_at nodes number)) []
+
+-- the way from a state up to the root, which has no more changes than there are
+abbrev pub way_of : List Node → ℕ → List ℕ
+way_of nodes number = way_within (length nodes) nodes number
 
 -- A state has a way to the root.
 pub record HasWay (nodes : List Node) (number : ℕ) : Type 0 where

@@ -1,10 +1,21 @@
 -- Save numbers of a tree, and the states that they lead to.
-use Rattle.std.specs.Prelude.{ℕ, zero, suc, ◌≡◌, ◌≢◌, ◌-◌, ◌==◌, nat_lt, max, min, if◌then◌else◌, List, [], ◌∷◌, length, get_or, unwrap_or, option_map}
-use Rattle.std.specs.List.{find}
+use Rattle.std.specs.Prelude.{ℕ, zero, suc, ◌≡◌, ◌≢◌, ◌-◌, ◌==◌, nat_lt, max, min, if◌then◌else◌, IsTrue, List, [], ◌∷◌, length, get_or, unwrap_or, option_map}
+use Rattle.std.specs.List.{find, list_any, Contains}
+use Rattle.std.specs.List.Sorted.{IsStrictlyIncreasing}
 use Rattle.vs_undo.specs.declared.parts.Node.{Node}
 use Rattle.vs_undo.specs.Numbers.{numbers}
 use Rattle.vs_undo.specs.declared.parts.Parts.{Parts}
 use Rattle.vs_undo.specs.Ways.{save_at, start, IsWayOf}
+
+-- Some change has this save number.
+abbrev pub IsSave : List Node → ℕ → Type 0
+IsSave nodes save = (save ≢ 0) × IsTrue (list_any (λ (node : Node). node.save == save) nodes)
+
+-- These are the save numbers of the changes, in rising order.
+pub record AreInOrder (nodes : List Node) (saves : List ℕ) : Type 0 where
+  pub rising : IsStrictlyIncreasing saves
+  pub each : (save : ℕ) → Contains saves save → IsSave nodes save
+  pub all : (save : ℕ) → IsSave nodes save → Contains saves save
 
 -- the greatest save number below a bound, or 0
 abbrev pub save_below : List Node → ℕ → ℕ

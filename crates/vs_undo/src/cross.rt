@@ -8,6 +8,7 @@ ghost use Rattle.vs_undo.specs.Numbers.{numbers};
 ghost use Rattle.vs_undo.specs.Ways.{node_at};
 ghost use Rattle.vs_undo.specs.declared.parts.Node.{Node};
 ghost use Rattle.vs_undo.specs.Edges.{IsLed};
+ghost use Rattle.vs_undo.specs.Turns.{all_led_back, AreLedBack};
 ghost use Rattle.vs_undo.specs.Walks.{Crosses, AreTurned};
 
 use crate::way::find;
@@ -43,6 +44,7 @@ fn apply_all<S: LineStore>(
         → (max 1 (S.shows store.new).present.lines ≡ to) × IsLed LeadsCount back.items to (max 1 (S.shows store.old).present.lines)) }
     ensures texts { IfOk result (λ back. (text to : List (List ℕ)) → (S.shows store.old).present.Is text → IsLed Leads entries.now text to
         → (S.shows store.new).present.Is to × IsLed Leads back.items to text) }
+    ensures back { IfOk result (λ back. (text : List (List ℕ)) → (S.shows store.old).present.Is text → back.items ≡ all_led_back entries.now text) }
     ensures valid { OnOk result (S.valid store.new) }
     ensures kept { CanGoBack S.LineStore store.old store.new }
     ensures cause { HasCause (S.shows store.old).faults (S.shows store.new).faults (IsErrOf result StoreErr.Failed) }
@@ -77,6 +79,8 @@ pub(crate) fn cross<S: LineStore>(
         → (max 1 (S.shows store.new).present.lines ≡ c.states c.to) × AreTurned LeadsCount nodes.now c.back c.states path.now turned.items (length path.now)) }
     ensures texts { IfOk result (λ turned. (text : List (List ℕ)) → (S.shows store.old).present.Is text → (c : Crosses Leads nodes.now path.now text)
         → (S.shows store.new).present.Is (c.states c.to) × AreTurned Leads nodes.now c.back c.states path.now turned.items (length path.now)) }
+    ensures back { IfOk result (λ turned. (text : List (List ℕ)) → (S.shows store.old).present.Is text → (c : Crosses Leads nodes.now path.now text)
+        → (i : ℕ) → i < length path.now → AreLedBack nodes.now c.back c.states (get_or path.now i 0) (get_or turned.items i [])) }
     ensures valid { OnOk result (S.valid store.new) }
     ensures kept { CanGoBack S.LineStore store.old store.new }
     ensures cause { HasCause (S.shows store.old).faults (S.shows store.new).faults (IsErrOf result StoreErr.Failed) }

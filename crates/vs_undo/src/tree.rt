@@ -8,7 +8,7 @@ ghost use Rattle.vs_undo.specs.Writes.{IsAtNewestWrite, IsAtOldestWrite, IsEarli
 ghost use Rattle.vs_undo.specs.History.{first_history, first_parts, history_marked, history_pushed, marked, next_save, pushed, History, IsHistory, FitsCount, FitsText};
 ghost use Rattle.vs_undo.specs.Moves.{HasMoved, HasStayed, IsReady};
 ghost use Rattle.vs_undo.specs.Sound.{IsSound, child_of};
-ghost use Rattle.vs_undo.specs.Leaves.{AreLeaves};
+ghost use Rattle.vs_undo.specs.Leaves.{AreLeaves, leaves_of};
 ghost use Rattle.vs_undo.specs.Errors.{IsMoveErr};
 
 use crate::add::push;
@@ -17,7 +17,7 @@ use crate::mark::mark;
 use crate::moves::go_to;
 use crate::numbers::{earlier_goal, later_goal};
 use crate::way::{is_kept, last_child, parent, way_of};
-use crate::writes::{earlier_write, later_write};
+use crate::writes::{earlier_write, later_write, saves_of};
 use crate::{Leaf, MAX_NUMBER, Nodes, Parts, UndoErr};
 use std::alloc::{AllocError, Global};
 use std::marker::Model;
@@ -112,7 +112,8 @@ impl UndoTree {
 
     /// The changes without children, by rising number (as `:help :undolist`).
     pub fn leaves(&self, alloc: Global) -> Result<Vec<Leaf>, AllocError>
-        ensures { IfOk result (λ leaves. AreLeaves self.now.nodes leaves.items) }
+        ensures leaves { IfOk result (λ leaves. AreLeaves self.now.nodes leaves.items) }
+        ensures list { IfOk result (λ leaves. leaves.items ≡ leaves_of self.now.nodes) }
     {
         leaves_of(alloc, self.parts.nodes.nodes())
     }
@@ -293,7 +294,8 @@ impl UndoTree {
     {
         let parts = &mut self.parts;
         let way = way_of(alloc, parts.nodes.nodes(), parts.current)?;
-        let Some(number) = earlier_write(parts.nodes.nodes(), &way, by) else {
+        let saves = saves_of(alloc, parts.nodes.nodes())?;
+        let Some(number) = earlier_write(parts.nodes.nodes(), &saves, &way, by) else {
             return Err(UndoErr::AtOldest);
         };
         go_to(alloc, parts, text, number)?;
@@ -322,7 +324,8 @@ impl UndoTree {
     {
         let parts = &mut self.parts;
         let way = way_of(alloc, parts.nodes.nodes(), parts.current)?;
-        let Some(number) = later_write(parts.nodes.nodes(), &way, by) else {
+        let saves = saves_of(alloc, parts.nodes.nodes())?;
+        let Some(number) = later_write(parts.nodes.nodes(), &saves, &way, by) else {
             return Err(UndoErr::AtNewest);
         };
         go_to(alloc, parts, text, number)?;

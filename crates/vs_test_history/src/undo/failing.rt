@@ -2,22 +2,18 @@
 ghost use Rattle.std.specs.Prelude.{IfOk};
 ghost use Rattle.vs_undo.specs.Moves.{IsReady};
 
-use super::{Editor, Step, file_of, take};
+use super::{Editor, Step, begin, file_of, take};
 use std::alloc::{AllocError, Global};
 use std::process::Abort;
 use std::test::Fail;
 use vs_edit::failing::FailingStore;
 use vs_edit::{LineStore, VecStore};
-use vs_undo::{UndoErr, UndoTree};
+use vs_undo::UndoErr;
 
 fn start(alloc: Global) -> Result<Editor<FailingStore<VecStore>>, AllocError>
     ensures { IfOk result (λ editor. IsReady ⟦<FailingStore<VecStore> as LineStore>⟧ editor.tree editor.text) }
 {
-    let text = FailingStore::new(VecStore::new(alloc)?, 0);
-    Ok(Editor {
-        tree: UndoTree::new(alloc)?,
-        text,
-    })
+    begin(alloc, FailingStore::new(VecStore::new(alloc)?, 0))
 }
 
 // Five changes on one another, and a second child of the first.

@@ -1,13 +1,14 @@
 // Some thousand generated changes, moves and writes, beside a tree that keeps the whole text of each state.
 ghost use Rattle.vs_undo.specs.Moves.{IsReady};
 
-use super::rows::start;
-use super::{Editor, Step, file_of, take};
+use super::{Editor, Step, begin, file_of, take};
 use std::alloc::{AllocError, Global};
 use std::process::Abort;
 use std::test::Fail;
-use vs_edit::LineStore;
+use vs_edit::{LineStore, VecStore};
+use vs_pages::MemPages;
 use vs_test_stores::Numbers;
+use vs_tree::{LineTree, TreeStore};
 use vs_undo::{Leaf, UndoErr};
 
 // A step on a text with this number of lines, after this number of changes.
@@ -341,13 +342,34 @@ fn play_all<S: LineStore>(
     Ok(())
 }
 
-#[test]
-fn follows_a_tree_of_whole_texts(rt: HostRuntime) -> Result<(), Fail> {
-    let alloc = rt.alloc();
-    let mut editor = start(alloc)?;
+fn follow<S: LineStore + Drop>(rt: &impl Abort, alloc: Global, text: S) -> Result<(), Fail>
+    requires { S.valid text }
+{
+    let mut editor = begin(alloc, text)?;
     let mut plain = Plain::new(alloc)?;
-    play_all(&rt, alloc, &mut editor, &mut plain)?;
+    play_all(rt, alloc, &mut editor, &mut plain)?;
     let leaves = editor.tree.leaves(alloc)?;
     assert_eq!(rt; leaves.as_slice(), plain.leaves(alloc)?.as_slice());
     Ok(())
+}
+
+#[test]
+fn follows_a_tree_of_whole_texts_in_memory(rt: HostRuntime) -> Result<(), Fail> {
+    let alloc = rt.alloc();
+    follow(&rt, alloc, VecStore::new(alloc)?)
+}
+
+#[test]
+fn follows_a_tree_of_whole_texts_in_a_line_tree(rt: HostRuntime) -> Result<(), Fail> {
+    let alloc = rt.alloc();
+    let mut pages = MemPages::new(alloc)?;
+    let mut tree = LineTree::new(alloc, &mut pages)?;
+    follow(
+        &rt,
+        alloc,
+        TreeStore {
+            tree: &mut tree,
+            pages,
+        },
+    )
 }

@@ -2,21 +2,19 @@
 ghost use Rattle.std.specs.Prelude.{IfOk};
 ghost use Rattle.vs_undo.specs.Moves.{IsReady};
 
-use super::{Editor, Step, file_of, take};
+use super::{Editor, Step, begin, file_of, take};
 use std::alloc::{AllocError, Global};
 use std::process::Abort;
 use std::test::Fail;
 use vs_edit::{LineStore, VecStore};
-use vs_undo::{Leaf, UndoErr, UndoTree};
+use vs_undo::{Leaf, UndoErr};
 
 type Row = (Step, Result<u64, UndoErr>, &'static [u8]);
 
-pub(super) fn start(alloc: Global) -> Result<Editor<VecStore>, AllocError>
+fn start(alloc: Global) -> Result<Editor<VecStore>, AllocError>
     ensures { IfOk result (λ editor. IsReady ⟦<VecStore as LineStore>⟧ editor.tree editor.text) }
 {
-    let text = VecStore::new(alloc)?;
-    let tree = UndoTree::new(alloc)?;
-    Ok(Editor { tree, text })
+    begin(alloc, VecStore::new(alloc)?)
 }
 
 fn play<S: LineStore>(

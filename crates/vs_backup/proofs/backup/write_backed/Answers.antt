@@ -3,20 +3,19 @@ use Rattle.std.proofs.lemmas.Result.{err_from_is_err_and}
 use Rattle.vs_text.specs.Text.{file_of}
 use Rattle.vs_host.specs.Disk.{names_at}
 use Rattle.vs_host.specs.World.{Scene}
-use Rattle.vs_backup.specs.Writing.{WritesBacked, backed_names}
+use Rattle.vs_backup.specs.Writing.{WritesBacked}
 use Rattle.vs_backup.specs.declared.errors.WriteErr.{WriteErr}
 use Rattle.vs_backup.proofs.Backed.{backed_refused, backed_kept, backed_removed, gone_unless_risen, holds_there}
 use Rattle.vs_backup.proofs.backup.write_backed.Goals as goal
 
 pub returns-in_err-size-clause-backed : goal.returns-in_err-size-clause-backed
 returns-in_err-size-clause-backed g c told old is text has =
-    let on = backed_names c.args.copying c.args.name.now c.args.temporary.now c.args.backup.now in
     let s0 : Scene = g.D.World.scene c.args.desk.now in
     let s1 : Scene = g.D.World.scene c.write_over.new.desk in
     let why = c.in_err-size.field-0.0 in
     let p = err_from_is_err_and c.from_residual.result c.from_residual.ensures.1 in
     let same : c.from_residual.result ≡ Err why = p.1 ∙ ap (λ (e : WriteErr). Err e) p.2 in
-    subst (λ (r : Result ℕ WriteErr). WritesBacked on c.args.keep c.args.name.now c.args.backup.now old (file_of text) s0 s1 r) (sym same)
+    subst (λ (r : Result ℕ WriteErr). WritesBacked c.args.copying c.args.keep c.args.name.now c.args.temporary.now c.args.backup.now old (file_of text) s0 s1 r) (sym same)
     (backed_refused c.args.copying c.args.keep c.args.name.now c.args.temporary.now c.args.backup.now old (file_of text) s0 s1 is why (c.in_err-size.ensures.over told old is text has))
 
 pub returns-then-keep-clause-backed : goal.returns-then-keep-clause-backed

@@ -1,10 +1,9 @@
-use Rattle.std.proofs.Common.{Err, sym, subst}
+use Rattle.std.proofs.Common.{true, Err, sym, subst}
 use Rattle.vs_text.specs.Text.{file_of}
 use Rattle.vs_host.specs.World.{Scene}
-use Rattle.vs_backup.specs.Works.{three_names}
 use Rattle.vs_backup.specs.Writing.{WritesOver}
 use Rattle.vs_backup.specs.declared.errors.WriteErr.{WriteErr}
-use Rattle.vs_backup.proofs.Copying.{copying_done, copying_stopped, copying_not_begun}
+use Rattle.vs_backup.proofs.Copying.{copying_done, copying_stopped, over_not_begun}
 use Rattle.vs_backup.proofs.backup.write_copying.Goals as goal
 
 pub returns-in-Ok-fill_text-clause-over : goal.returns-in-Ok-fill_text-clause-over
@@ -19,21 +18,19 @@ returns-in-Ok-fill_text-clause-over g c told old is text has =
 
 pub returns-in-Err-fill_text-clause-over : goal.returns-in-Err-fill_text-clause-over
 returns-in-Err-fill_text-clause-over g c told old is text has =
-    let on = three_names c.args.name.now c.args.temporary.now c.args.backup.now in
     let s0 : Scene = g.D.World.scene c.args.desk.now in
     let s1 : Scene = g.D.World.scene c.start_over.new.desk in
     let s2 : Scene = g.D.World.scene c.fill_text.new.desk in
-    subst (λ (error : WriteErr). WritesOver on c.args.name.now c.args.backup.now old (file_of text) s0 s2 (Err error)) (sym c.with.ensures)
+    subst (λ (error : WriteErr). WritesOver true c.args.name.now c.args.temporary.now c.args.backup.now old (file_of text) s0 s2 (Err error)) (sym c.with.ensures)
     (copying_stopped c.args.name.now c.args.backup.now c.args.temporary.now old (file_of text) s0 s1 s2 c.start_over.ensures.frame (λ e. c.requires.differ_name (sym e)) (g.D.World.is_folder c.start_over.new.desk told)
     (c.in-Ok.ensures.over told old is) (c.fill_text.ensures.runs told) c.in-Err-fill_text.stop (c.in-Err-fill_text.ensures.err told))
 
 pub returns-in-Err-clause-over : goal.returns-in-Err-clause-over
 returns-in-Err-clause-over g c told old is text has =
-    let on = three_names c.args.name.now c.args.temporary.now c.args.backup.now in
     let s0 : Scene = g.D.World.scene c.args.desk.now in
     let s1 : Scene = g.D.World.scene c.start_over.new.desk in
     let over = c.in-Err.ensures.over told old is in
-    copying_not_begun on c.args.name.now c.args.backup.now old (file_of text) s0 s1 over.spares over.kept over.not_done
+    over_not_begun true c.args.name.now c.args.temporary.now c.args.backup.now old (file_of text) s0 s1 over.spares over.kept over.in_place over.not_done
 
 pub fill_text-requires-clause-empty : goal.fill_text-requires-clause-empty
 fill_text-requires-clause-empty g c told =

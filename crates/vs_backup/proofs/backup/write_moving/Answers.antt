@@ -1,4 +1,4 @@
-use Rattle.std.proofs.Common.{[], ◌∷◌, Err, sym, subst}
+use Rattle.std.proofs.Common.{[], ◌∷◌, false, Err, sym, subst}
 use Rattle.vs_text.specs.Text.{file_of}
 use Rattle.vs_host.specs.Disk.{Disk}
 use Rattle.vs_host.specs.Trace.{Renamed}
@@ -8,16 +8,17 @@ use Rattle.vs_disk.proofs.Runs.{one_call}
 use Rattle.vs_disk.proofs.Contents.{not_there}
 use Rattle.vs_backup.specs.Works.{Spares, two_names}
 use Rattle.vs_backup.specs.Writing.{IsKept, WritesOver}
+use Rattle.vs_backup.specs.declared.errors.Place.TheVariants as place
 use Rattle.vs_backup.specs.declared.errors.WriteErr.{WriteErr}
 use Rattle.vs_backup.proofs.Calls.{synced_there}
 use Rattle.vs_backup.proofs.Frames.{spares_same}
 use Rattle.vs_backup.proofs.Kept.{guard_moved, moved_away, kept_by_name, settled_holds}
-use Rattle.vs_backup.proofs.Copying.{copying_not_begun}
+use Rattle.vs_backup.proofs.Copying.{only_file, over_not_begun}
 use Rattle.vs_backup.proofs.Moving.{moving_done, moving_stopped}
 use Rattle.vs_backup.proofs.backup.write_moving.Goals as goal
 
 pub returns-in-Ok-write_anew-clause-over : goal.returns-in-Ok-write_anew-clause-over
-returns-in-Ok-write_anew-clause-over g c told old is text has =
+returns-in-Ok-write_anew-clause-over g c told old is text has temporary =
     let name = c.args.name.now in
     let backup = c.args.backup.now in
     let s0 : Scene = g.D.World.scene c.args.desk.now in
@@ -26,10 +27,11 @@ returns-in-Ok-write_anew-clause-over g c told old is text has =
     let renames = c.in-Ok.ensures.ok told in
     let kept = g.met.D.Desk.stays_text c.args.desk.now c.rename.new.self text c.rename.ensures.stays has in
     moving_done name backup old (file_of text) s0 s1 s2 is c.rename.ensures.frame c.rename.result (c.rename.ensures.told told) renames c.in-Ok-write_anew.size
+    temporary c.requires.differ_name (g.D.World.is_folder c.write_anew.new.desk told)
     (c.in-Ok-write_anew.ensures.anew told backup is.synced.number old (λ e. c.requires.differ_name (sym e)) (guard_moved name backup old s0.folder s1.folder is renames) text kept)
 
 pub returns-in-Err-write_anew-clause-over : goal.returns-in-Err-write_anew-clause-over
-returns-in-Err-write_anew-clause-over g c told old is text has =
+returns-in-Err-write_anew-clause-over g c told old is text has temporary =
     let name = c.args.name.now in
     let backup = c.args.backup.now in
     let s0 : Scene = g.D.World.scene c.args.desk.now in
@@ -37,12 +39,12 @@ returns-in-Err-write_anew-clause-over g c told old is text has =
     let s2 : Scene = g.D.World.scene c.write_anew.new.desk in
     let renames = c.in-Ok.ensures.ok told in
     let kept = g.met.D.Desk.stays_text c.args.desk.now c.rename.new.self text c.rename.ensures.stays has in
-    subst (λ (error : WriteErr). WritesOver (two_names name backup) name backup old (file_of text) s0 s2 (Err error)) (sym c.with.ensures)
-    (moving_stopped name backup old (file_of text) s0 s1 s2 is c.rename.ensures.frame c.rename.result (c.rename.ensures.told told) renames c.in-Err-write_anew.stop
+    subst (λ (error : WriteErr). WritesOver false name temporary backup old (file_of text) s0 s2 (Err error)) (sym c.with.ensures)
+    (moving_stopped name backup old (file_of text) s0 s1 s2 is c.rename.ensures.frame c.rename.result (c.rename.ensures.told told) renames c.in-Err-write_anew.stop temporary
     (c.in-Err-write_anew.ensures.anew told backup is.synced.number old (λ e. c.requires.differ_name (sym e)) (guard_moved name backup old s0.folder s1.folder is renames) text kept))
 
 pub returns-in-Err-clause-over : goal.returns-in-Err-clause-over
-returns-in-Err-clause-over g c told old is text has =
+returns-in-Err-clause-over g c told old is text has temporary =
     let name = c.args.name.now in
     let backup = c.args.backup.now in
     let on = two_names name backup in
@@ -50,9 +52,10 @@ returns-in-Err-clause-over g c told old is text has =
     let s1 : Scene = g.D.World.scene c.rename.new.self in
     let holds = settled_holds name old s0.folder is in
     let still = subst (λ (d : Disk). HoldsBytes name old d) (sym c.in-Err.ensures.err) holds in
-    copying_not_begun on name backup old (file_of text) s0 s1
+    over_not_begun false name temporary backup old (file_of text) s0 s1
     (one_call (Spares on) Renamed (name ∷ backup ∷ []) c.rename.result s0 s1 c.rename.ensures.frame (c.rename.ensures.told told) (spares_same on s0.folder s1.folder c.in-Err.ensures.err))
     (one_call (λ a b. IsKept name backup old b) Renamed (name ∷ backup ∷ []) c.rename.result s0 s1 c.rename.ensures.frame (c.rename.ensures.told told) (kept_by_name name backup old s1.folder still))
+    (record { another = tt; kept = λ keeps. tt; in_backup = λ refused. absurd (only_file place.Backup (λ e. cc) refused) })
     still
 
 pub rename-requires-clause-there : goal.rename-requires-clause-there

@@ -8,6 +8,7 @@ use Rattle.vs_disk.proofs.Runs.{reads_change}
 use Rattle.vs_backup.specs.Backups.{copies}
 use Rattle.vs_backup.specs.Writing.{WritesBacked, backed_names}
 use Rattle.vs_backup.specs.declared.errors.WriteErr.{WriteErr}
+use Rattle.vs_backup.proofs.Others.{others_looks}
 use Rattle.vs_backup.proofs.Backed.{backed_after, backed_stopped, looks_narrowed}
 use Rattle.vs_backup.proofs.write.write_chosen.Goals as goal
 
@@ -27,17 +28,18 @@ returns-in-Ok-Some-clause-backed g c told old content backup chosen text has =
     let bytes : c.deref.result.now ≡ backup = c.deref.ensures ∙ some_name (string_bytes c.in-Ok-Some.backup) backup (sym found ∙ chosen) in
     let there : content_of s1 name ≡ Some old = ap (λ (d : Disk). content_in d name) looks.now ∙ content in
     let kept = g.met.D.Desk.stays_text c.args.desk.now c.choose.new.desk text c.choose.ensures.stays has in
-    let written = subst (λ (b : Name). WritesBacked (backed_names mode name (temporary b) b) keep name b old (file_of text) s1 s2 c.write_named.result) bytes
+    let written = subst (λ (b : Name). WritesBacked mode keep name (temporary b) b old (file_of text) s1 s2 c.write_named.result) bytes
     (c.write_named.ensures.backed told old there text kept) in
-    backed_after (backed_names mode name (temporary backup) backup) keep name backup old (file_of text) s0 s1 content (looks_narrowed s0 s1 looks) c.write_named.result s2
+    backed_after mode keep name (temporary backup) backup old (file_of text) s0 s1 content (looks_narrowed s0 s1 looks)
+    (others_looks (backed_names mode name (temporary backup) backup) s0 s1 looks) c.write_named.result s2
     (reads_change s0 s1 c.choose.ensures.frame) c.choose.ensures.cause.later written
 
 pub returns-in-Err-clause-backed : goal.returns-in-Err-clause-backed
 returns-in-Err-clause-backed g c told old content backup chosen text has =
     let name = c.args.name.now in
     let keep = c.args.options.now.backup in
-    let on = backed_names (copies c.args.options.now.copy) name (temporary backup) backup in
+    let mode = copies c.args.options.now.copy in
     let s0 : Scene = g.D.World.scene c.args.desk.now in
     let s1 : Scene = g.D.World.scene c.choose.new.desk in
-    subst (λ (why : WriteErr). WritesBacked on keep name backup old (file_of text) s0 s1 (Err why)) (sym c.with.ensures)
-    (backed_stopped on keep name backup old (file_of text) s0 s1 content (c.choose.ensures.looks told) c.in-Err.stop)
+    subst (λ (why : WriteErr). WritesBacked mode keep name (temporary backup) backup old (file_of text) s0 s1 (Err why)) (sym c.with.ensures)
+    (backed_stopped mode keep name (temporary backup) backup old (file_of text) s0 s1 content (c.choose.ensures.looks told) c.in-Err.stop)

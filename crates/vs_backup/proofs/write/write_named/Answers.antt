@@ -4,17 +4,17 @@ use Rattle.vs_host.specs.Disk.{Name}
 use Rattle.vs_host.specs.Names.{temporary}
 use Rattle.vs_host.specs.World.{Scene}
 use Rattle.vs_backup.specs.Backups.{copies}
-use Rattle.vs_backup.specs.Writing.{WritesBacked, backed_names}
+use Rattle.vs_backup.specs.Writing.{WritesBacked}
 use Rattle.vs_backup.proofs.Backed.{backed_no_memory}
 use Rattle.vs_backup.proofs.write.write_named.Goals as goal
 
 pub returns-in_default-clause-backed : goal.returns-in_default-clause-backed
 returns-in_default-clause-backed g c told old content text has =
-    backed_no_memory (backed_names (copies c.args.options.now.copy) c.args.name.now (temporary c.args.backup.now) c.args.backup.now) c.args.options.now.backup c.args.name.now c.args.backup.now old (file_of text) (g.D.World.scene c.args.desk.now) content
+    backed_no_memory (copies c.args.options.now.copy) c.args.options.now.backup c.args.name.now (temporary c.args.backup.now) c.args.backup.now old (file_of text) (g.D.World.scene c.args.desk.now) content
 
 pub returns-in_default-buffer-clause-backed : goal.returns-in_default-buffer-clause-backed
 returns-in_default-buffer-clause-backed g c told old content text has =
-    backed_no_memory (backed_names (copies c.args.options.now.copy) c.args.name.now (temporary c.args.backup.now) c.args.backup.now) c.args.options.now.backup c.args.name.now c.args.backup.now old (file_of text) (g.D.World.scene c.args.desk.now) content
+    backed_no_memory (copies c.args.options.now.copy) c.args.options.now.backup c.args.name.now (temporary c.args.backup.now) c.args.backup.now old (file_of text) (g.D.World.scene c.args.desk.now) content
 
 pub returns-clause-backed : goal.returns-clause-backed
 returns-clause-backed g c told old content text has =
@@ -24,6 +24,6 @@ returns-clause-backed g c told old content text has =
     let s0 : Scene = g.D.World.scene c.args.desk.now in
     let s1 : Scene = g.D.World.scene c.write_with_backup.new.desk in
     let under : c.deref.result.now ≡ temporary backup = c.deref.ensures ∙ c.in-Ok.ensures in
-    let made = subst (λ (other : Name). WritesBacked (backed_names c.copies.result name other backup) keep name backup old (file_of text) s0 s1 c.write_with_backup.result) under
+    let made = subst (λ (other : Name). WritesBacked c.copies.result keep name other backup old (file_of text) s0 s1 c.write_with_backup.result) under
     (c.write_with_backup.ensures.backed told old content text has) in
-    subst (λ (copying : Bool). WritesBacked (backed_names copying name (temporary backup) backup) keep name backup old (file_of text) s0 s1 c.write_with_backup.result) c.copies.ensures made
+    subst (λ (copying : Bool). WritesBacked copying keep name (temporary backup) backup old (file_of text) s0 s1 c.write_with_backup.result) c.copies.ensures made

@@ -1,16 +1,17 @@
-use Rattle.std.proofs.Common.{◌≡◌, ◌∙◌, [], ◌∷◌, inl, inr, ℕ, List, true, false, Some, None, ap, subst}
+use Rattle.std.proofs.Common.{◌≡◌, ◌∙◌, [], ◌∷◌, inl, inr, ℕ, List, true, false, Some, None, ap, sym, subst}
 use Rattle.vs_text.specs.Text.{file_of}
 use Rattle.vs_host.specs.Disk.{Disk, Name, content_in}
 use Rattle.vs_host.specs.Names.{temporary}
 use Rattle.vs_host.specs.Trace.{Looked}
 use Rattle.vs_host.specs.World.{Scene, content_of}
 use Rattle.vs_disk.proofs.Runs.{one_look, reads_change}
-use Rattle.vs_backup.specs.Backups.{IsBackupName, backs_up, backup_of, copies}
-use Rattle.vs_backup.specs.Works.{two_names}
-use Rattle.vs_backup.specs.Writing.{FindsNoName, WritesBacked, WritesFresh, WritesInPlace, backed_names}
+use Rattle.vs_backup.specs.Backups.{IsBackupName, WorksOn, backs_up, backup_of, copies}
+use Rattle.vs_backup.specs.Works.{SparesOthers, two_names}
+use Rattle.vs_backup.specs.Writing.{FindsNoName, WritesFresh, WritesInPlace, WritesWith, backed_names}
 use Rattle.vs_backup.proofs.Backed.{backed_after, looks_narrowed}
 use Rattle.vs_backup.proofs.NamesApart.{file_apart, backup_apart, temporary_apart, new_name}
-use Rattle.vs_backup.proofs.Whole.{unseen, none_after, plain_after, fresh_after}
+use Rattle.vs_backup.proofs.Others.{others_looks}
+use Rattle.vs_backup.proofs.Whole.{unseen, none_after, plain_after, fresh_after, fresh_others, others_after, not_there_now}
 use Rattle.vs_backup.proofs.write.write_out.Goals as goal
 
 pub write_there-requires-clause-apart : goal.write_there-requires-clause-apart
@@ -50,8 +51,9 @@ returns-in-Ok-true-clause-backed g c told old content backup chosen text has =
     let same = looks.now in
     let kept = g.met.D.Desk.stays_text c.args.desk.now c.has.new.self text c.has.ensures.stays has in
     let writes = subst (λ (n : Name). (x : List ℕ) → content_of s1 n ≡ Some x → (b : Name) → backup_of options n s1.folder ≡ Some b → (t : List (List ℕ)) → g.D.Desk.has_text c.has.new.self t
-    → WritesBacked (backed_names (copies options.copy) n (temporary b) b) options.backup n b x (file_of t) s1 s2 c.write_there.result) c.as_str-name.ensures (c.write_there.ensures.backed told) in
-    inr (backed_after (backed_names (copies options.copy) name (temporary backup) backup) options.backup name backup old (file_of text) s0 s1 content (looks_narrowed s0 s1 looks) c.write_there.result s2
+    → WritesWith options n b x (file_of t) s1 s2 c.write_there.result) c.as_str-name.ensures (c.write_there.ensures.backed told) in
+    inr (backed_after (copies options.copy) options.backup name (temporary backup) backup old (file_of text) s0 s1 content (looks_narrowed s0 s1 looks)
+    (others_looks (backed_names (copies options.copy) name (temporary backup) backup) s0 s1 looks) c.write_there.result s2
     (reads_change s0 s1 c.has.ensures.frame) c.has.ensures.cause.later
     (writes old (ap (λ (d : Disk). content_in d name) same ∙ content) backup (ap (λ (d : Disk). backup_of options name d) same ∙ chosen) text kept))
 
@@ -119,3 +121,38 @@ returns-in-Err-clause-fresh g c told free text has =
     let s0 : Scene = g.D.World.scene c.args.desk.now in
     let s1 : Scene = g.D.World.scene c.has.new.self in
     inl (unseen s0 s1 (one_look Looked (c.as_str-name.result.now ∷ []) c.has.result s0 s1 c.has.ensures.frame (c.has.ensures.told told)))
+
+pub returns-in-Ok-true-clause-others : goal.returns-in-Ok-true-clause-others
+returns-in-Ok-true-clause-others g c told =
+    let options = c.args.options.now in
+    let s0 : Scene = g.D.World.scene c.args.desk.now in
+    let s1 : Scene = g.D.World.scene c.has.new.self in
+    let s2 : Scene = g.D.World.scene c.write_there.new.desk in
+    let looks = one_look Looked (c.as_str-name.result.now ∷ []) c.has.result s0 s1 c.has.ensures.frame (c.has.ensures.told told) in
+    others_after options c.args.names.now.file s0 s1 s2 c.has.ensures.frame looks
+    (subst (λ (n : Name). SparesOthers (WorksOn options n s1.folder) s1 s2) c.as_str-name.ensures (c.write_there.ensures.others told))
+
+pub returns-in-Ok-false-clause-others : goal.returns-in-Ok-false-clause-others
+returns-in-Ok-false-clause-others g c told =
+    let name = c.args.names.now.file in
+    let made = c.args.names.now.file_new in
+    let options = c.args.options.now in
+    let s0 : Scene = g.D.World.scene c.args.desk.now in
+    let s1 : Scene = g.D.World.scene c.has.new.self in
+    let s2 : Scene = g.D.World.scene c.write_new.new.desk in
+    let looks = one_look Looked (c.as_str-name.result.now ∷ []) c.has.result s0 s1 c.has.ensures.frame (c.has.ensures.told told) in
+    let text = g.met.D.Desk.tells_one c.args.desk.now c.requires.valid told in
+    let kept = g.met.D.Desk.stays_text c.args.desk.now c.has.new.self text.0 c.has.ensures.stays text.1 in
+    let none = subst (λ (n : Name). content_in s0.folder n ≡ None) c.as_str-name.ensures (not_there_now c.as_str-name.result.now s0.folder (sym c.in-Ok-false.field-0-test ∙ c.in-Ok-false.ensures.value told)) in
+    let named = subst (λ (n : Name). content_of s1 n ≡ None → (t : List (List ℕ)) → g.D.Desk.has_text c.has.new.self t → WritesFresh (two_names c.as_str.result.now n) n (file_of t) s1 s2 c.write_new.result)
+    c.as_str-name.ensures (c.write_new.ensures.fresh told) in
+    let free : content_of s1 name ≡ None = ap (λ (d : Disk). content_in d name) looks.now ∙ none in
+    let fresh = subst (λ (m : Name). WritesFresh (two_names m name) name (file_of text.0) s1 s2 c.write_new.result) c.as_str.ensures (named free text.0 kept) in
+    others_after options name s0 s1 s2 c.has.ensures.frame looks (fresh_others options name s1 s2 made (file_of text.0) c.write_new.result free (new_name c.args.names.now c.requires.names) fresh)
+
+pub returns-in-Err-clause-others : goal.returns-in-Err-clause-others
+returns-in-Err-clause-others g c told =
+    let s0 : Scene = g.D.World.scene c.args.desk.now in
+    let s1 : Scene = g.D.World.scene c.has.new.self in
+    others_looks (WorksOn c.args.options.now c.args.names.now.file s0.folder) s0 s1
+    (one_look Looked (c.as_str-name.result.now ∷ []) c.has.result s0 s1 c.has.ensures.frame (c.has.ensures.told told))

@@ -1,11 +1,14 @@
-use Rattle.std.proofs.Common.{◌≡◌, ◌≤◌, ◌++◌, ℕ, List}
+use Rattle.std.proofs.Common.{◌≡◌, ◌≤◌, ◌+◌, ◌++◌, ℕ, List}
 use Rattle.vs_edit.specs.Calls.{OnlyReads}
 use Rattle.vs_edit.specs.Splices.{cut_out}
+use Rattle.vs_excmd.specs.Reading.{HasCopied, IsAt}
 use Rattle.vs_excmd.proofs.reads.push_lines.Given as goal
 
-abbrev pub invariant-loop-i : goal.invariant-loop-i
-invariant-loop-i g l = let old = l.initial.view in record {
-  lines : (text : List (List ℕ)) → (g.S.LineStore.shows old).present.Is text → l.into.items ≡ l.initial.into.items ++ cut_out text l.top l.i;
+abbrev pub invariant-loop : goal.invariant-loop
+invariant-loop g l = let old = l.fn.view in record {
+  lines : (text : List (List ℕ)) → (g.S.LineStore.shows old).present.Is text → l.into.items ≡ l.fn.into.items ++ cut_out text l.top l.counter;
+  at : IsAt l.reader (l.top + l.counter) (l.top + l.count);
+  copied : (text : List (List ℕ)) → (g.S.LineStore.shows old).present.Is text → HasCopied text l.reader;
   kept : OnlyReads g.S.LineStore old l.view;
   faults : (g.S.LineStore.shows old).faults ≤ (g.S.LineStore.shows l.view).faults;
 }

@@ -6,8 +6,8 @@ use Rattle.vs_excmd.proofs.replacing.rewrite_line.Goals as goal
 pub places-init : goal.places-init
 places-init c =
     let size = ap length c.needle-width.ensures in record {
-      whole = replaced-first c.args.all c.args.line.now c.args.finder.now c.args.new.now c.in-Some.first (length c.needle-width.result.now) c.new-out.result.items c.put_piece.new.out.items
-          size c.new-out.ensures.items c.in-Some.ensures.first (c.in_ok-put_piece.ensures.put c.if-not-branch.false);
+      whole = replaced-first c.args.all c.args.line.now c.args.finder.now c.args.new.now c.in-Some.first (length c.needle-width.result.now) c.in_ok-out.out.items c.put_piece.new.out.items
+          size c.in_ok-out.ensures.items c.in-Some.ensures.first (c.in_ok-put_piece.ensures.put c.if-not-branch.false);
       short = c.in_ok-put_piece.ensures.short c.if-not-branch.false;
       within = omega (arith, size, c.in-Some.ensures.high);
     }

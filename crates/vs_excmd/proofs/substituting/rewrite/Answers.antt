@@ -9,6 +9,7 @@ use Rattle.vs_excmd.specs.Rewriting.{IsRewriting}
 use Rattle.vs_excmd.specs.Substitute.{has_match, replaced}
 use Rattle.vs_excmd.proofs.FindLemmas.{finds-line, finds-whole, unmatched-same}
 use Rattle.vs_excmd.proofs.LongLemmas.{lines-more, none-more, refused-by-long, refused-either, some-at}
+use Rattle.vs_excmd.proofs.ReadLemmas.{line-at, next-at}
 use Rattle.vs_excmd.proofs.substituting.rewrite.Goals as goal
 
 pub returns-then-is_too_long-clause-refused : goal.returns-then-is_too_long-clause-refused
@@ -17,7 +18,7 @@ returns-then-is_too_long-clause-refused g c = λ text whole has stands.
     let f = replaced c.args.all c.args.finder.now whole in
     let before = c.loop-i.invariant in
     let within : c.args.top + c.args.count ≤ length text = omega (arith, g.met.S.LineStore.has_lines c.args.view.now text has, c.requires.within) in
-    let line = c.as_slice-read.ensures.value ∙ c.in_ok-line.ensures.line text (before.kept.present.text text has) in
+    let line = c.as_slice-read.ensures.value ∙ line-at c.loop-i.reader text c.line.new.into.items (c.args.top + c.loop-i.i) (c.args.top + c.args.count) before.at (c.in_ok-line.ensures.line text (before.kept.present.text text has) (before.copied text has)) in
     let finds = finds-whole c.args.all c.args.finder.now c.args.new.now whole c.as_slice-read.result.now c.in_ok-found.found stands c.in_ok-found.ensures.finds in
     refused-by-long hits f text c.args.top (cut_out text c.args.top c.args.count)
     (some-at hits f text c.args.top c.args.count c.loop-i.i c.as_slice-read.result.now c.in_ok-found.found
@@ -39,7 +40,7 @@ returns-then-is_full-clause-refused g c = λ text whole has stands.
     let within : c.args.top + c.args.count ≤ length text = omega (arith, lines, c.requires.within) in
     let below : c.args.top + c.loop-i.i < length text = omega (arith, within, c.loop-i-test.true) in
     let short = (law.has_within c.args.view.now text c.requires.valid has).short_lines in
-    let line = c.as_slice-read.ensures.value ∙ read.line text (before.kept.present.text text has) in
+    let line = c.as_slice-read.ensures.value ∙ line-at c.loop-i.reader text c.line.new.into.items (c.args.top + c.loop-i.i) (c.args.top + c.args.count) before.at (read.line text (before.kept.present.text text has) (before.copied text has)) in
     let finds = finds-whole c.args.all c.args.finder.now c.args.new.now whole c.as_slice-read.result.now c.in_ok-found.found stands c.in_ok-found.ensures.finds in
     let added = c.in_ok-add.ensures.adds hits f (cut_out text c.args.top c.loop-i.i) (before.lines text whole has stands) finds in
     let so_far = lines-more hits f text c.args.top c.loop-i.i c.as_slice-read.result.now c.add.new.self.before c.add.new.self.lines.items c.add.new.self.kept below line added in
@@ -66,16 +67,18 @@ loop-i-preserved g c =
       lines = λ text whole has stands.
           let f = replaced c.args.all c.args.finder.now whole in
           let below : c.args.top + c.loop-i.i < length text = omega (arith, law.has_lines c.args.view.now text has, c.requires.within, c.loop-i-test.true) in
-          let line = c.as_slice-read.ensures.value ∙ read.line text (before.kept.present.text text has) in
+          let line = c.as_slice-read.ensures.value ∙ line-at c.loop-i.reader text c.line.new.into.items (c.args.top + c.loop-i.i) (c.args.top + c.args.count) before.at (read.line text (before.kept.present.text text has) (before.copied text has)) in
           let finds = finds-whole c.args.all c.args.finder.now c.args.new.now whole c.as_slice-read.result.now c.in_ok-found.found stands c.in_ok-found.ensures.finds in
           let added = add.adds hits f (cut_out text c.args.top c.loop-i.i) (before.lines text whole has stands) finds in
           lines-more hits f text c.args.top c.loop-i.i c.as_slice-read.result.now c.add.new.self.before c.add.new.self.lines.items c.add.new.self.kept below line added;
       none = λ text whole has stands.
           let f = replaced c.args.all c.args.finder.now whole in
           let below : c.args.top + c.loop-i.i < length text = omega (arith, law.has_lines c.args.view.now text has, c.requires.within, c.loop-i-test.true) in
-          let line = c.as_slice-read.ensures.value ∙ read.line text (before.kept.present.text text has) in
+          let line = c.as_slice-read.ensures.value ∙ line-at c.loop-i.reader text c.line.new.into.items (c.args.top + c.loop-i.i) (c.args.top + c.args.count) before.at (read.line text (before.kept.present.text text has) (before.copied text has)) in
           let finds = finds-whole c.args.all c.args.finder.now c.args.new.now whole c.as_slice-read.result.now c.in_ok-found.found stands c.in_ok-found.ensures.finds in
           none-more hits f text c.args.top c.loop-i.i c.as_slice-read.result.now c.in_ok-found.found below line finds (sym c.is_too_long.ensures ∙ c.if-is_too_long.false) (before.none text whole has stands);
+      at = next-at c.loop-i.reader c.line.new.self (c.args.top + c.loop-i.i) (c.args.top + c.args.count) (c.args.top + (c.loop-i.i + 1)) before.at read.at (omega arith);
+      copied = λ text has. read.copied text (before.kept.present.text text has) (before.copied text has);
       kept = OnlyReads-trans law.stays_on before.kept read.kept;
       faults = omega (arith, before.faults, read.cause.later);
     }

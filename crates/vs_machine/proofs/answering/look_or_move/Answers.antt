@@ -5,7 +5,8 @@ use Rattle.vs_exparse.specs.declared.command.ExErr.TheVariants.{E492}
 use Rattle.vs_excmd.specs.Place.{shown}
 use Rattle.vs_machine.specs.Answers.{IsIn}
 use Rattle.vs_machine.specs.Machine.{State, meaning_in, moving, printing}
-use Rattle.vs_machine.specs.Machine.Meaning.{Refused}
+use Rattle.vs_machine.specs.Machine.Meaning.{Printed, Refused}
+use Rattle.vs_machine.specs.Listing.{listing}
 use Rattle.vs_machine.specs.Moves.{goal_of}
 use Rattle.vs_machine.specs.Shown.{shown_lines}
 use Rattle.vs_machine.specs.declared.answering.Answered.{Answered}
@@ -47,6 +48,11 @@ returns-in-Later-clause-answers g c =
 pub returns-in-Equals-clause-answers : goal.returns-in-Equals-clause-answers
 returns-in-Equals-clause-answers g c = λ state at lines is.
     as_meant (c.print_number.ensures state at c.args.history.now is) (ap (λ (command : borrowed.Command). meaning_in state (command_of command) lines) (sym c.in-Equals.is))
+
+pub returns-in-UndoList-clause-answers : goal.returns-in-UndoList-clause-answers
+returns-in-UndoList-clause-answers g c =
+    to_move g.S.LineStore _ _ _ _ c.args.cursor c.list.result (λ (state : State). Printed (listing state.history.links.nodes) state.cursor) (command_of c.args.command.now)
+    (λ state lines. ap (λ (command : borrowed.Command). meaning_in state (command_of command) lines) (sym c.in-UndoList.is)) c.list.ensures.answers
 
 pub returns-in-Append : goal.returns-in-Append
 returns-in-Append g c =

@@ -1,6 +1,6 @@
 use Rattle.std.proofs.Common.{◌≡◌, length}
 use Rattle.vs_host.specs.Trace.{Measured}
-use Rattle.vs_recover.proofs.ReadingLaws.{measured, none_call, reads_call}
+use Rattle.vs_recover.proofs.ReadingLaws.{measured, none_call, one_call, reads_call}
 use Rattle.vs_recover.proofs.calls.file_len.Goals as goal
 
 pub returns-in_err-len-clause-reads : goal.returns-in_err-len-clause-reads
@@ -14,3 +14,9 @@ returns-clause-none g c = none_call g.F.World.tells Measured _ c.len.result _ _ 
 
 pub returns-clause-value : goal.returns-clause-value
 returns-clause-value g c = measured g.F.World.tells (g.F.World.scene c.args.host.now) c.args.name.now (λ file. c.in_ok-len.len ≡ length file) c.requires.there c.in_ok-len.ensures.value
+
+pub returns-in_err-len-clause-calls : goal.returns-in_err-len-clause-calls
+returns-in_err-len-clause-calls g c = one_call g.F.World.tells Measured _ c.len.result _ _ c.len.ensures.told
+
+pub returns-clause-calls : goal.returns-clause-calls
+returns-clause-calls g c = one_call g.F.World.tells Measured _ c.len.result _ _ c.len.ensures.told

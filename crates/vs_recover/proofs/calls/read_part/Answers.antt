@@ -1,7 +1,7 @@
 use Rattle.std.proofs.Common.{◌≡◌, length, take, drop}
 use Rattle.vs_host.specs.Trace.{Read}
 use Rattle.vs_recover.proofs.PageLaws.{if_some}
-use Rattle.vs_recover.proofs.ReadingLaws.{none_call, reads_call}
+use Rattle.vs_recover.proofs.ReadingLaws.{none_call, one_call, reads_call}
 use Rattle.vs_recover.proofs.calls.read_part.Goals as goal
 
 pub returns-in_err-read_at-clause-reads : goal.returns-in_err-read_at-clause-reads
@@ -15,3 +15,9 @@ returns-clause-none g c = none_call g.F.World.tells Read _ c.read_at.result _ _ 
 
 pub returns-clause-value : goal.returns-clause-value
 returns-clause-value g c = λ file is. if_some _ file (λ bytes. c.read_at.new.into ≡ take (length c.args.into.now) (drop c.args.at bytes)) is.there (c.in_ok-read_at.ensures.value is.told)
+
+pub returns-in_err-read_at-clause-calls : goal.returns-in_err-read_at-clause-calls
+returns-in_err-read_at-clause-calls g c = one_call g.F.World.tells Read _ c.read_at.result _ _ c.read_at.ensures.told
+
+pub returns-clause-calls : goal.returns-clause-calls
+returns-clause-calls g c = one_call g.F.World.tells Read _ c.read_at.result _ _ c.read_at.ensures.told

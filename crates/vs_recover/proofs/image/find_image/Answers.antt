@@ -1,8 +1,8 @@
-use Rattle.std.proofs.Common.{◌≡◌, length, sym, subst, ◌∙◌}
+use Rattle.std.proofs.Common.{◌≡◌, arith, length, sym, subst, ◌∙◌}
 use Rattle.vs_recover.specs.Images.{IsImage}
 use Rattle.vs_recover.proofs.ChoiceLaws.{image_refused}
 use Rattle.vs_recover.proofs.PageLaws.{file_stays, file_was}
-use Rattle.vs_recover.proofs.ReadingLaws.{none_then, reads_on, there_stays}
+use Rattle.vs_recover.proofs.ReadingLaws.{file_has, none_then, reads_on, there_stays}
 use Rattle.vs_recover.proofs.image.find_image.Goals as goal
 
 pub read_open-requires : goal.read_open-requires
@@ -26,3 +26,25 @@ returns-in_ok-image-in-Ok-clause-reads g c = reads_on c.in_ok-opening.ensures.no
 
 pub returns-in_ok-image-in-Ok-clause-none : goal.returns-in_ok-image-in-Ok-clause-none
 returns-in_ok-image-in-Ok-clause-none g c = none_then c.in_ok-opening.ensures.none c.in_ok-image-in-Ok.ensures.none
+
+pub returns-in-Err-clause-calls : goal.returns-in-Err-clause-calls
+returns-in-Err-clause-calls g c = λ file is told. omega (arith, c.read_opening.ensures.calls told)
+
+pub returns-in_err-opening-clause-calls : goal.returns-in_err-opening-clause-calls
+returns-in_err-opening-clause-calls g c = λ file is told. omega (arith, c.read_opening.ensures.calls told)
+
+pub returns-in_err-image-in-Ok-clause-calls : goal.returns-in_err-image-in-Ok-clause-calls
+returns-in_err-image-in-Ok-clause-calls g c = λ file is told. omega (
+  arith,
+  c.read_opening.ensures.calls told,
+  c.read_open.ensures.calls told,
+  file_has _ _ _ file _ c.in_ok-opening.ensures.len is,
+)
+
+pub returns-in_ok-image-in-Ok-clause-calls : goal.returns-in_ok-image-in-Ok-clause-calls
+returns-in_ok-image-in-Ok-clause-calls g c = λ file is told. omega (
+  arith,
+  c.read_opening.ensures.calls told,
+  c.read_open.ensures.calls told,
+  file_has _ _ _ file _ c.in_ok-opening.ensures.len is,
+)

@@ -1,18 +1,18 @@
-use Rattle.std.proofs.Common.{◌≡◌, ◌≤◌, ℕ, ◌+◌, List, length}
-use Rattle.vs_recover.specs.Reading.{NoneFails, Reads}
+use Rattle.std.proofs.Common.{◌≤◌, ℕ, List}
+use Rattle.vs_recover.specs.Reading.{CallsAtMost, NoneFails, Reads}
 use Rattle.vs_swap.specs.Files.{pages_in, swap_format}
 use Rattle.vs_recover.specs.Files.{IsFile}
-use Rattle.vs_recover.specs.Levels.{taken, points_at}
-use Rattle.vs_recover.specs.Marks.{used_in, free_in}
+use Rattle.vs_recover.specs.Levels.{points_at}
+use Rattle.vs_recover.specs.Walks.{IsMarked}
 use Rattle.vs_recover.proofs.ChainLaws.{So}
 use Rattle.vs_recover.proofs.levels.open_level.Given as goal
 
 abbrev pub invariant-loop-entry : goal.invariant-loop-entry
 invariant-loop-entry g l = record {
-  so : (file : List ℕ) → IsFile g.F.World.tells (g.F.World.scene l.fn.host) l.name file → So (λ e. points_at swap_format (pages_in file) e) l.level l.entry-index l.next.items;
-  used : (k : ℕ) → used_in l.marks k ≡ used_in l.fn.marks k + taken l.next.items k;
-  free : free_in l.marks + length l.next.items ≤ free_in l.fn.marks;
+  so : (file : List ℕ) → IsFile g.F.World.tells (g.F.World.scene l.fn.host) l.name file → So (λ e. points_at swap_format (pages_in file) e) l.fn.points.items l.others l.entry-index l.next.items;
+  marked : IsMarked l.fn.marks l.marks l.next.items;
   later : (g.F.World.scene l.fn.host).folder_faults ≤ (g.F.World.scene l.host).folder_faults;
   reads : Reads g.F.World.tells (g.F.World.scene l.fn.host) (g.F.World.scene l.host);
   none : NoneFails g.F.World.tells (g.F.World.scene l.fn.host) (g.F.World.scene l.host);
+  calls : CallsAtMost g.F.World.tells (g.F.World.scene l.fn.host) (g.F.World.scene l.host) l.entry-index;
 }

@@ -6,7 +6,7 @@ use Rattle.vs_edit.proofs.Steps.{Continues-trans}
 use Rattle.vs_edit.proofs.UndoingLemmas.{reverse_pushed}
 use Rattle.vs_entries.specs.Entries.{Leads, LeadsCount, applied}
 use Rattle.vs_undo.specs.Edges.{IsLed}
-use Rattle.vs_undo.proofs.EdgeLemmas.{led_step, leads_back_counted}
+use Rattle.vs_undo.proofs.EdgeLemmas.{back_step, led_step, leads_back_counted}
 use Rattle.vs_undo.proofs.cross.apply_all.Goals as goal
 
 pub apply-requires-clause-allowed : goal.apply-requires-clause-allowed
@@ -50,7 +50,7 @@ loop-entry-preserved g c =
           let turned = leads_back_counted entry c.in-Ok.other now.0 step.0 _ _
           (g.met.S.LineStore.has_lines c.loop-entry.store now.0 now.1.0) (g.met.S.LineStore.has_lines c.apply.new.store step.0 has_next)
           c.in-Ok.ensures.back_counts (c.in-Ok.ensures.back now.0 now.1.0) step.1.0 in
-          (step.0, (has_next, step.1.1, rw back (now.0, (turned, now.1.2))));
+          (step.0, (has_next, step.1.1, rw back (now.0, (turned, now.1.2)), back_step entries i entry c.in-Ok.other text now.0 step.0 _ _ c.loop-entry-test.true c.entry-item.is step.1.0.is (c.in-Ok.ensures.back now.0 now.1.0) back now.1.3));
       count = omega (arith, ap length c.in_ok-push-in-Ok.ensures.items, length-append c.loop-entry.back.items (c.in-Ok.other ∷ []), c.loop-entry.invariant.count);
       valid = c.in-Ok.ensures.valid;
       kept = Continues-trans g.met.S.LineStore.stays_on c.loop-entry.invariant.kept c.in-Ok.ensures.kept;

@@ -7,9 +7,10 @@ use Rattle.vs_entries.specs.Entries.{Leads, LeadsCount}
 use Rattle.vs_undo.specs.declared.parts.Node.{Node}
 use Rattle.vs_undo.specs.Ways.{node_at, parent_at}
 use Rattle.vs_undo.specs.Edges.{IsLed}
+use Rattle.vs_undo.specs.Turns.{all_led_back, AreLedBack}
 use Rattle.vs_undo.specs.Walks.{IsWalk, AreTurned}
 use Rattle.vs_undo.proofs.NodeLemmas.{no_place, found_at}
-use Rattle.vs_undo.proofs.WalkLemmas.{walk_step, walk_known, turned_more}
+use Rattle.vs_undo.proofs.WalkLemmas.{each_more, led_back_at, walk_step, walk_known, turned_more}
 use Rattle.vs_undo.proofs.cross.cross.Goals as goal
 
 -- each list has an entry, where one more is added that has one
@@ -99,6 +100,9 @@ loop-number-preserved g c =
               done.0,
               subst (λ ts. AreTurned Leads nodes cr.back cr.states path ts (i + 1)) (sym pushed)
                   (turned_more Leads nodes cr.back cr.states path turned i number c.in_ok-back.back.items c.loop-number-test.true is c.loop-number.invariant.count inv.1.2 turns),
+              subst (λ ts. (j : ℕ) → j < i + 1 → AreLedBack nodes cr.back cr.states (get_or path j 0) (get_or ts j [])) (sym pushed)
+                  (each_more (AreLedBack nodes cr.back cr.states) path turned i number c.in_ok-back.back.items c.loop-number-test.true is c.loop-number.invariant.count inv.1.3
+                  (led_back_at nodes cr.back cr.states number inv.0 node c.in_ok-back.back.items here step.begins (c.in_ok-back.ensures.back (cr.states inv.0) inv.1.1 ∙ ap (λ es. all_led_back es (cr.states inv.0)) entries))),
             ),
           );
       count = search rules;
@@ -128,6 +132,9 @@ returns-clause-texts g c = λ text has cr.
     let all : c.loop-number.number-index ≡ length path = omega arith in
     let at : inv.0 ≡ cr.to = subst (λ p. IsWalk (λ k. parent_at c.args.nodes.now k) cr.back inv.0 p cr.to) none inv.1.0 in
     (subst (λ k. (g.S.LineStore.shows c.loop-number.store).present.Is (cr.states k)) at inv.1.1, subst (λ n. AreTurned Leads c.args.nodes.now cr.back cr.states path c.loop-number.turned.items n) all inv.1.2)
+
+pub returns-clause-back : goal.returns-clause-back
+returns-clause-back g c = λ text has cr i within. (c.loop-number.invariant.texts text has cr).1.3 i (omega arith)
 
 pub returns-clause-some : goal.returns-clause-some
 returns-clause-some g c = λ i within. c.loop-number.invariant.some i (omega arith)

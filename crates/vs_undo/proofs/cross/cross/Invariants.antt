@@ -2,6 +2,7 @@ use Rattle.std.proofs.Common.{◌≡◌, ◌<◌, ◌≤◌, ℕ, List, [], leng
 use Rattle.vs_edit.specs.Calls.{CanGoBack}
 use Rattle.vs_entries.specs.Entries.{Leads, LeadsCount}
 use Rattle.vs_undo.specs.Ways.{parent_at}
+use Rattle.vs_undo.specs.Turns.{AreLedBack}
 use Rattle.vs_undo.specs.Walks.{Crosses, IsWalk, AreTurned}
 use Rattle.vs_undo.proofs.cross.cross.Given as goal
 
@@ -14,7 +15,8 @@ invariant-loop-number g l = let old = l.initial.store in record {
   texts : (text : List (List ℕ)) → (g.S.LineStore.shows old).present.Is text → (c : Crosses Leads l.nodes l.path text)
       → (at : ℕ) × (IsWalk (λ k. parent_at l.nodes k) c.back at (drop l.number-index l.path) c.to
       × (g.S.LineStore.shows l.store).present.Is (c.states at)
-      × AreTurned Leads l.nodes c.back c.states l.path l.turned.items l.number-index);
+      × AreTurned Leads l.nodes c.back c.states l.path l.turned.items l.number-index
+      × ((j : ℕ) → j < l.number-index → AreLedBack l.nodes c.back c.states (get_or l.path j 0) (get_or l.turned.items j [])));
   count : length l.turned.items ≡ l.number-index;
   some : (i : ℕ) → i < l.number-index → 0 < length (get_or l.turned.items i []);
   valid : g.S.LineStore.valid l.store;

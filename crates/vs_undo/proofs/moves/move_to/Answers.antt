@@ -7,8 +7,9 @@ use Rattle.vs_undo.specs.declared.parts.Parts.{Parts}
 use Rattle.vs_undo.specs.Ways.{node_at, IsWayOf, IsBetween}
 use Rattle.vs_undo.specs.Sound.{IsSound}
 use Rattle.vs_undo.specs.Edges.{AreStates}
+use Rattle.vs_undo.specs.Turns.{exchanged}
 use Rattle.vs_undo.specs.History.{arrived, links_of, moved, FitsCount, FitsText}
-use Rattle.vs_undo.proofs.MoveLemmas.{crosses_path, crossed, links_of-arrived}
+use Rattle.vs_undo.proofs.MoveLemmas.{crosses_path, crossed, exchanged_after, links_of-arrived, same_way}
 use Rattle.vs_undo.proofs.SoundLemmas.{arrived_sound}
 use Rattle.vs_undo.proofs.moves.move_to.Goals as goal
 use Rattle.vs_undo.proofs.moves.move_to.Goals.{After-drop-from-in-Ok}
@@ -88,6 +89,15 @@ returns-in-Ok-clause-moved g c =
       history = λ text history has is.
           let done = told g c history.texts is.are_states text has is.current in
           (done.1, record { links = links ∙ ap (moved to) is.links; are_states = done.0; current = ap history.texts (current g c) });
+      entries = λ text history has is way_from is_from k was now was_at now_at.
+          let from = c.in_ok-from.from.items in
+          let path = c.in_ok-path.path.items in
+          let a = subst (λ ns. IsWayOf ns parts.current from) c.nodes.ensures c.in_ok-from.ensures in
+          let between = subst (λ xs. IsBetween from xs path) c.deref-2.ensures.value (subst (λ xs. IsBetween xs c.deref-2.result.now path) c.deref.ensures.value c.in_ok-path.ensures) in
+          let there : node_at (arrived path c.in-Ok.turned.items to parts).nodes k ≡ Some now = ap (λ (p : Parts). node_at p.nodes k) (sym (after g c)) ∙ now_at in
+          subst (λ way. now.entries ≡ exchanged way to history.texts was) (same_way parts.nodes c.requires.sound.tree parts.current from way_from a is_from)
+          (exchanged_after history.texts parts c.args.number from to path c.in-Ok.turned.items c.nodes-3.result.now c.deref-3.result.now text c.requires.sound.tree a (way_to g c) between
+          c.nodes-3.ensures c.deref-3.ensures.value c.in-Ok.ensures.count is.are_states is.current (c.in-Ok.ensures.back text has) k was now was_at there);
     }
 
 pub returns-in-Ok-clause-sound : goal.returns-in-Ok-clause-sound

@@ -4,6 +4,7 @@ use Rattle.vs_script.specs.Ahead.{whole_lines}
 use Rattle.vs_script.specs.Script.{is_dot, whole_block}
 use Rattle.vs_script.proofs.Going.{on_same_err}
 use Rattle.vs_script.proofs.Commands.{stops_line, block_goes_on, block_ends, block_dotted}
+use Rattle.vs_script.proofs.ReadLemmas.{reads_then, reads_end}
 use Rattle.vs_script.proofs.reader.ScriptReader.block.Goals as goal
 
 pub lines-preserved : goal.lines-preserved
@@ -21,6 +22,7 @@ lines-preserved g c =
       counts = λ tells. grind (arith, common_steps, c.lines.invariant.counts tells, c.in_ok-next_line.ensures.counts tells);
       left = grind (arith, common_steps);
       faults = c.in_ok-next_line.ensures.quiet (λ is. absurd (cc)) ∙ c.lines.invariant.faults;
+      reads = λ told. reads_then (g.S.World.scene c.args.host.now) (g.S.World.scene c.lines.host) (g.S.World.scene c.next_line.new.host) c.lines.invariant.frame c.lines.invariant.faults (c.lines.invariant.reads told) (c.in_ok-next_line.ensures.reads told);
       frame = grind (arith, common_steps);
     }
 
@@ -46,3 +48,18 @@ returns-in_err-next_line-clause-stops g c =
     let was = c.lines.invariant.so_far tells in
     stops_line _ (λ bytes. whole_block command [] (whole_lines bytes)) (whole_block command was.lines) c.args.self.now c.lines.self c.next_line.new.self
     (g.S.World.scene c.args.host.now) (g.S.World.scene c.lines.host) (g.S.World.scene c.next_line.new.host) (was.going stop.open_before command) stop)
+
+pub returns-in_err-next_line-clause-last : goal.returns-in_err-next_line-clause-last
+returns-in_err-next_line-clause-last g c = λ told. reads_end (g.S.World.scene c.args.host.now) (g.S.World.scene c.lines.host) (g.S.World.scene c.next_line.new.host) c.lines.invariant.frame c.lines.invariant.faults (c.lines.invariant.reads told) (c.next_line.ensures.last told)
+
+pub returns-then-not-branch-clause-reads : goal.returns-then-not-branch-clause-reads
+returns-then-not-branch-clause-reads g c = λ told. reads_then (g.S.World.scene c.args.host.now) (g.S.World.scene c.lines.host) (g.S.World.scene c.next_line.new.host) c.lines.invariant.frame c.lines.invariant.faults (c.lines.invariant.reads told) (c.in_ok-next_line.ensures.reads told)
+
+pub returns-then-not-branch-clause-last : goal.returns-then-not-branch-clause-last
+returns-then-not-branch-clause-last g c = λ told. reads_end (g.S.World.scene c.args.host.now) (g.S.World.scene c.lines.host) (g.S.World.scene c.next_line.new.host) c.lines.invariant.frame c.lines.invariant.faults (c.lines.invariant.reads told) (c.next_line.ensures.last told)
+
+pub returns-then-ends_block-clause-reads : goal.returns-then-ends_block-clause-reads
+returns-then-ends_block-clause-reads g c = λ told. reads_then (g.S.World.scene c.args.host.now) (g.S.World.scene c.lines.host) (g.S.World.scene c.next_line.new.host) c.lines.invariant.frame c.lines.invariant.faults (c.lines.invariant.reads told) (c.in_ok-next_line.ensures.reads told)
+
+pub returns-then-ends_block-clause-last : goal.returns-then-ends_block-clause-last
+returns-then-ends_block-clause-last g c = λ told. reads_end (g.S.World.scene c.args.host.now) (g.S.World.scene c.lines.host) (g.S.World.scene c.next_line.new.host) c.lines.invariant.frame c.lines.invariant.faults (c.lines.invariant.reads told) (c.next_line.ensures.last told)

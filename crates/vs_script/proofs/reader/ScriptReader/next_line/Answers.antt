@@ -4,6 +4,7 @@ use Rattle.vs_text.specs.Text.{IsLine}
 use Rattle.vs_script.specs.Ahead.{Ahead, kept_of}
 use Rattle.vs_script.proofs.Going.{on_same_err}
 use Rattle.vs_script.proofs.Taking.{IsAtEnd, reads_line, reads_last, reads_none, line_stops, line_goes_on, line_is_kept, kept_is_shorter}
+use Rattle.vs_script.proofs.ReadLemmas.{reads_on, reads_then, reads_end}
 use Rattle.vs_script.proofs.reader.ScriptReader.next_line.Goals as goal
 
 pub returns-in-Some-clause-line : goal.returns-in-Some-clause-line
@@ -83,5 +84,24 @@ pieces-preserved g c =
       counts = λ tells. grind (arith, common_steps, c.pieces.invariant.counts tells, c.in_ok-refill.ensures.counts tells);
       left = grind (arith, common_steps, kept_is_shorter c.pieces.line c.pieces.self.bytes c.add-in-pieces.new.self kept);
       faults = c.in_ok-refill.ensures.quiet (λ is. absurd (cc)) ∙ c.pieces.invariant.faults;
+      reads = λ told. reads_then (g.S.World.scene c.args.host.now) (g.S.World.scene c.pieces.host) (g.S.World.scene c.refill.new.host) c.pieces.invariant.frame c.pieces.invariant.faults (c.pieces.invariant.reads told) (c.in_ok-refill.ensures.reads told);
       frame = grind (arith, common_steps);
     }
+
+pub returns-in-Some-clause-last : goal.returns-in-Some-clause-last
+returns-in-Some-clause-last g c = λ told. reads_on (g.S.World.scene c.args.host.now) (g.S.World.scene c.pieces.host) (c.pieces.invariant.reads told)
+
+pub returns-in_err-refill-clause-last : goal.returns-in_err-refill-clause-last
+returns-in_err-refill-clause-last g c = λ told. reads_end (g.S.World.scene c.args.host.now) (g.S.World.scene c.pieces.host) (g.S.World.scene c.refill.new.host) c.pieces.invariant.frame c.pieces.invariant.faults (c.pieces.invariant.reads told) (c.refill.ensures.last told)
+
+pub returns-then-is_empty-clause-reads : goal.returns-then-is_empty-clause-reads
+returns-then-is_empty-clause-reads g c = λ told. reads_then (g.S.World.scene c.args.host.now) (g.S.World.scene c.pieces.host) (g.S.World.scene c.refill.new.host) c.pieces.invariant.frame c.pieces.invariant.faults (c.pieces.invariant.reads told) (c.in_ok-refill.ensures.reads told)
+
+pub returns-then-is_empty-clause-last : goal.returns-then-is_empty-clause-last
+returns-then-is_empty-clause-last g c = λ told. reads_end (g.S.World.scene c.args.host.now) (g.S.World.scene c.pieces.host) (g.S.World.scene c.refill.new.host) c.pieces.invariant.frame c.pieces.invariant.faults (c.pieces.invariant.reads told) (c.refill.ensures.last told)
+
+pub returns-then-not-branch-clause-reads : goal.returns-then-not-branch-clause-reads
+returns-then-not-branch-clause-reads g c = λ told. reads_then (g.S.World.scene c.args.host.now) (g.S.World.scene c.pieces.host) (g.S.World.scene c.refill.new.host) c.pieces.invariant.frame c.pieces.invariant.faults (c.pieces.invariant.reads told) (c.in_ok-refill.ensures.reads told)
+
+pub returns-then-not-branch-clause-last : goal.returns-then-not-branch-clause-last
+returns-then-not-branch-clause-last g c = λ told. reads_end (g.S.World.scene c.args.host.now) (g.S.World.scene c.pieces.host) (g.S.World.scene c.refill.new.host) c.pieces.invariant.frame c.pieces.invariant.faults (c.pieces.invariant.reads told) (c.refill.ensures.last told)

@@ -1,6 +1,7 @@
 use Rattle.std.proofs.Common.{◌≡◌, ◌≤◌, IsTrue, ◌+◌, ◌-◌, length}
 use Rattle.vs_host.specs.World.{ChangesScript}
 use Rattle.vs_text.specs.Text.{IsLine}
+use Rattle.vs_script.specs.Reads.{ReadsAll}
 use Rattle.vs_script.specs.Ahead.{CountsTaken, HasSeen, bytes_left, script_limit}
 use Rattle.vs_script.proofs.Taking.{InLine}
 use Rattle.vs_script.proofs.reader.ScriptReader.next_line.Given as goal
@@ -13,6 +14,7 @@ invariant-pieces g l = record {
   counts : IsTrue (g.S.World.tells).script → CountsTaken l.initial.self l.self (g.S.World.scene l.initial.host) (g.S.World.scene l.host);
   left : length l.line + bytes_left l.self ≤ bytes_left l.initial.self;
   faults : (g.S.World.scene l.host).script_faults ≡ (g.S.World.scene l.initial.host).script_faults;
+  reads : IsTrue (g.S.World.tells).folder → ReadsAll (g.S.World.scene l.initial.host) (g.S.World.scene l.host);
   frame : ChangesScript (g.S.World.scene l.initial.host) (g.S.World.scene l.host);
 }
 

@@ -3,6 +3,7 @@ use Rattle.vs_exparse.specs.Command.{command_of, result_of}
 use Rattle.vs_script.specs.Script.{Alone, Head, kind_of}
 use Rattle.vs_script.proofs.Going.{on_same_err}
 use Rattle.vs_script.proofs.Commands.{alone_request, head_request, head_stops}
+use Rattle.vs_script.proofs.ReadLemmas.{reads_then, reads_end}
 use Rattle.vs_script.proofs.reader.ScriptReader.next_request.Goals as goal
 
 pub returns-in-Alone-clause-request : goal.returns-in-Alone-clause-request
@@ -29,3 +30,12 @@ returns-in_ok-block-in-Head-clause-request g c = λ tells.
     head_request _ kept (command_of c.in-Head.command) c.in_ok-block-in-Head.block c.args.self.now c.next_command.new.self c.block.new.self
     (g.S.World.scene c.args.host.now) (g.S.World.scene c.next_command.new.host) (g.S.World.scene c.block.new.host)
     (rw c.in-Head.is at (c.in_ok-next_command.ensures.line tells)) kind taken (record { parsed = refl; block = taken.stands })
+
+pub returns-in_err-block-in-Head-clause-last : goal.returns-in_err-block-in-Head-clause-last
+returns-in_err-block-in-Head-clause-last g c = λ told. reads_end (g.S.World.scene c.args.host.now) (g.S.World.scene c.next_command.new.host) (g.S.World.scene c.block.new.host) c.next_command.ensures.frame (c.in_ok-next_command.ensures.quiet (λ is. absurd (cc))) (c.in_ok-next_command.ensures.reads told) (c.block.ensures.last told)
+
+pub returns-in_ok-block-in-Head-clause-last : goal.returns-in_ok-block-in-Head-clause-last
+returns-in_ok-block-in-Head-clause-last g c = λ told. reads_end (g.S.World.scene c.args.host.now) (g.S.World.scene c.next_command.new.host) (g.S.World.scene c.block.new.host) c.next_command.ensures.frame (c.in_ok-next_command.ensures.quiet (λ is. absurd (cc))) (c.in_ok-next_command.ensures.reads told) (c.block.ensures.last told)
+
+pub returns-in_ok-block-in-Head-clause-reads : goal.returns-in_ok-block-in-Head-clause-reads
+returns-in_ok-block-in-Head-clause-reads g c = λ told. reads_then (g.S.World.scene c.args.host.now) (g.S.World.scene c.next_command.new.host) (g.S.World.scene c.block.new.host) c.next_command.ensures.frame (c.in_ok-next_command.ensures.quiet (λ is. absurd (cc))) (c.in_ok-next_command.ensures.reads told) (c.in_ok-block-in-Head.ensures.reads told)

@@ -1,24 +1,83 @@
-use Rattle.std.proofs.Common.{arith}
-use Rattle.std.proofs.lemmas.Grind.{common_steps}
-use Rattle.vs_session.proofs.OpenLemmas.{handed_back}
+use Rattle.std.proofs.Common.{◌≤◌, ◌∙◌, ℕ, List, min, length, refl, sym, ap, subst, arith}
+use Rattle.vs_host.specs.Disk.{Disk}
+use Rattle.vs_host.specs.Names.{names_of_file}
+use Rattle.vs_host.specs.World.{Scene}
+use Rattle.vs_pair.specs.Acts.{Acts}
+use Rattle.vs_pair.specs.Steps.{IsFresh}
+use Rattle.vs_safety.specs.Texts.{Text}
+use Rattle.vs_safety.specs.Turns as turns
+use Rattle.vs_paged.specs.Fits as folder
+use Rattle.vs_session.proofs.OpenLemmas.{handed_back, never_over, allowed_short}
+use Rattle.vs_session.proofs.LookLemmas.{looks_none, is_fresh, opens_looks, opens_then}
 use Rattle.vs_session.proofs.session.Session.open.Goals as goal
 
-pub returns-in_err-found-clause-limit : goal.returns-in_err-found-clause-limit
-returns-in_err-found-clause-limit g c = λ n is. c.in_err-found.ensures.limit n (handed_back _ _ _ c.from_residual-in_err-found.ensures.1 is)
+pub returns-in_err-kept-clause-acts : goal.returns-in_err-kept-clause-acts
+returns-in_err-kept-clause-acts g c =
+    let old = g.H.World.scene c.args.host.now in opens_looks g.H.World.tells c.args.name.now old old c.requires.settled (looks_none g.H.World.tells old)
 
-pub invariant_of-result : goal.invariant_of-result
-invariant_of-result g c = (
-  grind (arith, common_steps),
-  record { counts = c.in_ok-history.ensures.counts _; texts = c.in_ok-history.ensures.texts _ },
-)
+pub returns-in_err-kept-clause-looks : goal.returns-in_err-kept-clause-looks
+returns-in_err-kept-clause-looks g c = λ err other. looks_none g.H.World.tells (g.H.World.scene c.args.host.now)
 
-pub returns-clause-opened : goal.returns-clause-opened
-returns-clause-opened g c = λ told. record {
-  name = grind (arith, common_steps);
-  found = c.in_ok-found.ensures.found told;
-  state = record {
-    text = c.in_ok-found.ensures.text told;
-    history = c.in_ok-history.ensures.history _;
-    cursor = grind (arith, common_steps, c.in_ok-found.ensures.text told);
-  };
+pub returns-in_err-history-clause-acts : goal.returns-in_err-history-clause-acts
+returns-in_err-history-clause-acts g c =
+    let old = g.H.World.scene c.args.host.now in opens_looks g.H.World.tells c.args.name.now old old c.requires.settled (looks_none g.H.World.tells old)
+
+pub returns-in_err-history-clause-looks : goal.returns-in_err-history-clause-looks
+returns-in_err-history-clause-looks g c = λ err other. looks_none g.H.World.tells (g.H.World.scene c.args.host.now)
+
+pub returns-in_err-opening-clause-acts : goal.returns-in_err-opening-clause-acts
+returns-in_err-opening-clause-acts g c =
+    opens_looks g.H.World.tells c.args.name.now (g.H.World.scene c.args.host.now) (g.H.World.scene c.read_text.new.host) c.requires.settled c.in_err-opening.ensures.looks
+
+pub returns-in_err-opening-clause-limit : goal.returns-in_err-opening-clause-limit
+returns-in_err-opening-clause-limit g c = λ size of. c.in_err-opening.ensures.limit size (handed_back _ _ _ c.from_residual-in_err-opening.ensures.1 of)
+
+pub start-requires : goal.start-requires
+start-requires g c = record {
+  fresh = λ told.
+      let old = g.H.World.scene c.args.host.now in
+      let mid = g.H.World.scene c.read_text.new.host in
+      let free = is_fresh (names_of_file c.args.name.now) old.folder (c.requires.settled told) (c.in_ok-opening.ensures.free told) in
+      let same = subst (λ (d : Disk). IsFresh (names_of_file c.args.name.now) d) (sym (ap (λ (s : Scene). s.folder) c.in_ok-opening.ensures.frame)) free in
+      subst (λ (n : List ℕ). IsFresh (names_of_file n) mid.folder) (sym c.in_ok-opening.ensures.name) same;
 }
+
+pub returns-in_err-text-clause-acts : goal.returns-in_err-text-clause-acts
+returns-in_err-text-clause-acts g c =
+    let mid = g.H.World.scene c.read_text.new.host in
+    let new = g.H.World.scene c.start.new.host in
+    opens_then g.H.World.tells c.args.name.now c.in_ok-opening.opening.text (g.H.World.scene c.args.host.now) mid new c.requires.settled c.in_ok-opening.ensures.text c.in_ok-opening.ensures.none c.in_ok-opening.ensures.looks
+    (subst (λ (n : List ℕ). Acts g.H.World.tells (folder.Starting (names_of_file n) c.in_ok-opening.opening.text) mid new) c.in_ok-opening.ensures.name c.in_err-text.ensures.acts)
+
+pub returns-clause-acts : goal.returns-clause-acts
+returns-clause-acts g c =
+    let mid = g.H.World.scene c.read_text.new.host in
+    let new = g.H.World.scene c.start.new.host in
+    opens_then g.H.World.tells c.args.name.now c.in_ok-opening.opening.text (g.H.World.scene c.args.host.now) mid new c.requires.settled c.in_ok-opening.ensures.text c.in_ok-opening.ensures.none c.in_ok-opening.ensures.looks
+    (subst (λ (n : List ℕ). Acts g.H.World.tells (folder.Starting (names_of_file n) c.in_ok-opening.opening.text) mid new) c.in_ok-opening.ensures.name c.in_ok-text.ensures.acts)
+
+pub returns-clause-undo : goal.returns-clause-undo
+returns-clause-undo g c = c.in_ok-history.ensures.counts _
+
+pub returns-clause-fits : goal.returns-clause-fits
+returns-clause-fits g c = λ told.
+    let new = g.H.World.scene c.start.new.host in
+    let is = c.in_ok-opening.ensures.text told in
+    record {
+      stands = record {
+        text = subst (λ (t : Text). folder.Fits c.in_ok-text.text new.folder t (turns.opened t)) is (c.in_ok-text.ensures.fits told);
+        history = c.in_ok-history.ensures.history _;
+      };
+      cursor = c.min-cursor.ensures ∙ ap (λ (n : ℕ). min n 1) (c.len.ensures ∙ c.in_ok-text.ensures.lines ∙ ap (λ (t : Text). length t) is) ∙ omega arith;
+      saved = refl;
+      steps = refl;
+    }
+
+pub returns-clause-over : goal.returns-clause-over
+returns-clause-over g c = λ told. never_over _ _ (c.in_ok-opening.ensures.fits told)
+
+pub invariant_of-result-clause-named : goal.invariant_of-result-clause-named
+invariant_of-result-clause-named g c = c.in_ok-text.ensures.names ∙ ap names_of_file (c.in_ok-opening.ensures.name ∙ sym c.in_ok-kept.ensures.ok)
+
+pub invariant_of-result-clause-short : goal.invariant_of-result-clause-short
+invariant_of-result-clause-short g c = subst (λ (n : List ℕ). length n ≤ 200) (sym c.in_ok-kept.ensures.ok) (allowed_short c.args.name.now c.requires.name)

@@ -10,8 +10,8 @@ returns-clause-goal g c =
     let parts = c.self.inside.parts in
     let way = c.in_ok-way.way.items in
     let is_way = subst (λ ns. IsWayOf ns parts.current way) c.nodes.ensures c.in_ok-way.ensures in
-    let move = subst (λ w. (c.in-Some.number ≡ later_write parts.nodes w c.args.by) × (later_save parts.nodes w c.args.by ≡ 0 → start w ≢ last_number parts.nodes)) c.deref.ensures.value
-    (subst (λ (ns : List Node). (c.in-Some.number ≡ later_write ns c.deref.result.now c.args.by) × (later_save ns c.deref.result.now c.args.by ≡ 0 → start c.deref.result.now ≢ last_number ns)) c.nodes-2.ensures (c.in-Some.ensures.goal, c.in-Some.ensures.moves)) in
+    let move = subst (λ w. (c.in-Some.number ≡ later_write parts.nodes w c.args.by) × (later_save parts.nodes w c.args.by ≡ 0 → start w ≢ last_number parts.nodes)) c.deref-2.ensures.value
+    (subst (λ (ns : List Node). (c.in-Some.number ≡ later_write ns c.deref-2.result.now c.args.by) × (later_save ns c.deref-2.result.now c.args.by ≡ 0 → start c.deref-2.result.now ≢ last_number ns)) c.nodes-3.ensures (c.in-Some.ensures.goal, c.in-Some.ensures.moves)) in
     subst (λ (p : Parts). IsLaterWrite p c.args.by c.in-Some.number) c.self.view_is (record { way = way; is_way = is_way; is = move.0; moves = λ none at. move.1 none (is_way.starts ∙ at) })
 
 pub returns-in_default-clause-err : goal.returns-in_default-clause-err
@@ -19,6 +19,6 @@ returns-in_default-clause-err g c =
     let parts = c.self.inside.parts in
     let way = c.in_ok-way.way.items in
     let is_way = subst (λ ns. IsWayOf ns parts.current way) c.nodes.ensures c.in_ok-way.ensures in
-    let none = subst (λ w. (later_save parts.nodes w c.args.by ≡ 0) × (start w ≡ last_number parts.nodes)) c.deref.ensures.value
-    (subst (λ (ns : List Node). (later_save ns c.deref.result.now c.args.by ≡ 0) × (start c.deref.result.now ≡ last_number ns)) c.nodes-2.ensures c.in_default.ensures.goal) in
+    let none = subst (λ w. (later_save parts.nodes w c.args.by ≡ 0) × (start w ≡ last_number parts.nodes)) c.deref-2.ensures.value
+    (subst (λ (ns : List Node). (later_save ns c.deref-2.result.now c.args.by ≡ 0) × (start c.deref-2.result.now ≡ last_number ns)) c.nodes-3.ensures c.in_default.ensures.goal) in
     inl (refl, subst (λ (p : Parts). IsAtNewestWrite p c.args.by) c.self.view_is (record { way = way; is_way = is_way; fewer = none.0; newest = sym is_way.starts ∙ none.1 }))

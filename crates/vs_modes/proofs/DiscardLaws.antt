@@ -1,0 +1,43 @@
+-- `discard` at each of its ends.
+use Rattle.std.proofs.Common.{◌≡◌, ◌++◌, ℕ, Bool, List, Ok, Err, OnOk, OnErr, IfErr, IsErr, IsTrue, refl, sym, ap, subst, ◌∙◌}
+use Rattle.vs_faults.specs.Faults.{HasCause, HasRisen}
+use Rattle.vs_host.specs.Disk.{Disk}
+use Rattle.vs_host.specs.declared.names.Names.{Names}
+use Rattle.vs_host.specs.World.{Tells, Scene}
+use Rattle.vs_pair.specs.Acts.{Acts}
+use Rattle.vs_pair.specs.Acts.{NoneFails as FolderQuiet}
+use Rattle.vs_pair.specs.Steps.{IsFresh}
+use Rattle.vs_modes.specs.declared.error.ModeErr.{ModeErr}
+use Rattle.vs_modes.specs.declared.error.ModeErr.TheVariants as refusal
+use Rattle.vs_modes.specs.Discard.{Discards, RefusesDiscard, HasDiscarded, RunsDiscard, discard_line, is_any_there}
+use Rattle.vs_modes.specs.Modes.{Ended}
+use Rattle.vs_modes.specs.Output.{WritesPart, Outputs, NoneFails}
+use Rattle.vs_modes.proofs.Phases.{acts_proceed, mode_refused, mode_idle, mode_written}
+use Rattle.vs_modes.proofs.Removing.{discards_none}
+
+module _ (tells : Tells) (names : Names) where
+  pub discard_idle : (scene : Scene) → RunsDiscard tells names scene scene (Err refusal.NoMemory)
+  discard_idle scene = record {
+    runs = mode_idle (Discards names) (λ bytes. bytes ≡ discard_line (is_any_there names scene)) RefusesDiscard tells scene (discards_none names scene.folder) tt;
+    discarded = refl;
+  }
+
+  pub discard_failed : (old new : Scene) → Acts tells (Discards names) old new → HasRisen old.folder_faults new.folder_faults → RunsDiscard tells names old new (Err refusal.FolderFailed)
+  discard_failed old new acts risen = record {
+    runs = mode_refused (Discards names) (λ bytes. bytes ≡ discard_line (is_any_there names old)) RefusesDiscard tells old new refusal.FolderFailed (λ is. cc) (λ is. risen) acts.later acts.frame
+        (acts_proceed tells (Discards names) old new acts) (λ told. tt);
+    discarded = tt;
+  }
+
+  has_discarded : (old new : Scene) (result : Ended) → IfErr result (λ why. why ≡ refusal.OutputFailed) → (IsTrue tells.folder → IsFresh names new.folder) → HasDiscarded names tells result old new
+  has_discarded old new (Ok done) failed fresh = fresh
+  has_discarded old new (Err why) failed fresh = subst (λ (e : ModeErr). HasDiscarded names tells (Err e) old new) (sym failed) fresh
+
+  pub discard_written : (old mid new : Scene) (found : Bool) (bytes : List ℕ) (result : Ended) → (IsTrue tells.folder → found ≡ is_any_there names old) → bytes ≡ discard_line found → Acts tells (Discards names) old mid → FolderQuiet tells old mid
+      → (IsTrue tells.folder → IsFresh names mid.folder) → Outputs tells mid new → HasCause mid.out_faults new.out_faults (IsErr result) → OnOk result (NoneFails tells mid new) → IfErr result (λ why. why ≡ refusal.OutputFailed)
+      → OnOk result (IsTrue tells.output → new.output ≡ mid.output ++ bytes) → OnErr result (IsTrue tells.output → WritesPart bytes mid.output new.output) → RunsDiscard tells names old new result
+  discard_written old mid new found bytes result value is acts quiet fresh outputs cause none failed ok err = record {
+    runs = mode_written (Discards names) (λ bs. bs ≡ discard_line (is_any_there names old)) RefusesDiscard tells old mid new bytes result (λ told. is ∙ ap discard_line (value told)) acts.frame quiet.faults
+        quiet.quiet (acts_proceed tells (Discards names) old mid acts) outputs cause none failed ok err;
+    discarded = has_discarded old new result failed (λ told. subst (λ (d : Disk). IsFresh names d) (sym (ap (λ (s : Scene). s.folder) outputs.frame)) (fresh told));
+  }

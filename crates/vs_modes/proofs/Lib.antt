@@ -1,0 +1,5 @@
+pub mod OutputLaws
+pub mod Phases
+pub mod Removing
+pub mod RefusalLaws
+pub mod DiscardLaws

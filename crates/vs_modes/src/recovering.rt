@@ -1,0 +1,44 @@
+// `recover`: the text of the swap files, on the output.
+ghost use Rattle.std.specs.Prelude.{◌≡◌, ◌≢◌, ◌≤◌, IfOk, IfErr, OnOk, IsTrue, Err};
+ghost use Rattle.vs_faults.specs.Faults.{HasRisen};
+ghost use Rattle.vs_host.specs.Names.{is_allowed, names_of_file};
+ghost use Rattle.vs_host.specs.World.{content_of};
+ghost use Rattle.vs_recover.specs.Reading.{NoneFails, Reads};
+ghost use Rattle.vs_swap.specs.Recovery.{Recovered};
+ghost use Rattle.vs_modes.specs.Recover.{RefusesRecover, RunsRecover};
+
+use crate::ModeErr;
+use crate::piece::Piece;
+use crate::writing::write_lines;
+use std::alloc::Global;
+use vs_host::{Folder, Host, Names};
+use vs_recover::{Chosen, choose};
+use vs_text::Text;
+
+// The text that the two swap files give.
+fn read_text<F: Folder>(alloc: Global, host: &mut F, names: &Names) -> Result<Text, ModeErr>
+    ensures text { IfOk result (λ text. IsTrue F.tells.folder → Recovered (content_of (F.scene host.old) names.now.swp) (content_of (F.scene host.old) names.now.swo) text) }
+    ensures refused { IfErr result (λ why. IsTrue F.tells.folder → RefusesRecover (content_of (F.scene host.old) names.now.swp) (content_of (F.scene host.old) names.now.swo) why) }
+    ensures later { (F.scene host.old).folder_faults ≤ (F.scene host.new).folder_faults }
+    ensures failed { result ≡ Err ModeErr.FolderFailed → HasRisen (F.scene host.old).folder_faults (F.scene host.new).folder_faults }
+    ensures output { result ≢ Err ModeErr.OutputFailed }
+    ensures reads { Reads F.tells (F.scene host.old) (F.scene host.new) }
+    ensures none { OnOk result (NoneFails F.tells (F.scene host.old) (F.scene host.new)) }
+{
+    match choose(alloc, host, names)? {
+        Chosen::Text(text) => Ok(text),
+        Chosen::Salvage(_) => Err(ModeErr::NotSwap),
+    }
+}
+
+/// Writes the file form of the text that the swap files of a file stand for: docs/COMMANDS.md, "Recovering". Of two that stand
+/// it is that of the newer one.
+pub fn recover<H: Host>(alloc: Global, name: &str, host: &mut H) -> Result<(), ModeErr>
+    requires { IsTrue (is_allowed name.now) }
+    ensures { RunsRecover H.tells (names_of_file name.now) (H.scene host.old) (H.scene host.new) result }
+{
+    let names = Names::of(alloc, name)?;
+    let mut piece = Piece::new(alloc)?;
+    let text = read_text(alloc, host, &names)?;
+    write_lines(host, text.lines(), &mut piece)
+}

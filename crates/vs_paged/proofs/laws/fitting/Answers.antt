@@ -1,0 +1,8 @@
+use Rattle.vs_paged.proofs.SyncLemmas.{fits_between, fits_recovers}
+use Rattle.vs_paged.proofs.laws.fitting.Goals as goal
+
+pub returns-clause-between : goal.returns-clause-between
+returns-clause-between c = fits_between
+
+pub returns-clause-recovers : goal.returns-clause-recovers
+returns-clause-recovers c = fits_recovers

@@ -1,0 +1,31 @@
+use Rattle.std.proofs.Common.{false, refl, arith}
+use Rattle.vs_pair.specs.Pair.{sync_with}
+use Rattle.vs_pair.specs.Steps as steps
+use Rattle.vs_pair.proofs.Acts.{acts_as}
+use Rattle.vs_host.specs.Names.{names_of_file}
+use Rattle.vs_paged.specs.Fits.{Starting}
+use Rattle.vs_paged.proofs.PageLemmas.{is_paged, is_bounded}
+use Rattle.vs_paged.proofs.SyncLemmas.{opened_starting, opened_fits, lines_opened}
+use Rattle.vs_paged.proofs.opening.OpeningText.start.Goals as goal
+
+pub returns-in_err-start-clause-acts : goal.returns-in_err-start-clause-acts
+returns-in_err-start-clause-acts g c =
+    acts_as _ (steps.Starting c.self.inside.pair.files.names (sync_with c.self.inside.pair 1 _) (sync_with c.self.inside.pair 2 _)) (Starting (names_of_file c.args.self.name) c.args.self.text)
+    (g.F.World.scene c.args.host.now) (g.F.World.scene c.start.new.host)
+    (λ told d starting. opened_starting c.self.inside.pair c.self.inside.tree _ c.args.self c.self.invariant.0 refl c.self.view_is _ d starting) c.start.ensures.acts
+
+pub returns-clause-acts : goal.returns-clause-acts
+returns-clause-acts g c =
+    acts_as _ (steps.Starting c.self.inside.pair.files.names (sync_with c.self.inside.pair 1 _) (sync_with c.self.inside.pair 2 _)) (Starting (names_of_file c.args.self.name) c.args.self.text)
+    (g.F.World.scene c.args.host.now) (g.F.World.scene c.start.new.host)
+    (λ told d starting. opened_starting c.self.inside.pair c.self.inside.tree _ c.args.self c.self.invariant.0 refl c.self.view_is _ d starting) c.start.ensures.acts
+
+pub invariant_of-result : goal.invariant_of-result
+invariant_of-result g c = record { bounded = is_bounded c.self.inside.pair.pages c.self.inside.tree _ (is_paged _ _ c.self.invariant.0); started = omega (arith, c.in_ok-start.ensures.generation) }
+
+pub returns-clause-fits : goal.returns-clause-fits
+returns-clause-fits g c told =
+    opened_fits c.self.inside.pair c.self.inside.tree _ c.args.self c.self.invariant.0 refl c.self.view_is _ _ c.start.ensures.pages refl refl (c.in_ok-start.ensures.ok told)
+
+pub returns-clause-lines : goal.returns-clause-lines
+returns-clause-lines g c = lines_opened c.self.inside.pair c.self.inside.tree (record { dirty = false; empty = _ }) c.args.self c.self.invariant.0 refl c.self.view_is

@@ -1,0 +1,167 @@
+// A text that is read into the pages of a pair, before its swap files are made.
+ghost use Rattle.std.specs.Prelude.{◌≡◌, ◌≢◌, ◌++◌, ◌∷◌, [], false, true, IfOk, IsErr, IsTrue, OnErr, OnOk, length};
+ghost use Rattle.vs_faults.specs.Faults.{HasCause};
+ghost use Rattle.vs_host.specs.Names.{is_allowed, names_of_file};
+ghost use Rattle.vs_pages.specs.Maps.{first_pages};
+ghost use Rattle.vs_pages.specs.Memory.{committed_of, present_of};
+ghost use Rattle.vs_pair.specs.Acts.{Acts, NoneFails};
+ghost use Rattle.vs_pair.specs.Steps.{IsFresh};
+ghost use Rattle.vs_text.specs.Limits.{IsWithinLimits};
+ghost use Rattle.vs_tree.specs.TextIn.{text_in};
+ghost use Rattle.vs_tree.specs.Texts.{Fits as FitsPages};
+ghost use Rattle.vs_paged.specs.Fits.{Fits, Starting, acknowledged_sync, names_of};
+ghost use Rattle.vs_paged.specs.Pages.{IsCommitted};
+
+use crate::PagedText;
+use std::alloc::{AllocError, Global};
+use std::marker::Model;
+use vs_edit::{LineStore, StoreErr, splice_or_rollback};
+use vs_host::{Failed, Folder};
+use vs_pages::{LentPages, MemPages, PageErr};
+use vs_pair::{Head, SwapPair};
+use vs_text::Line;
+use vs_tree::{LineTree, TreeStore};
+
+/// A text that is read, piece by piece, into the pages of a pair, seen as the name of its file and the lines so far. It has made
+/// no file yet.
+#[derive(Drop)]
+pub struct OpeningText {
+    tree: LineTree,
+    pair: SwapPair,
+}
+
+impl Model for OpeningText {
+    ghost use Rattle.std.specs.Prelude.{◌≡◌};
+    ghost use Rattle.vs_pages.specs.Memory.{present_of};
+    ghost use Rattle.vs_tree.specs.TextIn.{text_in};
+    ghost use Rattle.vs_paged.specs.Pages.{IsCommitted, Opening};
+
+    ghost Value = { Opening };
+
+    ghost view = { λ s. record { name = s.pair.files.names.file; text = text_in (present_of s.pair.pages) s.tree.present } };
+
+    ghost invariant = { λ s. IsCommitted s.pair.pages s.tree × (s.pair.files.generation ≡ 0) };
+}
+
+// Pages in memory do not fail, so memory is all that can be missing.
+fn memory_of_pages(error: PageErr) -> AllocError
+    requires { error ≢ PageErr.Failed }
+{
+    match error {
+        PageErr::NoMemory => AllocError,
+        PageErr::Failed => unreachable!(),
+    }
+}
+
+// Nor does a store over them.
+fn memory_of_store(error: StoreErr) -> AllocError
+    requires { error ≢ StoreErr.Failed }
+{
+    match error {
+        StoreErr::NoMemory => AllocError,
+        StoreErr::Failed => unreachable!(),
+    }
+}
+
+// Commits a text in pages.
+fn commit_in(tree: &mut LineTree, pages: &mut MemPages)
+    requires present { FitsPages true (present_of pages.old) tree.old.present }
+    requires committed { FitsPages true (committed_of pages.old) tree.old.committed }
+    ensures text { text_in (present_of pages.new) tree.new.present ≡ text_in (present_of pages.old) tree.old.present }
+    ensures committed { IsCommitted pages.new tree.new }
+{
+    let mut store = TreeStore {
+        tree,
+        pages: LentPages { pages },
+    };
+    store.commit();
+}
+
+// Puts lines at the end of a text in pages.
+fn push_in(
+    alloc: Global,
+    tree: &mut LineTree,
+    pages: &mut MemPages,
+    lines: &[Line],
+) -> Result<(), AllocError>
+    requires committed { IsCommitted pages.old tree.old }
+    requires within { IsWithinLimits (text_in (present_of pages.old) tree.old.present ++ lines.now) }
+    ensures ok { OnOk result (text_in (present_of pages.new) tree.new.present ≡ text_in (present_of pages.old) tree.old.present ++ lines.now) }
+    ensures err { OnErr result (text_in (present_of pages.new) tree.new.present ≡ text_in (present_of pages.old) tree.old.present) }
+    ensures committed { IsCommitted pages.new tree.new }
+{
+    let at = tree.len();
+    let mut store = TreeStore {
+        tree,
+        pages: LentPages { pages },
+    };
+    match splice_or_rollback(alloc, &mut store, at, 0, lines) {
+        Ok(()) => {
+            store.commit();
+            Ok(())
+        }
+        Err(error) => Err(memory_of_store(error)),
+    }
+}
+
+// Writes the text without lines into the first pages.
+fn empty_in(alloc: Global, pages: &mut MemPages) -> Result<LineTree, AllocError>
+    requires { present_of pages.old ≡ first_pages }
+    ensures text { IfOk result (λ tree. text_in (present_of pages.new) tree.present ≡ []) }
+    ensures committed { IfOk result (λ tree. IsCommitted pages.new tree) }
+{
+    let mut tree = match LineTree::new(alloc, pages) {
+        Ok(tree) => tree,
+        Err(error) => return Err(memory_of_pages(error)),
+    };
+    commit_in(&mut tree, pages);
+    Ok(tree)
+}
+
+impl OpeningText {
+    /// The text without lines, for the file of this name.
+    pub fn new(alloc: Global, name: &str) -> Result<OpeningText, AllocError>
+        requires { IsTrue (is_allowed name.now) }
+        ensures { IfOk result (λ text. text ≡ record { name = name.now; text = [] }) }
+    {
+        let mut pair = SwapPair::new(alloc, name)?;
+        let tree = empty_in(alloc, &mut pair.pages)?;
+        Ok(OpeningText { tree, pair })
+    }
+
+    /// The number of lines.
+    pub fn len(&self) -> u64
+        ensures { result ≡ length self.now.text }
+    {
+        self.tree.len()
+    }
+
+    /// Puts copies of these lines after the last one.
+    pub fn push_lines(&mut self, alloc: Global, lines: &[Line]) -> Result<(), AllocError>
+        requires { IsWithinLimits (self.old.text ++ lines.now) }
+        ensures ok { OnOk result (self.new ≡ record self.old { text = self.old.text ++ lines.now }) }
+        ensures err { OnErr result (self.new ≡ self.old) }
+    {
+        push_in(alloc, &mut self.tree, &mut self.pair.pages, lines)
+    }
+
+    /// Makes both swap files of the text, which has no changes. It takes no memory.
+    pub fn start<F: Folder>(self, host: &mut F) -> Result<PagedText, Failed>
+        requires fresh { IsTrue F.tells.folder → IsFresh (names_of_file self.name) (F.scene host.old).folder }
+        ensures acts { Acts F.tells (Starting (names_of_file self.name) self.text) (F.scene host.old) (F.scene host.new) }
+        ensures fits { IfOk result (λ paged. IsTrue F.tells.folder → Fits paged (F.scene host.new).folder self.text (acknowledged_sync self.text false ∷ [])) }
+        ensures names { IfOk result (λ paged. names_of paged ≡ names_of_file self.name) }
+        ensures generation { IfOk result (λ paged. paged.pair.files.generation ≡ 2) }
+        ensures lines { IfOk result (λ paged. paged.tree.present.lines ≡ length self.text) }
+        ensures none { OnOk result (NoneFails F.tells (F.scene host.old) (F.scene host.new)) }
+        ensures cause { HasCause (F.scene host.old).folder_faults (F.scene host.new).folder_faults (IsErr result) }
+    {
+        let OpeningText { tree, mut pair } = self;
+        let head = Head {
+            dirty: false,
+            empty: tree.committed.lines == 0,
+        };
+        pair.start(host, &head)?;
+        Ok(PagedText { tree, pair })
+    }
+}

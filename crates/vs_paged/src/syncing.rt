@@ -1,0 +1,61 @@
+// The syncs of a text, and the end of its swap files.
+ghost use Rattle.std.specs.Prelude.{◌≡◌, ◌+◌, ◌<◌, ◌^◌, ◌∷◌, List, IsErr, IsTrue, OnErr, OnOk};
+ghost use Rattle.vs_faults.specs.Faults.{HasCause};
+ghost use Rattle.vs_pair.specs.Acts.{Acts, NoneFails};
+ghost use Rattle.vs_pair.specs.Pair.{Rises};
+ghost use Rattle.vs_pair.specs.Steps.{IsAbsent};
+ghost use Rattle.vs_safety.specs.Texts.{Text, Sync, begun};
+ghost use Rattle.vs_paged.specs.Fits.{Ending, Fits, Syncing, acknowledged_sync, names_of};
+
+use crate::PagedText;
+use vs_host::{Failed, Folder};
+use vs_pair::Head;
+
+impl PagedText {
+    /// The number of lines.
+    pub fn len(&self) -> u64
+        ensures { result ≡ self.now.tree.present.lines }
+    {
+        self.tree.len()
+    }
+
+    /// Writes the committed text into the swap file that does not have the last acknowledged sync. `dirty` says whether the text
+    /// has changes that are not in the edited file. It takes no memory.
+    pub fn sync<F: Folder>(&mut self, host: &mut F, dirty: bool) -> Result<(), Failed>
+        requires room { self.old.pair.files.generation < 2 ^ 63 }
+        requires fits { IsTrue F.tells.folder → (text : Text) × (syncs : List Sync) × Fits self.old (F.scene host.old).folder text syncs }
+        ensures acts { Acts F.tells (Syncing self.old) (F.scene host.old) (F.scene host.new) }
+        ensures ok { OnOk result (IsTrue F.tells.folder → (text : Text) (syncs : List Sync) → Fits self.old (F.scene host.old).folder text syncs
+            → Fits self.new (F.scene host.new).folder text (acknowledged_sync text dirty ∷ syncs)) }
+        ensures err { OnErr result (IsTrue F.tells.folder → (text : Text) (syncs : List Sync) → Fits self.old (F.scene host.old).folder text syncs
+            → Fits self.new (F.scene host.new).folder text (begun text dirty ∷ syncs)) }
+
+        // Some file stands in every image with a generation above all before, exactly where the sync is acknowledged.
+        ensures rises { OnOk result (IsTrue F.tells.folder → Rises (names_of self.old) (F.scene host.old).folder (F.scene host.new).folder) }
+        ensures stays { OnErr result (IsTrue F.tells.folder → Rises (names_of self.old) (F.scene host.old).folder (F.scene host.new).folder → ⊥) }
+        ensures pages { self.new.pair.pages ≡ self.old.pair.pages }
+        ensures tree { self.new.tree ≡ self.old.tree }
+        ensures names { names_of self.new ≡ names_of self.old }
+        ensures generation { self.new.pair.files.generation ≡ self.old.pair.files.generation + 1 }
+        ensures none { OnOk result (NoneFails F.tells (F.scene host.old) (F.scene host.new)) }
+        ensures cause { HasCause (F.scene host.old).folder_faults (F.scene host.new).folder_faults (IsErr result) }
+    {
+        let head = Head {
+            dirty,
+            empty: self.tree.committed.lines == 0,
+        };
+        self.pair.sync(host, &head)
+    }
+
+    /// Removes both swap files, that of the last acknowledged sync after the other one. After an error the files that are left
+    /// stay. It takes no memory.
+    pub fn end<F: Folder>(self, host: &mut F) -> Result<(), Failed>
+        requires fits { IsTrue F.tells.folder → (text : Text) × (syncs : List Sync) × Fits self (F.scene host.old).folder text syncs }
+        ensures acts { Acts F.tells (Ending self) (F.scene host.old) (F.scene host.new) }
+        ensures gone { OnOk result (IsTrue F.tells.folder → IsAbsent (names_of self).swp (F.scene host.new).folder × IsAbsent (names_of self).swo (F.scene host.new).folder) }
+        ensures none { OnOk result (NoneFails F.tells (F.scene host.old) (F.scene host.new)) }
+        ensures cause { HasCause (F.scene host.old).folder_faults (F.scene host.new).folder_faults (IsErr result) }
+    {
+        self.pair.end(host)
+    }
+}

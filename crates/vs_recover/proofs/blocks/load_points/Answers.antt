@@ -1,0 +1,16 @@
+use Rattle.std.proofs.Common.{List, ℕ, Option, Some, ap, sym, subst, ◌∙◌}
+use Rattle.vs_tree_shape.specs.declared.entries.Entry.{Entry}
+use Rattle.vs_swap.specs.Files.{pages_in}
+use Rattle.vs_recover.specs.Files.{Gives}
+use Rattle.vs_recover.proofs.PageLaws.{gives_list, gives_none}
+use Rattle.vs_recover.proofs.WalkLaws.{points_gone, points_of}
+use Rattle.vs_recover.proofs.blocks.load_points.Goals as goal
+
+pub returns-in_default-clause-value : goal.returns-in_default-clause-value
+returns-in_default-clause-value g c = λ file is. points_gone (pages_in file) c.args.entry.now (gives_none _ _ c.in_default.is (c.in_ok-bytes.ensures.value file is))
+
+pub returns-clause-value : goal.returns-clause-value
+returns-clause-value g c = λ file is.
+    let read = gives_list _ _ c.in-Some.bytes c.in-Some.is (c.in_ok-bytes.ensures.value file is) in
+    subst (λ (o : Option (List Entry)). Gives o c.in_ok-found.found)
+    (sym (points_of (pages_in file) c.args.entry.now c.deref.result.now (read ∙ ap (λ (bs : List ℕ). Some bs) (sym c.deref.ensures.value)))) c.in_ok-found.ensures.value

@@ -1,0 +1,215 @@
+-- How a run begins and ends: the opening and its reply, a stop, and an accepted quit, each with the promise that it keeps.
+use Rattle.std.proofs.Common.{◌≡◌, inl, inr, ℕ, ◌+◌, ◌<◌, ◌≤◌, min, List, [], ◌∷◌, ◌++◌, length, length-append, length-take, take, drop, refl, sym, ◌∙◌, ap, subst, arith, append_assoc}
+use Rattle.std.proofs.lemmas.List.{append-nil, take_all, take-append-drop}
+use Rattle.std.proofs.lemmas.Bool.{cases_lt}
+use Rattle.vs_host.specs.Disk.{Disk, IsImage}
+use Rattle.vs_host.specs.Trace.{WroteOutput, Snapshot, Each}
+use Rattle.vs_host.specs.World.{Scene, IsRecorded, LeavesTrace, snapshot_of}
+use Rattle.vs_host.specs.declared.names.Names.{Names}
+use Rattle.vs_disk.specs.Names.{SameAt}
+use Rattle.vs_disk.specs.Runs.{Inside}
+use Rattle.vs_disk.proofs.Runs.{Each-append, Each-weaker}
+use Rattle.vs_disk.proofs.Others.{same_none, same_then}
+use Rattle.vs_pair.specs.Pair.{Image, NoneThere, is_foreign}
+use Rattle.vs_safety.specs.Texts.{Text, recoverable, Recovers, RecoversOrNone, IsBetween}
+use Rattle.vs_safety.specs.Turns.{Turn, Ran, quit_run, all_turns, behind, all_written, after_turns, opened, replies, quit_line}
+use Rattle.vs_safety.specs.Stretches.{HasStretch}
+use Rattle.vs_safety.specs.Safety.{IsFirstPart, opened_at, IsSafe, IsCrashSafe, Spares, Works, Writes}
+use Rattle.vs_safety.specs.Going.{Sound, Course, HasEnded, Opened, Going, Halted}
+use Rattle.vs_safety.proofs.Texts.{or_none, between_recovers}
+use Rattle.vs_safety.proofs.Splits.{each_weaker}
+use Rattle.vs_safety.proofs.Moments.{part_same, part_of, part_then, ended_stretch, total, kept_before, kept_whole, course_more, works_sound, shorter}
+
+-- ---- the promise of a run that stopped
+
+plain_output : (start : Scene) (opening written : List ℕ) (ran : Ran) → ran.opening ≡ opening → replies (all_turns ran) ≡ written → behind ran.closing ≡ [] → (start.output ++ opening) ++ written ≡ start.output ++ all_written ran
+plain_output start opening written ran opened all none =
+    append_assoc start.output opening written
+    ∙ (λ i. start.output ++ (sym opened i ++ sym all i))
+    ∙ ap (λ (l : List ℕ). start.output ++ l) (sym (append-nil (ran.opening ++ replies (all_turns ran))))
+    ∙ ap (λ (l : List ℕ). start.output ++ ((ran.opening ++ replies (all_turns ran)) ++ l)) (sym none)
+
+pub halted_safe : (names : Names) (start now : Scene) (ran : Ran) → behind ran.closing ≡ [] → Halted names start now ran.text ran.opening (all_turns ran) → IsCrashSafe names start now ran
+halted_safe names start now ran none halted = record {
+  moments = halted.moments;
+  added = halted.course.added;
+  at_start = halted.course.at_start;
+  safe = Each-weaker (Sound names start now ran.text ran.opening (all_turns ran)) (IsSafe names start now ran)
+      (λ m sound. record { output = sound.output; kept = inl sound.kept; spared = sound.spared }) halted.moments halted.course.sound;
+  output = part_then now.output _ (start.output ++ all_written ran) halted.output (part_of _ _ (sym (plain_output start ran.opening (replies (all_turns ran)) ran refl refl none)));
+  stretches = halted.stretches;
+}
+
+-- ---- the opening
+
+module _ (names : Names) (start : Scene) (text : Text) (opening : List ℕ) (some : 0 < length opening) where
+  or_none_one : Disk → Type 0
+  or_none_one disk = RecoversOrNone names (text ∷ []) disk
+
+  opening_course : (now : Scene) → RecoversOrNone names (text ∷ []) start.folder → (works : Works names (RecoversOrNone names (text ∷ [])) start now) → Course names start now text opening [] works.moments.added
+  opening_course now at_start works = record {
+    added = works.moments.is;
+    at_start = at_start;
+    sound = works_sound names start text opening (RecoversOrNone names (text ∷ [])) start now [] (same_none (is_foreign names) start.folder)
+        (λ m same all. kept_before names start text opening [] m (omega (arith, same, some)) all) works;
+    spared = works.spared;
+  }
+
+  -- the file was not opened
+  pub not_opened : (now : Scene) → RecoversOrNone names (text ∷ []) start.folder → Works names (RecoversOrNone names (text ∷ [])) start now → Halted names start now text opening []
+  not_opened now at_start works = record {
+    moments = works.moments.added;
+    course = opening_course now at_start works;
+    output = (opening ++ [], append_assoc start.output opening [] ∙ ap (λ (l : List ℕ). l ++ (opening ++ [])) (sym works.output));
+    stretches = tt;
+  }
+
+  pub opening_ends : (now : Scene) → RecoversOrNone names (text ∷ []) start.folder → Works names (RecoversOrNone names (text ∷ [])) start now → IsBetween names (opened text) now.folder → Opened names start now text opening
+  opening_ends now at_start works between = record { moments = works.moments.added; course = opening_course now at_start works; output = works.output; between = between }
+
+  -- it was opened, and a call that comes before the reply had no memory
+  pub opened_halts : (now : Scene) → Opened names start now text opening → Halted names start now text opening []
+  opened_halts now opened_here = record {
+    moments = opened_here.moments;
+    course = opened_here.course;
+    output = (opening ++ [], append_assoc start.output opening [] ∙ ap (λ (l : List ℕ). l ++ (opening ++ [])) (sym opened_here.output));
+    stretches = tt;
+  }
+
+  -- the snapshot of the write of the opening reply
+  module _ (now new : Scene) (opened_here : Opened names start now text opening) (n : ℕ) (writes : Writes n opening now new) where
+    all_recovers : Recovers names (text ∷ []) new.folder
+    all_recovers = subst (λ (d : Disk). Recovers names (text ∷ []) d) (sym writes.folder) (between_recovers names (opened text) now.folder opened_here.between)
+
+    grown : length new.output ≡ length start.output + min n (length opening)
+    grown = ap (λ (l : List ℕ). length l) writes.output ∙ length-append now.output (take n opening)
+        ∙ (λ i. length (opened_here.output i) + length-take n opening i)
+
+    spared : SameAt (is_foreign names) start.folder new.folder
+    spared = subst (λ (d : Disk). SameAt (is_foreign names) start.folder d) (sym writes.folder) opened_here.course.spared
+
+    sound : Sound names start new text opening [] (snapshot_of new WroteOutput [])
+    sound = record {
+      output = part_same new.output;
+      kept = elim (cases_lt (length new.output) (opened_at start opening)) [
+        | inl lt ↦ kept_before names start text opening [] (snapshot_of new WroteOutput []) lt (or_none names (text ∷ []) new.folder all_recovers)
+        | inr le ↦ kept_whole names start text opening [] (snapshot_of new WroteOutput []) (omega (arith, le)) all_recovers
+      ];
+      spared = spared;
+    }
+
+    course_with : IsRecorded WroteOutput [] now new → Course names start new text opening [] (snapshot_of new WroteOutput [] ∷ opened_here.moments)
+    course_with told = course_more names start text opening now new [] opened_here.moments (snapshot_of new WroteOutput [] ∷ []) told (take n opening, writes.output) (sound, tt) spared opened_here.course
+
+    course_without : LeavesTrace now new → Course names start new text opening [] opened_here.moments
+    course_without left = course_more names start text opening now new [] opened_here.moments [] left.trace (take n opening, writes.output) tt spared opened_here.course
+
+    -- it was cut short, or whole
+    pub opening_cut : Halted names start new text opening []
+    opening_cut = elim writes.added [
+      | inl told ↦ record { moments = snapshot_of new WroteOutput [] ∷ opened_here.moments; course = course_with told; output = rest; stretches = tt }
+      | inr left ↦ record { moments = opened_here.moments; course = course_without left; output = rest; stretches = tt }
+    ]
+      where
+        rest : IsFirstPart new.output ((start.output ++ opening) ++ [])
+        rest = (
+          drop n opening,
+          append-nil (start.output ++ opening) ∙ (λ i. sym opened_here.output i ++ sym (take-append-drop n opening) i) ∙ sym (append_assoc now.output (take n opening) (drop n opening))
+              ∙ ap (λ (l : List ℕ). l ++ drop n opening) (sym writes.output),
+        )
+
+    -- it was whole
+    pub opening_written : length opening ≤ n → Going names start new text opening []
+    opening_written le = elim writes.added [
+      | inr left ↦ absurd (omega (arith, grown, le, some, ap (λ (l : List ℕ). length l) left.output, ap (λ (l : List ℕ). length l) opened_here.output))
+      | inl told ↦ record {
+        moments = snapshot_of new WroteOutput [] ∷ opened_here.moments;
+        course = course_with told;
+        output = writes.output ∙ (λ i. opened_here.output i ++ take_all n opening le i) ∙ sym (append-nil (start.output ++ opening));
+        ended = tt;
+        here = snapshot_of new WroteOutput [];
+        begins = record {
+          newer = [];
+          older = opened_here.moments;
+          is = refl;
+          reached = omega arith;
+          not_before = shorter names start text opening (length new.output) now [] opened_here.moments (omega (arith, grown, le, some, ap (λ (l : List ℕ). length l) opened_here.output)) opened_here.course;
+        };
+        state = refl;
+        between = subst (λ (d : Disk). IsBetween names (opened text) d) (sym writes.folder) opened_here.between;
+      }
+    ]
+
+-- ---- an accepted quit
+
+module _ (names : Names) (start now : Scene) (text : Text) (opening : List ℕ) (turns : List Turn) (going : Going names start now text opening turns) where
+  abbrev ran : Ran
+  ran = quit_run text opening turns
+
+  abbrev left : Disk → Type 0
+  left disk = RecoversOrNone names (recoverable (after_turns (opened text) turns)) disk
+
+  long_now : length now.output ≡ total names start text opening turns
+  long_now =
+      ap (λ (l : List ℕ). length l) going.output ∙ length-append (start.output ++ opening) (replies turns) ∙ ap (λ (n : ℕ). n + length (replies turns)) (length-append start.output opening)
+
+  output_is : (new : Scene) (n : ℕ) → new.output ≡ now.output ++ take n quit_line → IsFirstPart new.output (start.output ++ all_written ran)
+  output_is new n output = (
+    drop n quit_line,
+    sym (append_assoc start.output (opening ++ replies turns) quit_line) ∙ ap (λ (l : List ℕ). l ++ quit_line) (sym (append_assoc start.output opening (replies turns)) ∙ sym going.output)
+        ∙ ap (λ (l : List ℕ). now.output ++ l) (sym (take-append-drop n quit_line)) ∙ sym (append_assoc now.output (take n quit_line) (drop n quit_line)) ∙ ap (λ (l : List ℕ). l ++ drop n quit_line) (sym output),
+  )
+
+  -- the moments before it, and those since
+  leaves : (new : Scene) (newer : List Snapshot) → new.trace ≡ newer ++ now.trace → (n : ℕ) → new.output ≡ now.output ++ take n quit_line → Each (IsSafe names start new ran) newer → IsCrashSafe names start new ran
+  leaves new newer is n output safe = record {
+    moments = newer ++ going.moments;
+    added = is ∙ ap (λ (ms : List Snapshot). newer ++ ms) going.course.added ∙ sym (append_assoc newer going.moments start.trace);
+    at_start = going.course.at_start;
+    safe = Each-append (IsSafe names start new ran) newer going.moments safe
+        (Each-weaker (Sound names start now text opening turns) (IsSafe names start new ran)
+        (λ m sound. record { output = part_then m.output now.output new.output sound.output (take n quit_line, output); kept = inl sound.kept; spared = sound.spared }) going.moments going.course.sound);
+    output = output_is new n output;
+    stretches = each_weaker (HasEnded names going.moments) (HasStretch names (newer ++ going.moments) new) (λ from to turn ended. ended_stretch names going.moments newer from to turn ended new) turns (opened_at start opening) going.ended;
+  }
+
+  module _ (mid : Scene) (works : Works names left now mid) where
+    removing : (new : Scene) → IsFirstPart mid.output new.output → (m : Snapshot) → Inside mid (Spares names left now.folder) m → IsSafe names start new ran m
+    removing new part m inside =
+        let long : length m.output ≡ length now.output = ap (λ (l : List ℕ). length l) (inside.output ∙ works.output) in
+        record {
+          output = part_then m.output mid.output new.output (part_of m.output mid.output (sym inside.output)) part;
+          kept = inr (record {
+            quits = refl;
+            whole = omega (arith, long, long_now);
+            recovers = inside.folder.folder;
+            gone = λ lt. absurd (omega (arith, lt, long, long_now));
+          });
+          spared = same_then (is_foreign names) start.folder now.folder m.folder going.course.spared inside.folder.spared;
+        }
+
+    -- the run stops in the removal, or behind it
+    pub quit_stops : IsCrashSafe names start mid ran
+    quit_stops = leaves mid works.moments.added works.moments.is 0 (works.output ∙ sym (append-nil now.output))
+        (Each-weaker (Inside mid (Spares names left now.folder)) (IsSafe names start mid ran) (removing mid (part_same mid.output)) works.moments.added works.moments.each)
+
+    -- and the last line is written, or a part of it
+    pub quit_written : (new : Scene) (n : ℕ) → Writes n quit_line mid new → ((image : Image) → IsImage mid.folder image → NoneThere names image) → IsCrashSafe names start new ran
+    quit_written new n writes gone =
+        let output : new.output ≡ now.output ++ take n quit_line = writes.output ∙ ap (λ (l : List ℕ). l ++ take n quit_line) works.output in
+        let part : IsFirstPart mid.output new.output = (take n quit_line, writes.output) in
+        let before : Each (IsSafe names start new ran) works.moments.added =
+        Each-weaker (Inside mid (Spares names left now.folder)) (IsSafe names start new ran) (removing new part) works.moments.added works.moments.each in
+        let long : length now.output ≤ length new.output = omega (arith, ap (λ (l : List ℕ). length l) output, length-append now.output (take n quit_line)) in
+        let none : (image : Image) → IsImage new.folder image → NoneThere names image = subst (λ (d : Disk). (image : Image) → IsImage d image → NoneThere names image) (sym writes.folder) gone in
+        elim writes.added [
+          | inr same ↦ leaves new works.moments.added (same.trace ∙ works.moments.is) n output before
+          | inl told ↦ leaves new (snapshot_of new WroteOutput [] ∷ works.moments.added) (told ∙ ap (λ (ms : List Snapshot). snapshot_of new WroteOutput [] ∷ ms) works.moments.is) n output (
+            record {
+              output = part_same new.output;
+              kept = inr (record { quits = refl; whole = omega (arith, long, long_now); recovers = λ image whole. inl (none image whole); gone = λ lt. none });
+              spared = subst (λ (d : Disk). SameAt (is_foreign names) start.folder d) (sym writes.folder) (same_then (is_foreign names) start.folder now.folder mid.folder going.course.spared works.spared);
+            },
+            before,
+          )
+        ]

@@ -1,0 +1,7 @@
+pub mod Texts
+pub mod Splits
+pub mod Moments
+pub mod Going
+pub mod Endings
+pub mod Causes
+pub mod Works

@@ -1,0 +1,6 @@
+pub mod Texts
+pub mod Turns
+pub mod Stretches
+pub mod Safety
+pub mod Going
+pub mod Causes

@@ -1,0 +1,99 @@
+-- The promise of a run, and what each of its steps owes to it.
+use Rattle.std.specs.Prelude.{◌≡◌, ◌⊎◌, ℕ, ◌+◌, ◌<◌, ◌≤◌, true, List, [], ◌∷◌, ◌++◌, length, take, IfSome}
+use Rattle.vs_faults.specs.Faults.{HasRisen}
+use Rattle.vs_host.specs.Disk.{Disk, Name, IsImage}
+use Rattle.vs_host.specs.Trace.{Kind, WroteOutput, Snapshot, Each, GoesOn}
+use Rattle.vs_host.specs.World.{Scene, IsRecorded, LeavesTrace}
+use Rattle.vs_host.specs.declared.names.Names.{Names}
+use Rattle.vs_disk.specs.Names.{SameAt}
+use Rattle.vs_disk.specs.Runs.{Inside}
+use Rattle.vs_pair.specs.Pair.{Image, NoneThere, is_foreign}
+use Rattle.vs_safety.specs.Texts.{Text, Sync, recoverable, Recovers, RecoversOrNone, IsFlag, IsBetween}
+use Rattle.vs_safety.specs.Turns.{Turn, Ran, Quits, with_sync, with_begun, after_turns, with_next, opened, replies, IsSplit, all_turns, all_written}
+use Rattle.vs_safety.specs.Stretches.{EachTurn, HasStretch}
+
+-- these bytes are the first of those
+abbrev pub IsFirstPart : List ℕ → List ℕ → Type 0
+IsFirstPart first whole = (rest : List ℕ) × (whole ≡ first ++ rest)
+
+-- how long the output is where the opening reply is whole in it
+abbrev pub opened_at : Scene → List ℕ → ℕ
+opened_at start opening = length start.output + length opening
+
+-- The output has n bytes. Over the commands whose replies are whole in it, recovery gives the text of the last acknowledged
+-- sync or of one that was begun after it, or of the one that the next command begins.
+pub record RecoversAllowed (names : Names) (text : Text) (turns : List Turn) (from n : ℕ) (folder : Disk) : Type 0 where
+  pub first : List Turn
+  pub rest : List Turn
+  pub split : IsSplit from n turns first rest
+  pub recovers : Recovers names (recoverable (with_next (after_turns (opened text) first) rest)) folder
+
+-- A moment before an accepted quit has begun.
+pub record IsKept (names : Names) (start : Scene) (text : Text) (opening : List ℕ) (turns : List Turn) (moment : Snapshot) : Type 0 where
+  -- before the opening reply is whole: neither swap file is there, or the text that was opened is recovered
+  pub before : length moment.output < opened_at start opening → RecoversOrNone names (text ∷ []) moment.folder
+  -- and from then on, an allowed text
+  pub running : opened_at start opening ≤ length moment.output → RecoversAllowed names text turns (opened_at start opening) (length moment.output) moment.folder
+
+-- A moment after an accepted quit has begun: all replies are whole.
+pub record IsLeft (names : Names) (start : Scene) (ran : Ran) (moment : Snapshot) : Type 0 where
+  pub quits : ran.closing ≡ Quits
+  pub whole : opened_at start ran.opening + length (replies ran.turns) ≤ length moment.output
+  -- neither swap file is there, or an allowed text is recovered
+  pub recovers : RecoversOrNone names (recoverable (after_turns (opened ran.text) ran.turns)) moment.folder
+  -- and neither is there from the first byte of the last line on
+  pub gone : opened_at start ran.opening + length (replies ran.turns) < length moment.output → (image : Image) → IsImage moment.folder image → NoneThere names image
+
+-- What is promised of each moment: what recovery gives whatever a stop leaves, and that no name but those of the pair changes.
+pub record IsSafe (names : Names) (start now : Scene) (ran : Ran) (moment : Snapshot) : Type 0 where
+  pub output : IsFirstPart moment.output now.output
+  pub kept : IsKept names start ran.text ran.opening (all_turns ran) moment ⊎ IsLeft names start ran moment
+  pub spared : SameAt (is_foreign names) start.folder moment.folder
+
+-- The promise, over a run from one scene to another: at each moment between them, and at both.
+pub record IsCrashSafe (names : Names) (start now : Scene) (ran : Ran) : Type 0 where
+  pub moments : List Snapshot
+  pub added : now.trace ≡ moments ++ start.trace
+  pub at_start : RecoversOrNone names (ran.text ∷ []) start.folder
+  pub safe : Each (IsSafe names start now ran) moments
+  pub output : IsFirstPart now.output (start.output ++ all_written ran)
+  pub stretches : EachTurn (HasStretch names moments now) (opened_at start ran.opening) (all_turns ran)
+
+-- ---- what a run is made of
+
+-- a call added its snapshot, or it changed nothing and added none
+abbrev pub IsAdded : Kind → List Name → Scene → Scene → Type 0
+IsAdded kind names old new = IsRecorded kind names old new ⊎ LeavesTrace old new
+
+-- Calls that left folder and output.
+pub record Looks (old new : Scene) : Type 0 where
+  pub moments : GoesOn (λ m. (m.output ≡ old.output) × (m.folder ≡ old.folder)) old.trace new.trace
+  pub output : new.output ≡ old.output
+  pub folder : new.folder ≡ old.folder
+  pub faults : new.folder_faults ≡ old.folder_faults
+
+-- A write of the output that wrote the first n bytes of these.
+pub record Writes (n : ℕ) (bytes : List ℕ) (old new : Scene) : Type 0 where
+  pub output : new.output ≡ old.output ++ take n bytes
+  pub folder : new.folder ≡ old.folder
+  pub faults : new.folder_faults ≡ old.folder_faults
+  pub added : IsAdded WroteOutput [] old new
+
+-- A folder of which P holds, and in which no name but those of the pair changed.
+pub record Spares (names : Names) (P : Disk → Type 0) (old new : Disk) : Type 0 where
+  pub folder : P new
+  pub spared : SameAt (is_foreign names) old new
+
+-- Work on the folder between two scenes: P holds of it at each moment. The output stays, and the clock is read before all else.
+pub record Works (names : Names) (P : Disk → Type 0) (old new : Scene) : Type 0 where
+  pub moments : GoesOn (Inside new (Spares names P old.folder)) old.trace new.trace
+  pub output : new.output ≡ old.output
+  pub spared : SameAt (is_foreign names) old.folder new.folder
+
+-- One command, where these syncs were before it.
+pub record Stepped (names : Names) (syncs : List Sync) (turn : Turn) (old new : Scene) : Type 0 where
+  -- what was recoverable is recovered, or the text of the sync that the command begins
+  pub works : Works names (Recovers names (recoverable (with_begun turn.sync syncs))) old new
+  pub flag : IfSome turn.sync (λ sync. IsFlag names turn.done old.folder new.folder sync.acknowledged)
+  pub cause : turn.failed ≡ true → HasRisen old.folder_faults new.folder_faults
+  pub between : IsBetween names (with_sync turn.sync syncs) new.folder

@@ -1,0 +1,50 @@
+-- The stretch of each command in the trace of a run, and what is known of the folder at its two ends.
+use Rattle.std.specs.Prelude.{◌≡◌, ◌⊎◌, ℕ, ◌+◌, ◌<◌, ◌≤◌, true, List, [], ◌∷◌, ◌++◌, length, IfSome}
+use Rattle.vs_faults.specs.Faults.{HasRisen}
+use Rattle.vs_host.specs.Disk.{Disk}
+use Rattle.vs_host.specs.Trace.{Snapshot, Each}
+use Rattle.vs_host.specs.World.{Scene}
+use Rattle.vs_host.specs.declared.names.Names.{Names}
+use Rattle.vs_safety.specs.Texts.{IsFlag}
+use Rattle.vs_safety.specs.Turns.{Turn}
+
+abbrev pub IsShorter : ℕ → Snapshot → Type 0
+IsShorter n snapshot = length snapshot.output < n
+
+-- This is the first of the snapshots, the newest of which comes first, at which the output has n bytes.
+pub record IsFirst (n : ℕ) (moments : List Snapshot) (first : Snapshot) : Type 0 where
+  pub newer : List Snapshot
+  pub older : List Snapshot
+  pub is : moments ≡ newer ++ first ∷ older
+  pub reached : n ≤ length first.output
+  pub not_before : Each (IsShorter n) older
+
+-- the folder, and how many calls on it failed so far
+pub record State : Type 0 where
+  pub folder : Disk
+  pub faults : ℕ
+
+abbrev pub state_in : Snapshot → State
+state_in snapshot = record { folder = snapshot.folder; faults = snapshot.folder_faults }
+
+abbrev pub state_now : Scene → State
+state_now scene = record { folder = scene.folder; faults = scene.folder_faults }
+
+-- the folder at the first snapshot with n bytes of output, or where there is none, at the end of the run
+abbrev pub IsEnd : ℕ → List Snapshot → Scene → State → Type 0
+IsEnd n moments now state = ((last : Snapshot) × IsFirst n moments last × (state ≡ state_in last)) ⊎ (Each (IsShorter n) moments × (state ≡ state_now now))
+
+-- The stretch of a command: it begins where the replies before it were whole, and ends where its own was. Its sync is
+-- acknowledged as the folder has it at both ends, and a failed call that is answered happened in it.
+pub record HasStretch (names : Names) (moments : List Snapshot) (now : Scene) (from to : ℕ) (turn : Turn) : Type 0 where
+  pub first : Snapshot
+  pub last : State
+  pub begins : IsFirst from moments first
+  pub ends : IsEnd to moments now last
+  pub flag : IfSome turn.sync (λ sync. IsFlag names turn.done first.folder last.folder sync.acknowledged)
+  pub cause : turn.failed ≡ true → HasRisen first.folder_faults last.faults
+
+-- P holds of each command, of how long the output was before its reply, and with it
+abbrev pub EachTurn : (ℕ → ℕ → Turn → Type 0) → ℕ → List Turn → Type 0
+EachTurn P from [] = Unit {0}
+EachTurn P from (turn ∷ turns) = P from (from + length turn.reply) turn × EachTurn P (from + length turn.reply) turns

@@ -1,0 +1,103 @@
+-- What a run does, as far as safety goes: the commands that it answers, one turn each, and how it closes.
+use Rattle.std.specs.Prelude.{◌≡◌, ℕ, ◌+◌, ◌<◌, ◌≤◌, Bool, true, false, not, List, [], ◌∷◌, ◌++◌, length, codes, Option, Some, None}
+use Rattle.vs_safety.specs.Texts.{Text, Sync, begun}
+
+-- One command: the sync that it begins before all else, if it does; whether it was carried out, and whether it was answered that
+-- a call on the folder failed; and the bytes of its reply.
+pub record Turn : Type 0 where
+  pub sync : Option Sync
+  pub done : Bool
+  pub failed : Bool
+  pub reply : List ℕ
+
+-- ---- syncs
+
+-- the syncs with this one, if there is one
+abbrev pub with_sync : Option Sync → List Sync → List Sync
+with_sync None syncs = syncs
+with_sync (Some sync) syncs = sync ∷ syncs
+
+-- the syncs while this one is under way
+abbrev pub with_begun : Option Sync → List Sync → List Sync
+with_begun None syncs = syncs
+with_begun (Some sync) syncs = begun sync.text sync.dirty ∷ syncs
+
+-- the syncs after these commands
+abbrev pub after_turns : List Sync → List Turn → List Sync
+after_turns syncs [] = syncs
+after_turns syncs (turn ∷ turns) = after_turns (with_sync turn.sync syncs) turns
+
+-- the syncs while the first of these commands is under way
+abbrev pub with_next : List Sync → List Turn → List Sync
+with_next syncs [] = syncs
+with_next syncs (turn ∷ turns) = with_begun turn.sync syncs
+
+-- the text that was opened counts as the first sync, and is acknowledged
+abbrev pub opened : Text → List Sync
+opened text = record { text = text; dirty = false; acknowledged = true } ∷ []
+
+-- ---- replies
+
+-- the replies, one after another
+abbrev pub replies : List Turn → List ℕ
+replies [] = []
+replies (turn ∷ turns) = turn.reply ++ replies turns
+
+-- the reply to the first of these commands would not be whole at n
+abbrev pub EndsAfter : ℕ → ℕ → List Turn → Type 0
+EndsAfter n from [] = Unit {0}
+EndsAfter n from (turn ∷ turns) = n < from + length turn.reply
+
+-- Where an output in which the replies begin at a place has n bytes, those to the first commands are whole, and no more.
+pub record IsSplit (from n : ℕ) (turns first rest : List Turn) : Type 0 where
+  pub turns_are : turns ≡ first ++ rest
+  pub whole : from + length (replies first) ≤ n
+  pub next : EndsAfter n (from + length (replies first)) rest
+
+-- ---- the end of a run
+
+-- How a run closed: not at all; with a sync at the script's end; or by an accepted `q` or `q!`.
+pub data Closing : Type 0 where
+  NotBegun : Closing
+  LastSync : Sync → Closing
+  Quits : Closing
+
+abbrev pub preserved_line : List ℕ
+preserved_line = codes "File preserved" ++ 10 ∷ []
+
+abbrev pub quit_line : List ℕ
+quit_line = codes "quit" ++ 10 ∷ []
+
+-- the sync at the script's end, which is answered only where it is acknowledged
+abbrev pub last_turn : Sync → Turn
+last_turn sync = record { sync = Some sync; done = sync.acknowledged; failed = not sync.acknowledged; reply = preserved_line }
+
+-- The text and the reply with which a run opened, the commands that it began, and how it closed.
+pub record Ran : Type 0 where
+  pub text : Text
+  pub opening : List ℕ
+  pub turns : List Turn
+  pub closing : Closing
+
+-- a run that answered these commands, and then came to an accepted quit
+abbrev pub quit_run : Text → List ℕ → List Turn → Ran
+quit_run text opening turns = record { text = text; opening = opening; turns = turns; closing = Quits }
+
+-- the commands, and the sync at the script's end as one more
+abbrev pub with_closing : List Turn → Closing → List Turn
+with_closing turns NotBegun = turns
+with_closing turns (LastSync sync) = turns ++ last_turn sync ∷ []
+with_closing turns Quits = turns
+
+abbrev pub all_turns : Ran → List Turn
+all_turns ran = with_closing ran.turns ran.closing
+
+-- what a run writes behind the replies
+abbrev pub behind : Closing → List ℕ
+behind NotBegun = []
+behind (LastSync sync) = []
+behind Quits = quit_line
+
+-- all that a run writes which no failing call cuts short
+abbrev pub all_written : Ran → List ℕ
+all_written ran = (ran.opening ++ replies (all_turns ran)) ++ behind ran.closing

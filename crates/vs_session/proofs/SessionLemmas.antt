@@ -1,0 +1,90 @@
+-- What a sync, and a command, make of a session that fits.
+use Rattle.std.proofs.Common.{◌≡◌, ℕ, Bool, true, ◌==◌, not, List, ◌∷◌, Option, Some, None, Result, Ok, refl, sym, ◌∙◌, ap, subst, arith}
+use Rattle.std.proofs.lemmas.Bool.Decides.{nat_tests}
+use Rattle.vs_host.specs.Disk.{Disk}
+use Rattle.vs_exparse.specs.Command.{Command}
+use Rattle.vs_exparse.specs.declared.command.ExErr.{ExErr}
+use Rattle.vs_exparse.specs.Command.Command.{Preserve, Quit}
+use Rattle.vs_excmd.specs.Request.{Instruction}
+use Rattle.vs_undo.specs.History.{IsHistory}
+use Rattle.vs_undo.specs.declared.parts.Parts.{Parts}
+use Rattle.vs_machine.specs.Machine as machine
+use Rattle.vs_machine.specs.Machine.{State, current_of}
+use Rattle.vs_machine.specs.Replies.{Answer}
+use Rattle.vs_machine.specs.declared.command.Outcome.{Outcome}
+use Rattle.vs_machine.specs.declared.command.Outcome.TheVariants.{Done, NoMemory, Fault}
+use Rattle.vs_safety.specs.Texts.{Sync}
+use Rattle.vs_paged.specs.Fits as folder
+use Rattle.vs_paged.specs.declared.paged.PagedText.{PagedText}
+use Rattle.vs_session.specs.declared.session.Session.{Session}
+use Rattle.vs_session.specs.Session.{SessionState, accepts_quit, answered, begins_after, begins_sync, carried, counted, own_reply, quits, sync_in}
+use Rattle.vs_session.specs.Standing.{FitsState}
+use Rattle.vs_session.specs.Fits.{Fits}
+
+-- the number of the current state
+pub current_is : (undo : Parts) (state : State) → IsHistory undo state.text state.history → undo.current ≡ current_of state
+current_is undo state is = ap (λ (p : Parts). p.current) is.links
+
+pub saved_is : (session : Session) (disk : Disk) (state : SessionState) (syncs : List Sync) (k : ℕ) → Fits session disk state syncs → k ≡ session.history.current → (k == session.saved) ≡ (current_of state.machine == state.saved)
+saved_is session disk state syncs k fits is = ap (λ (n : ℕ). n == session.saved) (is ∙ current_is session.history state.machine fits.stands.history) ∙ ap (λ (n : ℕ). current_of state.machine == n) fits.saved
+
+-- one more sync of this state
+pub stands_synced : (old : Session) (paged : PagedText) (was now : Disk) (state : SessionState) (syncs : List Sync) (k : ℕ) (flag : Bool) → Fits old was state syncs → k ≡ old.history.current
+    → folder.Fits paged now state.machine.text (record { text = state.machine.text; dirty = not (k == old.saved); acknowledged = flag } ∷ syncs) → FitsState paged old.history now state.machine (sync_in state flag ∷ syncs)
+stands_synced old paged was now state syncs k flag fits is text = record {
+  text = subst (λ (b : Bool). folder.Fits paged now state.machine.text (record { text = state.machine.text; dirty = not b; acknowledged = flag } ∷ syncs)) (saved_is old was state syncs k fits is) text;
+  history = fits.stands.history;
+}
+
+-- ---- the steps
+
+same_number : (n : ℕ) → (n == n) ≡ true
+same_number n = grind (arith, nat_tests)
+
+-- the state is the same
+pub counted_same : (steps n : ℕ) → counted steps (n == n) ≡ steps
+counted_same steps n = ap (λ (b : Bool). counted steps b) (same_number n)
+
+pub counted_is : (old : Session) (undo : Parts) (was : Disk) (state : SessionState) (after : State) (syncs : List Sync) (k n : ℕ) → Fits old was state syncs → IsHistory undo after.text after.history
+    → k ≡ old.history.current → n ≡ undo.current → counted old.steps (n == k) ≡ counted state.steps (current_of after == current_of state.machine)
+counted_is old undo was state after syncs k n fits history before now =
+    ap (λ (steps : ℕ). counted steps (n == k)) fits.steps
+    ∙ ap (λ (m : ℕ). counted state.steps (m == k)) (now ∙ current_is undo after history)
+    ∙ ap (λ (m : ℕ). counted state.steps (current_of after == m)) (before ∙ current_is old.history state.machine fits.stands.history)
+
+-- a command that the session answers itself leaves the machine's state
+pub own_stays : (state : SessionState) (instruction : Instruction) (reply : _) (at : ℕ) → own_reply instruction.parsed ≡ Some reply → machine.state_after state.machine instruction (record { outcome = Done; at = at }) ≡ state.machine
+own_stays state instruction reply at is = stays instruction.parsed is
+  where
+    stays : (parsed : _) → own_reply parsed ≡ Some reply → machine.done_state state.machine at (machine.meaning_of state.machine parsed instruction.block) ≡ state.machine
+    stays (Ok Preserve) e = refl
+    stays (Ok (Quit bang)) e = refl
+    stays parsed e = absurd (cc)
+
+pub own_carried : (session : Session) (disk : Disk) (state : SessionState) (syncs : List Sync) (instruction : Instruction) (reply : _) (at : ℕ) → own_reply instruction.parsed ≡ Some reply → Fits session disk state syncs
+    → Fits session disk (carried state instruction (record { outcome = Done; at = at })) syncs
+own_carried session disk state syncs instruction reply at own fits =
+    subst (λ (m : State). Fits session disk (record { machine = m; saved = state.saved; steps = counted state.steps (current_of m == current_of state.machine) }) syncs) (sym (own_stays state instruction reply at own))
+    (record { stands = fits.stands; cursor = fits.cursor; saved = fits.saved; steps = fits.steps ∙ sym (counted_same state.steps (current_of state.machine)) })
+
+-- ---- what a command is
+
+pub answered_none : (outcome : Outcome) (reply : Answer) → answered outcome None reply ≡ reply
+answered_none Done reply = refl
+answered_none NoMemory reply = refl
+answered_none Fault reply = refl
+
+pub quits_is : (session : Session) (disk : Disk) (state : SessionState) (syncs : List Sync) (instruction : Instruction) (parsed : Result Command ExErr) (b : Bool) → Fits session disk state syncs → parsed ≡ instruction.parsed
+    → quits parsed (session.history.current == session.saved) ≡ b → accepts_quit state instruction ≡ b
+quits_is session disk state syncs instruction parsed b fits is same =
+    sym (ap (λ p. quits p (current_of state.machine == state.saved)) is) ∙ sym (ap (λ (x : Bool). quits parsed x) (saved_is session disk state syncs session.history.current fits refl)) ∙ same
+
+pub begins_is : (session : Session) (disk : Disk) (state : SessionState) (syncs : List Sync) (instruction : Instruction) (parsed : Result Command ExErr) (b : Bool) → Fits session disk state syncs → parsed ≡ instruction.parsed
+    → begins_after session.steps parsed ≡ b → begins_sync state instruction ≡ b
+begins_is session disk state syncs instruction parsed b fits is same = sym (ap (λ p. begins_after state.steps p) is) ∙ sym (ap (λ (n : ℕ). begins_after n parsed) fits.steps) ∙ same
+
+pub reply_own : (own : Option Answer) (reply other : Answer) → own ≡ Some reply → reply ≡ answered Done own other
+reply_own own reply other is = sym (ap (λ (o : Option Answer). answered Done o other) is)
+
+pub reply_machine : (outcome : Outcome) (own : Option Answer) (reply other : Answer) → own ≡ None → reply ≡ other → reply ≡ answered outcome own other
+reply_machine outcome own reply other none is = is ∙ sym (ap (λ (o : Option Answer). answered outcome o other) none ∙ answered_none outcome other)

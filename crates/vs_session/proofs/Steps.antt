@@ -1,0 +1,254 @@
+-- One step of a session, as the run sees it: what its sync and its command do, one after the other.
+use Rattle.std.proofs.Common.{◌≡◌, inl, inr, ℕ, ◌≤◌, Bool, true, false, cond, ◌&&◌, ◌||◌, not, length, List, ◌∷◌, Option, Some, None, Result, Ok, Err, OnOk, OnErr, IsErr, is_ok, refl, sym, ◌∙◌, ap, subst, arith}
+use Rattle.std.specs.Str.{bytes_eq}
+use Rattle.std.proofs.lemmas.Bool.{true≢false, cases_Bool}
+use Rattle.vs_faults.specs.Faults.{HasCause, HasRisen}
+use Rattle.vs_host.specs.Disk.{Disk, Name}
+use Rattle.vs_host.specs.Trace.{Snapshot}
+use Rattle.vs_host.specs.World.{Scene, ChangesFolder, ChangesClock, ReadsFolder}
+use Rattle.vs_host.specs.declared.names.Names.{Names}
+use Rattle.vs_disk.specs.Names.{SameAt}
+use Rattle.vs_disk.specs.Runs.{Inside, Runs, Looks}
+use Rattle.vs_disk.proofs.Runs.{goes_then, goes_weaker, reads_change}
+use Rattle.vs_disk.proofs.Others.{same_none, same_then}
+use Rattle.vs_pair.specs.Pair.{Rises, is_swap, is_apart, is_foreign}
+use Rattle.vs_pair.proofs.MadeFiles.{same_weaker}
+use Rattle.vs_excmd.specs.Request.{Instruction}
+use Rattle.vs_machine.specs.Machine as machine
+use Rattle.vs_machine.specs.Machine.{is_done, current_of}
+use Rattle.vs_machine.specs.Replies.{Answer, refuses, device_fault}
+use Rattle.vs_machine.specs.declared.command.Mark.{Mark}
+use Rattle.vs_machine.specs.declared.command.Outcome.{Outcome}
+use Rattle.vs_machine.specs.declared.command.Outcome.TheVariants.{Done, NoMemory, Fault}
+use Rattle.vs_safety.specs.Texts.{Sync, IsBetween, IsFlag, Recovers, RecoversOrNone, recoverable}
+use Rattle.vs_safety.specs.Turns.{Turn, with_sync, last_turn}
+use Rattle.vs_safety.specs.Safety.{Spares, Works, Stepped}
+use Rattle.vs_paged.specs.Fits as folder
+use Rattle.vs_paged.proofs.SyncLemmas.{fits_between, fits_recovers}
+use Rattle.vs_session.specs.declared.session.Session.{Session}
+use Rattle.vs_session.specs.declared.session.Step.{Step}
+use Rattle.vs_session.specs.declared.session.Step.TheVariants as steps
+use Rattle.vs_session.specs.Session.{SessionState, accepts_quit, after_sync, answered, begins_sync, carried, is_fault, own_reply, reply_of, sync_in}
+use Rattle.vs_session.specs.Fits.{Answers, Fits, IsStep, Leaves, names_of}
+use Rattle.vs_session.proofs.SessionLemmas.{counted_same}
+
+-- ---- work on the folder
+
+inside_new : (old new : Scene) (P : Disk → Type 0) → ChangesFolder old new → (m : Snapshot) → Inside old P m → Inside new P m
+inside_new old new P frame m inside = record {
+  output = inside.output ∙ sym (ap (λ (s : Scene). s.output) frame);
+  answered = inside.answered ∙ sym (ap (λ (s : Scene). length s.answers) frame);
+  script_faults = inside.script_faults ∙ sym (ap (λ (s : Scene). s.script_faults) frame);
+  out_faults = inside.out_faults ∙ sym (ap (λ (s : Scene). s.out_faults) frame);
+  folder = inside.folder;
+}
+
+inside_as : (start : Scene) (P Q : Disk → Type 0) → ((d : Disk) → P d → Q d) → (m : Snapshot) → Inside start P m → Inside start Q m
+inside_as start P Q leads m inside = record { output = inside.output; answered = inside.answered; script_faults = inside.script_faults; out_faults = inside.out_faults; folder = leads m.folder inside.folder }
+
+pub works_runs : (names : Names) (P : Disk → Type 0) (step : Disk → Disk → Type 0) (old new : Scene) → ChangesFolder old new → ((d : Disk) → step old.folder d → Spares names P old.folder d) → Runs step old new → Works names P old new
+works_runs names P step old new frame leads runs = record {
+  moments = goes_weaker (Inside old (step old.folder)) (Inside new (Spares names P old.folder))
+      (λ m inside. inside_new old new (Spares names P old.folder) frame m (inside_as old (step old.folder) (Spares names P old.folder) leads m inside)) old.trace new.trace runs.moments;
+  output = ap (λ (s : Scene). s.output) frame;
+  spared = (leads new.folder runs.now).spared;
+}
+
+pub works_looks : (names : Names) (P : Disk → Type 0) (old new : Scene) → ReadsFolder old new → P old.folder → Looks old new → Works names P old new
+works_looks names P old new frame here looks =
+    works_runs names P (λ a b. b ≡ a) old new (reads_change old new frame)
+    (λ d is. subst (λ (e : Disk). Spares names P old.folder e) (sym is) (record { folder = here; spared = same_none (is_foreign names) old.folder })) looks
+
+pub works_then : (names : Names) (P : Disk → Type 0) (old mid new : Scene) → ChangesFolder mid new → Works names P old mid → Works names P mid new → Works names P old new
+works_then names P old mid new frame first second = record {
+  moments = goes_then (Inside new (Spares names P old.folder)) old.trace mid.trace new.trace
+      (goes_weaker (Inside mid (Spares names P old.folder)) (Inside new (Spares names P old.folder)) (inside_new mid new (Spares names P old.folder) frame) old.trace mid.trace first.moments)
+      (goes_weaker (Inside new (Spares names P mid.folder)) (Inside new (Spares names P old.folder))
+      (inside_as new (Spares names P mid.folder) (Spares names P old.folder) (λ d spares. record { folder = spares.folder; spared = same_then (is_foreign names) old.folder mid.folder d first.spared spares.spared }))
+      mid.trace new.trace second.moments);
+  output = second.output ∙ first.output;
+  spared = same_then (is_foreign names) old.folder mid.folder new.folder first.spared second.spared;
+}
+
+-- all names but those of the pair are no swap files
+apart_foreign : (names : Names) (name : Name) → is_foreign names name ≡ true → is_apart names name ≡ true
+apart_foreign names name foreign = elim (cases_Bool (is_swap names name)) [
+  | inl swap ↦ absurd (true≢false (sym foreign ∙ ap (λ (b : Bool). not (b || (bytes_eq names.swp_new name || bytes_eq names.swo_new name))) swap))
+  | inr apart ↦ ap not apart
+]
+
+pub spares_apart : (names : Names) (old new : Disk) → SameAt (is_apart names) old new → SameAt (is_foreign names) old new
+spares_apart names old new same = same_weaker (is_apart names) (is_foreign names) old new (apart_foreign names) same
+
+-- ---- flags and faults
+
+pub flag_true : (names : Names) (done : Bool) (old new : Disk) → Rises names old new → IsFlag names done old new true
+flag_true names done old new rises = record { if_done = λ _. refl; rises = λ _ _. rises; if_rises = λ _ _. refl }
+
+pub flag_false : (names : Names) (old new : Disk) → (Rises names old new → ⊥) → IsFlag names false old new false
+flag_false names old new none = record { if_done = λ is. absurd (true≢false (sym is)); rises = λ _ is. absurd (true≢false (sym is)); if_rises = λ _ rises. absurd (none rises) }
+
+failed_is : (outcome : Outcome) → is_fault outcome ≡ true → outcome ≡ Fault
+failed_is Done is = absurd (true≢false (sym is))
+failed_is NoMemory is = absurd (true≢false (sym is))
+failed_is Fault is = refl
+
+risen_since : (a b c : ℕ) → a ≤ b → HasRisen b c → HasRisen a c
+risen_since a b c le (inl less) = inl (omega (arith, le, less))
+risen_since a b c le (inr full) = inr full
+
+pub between_synced : (names : Names) (session : Session) (disk : Disk) (state : SessionState) (syncs : List Sync) → names_of session ≡ names → Fits session disk state syncs → IsBetween names syncs disk
+between_synced names session disk state syncs is fits = subst (λ (n : Names). IsBetween n syncs disk) is (fits_between session.text disk state.machine.text syncs fits.stands.text)
+
+pub recovers_synced : (names : Names) (session : Session) (disk : Disk) (state : SessionState) (syncs : List Sync) → names_of session ≡ names → Fits session disk state syncs → Recovers names (recoverable syncs) disk
+recovers_synced names session disk state syncs is fits = subst (λ (n : Names). Recovers n (recoverable syncs) disk) is (fits_recovers session.text disk state.machine.text syncs fits.stands.text)
+
+-- ---- one command
+
+module _ (state : SessionState) (syncs : List Sync) (instruction : Instruction) (before : Session) (old : Scene) (goes_on : accepts_quit state instruction ≡ false) (fits : Fits before old.folder state syncs) where
+  abbrev begins : Bool
+  begins = begins_sync state instruction
+
+  abbrev turn_with : Option Sync → Mark → Answer → Turn
+  turn_with sync mark reply = record { sync = sync; done = is_done mark.outcome; failed = is_fault mark.outcome; reply = reply.bytes }
+
+  -- no sync
+  pub answers_plainly : (after : Session) (mark : Mark) (reply : Answer) (new : Scene) → begins ≡ false → names_of after ≡ names_of before → ReadsFolder old new → Looks old new
+      → HasCause old.folder_faults new.folder_faults (mark.outcome ≡ Fault) → reply ≡ answered mark.outcome (own_reply instruction.parsed) (machine.reply_of state.machine instruction mark)
+      → Fits after new.folder (carried state instruction mark) syncs → Answers state syncs instruction before after mark reply old new
+  answers_plainly after mark reply new none names frame looks cause replied now = record {
+    not_quit = goes_on;
+    acknowledged = false;
+    reply_is = replied;
+    fits = subst (λ (b : Bool). Fits after new.folder (carried (after_sync state (b && false)) instruction mark) (with_sync (cond b (Some (sync_in state false)) None) syncs)) (sym none) now;
+    stepped = subst (λ (b : Bool). Stepped (names_of before) syncs (turn_with (cond b (Some (sync_in state false)) None) mark (reply_of state instruction (record { mark = mark; acknowledged = false }))) old new) (sym none)
+        (record {
+          works = works_looks (names_of before) (Recovers (names_of before) (recoverable syncs)) old new frame (recovers_synced (names_of before) before old.folder state syncs refl fits) looks;
+          flag = tt;
+          cause = λ failed. cause.risen (failed_is mark.outcome failed);
+          between = between_synced (names_of before) after new.folder (carried state instruction mark) syncs names now;
+        });
+  }
+
+  -- a sync that failed
+  pub answers_failed : (after : Session) (at : ℕ) (reply : Answer) (new : Scene) → begins ≡ true → names_of after ≡ names_of before → ChangesFolder old new → Runs (folder.Syncing before.text) old new
+      → HasRisen old.folder_faults new.folder_faults → reply ≡ refuses device_fault → (Rises (names_of before) old.folder new.folder → ⊥) → Fits after new.folder state (sync_in state false ∷ syncs)
+      → Answers state syncs instruction before after (record { outcome = Fault; at = at }) reply old new
+  answers_failed after at reply new begun names frame runs risen replied none now = record {
+    not_quit = goes_on;
+    acknowledged = false;
+    reply_is = replied;
+    fits = subst (λ (b : Bool). Fits after new.folder (carried (after_sync state (b && false)) instruction mark) (with_sync (cond b (Some (sync_in state false)) None) syncs)) (sym begun) stays;
+    stepped = subst (λ (b : Bool). Stepped (names_of before) syncs (turn_with (cond b (Some (sync_in state false)) None) mark (reply_of state instruction (record { mark = mark; acknowledged = false }))) old new) (sym begun)
+        (record {
+          works = synced_works;
+          flag = flag_false (names_of before) old.folder new.folder none;
+          cause = λ _. risen;
+          between = between_synced (names_of before) after new.folder state (sync_in state false ∷ syncs) names now;
+        });
+  }
+    where
+      mark : Mark
+      mark = record { outcome = Fault; at = at }
+
+      stays : Fits after new.folder (carried state instruction mark) (sync_in state false ∷ syncs)
+      stays = record { stands = now.stands; cursor = now.cursor; saved = now.saved; steps = now.steps ∙ sym (counted_same state.steps (current_of state.machine)) }
+
+      synced_works : Works (names_of before) (Recovers (names_of before) (state.machine.text ∷ recoverable syncs)) old new
+      synced_works =
+          works_runs (names_of before) (Recovers (names_of before) (state.machine.text ∷ recoverable syncs)) (folder.Syncing before.text) old new frame
+          (λ d syncing. record { folder = syncing.safe state.machine.text syncs fits.stands.text; spared = spares_apart (names_of before) old.folder d (syncing.spared state.machine.text syncs fits.stands.text) }) runs
+
+  -- a sync that was acknowledged, and the command after it
+  pub answers_synced : (between after : Session) (mark : Mark) (reply : Answer) (mid new : Scene) → begins ≡ true → names_of between ≡ names_of before → names_of after ≡ names_of before → ChangesFolder old mid
+      → Runs (folder.Syncing before.text) old mid → old.folder_faults ≤ mid.folder_faults → Rises (names_of before) old.folder mid.folder → Fits between mid.folder (after_sync state true) (sync_in state true ∷ syncs)
+      → ReadsFolder mid new → Looks mid new → HasCause mid.folder_faults new.folder_faults (mark.outcome ≡ Fault) → reply ≡ answered mark.outcome (own_reply instruction.parsed) (machine.reply_of state.machine instruction mark)
+      → Fits after new.folder (carried (after_sync state true) instruction mark) (sync_in state true ∷ syncs) → Answers state syncs instruction before after mark reply old new
+  answers_synced between after mark reply mid new begun same names frame runs later rises synced second looks cause replied now = record {
+    not_quit = goes_on;
+    acknowledged = true;
+    reply_is = replied;
+    fits = subst (λ (b : Bool). Fits after new.folder (carried (after_sync state (b && true)) instruction mark) (with_sync (cond b (Some (sync_in state true)) None) syncs)) (sym begun) now;
+    stepped = subst (λ (b : Bool). Stepped (names_of before) syncs (turn_with (cond b (Some (sync_in state true)) None) mark (reply_of state instruction (record { mark = mark; acknowledged = true }))) old new) (sym begun)
+        (record {
+          works = works_then (names_of before) P old mid new (reads_change mid new second) first (works_looks (names_of before) P mid new second here looks);
+          flag = flag_true (names_of before) (is_done mark.outcome) old.folder new.folder (subst (λ (d : Disk). Rises (names_of before) old.folder d) (sym (ap (λ (s : Scene). s.folder) second)) rises);
+          cause = λ failed. risen_since old.folder_faults mid.folder_faults new.folder_faults later (cause.risen (failed_is mark.outcome failed));
+          between = between_synced (names_of before) after new.folder (carried (after_sync state true) instruction mark) (sync_in state true ∷ syncs) names now;
+        });
+  }
+    where
+      P : Disk → Type 0
+      P = Recovers (names_of before) (state.machine.text ∷ recoverable syncs)
+
+      first : Works (names_of before) P old mid
+      first = works_runs (names_of before) P (folder.Syncing before.text) old mid frame
+          (λ d syncing. record { folder = syncing.safe state.machine.text syncs fits.stands.text; spared = spares_apart (names_of before) old.folder d (syncing.spared state.machine.text syncs fits.stands.text) }) runs
+
+      here : P mid.folder
+      here image whole =
+          let given = recovers_synced (names_of before) between mid.folder (after_sync state true) (sync_in state true ∷ syncs) same synced image whole in
+          (given.0, elim given.1 [ inl is ↦ inl is | inr none ↦ absurd none ], given.2)
+
+-- ---- the clock before it
+
+pub answers_from : (state : SessionState) (syncs : List Sync) (instruction : Instruction) (before after : Session) (mark : Mark) (reply : Answer) (old mid new : Scene) → ChangesClock old mid
+    → Answers state syncs instruction before after mark reply mid new → Answers state syncs instruction before after mark reply old new
+answers_from state syncs instruction before after mark reply old mid new clock is =
+    let now : Answers state syncs instruction before after mark reply (record old { answers = mid.answers }) new =
+    subst (λ (s : Scene). Answers state syncs instruction before after mark reply s new) clock is in
+    record {
+      not_quit = now.not_quit;
+      acknowledged = now.acknowledged;
+      reply_is = now.reply_is;
+      fits = now.fits;
+      stepped = record {
+        works = record { moments = now.stepped.works.moments; output = now.stepped.works.output; spared = now.stepped.works.spared };
+        flag = now.stepped.flag;
+        cause = now.stepped.cause;
+        between = now.stepped.between;
+      };
+    }
+
+-- ---- the last sync
+
+module _ (names : Names) (session : Session) (state : SessionState) (syncs : List Sync) (old new : Scene) (is : names_of session ≡ names) (fits : Fits session old.folder state syncs) (frame : ChangesFolder old new)
+    (runs : Runs (folder.Syncing session.text) old new) where
+  last_works : Works names (Recovers names (state.machine.text ∷ recoverable syncs)) old new
+  last_works = subst (λ (n : Names). Works n (Recovers n (state.machine.text ∷ recoverable syncs)) old new) is
+      (works_runs (names_of session) (Recovers (names_of session) (state.machine.text ∷ recoverable syncs)) (folder.Syncing session.text) old new frame
+      (λ d syncing. record { folder = syncing.safe state.machine.text syncs fits.stands.text; spared = spares_apart (names_of session) old.folder d (syncing.spared state.machine.text syncs fits.stands.text) }) runs)
+
+  pub last_acknowledged : Rises names old.folder new.folder → IsBetween names (sync_in state true ∷ syncs) new.folder → Stepped names syncs (last_turn (sync_in state true)) old new
+  last_acknowledged rises between = record { works = last_works; flag = flag_true names true old.folder new.folder rises; cause = λ no. absurd (true≢false (sym no)); between = between }
+
+  pub last_failed : HasRisen old.folder_faults new.folder_faults → (Rises names old.folder new.folder → ⊥) → IsBetween names (sync_in state false ∷ syncs) new.folder → Stepped names syncs (last_turn (sync_in state false)) old new
+  last_failed risen none between = record { works = last_works; flag = flag_false names old.folder new.folder none; cause = λ _. risen; between = between }
+
+pub last_step : {T E : Type 0} (result : Result T E) (session after : Session) (state : SessionState) (syncs : List Sync) (old new : Scene) → names_of after ≡ names_of session → Fits session old.folder state syncs
+    → ChangesFolder old new → Runs (folder.Syncing session.text) old new → HasCause old.folder_faults new.folder_faults (IsErr result) → OnOk result (Rises (names_of session) old.folder new.folder)
+    → OnErr result (Rises (names_of session) old.folder new.folder → ⊥) → OnOk result (Fits after new.folder (after_sync state true) (sync_in state true ∷ syncs)) → OnErr result (Fits after new.folder state (sync_in state false ∷ syncs))
+    → Stepped (names_of session) syncs (last_turn (sync_in state (is_ok result))) old new
+last_step (Ok x) session after state syncs old new same fits frame runs cause rises none ok err =
+    last_acknowledged (names_of session) session state syncs old new refl fits frame runs rises (between_synced (names_of session) after new.folder (after_sync state true) (sync_in state true ∷ syncs) same ok)
+last_step (Err e) session after state syncs old new same fits frame runs cause rises none ok err =
+    last_failed (names_of session) session state syncs old new refl fits frame runs (cause.risen refl) none (between_synced (names_of session) after new.folder state (sync_in state false ∷ syncs) same err)
+
+-- ---- the removal
+
+pub leaves : (session : Session) (state : SessionState) (syncs : List Sync) (old new : Scene) → Fits session old.folder state syncs → ChangesFolder old new → Runs (folder.Ending session.text) old new → Leaves (names_of session) syncs old new
+leaves session state syncs old new fits frame runs = record {
+  works = works_runs (names_of session) (RecoversOrNone (names_of session) (recoverable syncs)) (folder.Ending session.text) old new frame
+      (λ d ending. record { folder = ending.safe state.machine.text syncs fits.stands.text; spared = spares_apart (names_of session) old.folder d (ending.spared state.machine.text syncs fits.stands.text) }) runs;
+  now = runs.now.safe state.machine.text syncs fits.stands.text;
+}
+
+-- ---- a step of either answer
+
+pub fits_moved : (session : Session) (was now : Disk) (state : SessionState) (syncs : List Sync) → now ≡ was → Fits session was state syncs → Fits session now state syncs
+fits_moved session was now state syncs same fits = subst (λ (d : Disk). Fits session d state syncs) (sym same) fits
+
+pub step_from : (step : Step) (state : SessionState) (syncs : List Sync) (instruction : Instruction) (before after : Session) (old mid new : Scene) → ChangesClock old mid → IsStep step state syncs instruction before after mid new
+    → IsStep step state syncs instruction before after old new
+step_from (steps.Answer mark reply) state syncs instruction before after old mid new clock is = answers_from state syncs instruction before after mark reply old mid new clock is
+step_from steps.Quit state syncs instruction before after old mid new clock is = (is.0, is.1, is.2 ∙ ap (λ (s : Scene). s.trace) clock, is.3 ∙ ap (λ (s : Scene). s.folder) clock, is.4 ∙ ap (λ (s : Scene). s.folder_faults) clock)

@@ -1,0 +1,119 @@
+-- A text in the pages of a pair is what a store over them has, so each clause of the store says what the text is.
+use Rattle.std.proofs.Common.{◌≡◌, inr, Bool, IsTrue, List, Result, Ok, Err, IfOk, sym, subst, arith}
+use Rattle.vs_pages.specs.Memory.{present_of, committed_of}
+use Rattle.vs_pages.specs.declared.memory.MemPages.{MemPages}
+use Rattle.vs_edit.specs.State.{SameText}
+use Rattle.vs_tree.specs.declared.tree.LineTree.{LineTree}
+use Rattle.vs_tree.specs.Texts.{Fits, HasText, Tells, text_of}
+use Rattle.vs_tree.specs.Sames.{one_text}
+use Rattle.vs_host.specs.Disk.{Disk}
+use Rattle.vs_host.specs.World as world
+use Rattle.vs_host.specs.World.{Scene}
+use Rattle.vs_pair.specs.declared.files.SwapFiles.{SwapFiles}
+use Rattle.vs_pair.specs.declared.pair.SwapPair.{SwapPair}
+use Rattle.vs_pair.specs.Pair.{IsFit, known_of}
+use Rattle.vs_pair.specs.Lent.{IsReady, KeepsFiles}
+use Rattle.vs_undo.specs.History.{History, IsHistory, FitsText}
+use Rattle.vs_undo.specs.declared.parts.Parts.{Parts}
+use Rattle.vs_machine.specs.Machine.{State}
+use Rattle.vs_safety.specs.Texts.{Text, Sync}
+use Rattle.vs_paged.specs.Fits as folder
+use Rattle.vs_paged.specs.declared.paged.PagedText.{PagedText}
+use Rattle.vs_session.specs.Standing.{Stands, FitsState}
+use Rattle.vs_paged.specs.Pages.{IsBounded, IsPaged}
+
+-- ---- answers
+
+pub if_ok_as : {T E : Type 0} (result : Result T E) (P Q : T → Type 0) → ((x : T) → P x → Q x) → IfOk result P → IfOk result Q
+if_ok_as (Ok x) P Q leads is = leads x is
+if_ok_as (Err e) P Q leads is = tt
+
+-- ---- what the store asks
+
+pub present_fits : (tells : Bool) (pages : MemPages) (tree : LineTree) → IsBounded tree → (IsTrue tells → (text : Text) × IsPaged pages tree text) → Fits tells (present_of pages) tree.present
+present_fits tells pages tree bounded paged = record {
+  few = bounded.few_lines;
+  few_bytes = bounded.few_bytes;
+  one = λ told. let is = paged told in (is.0, is.1.present);
+}
+
+pub committed_fits : (tells : Bool) (pages : MemPages) (tree : LineTree) → IsBounded tree → (IsTrue tells → (text : Text) × IsPaged pages tree text) → Fits tells (committed_of pages) tree.committed
+committed_fits tells pages tree bounded paged = record {
+  few = omega (arith, bounded.few_lines, bounded.same_lines);
+  few_bytes = omega (arith, bounded.few_bytes, bounded.same_bytes);
+  one = λ told. let is = paged told in (is.0, is.1.committed);
+}
+
+pub same_text : (tells : Bool) (pages : MemPages) (tree : LineTree) → IsBounded tree → (IsTrue tells → (text : Text) × IsPaged pages tree text)
+    → SameText (text_of tells (present_of pages) tree.present) (text_of tells (committed_of pages) tree.committed)
+same_text tells pages tree bounded paged = record {
+  text = λ text is.
+      let here = paged is.told in
+      let same : here.0 ≡ text = one_text (present_of pages) tree.present here.0 text here.1.present is.has in
+      record { told = is.told; has = let H : Text → Type 0 = λ t. HasText (committed_of pages) tree.committed t in subst H same here.1.committed };
+  lines = bounded.same_lines;
+  bytes = bounded.same_bytes;
+}
+
+-- ---- what the store leaves
+
+pub told_text : (tells : Bool) (pages : MemPages) (tree : LineTree) (text : Text) → IsTrue tells → IsPaged pages tree text → Tells tells (present_of pages) tree.present text
+told_text tells pages tree text told is = record { told = told; has = is.present }
+
+pub paged_text : (tells : Bool) (pages : MemPages) (tree : LineTree) (text : Text) → SameText (text_of tells (present_of pages) tree.present) (text_of tells (committed_of pages) tree.committed)
+    → Tells tells (present_of pages) tree.present text → IsPaged pages tree text
+paged_text tells pages tree text same is = record { present = is.has; committed = (same.text text is).has }
+
+pub bounded_tree : (tells : Bool) (pages : MemPages) (tree : LineTree) → Fits tells (present_of pages) tree.present → SameText (text_of tells (present_of pages) tree.present) (text_of tells (committed_of pages) tree.committed) → IsBounded tree
+bounded_tree tells pages tree fits same = record { few_lines = fits.few; few_bytes = fits.few_bytes; same_lines = same.lines; same_bytes = same.bytes }
+
+-- ---- the state of the machine
+
+-- a tree that is the history of a text fits it
+pub fits_undo : (undo : Parts) (text : Text) (history : History) → IsHistory undo text history → FitsText undo text
+fits_undo undo text history is = record { texts = history.texts; are_states = is.are_states; current = sym is.current }
+
+module _ (tells : Bool) (pages : MemPages) (tree : LineTree) (undo : Parts) (stands : IsTrue tells → (state : State) × Stands pages tree undo state) where
+  pub stands_paged : IsTrue tells → (text : Text) × IsPaged pages tree text
+  stands_paged told = let is = stands told in (is.0.text, is.1.text)
+
+  pub stands_undo : (text : Text) → Tells tells (present_of pages) tree.present text → FitsText undo text
+  stands_undo text is =
+      let here = stands is.told in
+      let same : here.0.text ≡ text = one_text (present_of pages) tree.present here.0.text text here.1.text.present is.has in
+      subst (λ (t : Text). FitsText undo t) same (fits_undo undo here.0.text here.0.history here.1.history)
+
+-- what was lent is as the store left it
+pub stands_back : (now held : SwapPair) (tree left : LineTree) (undo : Parts) (state : State) → now ≡ held → tree ≡ left → Stands held.pages left undo state → Stands now.pages tree undo state
+stands_back now held tree left undo state pair_is tree_is is =
+    let P : SwapPair → Type 0 = λ p. Stands p.pages tree undo state in
+    let Q : LineTree → Type 0 = λ t. Stands held.pages t undo state in
+    subst P (sym pair_is) (subst Q (sym tree_is) is)
+
+pub keeps_back : (tells : world.Tells) (was now held : SwapPair) (old new left : Scene) → now ≡ held → new ≡ left → KeepsFiles tells was.files held.files old left → KeepsFiles tells was.files now.files old new
+keeps_back tells was now held old new left pair_is host_is is =
+    let P : SwapPair → Type 0 = λ p. KeepsFiles tells was.files p.files old new in
+    let Q : Scene → Type 0 = λ s. KeepsFiles tells was.files held.files old s in
+    subst P (sym pair_is) (subst Q (sym host_is) is)
+
+-- ---- the text in the folder
+
+pub fits_ready : (paged : PagedText) (disk : Disk) (text : Text) (syncs : List Sync) → folder.Fits paged disk text syncs → IsReady paged.pair disk
+fits_ready paged disk text syncs fits = inr (fits.newest, fits.later, fits.past, fits.fit)
+
+-- the same swap files in the same folder
+pub fits_left : (old new : PagedText) (was now : Disk) (text after : Text) (syncs : List Sync) → new.pair.files ≡ old.pair.files → now ≡ was → folder.Fits old was text syncs → IsPaged new.pair.pages new.tree after → folder.Fits new now after syncs
+fits_left old new was now text after syncs files same fits pages = record {
+  pages = pages;
+  newest = fits.newest;
+  later = fits.later;
+  past = fits.past;
+  fit = let P : SwapFiles → Type 0 = λ f. IsFit (record { names = f.names; newer = f.newer; gate = f.gate; generation = f.generation }) now fits.newest fits.later fits.past in
+      let Q : Disk → Type 0 = λ d. IsFit (known_of old.pair) d fits.newest fits.later fits.past in
+      subst P (sym files) (subst Q (sym same) fits.fit);
+  syncs_are = fits.syncs_are;
+}
+
+pub state_left : (old new : PagedText) (undo left : Parts) (was now : Disk) (state after : State) (syncs : List Sync) → new.pair.files ≡ old.pair.files → now ≡ was → FitsState old undo was state syncs
+    → Stands new.pair.pages new.tree left after → FitsState new left now after syncs
+state_left old new undo left was now state after syncs files same fits stands = record { text = fits_left old new was now state.text after.text syncs files same fits.text stands.text; history = stands.history }

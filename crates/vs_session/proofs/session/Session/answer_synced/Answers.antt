@@ -1,0 +1,30 @@
+use Rattle.std.proofs.Common.{◌∷◌, true, false, refl, ◌∙◌}
+use Rattle.vs_session.specs.Session.{after_sync, sync_in}
+use Rattle.vs_session.proofs.SessionLemmas.{quits_is, begins_is}
+use Rattle.vs_session.proofs.Steps.{answers_synced, answers_failed}
+use Rattle.vs_session.proofs.session.Session.answer_synced.Goals as goal
+
+pub carry_out-outcome-requires-clause-undo : goal.carry_out-outcome-requires-clause-undo
+carry_out-outcome-requires-clause-undo g c = c.in-Ok.ensures.undo c.requires.undo
+
+pub carry_out-outcome-requires-clause-fits : goal.carry_out-outcome-requires-clause-fits
+carry_out-outcome-requires-clause-fits g c told = let given = c.requires.fits told in (after_sync given.0 true, sync_in given.0 true ∷ given.1, c.in-Ok.ensures.ok told given.0 given.1 given.2)
+
+pub returns-in-Ok-clause-step : goal.returns-in-Ok-clause-step
+returns-in-Ok-clause-step g c told state syncs instruction fits is =
+    let old = g.F.World.scene c.args.host.now in
+    let mid = g.F.World.scene c.sync.new.host in
+    let new = g.F.World.scene c.carry_out-outcome.new.host in
+    let synced = c.in-Ok.ensures.ok told state syncs fits in
+    answers_synced state syncs instruction c.args.self.now old (quits_is c.args.self.now old.folder state syncs instruction _ false fits is.parsed c.requires.goes_on) fits c.sync.new.self c.carry_out-outcome.new.self _ _ mid new
+    (begins_is c.args.self.now old.folder state syncs instruction _ true fits is.parsed c.requires.begins) c.in-Ok.ensures.file.names (c.carry_out-outcome.ensures.file.names ∙ c.in-Ok.ensures.file.names) c.in-Ok.ensures.acts.frame
+    (c.in-Ok.ensures.acts.runs told) c.in-Ok.ensures.acts.later (c.in-Ok.ensures.rises told) synced c.carry_out-outcome.ensures.frame (c.carry_out-outcome.ensures.looks told) c.carry_out-outcome.ensures.cause
+    (c.carry_out-outcome.ensures.reply told (after_sync state true) (sync_in state true ∷ syncs) instruction synced is) (c.carry_out-outcome.ensures.fits told (after_sync state true) (sync_in state true ∷ syncs) instruction synced is)
+
+pub returns-in-Err-clause-step : goal.returns-in-Err-clause-step
+returns-in-Err-clause-step g c told state syncs instruction fits is =
+    let old = g.F.World.scene c.args.host.now in
+    let new = g.F.World.scene c.sync.new.host in
+    answers_failed state syncs instruction c.args.self.now old (quits_is c.args.self.now old.folder state syncs instruction _ false fits is.parsed c.requires.goes_on) fits c.sync.new.self c.args.at _ new
+    (begins_is c.args.self.now old.folder state syncs instruction _ true fits is.parsed c.requires.begins) c.in-Err.ensures.file.names c.in-Err.ensures.acts.frame (c.in-Err.ensures.acts.runs told)
+    (c.in-Err.ensures.cause.risen refl) c.device_fault.ensures (c.in-Err.ensures.stays told) (c.in-Err.ensures.err told state syncs fits)

@@ -1,0 +1,14 @@
+use Rattle.std.proofs.Common.{sym, ap, ◌∙◌}
+use Rattle.vs_session.specs.Session.{own_reply}
+use Rattle.vs_session.proofs.SessionLemmas.{own_carried, reply_own, reply_machine}
+use Rattle.vs_session.proofs.session.Session.carry_out.Goals as goal
+
+pub returns-in-Some-clause-reply : goal.returns-in-Some-clause-reply
+returns-in-Some-clause-reply g c told state syncs instruction fits is = reply_own (own_reply instruction.parsed) _ _ (sym (ap own_reply is.parsed) ∙ sym c.in-Some.ensures)
+
+pub returns-in-Some-clause-fits : goal.returns-in-Some-clause-fits
+returns-in-Some-clause-fits g c told state syncs instruction fits is = own_carried _ _ state syncs instruction _ _ (sym (ap own_reply is.parsed) ∙ sym c.in-Some.ensures) fits
+
+pub returns-in-None-clause-reply : goal.returns-in-None-clause-reply
+returns-in-None-clause-reply g c told state syncs instruction fits is =
+    reply_machine c.run_machine.result.0 (own_reply instruction.parsed) _ _ (sym (ap own_reply is.parsed) ∙ sym c.in-None.ensures) (c.run_machine.ensures.reply told state syncs instruction fits is)

@@ -1,0 +1,17 @@
+use Rattle.std.proofs.Common.{ap}
+use Rattle.vs_host.specs.World.{Scene}
+use Rattle.vs_session.proofs.Steps.{fits_moved, step_from}
+use Rattle.vs_session.proofs.session.Session.step.Goals as goal
+
+pub answer-requires-clause-fits : goal.answer-requires-clause-fits
+answer-requires-clause-fits g c told =
+    let given = c.requires.fits told in
+    (given.0, given.1, fits_moved _ _ _ given.0 given.1 (ap (λ (s : Scene). s.folder) c.now-at.ensures.frame) given.2)
+
+pub returns-clause-step : goal.returns-clause-step
+returns-clause-step g c told state syncs instruction fits is =
+    let old = g.H.World.scene c.args.host.now in
+    let mid = g.H.World.scene c.now-at.new.self in
+    let new = g.H.World.scene c.answer.new.host in
+    step_from c.answer.result state syncs instruction c.args.self.now c.answer.new.self old mid new c.now-at.ensures.frame
+    (c.answer.ensures.step told state syncs instruction (fits_moved c.args.self.now old.folder mid.folder state syncs (ap (λ (s : Scene). s.folder) c.now-at.ensures.frame) fits) is)

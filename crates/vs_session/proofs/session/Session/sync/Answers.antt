@@ -1,0 +1,23 @@
+use Rattle.std.proofs.Common.{true, false, refl}
+use Rattle.vs_pair.proofs.Calls.{on_err_from}
+use Rattle.vs_session.proofs.SessionLemmas.{stands_synced}
+use Rattle.vs_session.proofs.session.Session.sync.Goals as goal
+
+pub returns-in_err-sync-clause-err : goal.returns-in_err-sync-clause-err
+returns-in_err-sync-clause-err g c =
+    on_err_from c.from_residual.result _ (λ told state syncs fits. record {
+      stands = stands_synced c.args.self.now c.sync.new.self (g.F.World.scene c.args.host.now).folder (g.F.World.scene c.sync.new.host).folder state syncs c.current.result false fits c.current.ensures
+          (c.in_err-sync.ensures.err told state.machine.text syncs fits.stands.text);
+      cursor = fits.cursor;
+      saved = fits.saved;
+      steps = fits.steps;
+    })
+
+pub returns-clause-ok : goal.returns-clause-ok
+returns-clause-ok g c told state syncs fits = record {
+  stands = stands_synced c.args.self.now c.sync.new.self (g.F.World.scene c.args.host.now).folder (g.F.World.scene c.sync.new.host).folder state syncs c.current.result true fits c.current.ensures
+      (c.in_ok-sync.ensures.ok told state.machine.text syncs fits.stands.text);
+  cursor = fits.cursor;
+  saved = fits.saved;
+  steps = refl;
+}

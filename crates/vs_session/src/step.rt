@@ -1,0 +1,269 @@
+// One step of a session.
+ghost use Rattle.std.specs.Prelude.{◌≡◌, ◌+◌, ◌<◌, ◌≤◌, ◌==◌, ◌^◌, ◌∷◌, ℕ, List, true, false, IsErr, IsTrue, OnErr, OnOk, length};
+ghost use Rattle.vs_faults.specs.Faults.{HasCause};
+ghost use Rattle.vs_host.specs.World.{ChangesFolder, ReadsFolder};
+ghost use Rattle.vs_disk.specs.Runs.{Looks};
+ghost use Rattle.vs_pair.specs.Acts.{Acts, NoneFails};
+ghost use Rattle.vs_pair.specs.Pair.{Rises};
+ghost use Rattle.vs_exparse.specs.Command.{command_of, result_of};
+ghost use Rattle.vs_excmd.specs.Request.{Instruction, IsFormed, IsRequest};
+ghost use Rattle.vs_machine.specs.Machine.{reply_of as machine_reply};
+ghost use Rattle.vs_machine.specs.declared.command.Mark.{Mark};
+ghost use Rattle.vs_safety.specs.Texts.{Sync};
+ghost use Rattle.vs_paged.specs.Fits.{Syncing};
+ghost use Rattle.vs_session.specs.Fits.{Fits, FitsUndo, IsFault, IsMarkedAt, IsStep, IsTimed, SameFile, StepsIn, generation_of, names_of};
+ghost use Rattle.vs_session.specs.Session.{SessionState, after_sync, answered, begins_after, carried, counted, is_move, own_reply, quits, sync_in};
+
+use crate::answering::answer_text;
+use crate::session::STEPS_BETWEEN_SYNCS;
+use crate::{Session, Step};
+use std::alloc::Global;
+use vs_edit::StoreErr;
+use vs_excmd::{Request, changes_text};
+use vs_exparse::Command;
+use vs_host::{Failed, Folder, Host};
+use vs_machine::{Answered, Mark, Outcome, Reply};
+
+// Whether a command moves to another state of the history.
+fn is_move(command: &Command) -> bool
+    ensures { result ≡ is_move (command_of command.now) }
+{
+    matches!(
+        command,
+        Command::Undo { .. } | Command::Redo | Command::Earlier { .. } | Command::Later { .. }
+    )
+}
+
+// The steps after one that led to the same state, or to another.
+fn counted(steps: u64, same: bool) -> u64
+    requires { steps ≤ 200 }
+    ensures count { result ≡ counted steps same }
+    ensures few { result ≤ 200 }
+{
+    if same {
+        return steps;
+    }
+    (steps + 1).min(STEPS_BETWEEN_SYNCS)
+}
+
+// What the session itself answers to a command that is no accepted quit.
+fn own_reply(request: &Request) -> Option<Reply>
+    ensures { result ≡ own_reply (result_of request.now.parsed) }
+{
+    match &request.parsed {
+        Ok(Command::Preserve) => Some(Reply::preserved()),
+        Ok(Command::Quit { .. }) => Some(Reply::no_write()),
+        _ => None,
+    }
+}
+
+impl Session {
+    // Whether the command is a `q` or `q!` that is accepted.
+    fn accepts_quit(&self, request: &Request) -> bool
+        ensures { result ≡ quits (result_of request.now.parsed) (self.now.history.current == self.now.saved) }
+    {
+        match request.parsed {
+            Ok(Command::Quit { bang }) => bang || self.history.current() == self.saved,
+            _ => false,
+        }
+    }
+
+    // Whether the command begins a sync before all else.
+    fn begins_sync(&self, request: &Request) -> bool
+        ensures { result ≡ begins_after self.now.steps (result_of request.now.parsed) }
+    {
+        match &request.parsed {
+            Ok(Command::Preserve) => true,
+            Ok(command) => {
+                self.steps >= STEPS_BETWEEN_SYNCS && (changes_text(command) || is_move(command))
+            }
+            Err(_) => false,
+        }
+    }
+
+    /// Syncs the text into a swap file. The steps are counted anew where that succeeded.
+    pub(crate) fn sync<F: Folder>(&mut self, host: &mut F) -> Result<(), Failed>
+        requires room { generation_of self.old < 2 ^ 63 }
+        requires fits { IsTrue F.tells.folder → (state : SessionState) × (syncs : List Sync) × Fits self.old (F.scene host.old).folder state syncs }
+        ensures acts { Acts F.tells (Syncing self.old.text) (F.scene host.old) (F.scene host.new) }
+        ensures ok { OnOk result (IsTrue F.tells.folder → (state : SessionState) (syncs : List Sync) → Fits self.old (F.scene host.old).folder state syncs
+            → Fits self.new (F.scene host.new).folder (after_sync state true) (sync_in state true ∷ syncs)) }
+        ensures err { OnErr result (IsTrue F.tells.folder → (state : SessionState) (syncs : List Sync) → Fits self.old (F.scene host.old).folder state syncs
+            → Fits self.new (F.scene host.new).folder state (sync_in state false ∷ syncs)) }
+        ensures rises { OnOk result (IsTrue F.tells.folder → Rises (names_of self.old) (F.scene host.old).folder (F.scene host.new).folder) }
+        ensures stays { OnErr result (IsTrue F.tells.folder → Rises (names_of self.old) (F.scene host.old).folder (F.scene host.new).folder → ⊥) }
+        ensures file { SameFile self.old self.new }
+        ensures generation { generation_of self.new ≡ generation_of self.old + 1 }
+        ensures undo { FitsUndo self.old → FitsUndo self.new }
+        ensures none { OnOk result (NoneFails F.tells (F.scene host.old) (F.scene host.new)) }
+        ensures cause { HasCause (F.scene host.old).folder_faults (F.scene host.new).folder_faults (IsErr result) }
+    {
+        self.text.sync(host, self.history.current() != self.saved)?;
+        self.steps = 0;
+        Ok(())
+    }
+
+    // Has the machine carry a command out.
+    fn run_machine<F: Folder>(
+        &mut self,
+        alloc: Global,
+        host: &mut F,
+        request: &Request,
+        at: u64,
+    ) -> (Outcome, Reply)
+        requires form { IsFormed request.now }
+        requires undo { FitsUndo self.old }
+        requires fits { IsTrue F.tells.folder → (state : SessionState) × (syncs : List Sync) × Fits self.old (F.scene host.old).folder state syncs }
+        ensures reply { IsTrue F.tells.folder → (state : SessionState) (syncs : List Sync) (instruction : Instruction) → Fits self.old (F.scene host.old).folder state syncs
+            → IsRequest request.now instruction → result.1 ≡ machine_reply state.machine instruction (record { outcome = result.0; at = at }) }
+        ensures fits { IsTrue F.tells.folder → (state : SessionState) (syncs : List Sync) (instruction : Instruction) → Fits self.old (F.scene host.old).folder state syncs
+            → IsRequest request.now instruction → Fits self.new (F.scene host.new).folder (carried state instruction (record { outcome = result.0; at = at })) syncs }
+        ensures looks { IsTrue F.tells.folder → Looks (F.scene host.old) (F.scene host.new) }
+        ensures frame { ReadsFolder (F.scene host.old) (F.scene host.new) }
+        ensures file { SameFile self.old self.new }
+        ensures generation { generation_of self.new ≡ generation_of self.old }
+        ensures undo { FitsUndo self.new }
+        ensures cause { HasCause (F.scene host.old).folder_faults (F.scene host.new).folder_faults (result.0 ≡ Outcome.Fault) }
+    {
+        let before = self.history.current();
+        let cursor = self.cursor;
+        match answer_text(
+            alloc,
+            &mut self.text,
+            host,
+            &mut self.history,
+            cursor,
+            request,
+            at,
+        ) {
+            Ok(Answered { reply, cursor }) => {
+                self.cursor = cursor;
+                self.steps = counted(self.steps, self.history.current() == before);
+                (Outcome::Done, reply)
+            }
+            Err(StoreErr::NoMemory) => (Outcome::NoMemory, Reply::out_of_memory()),
+            Err(StoreErr::Failed) => (Outcome::Fault, Reply::device_fault()),
+        }
+    }
+
+    // Carries a command out that is no accepted quit, after the sync that it begins.
+    fn carry_out<F: Folder>(
+        &mut self,
+        alloc: Global,
+        host: &mut F,
+        request: &Request,
+        at: u64,
+    ) -> (Outcome, Reply)
+        requires form { IsFormed request.now }
+        requires undo { FitsUndo self.old }
+        requires fits { IsTrue F.tells.folder → (state : SessionState) × (syncs : List Sync) × Fits self.old (F.scene host.old).folder state syncs }
+        ensures reply { IsTrue F.tells.folder → (state : SessionState) (syncs : List Sync) (instruction : Instruction) → Fits self.old (F.scene host.old).folder state syncs
+            → IsRequest request.now instruction →
+            result.1 ≡ answered result.0 (own_reply instruction.parsed) (machine_reply state.machine instruction (record { outcome = result.0; at = at })) }
+        ensures fits { IsTrue F.tells.folder → (state : SessionState) (syncs : List Sync) (instruction : Instruction) → Fits self.old (F.scene host.old).folder state syncs
+            → IsRequest request.now instruction → Fits self.new (F.scene host.new).folder (carried state instruction (record { outcome = result.0; at = at })) syncs }
+        ensures looks { IsTrue F.tells.folder → Looks (F.scene host.old) (F.scene host.new) }
+        ensures frame { ReadsFolder (F.scene host.old) (F.scene host.new) }
+        ensures file { SameFile self.old self.new }
+        ensures generation { generation_of self.new ≡ generation_of self.old }
+        ensures undo { FitsUndo self.new }
+        ensures cause { HasCause (F.scene host.old).folder_faults (F.scene host.new).folder_faults (result.0 ≡ Outcome.Fault) }
+    {
+        match own_reply(request) {
+            Some(reply) => (Outcome::Done, reply),
+            None => self.run_machine(alloc, host, request, at),
+        }
+    }
+
+    // Answers a command that begins a sync.
+    fn answer_synced<F: Folder>(
+        &mut self,
+        alloc: Global,
+        host: &mut F,
+        request: &Request,
+        at: u64,
+    ) -> Step
+        requires form { IsFormed request.now }
+        requires goes_on { quits (result_of request.now.parsed) (self.old.history.current == self.old.saved) ≡ false }
+        requires begins { begins_after self.old.steps (result_of request.now.parsed) ≡ true }
+        requires room { generation_of self.old < 2 ^ 63 }
+        requires undo { FitsUndo self.old }
+        requires fits { IsTrue F.tells.folder → (state : SessionState) × (syncs : List Sync) × Fits self.old (F.scene host.old).folder state syncs }
+        ensures step { IsTrue F.tells.folder → (state : SessionState) (syncs : List Sync) (instruction : Instruction) → Fits self.old (F.scene host.old).folder state syncs
+            → IsRequest request.now instruction → IsStep result state syncs instruction self.old self.new (F.scene host.old) (F.scene host.new) }
+        ensures time { IsMarkedAt result at }
+        ensures frame { ChangesFolder (F.scene host.old) (F.scene host.new) }
+        ensures file { SameFile self.old self.new }
+        ensures room { generation_of self.new ≤ generation_of self.old + 1 }
+        ensures undo { FitsUndo self.new }
+        ensures cause { HasCause (F.scene host.old).folder_faults (F.scene host.new).folder_faults (IsFault result) }
+    {
+        match self.sync(host) {
+            Ok(()) => {
+                let (outcome, reply) = self.carry_out(alloc, host, request, at);
+                Step::Answer {
+                    mark: Mark { outcome, at },
+                    reply,
+                }
+            }
+            Err(_) => Step::Answer {
+                mark: Mark {
+                    outcome: Outcome::Fault,
+                    at,
+                },
+                reply: Reply::device_fault(),
+            },
+        }
+    }
+
+    // Answers a command that is no accepted quit, with the sync that it begins before all else.
+    fn answer<F: Folder>(&mut self, alloc: Global, host: &mut F, request: &Request, at: u64) -> Step
+        requires form { IsFormed request.now }
+        requires goes_on { quits (result_of request.now.parsed) (self.old.history.current == self.old.saved) ≡ false }
+        requires room { generation_of self.old < 2 ^ 63 }
+        requires undo { FitsUndo self.old }
+        requires fits { IsTrue F.tells.folder → (state : SessionState) × (syncs : List Sync) × Fits self.old (F.scene host.old).folder state syncs }
+        ensures step { IsTrue F.tells.folder → (state : SessionState) (syncs : List Sync) (instruction : Instruction) → Fits self.old (F.scene host.old).folder state syncs
+            → IsRequest request.now instruction → IsStep result state syncs instruction self.old self.new (F.scene host.old) (F.scene host.new) }
+        ensures time { IsMarkedAt result at }
+        ensures frame { ChangesFolder (F.scene host.old) (F.scene host.new) }
+        ensures file { SameFile self.old self.new }
+        ensures room { generation_of self.new ≤ generation_of self.old + 1 }
+        ensures undo { FitsUndo self.new }
+        ensures cause { HasCause (F.scene host.old).folder_faults (F.scene host.new).folder_faults (IsFault result) }
+    {
+        if self.begins_sync(request) {
+            return self.answer_synced(alloc, host, request, at);
+        }
+        let (outcome, reply) = self.carry_out(alloc, host, request, at);
+        Step::Answer {
+            mark: Mark { outcome, at },
+            reply,
+        }
+    }
+
+    /// Answers one command. The clock is read once, when the command begins. `preserve`, and a change or a move after 200 steps
+    /// that led to another state, sync the text before all else (`:help :preserve`). Where the mark is not Done, the text, the
+    /// history and the cursor have not changed.
+    pub fn step<H: Host>(&mut self, alloc: Global, host: &mut H, request: &Request) -> Step
+        requires form { IsFormed request.now }
+        requires clock { IsTrue (H.tells).clock → length (H.scene host.old).answers < 2 ^ 63 }
+        requires room { generation_of self.old < 2 ^ 63 }
+        requires undo { FitsUndo self.old }
+        requires fits { IsTrue (H.tells).folder → (state : SessionState) × (syncs : List Sync) × Fits self.old (H.scene host.old).folder state syncs }
+        ensures step { IsTrue (H.tells).folder → (state : SessionState) (syncs : List Sync) (instruction : Instruction) → Fits self.old (H.scene host.old).folder state syncs
+            → IsRequest request.now instruction → IsStep result state syncs instruction self.old self.new (H.scene host.old) (H.scene host.new) }
+        ensures undo { FitsUndo self.new }
+        ensures file { SameFile self.old self.new }
+        ensures room { generation_of self.new ≤ generation_of self.old + 1 }
+        ensures clock { IsTrue (H.tells).clock → IsTimed result (H.scene host.old) (H.scene host.new) }
+        ensures frame { StepsIn (H.scene host.old) (H.scene host.new) }
+        ensures cause { HasCause (H.scene host.old).folder_faults (H.scene host.new).folder_faults (IsFault result) }
+    {
+        let at = host.now();
+        if self.accepts_quit(request) {
+            return Step::Quit;
+        }
+        self.answer(alloc, host, request, at)
+    }
+}

@@ -1,0 +1,71 @@
+// Pages of a swap file, and a run that leaves one.
+use std::alloc::Global;
+use std::test::Fail;
+use vs_memory::MemHost;
+use vs_top::run;
+
+pub const PAGE_SIZE: usize = 4096;
+
+/// What stands at places of page 0 of `.f.swp` after the first sync that a run begins itself; all other bytes are zeros.
+pub const PAGE_0: [(usize, &[u8]); 11] = [
+    (0, b"b0"),
+    (2, b"VIM 9.0"),
+    (12, &[0, 16, 0, 0]),
+    (108, b"f"),
+    (1006, &[5]),
+    (1008, &[0x33, 0x32, 0x31, 0x30]),
+    (1016, &[0x23, 0x22, 0x21, 0x20]),
+    (1020, &[0x13, 0x12, 0x55]),
+    (1024, b"VSWPAIR1"),
+    (1032, &[3]),
+    (1040, &[0]),
+];
+
+/// The host after `edit f` over this file with an empty script.
+pub fn after_edit(alloc: Global, file: Option<&[u8]>) -> Result<MemHost, Fail> {
+    let mut host = MemHost::new(alloc, Vec::new(alloc))?;
+    if let Some(bytes) = file {
+        host.put(alloc, "f", Vec::from_slice(alloc, bytes)?)?;
+    }
+    let mut words = Vec::new(alloc);
+    words.push(String::from_str(alloc, "edit")?)?;
+    words.push(String::from_str(alloc, "f")?)?;
+    let report = run(alloc, words.as_slice(), &mut host);
+    if report.status == 0 {
+        return Ok(host);
+    }
+    Err(Fail::new("the run did not come to its end"))
+}
+
+/// A page of a file, where it lies in it as a whole.
+pub fn page(file: &[u8], at: usize) -> Option<&[u8]> {
+    let start = at.checked_mul(PAGE_SIZE)?;
+    file.get(start..start.checked_add(PAGE_SIZE)?)
+}
+
+/// Whether a page has these bytes at these places, and zeros elsewhere.
+pub fn is_page(page: Option<&[u8]>, parts: &[(usize, &[u8])]) -> bool {
+    let Some(page) = page else {
+        return false;
+    };
+    let mut end = 0;
+    for (at, bytes) in parts {
+        let Some(gap) = page.get(end..*at) else {
+            return false;
+        };
+        if gap.iter().any(|byte| *byte != 0) {
+            return false;
+        }
+        let Some(rest) = page.get(*at..) else {
+            return false;
+        };
+        if !rest.starts_with(bytes) {
+            return false;
+        }
+        end = at.saturating_add(bytes.len());
+    }
+    match page.get(end..) {
+        Some(rest) => rest.iter().all(|byte| *byte == 0),
+        None => false,
+    }
+}

@@ -1,0 +1,157 @@
+// Swap files made by hand, page by page.
+use std::alloc::Global;
+use std::test::Fail;
+use vs_memory::MemHost;
+use vs_recover::{Image, read_image};
+
+/// An entry of a pointer block: a block, its pages, and the lines below it.
+pub type Entry = (i64, i32, i64);
+
+/// A block of a swap file.
+#[derive(Clone, Copy)]
+pub enum Block<'a> {
+    /// Page 0 of a file of a pair, with this generation.
+    Head(u8),
+    /// Page 0 of a file of a pair whose text has no lines.
+    HeadOfNone(u8),
+    /// Page 0 with this identifier.
+    Marked(&'a [u8]),
+    /// A pointer block.
+    Pointers(&'a [Entry]),
+    /// A data block of so many pages, with lines of one byte.
+    Lines(u32, &'a [u8]),
+    /// A page that begins with these bytes, and has zeros after them.
+    Bytes(&'a [u8]),
+    /// A page of zeros.
+    Blank,
+}
+
+// The bytes at their places, each after those before it, and zeros elsewhere.
+fn add_parts(bytes: &mut Vec<u8>, parts: &[(usize, &[u8])]) -> Result<(), Fail> {
+    let start = bytes.len();
+    for (at, part) in parts {
+        bytes.resize(start.saturating_add(*at), 0)?;
+        bytes.extend_from_slice(part)?;
+    }
+    bytes.resize(start.saturating_add(4096), 0)?;
+    Ok(())
+}
+
+fn add_head(bytes: &mut Vec<u8>, mark: &[u8], generation: u8, flags: u8) -> Result<(), Fail> {
+    let parts: [(usize, &[u8]); 9] = [
+        (0, mark),
+        (12, &[0, 16, 0, 0]),
+        (1006, &[5]),
+        (1008, &[0x33, 0x32, 0x31, 0x30]),
+        (1016, &[0x23, 0x22, 0x21, 0x20]),
+        (1020, &[0x13, 0x12, 0x55]),
+        (1024, b"VSWPAIR1"),
+        (1032, &[generation]),
+        (1040, &[flags]),
+    ];
+    add_parts(bytes, &parts)
+}
+
+fn add_pointers(bytes: &mut Vec<u8>, entries: &[Entry]) -> Result<(), Fail> {
+    let start = bytes.len();
+    let count = u8::try_from(entries.len()).unwrap_or(0);
+    bytes.extend_from_slice(&[b't', b'p', count, 0, 127, 0, 0, 0])?;
+    for (block, pages, lines) in entries {
+        bytes.extend_from_slice(&block.to_le_bytes())?;
+        bytes.extend_from_slice(&lines.to_le_bytes())?;
+        bytes.extend_from_slice(&[0; 8])?;
+        bytes.extend_from_slice(&pages.to_le_bytes())?;
+        bytes.extend_from_slice(&[0; 4])?;
+    }
+    bytes.resize(start.saturating_add(4096), 0)?;
+    Ok(())
+}
+
+fn add_lines(bytes: &mut Vec<u8>, pages: u32, lines: &[u8]) -> Result<(), Fail> {
+    let start = bytes.len();
+    let count = u32::try_from(lines.len()).unwrap_or(0);
+    let end = pages.saturating_mul(4096);
+    let text = end.saturating_sub(count.saturating_mul(2));
+    bytes.extend_from_slice(b"ad\0\0\0\0\0\0")?;
+    bytes.extend_from_slice(&text.to_le_bytes())?;
+    bytes.extend_from_slice(&end.to_le_bytes())?;
+    bytes.extend_from_slice(&u64::from(count).to_le_bytes())?;
+    let mut place = end;
+    for _line in lines {
+        place = place.saturating_sub(2);
+        bytes.extend_from_slice(&place.to_le_bytes())?;
+    }
+    bytes.resize(start.saturating_add(text as usize), 0)?;
+    for line in lines.iter().rev() {
+        bytes.extend_from_slice(&[*line, 0])?;
+    }
+    Ok(())
+}
+
+fn add_block(bytes: &mut Vec<u8>, block: &Block<'_>) -> Result<(), Fail> {
+    match block {
+        Block::Head(generation) => add_head(bytes, b"b0", *generation, 0),
+        Block::HeadOfNone(generation) => add_head(bytes, b"b0", *generation, 1),
+        Block::Marked(mark) => add_head(bytes, mark, 1, 0),
+        Block::Pointers(entries) => add_pointers(bytes, entries),
+        Block::Lines(pages, lines) => add_lines(bytes, *pages, lines),
+        Block::Bytes(first) => add_parts(bytes, &[(0, first)]),
+        Block::Blank => add_parts(bytes, &[]),
+    }
+}
+
+/// The file of these blocks, cut to so many bytes where it has more.
+pub fn file_of(alloc: Global, blocks: &[Block<'_>], len: usize) -> Result<Vec<u8>, Fail> {
+    let mut bytes = Vec::new(alloc);
+    for block in blocks {
+        add_block(&mut bytes, block)?;
+    }
+    bytes.truncate(len);
+    Ok(bytes)
+}
+
+/// A folder with these swap files of `f`, where they have some bytes.
+pub fn folder_of(alloc: Global, swp: Vec<u8>, swo: Vec<u8>) -> Result<MemHost, Fail> {
+    let mut host = MemHost::new(alloc, Vec::new(alloc))?;
+    if !swp.is_empty() {
+        host.put(alloc, ".f.swp", swp)?;
+    }
+    if !swo.is_empty() {
+        host.put(alloc, ".f.swo", swo)?;
+    }
+    Ok(host)
+}
+
+/// What is said of an image: the generation and the first bytes of the lines of a file that stands, or a word.
+pub fn said(alloc: Global, image: &Image) -> Result<String, Fail> {
+    match image {
+        Image::Standing { generation, text } => {
+            let mut words = format!(in alloc; "stands {generation} ")?;
+            for line in text.lines() {
+                for byte in line.bytes() {
+                    words.push(char::from(*byte))?;
+                }
+                words.push('.')?;
+            }
+            Ok(words)
+        }
+        Image::Open { page_size } => Ok(format!(in alloc; "open {page_size}")?),
+        Image::Closed => Ok(String::from_str(alloc, "closed")?),
+        Image::Encrypted => Ok(String::from_str(alloc, "encrypted")?),
+        Image::NoSwapFile => Ok(String::from_str(alloc, "no swap file")?),
+    }
+}
+
+/// What is said of the file of these blocks, cut to so many bytes.
+pub fn said_of(alloc: Global, blocks: &[Block<'_>], len: usize) -> Result<String, Fail> {
+    let bytes = file_of(alloc, blocks, len)?;
+    let mut host = MemHost::new(alloc, Vec::new(alloc))?;
+    host.put(alloc, ".f.swp", bytes)?;
+    if host.file(".f.swp").is_none() {
+        return Err(Fail::new("the file is not there"));
+    }
+    let image = read_image(alloc, &mut host, ".f.swp")
+        .ok()
+        .ok_or("it is read")?;
+    said(alloc, &image)
+}

@@ -1,0 +1,46 @@
+// A host with a file and a script, and a run over it.
+ghost use Rattle.std.specs.Prelude.{◌≡◌, [], IfOk};
+ghost use Rattle.vs_memory.specs.Memory.{folder_of};
+
+use std::alloc::Global;
+use std::test::Fail;
+use vs_memory::MemHost;
+use vs_top::run;
+
+/// A host with the file `f`, where there is one, and a script.
+pub fn host_with(alloc: Global, file: Option<&[u8]>, script: &[u8]) -> Result<MemHost, Fail>
+    ensures answers { IfOk result (λ host. host.answers ≡ []) }
+    ensures settled { IfOk result (λ host. (folder_of host).pending ≡ []) }
+{
+    let mut host = MemHost::new(alloc, Vec::from_slice(alloc, script)?)?;
+    if let Some(bytes) = file {
+        host.put(alloc, "f", Vec::from_slice(alloc, bytes)?)?;
+    }
+    Ok(host)
+}
+
+/// Runs `edit f`, and gives its exit status.
+pub fn edit_f(alloc: Global, host: &mut MemHost) -> Result<u8, Fail>
+    requires clock { host.old.answers ≡ [] }
+    requires settled { (folder_of host.old).pending ≡ [] }
+{
+    let mut words = Vec::new(alloc);
+    words.push(String::from_str(alloc, "edit")?)?;
+    words.push(String::from_str(alloc, "f")?)?;
+    Ok(run(alloc, words.as_slice(), host).status)
+}
+
+/// The host after a run over the file `f` in which the call `failing` fails, and each one after `stop`. Calls are counted from 1.
+pub fn after_run(
+    alloc: Global,
+    file: &[u8],
+    script: &[u8],
+    failing: u64,
+    stop: u64,
+) -> Result<MemHost, Fail> {
+    let mut host = host_with(alloc, Some(file), script)?;
+    host.fail_call(alloc, failing)?;
+    host.stop_after(stop);
+    edit_f(alloc, &mut host)?;
+    Ok(host)
+}

@@ -1,0 +1,265 @@
+-- How a run closes: the last sync or the removal, and the last line, each with what it answers and the promise.
+use Rattle.std.proofs.Common.{◌≡◌, ◌⊎◌, inl, inr, ℕ, ◌≤◌, ◌<◌, ◌+◌, Bool, true, false, not, if◌then◌else◌, List, [], ◌∷◌, ◌++◌, length, take, map, All, Option, Some, None, IsTrue, IsErrAnd, Ok, Err, refl, sym, ap, subst, ◌∙◌, append_assoc, append-nil, arith}
+use Rattle.std.proofs.lemmas.Bool.{true≢false}
+use Rattle.std.proofs.lemmas.List.{take_all}
+use Rattle.vs_faults.specs.Faults.{HasRisen}
+use Rattle.vs_faults.proofs.Causes.{risen_before, risen_after}
+use Rattle.vs_host.specs.Disk.{Disk, Name, IsImage, IsImageOf}
+use Rattle.vs_host.specs.Names.{names_of_file}
+use Rattle.vs_host.specs.Trace.{WroteOutput}
+use Rattle.vs_host.specs.World.{Tells, Scene, ChangesFolder, ChangesOutput, content_of}
+use Rattle.vs_host.specs.declared.names.Names.{Names}
+use Rattle.vs_disk.specs.Runs.{FailsLast}
+use Rattle.vs_pair.specs.Pair.{Image, NoneThere}
+use Rattle.vs_pair.specs.Steps.{IsAbsent, IsFresh}
+use Rattle.vs_excmd.specs.Request.{Instruction}
+use Rattle.vs_script.specs.Ahead.{script_limit}
+use Rattle.vs_machine.specs.declared.command.Mark.{Mark}
+use Rattle.vs_safety.specs.Texts.{Sync, RecoversOrNone, recoverable}
+use Rattle.vs_safety.specs.Turns.{Turn, Closing, NotBegun, LastSync, Quits, last_turn, after_turns, opened, preserved_line, quit_line}
+use Rattle.vs_safety.specs.Safety.{IsCrashSafe, IsAdded, Works, Writes, Stepped}
+use Rattle.vs_safety.specs.Going.{Going, Stepping, Halted}
+use Rattle.vs_safety.specs.Causes.{IsCounted, RoseLast, output_count, folder_count}
+use Rattle.vs_safety.proofs.Going.{going_steps, going_halts, reply_written, reply_cut, stepping_halts}
+use Rattle.vs_safety.proofs.Endings.{halted_safe, quit_stops, quit_written}
+use Rattle.vs_safety.proofs.Causes.{rose_at, rose_last}
+use Rattle.vs_session.specs.declared.session.Session.{Session}
+use Rattle.vs_session.specs.declared.ending.End.{End}
+use Rattle.vs_session.specs.declared.ending.End.TheVariants as end
+use Rattle.vs_session.specs.Session.{SessionState, Ended, sync_in, states_after, turns_of}
+use Rattle.vs_session.specs.Fits.{Fits, Leaves, HasSwap, names_of}
+use Rattle.vs_top.specs.Run.{TellsRun, Did, IsKept, Closes, AnswersAll, IsCutLast, FailsLast as FailsAtLast, HasRun, RunsEdit, Counts, counts_of, OnlyFolder, HasCause, IsBarred, IsTimed, opened_file, ran_of, written, closing_line}
+use Rattle.vs_top.specs.Turns.{text_at, opening_at, Told, Keeps, StopsAt, IsAtClose}
+use Rattle.vs_top.specs.declared.ending.Ending.{Ending}
+use Rattle.vs_top.specs.Ending.{ending_in}
+use Rattle.std.specs.declared.result.Result.{Result}
+use Rattle.vs_top.specs.declared.ending.Ending.TheVariants as ending
+use Rattle.vs_top.proofs.Pushes.{replies_same, flip_clean}
+use Rattle.vs_top.proofs.Counting.{only_then, only_folder, only_output, causes_on, counted_works}
+
+absent_image : (name : Name) (disk : Disk) → IsAbsent name disk → (image : Image) → IsImage disk image → image name ≡ None
+absent_image name disk absent image whole = subst (λ (o : Option ℕ). IsImageOf disk o (image name)) (absent whole.0) (whole.1 name)
+
+pub fresh_image : (names : Names) (disk : Disk) → IsFresh names disk → (image : Image) → IsImage disk image → NoneThere names image
+fresh_image names disk fresh image whole = (absent_image names.swp disk fresh.no_swp image whole, absent_image names.swo disk fresh.no_swo image whole)
+
+-- the end of a session, which answered Ok or not
+pub record Finishes (tells : Tells) (session : Session) (now mid : Scene) (how : End) (ok : Bool) : Type 0 where
+  pub sync : how ≡ end.Sync → IsTrue tells.folder → (state : SessionState) (syncs : List Sync) → Fits session now.folder state syncs → Stepped (names_of session) syncs (last_turn (sync_in state ok)) now mid
+  pub quit : how ≡ end.Quit → IsTrue tells.folder → (state : SessionState) (syncs : List Sync) → Fits session now.folder state syncs → Leaves (names_of session) syncs now mid
+  pub last : IsTrue tells.folder → FailsLast now mid
+  pub later : now.folder_faults ≤ mid.folder_faults
+  pub frame : ChangesFolder now mid
+
+-- how it closed
+abbrev closing_of : End → Bool → SessionState → Closing
+closing_of end.Sync ok state = LastSync (sync_in state ok)
+closing_of end.Quit ok state = Quits
+
+-- the last line
+abbrev pub line_of : End → List ℕ
+line_of end.Sync = preserved_line
+line_of end.Quit = quit_line
+
+pub line_by : (how : End) (bytes : List ℕ) → (how ≡ end.Sync → bytes ≡ preserved_line) → (how ≡ end.Quit → bytes ≡ quit_line) → bytes ≡ line_of how
+line_by end.Sync bytes sync quit = sync refl
+line_by end.Quit bytes sync quit = quit refl
+
+line_is : (how : End) (ok : Bool) (state : SessionState) → line_of how ≡ closing_line (closing_of how ok state)
+line_is end.Sync ok state = refl
+line_is end.Quit ok state = refl
+
+by_clean : (clean : Bool) (name : List ℕ) (old new : Scene) (marks : List Mark) (did : Did) → IsKept (opened_file old name) marks did → AnswersAll (not clean) (opened_file old name) old new did
+    → ((HasSwap (names_of_file name) old.folder → ⊥) → IsCrashSafe (names_of_file name) old new (ran_of name old did)) → HasRun name old new (if clean then ending.Done else ending.WithErrors) marks
+by_clean true name old new marks did kept answered safe = record { did = did; kept = kept; answered = answered; safe = safe; failed = tt; same = λ early. absurd (true≢false (sym early)) }
+by_clean false name old new marks did kept answered safe = record { did = did; kept = kept; answered = answered; safe = safe; failed = tt; same = λ early. absurd (true≢false (sym early)) }
+
+module _ (tells : Tells) (name : List ℕ) (old now mid : Scene) (session : Session) (marks : List Mark) (clean : Bool) (told : TellsRun tells) (keeps : Keeps tells name old now session marks)
+    (commands : List Instruction) (ends : List Ended) (here : Told name old now session marks clean commands ends) where
+  abbrev names : Names
+  names = names_of_file name
+
+  abbrev state : SessionState
+  state = states_after (opened_file old name).state commands ends
+
+  abbrev turns : List Turn
+  turns = turns_of (opened_file old name).state commands ends
+
+  abbrev syncs : List Sync
+  syncs = after_turns (opened (text_at old name)) turns
+
+  abbrev did : End → Bool → Did
+  did how ok = record { commands = commands; ends = ends; closing = closing_of how ok state }
+
+  kept : (how : End) (ok : Bool) → IsKept (opened_file old name) marks (did how ok)
+  kept how ok = record { one_each = here.one_each; marks_are = here.marks_are; none_quits = here.none_quits }
+
+  closes : (how : End) (ok : Bool) → StopsAt how (opened_file old name) old now commands ends → (new : Scene) → new.script ≡ now.script → Closes ok (opened_file old name) old new (did how ok)
+  closes end.Sync ok stops new script = inl (record { all = stops.0; ended = script ∙ stops.1; closing = refl })
+  closes end.Quit ok stops new script = inr (record { quit = stops.0; rest = stops.1; before = stops.2; accepted = stops.3; closing = refl })
+
+  output_is : now.output ≡ old.output ++ written (opened_file old name) commands ends
+  output_is =
+      here.going.output ∙ append_assoc old.output (opening_at old name) (Rattle.vs_safety.specs.Turns.replies turns)
+      ∙ ap (λ (l : List ℕ). old.output ++ (opening_at old name ++ l)) (replies_same (opened_file old name).state commands ends)
+
+  stepping : (ok : Bool) → Finishes tells session now mid end.Sync ok → Stepping names old mid (text_at old name) (opening_at old name) turns (last_turn (sync_in state ok))
+  stepping ok finishes = going_steps names old (text_at old name) (opening_at old name) now mid turns (last_turn (sync_in state ok)) (omega arith)
+      (subst (λ (n : Names). Stepped n syncs (last_turn (sync_in state ok)) now mid) keeps.names (finishes.sync refl told.folder state syncs here.fits)) here.going
+
+  removal : (ok : Bool) → Finishes tells session now mid end.Quit ok → Works names (RecoversOrNone names (recoverable syncs)) now mid
+  removal ok finishes = subst (λ (n : Names). Works n (RecoversOrNone n (recoverable syncs)) now mid) keeps.names (finishes.quit refl told.folder state syncs here.fits).works
+
+  -- the session's end failed
+  failed_safe : (how : End) → Finishes tells session now mid how false → IsCrashSafe names old mid (ran_of name old (did how false))
+  failed_safe end.Sync finishes = halted_safe names old mid (ran_of name old (did end.Sync false)) refl (stepping_halts names old (text_at old name) (opening_at old name) mid turns (last_turn (sync_in state false)) (omega arith) (stepping false finishes))
+  failed_safe end.Quit finishes = quit_stops names old now (text_at old name) (opening_at old name) turns here.going mid (removal false finishes)
+
+  -- the last line was written in part, or whole
+  cut_safe : (how : End) (new : Scene) (n : ℕ) → Finishes tells session now mid how true → (how ≡ end.Quit → IsFresh (names_of session) mid.folder) → Writes n (closing_line (closing_of how true state)) mid new → IsCrashSafe names old new (ran_of name old (did how true))
+  cut_safe end.Sync new n finishes gone writes =
+      halted_safe names old new (ran_of name old (did end.Sync true)) refl
+      (reply_cut names old (text_at old name) (opening_at old name) mid new turns (last_turn (sync_in state true)) (omega arith) (stepping true finishes) n writes)
+  cut_safe end.Quit new n finishes gone writes =
+      quit_written names old now (text_at old name) (opening_at old name) turns here.going mid (removal true finishes) new n writes
+      (fresh_image names mid.folder (subst (λ (k : Names). IsFresh k mid.folder) keeps.names (gone refl)))
+
+  -- the count of the output up to the last line
+  counted : (how : End) → Finishes tells session now mid how true → IsCounted output_count old mid
+  counted end.Sync finishes =
+      counted_works names _ old now mid (ap (λ (s : Scene). s.out_faults) finishes.frame)
+      (subst (λ (n : Names). Stepped n syncs (last_turn (sync_in state true)) now mid) keeps.names (finishes.sync refl told.folder state syncs here.fits)).works here.counted.output
+  counted end.Quit finishes = counted_works names _ old now mid (ap (λ (s : Scene). s.out_faults) finishes.frame) (removal true finishes) here.counted.output
+
+  mid_output : (how : End) (ok : Bool) → Finishes tells session now mid how ok → mid.output ≡ old.output ++ written (opened_file old name) commands ends
+  mid_output how ok finishes = ap (λ (s : Scene). s.output) finishes.frame ∙ output_is
+
+  pub run_fails : (how : End) → StopsAt how (opened_file old name) old now commands ends → Finishes tells session now mid how false → HasRisen now.folder_faults mid.folder_faults → HasRun name old mid ending.FolderFault marks
+  run_fails how stops finishes rose = record {
+    did = did how false;
+    kept = kept how false;
+    answered = inr (record { closes = closes how false stops mid (ap (λ (s : Scene). s.script) finishes.frame); output = mid_output how false finishes });
+    safe = λ free. failed_safe how finishes;
+    failed = rose_last folder_count old now mid (λ m none. none.folder) (finishes.last told.folder) rose here.counted.folder;
+    same = λ early. absurd (true≢false (sym early));
+  }
+
+  pub run_cut : (how : End) (new : Scene) (n : ℕ) → StopsAt how (opened_file old name) old now commands ends → Finishes tells session now mid how true → (how ≡ end.Quit → IsFresh (names_of session) mid.folder)
+      → Writes n (closing_line (closing_of how true state)) mid new → new.script ≡ mid.script → HasRisen mid.out_faults new.out_faults → HasRun name old new ending.OutputFault marks
+  run_cut how new n stops finishes gone writes script rose = record {
+    did = did how true;
+    kept = kept how true;
+    answered = inr (record {
+      closes = closes how true stops new (script ∙ ap (λ (s : Scene). s.script) finishes.frame);
+      count = n;
+      output = writes.output ∙ ap (λ (l : List ℕ). l ++ take n (closing_line (closing_of how true state))) (mid_output how true finishes) ∙ append_assoc old.output (written (opened_file old name) commands ends) (take n (closing_line (closing_of how true state)));
+    });
+    safe = λ free. cut_safe how new n finishes gone writes;
+    failed = rose_at output_count old mid new WroteOutput [] writes.added rose (counted how finishes);
+    same = λ early. absurd (true≢false (sym early));
+  }
+
+  all_answered : (how : End) (new : Scene) → StopsAt how (opened_file old name) old now commands ends → Finishes tells session now mid how true → new.output ≡ mid.output ++ closing_line (closing_of how true state) → new.script ≡ mid.script
+      → AnswersAll (not clean) (opened_file old name) old new (did how true)
+  all_answered how new stops finishes output script = record {
+    closes = closes how true stops new (script ∙ ap (λ (s : Scene). s.script) finishes.frame);
+    output = output ∙ ap (λ (l : List ℕ). l ++ closing_line (closing_of how true state)) (mid_output how true finishes) ∙ append_assoc old.output (written (opened_file old name) commands ends) (closing_line (closing_of how true state));
+    errors_are = flip_clean clean _ here.errors;
+  }
+
+  pub run_ends : (how : End) (new : Scene) → StopsAt how (opened_file old name) old now commands ends → Finishes tells session now mid how true → (how ≡ end.Quit → IsFresh (names_of session) mid.folder)
+      → Writes (length (closing_line (closing_of how true state))) (closing_line (closing_of how true state)) mid new → new.script ≡ mid.script → HasRun name old new (if clean then ending.Done else ending.WithErrors) marks
+  run_ends how new stops finishes gone writes script =
+      let line : List ℕ = closing_line (closing_of how true state) in
+      by_clean clean name old new marks (did how true) (kept how true)
+      (all_answered how new stops finishes (writes.output ∙ ap (λ (l : List ℕ). mid.output ++ l) (take_all (length line) line (omega arith))) script)
+      (λ free. cut_safe how new (length line) finishes gone writes)
+
+-- ---- over any host
+
+module _ (tells : Tells) (name : List ℕ) (old now mid : Scene) (session : Session) (marks : List Mark) (how : End) (clean : Bool) (at : IsAtClose tells name old now session marks how clean) where
+  free_barred : (end : Ending) → IsTrue tells.folder → HasSwap (names_of_file name) old.folder → IsBarred end
+  free_barred end told has = absurd (at.keeps.free told has)
+
+  times_on : (new : Scene) → new.answers ≡ now.answers → IsTrue tells.clock → IsTimed old new marks
+  times_on new same told = let was = at.times told in record { more = was.more; one = was.one; is = same ∙ was.is }
+
+  -- the last sync or the removal failed
+  pub close_fails : Finishes tells session now mid how false → HasRisen now.folder_faults mid.folder_faults → RunsEdit tells name old mid ending.FolderFault marks
+  close_fails finishes rose =
+      let only : OnlyFolder (counts_of now) (counts_of mid) = only_folder now mid finishes.frame finishes.later in
+      record {
+        told = λ told. let here = at.told told in run_fails tells name old now mid session marks clean told at.keeps here.0 here.1 here.2 how here.3 finishes rose;
+        swap = λ told is. absurd (cc);
+        barred = free_barred ending.FolderFault;
+        file = λ told. tt;
+        taken = λ told. omega (arith, at.taken told, ap (λ (s : Scene). length s.script) finishes.frame);
+        counts = (risen_after at.keeps.counts.later rose, only_then (counts_of old) (counts_of now) (counts_of mid) at.keeps.counts only);
+        causes = causes_on (counts_of old) (counts_of now) (counts_of mid) marks finishes.later at.keeps.causes;
+        times = times_on mid (ap (λ (s : Scene). s.answers) finishes.frame);
+      }
+
+  -- the last line was written in part
+  pub close_cut : (new : Scene) → Finishes tells session now mid how true → (how ≡ end.Quit → IsTrue tells.folder → IsFresh (names_of session) mid.folder) → ChangesOutput mid new
+      → (IsTrue tells.output → (n : ℕ) × (new.output ≡ mid.output ++ take n (line_of how))) → (IsTrue tells.folder → IsAdded WroteOutput [] mid new) → HasRisen mid.out_faults new.out_faults
+      → RunsEdit tells name old new ending.OutputFault marks
+  close_cut new finishes gone frame wrote added rose =
+      let only : OnlyFolder (counts_of old) (counts_of mid) = only_then (counts_of old) (counts_of now) (counts_of mid) at.keeps.counts (only_folder now mid finishes.frame finishes.later) in
+      let after : OnlyFolder (counts_of mid) (record (counts_of new) { output = mid.out_faults }) = only_output mid new frame in
+      let faults : new.folder_faults ≡ mid.folder_faults = ap (λ (s : Scene). s.folder_faults) frame in
+      record {
+        told = λ told.
+            let here = at.told told in
+            let cut = wrote told.output in
+            run_cut tells name old now mid session marks clean told at.keeps here.0 here.1 here.2 how new cut.0 here.3 finishes (λ is. gone is told.folder)
+            (record { output = cut.1 ∙ ap (λ (l : List ℕ). mid.output ++ take cut.0 l) (line_is how true _); folder = ap (λ (s : Scene). s.folder) frame; faults = faults; added = added told.folder })
+            (ap (λ (s : Scene). s.script) frame) rose;
+        swap = λ told is. absurd (cc);
+        barred = free_barred ending.OutputFault;
+        file = at.keeps.file;
+        taken = λ told. omega (arith, at.taken told, ap (λ (s : Scene). length s.script) finishes.frame, ap (λ (s : Scene). length s.script) frame);
+        counts = (
+          subst (λ (k : ℕ). HasRisen k new.out_faults) only.output rose,
+          record { script = after.script ∙ only.script; output = refl; later = omega (arith, only.later, faults) },
+        );
+        causes = causes_on (counts_of old) (counts_of now) (counts_of new) marks (omega (arith, finishes.later, faults)) at.keeps.causes;
+        times = times_on new (ap (λ (s : Scene). s.answers) frame ∙ ap (λ (s : Scene). s.answers) finishes.frame);
+      }
+
+  -- and whole
+  pub close_ends : (new : Scene) → Finishes tells session now mid how true → (how ≡ end.Quit → IsTrue tells.folder → IsFresh (names_of session) mid.folder) → ChangesOutput mid new
+      → (IsTrue tells.output → new.output ≡ mid.output ++ line_of how) → (IsTrue tells.folder → IsAdded WroteOutput [] mid new) → new.out_faults ≡ mid.out_faults
+      → RunsEdit tells name old new (if clean then ending.Done else ending.WithErrors) marks
+  close_ends new finishes gone frame wrote added quiet =
+      let faults : new.folder_faults ≡ mid.folder_faults = ap (λ (s : Scene). s.folder_faults) frame in
+      let only : OnlyFolder (counts_of old) (counts_of mid) = only_then (counts_of old) (counts_of now) (counts_of mid) at.keeps.counts (only_folder now mid finishes.frame finishes.later) in
+      by_ending clean
+      (record { script = ap (λ (s : Scene). s.script_faults) frame ∙ only.script; output = quiet ∙ only.output; later = omega (arith, only.later, faults) })
+      (λ told.
+      let here = at.told told in
+      let line : List ℕ = closing_line (closing_of how true (states_after (opened_file old name).state here.0 here.1)) in
+      run_ends tells name old now mid session marks clean told at.keeps here.0 here.1 here.2 how new here.3 finishes (λ is. gone is told.folder)
+      (record {
+        output = wrote told.output ∙ ap (λ (l : List ℕ). mid.output ++ l) (line_is how true _ ∙ sym (take_all (length line) line (omega arith)));
+        folder = ap (λ (s : Scene). s.folder) frame;
+        faults = faults;
+        added = added told.folder;
+      })
+      (ap (λ (s : Scene). s.script) frame))
+      (λ told. omega (arith, at.taken told, ap (λ (s : Scene). length s.script) finishes.frame, ap (λ (s : Scene). length s.script) frame))
+      (causes_on (counts_of old) (counts_of now) (counts_of new) marks (omega (arith, finishes.later, faults)) at.keeps.causes)
+      (times_on new (ap (λ (s : Scene). s.answers) frame ∙ ap (λ (s : Scene). s.answers) finishes.frame))
+    where
+      by_ending : (clean : Bool) → OnlyFolder (counts_of old) (counts_of new) → (TellsRun tells → HasRun name old new (if clean then ending.Done else ending.WithErrors) marks)
+          → (IsTrue tells.script → length old.script ≤ length new.script + script_limit) → All (HasCause (counts_of old) (counts_of new)) marks → (IsTrue tells.clock → IsTimed old new marks)
+          → RunsEdit tells name old new (if clean then ending.Done else ending.WithErrors) marks
+      by_ending true counts told taken causes times =
+          record { told = told; swap = λ folder is. absurd (cc); barred = free_barred ending.Done; file = at.keeps.file; taken = taken; counts = counts; causes = causes; times = times }
+      by_ending false counts told taken causes times =
+          record { told = told; swap = λ folder is. absurd (cc); barred = free_barred ending.WithErrors; file = at.keeps.file; taken = taken; counts = counts; causes = causes; times = times }
+
+-- the ending that `?` hands on
+pub at_ending : (tells : Tells) (name : List ℕ) (old new : Scene) (marks : List Mark) (r : Result Ending Ending) (one end : Ending) → IsErrAnd r (λ e. e ≡ one) → one ≡ end → RunsEdit tells name old new end marks
+    → RunsEdit tells name old new (ending_in r) marks
+at_ending tells name old new marks (Ok e) one end is same runs = absurd is
+at_ending tells name old new marks (Err e) one end is same runs = subst (λ (x : Ending). RunsEdit tells name old new x marks) (sym (is ∙ same)) runs

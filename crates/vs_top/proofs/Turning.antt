@@ -1,0 +1,246 @@
+-- One turn of a run: a read of the script, a step and its reply, and what the run answered where it stops in one of these.
+use Rattle.std.proofs.Common.{◌≡◌, ◌⊎◌, inl, inr, ℕ, ◌≤◌, ◌<◌, ◌+◌, ◌^◌, Bool, true, false, not, ◌&&◌, List, [], ◌∷◌, ◌++◌, length, take, map, All, Option, Some, None, IsTrue, string_bytes, refl, sym, ap, subst, ◌∙◌, append_assoc, append-nil, arith}
+use Rattle.std.proofs.lemmas.Bool.{true≢false}
+use Rattle.std.proofs.lemmas.List.{take_all, length-append, length-map}
+use Rattle.std.proofs.lemmas.List.Elements.{All-nil, All-cons, All-append}
+use Rattle.std.proofs.Math.Seq.{take-append_seam, take-append-add}
+use Rattle.vs_faults.specs.Faults.{HasRisen}
+use Rattle.vs_faults.proofs.Causes.{risen_before, risen_after}
+use Rattle.vs_host.specs.Disk.{Disk}
+use Rattle.vs_host.specs.Names.{names_of_file}
+use Rattle.vs_host.specs.Trace.{WroteOutput, Snapshot, Each, GoesOn}
+use Rattle.vs_host.specs.World.{Tells, Scene, IsRecorded, LeavesTrace, ChangesOutput, ChangesScript, content_of}
+use Rattle.vs_host.specs.declared.names.Names.{Names}
+use Rattle.vs_disk.proofs.Runs.{Each-append, Each-weaker}
+use Rattle.vs_excmd.specs.Request.{Instruction, IsRequest}
+use Rattle.vs_excmd.specs.declared.request.Request.{Request}
+use Rattle.vs_script.specs.Ahead.{Ahead, HasSeen, CountsTaken, Stops, script_limit}
+use Rattle.vs_script.specs.Reads.{IsAsBefore, IsRead, ReadsAll, ReadsOn}
+use Rattle.vs_script.specs.Requests.{TakesRequest, TakesNone, whole_commands}
+use Rattle.vs_script.specs.declared.reader.ScriptErr.{ScriptErr}
+use Rattle.vs_script.specs.declared.reader.ScriptErr.TheVariants as script_error
+use Rattle.vs_script.proofs.ReadLemmas.{reads_on}
+use Rattle.vs_machine.specs.Machine.{is_done}
+use Rattle.vs_machine.specs.Replies.{Answer}
+use Rattle.vs_machine.specs.declared.command.Mark.{Mark}
+use Rattle.vs_machine.specs.declared.command.Outcome.TheVariants as outcome
+use Rattle.vs_safety.specs.Texts.{Sync}
+use Rattle.vs_safety.specs.Turns.{Turn, NotBegun, with_sync, after_turns, opened, replies}
+use Rattle.vs_safety.specs.Safety.{IsCrashSafe, IsAdded, Looks, Writes, Works, Stepped}
+use Rattle.vs_safety.specs.Going.{Going, Stepping, Halted}
+use Rattle.vs_safety.specs.Causes.{newest_count, IsCounted, RoseLast, script_count, output_count, folder_count}
+use Rattle.vs_safety.proofs.Splits.{after_push}
+use Rattle.vs_safety.proofs.Going.{going_looks, going_steps, going_halts, reply_written, reply_cut}
+use Rattle.vs_safety.proofs.Endings.{halted_safe}
+use Rattle.vs_safety.proofs.Causes.{rose_at}
+use Rattle.vs_session.specs.declared.session.Session.{Session}
+use Rattle.vs_session.specs.declared.ending.End.{End}
+use Rattle.vs_session.specs.declared.ending.End.TheVariants as end
+use Rattle.vs_session.specs.Session.{SessionState, Ended, accepts_quit, reply_of, state_after, states_after, turn_of, turns_of, replies_of, any_error}
+use Rattle.vs_session.specs.Fits.{Answers, Fits, HasSwap, StepsIn, names_of}
+use Rattle.vs_top.specs.Ending.{script_ending}
+use Rattle.vs_top.specs.Run.{TellsRun, Did, IsKept, IsCutShort, HasRun, RunsEdit, Counts, counts_of, OnlyFolder, HasCause, IsBarred, IsTimed, NoneQuits, IsWithin, commands_in, commands_within, opened_file, ran_of, written, written_before}
+use Rattle.vs_top.specs.Turns.{AreCounted, text_at, opening_at, Told, Keeps, StopsAt, IsAtClose}
+use Rattle.vs_top.specs.declared.ending.Ending.{Ending}
+use Rattle.vs_top.specs.declared.ending.Ending.TheVariants as ending
+use Rattle.vs_top.proofs.Pushes.{replies_same, states_push, turns_push, none_push, errors_push, and_not, map_push}
+use Rattle.vs_top.proofs.Counting.{only_then, only_output, only_script, causes_on, counted_works, counted_reads, all_counted}
+use Rattle.vs_top.proofs.Reading.{fresh_reader, HasRead, read_on, read_in, read_within, stops_run, done_is_all, counts_on, few_taken}
+
+-- ---- a read of the script
+
+read_moment : (now : Scene) (m : Snapshot) → IsAsBefore now m → (m.output ≡ now.output) × (m.folder ≡ now.folder)
+read_moment now m is = (is.output, is.folder)
+
+-- whatever it answers, it only looks
+pub reads_look : (now new : Scene) → ChangesScript now new → ReadsOn now new → Looks now new
+reads_look now new frame reads = record {
+  moments = record {
+    added = reads.last ++ reads.earlier;
+    is = reads.is ∙ sym (append_assoc reads.last reads.earlier now.trace);
+    each = Each-append (λ m. (m.output ≡ now.output) × (m.folder ≡ now.folder)) reads.last reads.earlier
+        (Each-weaker (IsRead now) (λ m. (m.output ≡ now.output) × (m.folder ≡ now.folder)) (λ m is. (is.1, is.0)) reads.last reads.last_is)
+        (Each-weaker (IsAsBefore now) (λ m. (m.output ≡ now.output) × (m.folder ≡ now.folder)) (read_moment now) reads.earlier reads.earlier_are);
+  };
+  output = ap (λ (s : Scene). s.output) frame;
+  folder = ap (λ (s : Scene). s.folder) frame;
+  faults = ap (λ (s : Scene). s.folder_faults) frame;
+}
+
+newest_read : (old : Scene) (n : ℕ) (moments older : List Snapshot) → Each (λ m. m.script_faults ≡ n) moments → newest_count script_count old older ≡ n → newest_count script_count old (moments ++ older) ≡ n
+newest_read old n [] older each is = is
+newest_read old n (m ∷ ms) older each is = each.0
+
+-- and where it failed, that was the last call
+rose_reading : (old now new : Scene) → ReadsOn now new → HasRisen now.script_faults new.script_faults → IsCounted script_count old now → RoseLast script_count old new
+rose_reading old now new reads rose counted = record {
+  last = reads.last;
+  earlier = reads.earlier ++ counted.moments;
+  one = reads.one;
+  is = reads.is ∙ ap (λ (ms : List Snapshot). reads.last ++ ms) (ap (λ (ms : List Snapshot). reads.earlier ++ ms) counted.added ∙ sym (append_assoc reads.earlier counted.moments old.trace));
+  rose = subst (λ (n : ℕ). HasRisen n new.script_faults) (sym (newest_read old now.script_faults reads.earlier counted.moments
+      (Each-weaker (IsAsBefore now) (λ m. m.script_faults ≡ now.script_faults) (λ m is. is.script_faults) reads.earlier reads.earlier_are) counted.newest)) rose;
+}
+
+-- ---- what is known at each turn
+
+pub record IsTurn (tells : Tells) (name : List ℕ) (old now : Scene) (session : Session) (fresh reader : Ahead) (marks : List Mark) (clean : Bool) : Type 0 where
+  pub told : TellsRun tells → (commands : List Instruction) × (ends : List Ended) × Told name old now session marks clean commands ends × HasRead fresh reader old now commands
+  pub keeps : Keeps tells name old now session marks
+  pub counts : IsTrue tells.script → CountsTaken fresh reader old now
+  pub times : IsTrue tells.clock → now.answers ≡ old.answers ++ map (λ mark. mark.at) marks
+
+-- What a read of the next request leaves, whatever it answers.
+pub record AfterRead (tells : Tells) (reader reader' : Ahead) (now read : Scene) : Type 0 where
+  pub limit : reader'.taken ≤ script_limit
+  pub seen : IsTrue tells.script → HasSeen reader' read
+  pub reads : IsTrue tells.folder → ReadsOn now read
+  pub frame : ChangesScript now read
+
+-- and where it succeeded
+pub record AfterOk (tells : Tells) (reader reader' : Ahead) (now read : Scene) : Type 0 where
+  pub after : AfterRead tells reader reader' now read
+  pub quiet : read.script_faults ≡ now.script_faults
+  pub all : IsTrue tells.folder → ReadsAll now read
+  pub counts : IsTrue tells.script → CountsTaken reader reader' now read
+
+no_more : (now : Scene) (old : List ℕ) (marks : List Mark) → now.answers ≡ old ++ map (λ mark. mark.at) marks → now.answers ≡ (old ++ map (λ mark. mark.at) marks) ++ []
+no_more now old marks is = is ∙ sym (append-nil (old ++ map (λ mark. mark.at) marks))
+
+-- ---- the run stops after a read
+
+module _ (tells : Tells) (name : List ℕ) (old now read : Scene) (session : Session) (fresh reader reader' : Ahead) (marks : List Mark) (clean : Bool) (new : fresh ≡ fresh_reader)
+    (after : AfterRead tells reader reader' now read) where
+  module _ (told : TellsRun tells) (commands : List Instruction) (ends : List Ended) (here : Told name old now session marks clean commands ends) (had : HasRead fresh reader old now commands) where
+    abbrev turns : List Turn
+    turns = turns_of (opened_file old name).state commands ends
+
+    abbrev did : Did
+    did = record { commands = commands; ends = ends; closing = NotBegun }
+
+    kept : IsKept (opened_file old name) marks did
+    kept = record { one_each = here.one_each; marks_are = here.marks_are; none_quits = here.none_quits }
+
+    looked : Going (names_of_file name) old read (text_at old name) (opening_at old name) turns
+    looked = going_looks (names_of_file name) old (text_at old name) (opening_at old name) now read turns (reads_look now read after.frame (after.reads told.folder)) here.going
+
+    safe : IsCrashSafe (names_of_file name) old read (ran_of name old did)
+    safe = halted_safe (names_of_file name) old read (ran_of name old did) refl (going_halts (names_of_file name) old (text_at old name) (opening_at old name) read turns looked)
+
+    output_is : read.output ≡ old.output ++ written (opened_file old name) commands ends
+    output_is =
+        looked.output ∙ append_assoc old.output (opening_at old name) (replies turns)
+        ∙ ap (λ (l : List ℕ). old.output ++ (opening_at old name ++ l)) (replies_same (opened_file old name).state commands ends)
+
+    run_fails : Stops script_error.Failed whole_commands [] reader reader' now read → HasRisen now.script_faults read.script_faults → HasRun name old read ending.ScriptFault marks
+    run_fails stop rose =
+        let found = stops_run script_error.Failed old now read fresh reader reader' commands new had stop in
+        record {
+          did = did;
+          kept = kept;
+          answered = record { taken = found.taken; script = found.script ∙ ap (λ (l : List ℕ). found.taken ++ l) (sym found.is_left); commands = found.whole; answered = (output_is, refl) };
+          safe = λ free. safe;
+          failed = rose_reading old now read (after.reads told.folder) rose here.counted.script;
+          same = λ early. absurd (true≢false (sym early));
+        }
+
+    run_too_long : Stops script_error.TooLong whole_commands [] reader reader' now read → HasRun name old read ending.ScriptTooLong marks
+    run_too_long stop =
+        let found = stops_run script_error.TooLong old now read fresh reader reader' commands new had stop in
+        let long : length found.taken ≡ script_limit = sym found.count ∙ found.is_left.2 in
+        let size : length old.script ≡ length found.taken + length found.left = ap (λ (l : List ℕ). length l) found.script ∙ length-append found.taken found.left in
+        let front : take script_limit old.script ≡ found.taken =
+        ap (λ (l : List ℕ). take script_limit l) found.script ∙ ap (λ n. take n (found.taken ++ found.left)) (sym long) ∙ take-append_seam found.taken found.left in
+        record {
+          did = did;
+          kept = kept;
+          answered = record { longer = omega (arith, long, found.is_left.0, size); commands = found.whole ∙ ap whole_commands (sym front); answered = (output_is, refl) };
+          safe = λ free. safe;
+          failed = tt;
+          same = λ early. absurd (true≢false (sym early));
+        }
+
+    run_no_memory : (request : Request) (taken : TakesRequest request reader reader' now read) → HasSeen reader' read → CountsTaken fresh reader' old read → HasRun name old read ending.NoMemory marks
+    run_no_memory request taken seen counts =
+        let within = read_within fresh reader' old read (commands ++ taken.first ∷ []) new (read_on fresh reader reader' old now read commands request had taken) seen counts after.limit in
+        record {
+          did = did;
+          kept = kept;
+          answered = inr ((taken.first ∷ within.0, within.1 ∙ append_assoc commands (taken.first ∷ []) within.0), (output_is, refl));
+          safe = λ free. safe;
+          failed = tt;
+          same = λ early. absurd (true≢false (sym early));
+        }
+
+  module _ (turn : IsTurn tells name old now session fresh reader marks clean) where
+    free_barred : (end : Ending) → IsTrue tells.folder → HasSwap (names_of_file name) old.folder → IsBarred end
+    free_barred end told has = absurd (turn.keeps.free told has)
+
+    times : IsTrue tells.clock → IsTimed old read marks
+    times told = record { more = []; one = omega arith; is = ap (λ (s : Scene). s.answers) after.frame ∙ turn.times told ∙ sym (append-nil (old.answers ++ map (λ mark. mark.at) marks)) }
+
+    -- the reader stopped
+    pub reader_stopped : (error : ScriptErr) → (error ≡ script_error.Failed → HasRisen now.script_faults read.script_faults) → ((error ≡ script_error.Failed → ⊥) → read.script_faults ≡ now.script_faults)
+        → (IsTrue tells.script → Stops error whole_commands [] reader reader' now read) → RunsEdit tells name old read (script_ending error) marks
+    reader_stopped script_error.Failed failed quiet stops =
+        let only = only_script now read after.frame in
+        let before = turn.keeps.counts in
+        record {
+          told = λ told. let here = turn.told told in run_fails told here.0 here.1 here.2 here.3 (stops told.script) (failed refl);
+          swap = λ told is. absurd (cc);
+          barred = free_barred ending.ScriptFault;
+          file = turn.keeps.file;
+          taken = λ told.
+              let stop = stops told in
+              few_taken fresh reader' old read new
+              (counts_on fresh reader reader' old now read (turn.counts told)
+              (omega (arith, stop.count, ap (λ (l : List ℕ). length l) stop.script, length-append stop.fresh stop.left, ap (λ (l : List ℕ). length l) stop.is_left))) after.limit;
+          counts = (
+            subst (λ (k : ℕ). HasRisen k read.script_faults) before.script (failed refl),
+            record { script = refl; output = only.output ∙ before.output; later = omega (arith, only.later, before.later) },
+          );
+          causes = causes_on (counts_of old) (counts_of now) (counts_of read) marks only.later turn.keeps.causes;
+          times = times;
+        }
+    reader_stopped script_error.TooLong failed quiet stops =
+        let only = only_script now read after.frame in
+        let before = turn.keeps.counts in
+        record {
+          told = λ told. let here = turn.told told in run_too_long told here.0 here.1 here.2 here.3 (stops told.script);
+          swap = λ told is. absurd (cc);
+          barred = free_barred ending.ScriptTooLong;
+          file = turn.keeps.file;
+          taken = λ told.
+              let stop = stops told in
+              omega (
+                arith,
+                ap (λ (a : Ahead). a.taken) new,
+                turn.counts told,
+                stop.count,
+                ap (λ (l : List ℕ). length l) stop.script,
+                length-append stop.fresh stop.left,
+                stop.is_left.1,
+                stop.is_left.2,
+              );
+          counts = record { script = quiet (λ is. absurd (cc)) ∙ before.script; output = only.output ∙ before.output; later = omega (arith, only.later, before.later) };
+          causes = causes_on (counts_of old) (counts_of now) (counts_of read) marks only.later turn.keeps.causes;
+          times = times;
+        }
+
+    -- there was no memory for a mark
+    pub no_memory_left : (request : Request) → AfterOk tells reader reader' now read → (IsTrue tells.script → TakesRequest request reader reader' now read) → RunsEdit tells name old read ending.NoMemory marks
+    no_memory_left request ok taken =
+        let only = only_script now read after.frame in
+        let before = turn.keeps.counts in
+        record {
+          told = λ told.
+              let here = turn.told told in
+              run_no_memory told here.0 here.1 here.2 here.3 request (taken told.script) (after.seen told.script) (counts_on fresh reader reader' old now read (turn.counts told.script) (ok.counts told.script));
+          swap = λ told is. absurd (cc);
+          barred = free_barred ending.NoMemory;
+          file = λ told. tt;
+          taken = λ told. few_taken fresh reader' old read new (counts_on fresh reader reader' old now read (turn.counts told) (ok.counts told)) after.limit;
+          counts = record { script = ok.quiet ∙ before.script; output = only.output ∙ before.output; later = omega (arith, only.later, before.later) };
+          causes = causes_on (counts_of old) (counts_of now) (counts_of read) marks only.later turn.keeps.causes;
+          times = times;
+        }

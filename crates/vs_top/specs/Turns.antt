@@ -1,0 +1,77 @@
+-- What is known of a run after its file was opened, between two commands, and where it begins to close.
+use Rattle.std.specs.Prelude.{ℕ, Bool, true, not, List, [], ◌∷◌, ◌≡◌, ◌≤◌, ◌+◌, ◌++◌, All, length, map, string_bytes, IsTrue}
+use Rattle.vs_host.specs.Names.{names_of_file}
+use Rattle.vs_host.specs.World.{Tells, Scene, content_of}
+use Rattle.vs_excmd.specs.Request.{Instruction}
+use Rattle.vs_script.specs.Ahead.{script_limit}
+use Rattle.vs_machine.specs.Replies.{opening_of}
+use Rattle.vs_machine.specs.declared.command.Mark.{Mark}
+use Rattle.vs_safety.specs.Turns.{after_turns, opened}
+use Rattle.vs_safety.specs.Going as going
+use Rattle.vs_safety.specs.Going.{Going}
+use Rattle.vs_safety.specs.Causes.{IsCounted, script_count, output_count, folder_count}
+use Rattle.vs_session.specs.declared.session.Session.{Session}
+use Rattle.vs_session.specs.declared.ending.End.{End}
+use Rattle.vs_session.specs.declared.ending.End.TheVariants as end
+use Rattle.vs_session.specs.Session.{Ended, accepts_quit, states_after, turns_of, any_error}
+use Rattle.vs_session.specs.Opened.{Opened, text_in}
+use Rattle.vs_session.specs.Fits.{Fits, HasOpened, HasSwap, names_of}
+use Rattle.vs_top.specs.Run.{TellsRun, NoneQuits, Counts, counts_of, OnlyFolder, HasCause, FileFits, IsTimed, commands_in, opened_file}
+
+-- the text that a run opens, and its opening reply
+abbrev pub text_at : Scene → List ℕ → List (List ℕ)
+text_at old name = text_in (content_of old name)
+
+abbrev pub opening_at : Scene → List ℕ → List ℕ
+opening_at old name = (opening_of name (opened_file old name).found).bytes
+
+-- The newest snapshot has the three counts as they are.
+pub record AreCounted (old now : Scene) : Type 0 where
+  pub script : IsCounted script_count old now
+  pub output : IsCounted output_count old now
+  pub folder : IsCounted folder_count old now
+
+-- These commands were answered, and their replies are whole.
+pub record Told (name : List ℕ) (old now : Scene) (session : Session) (marks : List Mark) (clean : Bool) (commands : List Instruction) (ends : List Ended) : Type 0 where
+  pub one_each : length ends ≡ length commands
+  pub marks_are : marks ≡ map (λ ended. ended.mark) ends
+  pub none_quits : NoneQuits (opened_file old name).state commands ends
+  pub errors : clean ≡ not (any_error (opened_file old name).state commands ends)
+  pub fits : Fits session now.folder (states_after (opened_file old name).state commands ends) (after_turns (opened (text_at old name)) (turns_of (opened_file old name).state commands ends))
+  pub going : Going (names_of_file name) old now (text_at old name) (opening_at old name) (turns_of (opened_file old name).state commands ends)
+  pub counted : AreCounted old now
+
+-- The file was opened, and nothing was written.
+pub record ToldOpen (name : List ℕ) (old now : Scene) (session : Session) : Type 0 where
+  pub file : HasOpened (opened_file old name) session
+  pub fits : Fits session now.folder (opened_file old name).state (opened (text_at old name))
+  pub opened_here : going.Opened (names_of_file name) old now (text_at old name) (opening_at old name)
+  pub counted : IsCounted output_count old now
+
+-- What a run over any host keeps: the file was within its limits and had no swap file, the names are those of the file, and but for
+-- commands that were answered so no call failed.
+pub record Keeps (tells : Tells) (name : List ℕ) (old now : Scene) (session : Session) (marks : List Mark) : Type 0 where
+  pub free : IsTrue tells.folder → HasSwap (names_of_file name) old.folder → ⊥
+  pub file : IsTrue tells.folder → FileFits (content_of old name)
+  pub names : names_of session ≡ names_of_file name
+  pub counts : OnlyFolder (counts_of old) (counts_of now)
+  pub causes : All (HasCause (counts_of old) (counts_of now)) marks
+
+-- a session has just opened its file, and the script is as it was
+pub record IsOpened (tells : Tells) (name : List ℕ) (old now : Scene) (session : Session) : Type 0 where
+  pub told : TellsRun tells → ToldOpen name old now session
+  pub keeps : Keeps tells name old now session []
+  pub script : now.script ≡ old.script
+  pub answers : now.answers ≡ old.answers
+
+-- the script was read to its end, or the next command is an accepted quit
+abbrev pub StopsAt : End → Opened → Scene → Scene → List Instruction → List Ended → Type 0
+StopsAt end.Sync file old now commands ends = (commands ≡ commands_in old) × (now.script ≡ [])
+StopsAt end.Quit file old now commands ends = (quit : Instruction) × (rest : List Instruction) × (commands_in old ≡ commands ++ quit ∷ rest) × (accepts_quit (states_after file.state commands ends) quit ≡ true)
+
+-- all commands that are to be answered were, and the session is about to end
+pub record IsAtClose (tells : Tells) (name : List ℕ) (old now : Scene) (session : Session) (marks : List Mark) (how : End) (clean : Bool) : Type 0 where
+  pub told : TellsRun tells → (commands : List Instruction) × (ends : List Ended) × Told name old now session marks clean commands ends × StopsAt how (opened_file old name) old now commands ends
+  pub keeps : Keeps tells name old now session marks
+  pub taken : IsTrue tells.script → length old.script ≤ length now.script + script_limit
+  pub times : IsTrue tells.clock → IsTimed old now marks
