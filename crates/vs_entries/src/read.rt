@@ -10,6 +10,7 @@ ghost use Rattle.vs_entries.specs.Entries.{splice_back, LeadsCount};
 use crate::{EditErr, Entry};
 use std::alloc::{AllocError, Global};
 use vs_edit::{LineStore, StoreErr};
+use vs_reads::push_lines;
 use vs_text::{Line, Text};
 
 // The lines from line `top` on.
@@ -28,11 +29,7 @@ pub(crate) fn lines_at<S: LineStore>(
     ensures cause { HasCause (S.shows store.old).faults (S.shows store.new).faults (IsErrOf result StoreErr.Failed) }
 {
     let mut lines = Vec::new(alloc);
-    for i in 0..count {
-        let mut line = Vec::new(alloc);
-        store.line(alloc, top + i, &mut line)?;
-        lines.push(Line::from_vec(line))?;
-    }
+    push_lines(alloc, store, top, count, &mut lines)?;
     Ok(Text::of(lines))
 }
 

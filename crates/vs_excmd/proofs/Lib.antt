@@ -4,6 +4,5 @@ pub mod JoinLemmas
 pub mod LimitLemmas
 pub mod LongLemmas
 pub mod MatchLemmas
-pub mod ReadLemmas
 pub mod RewriteLemmas
 pub mod WrittenLemmas

@@ -4,7 +4,6 @@ pub mod Errors
 pub mod Join
 pub mod Meaning
 pub mod Place
-pub mod Reading
 pub mod Request
 pub mod Rewriting
 pub mod Substitute

@@ -6,11 +6,11 @@ ghost use Rattle.vs_excmd.specs.Answer.{IsLate, Leads, LiesIn};
 ghost use Rattle.vs_excmd.specs.Join.{addresses_in, addresses_of, joined, joined_span, joined_two, joint};
 ghost use Rattle.vs_excmd.specs.Place.{IsSpanIn};
 
-use crate::reads::LineReader;
 use crate::{Plan, PlanErr, Span};
 use std::alloc::{AllocError, Global};
 use vs_edit::LineStore;
 use vs_exparse::{ExErr, Range, skip_blanks};
+use vs_reads::LineReader;
 use vs_text::{Line, MAX_LINE_BYTES};
 
 fn addresses_in(range: Range) -> u32

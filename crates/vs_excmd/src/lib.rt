@@ -11,7 +11,6 @@ mod limits;
 mod meaning;
 mod moving;
 mod place;
-mod reads;
 mod replacing;
 mod request;
 mod substituting;

@@ -10,11 +10,11 @@ ghost use Rattle.vs_edit.specs.Splices.{cut_out, splice};
 ghost use Rattle.vs_excmd.specs.Answer.{Allows, Answers, IsLate, LiesIn, effect_of};
 ghost use Rattle.vs_excmd.specs.Change.{bounded, is_short, is_within};
 
-use crate::reads::bytes_in;
 use crate::{Plan, PlanErr};
 use std::alloc::Global;
 use vs_edit::{LineStore, StoreErr};
 use vs_exparse::ExErr;
+use vs_reads::bytes_in;
 use vs_text::{Line, MAX_LINE_BYTES, MAX_LINES, MAX_TEXT_BYTES};
 
 // A command line has room for a line of a text.

@@ -7,11 +7,11 @@ ghost use Rattle.vs_excmd.specs.Change.{copied, moved};
 ghost use Rattle.vs_excmd.specs.Place.{IsPlaceIn, is_into_itself};
 
 use crate::limits::fits_copied;
-use crate::reads::push_lines;
 use crate::{Place, Plan, PlanErr};
 use std::alloc::Global;
 use vs_edit::{LineStore, StoreErr};
 use vs_exparse::ExErr;
+use vs_reads::push_lines;
 
 /// Moves lines. The splice goes from them to their destination.
 pub(crate) fn move_lines<S: LineStore>(

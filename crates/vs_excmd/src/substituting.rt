@@ -14,13 +14,13 @@ ghost use Rattle.vs_excmd.specs.Place.{IsSpanIn};
 ghost use Rattle.vs_excmd.specs.Rewriting.{AreKept, Finds, IsRewriting, StandsIn, is_long, is_too_long};
 ghost use Rattle.vs_excmd.specs.Substitute.{has_match, replaced, rewritten, substituted, substituted_lines};
 
-use crate::reads::LineReader;
 use crate::replacing::{Rewritten, literal, replacement, rewrite_line};
 use crate::{Plan, PlanErr, Span};
 use memchr::memmem::Finder;
 use std::alloc::{AllocError, Global};
 use vs_edit::{LineStore, StoreErr};
 use vs_exparse::ExErr;
+use vs_reads::LineReader;
 use vs_text::{Line, MAX_TEXT_BYTES};
 
 // Lines that were looked at: so many before the first that matches, those from there on with their bytes, and how many of

@@ -1,16 +1,14 @@
 -- Moves of the undo tree go where the machine says: the way of a state is the one way that it has.
-use Rattle.std.proofs.Common.{◌≡◌, ◌≢◌, ℕ, zero, suc, ◌≤◌, ◌==◌, ◌&&◌, if◌then◌else◌, true, false, List, [], ◌∷◌, length, None, Result, Ok, Err, IfOk, IfErr, option_map, unwrap_or, inl, inr, ap, sym, subst, ◌∙◌, arith, refl}
+use Rattle.std.proofs.Common.{◌≡◌, ◌≢◌, ℕ, ◌==◌, ◌&&◌, if◌then◌else◌, true, false, Result, Ok, Err, IfOk, IfErr, inl, inr, ap, sym, subst, ◌∙◌, arith}
 use Rattle.std.proofs.lemmas.Bool.Decides.{nat_tests}
 use Rattle.vs_edit.specs.declared.store.LineStore.{Ghosts}
 use Rattle.vs_undo.specs.declared.error.UndoErr.{UndoErr}
 use Rattle.vs_undo.specs.declared.error.UndoErr.TheVariants.{AtOldest, AtNewest}
-use Rattle.vs_undo.specs.declared.parts.Node.{Node}
 use Rattle.vs_undo.specs.declared.parts.Parts.{Parts}
 use Rattle.vs_undo.specs.Errors.{IsMoveErr}
 use Rattle.vs_undo.specs.History.{IsHistory, history_at}
 use Rattle.vs_undo.specs.Moves.{HasMoved}
 use Rattle.vs_undo.specs.Sound.{IsSound}
-use Rattle.vs_undo.specs.Ways.{parent_at, start, IsTree, IsWay, IsWayOf}
 use Rattle.vs_undo.specs.Writes.{earlier_save, earlier_write, later_save, later_write, last_number, IsEarlierWrite, IsAtOldestWrite, IsLaterWrite, IsAtNewestWrite}
 use Rattle.vs_undo.proofs.ShortWays.{way_is}
 use Rattle.vs_machine.specs.Answers.{HasGone, IsWhy}

@@ -1,5 +1,5 @@
 -- The machine that answers commands: a text with a cursor, and its history.
-use Rattle.std.specs.Prelude.{ℕ, Bool, true, false, ◌+◌, ◌||◌, nat_le, not, if◌then◌else◌, List, [], ◌∷◌, ◌++◌, length, decimal, min}
+use Rattle.std.specs.Prelude.{ℕ, Bool, true, false, ◌+◌, nat_le, if◌then◌else◌, List, [], ◌∷◌, ◌++◌, length, decimal, min}
 use Rattle.std.specs.declared.option.Option.{Option}
 use Rattle.std.specs.Prelude.{Some, None, Result, Ok, Err}
 use Rattle.vs_text.specs.Text.{file_of}

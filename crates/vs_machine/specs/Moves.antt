@@ -1,6 +1,6 @@
 -- Where the moves over a history lead.
-use Rattle.std.specs.Prelude.{ℕ, ◌==◌, ◌&&◌, ◌||◌, if◌then◌else◌, Bool, List, [], ◌∷◌, length, min, max}
-use Rattle.std.specs.Prelude.{Result, Ok, Err, Option, Some, None, option_map, unwrap_or, is_some, ◌≤◌, ⊤}
+use Rattle.std.specs.Prelude.{ℕ, ◌==◌, ◌&&◌, ◌||◌, if◌then◌else◌, Bool, List, length, min, max}
+use Rattle.std.specs.Prelude.{Result, Ok, Err, Option, Some, None, is_some, ◌≤◌, ⊤}
 use Rattle.vs_undo.specs.declared.error.UndoErr.{UndoErr}
 use Rattle.vs_undo.specs.declared.error.UndoErr.TheVariants.{NotKept, AtOldest, AtNewest}
 use Rattle.vs_undo.specs.declared.parts.Node.{Node}

@@ -1,23 +1,20 @@
-// Lines as `:print` and `:number` show them, copied from the blocks of a store in runs.
-ghost use Rattle.std.specs.Prelude.{◌≡◌, ◌≤◌, ◌<◌, ◌+◌, ◌^◌, ◌++◌, ◌∷◌, [], ℕ, List, IfOk, IfSome, IsErrOf, IsNone, OnOk, decimal, length};
+// Lines as `:print` and `:number` show them, copied from the blocks of a store.
+ghost use Rattle.std.specs.Prelude.{◌≡◌, ◌<◌, ◌++◌, ◌∷◌, [], ℕ, List, IfOk, IsErrOf, OnOk, length};
 ghost use Rattle.vs_faults.specs.Faults.{HasCause};
-ghost use Rattle.vs_text.specs.Text.{IsLine, IsText, file_of};
+ghost use Rattle.vs_text.specs.Text.{file_of};
 ghost use Rattle.vs_edit.specs.Calls.{OnlyReads};
 ghost use Rattle.vs_excmd.specs.Change.{lines_in};
 ghost use Rattle.vs_excmd.specs.Place.{IsSpanIn};
-ghost use Rattle.vs_machine.specs.Shown.{numbered, padded, shown_lines};
+ghost use Rattle.vs_machine.specs.Shown.{numbered, shown_lines, with_number};
 
 use itoa::Buffer;
-use memchr::memchr;
 use std::alloc::{AllocError, Global};
 use vs_edit::{LineStore, StoreErr};
 use vs_excmd::Span;
+use vs_reads::LineReader;
 
 /// The columns of a line number.
 const NUMBER_WIDTH: usize = 6;
-
-/// Numbered lines are copied from a store in runs of this number.
-const RUN_LINES: u64 = 64;
 
 // The lines of a span, each with its newline.
 fn printed<S: LineStore>(alloc: Global, store: &mut S, span: Span) -> Result<Vec<u8>, StoreErr>
@@ -39,25 +36,9 @@ fn printed<S: LineStore>(alloc: Global, store: &mut S, span: Span) -> Result<Vec
     Ok(bytes)
 }
 
-// The first line of some, with its newline, and the lines after it.
-fn split_line(lines: &[u8]) -> Option<(&[u8], &[u8])>
-    ensures some { IfSome result (λ (line, after). (line.now ++ after.now ≡ lines.now) × (0 < length line.now)) }
-    ensures first { (line : List ℕ) (after : List (List ℕ)) → IsLine line → lines.now ≡ file_of (line ∷ after)
-        → IfSome result (λ parts. (parts.0.now ≡ line ++ 10 ∷ []) × (parts.1.now ≡ file_of after)) }
-    ensures none { IsNone result → lines.now ≡ [] }
-{
-    if lines.is_empty() {
-        return None;
-    }
-    match memchr(b'\n', lines) {
-        Some(end) => Some(lines.split_at(end + 1)),
-        None => Some((lines, &[])),
-    }
-}
-
-// Adds a line's number, right in its columns, and a space.
-fn push_number(number: u64, into: &mut Vec<u8>) -> Result<(), AllocError>
-    ensures { OnOk result (into.new.items ≡ into.old.items ++ (padded 6 (decimal number) ++ 32 ∷ [])) }
+// Adds a line with its number before it, right in its columns, and its newline.
+fn push_numbered(number: u64, line: &[u8], into: &mut Vec<u8>) -> Result<(), AllocError>
+    ensures { OnOk result (into.new.items ≡ into.old.items ++ (with_number number line.now ++ 10 ∷ [])) }
 {
     let mut digits = Buffer::new();
     let digits = digits.format(number).as_bytes();
@@ -65,22 +46,8 @@ fn push_number(number: u64, into: &mut Vec<u8>) -> Result<(), AllocError>
     into.resize(into.len() + blanks, b' ')?;
     into.extend_from_slice(digits)?;
     into.push(b' ')?;
-    Ok(())
-}
-
-// Adds lines with their numbers, the first of which is given.
-fn push_numbered(lines: &[u8], first: u64, into: &mut Vec<u8>) -> Result<(), AllocError>
-    requires { first < 2 ^ 62 }
-    ensures { OnOk result ((text : List (List ℕ)) → IsText text → lines.now ≡ file_of text → into.new.items ≡ into.old.items ++ file_of (numbered first text)) }
-{
-    let mut rest = lines;
-    let mut number = first;
-    'lines: while let Some((line, after)) = split_line(rest) {
-        push_number(number, into)?;
-        into.extend_from_slice(line)?;
-        number += 1;
-        rest = after;
-    }
+    into.extend_from_slice(line)?;
+    into.push(b'\n')?;
     Ok(())
 }
 
@@ -99,14 +66,14 @@ fn printed_with_numbers<S: LineStore>(
     ensures cause { HasCause (S.shows store.old).faults (S.shows store.new).faults (IsErrOf result StoreErr.Failed) }
 {
     let _ = store.len();
+    let top = span.first - 1;
+    let count = span.last - top;
+    let mut reader = LineReader::new(alloc, top, count);
+    let mut line = Vec::new(alloc);
     let mut bytes = Vec::new(alloc);
-    let mut run = Vec::new(alloc);
-    let mut at = span.first - 1;
-    'runs: while at < span.last {
-        let count = (span.last - at).min(RUN_LINES);
-        store.copy_lines(alloc, at, count, &mut run)?;
-        push_numbered(&run, at + 1, &mut bytes)?;
-        at += count;
+    for i in 0..count {
+        reader.line(alloc, store, &mut line)?;
+        push_numbered(span.first + i, &line, &mut bytes)?;
     }
     Ok(bytes)
 }

@@ -1,7 +1,9 @@
-//! Tests of the stores of one text, and what tests of several crates share.
+//! Tests of the stores of one text and of what reads them, and what tests of several crates share.
 #![tactic(auto)]
 
 mod numbers;
+#[cfg(test)]
+mod reads;
 #[cfg(test)]
 mod vec_store;
 

@@ -3,9 +3,9 @@ use Rattle.std.proofs.Common.{◌≡◌, ◌≢◌, ℕ, ◌+◌, ◌-◌, ◌<�
 use Rattle.std.proofs.lemmas.Bool.Decides.{nat_tests}
 use Rattle.std.proofs.lemmas.List.{get_or_default, get_or-set_same, get_or-set_other, get_or-replicate, length-replicate, length-set}
 use Rattle.vs_undo.specs.declared.parts.Node.{Node}
-use Rattle.vs_undo.specs.Ways.{node_at, parent_at, IsWay, IsTree}
+use Rattle.vs_undo.specs.Ways.{node_at, parent_at, IsWay, IsTree, Follows}
 use Rattle.vs_undo.specs.Leaves.{HasDepth, AreDepths}
-use Rattle.vs_undo.proofs.NodeLemmas.{Follows, way_step}
+use Rattle.vs_undo.proofs.NodeLemmas.{way_step}
 use Rattle.vs_undo.proofs.ShortWays.{way_short}
 use Rattle.vs_undo.proofs.WayLemmas.{one_way, way_after}
 

@@ -3,12 +3,14 @@ pub mod DepthLemmas
 pub mod EdgeLemmas
 pub mod LeafLemmas
 pub mod MarkLemmas
+pub mod MeetingLemmas
 pub mod MoveLemmas
 pub mod NodeLemmas
 pub mod NumberLemmas
 pub mod PushLemmas
 pub mod SaveLemmas
 pub mod SearchLemmas
+pub mod SettledLemmas
 pub mod ShortWays
 pub mod SoundLemmas
 pub mod StayLemmas

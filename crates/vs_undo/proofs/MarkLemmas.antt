@@ -28,10 +28,10 @@ pub record DifferInSaves (old new : Parts) : Type 0 where
   pub last : new.last ≡ old.last
 
 module _ (old new : Parts) (d : DifferInSaves old new) where
-  parents : (k : ℕ) → parent_at new.nodes k ≡ parent_at old.nodes k
+  pub parents : (k : ℕ) → parent_at new.nodes k ≡ parent_at old.nodes k
   parents k = seen saveless (λ n. n.parent) (λ _. refl) (node_at new.nodes k) (node_at old.nodes k) (d.at k)
 
-  children : (k : ℕ) → child_of new k ≡ child_of old k
+  pub children : (k : ℕ) → child_of new k ≡ child_of old k
   children k =
       ap (λ c. if k == 0 then c else unwrap_or (option_map (λ (n : Node). n.last_child) (node_at new.nodes k)) 0) d.root_child ∙
       ap (λ o. if k == 0 then old.root_child else unwrap_or o 0) (seen saveless (λ n. n.last_child) (λ _. refl) (node_at new.nodes k) (node_at old.nodes k) (d.at k))

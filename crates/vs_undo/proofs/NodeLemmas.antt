@@ -5,7 +5,7 @@ use Rattle.std.proofs.lemmas.Bool.Decides.{nat_tests}
 use Rattle.std.proofs.lemmas.List.Folds.{find_at}
 use Rattle.std.proofs.lemmas.Option.{slice_get-get_or, slice_get_past}
 use Rattle.vs_undo.specs.declared.parts.Node.{Node}
-use Rattle.vs_undo.specs.Ways.{node_at, parent_at, start, IsWay, IsWayOf, IsKept, IsTree}
+use Rattle.vs_undo.specs.Ways.{node_at, parent_at, start, IsWay, IsWayOf, IsKept, IsTree, Follows}
 use Rattle.vs_undo.specs.History.{without_entries, changed}
 use Rattle.vs_undo.proofs.ShortWays.{way_short}
 
@@ -66,15 +66,7 @@ way_end nodes [] at is starts none = refl
 way_end nodes (n ∷ tail) at is starts none =
     absurd (let e : Some (start tail) ≡ None = sym is.0 ∙ ap (parent_at nodes) starts ∙ ap (option_map (λ (m : Node). m.parent)) none in cc)
 
--- The way of a state has been followed to another state, from which it goes on over so many changes at most.
-pub record Follows (nodes : List Node) (number : ℕ) (way : List ℕ) (at left : ℕ) : Type 0 where
-  pub rest : List ℕ
-  pub is_way : IsWay (λ k. parent_at nodes k) (way ++ rest)
-  pub starts : start (way ++ rest) ≡ number
-  pub goes_on : start rest ≡ at
-  pub short : length rest ≤ left
-
-rest_is : (nodes : List Node) (way rest : List ℕ) → IsWay (λ k. parent_at nodes k) (way ++ rest) → IsWay (λ k. parent_at nodes k) rest
+pub rest_is : (nodes : List Node) (way rest : List ℕ) → IsWay (λ k. parent_at nodes k) (way ++ rest) → IsWay (λ k. parent_at nodes k) rest
 rest_is nodes [] rest is = is
 rest_is nodes (n ∷ way) rest is = rest_is nodes way rest is.1
 

@@ -101,7 +101,7 @@ module _ (entries : List Entry) (time : ℕ) (parts : Parts) (sound : IsSound pa
   way_stays [] is = is
   way_stays (n ∷ way) is = (parent_after n ∙ parent_stays n (start way) is.0, way_stays way is.1)
 
-  new_way : (way : List ℕ) → IsWayOf parts.nodes parts.current way → IsWayOf after.nodes (parts.last + 1) ((parts.last + 1) ∷ way)
+  pub new_way : (way : List ℕ) → IsWayOf parts.nodes parts.current way → IsWayOf after.nodes (parts.last + 1) ((parts.last + 1) ∷ way)
   new_way way is = record {
     is_way = (parent_after (parts.last + 1) ∙ (parent_new ∙ ap Some (sym is.starts)), way_stays way is.is_way);
     starts = refl;
@@ -119,7 +119,7 @@ module _ (entries : List Entry) (time : ℕ) (parts : Parts) (sound : IsSound pa
         ]
   ]
 
-  after_tree : IsTree after.nodes
+  pub after_tree : IsTree after.nodes
   after_tree = record {
     root = none_same (node_at after.nodes 0) (node_at grown.nodes 0) (parent_after 0) (elim (at_grown 0) [
       | inl h ↦ h.0 ∙ sound.tree.root
@@ -135,14 +135,14 @@ module _ (entries : List Entry) (time : ℕ) (parts : Parts) (sound : IsSound pa
   }
 
   -- the new change has no child
-  child_grown : (k : ℕ) → child_of grown k ≡ child_of parts k
+  pub child_grown : (k : ℕ) → child_of grown k ≡ child_of parts k
   child_grown k = ap (λ c. if k == 0 then parts.root_child else c) (elim (at_grown k) [
     | inl h ↦ ap last_child_in h.0
     | inr h ↦ ap last_child_in h.1 ∙ sym (ap last_child_in (ap (node_at parts.nodes) h.0 ∙ fresh))
   ])
 
   -- the new change is the child last used of its parent
-  child_new : child_of after parts.current ≡ parts.last + 1
+  pub child_new : child_of after parts.current ≡ parts.last + 1
   child_new =
       elim (parts.current == 0) as (λ b. b ≡ (parts.current == 0) → child_of (if b then record grown { root_child = parts.last + 1 } else record grown { nodes = changed parts.current (λ (node : Node). record node { last_child = parts.last + 1 }) grown.nodes }) parts.current ≡ parts.last + 1) [
         | true ↦ λ t. ap (λ b. if b then parts.last + 1 else last_child_in (node_at grown.nodes parts.current)) (sym t)

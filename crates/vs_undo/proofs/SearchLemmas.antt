@@ -62,3 +62,11 @@ index_found nodes k d rising within =
     let inside : nat_lt k (length nodes) ≡ true = grind (arith, nat_tests) in
     let at = placed nodes rising number k (omega arith) (λ j lt. let up = ascending nodes rising number j k lt within in grind (arith, nat_tests)) (λ _. grind (arith, nat_tests)) in
     found_at (λ (n : Node). n.number == number) nodes k d (at ∙ ap (λ b. cond b (Some k) None) inside)
+
+-- the place of a number is where a change has it
+pub place_is : (nodes : List Node) (number k : ℕ) (d : Node) → IsStrictlyIncreasing (numbers nodes) → k < length nodes → (get_or nodes k d).number ≡ number → Some k ≡ position (λ (n : Node). n.number == number) nodes
+place_is nodes number k d rising within is =
+    let none : Node = record { number = 0; parent = 0; last_child = 0; time = 0; save = 0; entries = [] } in
+    let same : number ≡ (get_or nodes k none).number = sym is ∙ ap (λ (n : Node). n.number) (get_or_default nodes k d none within) in
+    let inside : nat_lt k (length nodes) ≡ true = grind (arith, nat_tests) in
+    sym (placed nodes rising number k (omega arith) (λ j lt. let up = ascending nodes rising number j k lt within in grind (arith, nat_tests)) (λ _. grind (arith, nat_tests)) ∙ ap (λ b. cond b (Some k) None) inside)

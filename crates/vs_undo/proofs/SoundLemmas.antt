@@ -79,7 +79,7 @@ used_children (n ∷ way) parts root is are =
     used_children way after (same 0 ∙ root) (way_same (λ k. parent_at parts.nodes k) (λ k. parent_at after.nodes k) (λ k. sym (same k)) way is.1) (children_after p n parts more is.0 same are)
 
 -- the entries have no part in it
-installed_child : (path : List ℕ) (turned : List (List Entry)) (parts : Parts) (k : ℕ) → child_of (record parts { nodes = installed path turned parts.nodes }) k ≡ child_of parts k
+pub installed_child : (path : List ℕ) (turned : List (List Entry)) (parts : Parts) (k : ℕ) → child_of (record parts { nodes = installed path turned parts.nodes }) k ≡ child_of parts k
 installed_child path turned parts k =
     ap (λ c. if k == 0 then parts.root_child else unwrap_or c 0) (seen without_entries (λ n. n.last_child) (λ _. refl) (node_at (installed path turned parts.nodes) k) (node_at parts.nodes k) (installed_at path turned parts.nodes k))
 

@@ -5,6 +5,7 @@ pub mod Turns
 pub mod Walks
 pub mod Errors
 pub mod Sound
+pub mod Meetings
 pub mod Moves
 pub mod Numbers
 pub mod Leaves

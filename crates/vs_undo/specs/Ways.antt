@@ -1,5 +1,5 @@
 -- The ways of a tree of numbered states, each a list from a state up to the root, which has the number 0 and is left out.
-use Rattle.std.specs.Prelude.{ℕ, zero, suc, ◌≡◌, ◌≢◌, ◌-◌, ◌<◌, ◌==◌, ◌++◌, Bool, List, [], ◌∷◌, length, get_or, reverse, Option, Some, None, option_map, unwrap_or, IsSome, ◌⊎◌}
+use Rattle.std.specs.Prelude.{ℕ, zero, suc, ◌≡◌, ◌≢◌, ◌-◌, ◌<◌, ◌≤◌, ◌==◌, ◌++◌, Bool, List, [], ◌∷◌, length, get_or, reverse, Option, Some, None, option_map, unwrap_or, IsSome, ◌⊎◌}
 use Rattle.std.specs.List.{find, list_any}
 use Rattle.vs_undo.specs.declared.parts.Node.{Node}
 
@@ -19,6 +19,11 @@ save_at nodes number = unwrap_or (option_map (λ (node : Node). node.save) (node
 abbrev pub start : List ℕ → ℕ
 start [] = 0
 start (number ∷ way) = number
+
+-- the state where a part of a way begins that ends below this state
+abbrev pub start_below : List ℕ → ℕ → ℕ
+start_below [] top = top
+start_below (number ∷ way) top = number
 
 -- Each state of the list has the next one as its parent, and the last one the root.
 abbrev pub IsWay : (ℕ → Option ℕ) → List ℕ → Type 0
@@ -42,6 +47,14 @@ way_within (suc most) nodes number = unwrap_or (option_map (λ parent. number �
 -- the way from a state up to the root, which has no more changes than there are
 abbrev pub way_of : List Node → ℕ → List ℕ
 way_of nodes number = way_within (length nodes) nodes number
+
+-- The way of a state has been followed to another state, from which it goes on over so many changes at most.
+pub record Follows (nodes : List Node) (number : ℕ) (way : List ℕ) (at left : ℕ) : Type 0 where
+  pub rest : List ℕ
+  pub is_way : IsWay (λ k. parent_at nodes k) (way ++ rest)
+  pub starts : start (way ++ rest) ≡ number
+  pub goes_on : start rest ≡ at
+  pub short : length rest ≤ left
 
 -- A state has a way to the root.
 pub record HasWay (nodes : List Node) (number : ℕ) : Type 0 where

@@ -1,10 +1,11 @@
 // Writes into the tree that follow a move. They take no memory.
 ghost use Rattle.std.specs.Prelude.{◌≡◌, ◌+◌, ◌<◌, drop, length};
-ghost use Rattle.vs_undo.specs.Ways.{start};
+ghost use Rattle.vs_undo.specs.Meetings.{used_below};
+ghost use Rattle.vs_undo.specs.Ways.{start_below};
 ghost use Rattle.std.specs.List.Sorted.{IsStrictlyIncreasing};
 ghost use Rattle.vs_undo.specs.Numbers.{numbers};
 ghost use Rattle.vs_undo.specs.declared.parts.Node.{Node};
-ghost use Rattle.vs_undo.specs.History.{changed, installed, used, with_child, with_entries};
+ghost use Rattle.vs_undo.specs.History.{changed, installed, with_child, with_entries};
 
 use crate::way::find;
 use crate::{Entries, Node, Parts};
@@ -52,20 +53,20 @@ pub(crate) fn set_child(parts: &mut Parts, parent: u64, child: u64)
     }
 }
 
-// The state after which a way goes on from its place `k`.
-fn parent_on(way: &[u64], k: usize) -> u64
+// The state after which a part of a way, which ends below a state, goes on from its place `k`.
+fn parent_on(way: &[u64], top: u64, k: usize) -> u64
     requires { k < length way.now }
-    ensures { result ≡ start (drop (k + 1) way.now) }
+    ensures { result ≡ start_below (drop (k + 1) way.now) top }
 {
-    if k + 1 < way.len() { way[k + 1] } else { 0 }
+    if k + 1 < way.len() { way[k + 1] } else { top }
 }
 
-/// Makes each state on a way the child last used of its parent.
-pub(crate) fn use_way(parts: &mut Parts, way: &[u64])
+/// Makes each state on a part of a way, which ends below a state, the child last used of its parent.
+pub(crate) fn use_below(parts: &mut Parts, way: &[u64], top: u64)
     requires { IsStrictlyIncreasing (numbers parts.old.nodes) }
-    ensures { parts.new ≡ used way.now parts.old }
+    ensures { parts.new ≡ used_below way.now top parts.old }
 {
     for k in 0..way.len() {
-        set_child(parts, parent_on(way, k), way[k]);
+        set_child(parts, parent_on(way, top, k), way[k]);
     }
 }

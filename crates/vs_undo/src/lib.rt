@@ -8,6 +8,7 @@ mod error;
 mod install;
 mod leaves;
 mod mark;
+mod meeting;
 mod moves;
 mod numbers;
 mod parts;

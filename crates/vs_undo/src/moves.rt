@@ -1,16 +1,18 @@
 // A move to another state.
-ghost use Rattle.std.specs.Prelude.{◌≡◌, ◌⊎◌, IfErr, IsErrOf, OnOk, OnErr, length};
+ghost use Rattle.std.specs.Prelude.{◌≡◌, ◌⊎◌, ◌++◌, IfErr, IsErrOf, IsTrue, OnOk, OnErr, length};
 ghost use Rattle.std.specs.List.Sorted.{IsStrictlyIncreasing};
 ghost use Rattle.vs_faults.specs.Faults.{HasCause};
-ghost use Rattle.vs_undo.specs.Ways.{start, IsKept};
+ghost use Rattle.vs_undo.specs.Ways.{IsKept};
+ghost use Rattle.vs_undo.specs.Meetings.{IsMeeting, IsSettled};
 ghost use Rattle.vs_undo.specs.Numbers.{numbers};
 ghost use Rattle.vs_undo.specs.Sound.{IsSound};
 ghost use Rattle.vs_undo.specs.History.{arrived, installed};
 ghost use Rattle.vs_undo.specs.Moves.{HasMoved, HasStayed, IsReady};
 
 use crate::cross::cross;
-use crate::install::{install, use_way};
-use crate::way::{path_between, way_of};
+use crate::install::{install, use_below};
+use crate::meeting::{Meeting, meeting_with};
+use crate::way::path_between;
 use crate::{Entries, Parts, UndoErr};
 use std::alloc::Global;
 use vs_edit::{LineStore, StoreErr};
@@ -25,15 +27,14 @@ fn turn(parts: &mut Parts, path: &[u64], turned: Vec<Entries>)
     install(&mut nodes.list, path, turned);
 }
 
-// Makes the tree one that has arrived at a state by a way, along a path whose edges are turned. It takes no memory.
-fn arrive(parts: &mut Parts, path: &[u64], turned: Vec<Entries>, way: &[u64], number: u64)
-    requires rising { IsStrictlyIncreasing (numbers parts.old.nodes) }
+// Makes the tree one that has arrived at a state, along a path whose edges are turned. It takes no memory.
+fn arrive(parts: &mut Parts, path: &[u64], turned: Vec<Entries>, meeting: &Meeting, number: u64)
+    requires sound { IsSound parts.old }
     requires count { length turned.items ≡ length path.now }
-    requires way { number ≡ start way.now }
-    ensures { parts.new ≡ arrived path.now turned.items way.now parts.old }
+    ensures { (is : IsMeeting parts.old number meeting.now) → parts.new ≡ arrived path.now turned.items (meeting.now.to.items ++ is.meets.rest) parts.old }
 {
     turn(parts, path, turned);
-    use_way(parts, way);
+    use_below(parts, &meeting.to, meeting.top);
     parts.current = number;
 }
 
@@ -44,23 +45,25 @@ pub(crate) fn move_to<S: LineStore>(
     parts: &mut Parts,
     store: &mut S,
     number: u64,
+    settled: bool,
 ) -> Result<(), StoreErr>
     requires sound { IsSound parts.old }
     requires kept { IsKept parts.old.nodes number }
+    requires settled { IsTrue settled → IsSettled parts.old }
     requires ready { IsReady S.LineStore parts.old store.old }
     ensures moved { OnOk result (HasMoved S.LineStore parts.old parts.new store.old store.new number) }
     ensures err { OnErr result (HasStayed S.LineStore parts.old parts.new store.old store.new) }
+    ensures settled { OnOk result (IsSettled parts.new) }
     ensures sound { IsSound parts.new }
     ensures ready { IsReady S.LineStore parts.new store.new }
     ensures stays { S.stays store.old store.new }
     ensures cause { HasCause (S.shows store.old).faults (S.shows store.new).faults (IsErrOf result StoreErr.Failed) }
 {
-    let from = way_of(alloc, parts.nodes.nodes(), parts.current)?;
-    let to = way_of(alloc, parts.nodes.nodes(), number)?;
-    let path = path_between(alloc, &from, &to)?;
+    let meeting = meeting_with(alloc, parts, number, settled)?;
+    let path = path_between(alloc, &meeting.from, &meeting.to)?;
     match cross(alloc, store, parts.nodes.nodes(), &path) {
         Ok(turned) => {
-            arrive(parts, &path, turned, &to, number);
+            arrive(parts, &path, turned, &meeting, number);
             store.commit();
             Ok(())
         }
@@ -71,26 +74,32 @@ pub(crate) fn move_to<S: LineStore>(
     }
 }
 
-/// Moves to a kept state, as every public move does.
+/// Moves to a kept state, as every public move does. The tree is settled then.
 pub(crate) fn go_to<S: LineStore>(
     alloc: Global,
     parts: &mut Parts,
+    settled: &mut bool,
     store: &mut S,
     number: u64,
 ) -> Result<(), UndoErr>
     requires sound { IsSound parts.old }
     requires kept { IsKept parts.old.nodes number }
+    requires settled { IsTrue settled.old → IsSettled parts.old }
     requires ready { IsReady S.LineStore parts.old store.old }
     ensures err { IfErr result (λ error. (error ≡ UndoErr.NoMemory) ⊎ (error ≡ UndoErr.Failed)) }
     ensures moved { OnOk result (HasMoved S.LineStore parts.old parts.new store.old store.new number) }
     ensures stayed { OnErr result (HasStayed S.LineStore parts.old parts.new store.old store.new) }
+    ensures settled { IsTrue settled.new → IsSettled parts.new }
     ensures sound { IsSound parts.new }
     ensures ready { IsReady S.LineStore parts.new store.new }
     ensures stays { S.stays store.old store.new }
     ensures cause { HasCause (S.shows store.old).faults (S.shows store.new).faults (IsErrOf result UndoErr.Failed) }
 {
-    match move_to(alloc, parts, store, number) {
-        Ok(()) => Ok(()),
+    match move_to(alloc, parts, store, number, *settled) {
+        Ok(()) => {
+            *settled = true;
+            Ok(())
+        }
         Err(StoreErr::NoMemory) => Err(UndoErr::NoMemory),
         Err(StoreErr::Failed) => Err(UndoErr::Failed),
     }

@@ -31,6 +31,9 @@ use vs_entries::Entry;
 #[derive(Drop)]
 pub struct UndoTree {
     parts: Parts,
+    // Each state on the way of the current one is known to be the child last used of its parent, so a move writes no link above the
+    // state where it turns.
+    settled: bool,
 }
 
 impl Model for UndoTree {
@@ -38,11 +41,16 @@ impl Model for UndoTree {
 
     ghost Value = { Parts };
 
+    ghost use Rattle.std.specs.Prelude.{IsTrue};
     ghost use Rattle.vs_undo.specs.Sound.{IsSound};
+    ghost use Rattle.vs_undo.specs.Meetings.{IsSettled};
 
     ghost view = { λ tree. tree.parts };
 
-    ghost invariant = { λ tree. IsSound tree.parts };
+    ghost invariant = { λ tree. record {
+      sound : IsSound tree.parts;
+      settled : IsTrue tree.settled → IsSettled tree.parts;
+    } };
 }
 
 impl UndoTree {
@@ -51,7 +59,10 @@ impl UndoTree {
         requires { IsSound parts }
         ensures { result ≡ parts }
     {
-        UndoTree { parts }
+        UndoTree {
+            parts,
+            settled: false,
+        }
     }
 
     /// The tree of one state.
@@ -68,7 +79,10 @@ impl UndoTree {
             last: 0,
             last_save: 0,
         };
-        Ok(UndoTree { parts })
+        Ok(UndoTree {
+            parts,
+            settled: true,
+        })
     }
 
     /// Adds a change of the current text, with the entry that leads back from the new text to the one before, and gives its
@@ -169,7 +183,7 @@ impl UndoTree {
         if !is_kept(parts.nodes.nodes(), number) {
             return Err(UndoErr::NotKept(number));
         }
-        go_to(alloc, parts, text, number)?;
+        go_to(alloc, parts, &mut self.settled, text, number)?;
         Ok(number)
     }
 
@@ -190,7 +204,7 @@ impl UndoTree {
         let Some(number) = parent(parts.nodes.nodes(), parts.current) else {
             return Err(UndoErr::AtOldest);
         };
-        go_to(alloc, parts, text, number)?;
+        go_to(alloc, parts, &mut self.settled, text, number)?;
         Ok(number)
     }
 
@@ -212,7 +226,7 @@ impl UndoTree {
         if number == 0 {
             return Err(UndoErr::AtNewest);
         }
-        go_to(alloc, parts, text, number)?;
+        go_to(alloc, parts, &mut self.settled, text, number)?;
         Ok(number)
     }
 
@@ -240,7 +254,7 @@ impl UndoTree {
         let Some(number) = earlier_goal(parts.nodes.nodes(), parts.current, by) else {
             return Err(UndoErr::AtOldest);
         };
-        go_to(alloc, parts, text, number)?;
+        go_to(alloc, parts, &mut self.settled, text, number)?;
         Ok(number)
     }
 
@@ -268,7 +282,7 @@ impl UndoTree {
         let Some(number) = later_goal(parts.nodes.nodes(), parts.current, by) else {
             return Err(UndoErr::AtNewest);
         };
-        go_to(alloc, parts, text, number)?;
+        go_to(alloc, parts, &mut self.settled, text, number)?;
         Ok(number)
     }
 
@@ -298,7 +312,7 @@ impl UndoTree {
         let Some(number) = earlier_write(parts.nodes.nodes(), &saves, &way, by) else {
             return Err(UndoErr::AtOldest);
         };
-        go_to(alloc, parts, text, number)?;
+        go_to(alloc, parts, &mut self.settled, text, number)?;
         Ok(number)
     }
 
@@ -328,7 +342,7 @@ impl UndoTree {
         let Some(number) = later_write(parts.nodes.nodes(), &saves, &way, by) else {
             return Err(UndoErr::AtNewest);
         };
-        go_to(alloc, parts, text, number)?;
+        go_to(alloc, parts, &mut self.settled, text, number)?;
         Ok(number)
     }
 }

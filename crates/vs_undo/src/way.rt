@@ -10,12 +10,24 @@ ghost use Rattle.vs_undo.specs.declared.parts.Node.{Node};
 use crate::{Node, Parts};
 use std::alloc::{AllocError, Global};
 
-// The place of the change with this number, in logarithmic time.
-pub(crate) fn find(nodes: &[Node], number: u64) -> Option<usize>
+// The place of the change with this number among changes where some number is left out.
+fn search(nodes: &[Node], number: u64) -> Option<usize>
     requires { IsStrictlyIncreasing (numbers nodes.now) }
     ensures { result ≡ position (λ (node : Node). node.number == number) nodes.now }
 {
     nodes.binary_search_by_key(&number, |node| node.number).ok()
+}
+
+// The place of the change with this number: at once as long as no number is left out, and else in logarithmic time.
+pub(crate) fn find(nodes: &[Node], number: u64) -> Option<usize>
+    requires { IsStrictlyIncreasing (numbers nodes.now) }
+    ensures { result ≡ position (λ (node : Node). node.number == number) nodes.now }
+{
+    let place = number.wrapping_sub(1) as usize;
+    if place < nodes.len() && nodes[place].number == number {
+        return Some(place);
+    }
+    search(nodes, number)
 }
 
 /// Whether a state has this number.

@@ -2,7 +2,7 @@
 use Rattle.std.proofs.Common.{◌+◌, ◌∙◌, arith}
 use Rattle.vs_edit.proofs.Steps.{OnlyReads-trans}
 use Rattle.vs_excmd.proofs.JoinLemmas.{joined-stays, joined-step, long-error}
-use Rattle.vs_excmd.proofs.ReadLemmas.{line-at, next-at}
+use Rattle.vs_reads.proofs.ReadLemmas.{line-at, next-at}
 use Rattle.vs_excmd.proofs.joining.join_span.Goals as goal
 
 pub loop-preserved : goal.loop-preserved

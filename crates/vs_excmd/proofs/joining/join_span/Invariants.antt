@@ -3,7 +3,7 @@ use Rattle.vs_text.specs.Text.{IsLine}
 use Rattle.vs_edit.specs.Calls.{OnlyReads}
 use Rattle.vs_edit.specs.Splices.{cut_out}
 use Rattle.vs_excmd.specs.Join.{joined_lines}
-use Rattle.vs_excmd.specs.Reading.{HasCopied, IsAt}
+use Rattle.vs_reads.specs.Reading.{HasCopied, IsAt}
 use Rattle.vs_excmd.proofs.joining.join_span.Given as goal
 
 abbrev pub invariant-loop : goal.invariant-loop

@@ -4,7 +4,7 @@ use Rattle.vs_edit.proofs.Steps.{OnlyReads-trans}
 use Rattle.vs_excmd.specs.Substitute.{has_match, replaced}
 use Rattle.vs_excmd.proofs.FindLemmas.{finds-whole}
 use Rattle.vs_excmd.proofs.LongLemmas.{none-more, some-at}
-use Rattle.vs_excmd.proofs.ReadLemmas.{line-at, next-at}
+use Rattle.vs_reads.proofs.ReadLemmas.{line-at, next-at}
 use Rattle.vs_excmd.proofs.substituting.any_long.Goals as goal
 
 pub returns-then-is_too_long-clause-value : goal.returns-then-is_too_long-clause-value

@@ -9,7 +9,7 @@ use Rattle.vs_excmd.specs.Rewriting.{IsRewriting}
 use Rattle.vs_excmd.specs.Substitute.{has_match, replaced}
 use Rattle.vs_excmd.proofs.FindLemmas.{finds-line, finds-whole, unmatched-same}
 use Rattle.vs_excmd.proofs.LongLemmas.{lines-more, none-more, refused-by-long, refused-either, some-at}
-use Rattle.vs_excmd.proofs.ReadLemmas.{line-at, next-at}
+use Rattle.vs_reads.proofs.ReadLemmas.{line-at, next-at}
 use Rattle.vs_excmd.proofs.substituting.rewrite.Goals as goal
 
 pub returns-then-is_too_long-clause-refused : goal.returns-then-is_too_long-clause-refused

@@ -3,7 +3,7 @@ use Rattle.std.specs.List.{list_any}
 use Rattle.vs_text.specs.Text.{bytes_of}
 use Rattle.vs_edit.specs.Calls.{OnlyReads}
 use Rattle.vs_edit.specs.Splices.{cut_out}
-use Rattle.vs_excmd.specs.Reading.{HasCopied, IsAt}
+use Rattle.vs_reads.specs.Reading.{HasCopied, IsAt}
 use Rattle.vs_excmd.specs.Rewriting.{IsRewriting, StandsIn, is_long}
 use Rattle.vs_excmd.specs.Substitute.{has_match, replaced}
 use Rattle.vs_excmd.proofs.substituting.rewrite.Given as goal

@@ -1,7 +1,8 @@
 -- What is left of the way shrinks with each turn, and joins one that is known.
 use Rattle.std.proofs.Common.{◌≡◌, ◌==◌, ◌++◌, ◌-◌, ◌+◌, ◌∷◌, ◌∙◌, [], length, get_or, sym, subst, arith, refl, length-append}
 use Rattle.vs_undo.specs.declared.parts.Node.{Node}
-use Rattle.vs_undo.proofs.NodeLemmas.{no_place, found_at, at_place, Follows, follows_start, follows_step, follows_end, follows_all}
+use Rattle.vs_undo.specs.Ways.{Follows}
+use Rattle.vs_undo.proofs.NodeLemmas.{no_place, found_at, at_place, follows_start, follows_step, follows_end, follows_all}
 use Rattle.vs_undo.proofs.DepthLemmas.{no_node, depth_known, depth_short, joined}
 use Rattle.vs_undo.proofs.leaves.depth_of.Goals as goal
 

@@ -1,5 +1,5 @@
 use Rattle.std.proofs.Common.{ℕ, ◌≡◌, ◌-◌, List, length}
-use Rattle.vs_undo.proofs.NodeLemmas.{Follows}
+use Rattle.vs_undo.specs.Ways.{Follows}
 use Rattle.vs_undo.proofs.leaves.depth_of.Given as goal
 
 abbrev pub invariant-loop-passed : goal.invariant-loop-passed

@@ -1,11 +1,8 @@
-use Rattle.std.proofs.Common.{rules, ◌∙◌}
-use Rattle.std.proofs.lemmas.List.Sorted.{answers_always}
-use Rattle.vs_undo.specs.declared.parts.Node.{Node}
-use Rattle.vs_undo.proofs.SearchLemmas.{searched}
+use Rattle.std.proofs.Common.{◌+◌, ◌%◌, arith}
+use Rattle.std.proofs.lemmas.Bool.Decides.{nat_tests}
+use Rattle.vs_undo.proofs.SearchLemmas.{place_is}
 use Rattle.vs_undo.proofs.way.find.Goals as goal
 
-pub returns : goal.returns
-returns c =
-    let facts = c.binary_search_by_key.ensures in
-    let by_key = facts.position (λ (n : Node). n.number) (answers_always _ _ _ (λ f a r g called. search rules)) in
-    c.ok.ensures.value ∙ searched c.args.nodes.now c.requires c.args.number _ facts.bound by_key
+pub returns-then-nodes-place : goal.returns-then-nodes-place
+returns-then-nodes-place c =
+    place_is c.args.nodes.now c.args.number ((c.args.number + 18446744073709551615) % 18446744073709551616) c.index-nodes-place.result c.requires (grind (arith, nat_tests)) (grind (arith, nat_tests))

@@ -1,7 +1,8 @@
 -- What is left of the way shrinks with each turn, and is empty where no change is found.
 use Rattle.std.proofs.Common.{◌≡◌, ◌==◌, ◌++◌, ◌-◌, ◌+◌, ◌∷◌, [], length, get_or, sym, subst, arith}
 use Rattle.vs_undo.specs.declared.parts.Node.{Node}
-use Rattle.vs_undo.proofs.NodeLemmas.{no_place, found_at, Follows, follows_start, follows_step, follows_end, follows_all}
+use Rattle.vs_undo.specs.Ways.{Follows}
+use Rattle.vs_undo.proofs.NodeLemmas.{no_place, found_at, follows_start, follows_step, follows_end, follows_all}
 use Rattle.vs_undo.proofs.way.way_of.Goals as goal
 
 pub loop-init : goal.loop-init

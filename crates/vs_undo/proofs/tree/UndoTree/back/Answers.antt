@@ -9,10 +9,10 @@ pub returns-in_default-clause-err : goal.returns-in_default-clause-err
 returns-in_default-clause-err g c =
     let parts = c.self.inside.parts in
     let none : parent_at parts.nodes parts.current ≡ None = ap (λ (ns : List Node). parent_at ns parts.current) (sym c.nodes.ensures) ∙ (sym c.parent.ensures ∙ c.in_default.is) in
-    inl (refl, ap (λ (p : Parts). p.current) (sym c.self.view_is) ∙ root_is parts.nodes parts.current c.self.invariant.current none)
+    inl (refl, ap (λ (p : Parts). p.current) (sym c.self.view_is) ∙ root_is parts.nodes parts.current c.self.invariant.sound.current none)
 
 pub go_to-requires-clause-kept : goal.go_to-requires-clause-kept
 go_to-requires-clause-kept g c =
     let parts = c.self.inside.parts in
     let some : parent_at parts.nodes parts.current ≡ Some c.in-Some.number = ap (λ (ns : List Node). parent_at ns parts.current) (sym c.nodes.ensures) ∙ (sym c.parent.ensures ∙ c.in-Some.is) in
-    parent_kept parts.nodes parts.current c.in-Some.number c.self.invariant.tree some
+    parent_kept parts.nodes parts.current c.in-Some.number c.self.invariant.sound.tree some
