@@ -1,9 +1,15 @@
 -- How a file grows piece by piece: what was written and what is still held are the bytes so far.
-use Rattle.std.proofs.Common.{◌≡◌, ℕ, ◌+◌, ◌<◌, List, [], ◌∷◌, ◌++◌, length, take, drop, get_or, Option, Some, None, OnOk, OnErr, Result, refl, sym, ◌∙◌, ap, subst, arith}
+use Rattle.std.proofs.Common.{◌≡◌, ℕ, ◌+◌, ◌*◌, ◌≤◌, List, [], ◌∷◌, ◌++◌, length, take, drop, Option, Some, None, OnOk, OnErr, Result, refl, sym, ◌∙◌, ap, subst, arith}
 use Rattle.std.specs.Prelude.{IsSomeAnd}
-use Rattle.std.proofs.lemmas.Grind.{common_steps}
+use Rattle.std.specs.List.{AllByRecursion}
+use Rattle.std.proofs.lemmas.Grind.{flat_map-append}
+use Rattle.std.proofs.lemmas.List.Elements.{recursion_from_All}
 use Rattle.std.proofs.Math.Seq.{take-add}
-use Rattle.vs_text.specs.Text.{file_of}
+use Rattle.vs_text.specs.Text.{bytes_of, file_of}
+use Rattle.vs_text.specs.Limits.{IsShort}
+use Rattle.vs_text.specs.declared.TheConstants.{MAX_LINE_BYTES}
+use Rattle.vs_text.proofs.FileForm.{length-file_of}
+use Rattle.vs_edit.specs.Splices.{cut_out, HoldsLines}
 use Rattle.vs_host.specs.File.{File, Writes, WritesSome, Syncs, put}
 use Rattle.vs_host.specs.Disk.{Disk, Name, ChangesFile, content_in}
 use Rattle.vs_host.specs.Trace.{Synced}
@@ -93,9 +99,23 @@ pub written_end : (name : Name) (at : ℕ) (piece bytes : List ℕ) (old new : D
 written_end name at piece bytes old new changes is end =
     written_content name at piece bytes old new changes is ∙ ap (λ (b : List ℕ). Some b) (ap (λ (n : ℕ). put bytes n piece) end ∙ put_end bytes piece)
 
--- the file form of one line more
-pub file_more : (text : List (List ℕ)) (at : ℕ) → at < length text → file_of (take (at + 1) text) ≡ file_of (take at text) ++ (get_or text at [] ++ 10 ∷ [])
-file_more text at lt = grind (arith, common_steps)
+-- the file form of some lines more
+pub file_more : (text : List (List ℕ)) (at count : ℕ) → file_of (take (at + count) text) ≡ file_of (take at text) ++ file_of (cut_out text at count)
+file_more text at count =
+    ap file_of (take-add at count text) ∙ flat_map-append (λ (l : List ℕ). l ++ 10 ∷ []) (take at text) (cut_out text at count)
+
+-- lines within the limit of a line have few bytes
+few_bytes : (lines : List (List ℕ)) → AllByRecursion IsShort lines → bytes_of lines ≤ length lines * (MAX_LINE_BYTES + 1)
+few_bytes [] short = omega arith
+few_bytes (line ∷ lines) short =
+    let this : length line ≤ MAX_LINE_BYTES = short.0 in
+    omega (arith, this, few_bytes lines short.1)
+
+pub few_held : (count : ℕ) (bytes : List ℕ) → HoldsLines count bytes → length bytes ≤ count * (MAX_LINE_BYTES + 1)
+few_held count bytes holds =
+    let few : bytes_of holds.lines ≤ length holds.lines * (MAX_LINE_BYTES + 1) = few_bytes holds.lines (recursion_from_All IsShort holds.lines holds.short_lines) in
+    let form : length bytes ≡ bytes_of holds.lines = ap length holds.form ∙ length-file_of holds.lines in
+    subst (λ (n : ℕ). length bytes ≤ n * (MAX_LINE_BYTES + 1)) holds.counted (subst (λ (n : ℕ). n ≤ length holds.lines * (MAX_LINE_BYTES + 1)) (sym form) few)
 
 -- a piece of the bytes at their end makes more of them
 pub piece_more : (bytes piece : List ℕ) (at n : ℕ) → piece ≡ take n (drop at bytes) → take at bytes ++ piece ≡ take (at + n) bytes

@@ -7,9 +7,9 @@ use Rattle.vs_host.specs.declared.traits.Failed.{Failed}
 use Rattle.vs_disk.specs.Images.{Changes, IsSynced, MayLeave}
 use Rattle.vs_disk.specs.Runs.{Runs}
 use Rattle.vs_disk.proofs.Steps.{at_name, same_at, older_names, one_state}
-use Rattle.vs_disk.proofs.Runs.{one_call, runs_as}
+use Rattle.vs_disk.proofs.Runs.{one_call, runs_as, runs_then}
 use Rattle.vs_disk.proofs.Contents.{leads_nowhere}
-use Rattle.vs_backup.specs.Works.{ChangesOne, IsAlone, LeadsTo, Spares, one_name, two_names}
+use Rattle.vs_backup.specs.Works.{ChangesOne, IsAlone, LeadsTo, Spares, StandsUnder, one_name, two_names}
 use Rattle.vs_backup.specs.Writing.{IsKept, IsSettled, IsGuarded, WritesAnew, WritesOver, stopped}
 use Rattle.vs_backup.specs.declared.errors.Place.TheVariants as place
 use Rattle.vs_backup.specs.declared.errors.Stop.{Stop}
@@ -108,6 +108,17 @@ module _ (name backup : Name) (old new : List ℕ) (s0 s1 s2 : Scene) (is : IsSe
   moved_kept result anew = kept_on (IsKept name backup old) s0 s1 s2 frame renamed_kept
       (runs_as (λ a b. IsGuarded name backup is.synced.number old b) (λ a b. IsKept name backup old b) s1 s2 (λ d here. guard_kept name backup is.synced.number old d here) anew.guarded)
 
+  guard_under : (d : Disk) → IsGuarded name backup is.synced.number old d → StandsUnder name backup s0.folder d
+  guard_under d guard lost = elim (guard.each lost) [
+    | inl by_name ↦ inl (by_name ∙ sym is.synced.leads)
+    | inr by_backup ↦ inr (by_backup ∙ sym is.synced.leads)
+  ]
+
+  moved_under : (result : Result ℕ Stop) → WritesAnew name backup is.synced.number old new s1 s2 result → Runs (StandsUnder name backup) s0 s2
+  moved_under result anew =
+      let renamed = one_call (StandsUnder name backup) Renamed (name ∷ backup ∷ []) answer s0 s1 frame told (guard_under s1.folder guarded) in
+      runs_then (StandsUnder name backup) (λ a b. IsGuarded name backup is.synced.number old b) (StandsUnder name backup) s0 s1 s2 (λ d under. under) guard_under frame renamed anew.guarded
+
   backup_leads : (size : ℕ) → WritesAnew name backup is.synced.number old new s1 s2 (Ok size) → LeadsTo backup name s0.folder s2.folder
   backup_leads size anew lost = one_state s2.folder anew.written.1.pending lost backup ∙ anew.guarded.now.now ∙ sym is.synced.leads
 
@@ -117,6 +128,7 @@ module _ (name backup : Name) (old new : List ℕ) (s0 s1 s2 : Scene) (is : IsSe
     spares = moved_spares (Ok size) anew;
     kept = moved_kept (Ok size) anew;
     places = record {
+      under = moved_under (Ok size) anew;
       another = leads_away name backup is.synced.number s0.folder s2.folder differ folder is.synced.leads (backup_leads size anew);
       kept = λ keeps. backup_leads size anew;
       in_backup = λ refused. absurd (never_refused size place.Backup refused);
@@ -133,7 +145,7 @@ module _ (name backup : Name) (old new : List ℕ) (s0 s1 s2 : Scene) (is : IsSe
   moving_stopped why temporary anew = record {
     spares = moved_spares (Err why) anew;
     kept = moved_kept (Err why) anew;
-    places = record { another = tt; kept = λ keeps. tt; in_backup = λ refused. anew.guarded.now.now ∙ sym is.synced.leads };
+    places = record { under = moved_under (Err why) anew; another = tt; kept = λ keeps. tt; in_backup = λ refused. anew.guarded.now.now ∙ sym is.synced.leads };
     written = tt;
     not_written = inr anew.absent;
     in_file = λ refused. absurd (never_file why refused);

@@ -1,5 +1,5 @@
 -- Where files stand: a name that calls leave alone leads where it led, and calls on a file leave all names.
-use Rattle.std.proofs.Common.{◌≡◌, inl, inr, ℕ, Bool, true, false, [], Some, Result, Ok, refl, sym, ◌∙◌}
+use Rattle.std.proofs.Common.{◌≡◌, inl, inr, ℕ, Bool, true, false, [], Some, Result, Ok, refl, sym, ◌∙◌, subst}
 use Rattle.std.proofs.lemmas.Bool.{true≢false}
 use Rattle.vs_host.specs.File.{File}
 use Rattle.vs_host.specs.Disk.{Disk, Name, names_of, ChangesFile, IsFolder}
@@ -8,8 +8,8 @@ use Rattle.vs_disk.specs.Images.{Changes}
 use Rattle.vs_disk.specs.Runs.{Runs}
 use Rattle.vs_disk.proofs.Steps.{itself, same_at, one_state}
 use Rattle.vs_disk.proofs.Runs.{runs_as, runs_then, starts}
-use Rattle.vs_backup.specs.Works.{ChangesOne, LeadsAway, LeadsTo, Spares, one_name}
-use Rattle.vs_backup.specs.Writing.{Places}
+use Rattle.vs_backup.specs.Works.{ChangesOne, LeadsAway, LeadsTo, Spares, StandsUnder, one_name}
+use Rattle.vs_backup.specs.Writing.{Places, StandsUntil}
 use Rattle.vs_backup.specs.declared.errors.WriteErr.{WriteErr}
 use Rattle.vs_backup.proofs.Frames.{spared}
 
@@ -50,10 +50,27 @@ in_place_changed name s0 s1 none runs =
 pub leads_away : (name backup : Name) (number : ℕ) (old new : Disk) → (name ≡ backup → ⊥) → IsFolder new → names_of old name ≡ Some number → LeadsTo backup name old new → LeadsAway name old new
 leads_away name backup number old new differ folder was backed lost leads = differ (folder.apart lost name backup number (leads ∙ was) (backed lost ∙ was))
 
+-- a file that has not moved
+pub under_still : (name that : Name) (a b : Disk) → a.pending ≡ [] → b ≡ a → StandsUnder name that a b
+under_still name that a b none is = subst (λ (d : Disk). StandsUnder name that a d) (sym is) (λ lost. inl (one_state a none lost name))
+
+until_under : (keep : Bool) (name backup : Name) (old new : Disk) → StandsUnder name backup old new → StandsUntil keep name backup old new
+until_under true name backup old new under = under
+until_under false name backup old new under = inl under
+
+until_away : (keep : Bool) (name backup : Name) (old new : Disk) → keep ≡ false → LeadsAway name old new → StandsUntil keep name backup old new
+until_away true name backup old new goes away = absurd (true≢false goes)
+until_away false name backup old new goes away = inr away
+
 -- the backup that stays is kept or not
 pub places_keep : (copying keep : Bool) (name backup : Name) (s0 s1 : Scene) (result : Result ℕ WriteErr) → Places copying true name backup s0 s1 result → Places copying keep name backup s0 s1 result
 places_keep true keep name backup s0 s1 result is = is
-places_keep false keep name backup s0 s1 result is = record { another = is.another; kept = λ keeps. is.kept refl; in_backup = is.in_backup }
+places_keep false keep name backup s0 s1 result is = record {
+  under = runs_as (StandsUntil true name backup) (StandsUntil keep name backup) s0 s1 (λ d under. until_under keep name backup s0.folder d under) is.under;
+  another = is.another;
+  kept = λ keeps. is.kept refl;
+  in_backup = is.in_backup;
+}
 
 -- the backup is removed
 pub places_dropped : (copying keep : Bool) (name backup : Name) (s0 s1 s2 : Scene) (size : ℕ) → keep ≡ false → ChangesFolder s0 s1 → (name ≡ backup → ⊥)
@@ -62,6 +79,9 @@ places_dropped true keep name backup s0 s1 s2 size goes frame differ is drops =
     runs_then (LeadsTo name name) (Spares (one_name backup)) (LeadsTo name name) s0 s1 s2 (λ d leads. leads)
     (λ d spares. leads_spared (one_name backup) name name s0.folder s1.folder d differ spares is.now) frame is drops
 places_dropped false keep name backup s0 s1 s2 size goes frame differ is drops = record {
+  under = runs_then (StandsUntil true name backup) (Spares (one_name backup)) (StandsUntil keep name backup) s0 s1 s2
+      (λ d under. until_under keep name backup s0.folder d under)
+      (λ d spares. until_away keep name backup s0.folder d goes (away_spared (one_name backup) name s0.folder s1.folder d differ spares is.another)) frame is.under drops;
   another = away_spared (one_name backup) name s0.folder s1.folder s2.folder differ drops.now is.another;
   kept = λ keeps. absurd (true≢false (sym keeps ∙ goes));
   in_backup = λ refused. elim refused [ inl is ↦ cc | inr is ↦ cc ];

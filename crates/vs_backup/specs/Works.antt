@@ -33,6 +33,10 @@ SparesOthers on before after = (inside : Name → Bool) → IsOutside on inside 
 abbrev pub LeadsTo : Name → Name → Disk → Disk → Type 0
 LeadsTo name that old new = (lost : ℕ) → names_at new lost name ≡ names_of old that
 
+-- in each state of the names that a stop may leave, this name or that one leads to the file to which this one led
+abbrev pub StandsUnder : Name → Name → Disk → Disk → Type 0
+StandsUnder name that old new = (lost : ℕ) → (names_at new lost name ≡ names_of old name) ⊎ (names_at new lost that ≡ names_of old name)
+
 -- in no state of the names that a stop may leave does the name lead to the file to which it led
 abbrev pub LeadsAway : Name → Disk → Disk → Type 0
 LeadsAway name old new = (lost : ℕ) → names_at new lost name ≡ names_of old name → ⊥

@@ -7,7 +7,7 @@ use Rattle.vs_host.specs.Names.{temporary}
 use Rattle.vs_host.specs.World.{Scene}
 use Rattle.vs_disk.specs.Images.{HoldsBytes, IsSynced, MayLeave, Takes}
 use Rattle.vs_disk.specs.Runs.{Runs, Looks}
-use Rattle.vs_backup.specs.Works.{LeadsAway, LeadsTo, Narrowed, Spares, SparesOthers, one_name, two_names, three_names}
+use Rattle.vs_backup.specs.Works.{LeadsAway, LeadsTo, Narrowed, Spares, SparesOthers, StandsUnder, one_name, two_names, three_names}
 use Rattle.vs_backup.specs.Backups.{copies}
 use Rattle.vs_host.specs.declared.traits.Failed.{Failed}
 use Rattle.vs_backup.specs.declared.options.WriteOptions.{WriteOptions}
@@ -48,8 +48,15 @@ abbrev pub backed_names : Bool → Name → Name → Name → Name → Type 0
 backed_names true name temporary backup = three_names name temporary backup
 backed_names false name temporary backup = two_names name backup
 
+-- The old file stands under its name or the backup name; one that is not kept does so until its name leads to another file
+-- whatever a stop leaves.
+abbrev pub StandsUntil : Bool → Name → Name → Disk → Disk → Type 0
+StandsUntil true name backup old new = StandsUnder name backup old new
+StandsUntil false name backup old new = StandsUnder name backup old new ⊎ LeadsAway name old new
+
 -- A write that does not copy: the file itself becomes the backup, and another one gets its name.
 pub record MovesAway (keep : Bool) (name backup : Name) (before after : Scene) (result : Result ℕ WriteErr) : Type 0 where
+  pub under : Runs (StandsUntil keep name backup) before after
   pub another : OnOk result (LeadsAway name before.folder after.folder)
   pub kept : keep ≡ true → OnOk result (LeadsTo backup name before.folder after.folder)
   pub in_backup : OldIn Backup result → names_of after.folder backup ≡ names_of before.folder name

@@ -10,8 +10,8 @@ ghost use Rattle.vs_backup.specs.Writing.{IsFailed, IsGuarded, IsSettled, Starts
 
 use crate::Desk;
 use crate::errors::{Place, Stop, WriteErr};
-use crate::files::{drop_name, make_anew, settle, take_name};
-use crate::fill::{PIECE, fill_copy, fill_text};
+use crate::files::{Readers, drop_name, make_anew, settle, take_name};
+use crate::fill::{PIECE, fill_copy, fill_like, fill_text};
 use std::alloc::Global;
 use vs_host::Failed;
 
@@ -39,7 +39,7 @@ fn copy_to_backup<D: Desk>(
     ensures valid { D.valid desk.new }
     ensures stays { D.stays desk.old desk.new }
 {
-    make_anew(desk, temporary)?;
+    make_anew(desk, temporary, Readers::Owner)?;
     fill_copy(desk, name, temporary, buffer)?;
     take_name(desk, temporary, backup)
 }
@@ -109,26 +109,29 @@ fn write_copying<D: Desk>(
     }
 }
 
-/// Makes the file, writes the text into it, and syncs the file and the names. Gives the number of bytes.
+/// Makes the file, writes the text into it, gives it the mode bits of the backup, and syncs the file and the names. Gives the
+/// number of bytes.
 fn write_anew<D: Desk>(
     alloc: Global,
     desk: &mut D,
     name: &str,
+    backup: &str,
     piece: &mut Vec<u8>,
 ) -> Result<u64, Stop>
     requires valid { D.valid desk.old }
     requires apart { D.reads desk.old name.now → ⊥ }
+    requires apart_backup { D.reads desk.old backup.now → ⊥ }
     requires free { IsTrue (D.tells).folder → content_of (D.scene desk.old) name.now ≡ None }
-    ensures anew { IsTrue (D.tells).folder → (backup : Name) (number : ℕ) (old : List ℕ) → (backup ≡ name.now → ⊥)
-        → IsGuarded name.now backup number old (D.scene desk.old).folder → (text : List (List ℕ)) → D.has_text desk.old text
-        → WritesAnew name.now backup number old (file_of text) (D.scene desk.old) (D.scene desk.new) result }
+    ensures anew { IsTrue (D.tells).folder → (number : ℕ) (old : List ℕ) → (backup.now ≡ name.now → ⊥)
+        → IsGuarded name.now backup.now number old (D.scene desk.old).folder → (text : List (List ℕ)) → D.has_text desk.old text
+        → WritesAnew name.now backup.now number old (file_of text) (D.scene desk.old) (D.scene desk.new) result }
     ensures cause { HasCause (D.scene desk.old).folder_faults (D.scene desk.new).folder_faults (IsErrOf result Stop.Failed) }
     ensures frame { ChangesFolder (D.scene desk.old) (D.scene desk.new) }
     ensures valid { D.valid desk.new }
     ensures stays { D.stays desk.old desk.new }
 {
-    desk.create(name)?;
-    let size = fill_text(alloc, desk, name, piece)?;
+    desk.create_private(name)?;
+    let size = fill_like(alloc, desk, name, backup, piece)?;
     desk.sync_names()?;
     Ok(size)
 }
@@ -155,7 +158,7 @@ fn write_moving<D: Desk>(
     ensures stays { D.stays desk.old desk.new }
 {
     match desk.rename(name, backup) {
-        Ok(()) => match write_anew(alloc, desk, name, piece) {
+        Ok(()) => match write_anew(alloc, desk, name, backup, piece) {
             Ok(size) => Ok(size),
             Err(stop) => Err(stop.with(Place::Backup)),
         },

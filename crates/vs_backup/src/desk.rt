@@ -1,14 +1,14 @@
 // A folder and a text in one object.
-ghost use Rattle.std.specs.Prelude.{◌≡◌, ◌≢◌, ◌<◌, ◌≤◌, ◌+◌, ◌∷◌, [], ℕ, List, length, take, drop, get_or, IfSome, IfOk, OnOk, OnErr, IsErr, IsErrOf, IsTrue, is_some, IsSome, IsSomeAnd, None};
+ghost use Rattle.std.specs.Prelude.{◌≡◌, ◌≢◌, ◌<◌, ◌≤◌, ◌+◌, ◌∷◌, [], ℕ, List, length, take, drop, IfSome, IfOk, OnOk, OnErr, IsErr, IsErrOf, IsTrue, is_some, IsSome, IsSomeAnd, None};
 ghost use Rattle.vs_faults.specs.Faults.{HasCause, HasRisen};
-ghost use Rattle.vs_text.specs.Text.{IsLine};
-ghost use Rattle.vs_text.specs.Limits.{IsShort};
+ghost use Rattle.vs_text.specs.Text.{file_of};
 ghost use Rattle.vs_text.specs.declared.TheConstants.{MAX_LINES};
 ghost use Rattle.vs_host.specs.File.{Writes, WritesSome, Cuts, Syncs};
 ghost use Rattle.vs_host.specs.Disk.{Name, ChangesFile, ChangesNames, CreatesFile, SyncsNames, Renames, Removes};
 ghost use Rattle.vs_host.specs.Trace.{Looked, Created, Measured, Read, Wrote, Cut, Synced, Renamed, Removed, SyncedNames};
 ghost use Rattle.vs_host.specs.World.{content_of, IsTold, ReadsFolder, ChangesFolder, CountsFault};
 ghost use Rattle.vs_disk.specs.Runs.{Looks};
+ghost use Rattle.vs_edit.specs.Splices.{HoldsLines, cut_out};
 
 use std::alloc::Global;
 use vs_edit::StoreErr;
@@ -40,7 +40,7 @@ pub trait Desk: World {
         ensures valid { valid self.new }
         ensures stays { stays self.old self.new };
 
-    /// Makes an empty file under a name that is not there.
+    /// Makes an empty file under a name that is not there. Who may read it is the system's default.
     fn create(&mut self, name: &str) -> Result<(), Failed>
         requires valid { valid self.old }
         requires apart { reads self.old name.now → ⊥ }
@@ -51,6 +51,30 @@ pub trait Desk: World {
         ensures quiet { OnOk result ((Self.scene self.new).folder_faults ≡ (Self.scene self.old).folder_faults) }
         ensures told { IsTrue (Self.tells).folder → IsTold Created (name.now ∷ []) result (Self.scene self.old) (Self.scene self.new) }
         ensures frame { ChangesFolder (Self.scene self.old) (Self.scene self.new) }
+        ensures valid { valid self.new }
+        ensures stays { stays self.old self.new };
+
+    /// Makes an empty file under a name that is not there, which nobody but its owner may read.
+    fn create_private(&mut self, name: &str) -> Result<(), Failed>
+        requires valid { valid self.old }
+        requires apart { reads self.old name.now → ⊥ }
+        requires there { IsTrue (Self.tells).folder → content_of (Self.scene self.old) name.now ≡ None }
+        ensures ok { OnOk result (IsTrue (Self.tells).folder → CreatesFile name.now (Self.scene self.old).folder (Self.scene self.new).folder) }
+        ensures err { OnErr result ((Self.scene self.new).folder ≡ (Self.scene self.old).folder) }
+        ensures cause { HasCause (Self.scene self.old).folder_faults (Self.scene self.new).folder_faults (IsErr result) }
+        ensures quiet { OnOk result ((Self.scene self.new).folder_faults ≡ (Self.scene self.old).folder_faults) }
+        ensures told { IsTrue (Self.tells).folder → IsTold Created (name.now ∷ []) result (Self.scene self.old) (Self.scene self.new) }
+        ensures frame { ChangesFolder (Self.scene self.old) (Self.scene self.new) }
+        ensures valid { valid self.new }
+        ensures stays { stays self.old self.new };
+
+    /// Gives the file `to` the mode bits of the file `from`, where the system has them and allows it. Nothing that is told has
+    /// them, so it counts as no call.
+    fn take_mode(&mut self, from: &str, to: &str)
+        requires valid { valid self.old }
+        requires apart { reads self.old from.now → ⊥ }
+        requires apart_to { reads self.old to.now → ⊥ }
+        ensures same { Self.scene self.new ≡ Self.scene self.old }
         ensures valid { valid self.new }
         ensures stays { stays self.old self.new };
 
@@ -181,14 +205,19 @@ pub trait Desk: World {
         requires { valid self.now }
         ensures { result ≡ lines self.now };
 
-    /// Puts the bytes of a line, counted from 0, into a vector, in place of what that holds. After an `Err` the vector may hold
-    /// anything.
-    fn text_line(&mut self, alloc: Global, at: u64, into: &mut Vec<u8>) -> Result<(), StoreErr>
+    /// Puts `count` lines of the text from line `at` on, counted from 0, into a vector, each followed by byte 10, in place of what
+    /// that holds. After an `Err` the vector may hold anything.
+    fn text_lines(
+        &mut self,
+        alloc: Global,
+        at: u64,
+        count: u64,
+        into: &mut Vec<u8>,
+    ) -> Result<(), StoreErr>
         requires valid { valid self.old }
-        requires within { at < lines self.old }
-        ensures line { OnOk result ((text : List (List ℕ)) → has_text self.old text → into.new.items ≡ get_or text at []) }
-        ensures is_line { OnOk result (IsLine into.new.items) }
-        ensures is_short { OnOk result (IsShort into.new.items) }
+        requires within { at + count ≤ lines self.old }
+        ensures lines { OnOk result ((text : List (List ℕ)) → has_text self.old text → into.new.items ≡ file_of (cut_out text at count)) }
+        ensures are_lines { OnOk result (HoldsLines count into.new.items) }
         ensures cause { HasCause (Self.scene self.old).folder_faults (Self.scene self.new).folder_faults (IsErrOf result StoreErr.Failed) }
         ensures looks { IsTrue (Self.tells).folder → Looks (Self.scene self.old) (Self.scene self.new) }
         ensures frame { ReadsFolder (Self.scene self.old) (Self.scene self.new) }

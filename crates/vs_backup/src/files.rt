@@ -1,8 +1,10 @@
 // Calls on one file and its name.
-ghost use Rattle.std.specs.Prelude.{◌≡◌, ◌≢◌, ◌≤◌, ◌<◌, ◌+◌, ◌^◌, ◌++◌, [], Bool, false, ℕ, List, length, IfOk, OnOk, OnErr, IsErr, IsTrue, Some, None, IsSome};
+ghost use Rattle.std.specs.Prelude.{◌≡◌, ◌≢◌, ◌≤◌, ◌<◌, ◌+◌, ◌^◌, ◌++◌, ◌∷◌, [], Bool, false, ℕ, List, length, IfOk, OnOk, OnErr, IsErr, IsTrue, Some, None, IsSome};
 ghost use Rattle.vs_faults.specs.Faults.{HasCause};
-ghost use Rattle.vs_host.specs.Disk.{Name, names_at};
-ghost use Rattle.vs_host.specs.World.{content_of, ChangesFolder};
+ghost use Rattle.vs_host.specs.File.{Syncs};
+ghost use Rattle.vs_host.specs.Disk.{Name, names_at, ChangesFile, CreatesFile};
+ghost use Rattle.vs_host.specs.Trace.{Created, Synced};
+ghost use Rattle.vs_host.specs.World.{content_of, ChangesFolder, IsTold};
 ghost use Rattle.vs_disk.specs.Images.{IsSynced, MayLeave, Takes};
 ghost use Rattle.vs_disk.specs.Names.{IsApart, SameAt};
 ghost use Rattle.vs_disk.specs.Runs.{Runs};
@@ -48,8 +50,36 @@ pub(crate) fn clear_name<D: Desk>(desk: &mut D, name: &str) -> Result<(), Failed
     Ok(())
 }
 
+/// Who may read a file that is made.
+#[derive(Clone, Copy, Debug, PartialEq, Eq)]
+pub(crate) enum Readers {
+    /// Those whom the system lets read a new file.
+    Usual,
+    /// Its owner alone.
+    Owner,
+}
+
+/// Makes an empty file under a name that is not there.
+fn create_for<D: Desk>(desk: &mut D, name: &str, readers: Readers) -> Result<(), Failed>
+    requires valid { D.valid desk.old }
+    requires apart { D.reads desk.old name.now → ⊥ }
+    requires there { IsTrue (D.tells).folder → content_of (D.scene desk.old) name.now ≡ None }
+    ensures ok { OnOk result (IsTrue (D.tells).folder → CreatesFile name.now (D.scene desk.old).folder (D.scene desk.new).folder) }
+    ensures err { OnErr result ((D.scene desk.new).folder ≡ (D.scene desk.old).folder) }
+    ensures cause { HasCause (D.scene desk.old).folder_faults (D.scene desk.new).folder_faults (IsErr result) }
+    ensures told { IsTrue (D.tells).folder → IsTold Created (name.now ∷ []) result (D.scene desk.old) (D.scene desk.new) }
+    ensures frame { ChangesFolder (D.scene desk.old) (D.scene desk.new) }
+    ensures valid { D.valid desk.new }
+    ensures stays { D.stays desk.old desk.new }
+{
+    match readers {
+        Readers::Usual => desk.create(name),
+        Readers::Owner => desk.create_private(name),
+    }
+}
+
 /// Makes an empty file under the name, in place of one that may stand there.
-pub(crate) fn make_anew<D: Desk>(desk: &mut D, name: &str) -> Result<(), Failed>
+pub(crate) fn make_anew<D: Desk>(desk: &mut D, name: &str, readers: Readers) -> Result<(), Failed>
     requires valid { D.valid desk.old }
     requires apart { D.reads desk.old name.now → ⊥ }
     ensures spares { IsTrue (D.tells).folder → Runs (Spares (one_name name.now)) (D.scene desk.old) (D.scene desk.new) }
@@ -61,7 +91,27 @@ pub(crate) fn make_anew<D: Desk>(desk: &mut D, name: &str) -> Result<(), Failed>
     ensures stays { D.stays desk.old desk.new }
 {
     clear_name(desk, name)?;
-    desk.create(name)
+    create_for(desk, name, readers)
+}
+
+/// Gives a file the mode bits of another one, and syncs it.
+///
+/// The mode comes after the bytes, since a mode without the right to write keeps bytes out, and before the sync, which keeps it.
+pub(crate) fn sync_like<D: Desk>(desk: &mut D, model: &str, name: &str) -> Result<(), Failed>
+    requires valid { D.valid desk.old }
+    requires apart_model { D.reads desk.old model.now → ⊥ }
+    requires apart { D.reads desk.old name.now → ⊥ }
+    requires there { IsTrue (D.tells).folder → IsSome (content_of (D.scene desk.old) name.now) }
+    ensures ok { OnOk result (IsTrue (D.tells).folder → ChangesFile name.now Syncs (D.scene desk.old).folder (D.scene desk.new).folder) }
+    ensures err { OnErr result ((D.scene desk.new).folder ≡ (D.scene desk.old).folder) }
+    ensures cause { HasCause (D.scene desk.old).folder_faults (D.scene desk.new).folder_faults (IsErr result) }
+    ensures told { IsTrue (D.tells).folder → IsTold Synced (name.now ∷ []) result (D.scene desk.old) (D.scene desk.new) }
+    ensures frame { ChangesFolder (D.scene desk.old) (D.scene desk.new) }
+    ensures valid { D.valid desk.new }
+    ensures stays { D.stays desk.old desk.new }
+{
+    desk.take_mode(model, name);
+    desk.sync(name)
 }
 
 /// Renames a file and syncs the names.

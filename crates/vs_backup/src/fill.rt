@@ -2,7 +2,6 @@
 ghost use Rattle.std.specs.Prelude.{◌≡◌, ◌≢◌, ◌≤◌, ◌<◌, ◌+◌, ◌*◌, ◌^◌, ◌++◌, [], ℕ, List, length, take, IfOk, OnOk, OnErr, IsErr, IsErrOf, IsTrue, Some, IsSome, IsSomeAnd};
 ghost use Rattle.vs_faults.specs.Faults.{HasCause};
 ghost use Rattle.vs_text.specs.Text.{file_of};
-ghost use Rattle.vs_text.specs.Limits.{IsShort};
 ghost use Rattle.vs_host.specs.World.{content_of, ChangesFolder};
 ghost use Rattle.vs_disk.specs.Images.{IsSynced};
 ghost use Rattle.vs_disk.specs.Runs.{Runs};
@@ -10,8 +9,10 @@ ghost use Rattle.vs_backup.specs.Works.{ChangesOne, Fills, IsAlone};
 
 use crate::Desk;
 use crate::errors::Stop;
+use crate::files::sync_like;
 use std::alloc::Global;
 use vs_host::Failed;
+use vs_reads::run_lines;
 
 /// The greatest number of bytes that are read or written in one call.
 pub(crate) const PIECE: usize = 65_536;
@@ -114,12 +115,15 @@ fn write_text<D: Desk>(
     ensures stays { D.stays desk.old desk.new }
 {
     piece.clear();
-    let mut line = Vec::new(alloc);
+    let mut lines = Vec::new(alloc);
     let mut size = 0;
-    'lines: for at in 0..desk.text_len() {
-        desk.text_line(alloc, at, &mut line)?;
-        line.push(b'\n')?;
-        size = put_bytes(desk, name, size, piece, &line)?;
+    let mut at = 0;
+    let end = desk.text_len();
+    'runs: while at < end {
+        let count = run_lines(at, size + piece.len() as u64).min(end - at);
+        desk.text_lines(alloc, at, count, &mut lines)?;
+        size = put_bytes(desk, name, size, piece, &lines)?;
+        at += count;
     }
     let size = flush(desk, name, size, piece)?;
     Ok(size)
@@ -149,6 +153,32 @@ pub(crate) fn fill_text<D: Desk>(
     Ok(size)
 }
 
+/// Writes the text into an empty file, gives it the mode bits of another file, and syncs it. Gives the number of bytes.
+pub(crate) fn fill_like<D: Desk>(
+    alloc: Global,
+    desk: &mut D,
+    name: &str,
+    model: &str,
+    piece: &mut Vec<u8>,
+) -> Result<u64, Stop>
+    requires valid { D.valid desk.old }
+    requires apart { D.reads desk.old name.now → ⊥ }
+    requires apart_model { D.reads desk.old model.now → ⊥ }
+    requires empty { IsTrue (D.tells).folder → content_of (D.scene desk.old) name.now ≡ Some [] }
+    ensures runs { IsTrue (D.tells).folder → Runs (ChangesOne name.now) (D.scene desk.old) (D.scene desk.new) }
+    ensures ok { IfOk result (λ size. IsTrue (D.tells).folder → (text : List (List ℕ)) → D.has_text desk.old text
+        → (size ≡ length (file_of text)) × IsSynced name.now (file_of text) (D.scene desk.new).folder) }
+    ensures err { OnErr result (IsTrue (D.tells).folder → Fills name.now (D.scene desk.old).folder (D.scene desk.new).folder) }
+    ensures cause { HasCause (D.scene desk.old).folder_faults (D.scene desk.new).folder_faults (IsErrOf result Stop.Failed) }
+    ensures frame { ChangesFolder (D.scene desk.old) (D.scene desk.new) }
+    ensures valid { D.valid desk.new }
+    ensures stays { D.stays desk.old desk.new }
+{
+    let size = write_text(alloc, desk, name, piece)?;
+    sync_like(desk, model, name)?;
+    Ok(size)
+}
+
 /// Copies as many bytes as the buffer has, from the place `at` on, to the end of a file that has the bytes before them.
 fn copy_piece<D: Desk>(
     desk: &mut D,
@@ -175,7 +205,7 @@ fn copy_piece<D: Desk>(
     put_piece(desk, to, at, buffer)
 }
 
-/// Copies a file into an empty one, and syncs that.
+/// Copies a file into an empty one with its mode bits, and syncs that.
 pub(crate) fn fill_copy<D: Desk>(
     desk: &mut D,
     from: &str,
@@ -205,5 +235,5 @@ pub(crate) fn fill_copy<D: Desk>(
         copy_piece(desk, from, to, at, &mut buffer[..count])?;
         at += count as u64;
     }
-    desk.sync(to)
+    sync_like(desk, from, to)
 }

@@ -8,7 +8,7 @@ ghost use Rattle.vs_backup.specs.Writing.{WritesFresh, WritesPlain};
 
 use crate::Desk;
 use crate::errors::Stop;
-use crate::files::{make_anew, settle, take_name};
+use crate::files::{Readers, make_anew, settle, take_name};
 use crate::fill::fill_text;
 use std::alloc::Global;
 
@@ -53,7 +53,7 @@ pub(crate) fn write_fresh<D: Desk>(
     ensures valid { D.valid desk.new }
     ensures stays { D.stays desk.old desk.new }
 {
-    make_anew(desk, temporary)?;
+    make_anew(desk, temporary, Readers::Usual)?;
     let size = fill_text(alloc, desk, temporary, piece)?;
     take_name(desk, temporary, name)?;
     Ok(size)

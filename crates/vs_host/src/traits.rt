@@ -18,8 +18,8 @@ pub trait World {
     ghost tells: { Tells };
     /// The outside now. Its counts of faults are always told.
     ghost scene: { Self → Scene };
-    /// What the hosts of this type say of each of their calls but `now`, from the host before to the host after, and whether
-    /// the call succeeded.
+    /// What the hosts of this type say of each of their calls but `now` and `take_mode`, from the host before to the host after,
+    /// and whether the call succeeded.
     ghost plays: { Self → Self → Bool → Type 0 };
     /// In no state of the names that a stop may leave do two names lead to one file.
     ghost is_folder: { (host : Self) → IsTrue tells.folder → IsFolder (scene host).folder };
@@ -76,7 +76,7 @@ pub trait Folder: World {
         ensures plays { Self.plays self.old self.new (is_ok result) }
         ensures frame { ReadsFolder (Self.scene self.old) (Self.scene self.new) };
 
-    /// Makes an empty file under a name that is not there.
+    /// Makes an empty file under a name that is not there. Who may read it is the system's default.
     fn create(&mut self, name: &str) -> Result<(), Failed>
         requires { IsTrue (Self.tells).folder → content_of (Self.scene self.old) name.now ≡ None }
         ensures ok { OnOk result (IsTrue (Self.tells).folder → CreatesFile name.now (Self.scene self.old).folder (Self.scene self.new).folder) }
@@ -86,6 +86,22 @@ pub trait Folder: World {
         ensures told { IsTrue (Self.tells).folder → IsTold Created (name.now ∷ []) result (Self.scene self.old) (Self.scene self.new) }
         ensures plays { Self.plays self.old self.new (is_ok result) }
         ensures frame { ChangesFolder (Self.scene self.old) (Self.scene self.new) };
+
+    /// Makes an empty file under a name that is not there, which nobody but its owner may read.
+    fn create_private(&mut self, name: &str) -> Result<(), Failed>
+        requires { IsTrue (Self.tells).folder → content_of (Self.scene self.old) name.now ≡ None }
+        ensures ok { OnOk result (IsTrue (Self.tells).folder → CreatesFile name.now (Self.scene self.old).folder (Self.scene self.new).folder) }
+        ensures err { OnErr result ((Self.scene self.new).folder ≡ (Self.scene self.old).folder) }
+        ensures cause { HasCause (Self.scene self.old).folder_faults (Self.scene self.new).folder_faults (IsErr result) }
+        ensures quiet { OnOk result ((Self.scene self.new).folder_faults ≡ (Self.scene self.old).folder_faults) }
+        ensures told { IsTrue (Self.tells).folder → IsTold Created (name.now ∷ []) result (Self.scene self.old) (Self.scene self.new) }
+        ensures plays { Self.plays self.old self.new (is_ok result) }
+        ensures frame { ChangesFolder (Self.scene self.old) (Self.scene self.new) };
+
+    /// Gives the file `to` the mode bits of the file `from`, where the system has them and allows it. Nothing that is told has
+    /// them, so it counts as no call.
+    fn take_mode(&mut self, from: &str, to: &str)
+        ensures { Self.scene self.new ≡ Self.scene self.old };
 
     /// The number of bytes of the file.
     fn len(&mut self, name: &str) -> Result<u64, Failed>

@@ -76,6 +76,14 @@ quit = codes "quit"
 abbrev pub no_write : List ℕ
 no_write = codes "E37: No write since last change (add ! to override)"
 
+-- what a write of the file of this name wrote: so many lines and bytes
+abbrev pub written_line : List ℕ → ℕ → ℕ → List ℕ
+written_line name lines bytes = codes "\"" ++ name ++ codes "\" " ++ decimal lines ++ codes "L, " ++ decimal bytes ++ codes "B written"
+
+-- every name that the backup of a write may get is taken
+abbrev pub no_backup_name : List ℕ
+no_backup_name = codes "no free backup name"
+
 -- why a change or a move was not made
 abbrev pub undo_error_text : UndoErr → List ℕ
 undo_error_text (undo.NotKept number) = codes "E830: Undo number " ++ decimal number ++ codes " not found"

@@ -1,6 +1,6 @@
 // Replies. All but printed lines stand in a fixed buffer, so they take no memory.
 ghost use Rattle.std.specs.Prelude.{◌≡◌, ◌<◌, ◌≤◌, ◌+◌, ◌++◌, ◌∷◌, [], length, decimal, false, true, None, Some};
-ghost use Rattle.vs_machine.specs.Replies.{says, refuses, prints, error_text, undo_error_text, with_lines, change_line, move_line, no_change, out_of_memory, device_fault, file_preserved, quit, no_write, opening_of};
+ghost use Rattle.vs_machine.specs.Replies.{says, refuses, prints, error_text, undo_error_text, with_lines, change_line, move_line, no_change, out_of_memory, device_fault, file_preserved, quit, no_write, opening_of, written_line, no_backup_name};
 
 use crate::errors::error_text;
 use arrayvec::ArrayVec;
@@ -114,7 +114,7 @@ impl Reply {
     }
 
     /// One line of at most 319 bytes.
-    fn says(text: &[u8]) -> Reply
+    pub fn says(text: &[u8]) -> Reply
         requires { length text.now < 320 }
         ensures { result ≡ says text.now }
     {
@@ -224,6 +224,30 @@ impl Reply {
         add(&mut text, digits.format(bytes).as_bytes());
         add(&mut text, b"B");
         Reply::says(text.as_slice())
+    }
+
+    /// A write of the file of this name, with the numbers of lines and bytes that were written.
+    pub fn written(name: &str, lines: u64, bytes: u64) -> Reply
+        requires { length name.now ≤ 200 }
+        ensures { result ≡ says (written_line name.now lines bytes) }
+    {
+        let mut text = ArrayVec::new();
+        let mut digits = Buffer::new();
+        add(&mut text, b"\"");
+        add(&mut text, name.as_bytes());
+        add(&mut text, b"\" ");
+        add(&mut text, digits.format(lines).as_bytes());
+        add(&mut text, b"L, ");
+        add(&mut text, digits.format(bytes).as_bytes());
+        add(&mut text, b"B written");
+        Reply::says(text.as_slice())
+    }
+
+    /// Every name that the backup of a write may get is taken.
+    pub fn no_backup_name() -> Reply
+        ensures { result ≡ refuses no_backup_name }
+    {
+        Reply::refuses(b"no free backup name")
     }
 
     /// The bytes of the reply, with a newline at their end.

@@ -29,6 +29,8 @@ Commands, one on a line, with the range of lines before them:
   {range}p[rint] [n]     prints lines; nu[mber] prints them with their numbers
   {range}=               prints the number of the range's last line
   pre[serve]             syncs the text into a swap file
+  w[rite][!]             writes the text into the file
+  se[t] {option}         sets backup, writebackup, backupcopy=yes, no or auto
   q[uit][!]              removes the swap files and ends the run
   \" {text}               a comment
 
@@ -46,7 +48,7 @@ Example:
   b
   quit
 
-Writing is not built yet: the file stays as it is. A script that ends without q
+While a file is written it or its backup is whole. A script that ends without q
 leaves swap files with its text.
 
 Exit status; from 2 on a line on standard error says the same:

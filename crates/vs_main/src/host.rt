@@ -9,11 +9,20 @@ use std::os::unix::fs::OpenOptionsExt;
 use std::time::{SystemTime, UNIX_EPOCH};
 use vs_host::{Clock, Failed, Folder, Host, Out, Script, World};
 
+/// A file that stays open from its first write to its sync, so that the sync is told of a write that failed after the system had
+/// taken it, and that a file of many pages is opened once.
+#[derive(Drop)]
+struct Writing {
+    name: String,
+    file: File,
+}
+
 /// The real outside. It tells nothing of contents; each refusal of the system counts as a fault of the call. A name that no
 /// regular file has, such as that of a folder, is a fault too.
 #[derive(Drop)]
 pub struct RealHost {
     rt: HostRuntime,
+    writing: Option<Writing>,
     /// The clock's last answer, for where it cannot be read.
     last_answer: u64,
     script_faults: u64,
@@ -25,6 +34,7 @@ impl RealHost {
     pub fn new(rt: HostRuntime) -> RealHost {
         RealHost {
             rt,
+            writing: None,
             last_answer: 0,
             script_faults: 0,
             out_faults: 0,
@@ -103,15 +113,24 @@ fn is_there(rt: &HostRuntime, name: &str) -> io::Result<bool> {
     }
 }
 
-/// Makes a file that its owner alone may read: all that is made today are swap files, which have the text of a file that others
-/// may not be allowed to read.
-fn create_empty(rt: &HostRuntime, name: &str) -> io::Result<()> {
+// Anybody may read and write the file, less what the mask of the process takes away.
+const USUAL_MODE: u32 = 0o666;
+
+// The owner alone may.
+const PRIVATE_MODE: u32 = 0o600;
+
+fn create_empty(rt: &HostRuntime, name: &str, mode: u32) -> io::Result<()> {
     OpenOptions::new()
         .write(true)
         .create_new(true)
-        .mode(0o600)
+        .mode(mode)
         .open(rt, name)?;
     Ok(())
+}
+
+fn copy_mode(rt: &HostRuntime, from: &str, to: &str) -> io::Result<()> {
+    let mode = fs::metadata(rt, from)?.permissions();
+    fs::set_permissions(rt, to, mode)
 }
 
 fn size_of(rt: &HostRuntime, name: &str) -> io::Result<u64> {
@@ -128,8 +147,7 @@ fn open_to_write(rt: &HostRuntime, name: &str) -> io::Result<File> {
     OpenOptions::new().write(true).open(rt, name)
 }
 
-fn write_part(rt: &HostRuntime, name: &str, at: u64, piece: &[u8]) -> io::Result<()> {
-    let mut file = open_to_write(rt, name)?;
+fn write_part(file: &mut File, at: u64, piece: &[u8]) -> io::Result<()> {
     file.seek(SeekFrom::Start(at))?;
     file.write_all(piece)
 }
@@ -144,6 +162,47 @@ fn sync_open(rt: &HostRuntime, name: &str) -> io::Result<()> {
 }
 
 impl RealHost {
+    /// The file of this name where it is open, which is closed if it has another name.
+    fn take_open(&mut self, name: &str) -> Option<File>
+        ensures frame { self.new ≡ record self.old { writing = self.new.writing } }
+    {
+        let writing = self.writing.take()?;
+        if writing.name.as_str() == name {
+            return Some(writing.file);
+        }
+        None
+    }
+
+    /// Keeps a file open that has this name. Without memory it is closed.
+    fn keep_open(&mut self, name: &str, file: File)
+        ensures frame { self.new ≡ record self.old { writing = self.new.writing } }
+    {
+        if let Ok(name) = String::from_str(self.rt.alloc(), name) {
+            self.writing = Some(Writing { name, file });
+        }
+    }
+
+    fn write_open(&mut self, name: &str, at: u64, piece: &[u8]) -> io::Result<()>
+        ensures frame { self.new ≡ record self.old { writing = self.new.writing } }
+    {
+        let mut file = match self.take_open(name) {
+            Some(file) => file,
+            None => open_to_write(&self.rt, name)?,
+        };
+        write_part(&mut file, at, piece)?;
+        self.keep_open(name, file);
+        Ok(())
+    }
+
+    fn sync_written(&mut self, name: &str) -> io::Result<()>
+        ensures frame { self.new ≡ record self.old { writing = self.new.writing } }
+    {
+        match self.take_open(name) {
+            Some(file) => file.sync_all(),
+            None => sync_open(&self.rt, name),
+        }
+    }
+
     fn folder_answer<T: Drop>(&mut self, answer: io::Result<T>) -> Result<T, Failed>
         ensures ok { IfOk result (λ value. answer ≡ Ok value) }
         ensures cause { HasCause self.old.folder_faults self.new.folder_faults (IsErr result) }
@@ -167,8 +226,20 @@ impl Folder for RealHost {
     }
 
     fn create(&mut self, name: &str) -> Result<(), Failed> {
-        let answer = create_empty(&self.rt, name);
+        self.writing = None;
+        let answer = create_empty(&self.rt, name, USUAL_MODE);
         self.folder_answer(answer)
+    }
+
+    fn create_private(&mut self, name: &str) -> Result<(), Failed> {
+        self.writing = None;
+        let answer = create_empty(&self.rt, name, PRIVATE_MODE);
+        self.folder_answer(answer)
+    }
+
+    // A file whose mode cannot be set is still a file, so that is no fault.
+    fn take_mode(&mut self, from: &str, to: &str) {
+        let _ = copy_mode(&self.rt, from, to);
     }
 
     fn len(&mut self, name: &str) -> Result<u64, Failed> {
@@ -182,7 +253,7 @@ impl Folder for RealHost {
     }
 
     fn write_at(&mut self, name: &str, at: u64, piece: &[u8]) -> Result<(), Failed> {
-        let answer = write_part(&self.rt, name, at, piece);
+        let answer = self.write_open(name, at, piece);
         self.folder_answer(answer)
     }
 
@@ -192,16 +263,18 @@ impl Folder for RealHost {
     }
 
     fn sync(&mut self, name: &str) -> Result<(), Failed> {
-        let answer = sync_open(&self.rt, name);
+        let answer = self.sync_written(name);
         self.folder_answer(answer)
     }
 
     fn rename(&mut self, from: &str, to: &str) -> Result<(), Failed> {
+        self.writing = None;
         let answer = fs::rename(&self.rt, from, to);
         self.folder_answer(answer)
     }
 
     fn remove(&mut self, name: &str) -> Result<(), Failed> {
+        self.writing = None;
         let answer = fs::remove_file(&self.rt, name);
         self.folder_answer(answer)
     }

@@ -59,6 +59,12 @@ impl Folder for MemHost {
         self.play(Part::Folder, call)
     }
 
+    fn create_private(&mut self, name: &str) -> Result<(), Failed> {
+        self.create(name)
+    }
+
+    fn take_mode(&mut self, _from: &str, _to: &str) {}
+
     fn len(&mut self, name: &str) -> Result<u64, Failed> {
         let call = String::from_str(self.alloc, name).map(Call::Len);
         self.play(Part::Folder, call)?;

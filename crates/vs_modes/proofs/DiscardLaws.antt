@@ -24,7 +24,7 @@ module _ (tells : Tells) (names : Names) where
 
   pub discard_failed : (old new : Scene) → Acts tells (Discards names) old new → HasRisen old.folder_faults new.folder_faults → RunsDiscard tells names old new (Err refusal.FolderFailed)
   discard_failed old new acts risen = record {
-    runs = mode_refused (Discards names) (λ bytes. bytes ≡ discard_line (is_any_there names old)) RefusesDiscard tells old new refusal.FolderFailed (λ is. cc) (λ is. risen) acts.later acts.frame
+    runs = mode_refused (Discards names) (λ bytes. bytes ≡ discard_line (is_any_there names old)) RefusesDiscard tells old new refusal.FolderFailed (λ is. cc) (λ is. risen) (λ not. absurd (not refl)) acts.later acts.frame
         (acts_proceed tells (Discards names) old new acts) (λ told. tt);
     discarded = tt;
   }

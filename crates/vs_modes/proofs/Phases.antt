@@ -1,5 +1,5 @@
 -- A mode from its two phases: it works on the folder, and then it writes.
-use Rattle.std.proofs.Common.{◌≡◌, ◌≢◌, ◌≤◌, ℕ, List, ◌++◌, Ok, Err, OnOk, OnErr, IfErr, IsErr, IsTrue, refl, sym, ◌∙◌, ap, subst, arith}
+use Rattle.std.proofs.Common.{◌≡◌, ◌≢◌, ◌≤◌, ℕ, List, ◌++◌, Ok, Err, OnOk, OnErr, IfErr, IsErr, IsTrue, refl, sym, ◌∙◌, ap, subst}
 use Rattle.std.specs.Result.{IsErrAnd}
 use Rattle.vs_faults.specs.Faults.{HasCause, HasRisen}
 use Rattle.vs_host.specs.Disk.{Disk}
@@ -39,14 +39,19 @@ pub refused_as : (result : Ended) (why : ModeErr) → IsErrAnd result (λ e. e �
 refused_as (Ok done) why is = absurd is
 refused_as (Err e) why is = ap (λ (x : ModeErr). failed_as x) (sym is)
 
+-- the frame of a call on the folder in which none failed
+leaves_none : (old new : Scene) → ChangesFolder old new → new.folder_faults ≡ old.folder_faults → LeavesAll old new
+leaves_none old new frame same = frame ∙ (λ i. record old { folder = new.folder; folder_faults = same i; trace = new.trace })
+
 module _ (step : Disk → Disk → Type 0) (Wanted : List ℕ → Type 0) (Refused : ModeErr → Type 0) (tells : Tells) where
-  leaves_refused : (old new : Scene) (why : ModeErr) → why ≢ refusal.OutputFailed → (why ≡ refusal.FolderFailed → HasRisen old.folder_faults new.folder_faults) → LeavesAll old new → LeavesBy (Err why) old new
-  leaves_refused old new refusal.NoSwap other risen leaves = leaves
-  leaves_refused old new refusal.Encrypted other risen leaves = leaves
-  leaves_refused old new refusal.NotSwap other risen leaves = leaves
-  leaves_refused old new refusal.OutputFailed other risen leaves = absurd (other refl)
-  leaves_refused old new refusal.FolderFailed other risen leaves = (risen refl, leaves)
-  leaves_refused old new refusal.NoMemory other risen leaves = leaves
+  leaves_refused : (old new : Scene) (why : ModeErr) → why ≢ refusal.OutputFailed → (why ≡ refusal.FolderFailed → HasRisen old.folder_faults new.folder_faults) → (why ≢ refusal.FolderFailed → new.folder_faults ≡ old.folder_faults)
+      → old.folder_faults ≤ new.folder_faults → ChangesFolder old new → LeavesBy (Err why) old new
+  leaves_refused old new refusal.NoSwap other risen same later frame = leaves_none old new frame (same (λ is. cc))
+  leaves_refused old new refusal.Encrypted other risen same later frame = leaves_none old new frame (same (λ is. cc))
+  leaves_refused old new refusal.NotSwap other risen same later frame = leaves_none old new frame (same (λ is. cc))
+  leaves_refused old new refusal.OutputFailed other risen same later frame = absurd (other refl)
+  leaves_refused old new refusal.FolderFailed other risen same later frame = (risen refl, later, frame)
+  leaves_refused old new refusal.NoMemory other risen same later frame = leaves_none old new frame (same (λ is. cc))
 
   answers_refused : (old new : Scene) (why : ModeErr) → why ≢ refusal.OutputFailed → Refused why → AnswersBy Wanted Refused tells (Err why) old new
   answers_refused old new refusal.NoSwap other refused = refused
@@ -56,17 +61,17 @@ module _ (step : Disk → Disk → Type 0) (Wanted : List ℕ → Type 0) (Refus
   answers_refused old new refusal.FolderFailed other refused = refused
   answers_refused old new refusal.NoMemory other refused = refused
 
-  pub mode_refused : (old new : Scene) (why : ModeErr) → why ≢ refusal.OutputFailed → (why ≡ refusal.FolderFailed → HasRisen old.folder_faults new.folder_faults) → old.folder_faults ≤ new.folder_faults
-      → ChangesFolder old new → (IsTrue tells.folder → Proceeds step old new) → (IsTrue tells.folder → Refused why) → RunsMode step Wanted Refused tells old new (Err why)
-  mode_refused old new why other risen later frame proceeds refused = record {
-    leaves = leaves_refused old new why other risen (later, frame);
+  pub mode_refused : (old new : Scene) (why : ModeErr) → why ≢ refusal.OutputFailed → (why ≡ refusal.FolderFailed → HasRisen old.folder_faults new.folder_faults) → (why ≢ refusal.FolderFailed → new.folder_faults ≡ old.folder_faults)
+      → old.folder_faults ≤ new.folder_faults → ChangesFolder old new → (IsTrue tells.folder → Proceeds step old new) → (IsTrue tells.folder → Refused why) → RunsMode step Wanted Refused tells old new (Err why)
+  mode_refused old new why other risen same later frame proceeds refused = record {
+    leaves = leaves_refused old new why other risen same later frame;
     proceeds = proceeds;
     answer = λ told. answers_refused old new why other (refused told);
   }
 
   -- before anything is called
   pub mode_idle : (scene : Scene) → step scene.folder scene.folder → Refused refusal.NoMemory → RunsMode step Wanted Refused tells scene scene (Err refusal.NoMemory)
-  mode_idle scene same refused = record { leaves = (omega arith, refl); proceeds = λ told. proceeds_none step scene same; answer = λ told. refused }
+  mode_idle scene same refused = record { leaves = refl; proceeds = λ told. proceeds_none step scene same; answer = λ told. refused }
 
   -- ---- a mode that writes at its end
 

@@ -12,17 +12,22 @@ use Rattle.vs_modes.specs.Output.{WritesPart}
 abbrev pub Ended : Type 0
 Ended = Result (Unit {0}) ModeErr
 
--- Nothing was written, and nothing but the folder and the count of its faults changed, which did not fall.
+-- Nothing was written, no count rose, and nothing but the folder changed.
 abbrev pub LeavesAll : Scene → Scene → Type 0
-LeavesAll old new = (old.folder_faults ≤ new.folder_faults) × (new ≡ record old { folder = new.folder; folder_faults = new.folder_faults; trace = new.trace })
+LeavesAll old new = new ≡ record old { folder = new.folder; trace = new.trace }
+
+-- Nothing was written. A call on the folder failed, and nothing but the folder changed.
+abbrev pub LeavesFailed : Scene → Scene → Type 0
+LeavesFailed old new =
+    HasRisen old.folder_faults new.folder_faults × (old.folder_faults ≤ new.folder_faults) × (new ≡ record old { folder = new.folder; folder_faults = new.folder_faults; trace = new.trace })
 
 -- What changed but for the folder and the trace: the output where something was to be written, and the count of the calls
--- that the refusal names, which rose.
+-- that the refusal names, which rose. Else no count rose.
 abbrev pub LeavesBy : Ended → Scene → Scene → Type 0
 LeavesBy (Ok done) old new = new ≡ record old { folder = new.folder; output = new.output; trace = new.trace }
 LeavesBy (Err refusal.OutputFailed) old new =
     HasRisen old.out_faults new.out_faults × (new ≡ record old { folder = new.folder; output = new.output; out_faults = new.out_faults; trace = new.trace })
-LeavesBy (Err refusal.FolderFailed) old new = HasRisen old.folder_faults new.folder_faults × LeavesAll old new
+LeavesBy (Err refusal.FolderFailed) old new = LeavesFailed old new
 LeavesBy (Err why) old new = LeavesAll old new
 
 -- The bytes that were wanted were written whole, or in part where a write failed. Else it was refused for a reason that holds.

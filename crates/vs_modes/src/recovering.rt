@@ -1,5 +1,5 @@
 // `recover`: the text of the swap files, on the output.
-ghost use Rattle.std.specs.Prelude.{◌≡◌, ◌≢◌, ◌≤◌, IfOk, IfErr, OnOk, IsTrue, Err};
+ghost use Rattle.std.specs.Prelude.{◌≡◌, ◌≢◌, ◌≤◌, IfOk, IfErr, IsTrue, Err};
 ghost use Rattle.vs_faults.specs.Faults.{HasRisen};
 ghost use Rattle.vs_host.specs.Names.{is_allowed, names_of_file};
 ghost use Rattle.vs_host.specs.World.{content_of};
@@ -23,7 +23,7 @@ fn read_text<F: Folder>(alloc: Global, host: &mut F, names: &Names) -> Result<Te
     ensures failed { result ≡ Err ModeErr.FolderFailed → HasRisen (F.scene host.old).folder_faults (F.scene host.new).folder_faults }
     ensures output { result ≢ Err ModeErr.OutputFailed }
     ensures reads { Reads F.tells (F.scene host.old) (F.scene host.new) }
-    ensures none { OnOk result (NoneFails F.tells (F.scene host.old) (F.scene host.new)) }
+    ensures none { result ≢ Err ModeErr.FolderFailed → NoneFails F.tells (F.scene host.old) (F.scene host.new) }
 {
     match choose(alloc, host, names)? {
         Chosen::Text(text) => Ok(text),

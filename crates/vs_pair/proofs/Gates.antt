@@ -14,7 +14,7 @@ use Rattle.vs_pair.specs.declared.gate.Gate.{Gate}
 use Rattle.vs_pair.specs.declared.gate.Gate.TheVariants.{Open, Closed, Unknown}
 use Rattle.vs_swap.specs.Files.{page_in}
 use Rattle.vs_pair.specs.Acts.{Acts, NoneFails}
-use Rattle.vs_pair.specs.Swap.{Body, HasBody, Holds, IsOpen, HasMark, ChangesMark, KeepsMark, WritesBody, Fits, CloseStep, Closes, SyncStep, FailedSync, open_mark, closed_mark}
+use Rattle.vs_pair.specs.Swap.{Body, HasBody, Holds, IsOpen, HasMark, ChangesMark, KeepsMark, WritesBody, Fits, CloseStep, Closes, SyncStep, FailedSync, open_mark, closed_mark, zeros_page}
 use Rattle.vs_pair.specs.Swap.FailedSync.{InClosing, InWriting, InOpening}
 use Rattle.vs_pair.proofs.Acts.{acts_as, acts_then}
 use Rattle.vs_pair.proofs.Calls.{both_files}
@@ -77,6 +77,7 @@ pub body_same : (body : Body) (c d : List ℕ) → drop 2 c ≡ drop 2 d → Has
 body_same body c d same has = record {
   rest = ap (λ (l : List ℕ). take 4094 l) same ∙ has.rest;
   pages = λ k page least there. same_page c d same k page least (has.pages k page least there);
+  gaps = λ k above least below none some. same_page c d same k zeros_page least (has.gaps k above least below none some);
 }
 
 pub body_stays : (body : Body) (a b : File) → ChangesMark a b → Leaves a (HasBody body) → Leaves b (HasBody body)

@@ -1,6 +1,6 @@
 -- What the writes of page 0 and of the pages after it leave, page after page: the part before a write stays.
-use Rattle.std.proofs.Common.{◌≡◌, inl, inr, ℕ, ◌+◌, ◌*◌, ◌<◌, ◌≤◌, max, List, ◌++◌, length, take, drop, Some, None, refl, sym, ◌∙◌, ap, subst, arith, length-append, length-take, length-drop}
-use Rattle.std.proofs.lemmas.Bool.{cases_lt}
+use Rattle.std.proofs.Common.{◌≡◌, inl, inr, ℕ, ◌+◌, ◌*◌, ◌<◌, ◌≤◌, max, List, ◌++◌, length, take, drop, Option, Some, None, IsSome, refl, sym, ◌∙◌, ap, subst, arith, length-append, length-take, length-drop}
+use Rattle.std.proofs.lemmas.Bool.{cases_lt, true≢false}
 use Rattle.std.proofs.lemmas.Bool.Decides.{nat_tests}
 use Rattle.std.proofs.lemmas.List.{take_at, drop_at, take-take, drop-take, take-append-le}
 use Rattle.vs_host.specs.File.{File, IsFileImage, WritesSome, Writes, Syncs, put, synced_file}
@@ -10,7 +10,7 @@ use Rattle.vs_disk.proofs.Images.{length-put, torn_image, sync_narrows}
 use Rattle.vs_disk.proofs.Steps.{file_after, file_then}
 use Rattle.vs_pages.specs.Maps.{Map}
 use Rattle.vs_swap.specs.Files.{page_in}
-use Rattle.vs_pair.specs.Swap.{KeepsMark, HasBody, WritesBody}
+use Rattle.vs_pair.specs.Swap.{KeepsMark, HasBody, WritesBody, zeros_page}
 
 -- ---- the identifier stays
 
@@ -62,6 +62,27 @@ pub record IsSoFar (first : List ℕ) (map : Map) (mark : List ℕ) (n : ℕ) (b
   pub long : 4096 * n ≤ length bytes
   pub rest : take 4094 (drop 2 bytes) ≡ drop 2 first
   pub pages : (k : ℕ) (page : List ℕ) → 1 ≤ k → k < n → map k ≡ Some page → page_in bytes k ≡ Some page
+  pub gaps : (k : ℕ) → 1 ≤ k → k < n → map k ≡ None → page_in bytes k ≡ Some zeros_page
+
+-- what the next write leaves at each place so far and at its own
+page_then : (bytes piece page : List ℕ) (at n k : ℕ) → at ≡ 4096 * n → length piece ≡ 4096 → 4096 * n ≤ length bytes → k < n + 1 → (k < n → page_in bytes k ≡ Some page) → (k ≡ n → piece ≡ page)
+    → page_in (put bytes at piece) k ≡ Some page
+page_then bytes piece page at n k place size long most before is =
+    let le : at ≤ length bytes = omega (arith, place, long) in
+    let grown : length (put bytes at piece) ≡ max (length bytes) (at + length piece) = length-put bytes piece at le in
+    elim (cases_lt k n) [
+      | inl below ↦
+          page_is (put bytes at piece) k (omega (arith, grown, place, below, long))
+          ∙ ap (λ (p : List ℕ). Some p) (part bytes piece at (4096 * k) 4096 le (omega (arith, place, below)))
+          ∙ sym (page_is bytes k (omega (arith, below, long)))
+          ∙ before below
+      | inr past ↦
+          let same : k ≡ n = omega (arith, past, most) in
+          let here : 4096 * k ≡ at = omega (arith, same, place) in
+          page_is (put bytes at piece) k (omega (arith, grown, place, same, size))
+          ∙ ap (λ (m : ℕ). Some (take 4096 (drop m (put bytes at piece)))) here
+          ∙ ap (λ (p : List ℕ). Some p) (written bytes piece at 4096 le size ∙ is same)
+    ]
 
 begins : (first : List ℕ) (map : Map) (piece mark : List ℕ) → piece ≡ drop 2 first → length piece ≡ 4094 → (a b : File) → 2 ≤ length a.bytes → take 2 a.bytes ≡ mark → Writes 2 piece a b → IsSoFar first map mark 1 b.bytes
 begins first map piece mark is size a b long marked writes =
@@ -71,11 +92,12 @@ begins first map piece mark is size a b long marked writes =
       long = omega (arith, length-put a.bytes piece 2 long, size);
       rest = written a.bytes piece 2 4094 long size ∙ is;
       pages = λ k page least most there. absurd (omega (arith, least, most));
+      gaps = λ k least most none. absurd (omega (arith, least, most));
     })
 
-more : (first : List ℕ) (map : Map) (piece mark : List ℕ) (at n : ℕ) → 1 ≤ n → at ≡ 4096 * n → length piece ≡ 4096 → ((page : List ℕ) → map n ≡ Some page → piece ≡ page) → (a b : File) → IsSoFar first map mark n a.bytes
+more : (first : List ℕ) (map : Map) (piece mark : List ℕ) (at n : ℕ) → 1 ≤ n → at ≡ 4096 * n → length piece ≡ 4096 → ((page : List ℕ) → map n ≡ Some page → piece ≡ page) → (map n ≡ None → piece ≡ zeros_page) → (a b : File) → IsSoFar first map mark n a.bytes
     → Writes at piece a b → IsSoFar first map mark (n + 1) b.bytes
-more first map piece mark at n some place size is a b so_far writes =
+more first map piece mark at n some place size is free a b so_far writes =
     let now : b.bytes ≡ put a.bytes at piece = ap (λ (f : File). f.bytes) writes in
     let le : at ≤ length a.bytes = omega (arith, place, so_far.long) in
     let grown : length (put a.bytes at piece) ≡ max (length a.bytes) (at + length piece) = length-put a.bytes piece at le in
@@ -84,19 +106,11 @@ more first map piece mark at n some place size is a b so_far writes =
       long = omega (arith, grown, place, size);
       rest = part a.bytes piece at 2 4094 le (omega (arith, place, some)) ∙ so_far.rest;
       pages = λ k page least most there.
-          elim (cases_lt k n) [
-            | inl below ↦
-                page_is (put a.bytes at piece) k (omega (arith, grown, place, below, so_far.long))
-                ∙ ap (λ (p : List ℕ). Some p) (part a.bytes piece at (4096 * k) 4096 le (omega (arith, place, below)))
-                ∙ sym (page_is a.bytes k (omega (arith, below, so_far.long)))
-                ∙ so_far.pages k page least below there
-            | inr past ↦
-                let same : k ≡ n = omega (arith, past, most) in
-                let here : 4096 * k ≡ at = omega (arith, same, place) in
-                page_is (put a.bytes at piece) k (omega (arith, grown, place, same, size))
-                ∙ ap (λ (m : ℕ). Some (take 4096 (drop m (put a.bytes at piece)))) here
-                ∙ ap (λ (p : List ℕ). Some p) (written a.bytes piece at 4096 le size ∙ is page (ap (λ (m : ℕ). map m) (sym same) ∙ there))
-          ];
+          page_then a.bytes piece page at n k place size so_far.long most (λ below. so_far.pages k page least below there)
+          (λ same. is page (ap (λ (m : ℕ). map m) (sym same) ∙ there));
+      gaps = λ k least most none.
+          page_then a.bytes piece zeros_page at n k place size so_far.long most (λ below. so_far.gaps k least below none)
+          (λ same. free (ap (λ (m : ℕ). map m) (sym same) ∙ none));
     })
 
 -- ---- in the folder
@@ -123,10 +137,11 @@ has_first name first map piece whole is old new there writes = record {
     long : (number : ℕ) → names_of old name ≡ Some number → 2 ≤ length (old.files number).bytes
     long number leads = subst (λ (n : ℕ). 2 ≤ length (old.files n).bytes) (some_same there.number number (sym there.leads ∙ leads)) there.has
 
-pub has_more : (name : Name) (first : List ℕ) (map : Map) (piece : List ℕ) (at n : ℕ) → 1 ≤ n → at ≡ 4096 * n → length piece ≡ 4096 → ((page : List ℕ) → map n ≡ Some page → piece ≡ page) → (old mid new : Disk)
+pub has_more : (name : Name) (first : List ℕ) (map : Map) (piece : List ℕ) (at n : ℕ) → 1 ≤ n → at ≡ 4096 * n → length piece ≡ 4096 → ((page : List ℕ) → map n ≡ Some page → piece ≡ page) → (map n ≡ None → piece ≡ zeros_page)
+    → (old mid new : Disk)
     → ChangesFile name (SoFar first map n) old mid → ChangesFile name (Writes at piece) mid new → ChangesFile name (SoFar first map (n + 1)) old new
-has_more name first map piece at n some place size is old mid new so_far writes =
-    file_then name (SoFar first map n) (Writes at piece) (SoFar first map (n + 1)) (λ a b c one two. more first map piece (take 2 a.bytes) at n some place size is b c one two) old mid new so_far writes
+has_more name first map piece at n some place size is free old mid new so_far writes =
+    file_then name (SoFar first map n) (Writes at piece) (SoFar first map (n + 1)) (λ a b c one two. more first map piece (take 2 a.bytes) at n some place size is free b c one two) old mid new so_far writes
 
 -- the file is there, and long enough for the next page
 pub next_place : (name : Name) (first : List ℕ) (map : Map) (at n : ℕ) → at ≡ 4096 * n → (old new : Disk) → FileHas old name (λ file. 2 ≤ length file.bytes) → ChangesFile name (SoFar first map n) old new
@@ -143,10 +158,20 @@ has_all name first map n end all none old mid new so_far syncs =
     let now : c.bytes ≡ b.bytes = ap (λ (f : File). f.bytes) sync in
     record {
       mark = ap (λ (l : List ℕ). take 2 l) now ∙ here.marked;
-      has = subst (λ (bytes : List ℕ). HasBody (record { first = first; pages = map }) bytes) (sym now) (record { rest = here.rest; pages = λ k page least there. here.pages k page least (below k page there) there });
+      has = subst (λ (bytes : List ℕ). HasBody (record { first = first; pages = map }) bytes) (sym now) (record {
+        rest = here.rest;
+        pages = λ k page least there. here.pages k page least (below k page there) there;
+        gaps = λ k above least less free some. here.gaps k least (omega (arith, less, below_some above some)) free;
+      });
       synced = sync ∙ ap (λ (bytes : List ℕ). synced_file bytes) (sym now);
     }) old mid new so_far syncs
   where
+    below_some : (k : ℕ) → IsSome (map k) → k < n
+    below_some k some = elim (cases_lt k n) [
+      | inl lt ↦ lt
+      | inr past ↦ absurd (true≢false (sym (subst (λ (o : Option (List ℕ)). IsSome o) (none k (omega (arith, past, all))) some)))
+    ]
+
     below : (k : ℕ) (page : List ℕ) → map k ≡ Some page → k < n
     below k page there = elim (cases_lt k n) [
       | inl lt ↦ lt

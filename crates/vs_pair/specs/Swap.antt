@@ -1,5 +1,5 @@
 -- What one sync writes into a swap file, and what is known of the images of the file while it is written.
-use Rattle.std.specs.Prelude.{◌≡◌, ◌≢◌, ◌⊎◌, ℕ, List, [], ◌∷◌, take, drop, Some}
+use Rattle.std.specs.Prelude.{◌≡◌, ◌≢◌, ◌⊎◌, ℕ, ◌<◌, ◌≤◌, List, [], ◌∷◌, take, drop, replicate, Some, None, IsSome}
 use Rattle.vs_pages.specs.Maps.{Map}
 use Rattle.vs_zero.specs.declared.Pair.{Pair}
 use Rattle.vs_zero.specs.declared.Zero.{Zero}
@@ -7,7 +7,7 @@ use Rattle.vs_zero.specs.Zero.{closed_page}
 use Rattle.vs_host.specs.File.{File, IsFileImage, Leaves, synced_file}
 use Rattle.vs_host.specs.Disk.{Name}
 use Rattle.vs_disk.specs.Images.{KeepsImages}
-use Rattle.vs_swap.specs.Files.{HoldsPages}
+use Rattle.vs_swap.specs.Files.{HoldsPages, page_in}
 use Rattle.vs_pair.specs.declared.head.Head.{Head}
 use Rattle.vs_pair.specs.declared.gate.Gate.{Gate}
 use Rattle.vs_pair.specs.declared.gate.Gate.TheVariants.{Open, Closed, Unknown}
@@ -54,10 +54,19 @@ IsOpen c = HasMark open_mark c
 abbrev pub body_of : Name → Synced → Body
 body_of name sync = record { first = page_zero name sync.generation sync.head; pages = sync.pages }
 
--- After its identifier the file has the rest of page 0 and, each at its place, the pages from page 1 on.
+-- a page of zeros
+abbrev pub zeros_page : List ℕ
+zeros_page = replicate 4096 0
+
+-- a page number that is not in use, and lies below one that is, has zeros
+abbrev pub HasGaps : Map → List ℕ → Type 0
+HasGaps pages c = (k above : ℕ) → 1 ≤ k → k < above → pages k ≡ None → IsSome (pages above) → page_in c k ≡ Some zeros_page
+
+-- After its identifier the file has the rest of page 0 and, each at its place, the pages from page 1 on, with zeros between them.
 pub record HasBody (body : Body) (c : List ℕ) : Type 0 where
   pub rest : take 4094 (drop 2 c) ≡ drop 2 body.first
   pub pages : HoldsPages body.pages c
+  pub gaps : HasGaps body.pages c
 
 -- The file is open, and whole.
 pub record Holds (body : Body) (c : List ℕ) : Type 0 where

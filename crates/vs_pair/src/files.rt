@@ -6,7 +6,8 @@ use vs_host::Names;
 /// What is known of the two swap files of a session.
 #[derive(Drop)]
 pub struct SwapFiles {
-    pub(crate) names: Names,
+    /// The names that go with the edited file.
+    pub names: Names,
     // The file of the last acknowledged sync, whose gate is open.
     pub(crate) newer: Side,
     // The gate of the other file.

@@ -45,7 +45,7 @@ pub(crate) fn make_file<F: Folder>(
     ensures cause { HasCause (F.scene host.old).folder_faults (F.scene host.new).folder_faults (IsErr result) }
 {
     clear(host, temporary)?;
-    host.create(temporary)?;
+    host.create_private(temporary)?;
     host.write_at(temporary, 0, OPEN)?;
     write_pages(host, temporary, first, pages)?;
     host.rename(temporary, name)

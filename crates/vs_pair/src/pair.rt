@@ -22,7 +22,8 @@ use vs_pages::MemPages;
 pub struct SwapPair {
     /// The pages, which a text may be put into before the start.
     pub pages: MemPages,
-    pub(crate) files: SwapFiles,
+    /// What is known of the files, by their names.
+    pub files: SwapFiles,
 }
 
 impl SwapPair {

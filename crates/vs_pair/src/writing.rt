@@ -1,12 +1,12 @@
 // How one swap file is written: its gate is closed, then the pages are written after it, then the gate is opened.
-ghost use Rattle.std.specs.Prelude.{◌≡◌, ◌≢◌, ◌≤◌, ℕ, List, Some, length, OnOk, OnErr, IsErr, IsTrue};
+ghost use Rattle.std.specs.Prelude.{◌≡◌, ◌≢◌, ◌≤◌, ℕ, List, Some, None, length, OnOk, OnErr, IsErr, IsTrue};
 ghost use Rattle.vs_faults.specs.Faults.{HasCause};
 ghost use Rattle.vs_host.specs.File.{Leaves};
 ghost use Rattle.vs_host.specs.Disk.{ChangesFile, Name};
 ghost use Rattle.vs_disk.specs.Images.{FileHas, KeepsImages};
 ghost use Rattle.vs_pages.specs.Memory.{committed_of};
 ghost use Rattle.vs_pair.specs.Acts.{Acts, NoneFails};
-ghost use Rattle.vs_pair.specs.Swap.{Body, Holds, HasMark, ChangesMark, KeepsMark, WritesBody, Fits, CloseStep, Closes, SyncStep, FailedSync, open_mark};
+ghost use Rattle.vs_pair.specs.Swap.{Body, Holds, HasMark, ChangesMark, KeepsMark, WritesBody, Fits, CloseStep, Closes, SyncStep, FailedSync, open_mark, zeros_page};
 
 use crate::Gate;
 use vs_host::{Failed, Folder};
@@ -40,6 +40,7 @@ fn mark<F: Folder>(host: &mut F, name: &str, identifier: &[u8]) -> Result<(), Fa
 fn page_or_zeros(pages: &MemPages, at: u64) -> &[u8]
     ensures size { length result.now ≡ 4096 }
     ensures page { (page : List ℕ) → committed_of pages.now at ≡ Some page → result.now ≡ page }
+    ensures zeros { committed_of pages.now at ≡ None → result.now ≡ zeros_page }
 {
     match pages.committed_page(at) {
         Some(page) => page,

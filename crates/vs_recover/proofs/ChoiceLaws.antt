@@ -1,15 +1,16 @@
 -- What two swap files give.
 use Rattle.std.proofs.Common.{◌≡◌, ℕ, ◌<◌, ◌≤◌, List, take, Option, Some, None, Result, Ok, Err, Bool, true, false, is_some, sym, refl, ap, subst, ◌∙◌, inl, inr, arith}
-use Rattle.std.specs.Prelude.{if◌then◌else◌}
-use Rattle.std.proofs.lemmas.Bool.{cases_lt}
+use Rattle.std.specs.Prelude.{◌-◌, ◌/◌, IsSomeAnd, if◌then◌else◌, length, nat_eq, nat_lt}
 use Rattle.std.proofs.lemmas.Bool.Decides.{nat_tests}
 use Rattle.vs_zero.specs.declared.Zero.{Zero}
 use Rattle.vs_zero.specs.declared.ZeroErr.{ZeroErr}
-use Rattle.vs_recover.specs.declared.choices.Root.TheVariants as root
+use Rattle.vs_recover.specs.declared.roots.Root.TheVariants as root
 use Rattle.vs_zero.specs.Zero.{reading_of}
-use Rattle.vs_recover.specs.declared.choices.Version.{Version}
+use Rattle.vs_recover.specs.declared.image.Opening.{Opening}
+use Rattle.vs_recover.specs.declared.roots.Roots.{Roots}
+use Rattle.vs_recover.specs.declared.choices.Found.TheVariants as found
 use Rattle.vs_recover.specs.Files.{IsFile}
-use Rattle.vs_recover.specs.declared.choices.Root.{Root}
+use Rattle.vs_recover.specs.declared.roots.Root.{Root}
 use Rattle.vs_recover.specs.declared.error.Fault.{Fault}
 use Rattle.vs_recover.specs.declared.error.Fault.TheVariants as fault
 use Rattle.vs_recover.specs.declared.error.RecErr.TheVariants as error
@@ -17,46 +18,117 @@ use Rattle.vs_recover.specs.Faults.{error_of, IsFault}
 use Rattle.vs_recover.specs.declared.error.RecErr.{RecErr}
 use Rattle.vs_zero.specs.declared.ZeroErr.TheVariants as refusal
 use Rattle.vs_recover.specs.declared.image.Image.TheVariants.{Standing, Open, Closed, Encrypted, NoSwapFile}
-use Rattle.vs_host.specs.World.{Tells, Scene, content_of}
+use Rattle.vs_host.specs.World.{Tells, Scene, ReadsFolder, content_of}
 use Rattle.std.specs.Prelude.{IsTrue}
 use Rattle.vs_recover.specs.Images.{StandsNot}
 use Rattle.std.specs.Prelude.{codes, ◌++◌, ◌∷◌, []}
 use Rattle.vs_recover.specs.declared.image.Image.{Image}
 use Rattle.vs_recover.specs.Images.{IsImage, refused_image}
 use Rattle.vs_recover.specs.Infos.{IsInfo, image_words}
-use Rattle.vs_swap.proofs.Standing.{in_once}
-use Rattle.vs_recover.specs.Choices.{Recovers, NoneStands, StandsNowhere, root_chosen, IsVersion, version_of, newer, root_in, root_reads, root_of, IsRefusal}
+use Rattle.vs_recover.specs.Choices.{Recovers, NoneStands, StandsNowhere, StandsInTurn, IsFound, IsGeneration, IsOpening, IsStanding, IsRefusal, generation_at, generation_of, generation_said, is_newer, root_chosen, root_in, root_reads, root_of, text_of}
+use Rattle.vs_recover.specs.Reading.{IsThere, blocks_of}
 
 -- a file whose page 0 does not read does not stand
 pub refused_not : (file : List ℕ) (why : ZeroErr) → reading_of (take 4096 file) ≡ Err why → StandsNot file
 refused_not file why is = λ g t s. let e : Ok s.head.zero ≡ Err why = sym s.head.reads ∙ is in absurd (cc)
 
-newer_second : (a b : Version) → a.generation < b.generation → newer (Some a) (Some b) ≡ Some b.text
-newer_second a b lt = grind (arith, nat_tests)
+-- a file that stands has the generation that its page 0 says
+pub says_generation : (o : Option (List ℕ)) (found : Option Opening) → IsOpening o found → IsGeneration o (generation_of found)
+says_generation None found opening g t s = absurd s
+says_generation (Some file) None opening g t s = absurd opening
+says_generation (Some file) (Some found) opening g t s =
+    let size : nat_eq s.head.zero.page_size 4096 ≡ true = ap (λ n. nat_eq n 4096) s.head.size in
+    ap generation_at (opening.1 ∙ s.head.reads) ∙ (ap (λ (b : Bool). if b then generation_said s.head.zero.pair else None) size ∙ ap generation_said s.head.paired)
 
-newer_first : (a b : Version) → b.generation ≤ a.generation → newer (Some a) (Some b) ≡ Some a.text
-newer_first a b le = grind (arith, nat_tests)
+newer_lt : (a b : Option ℕ) (g h : ℕ) → a ≡ Some g → b ≡ Some h → is_newer a b ≡ true → g < h
+newer_lt a b g h first second newer = let e : nat_lt g h ≡ true = ap (λ o. is_newer o (Some h)) (sym first) ∙ (ap (λ o. is_newer a o) (sym second) ∙ newer) in grind (arith, nat_tests, e)
 
--- the newer of two versions is what is recovered
-pub newer_recovers : (swp swo : Option (List ℕ)) (a b : Option Version) → IsVersion swp a → IsVersion swo b → Recovers swp swo (newer a b)
-newer_recovers swp swo None None x y = (x, y)
-newer_recovers swp swo None (Some b) x y = inr (record { generation = b.generation; stands = y; older = λ h others s. absurd (x h others s) })
-newer_recovers swp swo (Some a) None x y = inl (record { generation = a.generation; stands = x; no_newer = λ h others s. absurd (y h others s) })
-newer_recovers swp swo (Some a) (Some b) x y = elim (cases_lt a.generation b.generation) [
-  | inl lt ↦ subst (λ found. Recovers swp swo found) (sym (newer_second a b lt)) (inr (record { generation = b.generation; stands = y; older = λ h others s. omega (arith, lt, (in_once swp a.generation h a.text others x s).0) }))
-  | inr le ↦ subst (λ found. Recovers swp swo found) (sym (newer_first a b le)) (inl (record { generation = a.generation; stands = x; no_newer = λ h others s. omega (arith, le, (in_once swo b.generation h b.text others y s).0) }))
-]
+newer_le : (a b : Option ℕ) (g h : ℕ) → a ≡ Some g → b ≡ Some h → is_newer a b ≡ false → h ≤ g
+newer_le a b g h first second not = let e : nat_lt g h ≡ false = ap (λ o. is_newer o (Some h)) (sym first) ∙ (ap (λ o. is_newer a o) (sym second) ∙ not) in grind (arith, nat_tests, e)
+
+-- the text of the second file was read first, whose generation is greater
+pub second_recovers : (swp swo : Option (List ℕ)) (a b : Option ℕ) (text : Option (List (List ℕ))) → IsGeneration swp a → IsGeneration swo b → is_newer a b ≡ true → StandsInTurn swo swp text → Recovers swp swo text
+second_recovers swp swo a b None says tells newer none = (none.1, none.0)
+second_recovers swp swo a b (Some text) says tells newer (inl is) = inr (record { generation = is.0; stands = is.1; older = λ h others s. newer_lt a b h is.0 (says h others s) (tells is.0 text is.1) newer })
+second_recovers swp swo a b (Some text) says tells newer (inr is) = inl (record { generation = is.1.0; stands = is.1.1; no_newer = λ h others s. absurd (is.0 h others s) })
+
+-- the text of the first file was read first, whose generation is no lesser one
+pub first_recovers : (swp swo : Option (List ℕ)) (a b : Option ℕ) (text : Option (List (List ℕ))) → IsGeneration swp a → IsGeneration swo b → is_newer a b ≡ false → StandsInTurn swp swo text → Recovers swp swo text
+first_recovers swp swo a b None says tells not none = none
+first_recovers swp swo a b (Some text) says tells not (inl is) = inl (record { generation = is.0; stands = is.1; no_newer = λ h others s. newer_le a b is.0 h (says is.0 text is.1) (tells h others s) not })
+first_recovers swp swo a b (Some text) says tells not (inr is) = inr (record { generation = is.1.0; stands = is.1.1; older = λ h others s. absurd (is.0 h others s) })
+
+pub in_turn_first : (first second : Option (List ℕ)) (found : Option (List (List ℕ))) (text : List (List ℕ)) → found ≡ Some text → IsStanding first found → StandsInTurn first second (Some text)
+in_turn_first first second found text some is = inl (subst (λ f. IsStanding first f) some is)
+
+pub in_turn_second : (first second : Option (List ℕ)) (absent found : Option (List (List ℕ))) → absent ≡ None → IsStanding first absent → IsStanding second found → StandsInTurn first second found
+in_turn_second first second absent None none nowhere is = (subst (λ f. IsStanding first f) none nowhere, is)
+in_turn_second first second absent (Some text) none nowhere is = inr (subst (λ f. IsStanding first f) none nowhere, is)
+
+-- what is said of a file is said of it after a call that only reads
+pub standing_was : (tells : Tells) (old new : Scene) (name : List ℕ) (found : Option (List (List ℕ))) → ReadsFolder old new → IsStanding (content_of new name) found → IsStanding (content_of old name) found
+standing_was tells old new name found frame is = subst (λ (o : Option (List ℕ)). IsStanding o found) (ap (λ (s : Scene). content_of s name) frame) is
+
+pub recovers_was : (old new : Scene) (swp swo : List ℕ) (found : Option (List (List ℕ))) → ReadsFolder old new → Recovers (content_of new swp) (content_of new swo) found → Recovers (content_of old swp) (content_of old swo) found
+recovers_was old new swp swo found frame is = subst (λ (s : Scene). Recovers (content_of s swp) (content_of s swo) found) frame is
+
+pub newer_of : (a b c d : Option ℕ) {truth : Bool} → a ≡ c → b ≡ d → is_newer a b ≡ truth → is_newer c d ≡ truth
+newer_of a b c d first second is = ap (λ o. is_newer o d) (sym first) ∙ (ap (λ o. is_newer a o) (sym second) ∙ is)
+
+-- ---- a file whose page 0 was read
+
+pub opening_absent : (o : Option (List ℕ)) → is_some o ≡ false → IsOpening o None
+opening_absent None not = tt
+opening_absent (Some file) not = absurd (cc)
+
+pub opening_found : (o : Option (List ℕ)) (opening : Opening) → is_some o ≡ true → IsSomeAnd o (λ file. opening.len ≡ length file) → ((file : List ℕ) → o ≡ Some file → opening.zero ≡ reading_of (take 4096 file)) → IsOpening o (Some opening)
+opening_found None opening there len reads = absurd (cc)
+opening_found (Some file) opening there len reads = (len, reads file refl)
+
+pub opening_stays : (tells : Tells) (old new : Scene) (name : List ℕ) (found : Option Opening) → ReadsFolder old new → (IsTrue tells.folder → IsOpening (content_of old name) found) → IsTrue tells.folder → IsOpening (content_of new name) found
+opening_stays tells old new name found frame opening told = subst (λ (o : Option (List ℕ)). IsOpening o found) (sym (ap (λ (s : Scene). content_of s name) frame)) (opening told)
+
+len_of : (o : Option (List ℕ)) (opening : Opening) → IsOpening o (Some opening) → IsSomeAnd o (λ file. opening.len ≡ length file)
+len_of None opening is = absurd is
+len_of (Some file) opening is = is.0
+
+zero_of : (o : Option (List ℕ)) (opening : Opening) (file : List ℕ) → IsOpening o (Some opening) → o ≡ Some file → opening.zero ≡ reading_of (take 4096 file)
+zero_of None opening file is there = absurd is
+zero_of (Some bytes) opening file is there = let e : bytes ≡ file = cc in is.1 ∙ ap (λ bs. reading_of (take 4096 bs)) e
+
+pub opening_len : (tells : Tells) (scene : Scene) (name : List ℕ) (found : Option Opening) (opening : Opening) → found ≡ Some opening → (IsTrue tells.folder → IsOpening (content_of scene name) found) → IsThere tells scene name (λ file. opening.len ≡ length file)
+opening_len tells scene name found opening some is told = len_of (content_of scene name) opening (subst (λ (f : Option Opening). IsOpening (content_of scene name) f) some (is told))
+
+pub opening_zero : (tells : Tells) (scene : Scene) (name : List ℕ) (found : Option Opening) (opening : Opening) → found ≡ Some opening → (IsTrue tells.folder → IsOpening (content_of scene name) found)
+    → (file : List ℕ) → IsFile tells scene name file → opening.zero ≡ reading_of (take 4096 file)
+opening_zero tells scene name found opening some is file there = zero_of (content_of scene name) opening file (subst (λ (f : Option Opening). IsOpening (content_of scene name) f) some (is there.told)) there.there
+
+blocks_are : (o : Option (List ℕ)) (opening : Opening) → IsOpening o (Some opening) → opening.len / 4096 - 1 ≡ blocks_of o
+blocks_are None opening is = absurd is
+blocks_are (Some file) opening is = ap (λ n. n / 4096 - 1) is.0
+
+-- how many pages follow page 0, by the length that was read
+pub opening_blocks : (tells : Tells) (scene : Scene) (name : List ℕ) (found : Option Opening) (opening : Opening) → found ≡ Some opening → (IsTrue tells.folder → IsOpening (content_of scene name) found)
+    → IsTrue tells.folder → opening.len / 4096 - 1 ≡ blocks_of (content_of scene name)
+opening_blocks tells scene name found opening some is told = blocks_are (content_of scene name) opening (subst (λ (f : Option Opening). IsOpening (content_of scene name) f) some (is told))
+
+pub blocks_stay : (old new : Scene) (name : List ℕ) → ReadsFolder old new → blocks_of (content_of new name) ≡ blocks_of (content_of old name)
+blocks_stay old new name frame = ap (λ (s : Scene). blocks_of (content_of s name)) frame
+
+pub stands_absent : (o : Option (List ℕ)) (found : Option Opening) → found ≡ None → IsOpening o found → StandsNowhere o
+stands_absent None found none is = λ g t s. s
+stands_absent (Some file) found none is = absurd (subst (λ (f : Option Opening). IsOpening (Some file) f) none is)
 
 pub found_file : (tells : Tells) (scene : Scene) (name file : List ℕ) → IsTrue tells.folder → content_of scene name ≡ Some file → IsFile tells scene name file
 found_file tells scene name file told there = record { told = told; there = there }
 
-pub root_absent : (o : Option (List ℕ)) → is_some o ≡ false → root.Absent ≡ root_of o
-root_absent None not = refl
-root_absent (Some file) not = absurd (cc)
+pub root_absent : (o : Option (List ℕ)) (found : Option Opening) → found ≡ None → IsOpening o found → root.Absent ≡ root_of o
+root_absent None found none is = refl
+root_absent (Some file) found none is = absurd (subst (λ (f : Option Opening). IsOpening (Some file) f) none is)
 
-pub root_some : (o : Option (List ℕ)) (r : Root) → is_some o ≡ true → ((file : List ℕ) → o ≡ Some file → r ≡ root_in file (reading_of (take 4096 file))) → r ≡ root_of o
-root_some None r there is = absurd (cc)
-root_some (Some file) r there is = is file refl
+pub root_some : (o : Option (List ℕ)) (r : Root) (found : Option Opening) (opening : Opening) → found ≡ Some opening → IsOpening o found → ((file : List ℕ) → o ≡ Some file → r ≡ root_in file (reading_of (take 4096 file))) → r ≡ root_of o
+root_some None r found opening some opened is = absurd (subst (λ (f : Option Opening). IsOpening None f) some opened)
+root_some (Some file) r found opening some opened is = is file refl
 
 -- a fault is a refusal of any two files
 pub fault_refuses : (swp swo : Option (List ℕ)) (f : Fault) (e : RecErr) → e ≡ error_of f → IsRefusal swp swo e
@@ -84,6 +156,9 @@ roots_refuse swp swo error.NotTree none is = (none, is)
 roots_refuse swp swo error.Failed none is = tt
 roots_refuse swp swo error.NoMemory none is = tt
 
+pub roots_are : (swp swo : Option (List ℕ)) (roots : Roots) → IsFound swp swo (found.Roots roots) → root_chosen (root_of swp) (root_of swo) ≡ root_chosen roots.swp roots.swo
+roots_are swp swo roots is = ap (λ (r : Root). root_chosen r (root_of swo)) (sym is.1) ∙ ap (λ (r : Root). root_chosen roots.swp r) (sym is.2)
+
 -- what a file is whose page 0 does not read
 pub image_refused : (file : List ℕ) (why : ZeroErr) → reading_of (take 4096 file) ≡ Err why → IsImage file (refused_image why)
 image_refused file refusal.Closed is = is
@@ -92,21 +167,23 @@ image_refused file refusal.Short is = (refusal.Short, is, λ e. cc, λ e. cc)
 image_refused file refusal.BadMagic is = (refusal.BadMagic, is, λ e. cc, λ e. cc)
 image_refused file (refusal.BadPageSize size) is = (refusal.BadPageSize size, is, λ e. cc, λ e. cc)
 
--- what the file of an image stands for
-image_versions : (file : List ℕ) (image : Image) → IsImage file image → IsVersion (Some file) (version_of image)
-image_versions file (Standing g t) is = is
-image_versions file (Open size) is = λ g t s. is.3 g t s
-image_versions file Closed is = refused_not file refusal.Closed is
-image_versions file Encrypted is = refused_not file refusal.Encrypted is
-image_versions file NoSwapFile is = refused_not file is.0 is.1
+-- the text of the file of an image
+image_texts : (file : List ℕ) (image : Image) → IsImage file image → IsStanding (Some file) (text_of image)
+image_texts file (Standing g t) is = (g, is)
+image_texts file (Open size) is = λ g t s. is.3 g t s
+image_texts file Closed is = refused_not file refusal.Closed is
+image_texts file Encrypted is = refused_not file refusal.Encrypted is
+image_texts file NoSwapFile is = refused_not file is.0 is.1
 
-pub version_found : (o : Option (List ℕ)) (image : Image) → is_some o ≡ true → ((file : List ℕ) → o ≡ Some file → IsImage file image) → IsVersion o (version_of image)
-version_found None image there is = absurd (cc)
-version_found (Some file) image there is = image_versions file image (is file refl)
+pub text_found : (o : Option (List ℕ)) (image : Image) (found : Option Opening) (opening : Opening) → found ≡ Some opening → IsOpening o found → ((file : List ℕ) → o ≡ Some file → IsImage file image) → IsStanding o (text_of image)
+text_found None image found opening some opened is = absurd (subst (λ (f : Option Opening). IsOpening None f) some opened)
+text_found (Some file) image found opening some opened is = image_texts file image (is file refl)
 
-pub version_absent : (o : Option (List ℕ)) → is_some o ≡ false → StandsNowhere o
-version_absent None not = λ g t s. s
-version_absent (Some file) not = absurd (cc)
+pub text_refused : (o : Option (List ℕ)) (found : Option Opening) (opening : Opening) (why : ZeroErr) → found ≡ Some opening → opening.zero ≡ Err why → IsOpening o found → StandsNowhere o
+text_refused None found opening why some refused opened = λ g t s. s
+text_refused (Some file) found opening why some refused opened =
+    let is = subst (λ (f : Option Opening). IsOpening (Some file) f) some opened in
+    refused_not file why (sym is.1 ∙ refused)
 
 pub root_tree : (file : List ℕ) (fields : Zero) (reads : Bool) → reading_of (take 4096 file) ≡ Ok fields → reads ≡ root_reads file fields.page_size → reads ≡ true → root.Tree ≡ root_in file (reading_of (take 4096 file))
 root_tree file fields reads ok is value = sym (ap (λ (z : Result Zero ZeroErr). root_in file z) ok ∙ ap (λ (b : Bool). if b then root.Tree else root.NoTree) (sym is ∙ value))

@@ -1,11 +1,16 @@
 -- How reading goes on: after a part in which no call failed, one part more.
-use Rattle.std.proofs.Common.{◌≡◌, ℕ, ◌+◌, ◌≤◌, List, ◌++◌, length, Option, Some, None, Result, IsTrue, IsSome, is_some, true, inl, inr, refl, sym, ◌∙◌, ap, subst, append_assoc, arith}
-use Rattle.std.specs.Prelude.{IsSomeAnd, IfSome}
+use Rattle.std.proofs.Common.{◌≡◌, ◌≢◌, Err, Ok, ℕ, ◌+◌, ◌≤◌, List, ◌++◌, length, Option, Some, None, Result, IsTrue, IsSome, is_some, true, inl, inr, refl, sym, ◌∙◌, ap, subst, append_assoc, arith}
+use Rattle.std.specs.Prelude.{IsErrAnd, IsSomeAnd, IfSome}
 use Rattle.vs_host.specs.Disk.{Name}
 use Rattle.vs_host.specs.Trace.{Kind, Snapshot}
 use Rattle.vs_host.specs.World.{Tells, Scene, IsTold, ReadsFolder, content_of}
 use Rattle.vs_disk.specs.Runs.{HasNoFault, FailsLast}
 use Rattle.vs_disk.proofs.Runs.{Quiet, reads_change, starts, one_look, looks_on, fails_none, fails_call, quiet_none, quiet_call, goes_then, goes_weaker, Each-append, Each-weaker}
+use Rattle.vs_recover.specs.declared.error.Fault.{Fault}
+use Rattle.vs_recover.specs.declared.error.Fault.TheVariants as fault
+use Rattle.vs_recover.specs.declared.error.RecErr.{RecErr}
+use Rattle.vs_recover.specs.declared.error.RecErr.TheVariants as error
+use Rattle.vs_recover.specs.Faults.{error_of}
 use Rattle.vs_recover.specs.Files.{IsFile}
 use Rattle.vs_recover.specs.Reading.{CallsAtMost, Reads, NoneFails, IsThere}
 
@@ -109,6 +114,9 @@ there_as tells scene name P Q leads there = λ told. some_as (content_of scene n
 pub there_stays : (tells : Tells) (old new : Scene) (name : List ℕ) (P : List ℕ → Type 0) → ReadsFolder old new → IsThere tells old name P → IsThere tells new name P
 there_stays tells old new name P frame there = λ told. subst (λ (o : Option (List ℕ)). IsSomeAnd o P) (sym (ap (λ (s : Scene). content_of s name) frame)) (there told)
 
+pub there_was : (tells : Tells) (old new : Scene) (name : List ℕ) (P : List ℕ → Type 0) → ReadsFolder old new → IsThere tells new name P → IsThere tells old name P
+there_was tells old new name P frame there = λ told. subst (λ (o : Option (List ℕ)). IsSomeAnd o P) (ap (λ (s : Scene). content_of s name) frame) (there told)
+
 if_there : (o : Option (List ℕ)) (P : List ℕ → Type 0) → IsSome o → IfSome o P → IsSomeAnd o P
 if_there None P some has = absurd (cc)
 if_there (Some file) P some has = has
@@ -122,3 +130,19 @@ there_found tells old new name frame is told = subst (λ (o : Option (List ℕ))
 
 pub some_stays : (tells : Tells) (old new : Scene) (name : List ℕ) → ReadsFolder old new → (IsTrue tells.folder → IsSome (content_of old name)) → IsTrue tells.folder → IsSome (content_of new name)
 some_stays tells old new name frame some told = subst (λ (o : Option (List ℕ)). IsSome o) (sym (ap (λ (s : Scene). content_of s name) frame)) (some told)
+
+-- ---- a call that had no memory
+
+was_refused : {T U : Type 0} (found : Result T Fault) (result : Result U Fault) (e f : Fault) → found ≡ Err e → IsErrAnd result (λ x. x ≡ e) → result ≡ Err f → found ≡ Err f
+was_refused found (Ok value) e f was is refused = absurd is
+was_refused found (Err x) e f was is refused = let same : x ≡ f = cc in was ∙ ap (λ (y : Fault). Err y) (sym is ∙ same)
+
+-- after a part in which no call failed, one part more that had no memory
+pub memory_then : {tells : Tells} {old mid new : Scene} {T U : Type 0} (found : Result T Fault) (result : Result U Fault) (e : Fault) → NoneFails tells old mid → (found ≡ Err fault.NoMemory → NoneFails tells mid new)
+    → found ≡ Err e → IsErrAnd result (λ x. x ≡ e) → result ≡ Err fault.NoMemory → NoneFails tells old new
+memory_then found result e first second was is refused = none_then first (second (was_refused found result e fault.NoMemory was is refused))
+
+-- what a call says of each refusal but a failed call, from what it says of each fault
+pub unless_failed : {T : Type 0} (P : Type 0) (found : Result T Fault) (f : Fault) (why : RecErr) → found ≡ Err f → why ≡ error_of f → (found ≡ Err fault.NoMemory → P) → why ≢ error.Failed → P
+unless_failed P found fault.Failed why was became memory not = absurd (not became)
+unless_failed P found fault.NoMemory why was became memory not = memory was

@@ -1,13 +1,16 @@
 -- What is recovered of the two swap files, and which of them is salvaged where neither stands.
-use Rattle.std.specs.Prelude.{◌≡◌, ◌*◌, ◌&&◌, ℕ, Bool, nat_lt, nat_le, is_ok, if◌then◌else◌, List, length, take, drop, Option, Some, None, Result, Ok, Err}
+use Rattle.std.specs.Prelude.{◌≡◌, ◌⊎◌, ◌*◌, ◌&&◌, ℕ, Bool, true, false, nat_eq, nat_lt, nat_le, is_ok, if◌then◌else◌, List, length, take, drop, Option, Some, None, Result, Ok, Err}
+use Rattle.vs_zero.specs.declared.Pair.{Pair}
 use Rattle.vs_zero.specs.declared.Zero.{Zero}
 use Rattle.vs_zero.specs.declared.ZeroErr.{ZeroErr}
 use Rattle.vs_zero.specs.declared.ZeroErr.TheVariants as refusal
 use Rattle.vs_zero.specs.Zero.{reading_of}
 use Rattle.vs_ptr.specs.Blocks.{view_in}
-use Rattle.vs_recover.specs.declared.choices.Version.{Version}
-use Rattle.vs_recover.specs.declared.choices.Root.{Root}
-use Rattle.vs_recover.specs.declared.choices.Root.TheVariants as root
+use Rattle.vs_recover.specs.declared.image.Opening.{Opening}
+use Rattle.vs_recover.specs.declared.choices.Found.{Found}
+use Rattle.vs_recover.specs.declared.choices.Found.TheVariants as found
+use Rattle.vs_recover.specs.declared.roots.Root.{Root}
+use Rattle.vs_recover.specs.declared.roots.Root.TheVariants as root
 use Rattle.vs_recover.specs.declared.choices.Chosen.{Chosen}
 use Rattle.vs_recover.specs.declared.choices.Chosen.TheVariants.{Text, Salvage}
 use Rattle.vs_recover.specs.declared.choices.Swap.{Swap}
@@ -31,22 +34,55 @@ abbrev pub Recovers : Option (List ℕ) → Option (List ℕ) → Option (List (
 Recovers swp swo (Some text) = Recovered swp swo text
 Recovers swp swo None = NoneStands swp swo
 
--- What one file stands for, or that it does not stand.
-abbrev pub IsVersion : Option (List ℕ) → Option Version → Type 0
-IsVersion file (Some version) = StandsIn file version.generation version.text
-IsVersion file None = StandsNowhere file
+-- The length of a file that is there, and what its page 0 reads as.
+abbrev pub IsOpening : Option (List ℕ) → Option Opening → Type 0
+IsOpening None None = Unit {0}
+IsOpening None (Some opening) = ⊥
+IsOpening (Some file) None = ⊥
+IsOpening (Some file) (Some opening) = (opening.len ≡ length file) × (opening.zero ≡ reading_of (take 4096 file))
 
--- what a file stands for, where it does
-abbrev pub version_of : Image → Option Version
-version_of (Standing generation text) = Some record { generation = generation; text = text }
-version_of image = None
+-- the generation that the tag of a pair says
+abbrev pub generation_said : Option Pair → Option ℕ
+generation_said None = None
+generation_said (Some pair) = Some pair.generation
 
--- the newer text of two, and the first at a tie
-abbrev pub newer : Option Version → Option Version → Option (List (List ℕ))
-newer None None = None
-newer None (Some b) = Some b.text
-newer (Some a) None = Some a.text
-newer (Some a) (Some b) = if nat_lt a.generation b.generation then Some b.text else Some a.text
+-- the generation that a page 0 says, where pages have 4,096 bytes
+abbrev pub generation_in : Zero → Option ℕ
+generation_in fields = if nat_eq fields.page_size 4096 then generation_said fields.pair else None
+
+-- the generation that a file has if it stands
+abbrev pub generation_at : Result Zero ZeroErr → Option ℕ
+generation_at (Ok fields) = generation_in fields
+generation_at (Err why) = None
+
+abbrev pub generation_of : Option Opening → Option ℕ
+generation_of None = None
+generation_of (Some opening) = generation_at opening.zero
+
+-- This is the generation of a file if it stands; without one it does not stand.
+abbrev pub IsGeneration : Option (List ℕ) → Option ℕ → Type 0
+IsGeneration file found = (generation : ℕ) (text : List (List ℕ)) → StandsIn file generation text → found ≡ Some generation
+
+-- the second generation is the greater one
+abbrev pub is_newer : Option ℕ → Option ℕ → Bool
+is_newer first None = false
+is_newer None (Some second) = true
+is_newer (Some first) (Some second) = nat_lt first second
+
+-- the text of a file that stands
+abbrev pub text_of : Image → Option (List (List ℕ))
+text_of (Standing generation text) = Some text
+text_of image = None
+
+-- The text that a file stands for, or that it does not stand.
+abbrev pub IsStanding : Option (List ℕ) → Option (List (List ℕ)) → Type 0
+IsStanding file (Some text) = (generation : ℕ) × StandsIn file generation text
+IsStanding file None = StandsNowhere file
+
+-- The text of the first file where it stands, and else that of the second one. Or neither stands.
+abbrev pub StandsInTurn : Option (List ℕ) → Option (List ℕ) → Option (List (List ℕ)) → Type 0
+StandsInTurn first second (Some text) = IsStanding first (Some text) ⊎ (StandsNowhere first × IsStanding second (Some text))
+StandsInTurn first second None = NoneStands first second
 
 -- block 1 reads as a pointer block, where pages have this size
 abbrev pub root_reads : List ℕ → ℕ → Bool
@@ -76,6 +112,11 @@ root_chosen first root.Encrypted = Err error.Encrypted
 root_chosen root.NoTree second = Err error.NotTree
 root_chosen first root.NoTree = Err error.NotTree
 root_chosen first second = Err error.NotSwap
+
+-- The text that two files give, or that neither stands and what page 0 and block 1 of both read as.
+abbrev pub IsFound : Option (List ℕ) → Option (List ℕ) → Found → Type 0
+IsFound swp swo (found.Text text) = Recovered swp swo text
+IsFound swp swo (found.Roots roots) = NoneStands swp swo × (roots.swp ≡ root_of swp) × (roots.swo ≡ root_of swo)
 
 -- Nothing is recovered, for this reason.
 abbrev pub IsRefusal : Option (List ℕ) → Option (List ℕ) → RecErr → Type 0

@@ -1,5 +1,5 @@
 -- What a call says of a folder that it only reads.
-use Rattle.std.specs.Prelude.{◌≡◌, ℕ, ◌+◌, ◌≤◌, length, List, IsTrue, IsSomeAnd}
+use Rattle.std.specs.Prelude.{◌≡◌, ℕ, ◌+◌, ◌-◌, ◌/◌, ◌≤◌, length, List, Option, Some, None, IsTrue, IsSomeAnd}
 use Rattle.vs_host.specs.Disk.{Name}
 use Rattle.vs_host.specs.World.{Tells, Scene, ReadsFolder, content_of}
 use Rattle.vs_disk.specs.Runs.{Looks, FailsLast}
@@ -19,6 +19,11 @@ pub record NoneFails (tells : Tells) (old new : Scene) : Type 0 where
 -- Where the folder is told, at most so many calls were made on the host.
 abbrev pub CallsAtMost : Tells → Scene → Scene → ℕ → Type 0
 CallsAtMost tells old new most = IsTrue tells.folder → length new.trace ≤ length old.trace + most
+
+-- how many whole pages of a file follow its page 0
+abbrev pub blocks_of : Option (List ℕ) → ℕ
+blocks_of None = 0
+blocks_of (Some file) = length file / 4096 - 1
 
 -- Where the folder is told, a file is there under the name, and has P.
 abbrev pub IsThere : Tells → Scene → Name → (List ℕ → Type 0) → Type 0

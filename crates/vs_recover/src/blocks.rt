@@ -1,9 +1,9 @@
 // Blocks of a swap file, read through the folder.
-ghost use Rattle.std.specs.Prelude.{◌≡◌, ◌≤◌, ◌<◌, ◌+◌, ◌*◌, ◌/◌, ◌^◌, ◌&&◌, nat_eq, ◌++◌, Some, ℕ, List, Bool, IfOk, OnOk, IfSome, IsTrue, Ok, Err, length, map};
+ghost use Rattle.std.specs.Prelude.{◌≡◌, ◌≤◌, ◌<◌, ◌+◌, ◌*◌, ◌/◌, ◌^◌, ◌&&◌, nat_eq, ◌++◌, Some, ℕ, List, Bool, IfOk, OnOk, IfSome, IsFalse, IsTrue, Ok, Err, length, map};
 ghost use Rattle.vs_faults.specs.Faults.{HasRisen};
 ghost use Rattle.vs_pages.specs.Maps.{pages_at};
 ghost use Rattle.vs_data.specs.Blocks.{lines_in, view_in};
-ghost use Rattle.vs_text.specs.Text.{plain_line};
+ghost use Rattle.vs_text.specs.Text.{IsLine, plain_line};
 ghost use Rattle.vs_tree_shape.specs.Places.{lines_below};
 ghost use Rattle.vs_tree_shape.specs.Trees.{read_by};
 ghost use Rattle.vs_swap.specs.Entries.{pointer_in, swap_points};
@@ -14,6 +14,7 @@ ghost use Rattle.vs_recover.specs.Reading.{CallsAtMost, IsThere, NoneFails, Read
 
 use crate::Fault;
 use crate::calls::read_part;
+use memchr::memchr;
 use std::alloc::{AllocError, Global};
 use vs_data::DataView;
 use vs_host::Folder;
@@ -37,6 +38,7 @@ pub fn load_pages<F: Folder>(
     ensures size { IfOk result (λ found. IfSome found (λ bytes. length bytes.items ≡ 4096 * pages)) }
     ensures later { (F.scene host.old).folder_faults ≤ (F.scene host.new).folder_faults }
     ensures failed { result ≡ Err Fault.Failed → HasRisen (F.scene host.old).folder_faults (F.scene host.new).folder_faults }
+    ensures memory { result ≡ Err Fault.NoMemory → NoneFails F.tells (F.scene host.old) (F.scene host.new) }
     ensures reads { Reads F.tells (F.scene host.old) (F.scene host.new) }
     ensures none { OnOk result (NoneFails F.tells (F.scene host.old) (F.scene host.new)) }
     ensures calls { CallsAtMost F.tells (F.scene host.old) (F.scene host.new) 1 }
@@ -94,6 +96,7 @@ pub fn load_entries<F: Folder>(
     ensures value { IfOk result (λ found. (file : List ℕ) → IsFile F.tells (F.scene host.old) name.now file → Gives (read_by swap_points (pages_at (pages_in file) block 1)) found) }
     ensures later { (F.scene host.old).folder_faults ≤ (F.scene host.new).folder_faults }
     ensures failed { result ≡ Err Fault.Failed → HasRisen (F.scene host.old).folder_faults (F.scene host.new).folder_faults }
+    ensures memory { result ≡ Err Fault.NoMemory → NoneFails F.tells (F.scene host.old) (F.scene host.new) }
     ensures reads { Reads F.tells (F.scene host.old) (F.scene host.new) }
     ensures none { OnOk result (NoneFails F.tells (F.scene host.old) (F.scene host.new)) }
     ensures calls { CallsAtMost F.tells (F.scene host.old) (F.scene host.new) 1 }
@@ -167,6 +170,7 @@ pub fn load_points<F: Folder>(
     ensures wide { IfOk result (λ found. IfSome found (λ entries. IsTrue (are_wide entries.items))) }
     ensures later { (F.scene host.old).folder_faults ≤ (F.scene host.new).folder_faults }
     ensures failed { result ≡ Err Fault.Failed → HasRisen (F.scene host.old).folder_faults (F.scene host.new).folder_faults }
+    ensures memory { result ≡ Err Fault.NoMemory → NoneFails F.tells (F.scene host.old) (F.scene host.new) }
     ensures reads { Reads F.tells (F.scene host.old) (F.scene host.new) }
     ensures none { OnOk result (NoneFails F.tells (F.scene host.old) (F.scene host.new)) }
     ensures calls { CallsAtMost F.tells (F.scene host.old) (F.scene host.new) 1 }
@@ -176,6 +180,25 @@ pub fn load_points<F: Folder>(
     };
     let found = read_points(alloc, entry, &bytes)?;
     Ok(found)
+}
+
+// Whether one of the bytes is 10.
+fn has_ten(bytes: &[u8]) -> bool
+    ensures { IsFalse result → IsLine bytes.now }
+{
+    memchr(10, bytes).is_some()
+}
+
+// The line of a stored form. Most have no byte 10, and are copied as they are.
+fn line_of(alloc: Global, stored: &[u8]) -> Result<Line, AllocError>
+    ensures { IfOk result (λ line. line ≡ plain_line stored.now) }
+{
+    if !has_ten(stored) {
+        return Line::raw(alloc, stored);
+    }
+    let mut line = Vec::from_slice(alloc, stored)?;
+    from_stored(&mut line);
+    Ok(Line::from_vec(line))
 }
 
 // Adds the lines of a data block in their plain form.
@@ -189,9 +212,7 @@ fn add_lines(
     ensures { OnOk result ((found : List (List ℕ)) → lines_in bytes.now ≡ Some found → lines.new.items ≡ lines.old.items ++ map plain_line found) }
 {
     for at in 0..view.count {
-        let mut line = Vec::from_slice(alloc, view.line(bytes, at))?;
-        from_stored(&mut line);
-        lines.push(Line::from_vec(line))?;
+        lines.push(line_of(alloc, view.line(bytes, at))?)?;
     }
     Ok(())
 }
@@ -233,6 +254,7 @@ pub fn load_lines<F: Folder>(
         → Extends (plain (lines_at swap_format (pages_in file) entry.now)) lines.old.items lines.new.items done) }
     ensures later { (F.scene host.old).folder_faults ≤ (F.scene host.new).folder_faults }
     ensures failed { result ≡ Err Fault.Failed → HasRisen (F.scene host.old).folder_faults (F.scene host.new).folder_faults }
+    ensures memory { result ≡ Err Fault.NoMemory → NoneFails F.tells (F.scene host.old) (F.scene host.new) }
     ensures reads { Reads F.tells (F.scene host.old) (F.scene host.new) }
     ensures none { OnOk result (NoneFails F.tells (F.scene host.old) (F.scene host.new)) }
     ensures calls { CallsAtMost F.tells (F.scene host.old) (F.scene host.new) 1 }

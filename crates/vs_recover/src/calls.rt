@@ -13,6 +13,7 @@ pub fn has_file<F: Folder>(host: &mut F, name: &str) -> Result<bool, Fault>
     ensures value { IfOk result (λ there. IsTrue F.tells.folder → there ≡ is_some (content_of (F.scene host.old) name.now)) }
     ensures later { (F.scene host.old).folder_faults ≤ (F.scene host.new).folder_faults }
     ensures failed { result ≡ Err Fault.Failed → HasRisen (F.scene host.old).folder_faults (F.scene host.new).folder_faults }
+    ensures memory { result ≡ Err Fault.NoMemory → NoneFails F.tells (F.scene host.old) (F.scene host.new) }
     ensures reads { Reads F.tells (F.scene host.old) (F.scene host.new) }
     ensures none { OnOk result (NoneFails F.tells (F.scene host.old) (F.scene host.new)) }
     ensures calls { CallsAtMost F.tells (F.scene host.old) (F.scene host.new) 1 }
@@ -27,6 +28,7 @@ pub fn file_len<F: Folder>(host: &mut F, name: &str) -> Result<u64, Fault>
     ensures value { IfOk result (λ len. IsThere F.tells (F.scene host.old) name.now (λ file. len ≡ length file)) }
     ensures later { (F.scene host.old).folder_faults ≤ (F.scene host.new).folder_faults }
     ensures failed { result ≡ Err Fault.Failed → HasRisen (F.scene host.old).folder_faults (F.scene host.new).folder_faults }
+    ensures memory { result ≡ Err Fault.NoMemory → NoneFails F.tells (F.scene host.old) (F.scene host.new) }
     ensures reads { Reads F.tells (F.scene host.old) (F.scene host.new) }
     ensures none { OnOk result (NoneFails F.tells (F.scene host.old) (F.scene host.new)) }
     ensures calls { CallsAtMost F.tells (F.scene host.old) (F.scene host.new) 1 }
@@ -41,6 +43,7 @@ pub fn read_part<F: Folder>(host: &mut F, name: &str, at: u64, into: &mut [u8]) 
     ensures value { OnOk result ((file : List ℕ) → IsFile F.tells (F.scene host.old) name.now file → into.new ≡ take (length into.old) (drop at file)) }
     ensures later { (F.scene host.old).folder_faults ≤ (F.scene host.new).folder_faults }
     ensures failed { result ≡ Err Fault.Failed → HasRisen (F.scene host.old).folder_faults (F.scene host.new).folder_faults }
+    ensures memory { result ≡ Err Fault.NoMemory → NoneFails F.tells (F.scene host.old) (F.scene host.new) }
     ensures reads { Reads F.tells (F.scene host.old) (F.scene host.new) }
     ensures none { OnOk result (NoneFails F.tells (F.scene host.old) (F.scene host.new)) }
     ensures calls { CallsAtMost F.tells (F.scene host.old) (F.scene host.new) 1 }

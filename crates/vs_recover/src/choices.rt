@@ -1,113 +1,23 @@
 // Which text is recovered, or which swap file is salvaged.
-ghost use Rattle.std.specs.Prelude.{◌≡◌, ◌≢◌, ◌≤◌, ◌<◌, ◌*◌, ◌^◌, ℕ, List, IfOk, IsTrue, IsSome, Err, length, take, OnOk};
+ghost use Rattle.std.specs.Prelude.{◌≡◌, ◌≢◌, ◌≤◌, ◌+◌, IfOk, OnOk, IsTrue, Err};
 ghost use Rattle.vs_faults.specs.Faults.{HasRisen};
 ghost use Rattle.vs_host.specs.World.{content_of};
-ghost use Rattle.vs_recover.specs.Files.{IsFile};
-ghost use Rattle.vs_zero.specs.Zero.{reading_of};
-ghost use Rattle.vs_recover.specs.Choices.{IsChoice, IsVersion, Recovers, newer, refused_root, root_chosen, root_in, root_of, root_reads, version_of};
-ghost use Rattle.vs_recover.specs.Reading.{IsThere, NoneFails, Reads};
+ghost use Rattle.vs_recover.specs.Choices.{IsChoice, IsFound, root_chosen};
+ghost use Rattle.vs_recover.specs.Reading.{CallsAtMost, NoneFails, Reads, blocks_of};
 
-use crate::calls::{has_file, read_part};
 use crate::error::error_of;
-use crate::image::{Image, Opening, find_image, read_opening};
+use crate::newest::{find_opening, read_newer};
+use crate::roots::{Root, Roots, read_roots};
 use crate::{Fault, RecErr};
 use std::alloc::Global;
 use vs_host::{Folder, Names};
-use vs_ptr::PtrView;
 use vs_text::Text;
-use vs_zero::ZeroErr;
-
-/// The text that a file stands for.
-#[derive(Debug, Drop)]
-pub struct Version {
-    pub generation: u64,
-    pub text: Text,
-}
 
 /// One of the two swap files.
 #[derive(Clone, Copy, Debug, PartialEq, Eq)]
 pub enum Swap {
     Swp,
     Swo,
-}
-
-/// What page 0 and block 1 of a swap file read as.
-#[derive(Clone, Copy, Debug, PartialEq, Eq)]
-pub enum Root {
-    /// There is no such file.
-    Absent,
-    /// Page 0 is that of an encrypted file.
-    Encrypted,
-    /// Page 0 does not read.
-    Foreign,
-    /// Page 0 reads, and block 1 is no pointer block.
-    NoTree,
-    /// Page 0 reads, and block 1 is a pointer block.
-    Tree,
-}
-
-// What a file stands for, where it does.
-fn version_of(image: Image) -> Option<Version>
-    ensures { result ≡ version_of image }
-{
-    match image {
-        Image::Standing { generation, text } => Some(Version { generation, text }),
-        Image::Open { .. } | Image::Closed | Image::Encrypted | Image::NoSwapFile => None,
-    }
-}
-
-// What the file under a name stands for, where it is there and stands.
-fn read_version<F: Folder>(
-    alloc: Global,
-    host: &mut F,
-    name: &str,
-) -> Result<Option<Version>, Fault>
-    ensures version { IfOk result (λ found. IsTrue F.tells.folder → IsVersion (content_of (F.scene host.old) name.now) found) }
-    ensures later { (F.scene host.old).folder_faults ≤ (F.scene host.new).folder_faults }
-    ensures failed { result ≡ Err Fault.Failed → HasRisen (F.scene host.old).folder_faults (F.scene host.new).folder_faults }
-    ensures reads { Reads F.tells (F.scene host.old) (F.scene host.new) }
-    ensures none { OnOk result (NoneFails F.tells (F.scene host.old) (F.scene host.new)) }
-{
-    if !has_file(host, name)? {
-        return Ok(None);
-    }
-    let image = find_image(alloc, host, name)?;
-    Ok(version_of(image))
-}
-
-// The text with the greater generation, and the first one at a tie.
-fn newer(first: Option<Version>, second: Option<Version>) -> Option<Text>
-    ensures { result ≡ newer first second }
-{
-    let Some(first) = first else {
-        return Some(second?.text);
-    };
-    let Some(second) = second else {
-        return Some(first.text);
-    };
-    if first.generation < second.generation {
-        return Some(second.text);
-    }
-    Some(first.text)
-}
-
-/// The text of the newer of two swap files that stand, and of the first at a tie; None where neither stands.
-pub fn recover<F: Folder>(
-    alloc: Global,
-    host: &mut F,
-    swp: &str,
-    swo: &str,
-) -> Result<Option<Text>, Fault>
-    ensures text { IfOk result (λ found. IsTrue F.tells.folder → Recovers (content_of (F.scene host.old) swp.now) (content_of (F.scene host.old) swo.now) found) }
-    ensures later { (F.scene host.old).folder_faults ≤ (F.scene host.new).folder_faults }
-    ensures failed { result ≡ Err Fault.Failed → HasRisen (F.scene host.old).folder_faults (F.scene host.new).folder_faults }
-    ensures reads { Reads F.tells (F.scene host.old) (F.scene host.new) }
-    ensures none { OnOk result (NoneFails F.tells (F.scene host.old) (F.scene host.new)) }
-{
-    let first = read_version(alloc, host, swp)?;
-    let second = read_version(alloc, host, swo)?;
-    let found = newer(first, second);
-    Ok(found)
 }
 
 // The file to salvage of two, or why there is none.
@@ -132,104 +42,32 @@ pub enum Chosen {
     Salvage(Swap),
 }
 
-// Whether block 1 of the file reads as a pointer block, where pages have this size.
-fn reads_root<F: Folder>(
-    alloc: Global,
-    host: &mut F,
-    name: &str,
-    len: u64,
-    size: u32,
-) -> Result<bool, Fault>
-    requires len { IsThere F.tells (F.scene host.old) name.now (λ file. len ≡ length file) }
-    ensures value { IfOk result (λ reads. (file : List ℕ) → IsFile F.tells (F.scene host.old) name.now file → reads ≡ root_reads file size) }
+/// What the two swap files give.
+#[derive(Drop)]
+pub enum Found {
+    /// One of them stands.
+    Text(Text),
+    /// Neither stands.
+    Roots(Roots),
+}
+
+// The text of the newer file that stands, or else what page 0 and block 1 of both files read as.
+fn find<F: Folder>(alloc: Global, host: &mut F, swp: &str, swo: &str) -> Result<Found, Fault>
+    ensures found { IfOk result (λ found. IsTrue F.tells.folder → IsFound (content_of (F.scene host.old) swp.now) (content_of (F.scene host.old) swo.now) found) }
     ensures later { (F.scene host.old).folder_faults ≤ (F.scene host.new).folder_faults }
     ensures failed { result ≡ Err Fault.Failed → HasRisen (F.scene host.old).folder_faults (F.scene host.new).folder_faults }
+    ensures memory { result ≡ Err Fault.NoMemory → NoneFails F.tells (F.scene host.old) (F.scene host.new) }
     ensures reads { Reads F.tells (F.scene host.old) (F.scene host.new) }
     ensures none { OnOk result (NoneFails F.tells (F.scene host.old) (F.scene host.new)) }
+    ensures calls { CallsAtMost F.tells (F.scene host.old) (F.scene host.new) (8 + blocks_of (content_of (F.scene host.old) swp.now) + blocks_of (content_of (F.scene host.old) swo.now)) }
 {
-    let at = u64::from(size);
-    if 2 * at > len {
-        return Ok(false);
+    let first = find_opening(alloc, host, swp)?;
+    let second = find_opening(alloc, host, swo)?;
+    if let Some(text) = read_newer(alloc, host, swp, &first, swo, &second)? {
+        return Ok(Found::Text(text));
     }
-    let mut block = vec![in alloc; 0u8; size as usize]?;
-    read_part(host, name, at, &mut block)?;
-    let view = PtrView::read(&block);
-    Ok(view.is_ok())
-}
-
-// The root of a file whose page 0 does not read.
-fn refused_root(why: ZeroErr) -> Root
-    ensures { result ≡ refused_root why }
-{
-    match why {
-        ZeroErr::Encrypted => Root::Encrypted,
-        ZeroErr::Short | ZeroErr::Closed | ZeroErr::BadMagic | ZeroErr::BadPageSize(_) =>
-            Root::Foreign,
-    }
-}
-
-// What page 0 and block 1 of a file read as, whose page 0 was read.
-fn opened_root<F: Folder>(
-    alloc: Global,
-    host: &mut F,
-    name: &str,
-    opening: &Opening,
-) -> Result<Root, Fault>
-    requires len { IsThere F.tells (F.scene host.old) name.now (λ file. opening.now.len ≡ length file) }
-    requires zero { (file : List ℕ) → IsFile F.tells (F.scene host.old) name.now file → opening.now.zero ≡ reading_of (take 4096 file) }
-    ensures root { IfOk result (λ root. (file : List ℕ) → IsFile F.tells (F.scene host.old) name.now file → root ≡ root_in file (reading_of (take 4096 file))) }
-    ensures later { (F.scene host.old).folder_faults ≤ (F.scene host.new).folder_faults }
-    ensures failed { result ≡ Err Fault.Failed → HasRisen (F.scene host.old).folder_faults (F.scene host.new).folder_faults }
-    ensures reads { Reads F.tells (F.scene host.old) (F.scene host.new) }
-    ensures none { OnOk result (NoneFails F.tells (F.scene host.old) (F.scene host.new)) }
-{
-    let zero = match opening.zero {
-        Ok(zero) => zero,
-        Err(why) => return Ok(refused_root(why)),
-    };
-    if reads_root(alloc, host, name, opening.len, zero.page_size)? {
-        return Ok(Root::Tree);
-    }
-    Ok(Root::NoTree)
-}
-
-// What page 0 and block 1 of the file under a name read as.
-fn read_root<F: Folder>(alloc: Global, host: &mut F, name: &str) -> Result<Root, Fault>
-    ensures root { IfOk result (λ root. IsTrue F.tells.folder → root ≡ root_of (content_of (F.scene host.old) name.now)) }
-    ensures later { (F.scene host.old).folder_faults ≤ (F.scene host.new).folder_faults }
-    ensures failed { result ≡ Err Fault.Failed → HasRisen (F.scene host.old).folder_faults (F.scene host.new).folder_faults }
-    ensures reads { Reads F.tells (F.scene host.old) (F.scene host.new) }
-    ensures none { OnOk result (NoneFails F.tells (F.scene host.old) (F.scene host.new)) }
-{
-    if !has_file(host, name)? {
-        return Ok(Root::Absent);
-    }
-    let opening = read_opening(alloc, host, name)?;
-    let root = opened_root(alloc, host, name, &opening)?;
-    Ok(root)
-}
-
-// What page 0 and block 1 of both swap files read as.
-#[derive(Clone, Copy)]
-struct Roots {
-    swp: Root,
-    swo: Root,
-}
-
-fn read_roots<F: Folder>(alloc: Global, host: &mut F, swp: &str, swo: &str) -> Result<Roots, Fault>
-    ensures swp { IfOk result (λ roots. IsTrue F.tells.folder → roots.swp ≡ root_of (content_of (F.scene host.old) swp.now)) }
-    ensures swo { IfOk result (λ roots. IsTrue F.tells.folder → roots.swo ≡ root_of (content_of (F.scene host.old) swo.now)) }
-    ensures later { (F.scene host.old).folder_faults ≤ (F.scene host.new).folder_faults }
-    ensures failed { result ≡ Err Fault.Failed → HasRisen (F.scene host.old).folder_faults (F.scene host.new).folder_faults }
-    ensures reads { Reads F.tells (F.scene host.old) (F.scene host.new) }
-    ensures none { OnOk result (NoneFails F.tells (F.scene host.old) (F.scene host.new)) }
-{
-    let first = read_root(alloc, host, swp)?;
-    let second = read_root(alloc, host, swo)?;
-    Ok(Roots {
-        swp: first,
-        swo: second,
-    })
+    let roots = read_roots(alloc, host, swp, &first, swo, &second)?;
+    Ok(Found::Roots(roots))
 }
 
 // The text of the newer file that stands, or else the first file whose page 0 and block 1 read.
@@ -238,32 +76,31 @@ fn choose_of<F: Folder>(alloc: Global, host: &mut F, swp: &str, swo: &str) -> Re
     ensures later { (F.scene host.old).folder_faults ≤ (F.scene host.new).folder_faults }
     ensures failed { result ≡ Err RecErr.Failed → HasRisen (F.scene host.old).folder_faults (F.scene host.new).folder_faults }
     ensures reads { Reads F.tells (F.scene host.old) (F.scene host.new) }
-    ensures none { OnOk result (NoneFails F.tells (F.scene host.old) (F.scene host.new)) }
+    ensures none { result ≢ Err RecErr.Failed → NoneFails F.tells (F.scene host.old) (F.scene host.new) }
+    ensures calls { CallsAtMost F.tells (F.scene host.old) (F.scene host.new) (8 + blocks_of (content_of (F.scene host.old) swp.now) + blocks_of (content_of (F.scene host.old) swo.now)) }
 {
-    let found = match recover(alloc, host, swp, swo) {
+    let found = match find(alloc, host, swp, swo) {
         Ok(found) => found,
         Err(fault) => return Err(error_of(fault)),
     };
-    if let Some(text) = found {
-        return Ok(Chosen::Text(text));
-    }
-    let roots = match read_roots(alloc, host, swp, swo) {
-        Ok(roots) => roots,
-        Err(fault) => return Err(error_of(fault)),
-    };
-    match choose_root(roots.swp, roots.swo) {
-        Ok(which) => Ok(Chosen::Salvage(which)),
-        Err(why) => Err(why),
+    match found {
+        Found::Text(text) => Ok(Chosen::Text(text)),
+        Found::Roots(roots) => match choose_root(roots.swp, roots.swo) {
+            Ok(which) => Ok(Chosen::Salvage(which)),
+            Err(why) => Err(why),
+        },
     }
 }
 
-/// What a user gets from the two swap files: docs/FORMATS.md, "Standing, choosing, info". The folder is only read.
+/// What a user gets from the two swap files: docs/FORMATS.md, "Standing, choosing, info". The folder is only read,
+/// with at most four calls for each of the two names and one for each page that follows page 0 of its file.
 pub fn choose<F: Folder>(alloc: Global, host: &mut F, names: &Names) -> Result<Chosen, RecErr>
     ensures answer { IsTrue F.tells.folder → IsChoice (content_of (F.scene host.old) names.now.swp) (content_of (F.scene host.old) names.now.swo) result }
     ensures later { (F.scene host.old).folder_faults ≤ (F.scene host.new).folder_faults }
     ensures failed { result ≡ Err RecErr.Failed → HasRisen (F.scene host.old).folder_faults (F.scene host.new).folder_faults }
     ensures reads { Reads F.tells (F.scene host.old) (F.scene host.new) }
-    ensures none { OnOk result (NoneFails F.tells (F.scene host.old) (F.scene host.new)) }
+    ensures none { result ≢ Err RecErr.Failed → NoneFails F.tells (F.scene host.old) (F.scene host.new) }
+    ensures calls { CallsAtMost F.tells (F.scene host.old) (F.scene host.new) (8 + blocks_of (content_of (F.scene host.old) names.now.swp) + blocks_of (content_of (F.scene host.old) names.now.swo)) }
 {
     choose_of(alloc, host, names.swp.as_str(), names.swo.as_str())
 }

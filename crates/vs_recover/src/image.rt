@@ -1,5 +1,5 @@
 // What one swap file is.
-ghost use Rattle.std.specs.Prelude.{◌≡◌, ◌≤◌, ◌<◌, ◌+◌, ◌-◌, ◌/◌, ℕ, List, IfOk, IfErr, OnOk, IsTrue, IsSome, Ok, Err, length, max, take};
+ghost use Rattle.std.specs.Prelude.{◌≡◌, ◌≢◌, ◌≤◌, ◌<◌, ◌+◌, ◌-◌, ◌/◌, ℕ, List, IfOk, IfErr, OnOk, IsTrue, IsSome, Ok, Err, length, max, take};
 ghost use Rattle.vs_faults.specs.Faults.{HasRisen};
 ghost use Rattle.vs_host.specs.World.{content_of};
 ghost use Rattle.vs_zero.specs.Zero.{reading_of};
@@ -63,6 +63,7 @@ fn read_head<F: Folder>(alloc: Global, host: &mut F, name: &str, len: u64) -> Re
     ensures value { IfOk result (λ head. (file : List ℕ) → IsFile F.tells (F.scene host.old) name.now file → head.items ≡ take 4096 file) }
     ensures later { (F.scene host.old).folder_faults ≤ (F.scene host.new).folder_faults }
     ensures failed { result ≡ Err Fault.Failed → HasRisen (F.scene host.old).folder_faults (F.scene host.new).folder_faults }
+    ensures memory { result ≡ Err Fault.NoMemory → NoneFails F.tells (F.scene host.old) (F.scene host.new) }
     ensures reads { Reads F.tells (F.scene host.old) (F.scene host.new) }
     ensures none { OnOk result (NoneFails F.tells (F.scene host.old) (F.scene host.new)) }
     ensures calls { CallsAtMost F.tells (F.scene host.old) (F.scene host.new) 1 }
@@ -80,6 +81,7 @@ pub fn read_opening<F: Folder>(alloc: Global, host: &mut F, name: &str) -> Resul
     ensures zero { IfOk result (λ opening. (file : List ℕ) → IsFile F.tells (F.scene host.old) name.now file → opening.zero ≡ reading_of (take 4096 file)) }
     ensures later { (F.scene host.old).folder_faults ≤ (F.scene host.new).folder_faults }
     ensures failed { result ≡ Err Fault.Failed → HasRisen (F.scene host.old).folder_faults (F.scene host.new).folder_faults }
+    ensures memory { result ≡ Err Fault.NoMemory → NoneFails F.tells (F.scene host.old) (F.scene host.new) }
     ensures reads { Reads F.tells (F.scene host.old) (F.scene host.new) }
     ensures none { OnOk result (NoneFails F.tells (F.scene host.old) (F.scene host.new)) }
     ensures calls { CallsAtMost F.tells (F.scene host.old) (F.scene host.new) 2 }
@@ -101,8 +103,8 @@ fn refused_image(why: ZeroErr) -> Image
     }
 }
 
-// What a file is whose page 0 reads.
-fn read_open<F: Folder>(
+/// What a file is whose page 0 reads.
+pub fn read_open<F: Folder>(
     alloc: Global,
     host: &mut F,
     name: &str,
@@ -114,6 +116,7 @@ fn read_open<F: Folder>(
     ensures image { IfOk result (λ image. (file : List ℕ) → IsFile F.tells (F.scene host.old) name.now file → IsImage file image) }
     ensures later { (F.scene host.old).folder_faults ≤ (F.scene host.new).folder_faults }
     ensures failed { result ≡ Err Fault.Failed → HasRisen (F.scene host.old).folder_faults (F.scene host.new).folder_faults }
+    ensures memory { result ≡ Err Fault.NoMemory → NoneFails F.tells (F.scene host.old) (F.scene host.new) }
     ensures reads { Reads F.tells (F.scene host.old) (F.scene host.new) }
     ensures none { OnOk result (NoneFails F.tells (F.scene host.old) (F.scene host.new)) }
     ensures calls { CallsAtMost F.tells (F.scene host.old) (F.scene host.new) (len / 4096 - 1) }
@@ -143,6 +146,7 @@ pub fn find_image<F: Folder>(alloc: Global, host: &mut F, name: &str) -> Result<
     ensures image { IfOk result (λ image. (file : List ℕ) → IsFile F.tells (F.scene host.old) name.now file → IsImage file image) }
     ensures later { (F.scene host.old).folder_faults ≤ (F.scene host.new).folder_faults }
     ensures failed { result ≡ Err Fault.Failed → HasRisen (F.scene host.old).folder_faults (F.scene host.new).folder_faults }
+    ensures memory { result ≡ Err Fault.NoMemory → NoneFails F.tells (F.scene host.old) (F.scene host.new) }
     ensures reads { Reads F.tells (F.scene host.old) (F.scene host.new) }
     ensures none { OnOk result (NoneFails F.tells (F.scene host.old) (F.scene host.new)) }
     ensures calls { (file : List ℕ) → IsFile F.tells (F.scene host.old) name.now file → CallsAtMost F.tells (F.scene host.old) (F.scene host.new) (1 + max 1 (length file / 4096)) }
@@ -166,7 +170,7 @@ pub fn read_image<F: Folder>(alloc: Global, host: &mut F, swap: &str) -> Result<
     ensures later { (F.scene host.old).folder_faults ≤ (F.scene host.new).folder_faults }
     ensures failed { result ≡ Err RecErr.Failed → HasRisen (F.scene host.old).folder_faults (F.scene host.new).folder_faults }
     ensures reads { Reads F.tells (F.scene host.old) (F.scene host.new) }
-    ensures none { OnOk result (NoneFails F.tells (F.scene host.old) (F.scene host.new)) }
+    ensures none { result ≢ Err RecErr.Failed → NoneFails F.tells (F.scene host.old) (F.scene host.new) }
     ensures calls { (file : List ℕ) → IsFile F.tells (F.scene host.old) swap.now file → CallsAtMost F.tells (F.scene host.old) (F.scene host.new) (1 + max 1 (length file / 4096)) }
 {
     match find_image(alloc, host, swap) {

@@ -47,6 +47,7 @@ pub fn file_info<F: Folder>(alloc: Global, host: &mut F, name: &str) -> Result<S
     ensures info { IfOk result (λ line. IsTrue F.tells.folder → IsInfo (content_of (F.scene host.old) name.now) name.now (string_bytes line)) }
     ensures later { (F.scene host.old).folder_faults ≤ (F.scene host.new).folder_faults }
     ensures failed { result ≡ Err Fault.Failed → HasRisen (F.scene host.old).folder_faults (F.scene host.new).folder_faults }
+    ensures memory { result ≡ Err Fault.NoMemory → NoneFails F.tells (F.scene host.old) (F.scene host.new) }
     ensures frame { ReadsFolder (F.scene host.old) (F.scene host.new) }
     ensures reads { Reads F.tells (F.scene host.old) (F.scene host.new) }
     ensures none { OnOk result (NoneFails F.tells (F.scene host.old) (F.scene host.new)) }
@@ -75,7 +76,7 @@ fn info_of<F: Folder>(alloc: Global, host: &mut F, swp: &str, swo: &str) -> Resu
     ensures later { (F.scene host.old).folder_faults ≤ (F.scene host.new).folder_faults }
     ensures failed { result ≡ Err RecErr.Failed → HasRisen (F.scene host.old).folder_faults (F.scene host.new).folder_faults }
     ensures reads { Reads F.tells (F.scene host.old) (F.scene host.new) }
-    ensures none { OnOk result (NoneFails F.tells (F.scene host.old) (F.scene host.new)) }
+    ensures none { result ≢ Err RecErr.Failed → NoneFails F.tells (F.scene host.old) (F.scene host.new) }
 {
     let first = match file_info(alloc, host, swp) {
         Ok(first) => first,
@@ -101,7 +102,7 @@ pub fn info<F: Folder>(alloc: Global, host: &mut F, names: &Names) -> Result<Vec
     ensures later { (F.scene host.old).folder_faults ≤ (F.scene host.new).folder_faults }
     ensures failed { result ≡ Err RecErr.Failed → HasRisen (F.scene host.old).folder_faults (F.scene host.new).folder_faults }
     ensures reads { Reads F.tells (F.scene host.old) (F.scene host.new) }
-    ensures none { OnOk result (NoneFails F.tells (F.scene host.old) (F.scene host.new)) }
+    ensures none { result ≢ Err RecErr.Failed → NoneFails F.tells (F.scene host.old) (F.scene host.new) }
 {
     info_of(alloc, host, names.swp.as_str(), names.swo.as_str())
 }

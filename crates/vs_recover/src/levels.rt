@@ -46,6 +46,7 @@ fn open_level<F: Folder>(
         → Clashes (λ k. used_in marks.old k) (chained (Some points.items) (opened swap_format (pages_in file) others.now)))) }
     ensures later { (F.scene host.old).folder_faults ≤ (F.scene host.new).folder_faults }
     ensures failed { result ≡ Err Fault.Failed → HasRisen (F.scene host.old).folder_faults (F.scene host.new).folder_faults }
+    ensures memory { result ≡ Err Fault.NoMemory → NoneFails F.tells (F.scene host.old) (F.scene host.new) }
     ensures reads { Reads F.tells (F.scene host.old) (F.scene host.new) }
     ensures none { OnOk result (NoneFails F.tells (F.scene host.old) (F.scene host.new)) }
     ensures calls { CallsAtMost F.tells (F.scene host.old) (F.scene host.new) (length others.now) }
@@ -83,6 +84,7 @@ fn gather_level<F: Folder>(
         → Gives (chained (Some first.items) (plain (gathered swap_format (pages_in file) others.now))) found) }
     ensures later { (F.scene host.old).folder_faults ≤ (F.scene host.new).folder_faults }
     ensures failed { result ≡ Err Fault.Failed → HasRisen (F.scene host.old).folder_faults (F.scene host.new).folder_faults }
+    ensures memory { result ≡ Err Fault.NoMemory → NoneFails F.tells (F.scene host.old) (F.scene host.new) }
     ensures reads { Reads F.tells (F.scene host.old) (F.scene host.new) }
     ensures none { OnOk result (NoneFails F.tells (F.scene host.old) (F.scene host.new)) }
     ensures calls { CallsAtMost F.tells (F.scene host.old) (F.scene host.new) (length others.now) }
@@ -115,6 +117,7 @@ pub fn read_level<F: Folder>(
     ensures marked { IfOk result (MarksBelow marks.old marks.new) }
     ensures later { (F.scene host.old).folder_faults ≤ (F.scene host.new).folder_faults }
     ensures failed { result ≡ Err Fault.Failed → HasRisen (F.scene host.old).folder_faults (F.scene host.new).folder_faults }
+    ensures memory { result ≡ Err Fault.NoMemory → NoneFails F.tells (F.scene host.old) (F.scene host.new) }
     ensures reads { Reads F.tells (F.scene host.old) (F.scene host.new) }
     ensures none { OnOk result (NoneFails F.tells (F.scene host.old) (F.scene host.new)) }
     ensures calls { CallsAtMost F.tells (F.scene host.old) (F.scene host.new) (1 + length others.now) }

@@ -9,9 +9,12 @@ mod image;
 mod infos;
 mod levels;
 mod marks;
+mod newest;
+mod roots;
 mod tree;
 
-pub use choices::{Chosen, Root, Swap, choose};
+pub use choices::{Chosen, Swap, choose};
 pub use error::{Fault, RecErr};
 pub use image::{Image, read_image};
 pub use infos::info;
+pub use roots::Root;

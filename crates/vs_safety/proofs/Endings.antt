@@ -7,18 +7,29 @@ use Rattle.vs_host.specs.Trace.{WroteOutput, Snapshot, Each}
 use Rattle.vs_host.specs.World.{Scene, IsRecorded, LeavesTrace, snapshot_of}
 use Rattle.vs_host.specs.declared.names.Names.{Names}
 use Rattle.vs_disk.specs.Names.{SameAt}
+use Rattle.std.specs.Prelude.{None}
 use Rattle.vs_disk.specs.Runs.{Inside}
 use Rattle.vs_disk.proofs.Runs.{Each-append, Each-weaker}
-use Rattle.vs_disk.proofs.Others.{same_none, same_then}
+use Rattle.vs_disk.proofs.Others.{same_then}
+use Rattle.vs_pair.proofs.MadeFiles.{same_weaker}
 use Rattle.vs_pair.specs.Pair.{Image, NoneThere, is_foreign}
 use Rattle.vs_safety.specs.Texts.{Text, recoverable, Recovers, RecoversOrNone, IsBetween}
-use Rattle.vs_safety.specs.Turns.{Turn, Ran, quit_run, all_turns, behind, all_written, after_turns, opened, replies, quit_line}
-use Rattle.vs_safety.specs.Stretches.{HasStretch}
+use Rattle.vs_safety.specs.Turns.{Turn, Ran, quit_run, all_turns, behind, all_written, after_turns, opened, replies, quit_line, SparesOthers}
+use Rattle.vs_safety.specs.Stretches.{HasStretch, IsShorter}
 use Rattle.vs_safety.specs.Safety.{IsFirstPart, opened_at, IsSafe, IsCrashSafe, Spares, Works, Writes}
-use Rattle.vs_safety.specs.Going.{Sound, Course, HasEnded, Opened, Going, Halted}
+use Rattle.vs_safety.specs.Going.{Sound, Course, HasEnded, Opened, Going, Halted, IsStill}
 use Rattle.vs_safety.proofs.Texts.{or_none, between_recovers}
 use Rattle.vs_safety.proofs.Splits.{each_weaker}
 use Rattle.vs_safety.proofs.Moments.{part_same, part_of, part_then, ended_stretch, total, kept_before, kept_whole, course_more, works_sound, shorter}
+
+-- ---- names of others
+
+-- work that writes no file
+spared_on : (names : Names) (turns : List Turn) (start old new : Disk) → SparesOthers names turns start old → SameAt (is_foreign names) old new → SparesOthers names turns start new
+spared_on names turns start old new spared same inside foreign all = same_then inside start old new (spared inside foreign all) (same_weaker (is_foreign names) inside old new foreign same)
+
+spared_none : (names : Names) (old new : Disk) → SameAt (is_foreign names) old new → SparesOthers names [] old new
+spared_none names old new same inside foreign all = same_weaker (is_foreign names) inside old new foreign same
 
 -- ---- the promise of a run that stopped
 
@@ -35,7 +46,7 @@ halted_safe names start now ran none halted = record {
   added = halted.course.added;
   at_start = halted.course.at_start;
   safe = Each-weaker (Sound names start now ran.text ran.opening (all_turns ran)) (IsSafe names start now ran)
-      (λ m sound. record { output = sound.output; kept = inl sound.kept; spared = sound.spared }) halted.moments halted.course.sound;
+      (λ m sound. record { output = sound.output; kept = inl sound.kept }) halted.moments halted.course.sound;
   output = part_then now.output _ (start.output ++ all_written ran) halted.output (part_of _ _ (sym (plain_output start ran.opening (replies (all_turns ran)) ran refl refl none)));
   stretches = halted.stretches;
 }
@@ -46,26 +57,28 @@ module _ (names : Names) (start : Scene) (text : Text) (opening : List ℕ) (som
   or_none_one : Disk → Type 0
   or_none_one disk = RecoversOrNone names (text ∷ []) disk
 
-  opening_course : (now : Scene) → RecoversOrNone names (text ∷ []) start.folder → (works : Works names (RecoversOrNone names (text ∷ [])) start now) → Course names start now text opening [] works.moments.added
-  opening_course now at_start works = record {
+  opening_course : (now : Scene) → start.folder.pending ≡ [] → RecoversOrNone names (text ∷ []) start.folder → (works : Works names None (RecoversOrNone names (text ∷ [])) start now) → Course names start now text opening [] works.moments.added
+  opening_course now settled at_start works = record {
     added = works.moments.is;
     at_start = at_start;
-    sound = works_sound names start text opening (RecoversOrNone names (text ∷ [])) start now [] (same_none (is_foreign names) start.folder)
-        (λ m same all. kept_before names start text opening [] m (omega (arith, same, some)) all) works;
-    spared = works.spared;
+    settled = settled;
+    sound = works_sound names start text opening None (RecoversOrNone names (text ∷ [])) start now []
+        (λ m same all. kept_before names start text opening [] m (omega (arith, same, some)) all.folder all.spared) works;
+    spared = spared_none names start.folder now.folder works.spared;
   }
 
   -- the file was not opened
-  pub not_opened : (now : Scene) → RecoversOrNone names (text ∷ []) start.folder → Works names (RecoversOrNone names (text ∷ [])) start now → Halted names start now text opening []
-  not_opened now at_start works = record {
+  pub not_opened : (now : Scene) → start.folder.pending ≡ [] → RecoversOrNone names (text ∷ []) start.folder → Works names None (RecoversOrNone names (text ∷ [])) start now → Halted names start now text opening []
+  not_opened now settled at_start works = record {
     moments = works.moments.added;
-    course = opening_course now at_start works;
+    course = opening_course now settled at_start works;
     output = (opening ++ [], append_assoc start.output opening [] ∙ ap (λ (l : List ℕ). l ++ (opening ++ [])) (sym works.output));
     stretches = tt;
   }
 
-  pub opening_ends : (now : Scene) → RecoversOrNone names (text ∷ []) start.folder → Works names (RecoversOrNone names (text ∷ [])) start now → IsBetween names (opened text) now.folder → Opened names start now text opening
-  opening_ends now at_start works between = record { moments = works.moments.added; course = opening_course now at_start works; output = works.output; between = between }
+  pub opening_ends : (now : Scene) → start.folder.pending ≡ [] → RecoversOrNone names (text ∷ []) start.folder → Works names None (RecoversOrNone names (text ∷ [])) start now → IsBetween names (opened text) now.folder
+      → Opened names start now text opening
+  opening_ends now settled at_start works between = record { moments = works.moments.added; course = opening_course now settled at_start works; output = works.output; between = between }
 
   -- it was opened, and a call that comes before the reply had no memory
   pub opened_halts : (now : Scene) → Opened names start now text opening → Halted names start now text opening []
@@ -85,17 +98,16 @@ module _ (names : Names) (start : Scene) (text : Text) (opening : List ℕ) (som
     grown = ap (λ (l : List ℕ). length l) writes.output ∙ length-append now.output (take n opening)
         ∙ (λ i. length (opened_here.output i) + length-take n opening i)
 
-    spared : SameAt (is_foreign names) start.folder new.folder
-    spared = subst (λ (d : Disk). SameAt (is_foreign names) start.folder d) (sym writes.folder) opened_here.course.spared
+    spared : SparesOthers names [] start.folder new.folder
+    spared = subst (λ (d : Disk). SparesOthers names [] start.folder d) (sym writes.folder) opened_here.course.spared
 
     sound : Sound names start new text opening [] (snapshot_of new WroteOutput [])
     sound = record {
       output = part_same new.output;
       kept = elim (cases_lt (length new.output) (opened_at start opening)) [
-        | inl lt ↦ kept_before names start text opening [] (snapshot_of new WroteOutput []) lt (or_none names (text ∷ []) new.folder all_recovers)
-        | inr le ↦ kept_whole names start text opening [] (snapshot_of new WroteOutput []) (omega (arith, le)) all_recovers
+        | inl lt ↦ kept_before names start text opening [] (snapshot_of new WroteOutput []) lt (or_none names (text ∷ []) new.folder all_recovers) (spared (is_foreign names) (λ name is. is) tt)
+        | inr le ↦ kept_whole names start text opening [] (snapshot_of new WroteOutput []) (omega (arith, le)) all_recovers spared
       ];
-      spared = spared;
     }
 
     course_with : IsRecorded WroteOutput [] now new → Course names start new text opening [] (snapshot_of new WroteOutput [] ∷ opened_here.moments)
@@ -136,6 +148,11 @@ module _ (names : Names) (start : Scene) (text : Text) (opening : List ℕ) (som
           not_before = shorter names start text opening (length new.output) now [] opened_here.moments (omega (arith, grown, le, some, ap (λ (l : List ℕ). length l) opened_here.output)) opened_here.course;
         };
         state = refl;
+        still = (
+          λ le. refl,
+          Each-weaker (IsShorter (length new.output)) (IsStill new) (λ one less le. absurd (omega (arith, less, le))) opened_here.moments
+              (shorter names start text opening (length new.output) now [] opened_here.moments (omega (arith, grown, le, some, ap (λ (l : List ℕ). length l) opened_here.output)) opened_here.course),
+        );
         between = subst (λ (d : Disk). IsBetween names (opened text) d) (sym writes.folder) opened_here.between;
       }
     ]
@@ -168,13 +185,13 @@ module _ (names : Names) (start now : Scene) (text : Text) (opening : List ℕ) 
     at_start = going.course.at_start;
     safe = Each-append (IsSafe names start new ran) newer going.moments safe
         (Each-weaker (Sound names start now text opening turns) (IsSafe names start new ran)
-        (λ m sound. record { output = part_then m.output now.output new.output sound.output (take n quit_line, output); kept = inl sound.kept; spared = sound.spared }) going.moments going.course.sound);
+        (λ m sound. record { output = part_then m.output now.output new.output sound.output (take n quit_line, output); kept = inl sound.kept }) going.moments going.course.sound);
     output = output_is new n output;
     stretches = each_weaker (HasEnded names going.moments) (HasStretch names (newer ++ going.moments) new) (λ from to turn ended. ended_stretch names going.moments newer from to turn ended new) turns (opened_at start opening) going.ended;
   }
 
-  module _ (mid : Scene) (works : Works names left now mid) where
-    removing : (new : Scene) → IsFirstPart mid.output new.output → (m : Snapshot) → Inside mid (Spares names left now.folder) m → IsSafe names start new ran m
+  module _ (mid : Scene) (works : Works names None left now mid) where
+    removing : (new : Scene) → IsFirstPart mid.output new.output → (m : Snapshot) → Inside mid (Spares names None left now.folder) m → IsSafe names start new ran m
     removing new part m inside =
         let long : length m.output ≡ length now.output = ap (λ (l : List ℕ). length l) (inside.output ∙ works.output) in
         record {
@@ -184,14 +201,14 @@ module _ (names : Names) (start now : Scene) (text : Text) (opening : List ℕ) 
             whole = omega (arith, long, long_now);
             recovers = inside.folder.folder;
             gone = λ lt. absurd (omega (arith, lt, long, long_now));
+            spared = spared_on names turns start.folder now.folder m.folder going.course.spared inside.folder.spared;
           });
-          spared = same_then (is_foreign names) start.folder now.folder m.folder going.course.spared inside.folder.spared;
         }
 
     -- the run stops in the removal, or behind it
     pub quit_stops : IsCrashSafe names start mid ran
     quit_stops = leaves mid works.moments.added works.moments.is 0 (works.output ∙ sym (append-nil now.output))
-        (Each-weaker (Inside mid (Spares names left now.folder)) (IsSafe names start mid ran) (removing mid (part_same mid.output)) works.moments.added works.moments.each)
+        (Each-weaker (Inside mid (Spares names None left now.folder)) (IsSafe names start mid ran) (removing mid (part_same mid.output)) works.moments.added works.moments.each)
 
     -- and the last line is written, or a part of it
     pub quit_written : (new : Scene) (n : ℕ) → Writes n quit_line mid new → ((image : Image) → IsImage mid.folder image → NoneThere names image) → IsCrashSafe names start new ran
@@ -199,7 +216,7 @@ module _ (names : Names) (start now : Scene) (text : Text) (opening : List ℕ) 
         let output : new.output ≡ now.output ++ take n quit_line = writes.output ∙ ap (λ (l : List ℕ). l ++ take n quit_line) works.output in
         let part : IsFirstPart mid.output new.output = (take n quit_line, writes.output) in
         let before : Each (IsSafe names start new ran) works.moments.added =
-        Each-weaker (Inside mid (Spares names left now.folder)) (IsSafe names start new ran) (removing new part) works.moments.added works.moments.each in
+        Each-weaker (Inside mid (Spares names None left now.folder)) (IsSafe names start new ran) (removing new part) works.moments.added works.moments.each in
         let long : length now.output ≤ length new.output = omega (arith, ap (λ (l : List ℕ). length l) output, length-append now.output (take n quit_line)) in
         let none : (image : Image) → IsImage new.folder image → NoneThere names image = subst (λ (d : Disk). (image : Image) → IsImage d image → NoneThere names image) (sym writes.folder) gone in
         elim writes.added [
@@ -207,8 +224,13 @@ module _ (names : Names) (start now : Scene) (text : Text) (opening : List ℕ) 
           | inl told ↦ leaves new (snapshot_of new WroteOutput [] ∷ works.moments.added) (told ∙ ap (λ (ms : List Snapshot). snapshot_of new WroteOutput [] ∷ ms) works.moments.is) n output (
             record {
               output = part_same new.output;
-              kept = inr (record { quits = refl; whole = omega (arith, long, long_now); recovers = λ image whole. inl (none image whole); gone = λ lt. none });
-              spared = subst (λ (d : Disk). SameAt (is_foreign names) start.folder d) (sym writes.folder) (same_then (is_foreign names) start.folder now.folder mid.folder going.course.spared works.spared);
+              kept = inr (record {
+                quits = refl;
+                whole = omega (arith, long, long_now);
+                recovers = λ image whole. inl (none image whole);
+                gone = λ lt. none;
+                spared = subst (λ (d : Disk). SparesOthers names turns start.folder d) (sym writes.folder) (spared_on names turns start.folder now.folder mid.folder going.course.spared works.spared);
+              });
             },
             before,
           )

@@ -8,17 +8,16 @@ use Rattle.vs_host.specs.Disk.{Disk}
 use Rattle.vs_host.specs.Trace.{WroteOutput, Snapshot, Each}
 use Rattle.vs_host.specs.World.{Scene, IsRecorded, snapshot_of}
 use Rattle.vs_host.specs.declared.names.Names.{Names}
-use Rattle.vs_disk.specs.Names.{SameAt}
-use Rattle.vs_disk.proofs.Runs.{Each-weaker}
-use Rattle.vs_pair.specs.Pair.{is_foreign}
+use Rattle.vs_disk.proofs.Runs.{Each-append, Each-weaker}
 use Rattle.vs_safety.specs.Texts.{Text, Sync, recoverable, Recovers, IsFlag, IsBetween}
-use Rattle.vs_safety.specs.Turns.{Turn, with_sync, with_begun, after_turns, opened, replies}
-use Rattle.vs_safety.specs.Stretches.{IsFirst, State, state_now, EachTurn, HasStretch}
-use Rattle.vs_safety.specs.Safety.{IsFirstPart, opened_at, Looks, Writes, Stepped}
-use Rattle.vs_safety.specs.Going.{Sound, Course, HasEnded, Going, Stepping, Halted}
+use Rattle.vs_safety.specs.Writes.{State, state_in, state_now, HasWritten, IsWholeIn}
+use Rattle.vs_safety.specs.Turns.{Turn, with_sync, with_begun, after_turns, opened, replies, SparesOthers}
+use Rattle.vs_safety.specs.Stretches.{IsFirst, IsShorter, EachTurn, HasStretch}
+use Rattle.vs_safety.specs.Safety.{IsFirstPart, opened_at, Looks, Writes, Stepped, IsUnderWay, Spares}
+use Rattle.vs_safety.specs.Going.{Sound, Course, HasEnded, Going, Stepping, Halted, IsStill}
 use Rattle.vs_safety.proofs.Texts.{recovers_more, ended_within, between_recovers}
 use Rattle.vs_safety.proofs.Splits.{replies_push, after_push, long_push, each_weaker, each_push}
-use Rattle.vs_safety.proofs.Moments.{part_same, part_of, first_stays, ended_stays, ended_stretch, total, kept_whole, kept_part, course_more, course_push, works_sound, works_spared, shorter}
+use Rattle.vs_safety.proofs.Moments.{part_same, part_of, first_stays, ended_stays, ended_stretch, total, kept_whole, kept_part, course_more, course_push, works_sound, spared_step, written_found, shorter}
 
 module _ (names : Names) (start : Scene) (text : Text) (opening : List ℕ) where
   abbrev at : List Turn → ℕ
@@ -47,16 +46,19 @@ module _ (names : Names) (start : Scene) (text : Text) (opening : List ℕ) wher
             (λ m same. record {
               output = part_of m.output new.output (looks.output ∙ sym same.0);
               kept = kept_whole names start text opening turns m (omega (arith, long, ap (λ (l : List ℕ). length l) same.0))
-                  (subst (λ (d : Disk). Recovers names (recoverable (syncs turns)) d) (sym same.1) (between_recovers names (syncs turns) now.folder going.between));
-              spared = subst (λ (d : Disk). SameAt (is_foreign names) start.folder d) (sym same.1) going.course.spared;
+                  (subst (λ (d : Disk). Recovers names (recoverable (syncs turns)) d) (sym same.1) (between_recovers names (syncs turns) now.folder going.between))
+                  (subst (λ (d : Disk). SparesOthers names turns start.folder d) (sym same.1) going.course.spared);
             })
             newer looks.moments.each)
-            (subst (λ (d : Disk). SameAt (is_foreign names) start.folder d) (sym looks.folder) going.course.spared) going.course;
+            (subst (λ (d : Disk). SparesOthers names turns start.folder d) (sym looks.folder) going.course.spared) going.course;
         output = looks.output ∙ going.output;
         ended = ended_on going.moments newer turns going.ended;
         here = going.here;
         begins = subst (λ (l : List ℕ). IsFirst (length l) (newer ++ going.moments) going.here) (sym looks.output) (first_stays (length now.output) going.moments newer going.here going.begins);
         state = going.state ∙ (λ i. record { folder = sym looks.folder i; faults = sym looks.faults i });
+        still = Each-append (IsStill new) newer going.moments
+            (Each-weaker (λ m. (m.output ≡ now.output) × (m.folder ≡ now.folder)) (IsStill new) (λ m same le. same.1 ∙ sym looks.folder) newer looks.moments.each)
+            (Each-weaker (IsStill now) (IsStill new) (λ m still le. still (omega (arith, le, ap (λ (l : List ℕ). length l) looks.output)) ∙ sym looks.folder) going.moments going.still);
         between = subst (λ (d : Disk). IsBetween names (syncs turns) d) (sym looks.folder) going.between;
       }
 
@@ -77,19 +79,25 @@ module _ (names : Names) (start : Scene) (text : Text) (opening : List ℕ) wher
       let more : length now.output < at (turns ++ turn ∷ []) = omega (arith, long, long_push turn turns, some) in
       let folder : going.here.folder ≡ now.folder = ap (λ (s : State). s.folder) going.state in
       let faults : going.here.folder_faults ≡ now.folder_faults = ap (λ (s : State). s.faults) going.state in
+      let under : Disk → Type 0 = IsUnderWay names (with_begun turn.sync (syncs turns)) turn.write in
       record {
         moments = newer ++ going.moments;
         course = course_more names start text opening now new (turns ++ turn ∷ []) going.moments newer stepped.works.moments.is (part_of now.output new.output stepped.works.output)
-            (works_sound names start text opening (Recovers names (recoverable (with_begun turn.sync (syncs turns)))) now new (turns ++ turn ∷ []) going.course.spared
-            (λ m same all. kept_part names start text opening turn turns m (omega (arith, same, long)) (omega (arith, same, more)) all) stepped.works)
-            (works_spared names start text opening (Recovers names (recoverable (with_begun turn.sync (syncs turns)))) now new going.course.spared stepped.works)
-            (course_push names start text opening now turn turns going.moments more going.course);
+            (works_sound names start text opening turn.write under now new (turns ++ turn ∷ [])
+            (λ m same all. kept_part names start text opening turn turns m (omega (arith, same, long)) (omega (arith, same, more)) all.folder
+            (spared_step names turn turns start.folder now.folder m.folder going.course.settled going.course.spared all.spared)) stepped.works)
+            (spared_step names turn turns start.folder now.folder new.folder going.course.settled going.course.spared stepped.works.spared)
+            (course_push names start text opening now turn turns going.moments long more going.still
+            (written_found names turn.write turn.done (state_now now) (state_now new) stepped.wrote) going.course);
         output = stepped.works.output ∙ going.output;
         ended = ended_on going.moments newer turns going.ended;
         here = going.here;
         begins = subst (λ (l : List ℕ). IsFirst (length l) (newer ++ going.moments) going.here) (sym stepped.works.output) (first_stays (length now.output) going.moments newer going.here going.begins);
+        found = subst (λ (d : Disk). IfSome turn.found (λ found. found ≡ d)) (sym folder) stepped.found;
         flag = subst (λ (d : Disk). IfSome turn.sync (λ sync. IsFlag names turn.done d new.folder sync.acknowledged)) (sym folder) stepped.flag;
+        wrote = subst (λ (s : State). IfSome turn.write (λ write. HasWritten names write turn.done s (state_now new))) (sym going.state) stepped.wrote;
         cause = λ failed. subst (λ (n : ℕ). HasRisen n new.folder_faults) (sym faults) (stepped.cause failed);
+        whole = stepped.whole;
         between = stepped.between;
       }
 
@@ -115,11 +123,15 @@ module _ (names : Names) (start : Scene) (text : Text) (opening : List ℕ) wher
       output = part;
       kept = elim where_it_is [
         | inl lt ↦ kept_part names start text opening turn turns m (omega (arith, le, long_was)) lt
-            (subst (λ (d : Disk). Recovers names (recoverable (with_begun turn.sync (syncs turns))) d) (sym folder)
-            (recovers_more names _ _ now.folder (ended_within turn.sync (syncs turns)) (between_recovers names (with_sync turn.sync (syncs turns)) now.folder stepping.between)))
+            (record {
+              recovers = subst (λ (d : Disk). Recovers names (recoverable (with_begun turn.sync (syncs turns))) d) (sym folder)
+                  (recovers_more names _ _ now.folder (ended_within turn.sync (syncs turns)) (between_recovers names (with_sync turn.sync (syncs turns)) now.folder stepping.between));
+              whole = subst (λ (d : Disk). IfSome turn.write (λ write. IsWholeIn names write d)) (sym folder) stepping.whole;
+            })
+            (subst (λ (d : Disk). SparesOthers names more_turns start.folder d) (sym folder) stepping.course.spared)
         | inr ge ↦ kept_whole names start text opening more_turns m ge (subst (λ (d : Disk). Recovers names (recoverable (syncs more_turns)) d) (sym folder) (between_recovers names (syncs more_turns) now.folder between_now))
+            (subst (λ (d : Disk). SparesOthers names more_turns start.folder d) (sym folder) stepping.course.spared)
       ];
-      spared = subst (λ (d : Disk). SameAt (is_foreign names) start.folder d) (sym folder) stepping.course.spared;
     }
 
     -- it is whole
@@ -135,6 +147,7 @@ module _ (names : Names) (start : Scene) (text : Text) (opening : List ℕ) wher
         recorded : new.output ≡ now.output ++ turn.reply → length new.output ≡ length now.output + length turn.reply → IsRecorded WroteOutput [] now new → Going names start new text opening more_turns
         recorded output grown told =
             let m : Snapshot = snapshot_of new WroteOutput [] in
+            let same_state : state_now new ≡ state_now now = λ i. record { folder = writes.folder i; faults = writes.faults i } in
             let outputs : new.output ≡ (start.output ++ opening) ++ replies more_turns =
             output ∙ ap (λ (l : List ℕ). l ++ turn.reply) stepping.output ∙ append_assoc (start.output ++ opening) (replies turns) turn.reply
             ∙ ap (λ (l : List ℕ). (start.output ++ opening) ++ l) (sym (replies_push turn turns)) in
@@ -150,7 +163,7 @@ module _ (names : Names) (start : Scene) (text : Text) (opening : List ℕ) wher
               moments = m ∷ stepping.moments;
               course = course_more names start text opening now new more_turns stepping.moments (m ∷ []) told (turn.reply, output)
                   (sound_here m writes.folder (part_same new.output) (omega (arith, grown)) (inr (omega (arith, long))), tt)
-                  (subst (λ (d : Disk). SameAt (is_foreign names) start.folder d) (sym writes.folder) stepping.course.spared) stepping.course;
+                  (subst (λ (d : Disk). SparesOthers names more_turns start.folder d) (sym writes.folder) stepping.course.spared) stepping.course;
               output = outputs;
               ended = each_push (HasEnded names (m ∷ stepping.moments)) turn turns (opened_at start opening) (ended_on stepping.moments (m ∷ []) turns stepping.ended)
                   (record {
@@ -158,12 +171,19 @@ module _ (names : Names) (start : Scene) (text : Text) (opening : List ℕ) wher
                     last = m;
                     begins = subst (λ (n : ℕ). IsFirst n (m ∷ stepping.moments) stepping.here) long_was (first_stays (length now.output) stepping.moments (m ∷ []) stepping.here stepping.begins);
                     ends = subst (λ (n : ℕ). IsFirst n (m ∷ stepping.moments) m) long here;
+                    found = stepping.found;
                     flag = subst (λ (d : Disk). IfSome turn.sync (λ sync. IsFlag names turn.done stepping.here.folder d sync.acknowledged)) (sym writes.folder) stepping.flag;
+                    wrote = subst (λ (s : State). IfSome turn.write (λ write. HasWritten names write turn.done (state_in stepping.here) s)) (sym same_state) stepping.wrote;
                     cause = λ failed. subst (λ (n : ℕ). HasRisen stepping.here.folder_faults n) (sym writes.faults) (stepping.cause failed);
                   });
               here = m;
               begins = here;
               state = refl;
+              still = (
+                λ le. refl,
+                Each-weaker (IsShorter (length new.output)) (IsStill new) (λ one less le. absurd (omega (arith, less, le))) stepping.moments
+                    (shorter names start text opening (length new.output) now more_turns stepping.moments (omega (arith, grown, some)) stepping.course),
+              );
               between = subst (λ (d : Disk). IsBetween names (syncs more_turns) d) (sym writes.folder) between_now;
             }
 
@@ -176,7 +196,7 @@ module _ (names : Names) (start : Scene) (text : Text) (opening : List ℕ) wher
         course_more names start text opening now new more_turns stepping.moments newer is (take n turn.reply, output)
         (Each-weaker (λ m. (m.output ≡ new.output) × (m.folder ≡ now.folder)) (Sound names start new text opening more_turns)
         (λ m same. sound_here m same.1 (part_of m.output new.output (sym same.0)) (omega (arith, le, ap (λ (l : List ℕ). length l) same.0)) (inl (omega (arith, lt, ap (λ (l : List ℕ). length l) same.0)))) newer each)
-        (subst (λ (d : Disk). SameAt (is_foreign names) start.folder d) (sym folder) stepping.course.spared) stepping.course in
+        (subst (λ (d : Disk). SparesOthers names more_turns start.folder d) (sym folder) stepping.course.spared) stepping.course in
         record {
           moments = newer ++ stepping.moments;
           course = course;
@@ -192,7 +212,9 @@ module _ (names : Names) (start : Scene) (text : Text) (opening : List ℕ) wher
                 last = state_now new;
                 begins = subst (λ (k : ℕ). IsFirst k (newer ++ stepping.moments) stepping.here) long_was (first_stays (length now.output) stepping.moments newer stepping.here stepping.begins);
                 ends = inr (shorter names start text opening (at more_turns) new more_turns (newer ++ stepping.moments) lt course, refl);
+                found = stepping.found;
                 flag = subst (λ (d : Disk). IfSome turn.sync (λ sync. IsFlag names turn.done stepping.here.folder d sync.acknowledged)) (sym folder) stepping.flag;
+                wrote = subst (λ (s : State). IfSome turn.write (λ write. HasWritten names write turn.done (state_in stepping.here) s)) (λ i. record { folder = sym folder i; faults = sym faults i }) stepping.wrote;
                 cause = λ failed. subst (λ (k : ℕ). HasRisen stepping.here.folder_faults k) (sym faults) (stepping.cause failed);
               });
         }

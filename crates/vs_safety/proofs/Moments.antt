@@ -1,7 +1,8 @@
 -- What holds at the moments of a run goes on to hold while the trace and the output grow.
-use Rattle.std.proofs.Common.{◌≡◌, inl, ℕ, ◌+◌, ◌<◌, ◌≤◌, List, [], ◌∷◌, ◌++◌, length, length-append, refl, sym, ◌∙◌, ap, arith, append_assoc}
+use Rattle.std.proofs.Common.{◌≡◌, inl, inr, ℕ, ◌+◌, ◌<◌, ◌≤◌, List, [], ◌∷◌, ◌++◌, length, length-append, refl, sym, ◌∙◌, ap, subst, arith, append_assoc}
 use Rattle.std.proofs.lemmas.List.{append-nil}
-use Rattle.vs_host.specs.Disk.{Disk}
+use Rattle.std.specs.Prelude.{Bool, Option, Some, None, IfSome}
+use Rattle.vs_host.specs.Disk.{Disk, Name}
 use Rattle.vs_host.specs.Trace.{Snapshot, Each}
 use Rattle.vs_host.specs.World.{Scene}
 use Rattle.vs_host.specs.declared.names.Names.{Names}
@@ -10,12 +11,14 @@ use Rattle.vs_disk.specs.Runs.{Inside}
 use Rattle.vs_disk.proofs.Runs.{Each-append, Each-weaker}
 use Rattle.vs_disk.proofs.Others.{same_then}
 use Rattle.vs_pair.specs.Pair.{is_foreign}
+use Rattle.vs_pair.proofs.MadeFiles.{same_weaker}
 use Rattle.vs_safety.specs.Texts.{Text, recoverable, Recovers, RecoversOrNone}
-use Rattle.vs_safety.specs.Turns.{Turn, after_turns, with_begun, opened, replies}
-use Rattle.vs_safety.specs.Stretches.{IsShorter, IsFirst, state_in, HasStretch}
-use Rattle.vs_safety.specs.Safety.{IsFirstPart, opened_at, IsKept, Spares, Works}
-use Rattle.vs_safety.specs.Going.{Sound, Course, HasEnded}
-use Rattle.vs_safety.proofs.Splits.{allowed_push, allowed_whole, allowed_part}
+use Rattle.vs_safety.specs.Writes.{Write, Keeps, AreForeign, Avoids, IsWholeIn, State, state_in, HasWritten}
+use Rattle.vs_safety.specs.Turns.{Turn, after_turns, with_begun, opened, replies, AllAvoid, SparesOthers}
+use Rattle.vs_safety.specs.Stretches.{IsShorter, IsFirst, HasStretch}
+use Rattle.vs_safety.specs.Safety.{IsFirstPart, opened_at, IsKept, Spares, Works, IsUnderWay}
+use Rattle.vs_safety.specs.Going.{Sound, Course, HasEnded, IsStill}
+use Rattle.vs_safety.proofs.Splits.{allowed_push, allowed_whole, allowed_part, avoid_front, avoid_back, spared_front}
 
 -- ---- first parts
 
@@ -49,7 +52,9 @@ module _ (names : Names) (moments newer : List Snapshot) (from to : ℕ) (turn :
     last = ended.last;
     begins = first_stays from moments newer ended.first ended.begins;
     ends = first_stays to moments newer ended.last ended.ends;
+    found = ended.found;
     flag = ended.flag;
+    wrote = ended.wrote;
     cause = ended.cause;
   }
 
@@ -59,9 +64,37 @@ module _ (names : Names) (moments newer : List Snapshot) (from to : ℕ) (turn :
     last = state_in ended.last;
     begins = first_stays from moments newer ended.first ended.begins;
     ends = inl (ended.last, first_stays to moments newer ended.last ended.ends, refl);
+    found = ended.found;
     flag = ended.flag;
+    wrote = ended.wrote;
     cause = ended.cause;
   }
+
+-- ---- a write
+
+-- what was spared goes on to be spared, but for the names on which a command writes
+keeps_on : (names : Names) (write : Option Write) (start old new : Disk) (inside : Name → Bool) → start.pending ≡ [] → AreForeign names inside → IfSome write (λ w. Avoids names w inside)
+    → Keeps names write old new → SameAt inside start old → SameAt inside start new
+keeps_on names None start old new inside settled foreign avoids keeps same = same_then inside start old new same (same_weaker (is_foreign names) inside old new foreign keeps)
+keeps_on names (Some write) start old new inside settled foreign avoids keeps same = keeps inside start foreign avoids settled same
+
+pub spared_step : (names : Names) (turn : Turn) (turns : List Turn) (start old new : Disk) → start.pending ≡ [] → SparesOthers names turns start old → Keeps names turn.write old new
+    → SparesOthers names (turns ++ turn ∷ []) start new
+spared_step names turn turns start old new settled spared keeps inside foreign all =
+    keeps_on names turn.write start old new inside settled foreign (avoid_back names inside turns (turn ∷ []) all).0 keeps (spared inside foreign (avoid_front names inside turns (turn ∷ []) all))
+
+-- as it begins, nothing has changed
+pub whole_found : (names : Names) (write : Option Write) (folder : Disk) → IfSome write (λ w. w.found ≡ folder) → IfSome write (λ w. IsWholeIn names w folder)
+whole_found names None folder found = tt
+whole_found names (Some write) folder found = subst (λ (d : Disk). IsWholeIn names write d) found (record { backed = λ old backup is made. inl (λ image part. part); fresh = λ none left may. inr may })
+
+pub written_found : (names : Names) (write : Option Write) (done : Bool) (old new : State) → IfSome write (λ w. HasWritten names w done old new) → IfSome write (λ w. w.found ≡ old.folder)
+written_found names None done old new wrote = tt
+written_found names (Some write) done old new wrote = wrote.found
+
+each_both : (P Q : Snapshot → Type 0) (moments : List Snapshot) → Each P moments → Each Q moments → Each (λ m. P m × Q m) moments
+each_both P Q [] p q = tt
+each_both P Q (m ∷ moments) p q = ((p.0, q.0), each_both P Q moments p.1 q.1)
 
 -- ---- the moments of a run
 
@@ -69,71 +102,77 @@ module _ (names : Names) (start : Scene) (text : Text) (opening : List ℕ) wher
   abbrev pub total : List Turn → ℕ
   total turns = opened_at start opening + length (replies turns)
 
-  pub kept_before : (turns : List Turn) (m : Snapshot) → length m.output < opened_at start opening → RecoversOrNone names (text ∷ []) m.folder → IsKept names start text opening turns m
-  kept_before turns m lt all = record { before = λ below. all; running = λ le. absurd (omega (arith, lt, le)) }
+  pub kept_before : (turns : List Turn) (m : Snapshot) → length m.output < opened_at start opening → RecoversOrNone names (text ∷ []) m.folder → SameAt (is_foreign names) start.folder m.folder → IsKept names start text opening turns m
+  kept_before turns m lt all spared = record { before = λ below. all; spared = λ below. spared; running = λ le. absurd (omega (arith, lt, le)) }
 
-  pub kept_push : (turn : Turn) (turns : List Turn) (m : Snapshot) → length m.output < total (turns ++ turn ∷ []) → IsKept names start text opening turns m → IsKept names start text opening (turns ++ turn ∷ []) m
-  kept_push turn turns m lt kept = record {
+  pub kept_push : (turn : Turn) (turns : List Turn) (m : Snapshot) → length m.output < total (turns ++ turn ∷ []) → (total turns ≤ length m.output → IfSome turn.write (λ write. IsWholeIn names write m.folder)) → IsKept names start text opening turns m
+      → IsKept names start text opening (turns ++ turn ∷ []) m
+  kept_push turn turns m lt idle kept = record {
     before = kept.before;
-    running = λ le. allowed_push names text (opened_at start opening) (length m.output) m.folder turn turns lt (kept.running le);
+    spared = kept.spared;
+    running = λ le. allowed_push names start.folder text (opened_at start opening) (length m.output) m.folder turn turns lt idle (kept.running le);
   }
 
-  pub kept_whole : (turns : List Turn) (m : Snapshot) → total turns ≤ length m.output → Recovers names (recoverable (after_turns (opened text) turns)) m.folder → IsKept names start text opening turns m
-  kept_whole turns m le all = record {
+  pub kept_whole : (turns : List Turn) (m : Snapshot) → total turns ≤ length m.output → Recovers names (recoverable (after_turns (opened text) turns)) m.folder → SparesOthers names turns start.folder m.folder
+      → IsKept names start text opening turns m
+  kept_whole turns m le all spared = record {
     before = λ lt. absurd (omega (arith, lt, le));
-    running = λ at. allowed_whole names text (opened_at start opening) (length m.output) m.folder turns le all;
+    spared = λ lt. absurd (omega (arith, lt, le));
+    running = λ at. allowed_whole names start.folder text (opened_at start opening) (length m.output) m.folder turns le all spared;
   }
 
   pub kept_part : (turn : Turn) (turns : List Turn) (m : Snapshot) → total turns ≤ length m.output → length m.output < total (turns ++ turn ∷ [])
-      → Recovers names (recoverable (with_begun turn.sync (after_turns (opened text) turns))) m.folder → IsKept names start text opening (turns ++ turn ∷ []) m
-  kept_part turn turns m le lt all = record {
+      → IsUnderWay names (with_begun turn.sync (after_turns (opened text) turns)) turn.write m.folder → SparesOthers names (turns ++ turn ∷ []) start.folder m.folder
+      → IsKept names start text opening (turns ++ turn ∷ []) m
+  kept_part turn turns m le lt all spared = record {
     before = λ below. absurd (omega (arith, below, le));
-    running = λ at. allowed_part names text (opened_at start opening) (length m.output) m.folder turn turns le lt all;
+    spared = λ below. absurd (omega (arith, below, le));
+    running = λ at. allowed_part names start.folder text (opened_at start opening) (length m.output) m.folder turn turns le lt all.recovers spared all.whole;
   }
 
   sound_on : (now new : Scene) (turns : List Turn) → IsFirstPart now.output new.output → (m : Snapshot) → Sound names start now text opening turns m → Sound names start new text opening turns m
-  sound_on now new turns part m sound = record { output = part_then m.output now.output new.output sound.output part; kept = sound.kept; spared = sound.spared }
+  sound_on now new turns part m sound = record { output = part_then m.output now.output new.output sound.output part; kept = sound.kept }
 
   pub course_more : (now new : Scene) (turns : List Turn) (moments newer : List Snapshot) → new.trace ≡ newer ++ now.trace → IsFirstPart now.output new.output → Each (Sound names start new text opening turns) newer
-      → SameAt (is_foreign names) start.folder new.folder → Course names start now text opening turns moments → Course names start new text opening turns (newer ++ moments)
+      → SparesOthers names turns start.folder new.folder → Course names start now text opening turns moments → Course names start new text opening turns (newer ++ moments)
   course_more now new turns moments newer is part sound spared course = record {
     added = is ∙ ap (λ (ms : List Snapshot). newer ++ ms) course.added ∙ sym (append_assoc newer moments start.trace);
     at_start = course.at_start;
+    settled = course.settled;
     sound = Each-append (Sound names start new text opening turns) newer moments sound
         (Each-weaker (Sound names start now text opening turns) (Sound names start new text opening turns) (sound_on now new turns part) moments course.sound);
     spared = spared;
   }
 
-  pub course_push : (now : Scene) (turn : Turn) (turns : List Turn) (moments : List Snapshot) → length now.output < total (turns ++ turn ∷ []) → Course names start now text opening turns moments
-      → Course names start now text opening (turns ++ turn ∷ []) moments
-  course_push now turn turns moments lt course = record {
+  pub course_push : (now : Scene) (turn : Turn) (turns : List Turn) (moments : List Snapshot) → length now.output ≡ total turns → length now.output < total (turns ++ turn ∷ []) → Each (IsStill now) moments → IfSome turn.write (λ w. w.found ≡ now.folder)
+      → Course names start now text opening turns moments → Course names start now text opening (turns ++ turn ∷ []) moments
+  course_push now turn turns moments long lt still found course = record {
     added = course.added;
     at_start = course.at_start;
-    sound = Each-weaker (Sound names start now text opening turns) (Sound names start now text opening (turns ++ turn ∷ [])) pushed moments course.sound;
-    spared = course.spared;
+    settled = course.settled;
+    sound = Each-weaker (λ m. Sound names start now text opening turns m × IsStill now m) (Sound names start now text opening (turns ++ turn ∷ [])) pushed moments
+        (each_both (Sound names start now text opening turns) (IsStill now) moments course.sound still);
+    spared = spared_front names turns (turn ∷ []) start.folder now.folder course.spared;
   }
     where
-      pushed : (m : Snapshot) → Sound names start now text opening turns m → Sound names start now text opening (turns ++ turn ∷ []) m
-      pushed m sound = record {
-        output = sound.output;
-        kept = kept_push turn turns m (omega (arith, lt, part_long m.output now.output sound.output)) sound.kept;
-        spared = sound.spared;
+      pushed : (m : Snapshot) → Sound names start now text opening turns m × IsStill now m → Sound names start now text opening (turns ++ turn ∷ []) m
+      pushed m both = record {
+        output = both.0.output;
+        kept = kept_push turn turns m (omega (arith, lt, part_long m.output now.output both.0.output))
+            (λ le. whole_found names turn.write m.folder (subst (λ (d : Disk). IfSome turn.write (λ w. w.found ≡ d)) (sym (both.1 (omega (arith, le, long)))) found)) both.0.kept;
       }
 
   -- work on the folder
-  pub works_sound : (P : Disk → Type 0) (now new : Scene) (turns : List Turn) → SameAt (is_foreign names) start.folder now.folder
-      → ((m : Snapshot) → length m.output ≡ length now.output → P m.folder → IsKept names start text opening turns m) → (works : Works names P now new) → Each (Sound names start new text opening turns) works.moments.added
-  works_sound P now new turns spared keeps works = Each-weaker (Inside new (Spares names P now.folder)) (Sound names start new text opening turns) one works.moments.added works.moments.each
+  pub works_sound : (write : Option Write) (P : Disk → Type 0) (now new : Scene) (turns : List Turn)
+      → ((m : Snapshot) → length m.output ≡ length now.output → Spares names write P now.folder m.folder → IsKept names start text opening turns m) → (works : Works names write P now new)
+      → Each (Sound names start new text opening turns) works.moments.added
+  works_sound write P now new turns keeps works = Each-weaker (Inside new (Spares names write P now.folder)) (Sound names start new text opening turns) one works.moments.added works.moments.each
     where
-      one : (m : Snapshot) → Inside new (Spares names P now.folder) m → Sound names start new text opening turns m
+      one : (m : Snapshot) → Inside new (Spares names write P now.folder) m → Sound names start new text opening turns m
       one m inside = record {
         output = part_of m.output new.output (sym inside.output);
-        kept = keeps m (ap (λ (l : List ℕ). length l) (inside.output ∙ works.output)) inside.folder.folder;
-        spared = same_then (is_foreign names) start.folder now.folder m.folder spared inside.folder.spared;
+        kept = keeps m (ap (λ (l : List ℕ). length l) (inside.output ∙ works.output)) inside.folder;
       }
-
-  pub works_spared : (P : Disk → Type 0) (now new : Scene) → SameAt (is_foreign names) start.folder now.folder → Works names P now new → SameAt (is_foreign names) start.folder new.folder
-  works_spared P now new spared works = same_then (is_foreign names) start.folder now.folder new.folder spared works.spared
 
   -- all outputs so far are shorter
   pub shorter : (n : ℕ) (now : Scene) (turns : List Turn) (moments : List Snapshot) → length now.output < n → Course names start now text opening turns moments → Each (IsShorter n) moments

@@ -1,12 +1,14 @@
 -- The replies to one command more: where the output stood before its end, nothing changes but that it may be the next one.
 use Rattle.std.proofs.Common.{◌≡◌, ℕ, ◌+◌, ◌<◌, ◌≤◌, List, [], ◌∷◌, ◌++◌, length, length-append, refl, sym, ◌∙◌, ap, subst, arith, append_assoc}
 use Rattle.std.proofs.lemmas.List.{append-nil}
-use Rattle.vs_host.specs.Disk.{Disk}
+use Rattle.std.specs.Prelude.{Bool, IfSome}
+use Rattle.vs_host.specs.Disk.{Disk, Name}
 use Rattle.vs_host.specs.declared.names.Names.{Names}
 use Rattle.vs_safety.specs.Texts.{Text, Sync, recoverable, Recovers}
-use Rattle.vs_safety.specs.Turns.{Turn, with_sync, with_begun, after_turns, with_next, opened, replies, EndsAfter, IsSplit}
+use Rattle.vs_safety.specs.Turns.{Turn, with_sync, with_begun, after_turns, with_next, opened, replies, EndsAfter, IsSplit, AllAvoid, SparesOthers, next_of, IsWholeNext}
+use Rattle.vs_safety.specs.Writes.{Avoids, IsWholeIn}
 use Rattle.vs_safety.specs.Stretches.{EachTurn}
-use Rattle.vs_safety.specs.Safety.{RecoversAllowed}
+use Rattle.vs_safety.specs.Safety.{IsAllowed}
 use Rattle.vs_safety.proofs.Texts.{Within, begun_within, recovers_more}
 
 pub replies_push : (turn : Turn) (turns : List Turn) → replies (turns ++ turn ∷ []) ≡ replies turns ++ turn.reply
@@ -54,27 +56,69 @@ as_many n from (one ∷ first) rest (other ∷ others) more same next le =
 pub greatest : (from n : ℕ) (turns first rest others more : List Turn) → IsSplit from n turns first rest → turns ≡ others ++ more → from + length (replies others) ≤ n → length others ≤ length first
 greatest from n turns first rest others more split same le = as_many n from first rest others more (sym split.turns_are ∙ same) split.next le
 
-module _ (names : Names) (text : Text) (from n : ℕ) (folder : Disk) where
-  pub allowed_push : (turn : Turn) (turns : List Turn) → n < from + length (replies (turns ++ turn ∷ [])) → RecoversAllowed names text turns from n folder → RecoversAllowed names text (turns ++ turn ∷ []) from n folder
-  allowed_push turn turns lt allowed = record {
+-- ---- names of a set on which no command writes
+
+module _ (names : Names) (inside : Name → Bool) where
+  pub avoid_front : (turns more : List Turn) → AllAvoid names (turns ++ more) inside → AllAvoid names turns inside
+  avoid_front [] more all = tt
+  avoid_front (turn ∷ turns) more all = (all.0, avoid_front turns more all.1)
+
+  pub avoid_back : (turns more : List Turn) → AllAvoid names (turns ++ more) inside → AllAvoid names more inside
+  avoid_back [] more all = all
+  avoid_back (turn ∷ turns) more all = avoid_back turns more all.1
+
+  avoid_both : (turns more : List Turn) → AllAvoid names turns inside → AllAvoid names more inside → AllAvoid names (turns ++ more) inside
+  avoid_both [] more all rest = rest
+  avoid_both (turn ∷ turns) more all rest = (all.0, avoid_both turns more all.1 rest)
+
+  avoid_next : (turn : Turn) (first rest : List Turn) → AllAvoid names (first ++ next_of (rest ++ turn ∷ [])) inside → AllAvoid names (first ++ next_of rest) inside
+  avoid_next turn first [] all = avoid_both first [] (avoid_front first (turn ∷ []) all) tt
+  avoid_next turn first (one ∷ rest) all = all
+
+pub spared_front : (names : Names) (turns more : List Turn) (old new : Disk) → SparesOthers names turns old new → SparesOthers names (turns ++ more) old new
+spared_front names turns more old new spared inside foreign all = spared inside foreign (avoid_front names inside turns more all)
+
+module _ (names : Names) (start : Disk) (text : Text) (from n : ℕ) (folder : Disk) where
+  pub allowed_push : (turn : Turn) (turns : List Turn) → n < from + length (replies (turns ++ turn ∷ [])) → (from + length (replies turns) ≤ n → IfSome turn.write (λ write. IsWholeIn names write folder))
+      → IsAllowed names start text turns from n folder → IsAllowed names start text (turns ++ turn ∷ []) from n folder
+  allowed_push turn turns lt idle allowed = record {
     first = allowed.first;
     rest = allowed.rest ++ turn ∷ [];
     split = split_push from n turn turns allowed.first allowed.rest lt allowed.split;
     recovers = recovers_more names _ _ folder (next_more turn allowed.rest (after_turns (opened text) allowed.first)) allowed.recovers;
+    spared = λ inside foreign all. allowed.spared inside foreign (avoid_next names inside turn allowed.first allowed.rest all);
+    whole = next allowed.rest allowed.split.turns_are allowed.whole;
   }
+    where
+      next : (rest : List Turn) → turns ≡ allowed.first ++ rest → IsWholeNext names rest folder → IsWholeNext names (rest ++ turn ∷ []) folder
+      next [] is whole =
+          let same : length (replies turns) ≡ length (replies allowed.first) = ap (λ (ts : List Turn). length (replies ts)) (is ∙ append-nil allowed.first) in
+          idle (omega (arith, same, allowed.split.whole))
+      next (one ∷ rest) is whole = whole
 
   -- all replies are whole
-  pub allowed_whole : (turns : List Turn) → from + length (replies turns) ≤ n → Recovers names (recoverable (after_turns (opened text) turns)) folder → RecoversAllowed names text turns from n folder
-  allowed_whole turns le all = record { first = turns; rest = []; split = record { turns_are = sym (append-nil turns); whole = le; next = tt }; recovers = all }
+  pub allowed_whole : (turns : List Turn) → from + length (replies turns) ≤ n → Recovers names (recoverable (after_turns (opened text) turns)) folder → SparesOthers names turns start folder
+      → IsAllowed names start text turns from n folder
+  allowed_whole turns le all spared = record {
+    first = turns;
+    rest = [];
+    split = record { turns_are = sym (append-nil turns); whole = le; next = tt };
+    recovers = all;
+    spared = spared_front names turns [] start folder spared;
+    whole = tt;
+  }
 
   -- all but the last one are
   pub allowed_part : (turn : Turn) (turns : List Turn) → from + length (replies turns) ≤ n → n < from + length (replies (turns ++ turn ∷ []))
-      → Recovers names (recoverable (with_begun turn.sync (after_turns (opened text) turns))) folder → RecoversAllowed names text (turns ++ turn ∷ []) from n folder
-  allowed_part turn turns le lt all = record {
+      → Recovers names (recoverable (with_begun turn.sync (after_turns (opened text) turns))) folder → SparesOthers names (turns ++ turn ∷ []) start folder → IfSome turn.write (λ write. IsWholeIn names write folder)
+      → IsAllowed names start text (turns ++ turn ∷ []) from n folder
+  allowed_part turn turns le lt all spared whole = record {
     first = turns;
     rest = turn ∷ [];
     split = record { turns_are = refl; whole = le; next = omega (arith, lt, long_push turn turns) };
     recovers = all;
+    spared = spared;
+    whole = whole;
   }
 
 -- ---- what holds of each command

@@ -1,28 +1,27 @@
 -- How far a run has come: what its loop keeps from turn to turn.
-use Rattle.std.specs.Prelude.{◌≡◌, ℕ, true, List, [], ◌∷◌, ◌++◌, length, IfSome}
+use Rattle.std.specs.Prelude.{◌≡◌, ℕ, ◌≤◌, true, List, [], ◌∷◌, ◌++◌, length, IfSome}
 use Rattle.vs_faults.specs.Faults.{HasRisen}
 use Rattle.vs_host.specs.Trace.{Snapshot, Each}
 use Rattle.vs_host.specs.World.{Scene}
 use Rattle.vs_host.specs.declared.names.Names.{Names}
-use Rattle.vs_disk.specs.Names.{SameAt}
-use Rattle.vs_pair.specs.Pair.{is_foreign}
 use Rattle.vs_safety.specs.Texts.{Text, RecoversOrNone, IsFlag, IsBetween}
-use Rattle.vs_safety.specs.Turns.{Turn, with_sync, after_turns, opened, replies}
-use Rattle.vs_safety.specs.Stretches.{IsFirst, state_in, state_now, EachTurn, HasStretch}
+use Rattle.vs_safety.specs.Writes.{HasWritten, IsWholeIn, state_in, state_now}
+use Rattle.vs_safety.specs.Turns.{Turn, with_sync, after_turns, opened, replies, SparesOthers}
+use Rattle.vs_safety.specs.Stretches.{IsFirst, EachTurn, HasStretch}
 use Rattle.vs_safety.specs.Safety.{IsFirstPart, opened_at, IsKept}
 
 -- a moment so far
 pub record Sound (names : Names) (start now : Scene) (text : Text) (opening : List ℕ) (turns : List Turn) (moment : Snapshot) : Type 0 where
   pub output : IsFirstPart moment.output now.output
   pub kept : IsKept names start text opening turns moment
-  pub spared : SameAt (is_foreign names) start.folder moment.folder
 
 -- the moments so far
 pub record Course (names : Names) (start now : Scene) (text : Text) (opening : List ℕ) (turns : List Turn) (moments : List Snapshot) : Type 0 where
   pub added : now.trace ≡ moments ++ start.trace
   pub at_start : RecoversOrNone names (text ∷ []) start.folder
+  pub settled : start.folder.pending ≡ []
   pub sound : Each (Sound names start now text opening turns) moments
-  pub spared : SameAt (is_foreign names) start.folder now.folder
+  pub spared : SparesOthers names turns start.folder now.folder
 
 -- The stretch of a command whose reply is whole.
 pub record HasEnded (names : Names) (moments : List Snapshot) (from to : ℕ) (turn : Turn) : Type 0 where
@@ -30,7 +29,9 @@ pub record HasEnded (names : Names) (moments : List Snapshot) (from to : ℕ) (t
   pub last : Snapshot
   pub begins : IsFirst from moments first
   pub ends : IsFirst to moments last
+  pub found : IfSome turn.found (λ found. found ≡ first.folder)
   pub flag : IfSome turn.sync (λ sync. IsFlag names turn.done first.folder last.folder sync.acknowledged)
+  pub wrote : IfSome turn.write (λ write. HasWritten names write turn.done (state_in first) (state_in last))
   pub cause : turn.failed ≡ true → HasRisen first.folder_faults last.folder_faults
 
 -- The file was opened, and nothing was written.
@@ -39,6 +40,10 @@ pub record Opened (names : Names) (start now : Scene) (text : Text) (opening : L
   pub course : Course names start now text opening [] moments
   pub output : now.output ≡ start.output
   pub between : IsBetween names (opened text) now.folder
+
+-- a moment at which the output was as long as it is now has the folder as it is now
+abbrev pub IsStill : Scene → Snapshot → Type 0
+IsStill now moment = length now.output ≤ length moment.output → moment.folder ≡ now.folder
 
 -- The replies to these commands are whole, and no other has begun.
 pub record Going (names : Names) (start now : Scene) (text : Text) (opening : List ℕ) (turns : List Turn) : Type 0 where
@@ -50,6 +55,8 @@ pub record Going (names : Names) (start now : Scene) (text : Text) (opening : Li
   pub here : Snapshot
   pub begins : IsFirst (length now.output) moments here
   pub state : state_in here ≡ state_now now
+  -- and since then nothing changed in the folder
+  pub still : Each (IsStill now) moments
   pub between : IsBetween names (after_turns (opened text) turns) now.folder
 
 -- One more command has ended, and nothing of its reply was written.
@@ -60,8 +67,11 @@ pub record Stepping (names : Names) (start now : Scene) (text : Text) (opening :
   pub ended : EachTurn (HasEnded names moments) (opened_at start opening) turns
   pub here : Snapshot
   pub begins : IsFirst (length now.output) moments here
+  pub found : IfSome turn.found (λ found. found ≡ here.folder)
   pub flag : IfSome turn.sync (λ sync. IsFlag names turn.done here.folder now.folder sync.acknowledged)
+  pub wrote : IfSome turn.write (λ write. HasWritten names write turn.done (state_in here) (state_now now))
   pub cause : turn.failed ≡ true → HasRisen here.folder_faults now.folder_faults
+  pub whole : IfSome turn.write (λ write. IsWholeIn names write now.folder)
   pub between : IsBetween names (with_sync turn.sync (after_turns (opened text) turns)) now.folder
 
 -- The run stopped, and these are the commands that it began.

@@ -1,4 +1,5 @@
 pub mod Texts
+pub mod Writes
 pub mod Turns
 pub mod Stretches
 pub mod Safety

@@ -1,5 +1,5 @@
 -- The promise of a run, and what each of its steps owes to it.
-use Rattle.std.specs.Prelude.{◌≡◌, ◌⊎◌, ℕ, ◌+◌, ◌<◌, ◌≤◌, true, List, [], ◌∷◌, ◌++◌, length, take, IfSome}
+use Rattle.std.specs.Prelude.{◌≡◌, ◌⊎◌, ℕ, ◌+◌, ◌<◌, ◌≤◌, true, List, [], ◌∷◌, ◌++◌, length, take, Option, None, IfSome}
 use Rattle.vs_faults.specs.Faults.{HasRisen}
 use Rattle.vs_host.specs.Disk.{Disk, Name, IsImage}
 use Rattle.vs_host.specs.Trace.{Kind, WroteOutput, Snapshot, Each, GoesOn}
@@ -9,7 +9,8 @@ use Rattle.vs_disk.specs.Names.{SameAt}
 use Rattle.vs_disk.specs.Runs.{Inside}
 use Rattle.vs_pair.specs.Pair.{Image, NoneThere, is_foreign}
 use Rattle.vs_safety.specs.Texts.{Text, Sync, recoverable, Recovers, RecoversOrNone, IsFlag, IsBetween}
-use Rattle.vs_safety.specs.Turns.{Turn, Ran, Quits, with_sync, with_begun, after_turns, with_next, opened, replies, IsSplit, all_turns, all_written}
+use Rattle.vs_safety.specs.Writes.{Write, Keeps, IsWholeIn, HasWritten, state_now}
+use Rattle.vs_safety.specs.Turns.{Turn, Ran, Quits, with_sync, with_begun, after_turns, with_next, opened, replies, IsSplit, all_turns, all_written, SparesOthers, next_of, IsWholeNext}
 use Rattle.vs_safety.specs.Stretches.{EachTurn, HasStretch}
 
 -- these bytes are the first of those
@@ -21,19 +22,23 @@ abbrev pub opened_at : Scene → List ℕ → ℕ
 opened_at start opening = length start.output + length opening
 
 -- The output has n bytes. Over the commands whose replies are whole in it, recovery gives the text of the last acknowledged
--- sync or of one that was begun after it, or of the one that the next command begins.
-pub record RecoversAllowed (names : Names) (text : Text) (turns : List Turn) (from n : ℕ) (folder : Disk) : Type 0 where
+-- sync or of one that was begun after it, or of the one that the next command begins. All names are spared but those of the pair
+-- and those on which these commands or the next one write, and the file that the next one writes is whole, or its backup.
+pub record IsAllowed (names : Names) (start : Disk) (text : Text) (turns : List Turn) (from n : ℕ) (folder : Disk) : Type 0 where
   pub first : List Turn
   pub rest : List Turn
   pub split : IsSplit from n turns first rest
   pub recovers : Recovers names (recoverable (with_next (after_turns (opened text) first) rest)) folder
+  pub spared : SparesOthers names (first ++ next_of rest) start folder
+  pub whole : IsWholeNext names rest folder
 
 -- A moment before an accepted quit has begun.
 pub record IsKept (names : Names) (start : Scene) (text : Text) (opening : List ℕ) (turns : List Turn) (moment : Snapshot) : Type 0 where
   -- before the opening reply is whole: neither swap file is there, or the text that was opened is recovered
   pub before : length moment.output < opened_at start opening → RecoversOrNone names (text ∷ []) moment.folder
+  pub spared : length moment.output < opened_at start opening → SameAt (is_foreign names) start.folder moment.folder
   -- and from then on, an allowed text
-  pub running : opened_at start opening ≤ length moment.output → RecoversAllowed names text turns (opened_at start opening) (length moment.output) moment.folder
+  pub running : opened_at start opening ≤ length moment.output → IsAllowed names start.folder text turns (opened_at start opening) (length moment.output) moment.folder
 
 -- A moment after an accepted quit has begun: all replies are whole.
 pub record IsLeft (names : Names) (start : Scene) (ran : Ran) (moment : Snapshot) : Type 0 where
@@ -43,12 +48,13 @@ pub record IsLeft (names : Names) (start : Scene) (ran : Ran) (moment : Snapshot
   pub recovers : RecoversOrNone names (recoverable (after_turns (opened ran.text) ran.turns)) moment.folder
   -- and neither is there from the first byte of the last line on
   pub gone : opened_at start ran.opening + length (replies ran.turns) < length moment.output → (image : Image) → IsImage moment.folder image → NoneThere names image
+  pub spared : SparesOthers names ran.turns start.folder moment.folder
 
--- What is promised of each moment: what recovery gives whatever a stop leaves, and that no name but those of the pair changes.
+-- What is promised of each moment: what recovery gives whatever a stop leaves, what a write leaves of the file and its backup, and
+-- that no name changes but those of the pair and those on which a command writes.
 pub record IsSafe (names : Names) (start now : Scene) (ran : Ran) (moment : Snapshot) : Type 0 where
   pub output : IsFirstPart moment.output now.output
   pub kept : IsKept names start ran.text ran.opening (all_turns ran) moment ⊎ IsLeft names start ran moment
-  pub spared : SameAt (is_foreign names) start.folder moment.folder
 
 -- The promise, over a run from one scene to another: at each moment between them, and at both.
 pub record IsCrashSafe (names : Names) (start now : Scene) (ran : Ran) : Type 0 where
@@ -79,21 +85,29 @@ pub record Writes (n : ℕ) (bytes : List ℕ) (old new : Scene) : Type 0 where
   pub faults : new.folder_faults ≡ old.folder_faults
   pub added : IsAdded WroteOutput [] old new
 
--- A folder of which P holds, and in which no name but those of the pair changed.
-pub record Spares (names : Names) (P : Disk → Type 0) (old new : Disk) : Type 0 where
+-- A folder of which P holds, and in which no name but those of the pair changed, and those on which a write works, where there is one.
+pub record Spares (names : Names) (write : Option Write) (P : Disk → Type 0) (old new : Disk) : Type 0 where
   pub folder : P new
-  pub spared : SameAt (is_foreign names) old new
+  pub spared : Keeps names write old new
 
 -- Work on the folder between two scenes: P holds of it at each moment. The output stays, and the clock is read before all else.
-pub record Works (names : Names) (P : Disk → Type 0) (old new : Scene) : Type 0 where
-  pub moments : GoesOn (Inside new (Spares names P old.folder)) old.trace new.trace
+pub record Works (names : Names) (write : Option Write) (P : Disk → Type 0) (old new : Scene) : Type 0 where
+  pub moments : GoesOn (Inside new (Spares names write P old.folder)) old.trace new.trace
   pub output : new.output ≡ old.output
-  pub spared : SameAt (is_foreign names) old.folder new.folder
+  pub spared : Keeps names write old.folder new.folder
+
+-- A folder from which these texts may be recovered, at a moment of a write, where there is one.
+pub record IsUnderWay (names : Names) (syncs : List Sync) (write : Option Write) (folder : Disk) : Type 0 where
+  pub recovers : Recovers names (recoverable syncs) folder
+  pub whole : IfSome write (λ write. IsWholeIn names write folder)
 
 -- One command, where these syncs were before it.
 pub record Stepped (names : Names) (syncs : List Sync) (turn : Turn) (old new : Scene) : Type 0 where
+  pub found : IfSome turn.found (λ found. found ≡ old.folder)
   -- what was recoverable is recovered, or the text of the sync that the command begins
-  pub works : Works names (Recovers names (recoverable (with_begun turn.sync syncs))) old new
+  pub works : Works names turn.write (IsUnderWay names (with_begun turn.sync syncs) turn.write) old new
+  pub wrote : IfSome turn.write (λ write. HasWritten names write turn.done (state_now old) (state_now new))
+  pub whole : IfSome turn.write (λ write. IsWholeIn names write new.folder)
   pub flag : IfSome turn.sync (λ sync. IsFlag names turn.done old.folder new.folder sync.acknowledged)
   pub cause : turn.failed ≡ true → HasRisen old.folder_faults new.folder_faults
   pub between : IsBetween names (with_sync turn.sync syncs) new.folder

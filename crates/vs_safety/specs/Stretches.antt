@@ -1,12 +1,12 @@
 -- The stretch of each command in the trace of a run, and what is known of the folder at its two ends.
 use Rattle.std.specs.Prelude.{◌≡◌, ◌⊎◌, ℕ, ◌+◌, ◌<◌, ◌≤◌, true, List, [], ◌∷◌, ◌++◌, length, IfSome}
 use Rattle.vs_faults.specs.Faults.{HasRisen}
-use Rattle.vs_host.specs.Disk.{Disk}
 use Rattle.vs_host.specs.Trace.{Snapshot, Each}
 use Rattle.vs_host.specs.World.{Scene}
 use Rattle.vs_host.specs.declared.names.Names.{Names}
 use Rattle.vs_safety.specs.Texts.{IsFlag}
 use Rattle.vs_safety.specs.Turns.{Turn}
+use Rattle.vs_safety.specs.Writes.{State, state_in, state_now, HasWritten}
 
 abbrev pub IsShorter : ℕ → Snapshot → Type 0
 IsShorter n snapshot = length snapshot.output < n
@@ -19,29 +19,22 @@ pub record IsFirst (n : ℕ) (moments : List Snapshot) (first : Snapshot) : Type
   pub reached : n ≤ length first.output
   pub not_before : Each (IsShorter n) older
 
--- the folder, and how many calls on it failed so far
-pub record State : Type 0 where
-  pub folder : Disk
-  pub faults : ℕ
-
-abbrev pub state_in : Snapshot → State
-state_in snapshot = record { folder = snapshot.folder; faults = snapshot.folder_faults }
-
-abbrev pub state_now : Scene → State
-state_now scene = record { folder = scene.folder; faults = scene.folder_faults }
-
 -- the folder at the first snapshot with n bytes of output, or where there is none, at the end of the run
 abbrev pub IsEnd : ℕ → List Snapshot → Scene → State → Type 0
 IsEnd n moments now state = ((last : Snapshot) × IsFirst n moments last × (state ≡ state_in last)) ⊎ (Each (IsShorter n) moments × (state ≡ state_now now))
 
--- The stretch of a command: it begins where the replies before it were whole, and ends where its own was. Its sync is
--- acknowledged as the folder has it at both ends, and a failed call that is answered happened in it.
+-- The stretch of a command: it begins where the replies before it were whole, and ends where its own was. It found the folder as it
+-- was when it began. Its sync is
+-- acknowledged as the folder has it at both ends, its write left what a write leaves, and a failed call that is answered happened in
+-- it.
 pub record HasStretch (names : Names) (moments : List Snapshot) (now : Scene) (from to : ℕ) (turn : Turn) : Type 0 where
   pub first : Snapshot
   pub last : State
   pub begins : IsFirst from moments first
   pub ends : IsEnd to moments now last
+  pub found : IfSome turn.found (λ found. found ≡ first.folder)
   pub flag : IfSome turn.sync (λ sync. IsFlag names turn.done first.folder last.folder sync.acknowledged)
+  pub wrote : IfSome turn.write (λ write. HasWritten names write turn.done (state_in first) last)
   pub cause : turn.failed ≡ true → HasRisen first.folder_faults last.faults
 
 -- P holds of each command, of how long the output was before its reply, and with it

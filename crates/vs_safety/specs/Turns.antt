@@ -1,11 +1,18 @@
 -- What a run does, as far as safety goes: the commands that it answers, one turn each, and how it closes.
-use Rattle.std.specs.Prelude.{◌≡◌, ℕ, ◌+◌, ◌<◌, ◌≤◌, Bool, true, false, not, List, [], ◌∷◌, ◌++◌, length, codes, Option, Some, None}
+use Rattle.std.specs.Prelude.{◌≡◌, ℕ, ◌+◌, ◌<◌, ◌≤◌, Bool, true, false, not, List, [], ◌∷◌, ◌++◌, length, codes, Option, Some, None, IfSome}
+use Rattle.vs_host.specs.Disk.{Disk, Name}
+use Rattle.vs_host.specs.declared.names.Names.{Names}
+use Rattle.vs_disk.specs.Names.{SameAt}
 use Rattle.vs_safety.specs.Texts.{Text, Sync, begun}
+use Rattle.vs_safety.specs.Writes.{Write, AreForeign, Avoids, IsWholeIn}
 
--- One command: the sync that it begins before all else, if it does; whether it was carried out, and whether it was answered that
--- a call on the folder failed; and the bytes of its reply.
+-- One command: the folder that it found as it began, where it asks for it; the sync that it begins before all else, if it does; the
+-- write of the edited file that it then begins, if it does; whether it was carried out, and whether it was answered that a call on the
+-- folder failed; and the bytes of its reply.
 pub record Turn : Type 0 where
+  pub found : Option Disk
   pub sync : Option Sync
+  pub write : Option Write
   pub done : Bool
   pub failed : Bool
   pub reply : List ℕ
@@ -35,6 +42,27 @@ with_next syncs (turn ∷ turns) = with_begun turn.sync syncs
 -- the text that was opened counts as the first sync, and is acknowledged
 abbrev pub opened : Text → List Sync
 opened text = record { text = text; dirty = false; acknowledged = true } ∷ []
+
+-- ---- writes
+
+-- none of these commands writes on a name of the set
+abbrev pub AllAvoid : Names → List Turn → (Name → Bool) → Type 0
+AllAvoid names [] inside = Unit {0}
+AllAvoid names (turn ∷ turns) inside = IfSome turn.write (λ write. Avoids names write inside) × AllAvoid names turns inside
+
+-- all names are spared but those of the pair and those on which these commands write
+abbrev pub SparesOthers : Names → List Turn → Disk → Disk → Type 0
+SparesOthers names turns old new = (inside : Name → Bool) → AreForeign names inside → AllAvoid names turns inside → SameAt inside old new
+
+-- the first of these commands
+abbrev pub next_of : List Turn → List Turn
+next_of [] = []
+next_of (turn ∷ turns) = turn ∷ []
+
+-- a moment of the write of the first of these commands
+abbrev pub IsWholeNext : Names → List Turn → Disk → Type 0
+IsWholeNext names [] folder = Unit {0}
+IsWholeNext names (turn ∷ turns) folder = IfSome turn.write (λ write. IsWholeIn names write folder)
 
 -- ---- replies
 
@@ -70,7 +98,7 @@ quit_line = codes "quit" ++ 10 ∷ []
 
 -- the sync at the script's end, which is answered only where it is acknowledged
 abbrev pub last_turn : Sync → Turn
-last_turn sync = record { sync = Some sync; done = sync.acknowledged; failed = not sync.acknowledged; reply = preserved_line }
+last_turn sync = record { found = None; sync = Some sync; write = None; done = sync.acknowledged; failed = not sync.acknowledged; reply = preserved_line }
 
 -- The text and the reply with which a run opened, the commands that it began, and how it closed.
 pub record Ran : Type 0 where

@@ -1,5 +1,5 @@
 // Laws of a run that may stop at any moment. They do nothing: their contracts are the laws.
-ghost use Rattle.std.specs.Prelude.{◌≡◌, ◌⊎◌, ◌↔◌, ◌+◌, ◌<◌, ◌≤◌, ◌∷◌, [], ◌++◌, ℕ, List, length};
+ghost use Rattle.std.specs.Prelude.{◌≡◌, ◌⊎◌, ◌↔◌, ◌+◌, ◌<◌, ◌≤◌, ◌∷◌, [], ◌++◌, ℕ, List, None, length};
 ghost use Rattle.vs_faults.specs.Faults.{HasRisen};
 ghost use Rattle.vs_host.specs.Disk.{Disk, IsImage};
 ghost use Rattle.vs_host.specs.World.{Scene};
@@ -28,10 +28,10 @@ pub fn splitting()
 
 /// A run opens its file, and writes the opening reply.
 pub fn opening()
-    ensures fails { (names : Names) (start now : Scene) (text : Text) (line : List ℕ) → 0 < length line → RecoversOrNone names (text ∷ []) start.folder
-        → Works names (RecoversOrNone names (text ∷ [])) start now → Halted names start now text line [] }
-    ensures opens { (names : Names) (start now : Scene) (text : Text) (line : List ℕ) → 0 < length line → RecoversOrNone names (text ∷ []) start.folder
-        → Works names (RecoversOrNone names (text ∷ [])) start now → IsBetween names (opened text) now.folder → Opened names start now text line }
+    ensures fails { (names : Names) (start now : Scene) (text : Text) (line : List ℕ) → 0 < length line → start.folder.pending ≡ [] → RecoversOrNone names (text ∷ []) start.folder
+        → Works names None (RecoversOrNone names (text ∷ [])) start now → Halted names start now text line [] }
+    ensures opens { (names : Names) (start now : Scene) (text : Text) (line : List ℕ) → 0 < length line → start.folder.pending ≡ [] → RecoversOrNone names (text ∷ []) start.folder
+        → Works names None (RecoversOrNone names (text ∷ [])) start now → IsBetween names (opened text) now.folder → Opened names start now text line }
     ensures stops { (names : Names) (start now : Scene) (text : Text) (line : List ℕ) → 0 < length line → Opened names start now text line → Halted names start now text line [] }
     ensures cut { (names : Names) (start now new : Scene) (text : Text) (line : List ℕ) (n : ℕ) → 0 < length line → Opened names start now text line → Writes n line now new
         → Halted names start new text line [] }
@@ -59,9 +59,9 @@ pub fn ending()
     ensures stopped { (names : Names) (start now : Scene) (ran : Ran) → behind ran.closing ≡ [] → Halted names start now ran.text ran.opening (all_turns ran)
         → IsCrashSafe names start now ran }
     ensures leaves { (names : Names) (start now new : Scene) (text : Text) (line : List ℕ) (turns : List Turn) → Going names start now text line turns
-        → Works names (RecoversOrNone names (recoverable (after_turns (opened text) turns))) now new → IsCrashSafe names start new (quit_run text line turns) }
+        → Works names None (RecoversOrNone names (recoverable (after_turns (opened text) turns))) now new → IsCrashSafe names start new (quit_run text line turns) }
     ensures quits { (names : Names) (start now mid new : Scene) (text : Text) (line : List ℕ) (turns : List Turn) (n : ℕ) → Going names start now text line turns
-        → Works names (RecoversOrNone names (recoverable (after_turns (opened text) turns))) now mid → Writes n quit_line mid new
+        → Works names None (RecoversOrNone names (recoverable (after_turns (opened text) turns))) now mid → Writes n quit_line mid new
         → ((image : Image) → IsImage mid.folder image → NoneThere names image) → IsCrashSafe names start new (quit_run text line turns) }
 {}
 

@@ -1,10 +1,14 @@
 -- What a sync, and a command, make of a session that fits.
-use Rattle.std.proofs.Common.{◌≡◌, ℕ, Bool, true, ◌==◌, not, List, ◌∷◌, Option, Some, None, Result, Ok, refl, sym, ◌∙◌, ap, subst, arith}
+use Rattle.std.proofs.Common.{◌≡◌, ◌<◌, ℕ, Bool, true, false, ◌==◌, not, List, length, ◌∷◌, Option, Some, None, Result, Ok, refl, sym, ◌∙◌, ap, subst, arith}
 use Rattle.std.proofs.lemmas.Bool.Decides.{nat_tests}
 use Rattle.vs_host.specs.Disk.{Disk}
 use Rattle.vs_exparse.specs.Command.{Command}
 use Rattle.vs_exparse.specs.declared.command.ExErr.{ExErr}
-use Rattle.vs_exparse.specs.Command.Command.{Preserve, Quit}
+use Rattle.vs_exparse.specs.Command.Command.{Preserve, Quit, Set}
+use Rattle.vs_exparse.specs.declared.command.Setting.{Setting}
+use Rattle.vs_exparse.specs.declared.command.Setting.TheVariants as setting
+use Rattle.vs_backup.specs.declared.options.WriteOptions.{WriteOptions}
+use Rattle.vs_options.specs.Options.{full_text}
 use Rattle.vs_excmd.specs.Request.{Instruction}
 use Rattle.vs_undo.specs.History.{IsHistory}
 use Rattle.vs_undo.specs.declared.parts.Parts.{Parts}
@@ -17,7 +21,7 @@ use Rattle.vs_safety.specs.Texts.{Sync}
 use Rattle.vs_paged.specs.Fits as folder
 use Rattle.vs_paged.specs.declared.paged.PagedText.{PagedText}
 use Rattle.vs_session.specs.declared.session.Session.{Session}
-use Rattle.vs_session.specs.Session.{SessionState, accepts_quit, answered, begins_after, begins_sync, carried, counted, own_reply, quits, sync_in}
+use Rattle.vs_session.specs.Session.{SessionState, accepts_quit, answered, begins_after, begins_sync, carried, counted, options_set, own_reply, quits, sync_in}
 use Rattle.vs_session.specs.Standing.{FitsState}
 use Rattle.vs_session.specs.Fits.{Fits}
 
@@ -53,19 +57,51 @@ counted_is old undo was state after syncs k n fits history before now =
     ∙ ap (λ (m : ℕ). counted state.steps (current_of after == m)) (before ∙ current_is old.history state.machine fits.stands.history)
 
 -- a command that the session answers itself leaves the machine's state
-pub own_stays : (state : SessionState) (instruction : Instruction) (reply : _) (at : ℕ) → own_reply instruction.parsed ≡ Some reply → machine.state_after state.machine instruction (record { outcome = Done; at = at }) ≡ state.machine
-own_stays state instruction reply at is = stays instruction.parsed is
+pub own_stays : (state : SessionState) (options : WriteOptions) (instruction : Instruction) (reply : _) (at : ℕ) → own_reply options instruction.parsed ≡ Some reply → machine.state_after state.machine instruction (record { outcome = Done; at = at }) ≡ state.machine
+own_stays state options instruction reply at is = stays instruction.parsed is
   where
-    stays : (parsed : _) → own_reply parsed ≡ Some reply → machine.done_state state.machine at (machine.meaning_of state.machine parsed instruction.block) ≡ state.machine
+    stays : (parsed : _) → own_reply options parsed ≡ Some reply → machine.done_state state.machine at (machine.meaning_of state.machine parsed instruction.block) ≡ state.machine
     stays (Ok Preserve) e = refl
     stays (Ok (Quit bang)) e = refl
+    stays (Ok (Set setting)) e = refl
     stays parsed e = absurd (cc)
 
-pub own_carried : (session : Session) (disk : Disk) (state : SessionState) (syncs : List Sync) (instruction : Instruction) (reply : _) (at : ℕ) → own_reply instruction.parsed ≡ Some reply → Fits session disk state syncs
-    → Fits session disk (carried state instruction (record { outcome = Done; at = at })) syncs
-own_carried session disk state syncs instruction reply at own fits =
-    subst (λ (m : State). Fits session disk (record { machine = m; saved = state.saved; steps = counted state.steps (current_of m == current_of state.machine) }) syncs) (sym (own_stays state instruction reply at own))
-    (record { stands = fits.stands; cursor = fits.cursor; saved = fits.saved; steps = fits.steps ∙ sym (counted_same state.steps (current_of state.machine)) })
+pub own_carried : (session : Session) (options : WriteOptions) (parsed : Result Command ExErr) (disk : Disk) (state : SessionState) (syncs : List Sync) (instruction : Instruction) (reply : _) (at : ℕ) → parsed ≡ instruction.parsed
+    → own_reply session.options parsed ≡ Some reply → options ≡ options_set session.options parsed → Fits session disk state syncs
+    → Fits (record session { options = options }) disk (carried state instruction (record { outcome = Done; at = at })) syncs
+own_carried session options parsed disk state syncs instruction reply at is own set fits =
+    subst (λ (m : State). Fits (record session { options = options }) disk (record { name = state.name; machine = m; saved = state.saved; steps = counted state.steps (current_of m == current_of state.machine); options = options_set state.options instruction.parsed }) syncs)
+    (sym (own_stays state session.options instruction reply at (sym (ap (λ p. own_reply session.options p) is) ∙ own)))
+    (record {
+      stands = fits.stands;
+      name = fits.name;
+      cursor = fits.cursor;
+      saved = fits.saved;
+      steps = fits.steps ∙ sym (counted_same state.steps (current_of state.machine));
+      options = set ∙ ap (λ p. options_set session.options p) is ∙ ap (λ (o : WriteOptions). options_set o instruction.parsed) fits.options;
+    })
+
+-- a command that the machine answers leaves the options
+pub options_stay : (options : WriteOptions) (parsed : Result Command ExErr) → own_reply options parsed ≡ None → options_set options parsed ≡ options
+options_stay options (Ok (Set setting)) none = absurd (cc)
+options_stay options parsed none = refl
+
+-- a setting in full is short
+pub short_text : (setting : Setting) → length (full_text setting) < 320
+short_text (setting.Backup true) = omega arith
+short_text (setting.Backup false) = omega arith
+short_text (setting.WriteBackup true) = omega arith
+short_text (setting.WriteBackup false) = omega arith
+short_text (setting.UndoFile true) = omega arith
+short_text (setting.UndoFile false) = omega arith
+short_text setting.CopyYes = omega arith
+short_text setting.CopyNo = omega arith
+short_text setting.CopyAuto = omega arith
+
+-- what the session answers itself, by what it keeps of the options
+pub own_is : (session : Session) (disk : Disk) (state : SessionState) (syncs : List Sync) (instruction : Instruction) (parsed : Result Command ExErr) → Fits session disk state syncs → parsed ≡ instruction.parsed
+    → own_reply session.options parsed ≡ own_reply state.options instruction.parsed
+own_is session disk state syncs instruction parsed fits is = ap (λ p. own_reply session.options p) is ∙ ap (λ (o : WriteOptions). own_reply o instruction.parsed) fits.options
 
 -- ---- what a command is
 
@@ -88,3 +124,8 @@ reply_own own reply other is = sym (ap (λ (o : Option Answer). answered Done o 
 
 pub reply_machine : (outcome : Outcome) (own : Option Answer) (reply other : Answer) → own ≡ None → reply ≡ other → reply ≡ answered outcome own other
 reply_machine outcome own reply other none is = is ∙ sym (ap (λ (o : Option Answer). answered outcome o other) none ∙ answered_none outcome other)
+
+pub stays_set : (session : Session) (disk : Disk) (state : SessionState) (syncs : List Sync) (instruction : Instruction) (parsed : Result Command ExErr) → Fits session disk state syncs → parsed ≡ instruction.parsed
+    → own_reply session.options parsed ≡ None → session.options ≡ options_set state.options instruction.parsed
+stays_set session disk state syncs instruction parsed fits is none =
+    sym (options_stay session.options parsed none) ∙ ap (λ p. options_set session.options p) is ∙ ap (λ (o : WriteOptions). options_set o instruction.parsed) fits.options

@@ -13,6 +13,7 @@ use Rattle.vs_disk.proofs.Runs.{goes_then, goes_weaker, reads_change}
 use Rattle.vs_disk.proofs.Others.{same_none, same_then}
 use Rattle.vs_pair.specs.Pair.{Rises, is_swap, is_apart, is_foreign}
 use Rattle.vs_pair.proofs.MadeFiles.{same_weaker}
+use Rattle.vs_exparse.specs.Command.Command.{Write as WriteFile}
 use Rattle.vs_excmd.specs.Request.{Instruction}
 use Rattle.vs_machine.specs.Machine as machine
 use Rattle.vs_machine.specs.Machine.{is_done, current_of}
@@ -20,21 +21,22 @@ use Rattle.vs_machine.specs.Replies.{Answer, refuses, device_fault}
 use Rattle.vs_machine.specs.declared.command.Mark.{Mark}
 use Rattle.vs_machine.specs.declared.command.Outcome.{Outcome}
 use Rattle.vs_machine.specs.declared.command.Outcome.TheVariants.{Done, NoMemory, Fault}
-use Rattle.vs_safety.specs.Texts.{Sync, IsBetween, IsFlag, Recovers, RecoversOrNone, recoverable}
+use Rattle.vs_safety.specs.Texts.{Sync, IsBetween, IsFlag, Recovers, RecoversOrNone, begun, recoverable}
 use Rattle.vs_safety.specs.Turns.{Turn, with_sync, last_turn}
-use Rattle.vs_safety.specs.Safety.{Spares, Works, Stepped}
+use Rattle.vs_safety.specs.Writes.{Write}
+use Rattle.vs_safety.specs.Safety.{Spares, Works, IsUnderWay, Stepped}
 use Rattle.vs_paged.specs.Fits as folder
 use Rattle.vs_paged.proofs.SyncLemmas.{fits_between, fits_recovers}
 use Rattle.vs_session.specs.declared.session.Session.{Session}
 use Rattle.vs_session.specs.declared.session.Step.{Step}
 use Rattle.vs_session.specs.declared.session.Step.TheVariants as steps
-use Rattle.vs_session.specs.Session.{SessionState, accepts_quit, after_sync, answered, begins_sync, carried, is_fault, own_reply, reply_of, sync_in}
+use Rattle.vs_session.specs.Session.{SessionState, Ended, accepts_quit, after_sync, answered, begins_sync, carried, is_fault, is_write, lacks_name, own_reply, reply_of, session_reply, state_after, sync_in, sync_of, write_in, write_of, written_state}
 use Rattle.vs_session.specs.Fits.{Answers, Fits, IsStep, Leaves, names_of}
 use Rattle.vs_session.proofs.SessionLemmas.{counted_same}
 
 -- ---- work on the folder
 
-inside_new : (old new : Scene) (P : Disk → Type 0) → ChangesFolder old new → (m : Snapshot) → Inside old P m → Inside new P m
+pub inside_new : (old new : Scene) (P : Disk → Type 0) → ChangesFolder old new → (m : Snapshot) → Inside old P m → Inside new P m
 inside_new old new P frame m inside = record {
   output = inside.output ∙ sym (ap (λ (s : Scene). s.output) frame);
   answered = inside.answered ∙ sym (ap (λ (s : Scene). length s.answers) frame);
@@ -46,32 +48,32 @@ inside_new old new P frame m inside = record {
 inside_as : (start : Scene) (P Q : Disk → Type 0) → ((d : Disk) → P d → Q d) → (m : Snapshot) → Inside start P m → Inside start Q m
 inside_as start P Q leads m inside = record { output = inside.output; answered = inside.answered; script_faults = inside.script_faults; out_faults = inside.out_faults; folder = leads m.folder inside.folder }
 
-pub works_runs : (names : Names) (P : Disk → Type 0) (step : Disk → Disk → Type 0) (old new : Scene) → ChangesFolder old new → ((d : Disk) → step old.folder d → Spares names P old.folder d) → Runs step old new → Works names P old new
+pub works_runs : (names : Names) (P : Disk → Type 0) (step : Disk → Disk → Type 0) (old new : Scene) → ChangesFolder old new → ((d : Disk) → step old.folder d → Spares names None P old.folder d) → Runs step old new → Works names None P old new
 works_runs names P step old new frame leads runs = record {
-  moments = goes_weaker (Inside old (step old.folder)) (Inside new (Spares names P old.folder))
-      (λ m inside. inside_new old new (Spares names P old.folder) frame m (inside_as old (step old.folder) (Spares names P old.folder) leads m inside)) old.trace new.trace runs.moments;
+  moments = goes_weaker (Inside old (step old.folder)) (Inside new (Spares names None P old.folder))
+      (λ m inside. inside_new old new (Spares names None P old.folder) frame m (inside_as old (step old.folder) (Spares names None P old.folder) leads m inside)) old.trace new.trace runs.moments;
   output = ap (λ (s : Scene). s.output) frame;
   spared = (leads new.folder runs.now).spared;
 }
 
-pub works_looks : (names : Names) (P : Disk → Type 0) (old new : Scene) → ReadsFolder old new → P old.folder → Looks old new → Works names P old new
+pub works_looks : (names : Names) (P : Disk → Type 0) (old new : Scene) → ReadsFolder old new → P old.folder → Looks old new → Works names None P old new
 works_looks names P old new frame here looks =
     works_runs names P (λ a b. b ≡ a) old new (reads_change old new frame)
-    (λ d is. subst (λ (e : Disk). Spares names P old.folder e) (sym is) (record { folder = here; spared = same_none (is_foreign names) old.folder })) looks
+    (λ d is. subst (λ (e : Disk). Spares names None P old.folder e) (sym is) (record { folder = here; spared = same_none (is_foreign names) old.folder })) looks
 
-pub works_then : (names : Names) (P : Disk → Type 0) (old mid new : Scene) → ChangesFolder mid new → Works names P old mid → Works names P mid new → Works names P old new
+pub works_then : (names : Names) (P : Disk → Type 0) (old mid new : Scene) → ChangesFolder mid new → Works names None P old mid → Works names None P mid new → Works names None P old new
 works_then names P old mid new frame first second = record {
-  moments = goes_then (Inside new (Spares names P old.folder)) old.trace mid.trace new.trace
-      (goes_weaker (Inside mid (Spares names P old.folder)) (Inside new (Spares names P old.folder)) (inside_new mid new (Spares names P old.folder) frame) old.trace mid.trace first.moments)
-      (goes_weaker (Inside new (Spares names P mid.folder)) (Inside new (Spares names P old.folder))
-      (inside_as new (Spares names P mid.folder) (Spares names P old.folder) (λ d spares. record { folder = spares.folder; spared = same_then (is_foreign names) old.folder mid.folder d first.spared spares.spared }))
+  moments = goes_then (Inside new (Spares names None P old.folder)) old.trace mid.trace new.trace
+      (goes_weaker (Inside mid (Spares names None P old.folder)) (Inside new (Spares names None P old.folder)) (inside_new mid new (Spares names None P old.folder) frame) old.trace mid.trace first.moments)
+      (goes_weaker (Inside new (Spares names None P mid.folder)) (Inside new (Spares names None P old.folder))
+      (inside_as new (Spares names None P mid.folder) (Spares names None P old.folder) (λ d spares. record { folder = spares.folder; spared = same_then (is_foreign names) old.folder mid.folder d first.spared spares.spared }))
       mid.trace new.trace second.moments);
   output = second.output ∙ first.output;
   spared = same_then (is_foreign names) old.folder mid.folder new.folder first.spared second.spared;
 }
 
 -- all names but those of the pair are no swap files
-apart_foreign : (names : Names) (name : Name) → is_foreign names name ≡ true → is_apart names name ≡ true
+pub apart_foreign : (names : Names) (name : Name) → is_foreign names name ≡ true → is_apart names name ≡ true
 apart_foreign names name foreign = elim (cases_Bool (is_swap names name)) [
   | inl swap ↦ absurd (true≢false (sym foreign ∙ ap (λ (b : Bool). not (b || (bytes_eq names.swp_new name || bytes_eq names.swo_new name))) swap))
   | inr apart ↦ ap not apart
@@ -88,12 +90,12 @@ flag_true names done old new rises = record { if_done = λ _. refl; rises = λ _
 pub flag_false : (names : Names) (old new : Disk) → (Rises names old new → ⊥) → IsFlag names false old new false
 flag_false names old new none = record { if_done = λ is. absurd (true≢false (sym is)); rises = λ _ is. absurd (true≢false (sym is)); if_rises = λ _ rises. absurd (none rises) }
 
-failed_is : (outcome : Outcome) → is_fault outcome ≡ true → outcome ≡ Fault
+pub failed_is : (outcome : Outcome) → is_fault outcome ≡ true → outcome ≡ Fault
 failed_is Done is = absurd (true≢false (sym is))
 failed_is NoMemory is = absurd (true≢false (sym is))
 failed_is Fault is = refl
 
-risen_since : (a b c : ℕ) → a ≤ b → HasRisen b c → HasRisen a c
+pub risen_since : (a b c : ℕ) → a ≤ b → HasRisen b c → HasRisen a c
 risen_since a b c le (inl less) = inl (omega (arith, le, less))
 risen_since a b c le (inr full) = inr full
 
@@ -103,92 +105,180 @@ between_synced names session disk state syncs is fits = subst (λ (n : Names). I
 pub recovers_synced : (names : Names) (session : Session) (disk : Disk) (state : SessionState) (syncs : List Sync) → names_of session ≡ names → Fits session disk state syncs → Recovers names (recoverable syncs) disk
 recovers_synced names session disk state syncs is fits = subst (λ (n : Names). Recovers n (recoverable syncs) disk) is (fits_recovers session.text disk state.machine.text syncs fits.stands.text)
 
+-- no write is under way
+pub no_write : (names : Names) (syncs : List Sync) (disk : Disk) → Recovers names (recoverable syncs) disk → IsUnderWay names syncs None disk
+no_write names syncs disk recovers = record { recovers = recovers; whole = tt }
+
+-- the syncs while the text of this state is synced
+abbrev pub under_sync : SessionState → List Sync → List Sync
+under_sync state syncs = begun state.machine.text (sync_in state false).dirty ∷ syncs
+
+-- while the text is synced
+pub synced_works : (names : Names) (session : Session) (old new : Scene) (state : SessionState) (syncs : List Sync) → names_of session ≡ names → Fits session old.folder state syncs → ChangesFolder old new
+    → Runs (folder.Syncing session.text) old new → Works names None (IsUnderWay names (under_sync state syncs) None) old new
+synced_works names session old new state syncs is fits frame runs =
+    subst (λ (n : Names). Works n None (IsUnderWay n (under_sync state syncs) None) old new) is
+    (works_runs (names_of session) (IsUnderWay (names_of session) (under_sync state syncs) None) (folder.Syncing session.text) old new frame
+    (λ d syncing. record {
+      folder = no_write (names_of session) (under_sync state syncs) d (syncing.safe state.machine.text syncs fits.stands.text);
+      spared = spares_apart (names_of session) old.folder d (syncing.spared state.machine.text syncs fits.stands.text);
+    }) runs)
+
+-- after a sync that was acknowledged, before anything else
+pub recovers_under : (before between : Session) (state : SessionState) (syncs : List Sync) (disk : Disk) → names_of between ≡ names_of before → Fits between disk (after_sync state true) (sync_in state true ∷ syncs)
+    → Recovers (names_of before) (recoverable (under_sync state syncs)) disk
+recovers_under before between state syncs disk same synced image whole =
+    let given = recovers_synced (names_of before) between disk (after_sync state true) (sync_in state true ∷ syncs) same synced image whole in
+    (given.0, elim given.1 [ inl is ↦ inl is | inr none ↦ absurd none ], given.2)
+
+here_synced : (before between : Session) (state : SessionState) (syncs : List Sync) (disk : Disk) → names_of between ≡ names_of before → Fits between disk (after_sync state true) (sync_in state true ∷ syncs)
+    → IsUnderWay (names_of before) (under_sync state syncs) None disk
+here_synced before between state syncs disk same synced =
+    no_write (names_of before) (under_sync state syncs) disk (recovers_under before between state syncs disk same synced)
+
+abbrev under_way : Session → SessionState → List Sync → Disk → Type 0
+under_way before state syncs disk = IsUnderWay (names_of before) (under_sync state syncs) None disk
+
+-- a sync that was acknowledged, and calls after it that only look at the folder
+pub looked_synced : (before after : Session) (state : SessionState) (syncs : List Sync) (then : SessionState) (done failed : Bool) (reply : List ℕ) (old mid new : Scene) → Fits before old.folder state syncs
+    → (between : Session) → names_of between ≡ names_of before → names_of after ≡ names_of before → ChangesFolder old mid
+    → Runs (folder.Syncing before.text) old mid → Rises (names_of before) old.folder mid.folder → Fits between mid.folder (after_sync state true) (sync_in state true ∷ syncs)
+    → new.folder ≡ mid.folder → ChangesFolder mid new → Looks mid new → (failed ≡ true → HasRisen old.folder_faults new.folder_faults) → Fits after new.folder then (sync_in state true ∷ syncs)
+    → Stepped (names_of before) syncs (record { found = Some old.folder; sync = Some (sync_in state true); write = None; done = done; failed = failed; reply = reply }) old new
+looked_synced before after state syncs then done failed reply old mid new fits between same names frame runs rises synced stays second looks cause now = record {
+  works = works_then (names_of before) (under_way before state syncs) old mid new second (synced_works (names_of before) before old mid state syncs refl fits frame runs)
+      (works_runs (names_of before) (under_way before state syncs) (λ a b. b ≡ a) mid new second
+      (λ d is. subst (λ (e : Disk). Spares (names_of before) None (under_way before state syncs) mid.folder e) (sym is) (record { folder = here_synced before between state syncs mid.folder same synced; spared = same_none (is_foreign (names_of before)) mid.folder })) looks);
+  found = refl;
+  wrote = tt;
+  whole = tt;
+  flag = flag_true (names_of before) done old.folder new.folder (subst (λ (d : Disk). Rises (names_of before) old.folder d) (sym stays) rises);
+  cause = cause;
+  between = between_synced (names_of before) after new.folder then (sync_in state true ∷ syncs) names now;
+}
+
 -- ---- one command
+
+and_false : (b : Bool) → (b && false) ≡ false
+and_false true = refl
+and_false false = refl
+
+-- a command that writes no file is answered by the session, or by the machine
+plain_reply : (state : SessionState) (found : Disk) (parsed : _) → is_write parsed ≡ false → own_reply state.options parsed ≡ session_reply state found parsed
+plain_reply state found (Ok (WriteFile bang)) none = absurd (true≢false none)
+plain_reply state found parsed none = refl
 
 module _ (state : SessionState) (syncs : List Sync) (instruction : Instruction) (before : Session) (old : Scene) (goes_on : accepts_quit state instruction ≡ false) (fits : Fits before old.folder state syncs) where
   abbrev begins : Bool
   begins = begins_sync state instruction
 
-  abbrev turn_with : Option Sync → Mark → Answer → Turn
-  turn_with sync mark reply = record { sync = sync; done = is_done mark.outcome; failed = is_fault mark.outcome; reply = reply.bytes }
+  abbrev writes : Bool
+  writes = is_write instruction.parsed
 
-  -- no sync
-  pub answers_plainly : (after : Session) (mark : Mark) (reply : Answer) (new : Scene) → begins ≡ false → names_of after ≡ names_of before → ReadsFolder old new → Looks old new
-      → HasCause old.folder_faults new.folder_faults (mark.outcome ≡ Fault) → reply ≡ answered mark.outcome (own_reply instruction.parsed) (machine.reply_of state.machine instruction mark)
-      → Fits after new.folder (carried state instruction mark) syncs → Answers state syncs instruction before after mark reply old new
-  answers_plainly after mark reply new none names frame looks cause replied now = record {
+  abbrev ended_with : Mark → Bool → Ended
+  ended_with mark acknowledged = record { mark = mark; acknowledged = acknowledged; found = old.folder }
+
+  abbrev lacks : Bool
+  lacks = lacks_name state.options state.name old.folder
+
+  -- the answer, by the sync and the write that the command began
+  pub assemble : (after : Session) (mark : Mark) (acknowledged : Bool) (reply : Answer) (new : Scene) (sync : Option Sync) (write : Option Write) → sync_of state instruction (ended_with mark acknowledged) ≡ sync
+      → write_of state instruction (ended_with mark acknowledged) ≡ write → reply ≡ reply_of state instruction (ended_with mark acknowledged)
+      → Fits after new.folder (state_after state instruction (ended_with mark acknowledged)) (with_sync sync syncs)
+      → Stepped (names_of before) syncs (record { found = Some old.folder; sync = sync; write = write; done = is_done mark.outcome; failed = is_fault mark.outcome; reply = (reply_of state instruction (ended_with mark acknowledged)).bytes }) old new
+      → Answers state syncs instruction before after mark reply old new
+  assemble after mark acknowledged reply new sync write sync_is write_is replied now stepped = record {
     not_quit = goes_on;
-    acknowledged = false;
+    ended = ended_with mark acknowledged;
+    mark_is = refl;
     reply_is = replied;
-    fits = subst (λ (b : Bool). Fits after new.folder (carried (after_sync state (b && false)) instruction mark) (with_sync (cond b (Some (sync_in state false)) None) syncs)) (sym none) now;
-    stepped = subst (λ (b : Bool). Stepped (names_of before) syncs (turn_with (cond b (Some (sync_in state false)) None) mark (reply_of state instruction (record { mark = mark; acknowledged = false }))) old new) (sym none)
+    fits = subst (λ (o : Option Sync). Fits after new.folder (state_after state instruction (ended_with mark acknowledged)) (with_sync o syncs)) (sym sync_is) now;
+    stepped = subst (λ (t : Turn). Stepped (names_of before) syncs t old new)
+        (λ i. record { found = Some old.folder; sync = sym sync_is i; write = sym write_is i; done = is_done mark.outcome; failed = is_fault mark.outcome; reply = (reply_of state instruction (ended_with mark acknowledged)).bytes }) stepped;
+  }
+
+  sync_is : (b : Bool) (mark : Mark) (acknowledged : Bool) → begins ≡ b → sync_of state instruction (ended_with mark acknowledged) ≡ cond b (Some (sync_in state acknowledged)) None
+  sync_is b mark acknowledged is = ap (λ (c : Bool). cond c (Some (sync_in state acknowledged)) None) is
+
+  -- a command that writes no file
+  module _ (plain : writes ≡ false) where
+    no_file : (mark : Mark) (acknowledged : Bool) → write_of state instruction (ended_with mark acknowledged) ≡ None
+    no_file mark acknowledged = ap (λ (w : Bool). cond ((w && acknowledged) && not lacks) (Some (write_in state old.folder)) None) plain
+
+    plainly : (after : Session) (mark : Mark) (acknowledged : Bool) (new : Scene) (b : Bool) (ss : List Sync) → begins ≡ b → Fits after new.folder (carried (after_sync state (b && acknowledged)) instruction mark) ss
+        → Fits after new.folder (state_after state instruction (ended_with mark acknowledged)) ss
+    plainly after mark acknowledged new b ss is now =
+        let synced : SessionState = after_sync state (begins && acknowledged) in
+        subst (λ (w : Bool). Fits after new.folder (cond (((w && acknowledged) && not lacks) && is_done mark.outcome) (written_state synced) (carried synced instruction mark)) ss) (sym plain)
+        (subst (λ (c : Bool). Fits after new.folder (carried (after_sync state (c && acknowledged)) instruction mark) ss) (sym is) now)
+
+    replied_plainly : (mark : Mark) (acknowledged : Bool) (reply : Answer) → reply ≡ answered mark.outcome (own_reply state.options instruction.parsed) (machine.reply_of state.machine instruction mark)
+        → reply ≡ reply_of state instruction (ended_with mark acknowledged)
+    replied_plainly mark acknowledged reply is =
+        is ∙ ap (λ (o : Option Answer). answered mark.outcome o (machine.reply_of state.machine instruction mark)) (plain_reply state old.folder instruction.parsed plain)
+
+    -- no sync
+    pub answers_plainly : (after : Session) (mark : Mark) (reply : Answer) (new : Scene) → begins ≡ false → names_of after ≡ names_of before → ReadsFolder old new → Looks old new
+        → HasCause old.folder_faults new.folder_faults (mark.outcome ≡ Fault) → reply ≡ answered mark.outcome (own_reply state.options instruction.parsed) (machine.reply_of state.machine instruction mark)
+        → Fits after new.folder (carried state instruction mark) syncs → Answers state syncs instruction before after mark reply old new
+    answers_plainly after mark reply new none names frame looks cause replied now =
+        assemble after mark false reply new None None (sync_is false mark false none) (no_file mark false) (replied_plainly mark false reply replied) (plainly after mark false new false syncs none now)
         (record {
-          works = works_looks (names_of before) (Recovers (names_of before) (recoverable syncs)) old new frame (recovers_synced (names_of before) before old.folder state syncs refl fits) looks;
+          works = works_looks (names_of before) (IsUnderWay (names_of before) syncs None) old new frame
+              (no_write (names_of before) syncs old.folder (recovers_synced (names_of before) before old.folder state syncs refl fits)) looks;
+          found = refl;
+          wrote = tt;
+          whole = tt;
           flag = tt;
           cause = λ failed. cause.risen (failed_is mark.outcome failed);
           between = between_synced (names_of before) after new.folder (carried state instruction mark) syncs names now;
-        });
-  }
+        })
+
+    -- a sync that was acknowledged, and the command after it
+    pub answers_synced : (between after : Session) (mark : Mark) (reply : Answer) (mid new : Scene) → begins ≡ true → names_of between ≡ names_of before → names_of after ≡ names_of before → ChangesFolder old mid
+        → Runs (folder.Syncing before.text) old mid → old.folder_faults ≤ mid.folder_faults → Rises (names_of before) old.folder mid.folder → Fits between mid.folder (after_sync state true) (sync_in state true ∷ syncs)
+        → ReadsFolder mid new → Looks mid new → HasCause mid.folder_faults new.folder_faults (mark.outcome ≡ Fault)
+        → reply ≡ answered mark.outcome (own_reply state.options instruction.parsed) (machine.reply_of state.machine instruction mark)
+        → Fits after new.folder (carried (after_sync state true) instruction mark) (sync_in state true ∷ syncs) → Answers state syncs instruction before after mark reply old new
+    answers_synced between after mark reply mid new begun same names frame runs later rises synced second looks cause replied now =
+        assemble after mark true reply new (Some (sync_in state true)) None (sync_is true mark true begun) (no_file mark true) (replied_plainly mark true reply replied) (plainly after mark true new true (sync_in state true ∷ syncs) begun now)
+        (looked_synced before after state syncs (carried (after_sync state true) instruction mark) (is_done mark.outcome) (is_fault mark.outcome) (reply_of state instruction (ended_with mark true)).bytes old mid new fits between same names frame runs rises synced
+        (ap (λ (s : Scene). s.folder) second) (reads_change mid new second) looks (λ failed. risen_since old.folder_faults mid.folder_faults new.folder_faults later (cause.risen (failed_is mark.outcome failed))) now)
 
   -- a sync that failed
   pub answers_failed : (after : Session) (at : ℕ) (reply : Answer) (new : Scene) → begins ≡ true → names_of after ≡ names_of before → ChangesFolder old new → Runs (folder.Syncing before.text) old new
       → HasRisen old.folder_faults new.folder_faults → reply ≡ refuses device_fault → (Rises (names_of before) old.folder new.folder → ⊥) → Fits after new.folder state (sync_in state false ∷ syncs)
       → Answers state syncs instruction before after (record { outcome = Fault; at = at }) reply old new
-  answers_failed after at reply new begun names frame runs risen replied none now = record {
-    not_quit = goes_on;
-    acknowledged = false;
-    reply_is = replied;
-    fits = subst (λ (b : Bool). Fits after new.folder (carried (after_sync state (b && false)) instruction mark) (with_sync (cond b (Some (sync_in state false)) None) syncs)) (sym begun) stays;
-    stepped = subst (λ (b : Bool). Stepped (names_of before) syncs (turn_with (cond b (Some (sync_in state false)) None) mark (reply_of state instruction (record { mark = mark; acknowledged = false }))) old new) (sym begun)
-        (record {
-          works = synced_works;
-          flag = flag_false (names_of before) old.folder new.folder none;
-          cause = λ _. risen;
-          between = between_synced (names_of before) after new.folder state (sync_in state false ∷ syncs) names now;
-        });
-  }
+  answers_failed after at reply new begun names frame runs risen replied none now =
+      assemble after mark false reply new (Some (sync_in state false)) None (sync_is true mark false begun)
+      (ap (λ (w : Bool). cond (w && not lacks) (Some (write_in state old.folder)) None) (and_false writes)) replied stays
+      (record {
+        works = synced_works (names_of before) before old new state syncs refl fits frame runs;
+        found = refl;
+        wrote = tt;
+        whole = tt;
+        flag = flag_false (names_of before) old.folder new.folder none;
+        cause = λ _. risen;
+        between = between_synced (names_of before) after new.folder state (sync_in state false ∷ syncs) names now;
+      })
     where
       mark : Mark
       mark = record { outcome = Fault; at = at }
 
-      stays : Fits after new.folder (carried state instruction mark) (sync_in state false ∷ syncs)
-      stays = record { stands = now.stands; cursor = now.cursor; saved = now.saved; steps = now.steps ∙ sym (counted_same state.steps (current_of state.machine)) }
+      carried_on : Fits after new.folder (carried state instruction mark) (sync_in state false ∷ syncs)
+      carried_on = record {
+        stands = now.stands;
+        name = now.name;
+        cursor = now.cursor;
+        saved = now.saved;
+        steps = now.steps ∙ sym (counted_same state.steps (current_of state.machine));
+        options = now.options;
+      }
 
-      synced_works : Works (names_of before) (Recovers (names_of before) (state.machine.text ∷ recoverable syncs)) old new
-      synced_works =
-          works_runs (names_of before) (Recovers (names_of before) (state.machine.text ∷ recoverable syncs)) (folder.Syncing before.text) old new frame
-          (λ d syncing. record { folder = syncing.safe state.machine.text syncs fits.stands.text; spared = spares_apart (names_of before) old.folder d (syncing.spared state.machine.text syncs fits.stands.text) }) runs
-
-  -- a sync that was acknowledged, and the command after it
-  pub answers_synced : (between after : Session) (mark : Mark) (reply : Answer) (mid new : Scene) → begins ≡ true → names_of between ≡ names_of before → names_of after ≡ names_of before → ChangesFolder old mid
-      → Runs (folder.Syncing before.text) old mid → old.folder_faults ≤ mid.folder_faults → Rises (names_of before) old.folder mid.folder → Fits between mid.folder (after_sync state true) (sync_in state true ∷ syncs)
-      → ReadsFolder mid new → Looks mid new → HasCause mid.folder_faults new.folder_faults (mark.outcome ≡ Fault) → reply ≡ answered mark.outcome (own_reply instruction.parsed) (machine.reply_of state.machine instruction mark)
-      → Fits after new.folder (carried (after_sync state true) instruction mark) (sync_in state true ∷ syncs) → Answers state syncs instruction before after mark reply old new
-  answers_synced between after mark reply mid new begun same names frame runs later rises synced second looks cause replied now = record {
-    not_quit = goes_on;
-    acknowledged = true;
-    reply_is = replied;
-    fits = subst (λ (b : Bool). Fits after new.folder (carried (after_sync state (b && true)) instruction mark) (with_sync (cond b (Some (sync_in state true)) None) syncs)) (sym begun) now;
-    stepped = subst (λ (b : Bool). Stepped (names_of before) syncs (turn_with (cond b (Some (sync_in state true)) None) mark (reply_of state instruction (record { mark = mark; acknowledged = true }))) old new) (sym begun)
-        (record {
-          works = works_then (names_of before) P old mid new (reads_change mid new second) first (works_looks (names_of before) P mid new second here looks);
-          flag = flag_true (names_of before) (is_done mark.outcome) old.folder new.folder (subst (λ (d : Disk). Rises (names_of before) old.folder d) (sym (ap (λ (s : Scene). s.folder) second)) rises);
-          cause = λ failed. risen_since old.folder_faults mid.folder_faults new.folder_faults later (cause.risen (failed_is mark.outcome failed));
-          between = between_synced (names_of before) after new.folder (carried (after_sync state true) instruction mark) (sync_in state true ∷ syncs) names now;
-        });
-  }
-    where
-      P : Disk → Type 0
-      P = Recovers (names_of before) (state.machine.text ∷ recoverable syncs)
-
-      first : Works (names_of before) P old mid
-      first = works_runs (names_of before) P (folder.Syncing before.text) old mid frame
-          (λ d syncing. record { folder = syncing.safe state.machine.text syncs fits.stands.text; spared = spares_apart (names_of before) old.folder d (syncing.spared state.machine.text syncs fits.stands.text) }) runs
-
-      here : P mid.folder
-      here image whole =
-          let given = recovers_synced (names_of before) between mid.folder (after_sync state true) (sync_in state true ∷ syncs) same synced image whole in
-          (given.0, elim given.1 [ inl is ↦ inl is | inr none ↦ absurd none ], given.2)
+      stays : Fits after new.folder (state_after state instruction (ended_with mark false)) (sync_in state false ∷ syncs)
+      stays =
+          subst (λ (w : Bool). Fits after new.folder (cond ((w && not lacks) && false) (written_state (after_sync state (begins && false))) (carried (after_sync state (begins && false)) instruction mark)) (sync_in state false ∷ syncs)) (sym (and_false writes))
+          (subst (λ (c : Bool). Fits after new.folder (carried (after_sync state (c && false)) instruction mark) (sync_in state false ∷ syncs)) (sym begun) carried_on)
 
 -- ---- the clock before it
 
@@ -199,12 +289,16 @@ answers_from state syncs instruction before after mark reply old mid new clock i
     subst (λ (s : Scene). Answers state syncs instruction before after mark reply s new) clock is in
     record {
       not_quit = now.not_quit;
-      acknowledged = now.acknowledged;
+      ended = now.ended;
+      mark_is = now.mark_is;
       reply_is = now.reply_is;
       fits = now.fits;
       stepped = record {
         works = record { moments = now.stepped.works.moments; output = now.stepped.works.output; spared = now.stepped.works.spared };
+        found = now.stepped.found;
         flag = now.stepped.flag;
+        wrote = now.stepped.wrote;
+        whole = now.stepped.whole;
         cause = now.stepped.cause;
         between = now.stepped.between;
       };
@@ -214,16 +308,14 @@ answers_from state syncs instruction before after mark reply old mid new clock i
 
 module _ (names : Names) (session : Session) (state : SessionState) (syncs : List Sync) (old new : Scene) (is : names_of session ≡ names) (fits : Fits session old.folder state syncs) (frame : ChangesFolder old new)
     (runs : Runs (folder.Syncing session.text) old new) where
-  last_works : Works names (Recovers names (state.machine.text ∷ recoverable syncs)) old new
-  last_works = subst (λ (n : Names). Works n (Recovers n (state.machine.text ∷ recoverable syncs)) old new) is
-      (works_runs (names_of session) (Recovers (names_of session) (state.machine.text ∷ recoverable syncs)) (folder.Syncing session.text) old new frame
-      (λ d syncing. record { folder = syncing.safe state.machine.text syncs fits.stands.text; spared = spares_apart (names_of session) old.folder d (syncing.spared state.machine.text syncs fits.stands.text) }) runs)
+  last_works : Works names None (IsUnderWay names (under_sync state syncs) None) old new
+  last_works = synced_works names session old new state syncs is fits frame runs
 
   pub last_acknowledged : Rises names old.folder new.folder → IsBetween names (sync_in state true ∷ syncs) new.folder → Stepped names syncs (last_turn (sync_in state true)) old new
-  last_acknowledged rises between = record { works = last_works; flag = flag_true names true old.folder new.folder rises; cause = λ no. absurd (true≢false (sym no)); between = between }
+  last_acknowledged rises between = record { found = tt; works = last_works; wrote = tt; whole = tt; flag = flag_true names true old.folder new.folder rises; cause = λ no. absurd (true≢false (sym no)); between = between }
 
   pub last_failed : HasRisen old.folder_faults new.folder_faults → (Rises names old.folder new.folder → ⊥) → IsBetween names (sync_in state false ∷ syncs) new.folder → Stepped names syncs (last_turn (sync_in state false)) old new
-  last_failed risen none between = record { works = last_works; flag = flag_false names old.folder new.folder none; cause = λ _. risen; between = between }
+  last_failed risen none between = record { found = tt; works = last_works; wrote = tt; whole = tt; flag = flag_false names old.folder new.folder none; cause = λ _. risen; between = between }
 
 pub last_step : {T E : Type 0} (result : Result T E) (session after : Session) (state : SessionState) (syncs : List Sync) (old new : Scene) → names_of after ≡ names_of session → Fits session old.folder state syncs
     → ChangesFolder old new → Runs (folder.Syncing session.text) old new → HasCause old.folder_faults new.folder_faults (IsErr result) → OnOk result (Rises (names_of session) old.folder new.folder)

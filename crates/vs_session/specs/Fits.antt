@@ -1,5 +1,5 @@
 -- A session between two commands, and what opening it, one step and its end do to the folder.
-use Rattle.std.specs.Prelude.{◌≡◌, ◌⊎◌, ℕ, max, Bool, true, false, List, [], ◌∷◌, ◌++◌, IsSome, None, string_bytes}
+use Rattle.std.specs.Prelude.{◌≡◌, ◌⊎◌, ℕ, max, true, false, List, [], ◌∷◌, ◌++◌, IsSome, None, string_bytes}
 use Rattle.vs_host.specs.Disk.{Disk, content_in}
 use Rattle.vs_host.specs.Names.{names_of_file}
 use Rattle.vs_host.specs.World.{Scene}
@@ -18,16 +18,18 @@ use Rattle.vs_paged.specs.Fits as paged
 use Rattle.vs_session.specs.declared.session.Session.{Session}
 use Rattle.vs_session.specs.declared.session.Step.{Step}
 use Rattle.vs_session.specs.declared.session.Step.TheVariants as step
-use Rattle.vs_session.specs.Session.{SessionState, accepts_quit, reply_of, state_after, syncs_after, turn_of}
+use Rattle.vs_session.specs.Session.{SessionState, Ended, accepts_quit, reply_of, state_after, syncs_after, turn_of}
 use Rattle.vs_session.specs.Standing.{FitsState}
 use Rattle.vs_session.specs.Opened.{Opened, text_in}
 
 -- The session is in this state, and the folder has the swap files that these syncs, the newest first, made.
 pub record Fits (session : Session) (disk : Disk) (state : SessionState) (syncs : List Sync) : Type 0 where
   pub stands : FitsState session.text session.history disk state.machine syncs
+  pub name : string_bytes session.name ≡ state.name
   pub cursor : session.cursor ≡ state.machine.cursor
   pub saved : session.saved ≡ state.saved
   pub steps : session.steps ≡ state.steps
+  pub options : session.options ≡ state.options
 
 -- the names of the file and of what goes with it
 abbrev pub names_of : Session → Names
@@ -75,11 +77,11 @@ pub record SameFile (old new : Session) : Type 0 where
 -- recovered is recovered.
 pub record Answers (state : SessionState) (syncs : List Sync) (instruction : Instruction) (before after : Session) (mark : Mark) (reply : Answer) (old new : Scene) : Type 0 where
   pub not_quit : accepts_quit state instruction ≡ false
-  pub acknowledged : Bool
-  pub reply_is : reply ≡ reply_of state instruction (record { mark = mark; acknowledged = acknowledged })
-  pub fits : Fits after new.folder (state_after state instruction (record { mark = mark; acknowledged = acknowledged }))
-      (syncs_after state instruction (record { mark = mark; acknowledged = acknowledged }) syncs)
-  pub stepped : Stepped (names_of before) syncs (turn_of state instruction (record { mark = mark; acknowledged = acknowledged })) old new
+  pub ended : Ended
+  pub mark_is : ended.mark ≡ mark
+  pub reply_is : reply ≡ reply_of state instruction ended
+  pub fits : Fits after new.folder (state_after state instruction ended) (syncs_after state instruction ended syncs)
+  pub stepped : Stepped (names_of before) syncs (turn_of state instruction ended) old new
 
 -- a command was answered, or an accepted `q` or `q!` changed nothing
 abbrev pub IsStep : Step → SessionState → List Sync → Instruction → Session → Session → Scene → Scene → Type 0
@@ -110,5 +112,5 @@ IsFault step.Quit = ⊥
 -- The swap files were removed: at each moment neither was there, or recovery went on to give what it might, and no name but those
 -- of the pair changed.
 pub record Leaves (names : Names) (syncs : List Sync) (old new : Scene) : Type 0 where
-  pub works : Works names (RecoversOrNone names (recoverable syncs)) old new
+  pub works : Works names None (RecoversOrNone names (recoverable syncs)) old new
   pub now : RecoversOrNone names (recoverable syncs) new.folder

@@ -3,3 +3,4 @@ pub mod Opened
 pub mod Open
 pub mod Standing
 pub mod Fits
+pub mod Writes

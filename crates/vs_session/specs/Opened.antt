@@ -21,4 +21,4 @@ text_in (Some bytes) = lines_of bytes
 
 -- what comes of opening the bytes under a name
 abbrev pub opened : List ℕ → Option (List ℕ) → Opened
-opened name file = record { name = name; found = sizes_of file; state = opened_state (text_in file) }
+opened name file = record { name = name; found = sizes_of file; state = opened_state name (text_in file) }

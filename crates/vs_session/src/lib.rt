@@ -9,6 +9,7 @@ mod opening;
 mod reading;
 mod session;
 mod step;
+mod writing;
 
 pub use ending::End;
 pub use open::OpenErr;

@@ -19,6 +19,7 @@ use crate::{OpenErr, Session};
 use std::alloc::{AllocError, Global};
 use vs_host::{Failed, Folder, Host, NameErr, Names};
 use vs_machine::{Reply, UndoTree};
+use vs_options::first_options;
 use vs_paged::OpeningText;
 
 // The names that go with a file whose name is allowed.
@@ -113,6 +114,7 @@ impl Session {
             history,
             saved: 0,
             steps: 0,
+            options: first_options(),
         })
     }
 

@@ -3,6 +3,7 @@ ghost use Rattle.std.specs.Prelude.{◌≡◌, ◌≤◌, length, string_bytes};
 ghost use Rattle.vs_host.specs.Names.{names_of_file};
 ghost use Rattle.vs_paged.specs.Fits.{names_of};
 
+use vs_backup::WriteOptions;
 use vs_machine::{Mark, Reply, UndoTree};
 use vs_paged::PagedText;
 
@@ -22,6 +23,7 @@ pub struct Session {
     pub(crate) saved: u64,
     // The steps since the last acknowledged sync that led to another state, counted up to 200.
     pub(crate) steps: u64,
+    pub(crate) options: WriteOptions,
     ghost short: { length (string_bytes name) ≤ 200 },
     ghost named: { names_of text ≡ names_of_file (string_bytes name) },
     ghost few_steps: { steps ≤ 200 },

@@ -1,5 +1,5 @@
 // One step of a session.
-ghost use Rattle.std.specs.Prelude.{◌≡◌, ◌+◌, ◌<◌, ◌≤◌, ◌==◌, ◌^◌, ◌∷◌, ℕ, List, true, false, IsErr, IsTrue, OnErr, OnOk, length};
+ghost use Rattle.std.specs.Prelude.{◌≡◌, ◌+◌, ◌<◌, ◌≤◌, ◌==◌, ◌^◌, ◌∷◌, ℕ, List, None, true, false, IsErr, IsTrue, OnErr, OnOk, length};
 ghost use Rattle.vs_faults.specs.Faults.{HasCause};
 ghost use Rattle.vs_host.specs.World.{ChangesFolder, ReadsFolder};
 ghost use Rattle.vs_disk.specs.Runs.{Looks};
@@ -12,17 +12,20 @@ ghost use Rattle.vs_machine.specs.declared.command.Mark.{Mark};
 ghost use Rattle.vs_safety.specs.Texts.{Sync};
 ghost use Rattle.vs_paged.specs.Fits.{Syncing};
 ghost use Rattle.vs_session.specs.Fits.{Fits, FitsUndo, IsFault, IsMarkedAt, IsStep, IsTimed, SameFile, StepsIn, generation_of, names_of};
-ghost use Rattle.vs_session.specs.Session.{SessionState, after_sync, answered, begins_after, carried, counted, is_move, own_reply, quits, sync_in};
+ghost use Rattle.vs_options.specs.Options.{options_with};
+ghost use Rattle.vs_session.specs.Session.{SessionState, after_sync, answered, begins_after, carried, counted, is_move, is_write, options_set, own_reply, quits, set_reply, sync_in};
 
 use crate::answering::answer_text;
 use crate::session::STEPS_BETWEEN_SYNCS;
 use crate::{Session, Step};
 use std::alloc::Global;
+use vs_backup::WriteOptions;
 use vs_edit::StoreErr;
 use vs_excmd::{Request, changes_text};
-use vs_exparse::Command;
+use vs_exparse::{Command, Setting};
 use vs_host::{Failed, Folder, Host};
 use vs_machine::{Answered, Mark, Outcome, Reply};
+use vs_options::{full_text, set};
 
 // Whether a command moves to another state of the history.
 fn is_move(command: &Command) -> bool
@@ -46,14 +49,45 @@ fn counted(steps: u64, same: bool) -> u64
     (steps + 1).min(STEPS_BETWEEN_SYNCS)
 }
 
+// Whether the command is `w`.
+fn is_write(request: &Request) -> bool
+    ensures { result ≡ is_write (result_of request.now.parsed) }
+{
+    matches!(request.parsed, Ok(Command::Write { .. }))
+}
+
+// The answer to a setting.
+fn set_reply(options: &WriteOptions, setting: Setting) -> Reply
+    ensures { result ≡ set_reply setting (options_with options.now setting) }
+{
+    match set(options, setting) {
+        Ok(_) => Reply::says(full_text(setting)),
+        Err(error) => Reply::error(error),
+    }
+}
+
 // What the session itself answers to a command that is no accepted quit.
-fn own_reply(request: &Request) -> Option<Reply>
-    ensures { result ≡ own_reply (result_of request.now.parsed) }
+fn own_reply(options: &WriteOptions, request: &Request) -> Option<Reply>
+    ensures { result ≡ own_reply options.now (result_of request.now.parsed) }
 {
     match &request.parsed {
         Ok(Command::Preserve) => Some(Reply::preserved()),
         Ok(Command::Quit { .. }) => Some(Reply::no_write()),
+        Ok(Command::Set { setting }) => Some(set_reply(options, *setting)),
         _ => None,
+    }
+}
+
+// The options after a command that was carried out.
+fn options_set(options: &WriteOptions, request: &Request) -> WriteOptions
+    ensures { result ≡ options_set options.now (result_of request.now.parsed) }
+{
+    match &request.parsed {
+        Ok(Command::Set { setting }) => match set(options, *setting) {
+            Ok(new) => new,
+            Err(_) => *options,
+        },
+        _ => *options,
     }
 }
 
@@ -73,7 +107,7 @@ impl Session {
         ensures { result ≡ begins_after self.now.steps (result_of request.now.parsed) }
     {
         match &request.parsed {
-            Ok(Command::Preserve) => true,
+            Ok(Command::Preserve | Command::Write { .. }) => true,
             Ok(command) => {
                 self.steps >= STEPS_BETWEEN_SYNCS && (changes_text(command) || is_move(command))
             }
@@ -103,7 +137,7 @@ impl Session {
         Ok(())
     }
 
-    // Has the machine carry a command out.
+    // Has the machine carry a command out that the session does not answer itself.
     fn run_machine<F: Folder>(
         &mut self,
         alloc: Global,
@@ -112,6 +146,7 @@ impl Session {
         at: u64,
     ) -> (Outcome, Reply)
         requires form { IsFormed request.now }
+        requires own { own_reply self.old.options (result_of request.now.parsed) ≡ None }
         requires undo { FitsUndo self.old }
         requires fits { IsTrue F.tells.folder → (state : SessionState) × (syncs : List Sync) × Fits self.old (F.scene host.old).folder state syncs }
         ensures reply { IsTrue F.tells.folder → (state : SessionState) (syncs : List Sync) (instruction : Instruction) → Fits self.old (F.scene host.old).folder state syncs
@@ -159,7 +194,7 @@ impl Session {
         requires fits { IsTrue F.tells.folder → (state : SessionState) × (syncs : List Sync) × Fits self.old (F.scene host.old).folder state syncs }
         ensures reply { IsTrue F.tells.folder → (state : SessionState) (syncs : List Sync) (instruction : Instruction) → Fits self.old (F.scene host.old).folder state syncs
             → IsRequest request.now instruction →
-            result.1 ≡ answered result.0 (own_reply instruction.parsed) (machine_reply state.machine instruction (record { outcome = result.0; at = at })) }
+            result.1 ≡ answered result.0 (own_reply state.options instruction.parsed) (machine_reply state.machine instruction (record { outcome = result.0; at = at })) }
         ensures fits { IsTrue F.tells.folder → (state : SessionState) (syncs : List Sync) (instruction : Instruction) → Fits self.old (F.scene host.old).folder state syncs
             → IsRequest request.now instruction → Fits self.new (F.scene host.new).folder (carried state instruction (record { outcome = result.0; at = at })) syncs }
         ensures looks { IsTrue F.tells.folder → Looks (F.scene host.old) (F.scene host.new) }
@@ -169,13 +204,16 @@ impl Session {
         ensures undo { FitsUndo self.new }
         ensures cause { HasCause (F.scene host.old).folder_faults (F.scene host.new).folder_faults (result.0 ≡ Outcome.Fault) }
     {
-        match own_reply(request) {
-            Some(reply) => (Outcome::Done, reply),
+        match own_reply(&self.options, request) {
+            Some(reply) => {
+                self.options = options_set(&self.options, request);
+                (Outcome::Done, reply)
+            }
             None => self.run_machine(alloc, host, request, at),
         }
     }
 
-    // Answers a command that begins a sync.
+    // Answers a command that begins a sync and writes no file.
     fn answer_synced<F: Folder>(
         &mut self,
         alloc: Global,
@@ -185,6 +223,7 @@ impl Session {
     ) -> Step
         requires form { IsFormed request.now }
         requires goes_on { quits (result_of request.now.parsed) (self.old.history.current == self.old.saved) ≡ false }
+        requires plain { is_write (result_of request.now.parsed) ≡ false }
         requires begins { begins_after self.old.steps (result_of request.now.parsed) ≡ true }
         requires room { generation_of self.old < 2 ^ 63 }
         requires undo { FitsUndo self.old }
@@ -232,6 +271,9 @@ impl Session {
         ensures undo { FitsUndo self.new }
         ensures cause { HasCause (F.scene host.old).folder_faults (F.scene host.new).folder_faults (IsFault result) }
     {
+        if is_write(request) {
+            return self.answer_write(alloc, host, at);
+        }
         if self.begins_sync(request) {
             return self.answer_synced(alloc, host, request, at);
         }
@@ -242,9 +284,9 @@ impl Session {
         }
     }
 
-    /// Answers one command. The clock is read once, when the command begins. `preserve`, and a change or a move after 200 steps
-    /// that led to another state, sync the text before all else (`:help :preserve`). Where the mark is not Done, the text, the
-    /// history and the cursor have not changed.
+    /// Answers one command. The clock is read once, when the command begins. `preserve` and `w`, and a change or a move after 200
+    /// steps that led to another state, sync the text before all else (`:help :preserve`). Where the mark is not Done, the text, the
+    /// history, the cursor and the options have not changed.
     pub fn step<H: Host>(&mut self, alloc: Global, host: &mut H, request: &Request) -> Step
         requires form { IsFormed request.now }
         requires clock { IsTrue (H.tells).clock → length (H.scene host.old).answers < 2 ^ 63 }

@@ -84,6 +84,14 @@ impl<F: Folder> Desk for TextDesk<F> {
         self.folder.create(name)
     }
 
+    fn create_private(&mut self, name: &str) -> Result<(), Failed> {
+        self.folder.create_private(name)
+    }
+
+    fn take_mode(&mut self, from: &str, to: &str) {
+        self.folder.take_mode(from, to);
+    }
+
     fn len(&mut self, name: &str) -> Result<u64, Failed> {
         self.folder.len(name)
     }
@@ -124,7 +132,13 @@ impl<F: Folder> Desk for TextDesk<F> {
         self.text.len()
     }
 
-    fn text_line(&mut self, alloc: Global, at: u64, into: &mut Vec<u8>) -> Result<(), StoreErr> {
-        self.text.line(alloc, at, into)
+    fn text_lines(
+        &mut self,
+        alloc: Global,
+        at: u64,
+        count: u64,
+        into: &mut Vec<u8>,
+    ) -> Result<(), StoreErr> {
+        self.text.copy_lines(alloc, at, count, into)
     }
 }

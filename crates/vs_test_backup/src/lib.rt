@@ -5,6 +5,8 @@ pub mod desk;
 #[cfg(test)]
 mod fixture;
 #[cfg(test)]
+mod modes;
+#[cfg(test)]
 mod names;
 #[cfg(test)]
 mod pieces;
@@ -12,3 +14,5 @@ mod pieces;
 mod rows;
 #[cfg(test)]
 mod stops;
+#[cfg(test)]
+mod watched;

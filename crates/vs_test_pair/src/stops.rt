@@ -18,14 +18,19 @@ const CALLS: u64 = 36;
 // The calls of a start.
 const START: u64 = 17;
 
-// A stop leaves these bytes where a file was changed and not synced.
-const KEEPS: [Keep; 5] = [
-    Keep::Read,
-    Keep::Synced,
-    Keep::Byte(0),
-    Keep::Byte(b'b'),
-    Keep::Byte(0xff),
-];
+// As many name changes as are pending at once in a life, and more: two files made, and two renamed.
+const PREFIXES: [u32; 6] = [0, 1, 2, 3, 4, u32::MAX];
+
+// What a stop may leave where a file was changed and not synced: the bytes as read or as last synced, or any one byte throughout.
+fn every_keep(alloc: Global) -> Result<Vec<Keep>, Fail> {
+    let mut keeps = Vec::new(alloc);
+    keeps.push(Keep::Read)?;
+    keeps.push(Keep::Synced)?;
+    for byte in 0..=u8::MAX {
+        keeps.push(Keep::Byte(byte))?;
+    }
+    Ok(keeps)
+}
 
 // A folder without files, in which this call fails, and each one after `stop`. Calls are counted from 1.
 pub fn empty_folder(alloc: Global, failing: u64, stop: u64) -> Result<MemHost, Fail>
@@ -97,18 +102,11 @@ fn check_images(
     host: &MemHost,
     life: &Life,
     over: bool,
-    prefixes: &[u32],
+    keeps: &[Keep],
 ) -> Result<(), Fail> {
-    for names in prefixes {
-        for keep in KEEPS {
-            let image = host.image(
-                alloc,
-                &Choice {
-                    names: *names,
-                    keep,
-                },
-                Vec::new(alloc),
-            )?;
+    for names in PREFIXES {
+        for keep in keeps {
+            let image = host.image(alloc, &Choice { names, keep: *keep }, Vec::new(alloc))?;
             if !is_allowed(life, recovered(&image)?, over) {
                 return Err(Fail::new("a text that may not be recovered"));
             }
@@ -131,16 +129,11 @@ fn a_life_without_faults_ends_without_files(rt: HostRuntime) -> Result<(), Fail>
 #[test]
 fn each_stop_leaves_a_text_that_may_be_recovered(rt: HostRuntime) -> Result<(), Fail> {
     let alloc = rt.alloc();
+    let keeps = every_keep(alloc)?;
     for calls in 0..=CALLS {
         let mut host = empty_folder(alloc, 0, calls)?;
         let life = live(alloc, &mut host)?;
-        check_images(
-            alloc,
-            &host,
-            &life,
-            calls > CALLS - 3,
-            &[0, 1, 2, 3, 4, 5, 6],
-        )?;
+        check_images(alloc, &host, &life, calls > CALLS - 3, &keeps)?;
     }
     Ok(())
 }
@@ -148,11 +141,12 @@ fn each_stop_leaves_a_text_that_may_be_recovered(rt: HostRuntime) -> Result<(), 
 #[test]
 fn each_fault_leaves_a_text_that_may_be_recovered(rt: HostRuntime) -> Result<(), Fail> {
     let alloc = rt.alloc();
+    let keeps = every_keep(alloc)?;
     for failing in 1..=CALLS {
         for calls in failing..=CALLS {
             let mut host = empty_folder(alloc, failing, calls)?;
             let life = live(alloc, &mut host)?;
-            check_images(alloc, &host, &life, calls > START, &[0, 6])?;
+            check_images(alloc, &host, &life, calls > START, &keeps)?;
         }
     }
     Ok(())

@@ -116,6 +116,12 @@ impl Folder for Comments {
         Ok(())
     }
 
+    fn create_private(&mut self, _name: &str) -> Result<(), Failed> {
+        Ok(())
+    }
+
+    fn take_mode(&mut self, _from: &str, _to: &str) {}
+
     fn len(&mut self, _name: &str) -> Result<u64, Failed> {
         Err(self.fail())
     }

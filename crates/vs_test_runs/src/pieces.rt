@@ -53,6 +53,14 @@ impl Folder for Pieces {
         self.inner.create(name)
     }
 
+    fn create_private(&mut self, name: &str) -> Result<(), Failed> {
+        self.inner.create_private(name)
+    }
+
+    fn take_mode(&mut self, from: &str, to: &str) {
+        self.inner.take_mode(from, to);
+    }
+
     fn len(&mut self, name: &str) -> Result<u64, Failed> {
         self.inner.len(name)
     }

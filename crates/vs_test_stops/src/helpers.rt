@@ -5,7 +5,7 @@ ghost use Rattle.vs_memory.specs.Memory.{folder_of};
 use std::alloc::Global;
 use std::test::Fail;
 use vs_memory::MemHost;
-use vs_top::run;
+use vs_top::{Report, run};
 
 /// A host with the file `f`, where there is one, and a script.
 pub fn host_with(alloc: Global, file: Option<&[u8]>, script: &[u8]) -> Result<MemHost, Fail>
@@ -19,15 +19,15 @@ pub fn host_with(alloc: Global, file: Option<&[u8]>, script: &[u8]) -> Result<Me
     Ok(host)
 }
 
-/// Runs `edit f`, and gives its exit status.
-pub fn edit_f(alloc: Global, host: &mut MemHost) -> Result<u8, Fail>
+/// Runs `edit f`.
+pub fn edit_f(alloc: Global, host: &mut MemHost) -> Result<Report, Fail>
     requires clock { host.old.answers ≡ [] }
     requires settled { (folder_of host.old).pending ≡ [] }
 {
     let mut words = Vec::new(alloc);
     words.push(String::from_str(alloc, "edit")?)?;
     words.push(String::from_str(alloc, "f")?)?;
-    Ok(run(alloc, words.as_slice(), host).status)
+    Ok(run(alloc, words.as_slice(), host))
 }
 
 /// The host after a run over the file `f` in which the call `failing` fails, and each one after `stop`. Calls are counted from 1.

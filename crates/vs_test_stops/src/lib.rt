@@ -2,12 +2,16 @@
 #![tactic(auto)]
 
 #[cfg(test)]
+mod allowed;
+#[cfg(test)]
 mod helpers;
+#[cfg(test)]
+mod preserving;
 #[cfg(test)]
 mod recovery;
 #[cfg(test)]
 mod rows;
 #[cfg(test)]
-mod script;
-#[cfg(test)]
 mod stops;
+#[cfg(test)]
+mod story;

@@ -1,5 +1,7 @@
 // What is recovered of the images of a folder.
-use crate::script::{Allowed, after};
+use crate::allowed::{Allowed, after, allowed_after};
+use crate::helpers::after_run;
+use crate::story::{FILE, Story};
 use std::alloc::Global;
 use std::test::Fail;
 use vs_host::Names;
@@ -7,11 +9,33 @@ use vs_memory::{Choice, Keep, MemHost};
 use vs_recover::{Chosen, RecErr, choose};
 use vs_text::Text;
 
-/// A stop leaves these bytes where a file was changed and not synced.
-pub const KEEPS: [Keep; 3] = [Keep::Read, Keep::Synced, Keep::Byte(b'?')];
+/// What a stop may leave where a file was changed and not synced: the bytes as read or as last synced, or one byte throughout.
+pub const KEEPS: [Keep; 7] = [
+    Keep::Read,
+    Keep::Synced,
+    Keep::Byte(0),
+    Keep::Byte(b'0'),
+    Keep::Byte(b'b'),
+    Keep::Byte(b't'),
+    Keep::Byte(0xff),
+];
 
-// As many name changes as are pending at once in a run, and more.
-const PREFIXES: [u32; 6] = [0, 1, 2, 3, 4, u32::MAX];
+/// The same with each byte.
+pub fn every_keep(alloc: Global) -> Result<Vec<Keep>, Fail> {
+    let mut keeps = Vec::new(alloc);
+    keeps.push(Keep::Read)?;
+    keeps.push(Keep::Synced)?;
+    for byte in 0..=u8::MAX {
+        keeps.push(Keep::Byte(byte))?;
+    }
+    Ok(keeps)
+}
+
+/// The calls that remove the swap files, and the one for the last line.
+pub const CLOSING: u64 = 3 + 1;
+
+/// As many name changes as are pending at once in a run: two files made, and two renamed.
+pub const PREFIXES: [u32; 5] = [0, 1, 2, 3, 4];
 
 // Whether a text has this form as a file.
 fn is_text(text: &Text, file: &[u8]) -> bool {
@@ -28,7 +52,7 @@ fn is_text(text: &Text, file: &[u8]) -> bool {
     rest.is_empty()
 }
 
-fn is_allowed(allowed: &Allowed, chosen: &Result<Chosen, RecErr>) -> bool {
+fn is_allowed(allowed: &Allowed<'_>, chosen: &Result<Chosen, RecErr>) -> bool {
     match chosen {
         Ok(Chosen::Text(text)) => allowed.texts.iter().any(|file| is_text(text, file)),
         Err(RecErr::NoSwap) => allowed.none,
@@ -36,11 +60,11 @@ fn is_allowed(allowed: &Allowed, chosen: &Result<Chosen, RecErr>) -> bool {
     }
 }
 
-/// An image of which something else is recovered, where there is one.
-pub fn find_wrong(
+// An image of which something else is recovered, where there is one.
+fn find_wrong(
     alloc: Global,
     host: &MemHost,
-    allowed: &Allowed,
+    allowed: &Allowed<'_>,
     keeps: &[Keep],
 ) -> Result<Option<Choice>, Fail> {
     let names = Names::of(alloc, "f").ok().ok_or("the name is allowed")?;
@@ -57,4 +81,56 @@ pub fn find_wrong(
         }
     }
     Ok(None)
+}
+
+/// The image of a stop of which something else is recovered than is allowed, where there is one.
+pub fn find_wrong_of(
+    alloc: Global,
+    host: &MemHost,
+    story: &Story,
+    closing: bool,
+    keeps: &[Keep],
+) -> Result<Option<Choice>, Fail> {
+    let mut allowed = allowed_after(alloc, &story.turns, host.output())?;
+    // all replies are whole, and nothing has been removed
+    if closing {
+        allowed.none = false;
+    }
+    find_wrong(alloc, host, &allowed, keeps)
+}
+
+/// A stop of a run in which this call fails, where none does if it is 0, of which something else is recovered, where there is one.
+pub fn find_wrong_stop(
+    alloc: Global,
+    story: &Story,
+    failing: u64,
+    keeps: &[Keep],
+) -> Result<Option<(u64, Choice)>, Fail> {
+    let whole = after_run(alloc, FILE, &story.script, failing, u64::MAX)?;
+    let calls = whole.calls();
+    let quits = whole.output().ends_with(b"quit\n");
+    for stop in failing..=calls {
+        let host = after_run(alloc, FILE, &story.script, failing, stop)?;
+        let closing = quits && calls - stop == CLOSING;
+        if let Some(choice) = find_wrong_of(alloc, &host, story, closing, keeps)? {
+            return Ok(Some((stop, choice)));
+        }
+    }
+    Ok(None)
+}
+
+/// Whether one of these texts, and nothing else, is recovered after a stop of a run in which a call fails.
+pub fn leaves(
+    alloc: Global,
+    story: &Story,
+    failing: u64,
+    stop: u64,
+    texts: &[&[u8]],
+) -> Result<bool, Fail> {
+    let host = after_run(alloc, FILE, &story.script, failing, stop)?;
+    let allowed = Allowed {
+        texts: Vec::from_slice(alloc, texts)?,
+        none: false,
+    };
+    Ok(find_wrong(alloc, &host, &allowed, &KEEPS)?.is_none())
 }

@@ -1,50 +1,90 @@
-// Two whole runs.
-use crate::helpers::{after_run, edit_f, host_with};
-use crate::recovery::{KEEPS, find_wrong};
-use crate::script::{Turn, allowed_after};
+// A run in which a sync fails.
+use crate::helpers::{edit_f, host_with};
+use crate::recovery::{KEEPS, find_wrong_stop, leaves};
+use crate::story::{FILE, Story};
+use std::alloc::Global;
 use std::process::Abort;
 use std::test::Fail;
+use vs_machine::{Mark, Outcome};
+use vs_memory::MemHost;
+use vs_top::Report;
 
-#[test]
-fn a_run_without_file_and_script_leaves_two_files_of_three_pages(
-    rt: HostRuntime,
-) -> Result<(), Fail> {
-    let alloc = rt.alloc();
-    let mut host = host_with(alloc, None, b"")?;
-    assert_eq!(rt; edit_f(alloc, &mut host)?, 0);
-    assert_eq!(rt; host.output(), b"\"f\" [New]\nFile preserved\n".as_slice());
-    assert!(rt; host.file(".f.swp").map(|file| file.len()) == Some(12_288));
-    assert!(rt; host.file(".f.swo").map(|file| file.len()) == Some(12_288));
-    Ok(())
-}
-
-const TWICE: &[u8] = b"$a\nx\n.\npre\n$a\ny\n.\npre\nq!\n";
+const TWICE: &str = ">$a
+>x
+>.
+<change 1, 2 lines
+>pre
+<File preserved
+=a
+=x
+>$a
+>y
+>.
+<change 2, 3 lines
+>pre
+<File preserved
+=a
+=x
+=y
+";
 
 const REPLIES: &[u8] =
     b"\"f\" 1L, 2B\nchange 1, 2 lines\ndevice fault\nchange 2, 3 lines\nFile preserved\nquit\n";
 
-const TURNS: [Turn; 4] = [
-    Turn::Replies(b"change 1, 2 lines\n"),
-    Turn::Preserves(b"a\nx\n"),
-    Turn::Replies(b"change 2, 3 lines\n"),
-    Turn::Preserves(b"a\nx\ny\n"),
-];
+const MARKS: [Mark; 4] = [DONE, FAULT, DONE, DONE];
+
+const DONE: Mark = Mark {
+    outcome: Outcome::Done,
+    at: 0,
+};
+
+const FAULT: Mark = Mark {
+    outcome: Outcome::Fault,
+    at: 0,
+};
 
 // The last call of the first sync, which comes after 22 calls, the opening reply, the read of the script and one reply.
 const FAILING: u64 = 22 + 1 + 1 + 1 + 8;
 
+// The second change has its reply after that of the first `pre`.
+const CHANGED: u64 = FAILING + 2;
+
+// The second `pre` has a sync of 8 calls and its reply.
+const PRESERVED: u64 = CHANGED + 8 + 1;
+
+fn failed_run(alloc: Global, story: &Story) -> Result<(MemHost, Report), Fail> {
+    let mut host = host_with(alloc, Some(FILE), &story.script)?;
+    host.fail_call(alloc, FAILING)?;
+    let report = edit_f(alloc, &mut host)?;
+    Ok((host, report))
+}
+
 #[test]
 fn a_failed_sync_is_told_and_the_next_one_succeeds(rt: HostRuntime) -> Result<(), Fail> {
     let alloc = rt.alloc();
-    let mut host = host_with(alloc, Some(b"a\n"), TWICE)?;
-    host.fail_call(alloc, FAILING)?;
-    assert_eq!(rt; edit_f(alloc, &mut host)?, 1);
+    let story = Story::of(alloc, TWICE)?;
+    let (host, report) = failed_run(alloc, &story)?;
+    assert_eq!(rt; report.status, 1);
+    assert!(rt; report.marks.as_slice() == MARKS.as_slice());
     assert_eq!(rt; host.output(), REPLIES);
-    for stop in FAILING..=host.calls() {
-        let host = after_run(alloc, b"a\n", TWICE, FAILING, stop)?;
-        let allowed = allowed_after(alloc, &TURNS, host.output())?;
-        let wrong = find_wrong(alloc, &host, &allowed, &KEEPS)?;
-        assert!(rt; wrong.is_none(), "{stop} calls: {wrong:?}");
-    }
+    Ok(())
+}
+
+#[test]
+fn each_stop_after_a_failed_sync_leaves_an_allowed_text(rt: HostRuntime) -> Result<(), Fail> {
+    let alloc = rt.alloc();
+    let story = Story::of(alloc, TWICE)?;
+    let wrong = find_wrong_stop(alloc, &story, FAILING, &KEEPS)?;
+    assert!(rt; wrong.is_none(), "{wrong:?}");
+    Ok(())
+}
+
+#[test]
+fn a_failed_sync_leaves_two_texts_and_the_next_one_its_own(rt: HostRuntime) -> Result<(), Fail> {
+    let alloc = rt.alloc();
+    let story = Story::of(alloc, TWICE)?;
+    assert!(rt; leaves(alloc, &story, FAILING, CHANGED, &[b"a\n", b"a\nx\n"])?);
+    assert!(rt; leaves(alloc, &story, FAILING, PRESERVED, &[b"a\nx\ny\n"])?);
+    assert!(rt; !leaves(alloc, &story, FAILING, PRESERVED, &[b"a\n", b"a\nx\n"])?);
     Ok(())
 }

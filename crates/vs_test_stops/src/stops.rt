@@ -1,35 +1,125 @@
 // A stop after each call of a run, and each call failing in turn: what is recovered is one of the texts of a plain list.
-use crate::helpers::{after_run, edit_f, host_with};
-use crate::recovery::{KEEPS, find_wrong};
-use crate::script::{FILE, OPENING, PRESERVED, SCRIPT, TURNS, Turn, allowed_after};
-use std::alloc::Global;
+use crate::helpers::after_run;
+use crate::recovery::{CLOSING, KEEPS, every_keep, find_wrong_stop};
+use crate::story::{FILE, Story};
 use std::process::Abort;
 use std::test::Fail;
 
-// The calls of the run: 22 before the opening reply, which is one; one that reads the script; three syncs of 8; one reply to each
-// of 12 commands; three that remove the swap files, and one for the last line.
-const CALLS: u64 = 22 + 1 + 1 + 3 * 8 + 12 + QUIT;
+const STORY: &str = ">$a
+>b
+>.
+<change 1, 2 lines
+>preserve
+<File preserved
+=a
+=b
+>1p
+<a
+>$i
+>c
+>d
+>.
+<change 2, 4 lines
+>9d
+<E16: Invalid range
+>2,3m$
+<change 3, 4 lines
+>preserve
+<File preserved
+=a
+=b
+=c
+=d
+>1,2co$
+<change 4, 6 lines
+>undo
+<at 3, 4 lines
+>redo
+<at 4, 6 lines
+>preserve
+<File preserved
+=a
+=b
+=c
+=d
+=a
+=b
+>undo 1
+<at 1, 2 lines
+>2c
+>e
+>.
+<change 5, 2 lines
+>x
+<E492: Not an editor command
+>preserve
+<File preserved
+=a
+=e
+>earlier 2
+<at 3, 4 lines
+>later
+<at 4, 6 lines
+>1,2j
+<change 6, 5 lines
+>%s/\\Va/x/
+<change 7, 5 lines
+>%nu
+<     1 x b
+<     2 c
+<     3 d
+<     4 x
+<     5 b
+>preserve
+<File preserved
+=x b
+=c
+=d
+=x
+=b
+>undolist
+<number changes saved
+<     5       2     -
+<     7       6     -
+>%d
+<change 8, 0 lines
+>%p
+<E16: Invalid range
+>preserve
+<File preserved
+0
+>undo
+<at 7, 5 lines
+>q
+<E37: No write since last change (add ! to override)
+>1t$
+<change 9, 6 lines
+>preserve
+<File preserved
+=x b
+=c
+=d
+=x
+=b
+=x b
+>=
+<6
+>later
+<Already at newest change
+>2d
+<change 10, 5 lines
+";
 
-const QUIT: u64 = 3 + 1;
-
-fn whole_output(alloc: Global) -> Result<Vec<u8>, Fail> {
-    let mut output = Vec::from_slice(alloc, OPENING)?;
-    for turn in TURNS {
-        output.extend_from_slice(match turn {
-            Turn::Replies(reply) => reply,
-            Turn::Preserves(_) => PRESERVED,
-        })?;
-    }
-    output.extend_from_slice(b"quit\n")?;
-    Ok(output)
-}
+// The calls of the run: 22 before the opening reply, which is one; one that reads the script; seven syncs of 8; one reply to each
+// of 32 commands; three that remove the swap files, and one for the last line.
+const CALLS: u64 = 22 + 1 + 1 + 7 * 8 + 32 + CLOSING;
 
 #[test]
 fn the_run_comes_to_its_end(rt: HostRuntime) -> Result<(), Fail> {
     let alloc = rt.alloc();
-    let mut host = host_with(alloc, Some(FILE), SCRIPT)?;
-    assert_eq!(rt; edit_f(alloc, &mut host)?, 1);
-    assert_eq!(rt; host.output(), whole_output(alloc)?.as_slice());
+    let story = Story::of(alloc, STORY)?;
+    assert_eq!(rt; story.turns.len(), 32);
+    let host = after_run(alloc, FILE, &story.script, 0, u64::MAX)?;
     assert_eq!(rt; host.calls(), CALLS);
     assert!(rt; host.file(".f.swp").is_none() && host.file(".f.swo").is_none());
     Ok(())
@@ -38,30 +128,19 @@ fn the_run_comes_to_its_end(rt: HostRuntime) -> Result<(), Fail> {
 #[test]
 fn each_stop_leaves_an_allowed_text(rt: HostRuntime) -> Result<(), Fail> {
     let alloc = rt.alloc();
-    for stop in 0..=CALLS {
-        let host = after_run(alloc, FILE, SCRIPT, 0, stop)?;
-        let mut allowed = allowed_after(alloc, &TURNS, host.output())?;
-        // all replies are whole, and nothing has been removed
-        if stop == CALLS - QUIT {
-            allowed.none = false;
-        }
-        let wrong = find_wrong(alloc, &host, &allowed, &KEEPS)?;
-        assert!(rt; wrong.is_none(), "{stop} calls: {wrong:?}");
-    }
+    let story = Story::of(alloc, STORY)?;
+    let wrong = find_wrong_stop(alloc, &story, 0, &every_keep(alloc)?)?;
+    assert!(rt; wrong.is_none(), "{wrong:?}");
     Ok(())
 }
 
 #[test]
 fn each_fault_and_a_stop_after_it_leave_an_allowed_text(rt: HostRuntime) -> Result<(), Fail> {
     let alloc = rt.alloc();
+    let story = Story::of(alloc, STORY)?;
     for failing in 1..=CALLS {
-        // a sync after one that failed may have more calls
-        for stop in failing..=CALLS + 8 {
-            let host = after_run(alloc, FILE, SCRIPT, failing, stop)?;
-            let allowed = allowed_after(alloc, &TURNS, host.output())?;
-            let wrong = find_wrong(alloc, &host, &allowed, &KEEPS)?;
-            assert!(rt; wrong.is_none(), "call {failing}, {stop} calls: {wrong:?}");
-        }
+        let wrong = find_wrong_stop(alloc, &story, failing, &KEEPS)?;
+        assert!(rt; wrong.is_none(), "call {failing}: {wrong:?}");
     }
     Ok(())
 }

@@ -107,8 +107,8 @@ module _ (tells : Tells) (name : List ℕ) (old now mid : Scene) (session : Sess
   stepping ok finishes = going_steps names old (text_at old name) (opening_at old name) now mid turns (last_turn (sync_in state ok)) (omega arith)
       (subst (λ (n : Names). Stepped n syncs (last_turn (sync_in state ok)) now mid) keeps.names (finishes.sync refl told.folder state syncs here.fits)) here.going
 
-  removal : (ok : Bool) → Finishes tells session now mid end.Quit ok → Works names (RecoversOrNone names (recoverable syncs)) now mid
-  removal ok finishes = subst (λ (n : Names). Works n (RecoversOrNone n (recoverable syncs)) now mid) keeps.names (finishes.quit refl told.folder state syncs here.fits).works
+  removal : (ok : Bool) → Finishes tells session now mid end.Quit ok → Works names None (RecoversOrNone names (recoverable syncs)) now mid
+  removal ok finishes = subst (λ (n : Names). Works n None (RecoversOrNone n (recoverable syncs)) now mid) keeps.names (finishes.quit refl told.folder state syncs here.fits).works
 
   -- the session's end failed
   failed_safe : (how : End) → Finishes tells session now mid how false → IsCrashSafe names old mid (ran_of name old (did how false))
@@ -127,9 +127,9 @@ module _ (tells : Tells) (name : List ℕ) (old now mid : Scene) (session : Sess
   -- the count of the output up to the last line
   counted : (how : End) → Finishes tells session now mid how true → IsCounted output_count old mid
   counted end.Sync finishes =
-      counted_works names _ old now mid (ap (λ (s : Scene). s.out_faults) finishes.frame)
+      counted_works names None _ old now mid (ap (λ (s : Scene). s.out_faults) finishes.frame)
       (subst (λ (n : Names). Stepped n syncs (last_turn (sync_in state true)) now mid) keeps.names (finishes.sync refl told.folder state syncs here.fits)).works here.counted.output
-  counted end.Quit finishes = counted_works names _ old now mid (ap (λ (s : Scene). s.out_faults) finishes.frame) (removal true finishes) here.counted.output
+  counted end.Quit finishes = counted_works names None _ old now mid (ap (λ (s : Scene). s.out_faults) finishes.frame) (removal true finishes) here.counted.output
 
   mid_output : (how : End) (ok : Bool) → Finishes tells session now mid how ok → mid.output ≡ old.output ++ written (opened_file old name) commands ends
   mid_output how ok finishes = ap (λ (s : Scene). s.output) finishes.frame ∙ output_is

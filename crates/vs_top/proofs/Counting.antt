@@ -1,5 +1,5 @@
 -- The counts of failed calls over the calls of a run.
-use Rattle.std.proofs.Common.{◌≡◌, ◌⊎◌, inl, inr, ℕ, ◌≤◌, ◌+◌, List, [], ◌∷◌, ◌++◌, length, map, All, refl, sym, ap, subst, ◌∙◌, arith}
+use Rattle.std.proofs.Common.{◌≡◌, ◌⊎◌, inl, inr, ℕ, ◌≤◌, ◌+◌, List, [], ◌∷◌, ◌++◌, Option, length, map, All, refl, sym, ap, subst, ◌∙◌, arith}
 use Rattle.std.proofs.lemmas.List.Elements.{All-nil, All-cons, All-head, All-tail, All-append}
 use Rattle.vs_faults.specs.Faults.{HasRisen}
 use Rattle.vs_faults.proofs.Causes.{risen_before, risen_after}
@@ -10,6 +10,7 @@ use Rattle.vs_host.specs.declared.names.Names.{Names}
 use Rattle.vs_disk.specs.Runs.{Inside}
 use Rattle.vs_disk.proofs.Runs.{goes_weaker}
 use Rattle.vs_script.specs.Reads.{IsAsBefore, ReadsAll}
+use Rattle.vs_safety.specs.Writes.{Write}
 use Rattle.vs_safety.specs.Safety.{Spares, Works}
 use Rattle.vs_safety.specs.Causes.{IsCounted, script_count, output_count, folder_count}
 use Rattle.vs_safety.proofs.Causes.{counted_on, counted_told}
@@ -39,10 +40,10 @@ causes_on a b c (m ∷ marks) later all =
     All-cons (HasCause a c) m marks (λ is. risen_before (All-head (HasCause a b) m marks all is) later) (causes_on a b c marks later (All-tail (HasCause a b) m marks all))
 
 -- the output's count is kept by work on the folder
-pub counted_works : (names : Names) (P : Disk → Type 0) (old now mid : Scene) → mid.out_faults ≡ now.out_faults → Works names P now mid → IsCounted output_count old now → IsCounted output_count old mid
-counted_works names P old now mid same works counted =
+pub counted_works : (names : Names) (write : Option Write) (P : Disk → Type 0) (old now mid : Scene) → mid.out_faults ≡ now.out_faults → Works names write P now mid → IsCounted output_count old now → IsCounted output_count old mid
+counted_works names write P old now mid same works counted =
     counted_on output_count old now mid
-    (goes_weaker (Inside mid (Spares names P now.folder)) (λ m. m.out_faults ≡ now.out_faults) (λ m inside. inside.out_faults ∙ same) now.trace mid.trace works.moments) same counted
+    (goes_weaker (Inside mid (Spares names write P now.folder)) (λ m. m.out_faults ≡ now.out_faults) (λ m inside. inside.out_faults ∙ same) now.trace mid.trace works.moments) same counted
 
 -- all three by a call that added its snapshot
 pub all_counted : (old now new : Scene) → IsRecorded WroteOutput [] now new → (moments : List Snapshot) → now.trace ≡ moments ++ old.trace → AreCounted old new

@@ -66,11 +66,11 @@ file_fits (Some bytes) over = elim (within_or_not (lines_of bytes)) [
   | inr not_within ↦ absurd (true≢false (sym (over not_within)))
 ]
 
-module _ (tells : Tells) (name : List ℕ) (old new : Scene) (all : IsTrue tells.folder → IsSettled (names_of_file name) old.folder) (acts : Acts tells (Opens name) old new) where
+module _ (tells : Tells) (name : List ℕ) (old new : Scene) (pending : IsTrue tells.folder → old.folder.pending ≡ []) (acts : Acts tells (Opens name) old new) where
   at_start : TellsRun tells → (HasSwap (names_of_file name) old.folder → ⊥) → RecoversOrNone (names_of_file name) (text_at old name ∷ []) old.folder
-  at_start told free image whole = inl (none_there (names_of_file name) old.folder (all told.folder) free image whole)
+  at_start told free image whole = inl (none_there (names_of_file name) old.folder (settled (names_of_file name) old.folder (pending told.folder)) free image whole)
 
-  works : TellsRun tells → (HasSwap (names_of_file name) old.folder → ⊥) → Works (names_of_file name) (RecoversOrNone (names_of_file name) (text_at old name ∷ [])) old new
+  works : TellsRun tells → (HasSwap (names_of_file name) old.folder → ⊥) → Works (names_of_file name) None (RecoversOrNone (names_of_file name) (text_at old name ∷ [])) old new
   works told free = works_from (names_of_file name) (RecoversOrNone (names_of_file name) (text_at old name ∷ [])) (Opens name) old old new refl refl refl acts.frame (acts.runs told.folder)
       (λ d opens. record { folder = opens.safe free; spared = opens.spared })
 
@@ -83,7 +83,7 @@ module _ (tells : Tells) (name : List ℕ) (old new : Scene) (all : IsTrue tells
       kept = kept_none name old marks none;
       answered = answered;
       safe = λ free. halted_safe (names_of_file name) old new (ran_of name old did_none) refl
-          (not_opened (names_of_file name) old (text_at old name) (opening_at old name) (opening_some name (opened_file old name).found) new (at_start told free) (works told free));
+          (not_opened (names_of_file name) old (text_at old name) (opening_at old name) (opening_some name (opened_file old name).found) new (pending told.folder) (at_start told free) (works told free));
       failed = failed;
       same = same;
     }
@@ -150,9 +150,9 @@ module _ (tells : Tells) (name : List ℕ) (old new : Scene) (all : IsTrue tells
     told = λ told. record {
       file = has told.folder;
       fits = fits told.folder;
-      opened_here = opening_ends (names_of_file name) old (text_at old name) (opening_at old name) (opening_some name (opened_file old name).found) new (at_start told (free told.folder)) (works told (free told.folder))
+      opened_here = opening_ends (names_of_file name) old (text_at old name) (opening_at old name) (opening_some name (opened_file old name).found) new (pending told.folder) (at_start told (free told.folder)) (works told (free told.folder))
           (subst (λ (n : Names). IsBetween n (opened (text_at old name)) new.folder) names (fits_between session.text new.folder _ _ (fits told.folder).stands.text));
-      counted = counted_works (names_of_file name) _ old old new (ap (λ (s : Scene). s.out_faults) acts.frame) (works told (free told.folder)) (counted_none output_count old);
+      counted = counted_works (names_of_file name) None _ old old new (ap (λ (s : Scene). s.out_faults) acts.frame) (works told (free told.folder)) (counted_none output_count old);
     };
     keeps = record { free = free; file = file; names = names; counts = only_folder old new acts.frame acts.later; causes = All-nil (HasCause (counts_of old) (counts_of new)) };
     script = ap (λ (s : Scene). s.script) acts.frame;

@@ -97,7 +97,7 @@ module _ (tells : Tells) (name : List ℕ) (old now read stepped : Scene) (sessi
     answers = step.step told.folder state syncs taken.first (subst (λ (d : Disk). Fits session d state syncs) (sym (ap (λ (s : Scene). s.folder) ok.after.frame)) here.fits) taken.meant
 
     abbrev ended : Ended
-    ended = record { mark = mark; acknowledged = answers.acknowledged }
+    ended = answers.ended
 
     abbrev turn : Turn
     turn = turn_of state taken.first ended
@@ -126,7 +126,7 @@ module _ (tells : Tells) (name : List ℕ) (old now read stepped : Scene) (sessi
     kept_did : (marks' : List Mark) → marks' ≡ marks ++ mark ∷ [] → IsKept (opened_file old name) marks' did
     kept_did marks' kept = record {
       one_each = one_more commands ends taken.first ended here.one_each;
-      marks_are = kept ∙ ap (λ (l : List Mark). l ++ mark ∷ []) here.marks_are ∙ sym (map_push (λ (e : Ended). e.mark) ends ended);
+      marks_are = kept ∙ ap (λ (l : List Mark). l ++ mark ∷ []) here.marks_are ∙ ap (λ (m : Mark). map (λ (e : Ended). e.mark) ends ++ m ∷ []) (sym answers.mark_is) ∙ sym (map_push (λ (e : Ended). e.mark) ends ended);
       none_quits = none_push taken.first ended first commands ends here.one_each here.none_quits answers.not_quit;
     }
 
@@ -160,7 +160,7 @@ module _ (tells : Tells) (name : List ℕ) (old now read stepped : Scene) (sessi
           });
           safe = λ free. halted_safe names old new (ran_of name old did) refl (subst (λ (ts : List Turn). Halted names old new (text_at old name) (opening_at old name) ts) (sym turns_are) halted);
           failed = rose_at output_count old stepped new WroteOutput [] writes.added rose
-              (counted_works names _ old read stepped (ap (λ (s : Scene). s.out_faults) step.frame) (subst (λ (k : Names). Stepped k syncs (turn_of state taken.first ended) read stepped) keeps answers.stepped).works
+              (counted_works names turn.write _ old read stepped (ap (λ (s : Scene). s.out_faults) step.frame) (subst (λ (k : Names). Stepped k syncs (turn_of state taken.first ended) read stepped) keeps answers.stepped).works
               (counted_reads old now read ok.after.frame ok.quiet (ok.all told.folder) here.counted).output);
           same = λ early. absurd (true≢false (sym early));
         }
@@ -191,8 +191,8 @@ module _ (tells : Tells) (name : List ℕ) (old now read stepped : Scene) (sessi
           one_each = was.one_each;
           marks_are = was.marks_are;
           none_quits = was.none_quits;
-          errors = ap (λ (b : Bool). clean && b) cleans ∙ ap (λ (b : Bool). b && (is_done mark.outcome && not reply.is_error)) here.errors ∙ and_not (any_error first commands ends) (is_done mark.outcome) reply.is_error
-              ∙ ap (λ (a : Answer). not (any_error first commands ends || (not (is_done mark.outcome) || a.is_error))) answers.reply_is
+          errors = ap (λ (b : Bool). clean && b) (cleans ∙ ap (λ (m : Mark). is_done m.outcome && not reply.is_error) (sym answers.mark_is)) ∙ ap (λ (b : Bool). b && (is_done ended.mark.outcome && not reply.is_error)) here.errors ∙ and_not (any_error first commands ends) (is_done ended.mark.outcome) reply.is_error
+              ∙ ap (λ (a : Answer). not (any_error first commands ends || (not (is_done ended.mark.outcome) || a.is_error))) answers.reply_is
               ∙ ap not (sym (errors_push taken.first ended first commands ends here.one_each));
           fits = subst (λ (d : Disk). Fits session' d (states_after first commands' ends') (after_turns (opened (text_at old name)) (turns_of first commands' ends'))) (sym writes.folder)
               (subst (λ (ss : List Sync). Fits session' stepped.folder (states_after first commands' ends') ss) (sym syncs_are)
@@ -412,8 +412,8 @@ quit_step step.Quit P none p = p
 pub fits_after : (state : SessionState) (syncs : List Sync) (instruction : Instruction) (session session' : Session) (mark : Mark) (reply : Answer) (read stepped new : Scene) → ChangesOutput stepped new
     → Answers state syncs instruction session session' mark reply read stepped → (state : SessionState) × (syncs : List Sync) × Fits session' new.folder state syncs
 fits_after state syncs instruction session session' mark reply read stepped new frame answers = (
-  state_after state instruction (record { mark = mark; acknowledged = answers.acknowledged }),
-  syncs_after state instruction (record { mark = mark; acknowledged = answers.acknowledged }) syncs,
-  subst (λ (d : Disk). Fits session' d (state_after state instruction (record { mark = mark; acknowledged = answers.acknowledged })) (syncs_after state instruction (record { mark = mark; acknowledged = answers.acknowledged }) syncs))
+  state_after state instruction answers.ended,
+  syncs_after state instruction answers.ended syncs,
+  subst (λ (d : Disk). Fits session' d (state_after state instruction answers.ended) (syncs_after state instruction answers.ended syncs))
       (sym (ap (λ (s : Scene). s.folder) frame)) answers.fits,
 )

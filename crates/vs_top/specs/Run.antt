@@ -292,7 +292,7 @@ ran_of name old did = record {
 }
 
 -- What a run did, over a host that tells: the commands of its script, what it answered, and the promise, of the same commands and
--- the same syncs. The promise is of a file that had no swap file.
+-- the same syncs and writes. The promise is of a file that had no swap file.
 pub record HasRun (name : List ℕ) (old new : Scene) (end : Ending) (marks : List Mark) : Type 0 where
   pub did : Did
   pub kept : IsKept (opened_file old name) marks did

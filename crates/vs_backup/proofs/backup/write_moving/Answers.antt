@@ -6,7 +6,7 @@ use Rattle.vs_host.specs.World.{Scene}
 use Rattle.vs_disk.specs.Images.{HoldsBytes}
 use Rattle.vs_disk.proofs.Runs.{one_call}
 use Rattle.vs_disk.proofs.Contents.{not_there}
-use Rattle.vs_backup.specs.Works.{Spares, two_names}
+use Rattle.vs_backup.specs.Works.{Spares, StandsUnder, two_names}
 use Rattle.vs_backup.specs.Writing.{IsKept, WritesOver}
 use Rattle.vs_backup.specs.declared.errors.Place.TheVariants as place
 use Rattle.vs_backup.specs.declared.errors.WriteErr.{WriteErr}
@@ -14,6 +14,7 @@ use Rattle.vs_backup.proofs.Calls.{synced_there}
 use Rattle.vs_backup.proofs.Frames.{spares_same}
 use Rattle.vs_backup.proofs.Kept.{guard_moved, moved_away, kept_by_name, settled_holds}
 use Rattle.vs_backup.proofs.Copying.{only_file, over_not_begun}
+use Rattle.vs_backup.proofs.Places.{under_still}
 use Rattle.vs_backup.proofs.Moving.{moving_done, moving_stopped}
 use Rattle.vs_backup.proofs.backup.write_moving.Goals as goal
 
@@ -28,7 +29,7 @@ returns-in-Ok-write_anew-clause-over g c told old is text has temporary =
     let kept = g.met.D.Desk.stays_text c.args.desk.now c.rename.new.self text c.rename.ensures.stays has in
     moving_done name backup old (file_of text) s0 s1 s2 is c.rename.ensures.frame c.rename.result (c.rename.ensures.told told) renames c.in-Ok-write_anew.size
     temporary c.requires.differ_name (g.D.World.is_folder c.write_anew.new.desk told)
-    (c.in-Ok-write_anew.ensures.anew told backup is.synced.number old (λ e. c.requires.differ_name (sym e)) (guard_moved name backup old s0.folder s1.folder is renames) text kept)
+    (c.in-Ok-write_anew.ensures.anew told is.synced.number old (λ e. c.requires.differ_name (sym e)) (guard_moved name backup old s0.folder s1.folder is renames) text kept)
 
 pub returns-in-Err-write_anew-clause-over : goal.returns-in-Err-write_anew-clause-over
 returns-in-Err-write_anew-clause-over g c told old is text has temporary =
@@ -41,7 +42,7 @@ returns-in-Err-write_anew-clause-over g c told old is text has temporary =
     let kept = g.met.D.Desk.stays_text c.args.desk.now c.rename.new.self text c.rename.ensures.stays has in
     subst (λ (error : WriteErr). WritesOver false name temporary backup old (file_of text) s0 s2 (Err error)) (sym c.with.ensures)
     (moving_stopped name backup old (file_of text) s0 s1 s2 is c.rename.ensures.frame c.rename.result (c.rename.ensures.told told) renames c.in-Err-write_anew.stop temporary
-    (c.in-Err-write_anew.ensures.anew told backup is.synced.number old (λ e. c.requires.differ_name (sym e)) (guard_moved name backup old s0.folder s1.folder is renames) text kept))
+    (c.in-Err-write_anew.ensures.anew told is.synced.number old (λ e. c.requires.differ_name (sym e)) (guard_moved name backup old s0.folder s1.folder is renames) text kept))
 
 pub returns-in-Err-clause-over : goal.returns-in-Err-clause-over
 returns-in-Err-clause-over g c told old is text has temporary =
@@ -55,7 +56,7 @@ returns-in-Err-clause-over g c told old is text has temporary =
     over_not_begun false name temporary backup old (file_of text) s0 s1
     (one_call (Spares on) Renamed (name ∷ backup ∷ []) c.rename.result s0 s1 c.rename.ensures.frame (c.rename.ensures.told told) (spares_same on s0.folder s1.folder c.in-Err.ensures.err))
     (one_call (λ a b. IsKept name backup old b) Renamed (name ∷ backup ∷ []) c.rename.result s0 s1 c.rename.ensures.frame (c.rename.ensures.told told) (kept_by_name name backup old s1.folder still))
-    (record { another = tt; kept = λ keeps. tt; in_backup = λ refused. absurd (only_file place.Backup (λ e. cc) refused) })
+    (record { under = one_call (StandsUnder name backup) Renamed (name ∷ backup ∷ []) c.rename.result s0 s1 c.rename.ensures.frame (c.rename.ensures.told told) (under_still name backup s0.folder s1.folder is.pending c.in-Err.ensures.err); another = tt; kept = λ keeps. tt; in_backup = λ refused. absurd (only_file place.Backup (λ e. cc) refused) })
     still
 
 pub rename-requires-clause-there : goal.rename-requires-clause-there

@@ -12,15 +12,15 @@ returns-clause-spares g c told =
     let on = one_name c.args.name.now in
     let s0 : Scene = g.D.World.scene c.args.desk.now in
     let s1 : Scene = g.D.World.scene c.clear_name.new.desk in
-    let s2 : Scene = g.D.World.scene c.create.new.self in
+    let s2 : Scene = g.D.World.scene c.create_for.new.desk in
     let here : Spares on s1.folder s2.folder =
-    either (IsTrue g.D.World.tells.folder → CreatesFile c.args.name.now s1.folder s2.folder) (s2.folder ≡ s1.folder) (Spares on s1.folder s2.folder) c.create.result
-    c.create.ensures.ok c.create.ensures.err (λ creates. spares_created c.args.name.now s1.folder s2.folder (creates told)) (λ same. spares_same on s1.folder s2.folder same) in
-    call_on (Spares on) (spares_then on) Created (c.args.name.now ∷ []) c.create.result s0 s1 s2 c.clear_name.ensures.frame (c.clear_name.ensures.spares told) c.create.ensures.frame here (c.create.ensures.told told)
+    either (IsTrue g.D.World.tells.folder → CreatesFile c.args.name.now s1.folder s2.folder) (s2.folder ≡ s1.folder) (Spares on s1.folder s2.folder) c.create_for.result
+    c.create_for.ensures.ok c.create_for.ensures.err (λ creates. spares_created c.args.name.now s1.folder s2.folder (creates told)) (λ same. spares_same on s1.folder s2.folder same) in
+    call_on (Spares on) (spares_then on) Created (c.args.name.now ∷ []) c.create_for.result s0 s1 s2 c.clear_name.ensures.frame (c.clear_name.ensures.spares told) c.create_for.ensures.frame here (c.create_for.ensures.told told)
 
 pub returns-clause-alone : goal.returns-clause-alone
 returns-clause-alone g c =
     let s1 : Scene = g.D.World.scene c.clear_name.new.desk in
-    let s2 : Scene = g.D.World.scene c.create.new.self in
-    ok_leads (IsTrue g.D.World.tells.folder → CreatesFile c.args.name.now s1.folder s2.folder) (IsTrue g.D.World.tells.folder → IsAlone c.args.name.now s2.folder) c.create.result
-    (λ creates told. alone_created c.args.name.now s1.folder s2.folder (creates told)) c.create.ensures.ok
+    let s2 : Scene = g.D.World.scene c.create_for.new.desk in
+    ok_leads (IsTrue g.D.World.tells.folder → CreatesFile c.args.name.now s1.folder s2.folder) (IsTrue g.D.World.tells.folder → IsAlone c.args.name.now s2.folder) c.create_for.result
+    (λ creates told. alone_created c.args.name.now s1.folder s2.folder (creates told)) c.create_for.ensures.ok

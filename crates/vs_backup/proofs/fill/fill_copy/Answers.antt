@@ -76,19 +76,19 @@ pub returns-clause-runs : goal.returns-clause-runs
 returns-clause-runs g c told =
     let s0 : Scene = g.D.World.scene c.args.desk.now in
     let s1 : Scene = g.D.World.scene c.pieces.desk in
-    let s2 : Scene = g.D.World.scene c.sync.new.self in
-    sync_changes c.args.to.now (IsTrue g.D.World.tells.folder) c.sync.result s0 s1 s2 told c.pieces.invariant.frame (c.pieces.invariant.runs told) c.sync.ensures.ok c.sync.ensures.err c.sync.ensures.frame (c.sync.ensures.told told)
+    let s2 : Scene = g.D.World.scene c.sync_like.new.desk in
+    sync_changes c.args.to.now (IsTrue g.D.World.tells.folder) c.sync_like.result s0 s1 s2 told c.pieces.invariant.frame (c.pieces.invariant.runs told) c.sync_like.ensures.ok c.sync_like.ensures.err c.sync_like.ensures.frame (c.sync_like.ensures.told told)
 
 pub returns-clause-ok : goal.returns-clause-ok
 returns-clause-ok g c =
     let s0 : Scene = g.D.World.scene c.args.desk.now in
     let s1 : Scene = g.D.World.scene c.pieces.desk in
-    let s2 : Scene = g.D.World.scene c.sync.new.self in
+    let s2 : Scene = g.D.World.scene c.sync_like.new.desk in
     ok_leads (IsTrue g.D.World.tells.folder → ChangesFile c.args.to.now Syncs s1.folder s2.folder)
-    (IsTrue g.D.World.tells.folder → (bytes : List ℕ) → content_of s0 c.args.from.now ≡ Some bytes → IsSynced c.args.to.now bytes s2.folder) c.sync.result
+    (IsTrue g.D.World.tells.folder → (bytes : List ℕ) → content_of s0 c.args.from.now ≡ Some bytes → IsSynced c.args.to.now bytes s2.folder) c.sync_like.result
     (λ syncs told bytes is.
     let had = c.pieces.invariant.copied told in
     let one : had.0 ≡ bytes = some_bytes had.0 bytes (sym had.1 ∙ is) in
     let all : take c.pieces.at had.0 ≡ had.0 = let past : length had.0 ≤ c.pieces.at = omega (arith, had.2) in take_all c.pieces.at had.0 past in
     synced_content c.args.to.now bytes s1.folder s2.folder (syncs told) (had.3 ∙ ap (λ (b : List ℕ). Some b) (all ∙ one)))
-    c.sync.ensures.ok
+    c.sync_like.ensures.ok

@@ -10,7 +10,7 @@ use Rattle.vs_modes.specs.Info.{AreInfos, RefusesInfo, RunsInfo}
 use Rattle.vs_modes.specs.Modes.{Ended}
 use Rattle.vs_modes.specs.Moments.{IsSame}
 use Rattle.vs_modes.proofs.Phases.{refused_as, reads_proceed, mode_refused, mode_idle, mode_written}
-use Rattle.vs_modes.proofs.RefusalLaws.{infos_refused, infos_are, not_output, is_failed}
+use Rattle.vs_modes.proofs.RefusalLaws.{infos_refused, infos_are, not_output, is_failed, not_failed}
 use Rattle.vs_modes.proofs.describing.info.Goals as goal
 
 pub returns-in_err-names : goal.returns-in_err-names
@@ -29,7 +29,7 @@ returns-in_err-lines g c =
     subst (λ (n : Names). RunsInfo g.H.World.tells n s0 s1 c.from_residual-in_err-lines.result) c.in_ok-names.ensures.names
     (subst (λ (r : Ended). RunsInfo g.H.World.tells names s0 s1 r) (refused_as c.from_residual-in_err-lines.result (refusal_of why) c.from_residual-in_err-lines.ensures.1)
     (mode_refused IsSame (AreInfos (content_of s0 names.swp) (content_of s0 names.swo) names.swp names.swo) (RefusesInfo (content_of s0 names.swp) (content_of s0 names.swo)) g.H.World.tells s0 s1 (refusal_of why) (not_output why)
-    (λ is. c.info.ensures.failed (c.in_err-lines.was ∙ ap (λ (w : RecErr). Err w) (is_failed why is))) c.info.ensures.later (reads_change s0 s1 c.info.ensures.reads.frame) (reads_proceed g.H.World.tells s0 s1 c.info.ensures.reads)
+    (λ is. c.info.ensures.failed (c.in_err-lines.was ∙ ap (λ (w : RecErr). Err w) (is_failed why is))) (λ not. (c.info.ensures.none (not_failed c.info.result why c.in_err-lines.was not)).faults) c.info.ensures.later (reads_change s0 s1 c.info.ensures.reads.frame) (reads_proceed g.H.World.tells s0 s1 c.info.ensures.reads)
     (λ told. infos_refused (content_of s0 names.swp) (content_of s0 names.swo) names.swp names.swo why (c.in_err-lines.ensures.answer told))))
 
 pub returns : goal.returns
@@ -40,5 +40,5 @@ returns g c =
     let names : Names = c.in_ok-names.names in
     subst (λ (n : Names). RunsInfo g.H.World.tells n s0 s2 c.write_bytes.result) c.in_ok-names.ensures.names
     (mode_written IsSame (AreInfos (content_of s0 names.swp) (content_of s0 names.swo) names.swp names.swo) (RefusesInfo (content_of s0 names.swp) (content_of s0 names.swo)) g.H.World.tells s0 s1 s2 c.deref.result.now c.write_bytes.result
-    (λ told. subst (AreInfos (content_of s0 names.swp) (content_of s0 names.swo) names.swp names.swo) (sym c.deref.ensures.value) (infos_are (content_of s0 names.swp) (content_of s0 names.swo) names.swp names.swo c.in_ok-lines.lines (c.in_ok-lines.ensures.answer told))) (reads_change s0 s1 c.info.ensures.reads.frame) c.in_ok-lines.ensures.none.faults
-    c.in_ok-lines.ensures.none.quiet (reads_proceed g.H.World.tells s0 s1 c.info.ensures.reads) c.write_bytes.ensures.outputs c.write_bytes.ensures.cause c.write_bytes.ensures.none c.write_bytes.ensures.failed c.write_bytes.ensures.ok c.write_bytes.ensures.err)
+    (λ told. subst (AreInfos (content_of s0 names.swp) (content_of s0 names.swo) names.swp names.swo) (sym c.deref.ensures.value) (infos_are (content_of s0 names.swp) (content_of s0 names.swo) names.swp names.swo c.in_ok-lines.lines (c.in_ok-lines.ensures.answer told))) (reads_change s0 s1 c.info.ensures.reads.frame) (c.in_ok-lines.ensures.none (λ is. cc)).faults
+    (c.in_ok-lines.ensures.none (λ is. cc)).quiet (reads_proceed g.H.World.tells s0 s1 c.info.ensures.reads) c.write_bytes.ensures.outputs c.write_bytes.ensures.cause c.write_bytes.ensures.none c.write_bytes.ensures.failed c.write_bytes.ensures.ok c.write_bytes.ensures.err)

@@ -10,6 +10,7 @@ use Rattle.vs_modes.specs.Recover.{IsRecovery, RefusesRecover, RunsRecover}
 use Rattle.vs_modes.specs.Modes.{Ended}
 use Rattle.vs_modes.specs.Moments.{IsSame}
 use Rattle.vs_modes.proofs.Phases.{refused_as, reads_proceed, mode_refused, mode_idle, mode_written}
+use Rattle.vs_modes.proofs.RefusalLaws.{other_error}
 use Rattle.vs_modes.proofs.recovering.recover.Goals as goal
 
 pub returns-in_err-names : goal.returns-in_err-names
@@ -37,7 +38,7 @@ returns-in_err-text g c =
     (subst (λ (r : Ended). RunsRecover g.H.World.tells names s0 s1 r) (refused_as c.from_residual-in_err-text.result why c.from_residual-in_err-text.ensures.1)
     (mode_refused IsSame (IsRecovery (content_of s0 names.swp) (content_of s0 names.swo)) (RefusesRecover (content_of s0 names.swp) (content_of s0 names.swo)) g.H.World.tells s0 s1 why
     (λ is. c.read_text.ensures.output (is_err ∙ ap (λ (w : ModeErr). Err w) is))
-    (λ is. c.read_text.ensures.failed (is_err ∙ ap (λ (w : ModeErr). Err w) is)) c.read_text.ensures.later (reads_change s0 s1 c.read_text.ensures.reads.frame) (reads_proceed g.H.World.tells s0 s1 c.read_text.ensures.reads)
+    (λ is. c.read_text.ensures.failed (is_err ∙ ap (λ (w : ModeErr). Err w) is)) (λ not. (c.read_text.ensures.none (other_error c.read_text.result why refusal.FolderFailed is_err not)).faults) c.read_text.ensures.later (reads_change s0 s1 c.read_text.ensures.reads.frame) (reads_proceed g.H.World.tells s0 s1 c.read_text.ensures.reads)
     c.in_err-text.ensures.refused))
 
 pub returns : goal.returns
@@ -48,5 +49,5 @@ returns g c =
     let names : Names = c.in_ok-names.names in
     subst (λ (n : Names). RunsRecover g.H.World.tells n s0 s2 c.write_lines.result) c.in_ok-names.ensures.names
     (mode_written IsSame (IsRecovery (content_of s0 names.swp) (content_of s0 names.swo)) (RefusesRecover (content_of s0 names.swp) (content_of s0 names.swo)) g.H.World.tells s0 s1 s2 (file_of c.lines.result.now) c.write_lines.result
-    (λ told. (c.in_ok-text.text, c.in_ok-text.ensures.text told, ap file_of c.lines.ensures)) (reads_change s0 s1 c.read_text.ensures.reads.frame) c.in_ok-text.ensures.none.faults
-    c.in_ok-text.ensures.none.quiet (reads_proceed g.H.World.tells s0 s1 c.read_text.ensures.reads) c.write_lines.ensures.outputs c.write_lines.ensures.cause c.write_lines.ensures.none c.write_lines.ensures.failed c.write_lines.ensures.ok c.write_lines.ensures.err)
+    (λ told. (c.in_ok-text.text, c.in_ok-text.ensures.text told, ap file_of c.lines.ensures)) (reads_change s0 s1 c.read_text.ensures.reads.frame) (c.in_ok-text.ensures.none (λ is. cc)).faults
+    (c.in_ok-text.ensures.none (λ is. cc)).quiet (reads_proceed g.H.World.tells s0 s1 c.read_text.ensures.reads) c.write_lines.ensures.outputs c.write_lines.ensures.cause c.write_lines.ensures.none c.write_lines.ensures.failed c.write_lines.ensures.ok c.write_lines.ensures.err)

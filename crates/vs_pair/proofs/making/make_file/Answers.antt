@@ -13,79 +13,79 @@ use Rattle.vs_pair.proofs.making.make_file.Goals as goal
 pub returns-in_err-clear-clause-acts : goal.returns-in_err-clear-clause-acts
 returns-in_err-clear-clause-acts g c = clearing g.F.World.tells c.args.temporary.now c.args.name.now c.requires.differ (record { first = c.args.first.now; pages = committed_of c.args.pages.now }) _ c.requires.absent _ c.clear.ensures.acts
 
-pub create-requires : goal.create-requires
-create-requires g c told = not_there (g.F.World.scene c.clear.new.host).folder c.args.temporary.now (c.in_ok-clear.ensures.free told)
+pub create_private-requires : goal.create_private-requires
+create_private-requires g c told = not_there (g.F.World.scene c.clear.new.host).folder c.args.temporary.now (c.in_ok-clear.ensures.free told)
 
-pub returns-in_err-create-clause-acts : goal.returns-in_err-create-clause-acts
-returns-in_err-create-clause-acts g c =
+pub returns-in_err-create_private-clause-acts : goal.returns-in_err-create_private-clause-acts
+returns-in_err-create_private-clause-acts g c =
     creating g.F.World.tells c.args.temporary.now c.args.name.now c.requires.differ (record { first = c.args.first.now; pages = committed_of c.args.pages.now }) _ c.requires.absent _ _ c.in_ok-clear.ensures.none c.clear.ensures.acts c.in_ok-clear.ensures.free
-    (either_acts g.F.World.tells (CreatesFile c.args.temporary.now) Created _ c.create.result _ _ c.create.ensures.ok c.create.ensures.err c.create.ensures.cause c.create.ensures.told c.create.ensures.frame)
+    (either_acts g.F.World.tells (CreatesFile c.args.temporary.now) Created _ c.create_private.result _ _ c.create_private.ensures.ok c.create_private.ensures.err c.create_private.ensures.cause c.create_private.ensures.told c.create_private.ensures.frame)
 
 pub write_at-requires : goal.write_at-requires
-write_at-requires g c told = created_there c.args.temporary.now (g.F.World.scene c.clear.new.host).folder (g.F.World.scene c.create.new.self).folder (c.in_ok-create.ensures.ok told)
+write_at-requires g c told = created_there c.args.temporary.now (g.F.World.scene c.clear.new.host).folder (g.F.World.scene c.create_private.new.self).folder (c.in_ok-create_private.ensures.ok told)
 
 pub returns-in_err-write_at-clause-acts : goal.returns-in_err-write_at-clause-acts
 returns-in_err-write_at-clause-acts g c =
-    writing g.F.World.tells c.args.temporary.now c.args.name.now c.requires.differ (record { first = c.args.first.now; pages = committed_of c.args.pages.now }) _ c.requires.absent (WritesSome 0 2) _ _ (none_then g.F.World.tells _ _ _ c.in_ok-clear.ensures.none (none_call g.F.World.tells Created _ c.create.result _ _ c.create.ensures.frame c.create.ensures.told c.in_ok-create.ensures.quiet))
+    writing g.F.World.tells c.args.temporary.now c.args.name.now c.requires.differ (record { first = c.args.first.now; pages = committed_of c.args.pages.now }) _ c.requires.absent (WritesSome 0 2) _ _ (none_then g.F.World.tells _ _ _ c.in_ok-clear.ensures.none (none_call g.F.World.tells Created _ c.create_private.result _ _ c.create_private.ensures.frame c.create_private.ensures.told c.in_ok-create_private.ensures.quiet))
     (creating g.F.World.tells c.args.temporary.now c.args.name.now c.requires.differ (record { first = c.args.first.now; pages = committed_of c.args.pages.now }) _ c.requires.absent _ _ c.in_ok-clear.ensures.none c.clear.ensures.acts c.in_ok-clear.ensures.free
-    (either_acts g.F.World.tells (CreatesFile c.args.temporary.now) Created _ c.create.result _ _ c.create.ensures.ok c.create.ensures.err c.create.ensures.cause c.create.ensures.told c.create.ensures.frame))
-    (λ told. (making_creates c.args.temporary.now _ (g.F.World.scene c.clear.new.host).folder (g.F.World.scene c.create.new.self).folder (making_begins c.args.temporary.now _ _ (c.clear.ensures.acts.runs told).now (c.in_ok-clear.ensures.free told)) (c.in_ok-create.ensures.ok told)))
+    (either_acts g.F.World.tells (CreatesFile c.args.temporary.now) Created _ c.create_private.result _ _ c.create_private.ensures.ok c.create_private.ensures.err c.create_private.ensures.cause c.create_private.ensures.told c.create_private.ensures.frame))
+    (λ told. (making_creates c.args.temporary.now _ (g.F.World.scene c.clear.new.host).folder (g.F.World.scene c.create_private.new.self).folder (making_begins c.args.temporary.now _ _ (c.clear.ensures.acts.runs told).now (c.in_ok-clear.ensures.free told)) (c.in_ok-create_private.ensures.ok told)))
     (write_acts g.F.World.tells c.args.temporary.now (WritesSome 0 2) 0 2 (λ a b some. some) c.write_at.result _ _ c.write_at.ensures.some c.write_at.ensures.cause c.write_at.ensures.told c.write_at.ensures.frame)
 
 pub write_pages-requires-clause-there : goal.write_pages-requires-clause-there
 write_pages-requires-clause-there g c told =
-    long_new c.args.temporary.now _ (marked_new c.args.temporary.now (g.F.World.scene c.create.new.self).folder (g.F.World.scene c.write_at.new.self).folder (c.in_ok-write_at.ensures.ok told) (created c.args.temporary.now (g.F.World.scene c.clear.new.host).folder (g.F.World.scene c.create.new.self).folder (c.in_ok-create.ensures.ok told)))
+    long_new c.args.temporary.now _ (marked_new c.args.temporary.now (g.F.World.scene c.create_private.new.self).folder (g.F.World.scene c.write_at.new.self).folder (c.in_ok-write_at.ensures.ok told) (created c.args.temporary.now (g.F.World.scene c.clear.new.host).folder (g.F.World.scene c.create_private.new.self).folder (c.in_ok-create_private.ensures.ok told)))
 
 pub returns-in_err-write_pages-clause-acts : goal.returns-in_err-write_pages-clause-acts
 returns-in_err-write_pages-clause-acts g c =
-    writing g.F.World.tells c.args.temporary.now c.args.name.now c.requires.differ (record { first = c.args.first.now; pages = committed_of c.args.pages.now }) _ c.requires.absent KeepsMark _ _ (none_then g.F.World.tells _ _ _ (none_then g.F.World.tells _ _ _ c.in_ok-clear.ensures.none (none_call g.F.World.tells Created _ c.create.result _ _ c.create.ensures.frame c.create.ensures.told c.in_ok-create.ensures.quiet))
+    writing g.F.World.tells c.args.temporary.now c.args.name.now c.requires.differ (record { first = c.args.first.now; pages = committed_of c.args.pages.now }) _ c.requires.absent KeepsMark _ _ (none_then g.F.World.tells _ _ _ (none_then g.F.World.tells _ _ _ c.in_ok-clear.ensures.none (none_call g.F.World.tells Created _ c.create_private.result _ _ c.create_private.ensures.frame c.create_private.ensures.told c.in_ok-create_private.ensures.quiet))
     (none_call g.F.World.tells Wrote _ c.write_at.result _ _ c.write_at.ensures.frame c.write_at.ensures.told c.in_ok-write_at.ensures.quiet))
-    (writing g.F.World.tells c.args.temporary.now c.args.name.now c.requires.differ (record { first = c.args.first.now; pages = committed_of c.args.pages.now }) _ c.requires.absent (WritesSome 0 2) _ _ (none_then g.F.World.tells _ _ _ c.in_ok-clear.ensures.none (none_call g.F.World.tells Created _ c.create.result _ _ c.create.ensures.frame c.create.ensures.told c.in_ok-create.ensures.quiet))
+    (writing g.F.World.tells c.args.temporary.now c.args.name.now c.requires.differ (record { first = c.args.first.now; pages = committed_of c.args.pages.now }) _ c.requires.absent (WritesSome 0 2) _ _ (none_then g.F.World.tells _ _ _ c.in_ok-clear.ensures.none (none_call g.F.World.tells Created _ c.create_private.result _ _ c.create_private.ensures.frame c.create_private.ensures.told c.in_ok-create_private.ensures.quiet))
     (creating g.F.World.tells c.args.temporary.now c.args.name.now c.requires.differ (record { first = c.args.first.now; pages = committed_of c.args.pages.now }) _ c.requires.absent _ _ c.in_ok-clear.ensures.none c.clear.ensures.acts c.in_ok-clear.ensures.free
-    (either_acts g.F.World.tells (CreatesFile c.args.temporary.now) Created _ c.create.result _ _ c.create.ensures.ok c.create.ensures.err c.create.ensures.cause c.create.ensures.told c.create.ensures.frame))
-    (λ told. (making_creates c.args.temporary.now _ (g.F.World.scene c.clear.new.host).folder (g.F.World.scene c.create.new.self).folder (making_begins c.args.temporary.now _ _ (c.clear.ensures.acts.runs told).now (c.in_ok-clear.ensures.free told)) (c.in_ok-create.ensures.ok told)))
+    (either_acts g.F.World.tells (CreatesFile c.args.temporary.now) Created _ c.create_private.result _ _ c.create_private.ensures.ok c.create_private.ensures.err c.create_private.ensures.cause c.create_private.ensures.told c.create_private.ensures.frame))
+    (λ told. (making_creates c.args.temporary.now _ (g.F.World.scene c.clear.new.host).folder (g.F.World.scene c.create_private.new.self).folder (making_begins c.args.temporary.now _ _ (c.clear.ensures.acts.runs told).now (c.in_ok-clear.ensures.free told)) (c.in_ok-create_private.ensures.ok told)))
     (write_acts g.F.World.tells c.args.temporary.now (WritesSome 0 2) 0 2 (λ a b some. some) c.write_at.result _ _ c.write_at.ensures.some c.write_at.ensures.cause c.write_at.ensures.told c.write_at.ensures.frame))
-    (λ told. (making_writes c.args.temporary.now (WritesSome 0 2) _ (g.F.World.scene c.create.new.self).folder (g.F.World.scene c.write_at.new.self).folder (making_creates c.args.temporary.now _ (g.F.World.scene c.clear.new.host).folder (g.F.World.scene c.create.new.self).folder (making_begins c.args.temporary.now _ _ (c.clear.ensures.acts.runs told).now (c.in_ok-clear.ensures.free told)) (c.in_ok-create.ensures.ok told)) (c.write_at.ensures.some told)))
+    (λ told. (making_writes c.args.temporary.now (WritesSome 0 2) _ (g.F.World.scene c.create_private.new.self).folder (g.F.World.scene c.write_at.new.self).folder (making_creates c.args.temporary.now _ (g.F.World.scene c.clear.new.host).folder (g.F.World.scene c.create_private.new.self).folder (making_begins c.args.temporary.now _ _ (c.clear.ensures.acts.runs told).now (c.in_ok-clear.ensures.free told)) (c.in_ok-create_private.ensures.ok told)) (c.write_at.ensures.some told)))
     c.write_pages.ensures.acts
 
 pub rename-requires-clause-there : goal.rename-requires-clause-there
 rename-requires-clause-there g c told =
     is_there (g.F.World.scene c.write_pages.new.host).folder c.args.temporary.now _ (whole_new c.args.temporary.now (record { first = c.args.first.now; pages = committed_of c.args.pages.now }) (g.F.World.scene c.write_at.new.self).folder (g.F.World.scene c.write_pages.new.host).folder (c.in_ok-write_pages.ensures.written told)
-    (marked_new c.args.temporary.now (g.F.World.scene c.create.new.self).folder (g.F.World.scene c.write_at.new.self).folder (c.in_ok-write_at.ensures.ok told) (created c.args.temporary.now (g.F.World.scene c.clear.new.host).folder (g.F.World.scene c.create.new.self).folder (c.in_ok-create.ensures.ok told))))
+    (marked_new c.args.temporary.now (g.F.World.scene c.create_private.new.self).folder (g.F.World.scene c.write_at.new.self).folder (c.in_ok-write_at.ensures.ok told) (created c.args.temporary.now (g.F.World.scene c.clear.new.host).folder (g.F.World.scene c.create_private.new.self).folder (c.in_ok-create_private.ensures.ok told))))
 
 pub returns-clause-acts : goal.returns-clause-acts
 returns-clause-acts g c =
-    renaming g.F.World.tells c.args.temporary.now c.args.name.now c.requires.differ (record { first = c.args.first.now; pages = committed_of c.args.pages.now }) _ c.requires.absent _ _ (none_then g.F.World.tells _ _ _ (none_then g.F.World.tells _ _ _ (none_then g.F.World.tells _ _ _ c.in_ok-clear.ensures.none (none_call g.F.World.tells Created _ c.create.result _ _ c.create.ensures.frame c.create.ensures.told c.in_ok-create.ensures.quiet))
+    renaming g.F.World.tells c.args.temporary.now c.args.name.now c.requires.differ (record { first = c.args.first.now; pages = committed_of c.args.pages.now }) _ c.requires.absent _ _ (none_then g.F.World.tells _ _ _ (none_then g.F.World.tells _ _ _ (none_then g.F.World.tells _ _ _ c.in_ok-clear.ensures.none (none_call g.F.World.tells Created _ c.create_private.result _ _ c.create_private.ensures.frame c.create_private.ensures.told c.in_ok-create_private.ensures.quiet))
     (none_call g.F.World.tells Wrote _ c.write_at.result _ _ c.write_at.ensures.frame c.write_at.ensures.told c.in_ok-write_at.ensures.quiet))
     c.in_ok-write_pages.ensures.none)
-    (writing g.F.World.tells c.args.temporary.now c.args.name.now c.requires.differ (record { first = c.args.first.now; pages = committed_of c.args.pages.now }) _ c.requires.absent KeepsMark _ _ (none_then g.F.World.tells _ _ _ (none_then g.F.World.tells _ _ _ c.in_ok-clear.ensures.none (none_call g.F.World.tells Created _ c.create.result _ _ c.create.ensures.frame c.create.ensures.told c.in_ok-create.ensures.quiet))
+    (writing g.F.World.tells c.args.temporary.now c.args.name.now c.requires.differ (record { first = c.args.first.now; pages = committed_of c.args.pages.now }) _ c.requires.absent KeepsMark _ _ (none_then g.F.World.tells _ _ _ (none_then g.F.World.tells _ _ _ c.in_ok-clear.ensures.none (none_call g.F.World.tells Created _ c.create_private.result _ _ c.create_private.ensures.frame c.create_private.ensures.told c.in_ok-create_private.ensures.quiet))
     (none_call g.F.World.tells Wrote _ c.write_at.result _ _ c.write_at.ensures.frame c.write_at.ensures.told c.in_ok-write_at.ensures.quiet))
-    (writing g.F.World.tells c.args.temporary.now c.args.name.now c.requires.differ (record { first = c.args.first.now; pages = committed_of c.args.pages.now }) _ c.requires.absent (WritesSome 0 2) _ _ (none_then g.F.World.tells _ _ _ c.in_ok-clear.ensures.none (none_call g.F.World.tells Created _ c.create.result _ _ c.create.ensures.frame c.create.ensures.told c.in_ok-create.ensures.quiet))
+    (writing g.F.World.tells c.args.temporary.now c.args.name.now c.requires.differ (record { first = c.args.first.now; pages = committed_of c.args.pages.now }) _ c.requires.absent (WritesSome 0 2) _ _ (none_then g.F.World.tells _ _ _ c.in_ok-clear.ensures.none (none_call g.F.World.tells Created _ c.create_private.result _ _ c.create_private.ensures.frame c.create_private.ensures.told c.in_ok-create_private.ensures.quiet))
     (creating g.F.World.tells c.args.temporary.now c.args.name.now c.requires.differ (record { first = c.args.first.now; pages = committed_of c.args.pages.now }) _ c.requires.absent _ _ c.in_ok-clear.ensures.none c.clear.ensures.acts c.in_ok-clear.ensures.free
-    (either_acts g.F.World.tells (CreatesFile c.args.temporary.now) Created _ c.create.result _ _ c.create.ensures.ok c.create.ensures.err c.create.ensures.cause c.create.ensures.told c.create.ensures.frame))
-    (λ told. (making_creates c.args.temporary.now _ (g.F.World.scene c.clear.new.host).folder (g.F.World.scene c.create.new.self).folder (making_begins c.args.temporary.now _ _ (c.clear.ensures.acts.runs told).now (c.in_ok-clear.ensures.free told)) (c.in_ok-create.ensures.ok told)))
+    (either_acts g.F.World.tells (CreatesFile c.args.temporary.now) Created _ c.create_private.result _ _ c.create_private.ensures.ok c.create_private.ensures.err c.create_private.ensures.cause c.create_private.ensures.told c.create_private.ensures.frame))
+    (λ told. (making_creates c.args.temporary.now _ (g.F.World.scene c.clear.new.host).folder (g.F.World.scene c.create_private.new.self).folder (making_begins c.args.temporary.now _ _ (c.clear.ensures.acts.runs told).now (c.in_ok-clear.ensures.free told)) (c.in_ok-create_private.ensures.ok told)))
     (write_acts g.F.World.tells c.args.temporary.now (WritesSome 0 2) 0 2 (λ a b some. some) c.write_at.result _ _ c.write_at.ensures.some c.write_at.ensures.cause c.write_at.ensures.told c.write_at.ensures.frame))
-    (λ told. (making_writes c.args.temporary.now (WritesSome 0 2) _ (g.F.World.scene c.create.new.self).folder (g.F.World.scene c.write_at.new.self).folder (making_creates c.args.temporary.now _ (g.F.World.scene c.clear.new.host).folder (g.F.World.scene c.create.new.self).folder (making_begins c.args.temporary.now _ _ (c.clear.ensures.acts.runs told).now (c.in_ok-clear.ensures.free told)) (c.in_ok-create.ensures.ok told)) (c.write_at.ensures.some told)))
+    (λ told. (making_writes c.args.temporary.now (WritesSome 0 2) _ (g.F.World.scene c.create_private.new.self).folder (g.F.World.scene c.write_at.new.self).folder (making_creates c.args.temporary.now _ (g.F.World.scene c.clear.new.host).folder (g.F.World.scene c.create_private.new.self).folder (making_begins c.args.temporary.now _ _ (c.clear.ensures.acts.runs told).now (c.in_ok-clear.ensures.free told)) (c.in_ok-create_private.ensures.ok told)) (c.write_at.ensures.some told)))
     c.write_pages.ensures.acts)
-    (λ told. (making_writes c.args.temporary.now KeepsMark _ (g.F.World.scene c.write_at.new.self).folder (g.F.World.scene c.write_pages.new.host).folder (making_writes c.args.temporary.now (WritesSome 0 2) _ (g.F.World.scene c.create.new.self).folder (g.F.World.scene c.write_at.new.self).folder (making_creates c.args.temporary.now _ (g.F.World.scene c.clear.new.host).folder (g.F.World.scene c.create.new.self).folder (making_begins c.args.temporary.now _ _ (c.clear.ensures.acts.runs told).now (c.in_ok-clear.ensures.free told)) (c.in_ok-create.ensures.ok told)) (c.write_at.ensures.some told)) (c.write_pages.ensures.acts.runs told).now))
+    (λ told. (making_writes c.args.temporary.now KeepsMark _ (g.F.World.scene c.write_at.new.self).folder (g.F.World.scene c.write_pages.new.host).folder (making_writes c.args.temporary.now (WritesSome 0 2) _ (g.F.World.scene c.create_private.new.self).folder (g.F.World.scene c.write_at.new.self).folder (making_creates c.args.temporary.now _ (g.F.World.scene c.clear.new.host).folder (g.F.World.scene c.create_private.new.self).folder (making_begins c.args.temporary.now _ _ (c.clear.ensures.acts.runs told).now (c.in_ok-clear.ensures.free told)) (c.in_ok-create_private.ensures.ok told)) (c.write_at.ensures.some told)) (c.write_pages.ensures.acts.runs told).now))
     (λ told. (whole_new c.args.temporary.now (record { first = c.args.first.now; pages = committed_of c.args.pages.now }) (g.F.World.scene c.write_at.new.self).folder (g.F.World.scene c.write_pages.new.host).folder (c.in_ok-write_pages.ensures.written told)
-    (marked_new c.args.temporary.now (g.F.World.scene c.create.new.self).folder (g.F.World.scene c.write_at.new.self).folder (c.in_ok-write_at.ensures.ok told) (created c.args.temporary.now (g.F.World.scene c.clear.new.host).folder (g.F.World.scene c.create.new.self).folder (c.in_ok-create.ensures.ok told)))))
+    (marked_new c.args.temporary.now (g.F.World.scene c.create_private.new.self).folder (g.F.World.scene c.write_at.new.self).folder (c.in_ok-write_at.ensures.ok told) (created c.args.temporary.now (g.F.World.scene c.clear.new.host).folder (g.F.World.scene c.create_private.new.self).folder (c.in_ok-create_private.ensures.ok told)))))
     (either_acts g.F.World.tells (ChangesNames (Renames c.args.temporary.now c.args.name.now)) Renamed _ c.rename.result _ _ c.rename.ensures.ok c.rename.ensures.err c.rename.ensures.cause c.rename.ensures.told c.rename.ensures.frame)
 
 pub returns-clause-made : goal.returns-clause-made
 returns-clause-made g c =
     on_ok_weaker c.rename.result
     (λ renames told. renamed_has c.args.temporary.now c.args.name.now c.requires.differ (record { first = c.args.first.now; pages = committed_of c.args.pages.now }) (g.F.World.scene c.args.host.now).folder (c.requires.absent told) (g.F.World.scene c.write_pages.new.host).folder (g.F.World.scene c.rename.new.self).folder
-    (making_writes c.args.temporary.now KeepsMark _ (g.F.World.scene c.write_at.new.self).folder (g.F.World.scene c.write_pages.new.host).folder (making_writes c.args.temporary.now (WritesSome 0 2) _ (g.F.World.scene c.create.new.self).folder (g.F.World.scene c.write_at.new.self).folder (making_creates c.args.temporary.now _ (g.F.World.scene c.clear.new.host).folder (g.F.World.scene c.create.new.self).folder (making_begins c.args.temporary.now _ _ (c.clear.ensures.acts.runs told).now (c.in_ok-clear.ensures.free told)) (c.in_ok-create.ensures.ok told)) (c.write_at.ensures.some told)) (c.write_pages.ensures.acts.runs told).now)
+    (making_writes c.args.temporary.now KeepsMark _ (g.F.World.scene c.write_at.new.self).folder (g.F.World.scene c.write_pages.new.host).folder (making_writes c.args.temporary.now (WritesSome 0 2) _ (g.F.World.scene c.create_private.new.self).folder (g.F.World.scene c.write_at.new.self).folder (making_creates c.args.temporary.now _ (g.F.World.scene c.clear.new.host).folder (g.F.World.scene c.create_private.new.self).folder (making_begins c.args.temporary.now _ _ (c.clear.ensures.acts.runs told).now (c.in_ok-clear.ensures.free told)) (c.in_ok-create_private.ensures.ok told)) (c.write_at.ensures.some told)) (c.write_pages.ensures.acts.runs told).now)
     (whole_new c.args.temporary.now (record { first = c.args.first.now; pages = committed_of c.args.pages.now }) (g.F.World.scene c.write_at.new.self).folder (g.F.World.scene c.write_pages.new.host).folder (c.in_ok-write_pages.ensures.written told)
-    (marked_new c.args.temporary.now (g.F.World.scene c.create.new.self).folder (g.F.World.scene c.write_at.new.self).folder (c.in_ok-write_at.ensures.ok told) (created c.args.temporary.now (g.F.World.scene c.clear.new.host).folder (g.F.World.scene c.create.new.self).folder (c.in_ok-create.ensures.ok told))))
+    (marked_new c.args.temporary.now (g.F.World.scene c.create_private.new.self).folder (g.F.World.scene c.write_at.new.self).folder (c.in_ok-write_at.ensures.ok told) (created c.args.temporary.now (g.F.World.scene c.clear.new.host).folder (g.F.World.scene c.create_private.new.self).folder (c.in_ok-create_private.ensures.ok told))))
     (renames told))
     c.rename.ensures.ok
 
 pub returns-clause-none : goal.returns-clause-none
 returns-clause-none g c =
     on_ok_weaker c.rename.result
-    (λ quiet. none_then g.F.World.tells _ _ _ (none_then g.F.World.tells _ _ _ (none_then g.F.World.tells _ _ _ (none_then g.F.World.tells _ _ _ c.in_ok-clear.ensures.none (none_call g.F.World.tells Created _ c.create.result _ _ c.create.ensures.frame c.create.ensures.told c.in_ok-create.ensures.quiet))
+    (λ quiet. none_then g.F.World.tells _ _ _ (none_then g.F.World.tells _ _ _ (none_then g.F.World.tells _ _ _ (none_then g.F.World.tells _ _ _ c.in_ok-clear.ensures.none (none_call g.F.World.tells Created _ c.create_private.result _ _ c.create_private.ensures.frame c.create_private.ensures.told c.in_ok-create_private.ensures.quiet))
     (none_call g.F.World.tells Wrote _ c.write_at.result _ _ c.write_at.ensures.frame c.write_at.ensures.told c.in_ok-write_at.ensures.quiet))
     c.in_ok-write_pages.ensures.none)
     (none_call g.F.World.tells Renamed _ c.rename.result _ _ c.rename.ensures.frame c.rename.ensures.told quiet))

@@ -45,7 +45,7 @@ loop-at-preserved g c = record {
   none = none_then g.F.World.tells _ _ _ c.loop-at.invariant.none
       (none_call g.F.World.tells Wrote _ c.write_at-in-loop-at.result _ _ c.write_at-in-loop-at.ensures.frame c.write_at-in-loop-at.ensures.told c.in_ok-write_at-2.ensures.quiet);
   so_far = λ told.
-      has_more c.args.name.now c.args.first.now (committed_of c.args.pages.now) c.page_or_zeros.result.now _ c.loop-at.at c.loop-at.invariant.some (omega arith) c.page_or_zeros.ensures.size c.page_or_zeros.ensures.page _ _ _
+      has_more c.args.name.now c.args.first.now (committed_of c.args.pages.now) c.page_or_zeros.result.now _ c.loop-at.at c.loop-at.invariant.some (omega arith) c.page_or_zeros.ensures.size c.page_or_zeros.ensures.page c.page_or_zeros.ensures.zeros _ _ _
       (c.loop-at.invariant.so_far told) (c.in_ok-write_at-2.ensures.ok told);
 }
 

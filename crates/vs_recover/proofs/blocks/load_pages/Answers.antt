@@ -45,3 +45,6 @@ returns-then-block-count-clause-calls g c = no_calls g.F.World.tells (g.F.World.
 
 pub returns-in_err-bytes-clause-calls : goal.returns-in_err-bytes-clause-calls
 returns-in_err-bytes-clause-calls g c = no_calls g.F.World.tells (g.F.World.scene c.args.host.now) 1
+
+pub returns-in_err-bytes-clause-memory : goal.returns-in_err-bytes-clause-memory
+returns-in_err-bytes-clause-memory g c = λ is. none_fails g.F.World.tells _

@@ -2,7 +2,7 @@ use Rattle.std.proofs.Common.{◌≡◌, arith, length, sym, subst, ◌∙◌}
 use Rattle.vs_recover.specs.Images.{IsImage}
 use Rattle.vs_recover.proofs.ChoiceLaws.{image_refused}
 use Rattle.vs_recover.proofs.PageLaws.{file_stays, file_was}
-use Rattle.vs_recover.proofs.ReadingLaws.{file_has, none_then, reads_on, there_stays}
+use Rattle.vs_recover.proofs.ReadingLaws.{file_has, memory_then, none_then, reads_on, there_stays}
 use Rattle.vs_recover.proofs.image.find_image.Goals as goal
 
 pub read_open-requires : goal.read_open-requires
@@ -48,3 +48,6 @@ returns-in_ok-image-in-Ok-clause-calls g c = λ file is told. omega (
   c.read_open.ensures.calls told,
   file_has _ _ _ file _ c.in_ok-opening.ensures.len is,
 )
+
+pub returns-in_err-image-in-Ok-clause-memory : goal.returns-in_err-image-in-Ok-clause-memory
+returns-in_err-image-in-Ok-clause-memory g c = memory_then c.read_open.result c.from_residual-in_err-image-in-Ok.result _ c.in_ok-opening.ensures.none c.read_open.ensures.memory c.in_err-image-in-Ok.was c.from_residual-in_err-image-in-Ok.ensures.1

@@ -1,6 +1,6 @@
 use Rattle.std.proofs.Common.{◌≡◌, ◌≤◌, ◌+◌, length, arith, sym}
 use Rattle.vs_recover.proofs.PageLaws.{head_loaded}
-use Rattle.vs_recover.proofs.ReadingLaws.{file_has, there_as}
+use Rattle.vs_recover.proofs.ReadingLaws.{file_has, none_fails, there_as}
 use Rattle.vs_recover.proofs.ReadingLaws.{reads_none}
 use Rattle.vs_recover.proofs.image.read_head.Goals as goal
 
@@ -21,3 +21,6 @@ returns-clause-value g c = λ file is.
 
 pub returns-in_err-head-clause-reads : goal.returns-in_err-head-clause-reads
 returns-in_err-head-clause-reads g c = reads_none g.F.World.tells _
+
+pub returns-in_err-head-clause-memory : goal.returns-in_err-head-clause-memory
+returns-in_err-head-clause-memory g c = λ is. none_fails g.F.World.tells _

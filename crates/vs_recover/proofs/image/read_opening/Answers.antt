@@ -1,7 +1,7 @@
 use Rattle.std.proofs.Common.{◌≡◌, length, ap, ◌∙◌}
 use Rattle.vs_zero.specs.Zero.{reading_of}
 use Rattle.vs_recover.proofs.PageLaws.{file_stays}
-use Rattle.vs_recover.proofs.ReadingLaws.{none_then, reads_on, there_stays}
+use Rattle.vs_recover.proofs.ReadingLaws.{memory_then, none_then, reads_on, there_stays}
 use Rattle.vs_recover.proofs.image.read_opening.Goals as goal
 
 pub read_head-requires : goal.read_head-requires
@@ -22,3 +22,6 @@ returns-clause-reads g c = reads_on c.in_ok-len.ensures.none c.file_len.ensures.
 
 pub returns-clause-none : goal.returns-clause-none
 returns-clause-none g c = none_then c.in_ok-len.ensures.none c.in_ok-head.ensures.none
+
+pub returns-in_err-head-clause-memory : goal.returns-in_err-head-clause-memory
+returns-in_err-head-clause-memory g c = memory_then c.read_head.result c.from_residual-in_err-head.result _ c.in_ok-len.ensures.none c.read_head.ensures.memory c.in_err-head.was c.from_residual-in_err-head.ensures.1

@@ -1,7 +1,7 @@
 use Rattle.std.proofs.Common.{sym, ◌∙◌, string_bytes}
 use Rattle.vs_recover.proofs.PageLaws.{file_stays}
 use Rattle.vs_recover.proofs.ChoiceLaws.{found_file, info_absent, info_some}
-use Rattle.vs_recover.proofs.ReadingLaws.{frame_then, none_then, reads_on, there_found}
+use Rattle.vs_recover.proofs.ReadingLaws.{frame_then, memory_then, none_then, reads_on, there_found}
 use Rattle.vs_recover.proofs.infos.file_info.Goals as goal
 
 pub find_image-requires : goal.find_image-requires
@@ -42,3 +42,9 @@ returns-in_err-has_file-clause-frame g c = c.has_file.ensures.reads.frame
 
 pub returns-then-not-branch-clause-frame : goal.returns-then-not-branch-clause-frame
 returns-then-not-branch-clause-frame g c = c.has_file.ensures.reads.frame
+
+pub returns-in_err-image-clause-memory : goal.returns-in_err-image-clause-memory
+returns-in_err-image-clause-memory g c = memory_then c.find_image.result c.from_residual-in_err-image.result _ c.in_ok-has_file.ensures.none c.find_image.ensures.memory c.in_err-image.was c.from_residual-in_err-image.ensures.1
+
+pub returns-in_err-line-clause-memory : goal.returns-in_err-line-clause-memory
+returns-in_err-line-clause-memory g c = λ is. none_then c.in_ok-has_file.ensures.none c.in_ok-image.ensures.none

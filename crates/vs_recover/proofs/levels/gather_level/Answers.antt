@@ -6,7 +6,7 @@ use Rattle.vs_recover.specs.Levels.{chained, lines_at}
 use Rattle.vs_recover.proofs.PageLaws.{file_stays, extends_none, extends_some}
 use Rattle.vs_recover.proofs.ChainLaws.{chain_stops, chain_add, chain_ends, plain_chain}
 use Rattle.vs_recover.proofs.MarkLaws.{wide_at}
-use Rattle.vs_recover.proofs.ReadingLaws.{reads_on, none_then, none_fails, reads_none, there_stays}
+use Rattle.vs_recover.proofs.ReadingLaws.{memory_then, none_fails, none_then, reads_none, reads_on, there_stays}
 use Rattle.vs_recover.proofs.levels.gather_level.Goals as goal
 
 pub returns-then-not-branch-clause-value : goal.returns-then-not-branch-clause-value
@@ -60,3 +60,6 @@ returns-then-not-branch-clause-reads g c = reads_on c.loop-entry.invariant.none 
 
 pub returns-then-not-branch-clause-none : goal.returns-then-not-branch-clause-none
 returns-then-not-branch-clause-none g c = none_then c.loop-entry.invariant.none c.in_ok-load_lines.ensures.none
+
+pub returns-in_err-load_lines-clause-memory : goal.returns-in_err-load_lines-clause-memory
+returns-in_err-load_lines-clause-memory g c = memory_then c.load_lines.result c.from_residual.result _ c.loop-entry.invariant.none c.load_lines.ensures.memory c.in_err-load_lines.was c.from_residual.ensures.1

@@ -6,7 +6,7 @@ use Rattle.vs_recover.specs.Marks.{used_in}
 use Rattle.vs_recover.proofs.PageLaws.{file_stays, gives_none, gives_list, if_some}
 use Rattle.vs_recover.proofs.ChainLaws.{So, chain_stops, chain_more, chain_ends, no_clash, clash_first, clash_one, taken-append, wide-append}
 use Rattle.vs_recover.proofs.MarkLaws.{wide_at}
-use Rattle.vs_recover.proofs.ReadingLaws.{reads_on, none_then, none_fails, reads_none, there_stays}
+use Rattle.vs_recover.proofs.ReadingLaws.{memory_then, none_fails, none_then, reads_none, reads_on, there_stays}
 use Rattle.vs_recover.proofs.levels.open_level.Goals as goal
 
 pub returns-then-not-mark_all-clause-clash : goal.returns-then-not-mark_all-clause-clash
@@ -97,3 +97,9 @@ returns-then-not-mark_all-2-clause-none g c = none_then c.loop-entry.invariant.n
 
 pub returns-in_err-extend_from_slice-clause-reads : goal.returns-in_err-extend_from_slice-clause-reads
 returns-in_err-extend_from_slice-clause-reads g c = reads_on c.loop-entry.invariant.none c.loop-entry.invariant.reads c.load_points.ensures.reads
+
+pub returns-in_err-found-clause-memory : goal.returns-in_err-found-clause-memory
+returns-in_err-found-clause-memory g c = memory_then c.load_points.result c.from_residual.result _ c.loop-entry.invariant.none c.load_points.ensures.memory c.in_err-found.was c.from_residual.ensures.1
+
+pub returns-in_err-extend_from_slice-clause-memory : goal.returns-in_err-extend_from_slice-clause-memory
+returns-in_err-extend_from_slice-clause-memory g c = λ is. none_then c.loop-entry.invariant.none c.in_ok-found.ensures.none

@@ -9,7 +9,7 @@ use Rattle.vs_recover.proofs.ChainLaws.{chained_first, plain_back, wide_rest}
 use Rattle.vs_recover.proofs.MarkLaws.{wide_at}
 use Rattle.vs_recover.proofs.PageLaws.{extends_none, extends_some, file_stays, gives_list, gives_none, if_none, if_some}
 use Rattle.vs_recover.proofs.WalkLaws.{level_clashes, level_gathered, level_opened, level_stops, level_unread, lines_gone, lines_of, pointers_alone, points_gone, points_of}
-use Rattle.vs_recover.proofs.ReadingLaws.{none_then, reads_on, there_stays}
+use Rattle.vs_recover.proofs.ReadingLaws.{memory_then, none_then, reads_on, there_stays}
 use Rattle.vs_recover.proofs.levels.read_level.Goals as goal
 
 pub load_pages-requires : goal.load_pages-requires
@@ -123,3 +123,9 @@ returns-in_default-4-clause-none g c = none_then c.in_ok-bytes.ensures.none c.in
 
 pub returns-clause-none : goal.returns-clause-none
 returns-clause-none g c = none_then c.in_ok-bytes.ensures.none c.in_ok-all.ensures.none
+
+pub returns-in_err-next-clause-memory : goal.returns-in_err-next-clause-memory
+returns-in_err-next-clause-memory g c = memory_then c.open_level.result c.from_residual-in_err-next.result _ c.in_ok-bytes.ensures.none c.open_level.ensures.memory c.in_err-next.was c.from_residual-in_err-next.ensures.1
+
+pub returns-in_err-all-clause-memory : goal.returns-in_err-all-clause-memory
+returns-in_err-all-clause-memory g c = memory_then c.gather_level.result c.from_residual-in_err-all.result _ c.in_ok-bytes.ensures.none c.gather_level.ensures.memory c.in_err-all.was c.from_residual-in_err-all.ensures.1

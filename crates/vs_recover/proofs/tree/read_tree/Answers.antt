@@ -12,7 +12,7 @@ use Rattle.vs_recover.proofs.MarkLaws.{used_most}
 use Rattle.vs_recover.proofs.PageLaws.{pages_past, file_stays, gives_none, gives_list, no_items}
 use Rattle.vs_recover.proofs.StageLaws.{stage_begins, stage_next, stage_ends, stage_stops, stage_empty, no_root, no_wide_root, no_first}
 use Rattle.vs_recover.proofs.WalkLaws.{found_at, marked_at, none_first}
-use Rattle.vs_recover.proofs.ReadingLaws.{file_has, reads_on, none_then, none_fails, reads_none, there_stays}
+use Rattle.vs_recover.proofs.ReadingLaws.{file_has, memory_then, none_fails, none_then, reads_none, reads_on, there_stays}
 use Rattle.vs_recover.proofs.tree.read_tree.Goals as goal
 
 pub returns-then-count-lt2-clause-value : goal.returns-then-count-lt2-clause-value
@@ -127,3 +127,6 @@ returns-in-None-clause-reads g c = reads_on c.levels.invariant.none c.levels.inv
 
 pub returns-in-None-clause-none : goal.returns-in-None-clause-none
 returns-in-None-clause-none g c = none_then c.levels.invariant.none c.in_ok-next.ensures.none
+
+pub returns-in_err-next-clause-memory : goal.returns-in_err-next-clause-memory
+returns-in_err-next-clause-memory g c = memory_then c.read_level.result c.from_residual-in_err-next.result _ c.levels.invariant.none c.read_level.ensures.memory c.in_err-next.was c.from_residual-in_err-next.ensures.1

@@ -5,7 +5,7 @@ use Rattle.vs_top.proofs.edit.close.Goals as goal
 
 pub returns-in_err-finish : goal.returns-in_err-finish
 returns-in_err-finish g c = λ name old marks at.
-    at_ending g.H.World.tells name old (g.H.World.scene c.finish.new.host) marks c.from_residual.result _ _ c.from_residual.ensures.1 refl
+    at_ending g.H.World.tells name old (g.H.World.scene c.finish.new.host) marks c.from_residual.result _ _ c.from_residual.ensures.1 c.in_err-finish.ensures.fault
     (close_fails g.H.World.tells name old (g.H.World.scene c.args.host.now) (g.H.World.scene c.finish.new.host) c.args.session marks c.args.how c.args.clean at
     (record { sync = c.in_err-finish.ensures.sync; quit = c.finish.ensures.quit; last = c.finish.ensures.last; later = c.finish.ensures.cause.later; frame = c.finish.ensures.frame }) (c.in_err-finish.ensures.cause.risen refl))
 

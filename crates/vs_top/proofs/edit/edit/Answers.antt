@@ -14,7 +14,7 @@ returns-in_err-session g c =
     let old : Scene = g.H.World.scene c.args.host.now in
     let new : Scene = g.H.World.scene c.open.new.host in
     at_ending g.H.World.tells c.args.name.now old new c.args.marks.now.items c.from_residual.result _ _ c.from_residual.ensures.1 refl
-    (open_fails g.H.World.tells c.args.name.now old new (λ told. settled (names_of_file c.args.name.now) old.folder (c.requires.settled told)) c.open.ensures.acts c.args.marks.now.items c.requires.marks _
+    (open_fails g.H.World.tells c.args.name.now old new c.requires.settled c.open.ensures.acts c.args.marks.now.items c.requires.marks _
     (λ is. c.in_err-session.ensures.cause.risen (ap Err is)) (λ other. c.in_err-session.ensures.quiet (λ is. other (cc))) (λ size is. c.in_err-session.ensures.limit size (ap Err is))
     (λ is. c.in_err-session.ensures.swap (ap Err is))
     (λ told has. elim (c.in_err-session.ensures.barred told has) [ inl is ↦ inl (cc) | inr more ↦ elim more [ inl is ↦ inr (inl (cc)) | inr is ↦ inr (inr (cc)) ] ])
@@ -43,6 +43,6 @@ returns g c =
     let old : Scene = g.H.World.scene c.args.host.now in
     let mid : Scene = g.H.World.scene c.open.new.host in
     c.serve.ensures c.args.name.now old
-    (is_opened g.H.World.tells c.args.name.now old mid (λ told. settled (names_of_file c.args.name.now) old.folder (c.requires.settled told)) c.open.ensures.acts c.in_ok-session.session c.in_ok-session.ensures.name.1
+    (is_opened g.H.World.tells c.args.name.now old mid c.requires.settled c.open.ensures.acts c.in_ok-session.session c.in_ok-session.ensures.name.1
     (λ told has. elim (c.in_ok-session.ensures.barred told has) [ inl is ↦ absurd (cc) | inr more ↦ elim more [ inl is ↦ absurd (cc) | inr is ↦ absurd (cc) ] ])
     (λ told. file_fits _ (c.in_ok-session.ensures.over told)) c.in_ok-session.ensures.file c.in_ok-session.ensures.fits)

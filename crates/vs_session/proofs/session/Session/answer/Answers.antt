@@ -1,4 +1,5 @@
-use Rattle.std.proofs.Common.{false, sym, ◌∙◌}
+use Rattle.std.proofs.Common.{false, sym, ap, ◌∙◌}
+use Rattle.vs_session.specs.Session.{is_write}
 use Rattle.vs_session.proofs.SessionLemmas.{quits_is, begins_is}
 use Rattle.vs_session.proofs.Steps.{answers_plainly}
 use Rattle.vs_session.proofs.session.Session.answer.Goals as goal
@@ -7,6 +8,6 @@ pub returns-clause-step : goal.returns-clause-step
 returns-clause-step g c told state syncs instruction fits is =
     let old = g.F.World.scene c.args.host.now in
     let new = g.F.World.scene c.carry_out-outcome.new.host in
-    answers_plainly state syncs instruction c.args.self.now old (quits_is c.args.self.now old.folder state syncs instruction _ false fits is.parsed c.requires.goes_on) fits c.carry_out-outcome.new.self _ _ new
+    answers_plainly state syncs instruction c.args.self.now old (quits_is c.args.self.now old.folder state syncs instruction _ false fits is.parsed c.requires.goes_on) fits (sym (ap is_write is.parsed) ∙ sym c.is_write.ensures ∙ c.if-is_write.false) c.carry_out-outcome.new.self _ _ new
     (begins_is c.args.self.now old.folder state syncs instruction _ false fits is.parsed (sym c.begins_sync.ensures ∙ c.if-begins_sync.false)) c.carry_out-outcome.ensures.file.names c.carry_out-outcome.ensures.frame
     (c.carry_out-outcome.ensures.looks told) c.carry_out-outcome.ensures.cause (c.carry_out-outcome.ensures.reply told state syncs instruction fits is) (c.carry_out-outcome.ensures.fits told state syncs instruction fits is)

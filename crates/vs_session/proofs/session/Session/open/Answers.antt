@@ -68,9 +68,11 @@ returns-clause-fits g c = λ told.
         text = subst (λ (t : Text). folder.Fits c.in_ok-text.text new.folder t (turns.opened t)) is (c.in_ok-text.ensures.fits told);
         history = c.in_ok-history.ensures.history _;
       };
+      name = c.in_ok-kept.ensures.ok;
       cursor = c.min-cursor.ensures ∙ ap (λ (n : ℕ). min n 1) (c.len.ensures ∙ c.in_ok-text.ensures.lines ∙ ap (λ (t : Text). length t) is) ∙ omega arith;
       saved = refl;
       steps = refl;
+      options = c.first_options.ensures;
     }
 
 pub returns-clause-over : goal.returns-clause-over

@@ -2,7 +2,7 @@ use Rattle.std.proofs.Common.{sym, ◌∙◌}
 use Rattle.vs_machine.specs.Answers.{meaning_at}
 use Rattle.vs_machine.specs.Machine as machine
 use Rattle.vs_machine.specs.Machine.{current_of}
-use Rattle.vs_session.proofs.SessionLemmas.{counted_is, counted_same}
+use Rattle.vs_session.proofs.SessionLemmas.{counted_is, counted_same, stays_set}
 use Rattle.vs_session.proofs.session.Session.run_machine.Goals as goal
 
 pub answer_text-requires-clause-fits : goal.answer_text-requires-clause-fits
@@ -16,23 +16,29 @@ returns-in-Ok-clause-fits g c told state syncs instruction fits is =
     let after = c.in-Ok.ensures.state told state.machine syncs instruction fits.stands fits.cursor is in
     record {
       stands = after.0;
+      name = fits.name;
       cursor = after.1;
       saved = fits.saved;
       steps = c.counted-self.ensures.count ∙ counted_is c.args.self.now _ (g.F.World.scene c.args.host.now).folder state (machine.done_state state.machine c.args.at (meaning_at state.machine instruction)) syncs c.current-before.result c.current.result fits after.0.history c.current-before.ensures c.current.ensures;
+      options = stays_set c.args.self.now _ state syncs instruction _ fits is.parsed c.requires.own;
     }
 
 pub returns-in-Err-NoMemory-clause-fits : goal.returns-in-Err-NoMemory-clause-fits
 returns-in-Err-NoMemory-clause-fits g c told state syncs instruction fits is = record {
   stands = c.in-Err-NoMemory.ensures.err told state.machine syncs fits.stands;
+  name = fits.name;
   cursor = fits.cursor;
   saved = fits.saved;
   steps = fits.steps ∙ sym (counted_same state.steps (current_of state.machine));
+  options = fits.options;
 }
 
 pub returns-in-Err-Failed-clause-fits : goal.returns-in-Err-Failed-clause-fits
 returns-in-Err-Failed-clause-fits g c told state syncs instruction fits is = record {
   stands = c.in-Err-Failed.ensures.err told state.machine syncs fits.stands;
+  name = fits.name;
   cursor = fits.cursor;
   saved = fits.saved;
   steps = fits.steps ∙ sym (counted_same state.steps (current_of state.machine));
+  options = fits.options;
 }

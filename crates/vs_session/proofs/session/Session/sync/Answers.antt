@@ -8,16 +8,20 @@ returns-in_err-sync-clause-err g c =
     on_err_from c.from_residual.result _ (λ told state syncs fits. record {
       stands = stands_synced c.args.self.now c.sync.new.self (g.F.World.scene c.args.host.now).folder (g.F.World.scene c.sync.new.host).folder state syncs c.current.result false fits c.current.ensures
           (c.in_err-sync.ensures.err told state.machine.text syncs fits.stands.text);
+      name = fits.name;
       cursor = fits.cursor;
       saved = fits.saved;
       steps = fits.steps;
+      options = fits.options;
     })
 
 pub returns-clause-ok : goal.returns-clause-ok
 returns-clause-ok g c told state syncs fits = record {
   stands = stands_synced c.args.self.now c.sync.new.self (g.F.World.scene c.args.host.now).folder (g.F.World.scene c.sync.new.host).folder state syncs c.current.result true fits c.current.ensures
       (c.in_ok-sync.ensures.ok told state.machine.text syncs fits.stands.text);
+  name = fits.name;
   cursor = fits.cursor;
   saved = fits.saved;
   steps = refl;
+  options = fits.options;
 }

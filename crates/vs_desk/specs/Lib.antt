@@ -1,0 +1,4 @@
+pub mod Pages
+pub mod PageLaws
+pub mod Still
+pub mod Writes

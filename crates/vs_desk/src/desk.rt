@@ -1,0 +1,147 @@
+// A text in pages, and the folder into which it is written.
+ghost use Rattle.std.specs.Prelude.{◌≡◌};
+ghost use Rattle.vs_pages.specs.Memory.{present_of};
+ghost use Rattle.vs_tree.specs.Texts.{Fits, Tells};
+ghost use Rattle.vs_tree.specs.declared.tree.LineTree.{LineTree};
+ghost use Rattle.vs_desk.specs.Pages.{SamePages};
+
+use crate::pages::FolderPages;
+use std::alloc::Global;
+use vs_backup::Desk;
+use vs_edit::StoreErr;
+use vs_host::{Failed, Folder, World};
+use vs_pages::PageErr;
+use vs_tree::LineTree;
+
+/// A text in pages in memory with a folder, both lent. No file of the folder is read for the text.
+#[derive(Drop)]
+pub(crate) struct PagedDesk<'t, 'p, 'h, F: Folder> {
+    pub tree: &'t mut LineTree,
+    pub pages: FolderPages<'p, 'h, F>,
+}
+
+impl<'t, 'p, 'h, F: Folder> World for PagedDesk<'t, 'p, 'h, F> {
+    ghost tells = { F.tells };
+
+    ghost scene = { λ desk. F.scene desk.pages.host.now };
+
+    ghost plays = { λ old new ok. F.plays old.pages.host.now new.pages.host.now ok };
+
+    ghost is_folder = { λ desk told. F.is_folder desk.pages.host.now told };
+
+    ghost newest = { λ desk told. F.newest desk.pages.host.now told };
+}
+
+impl<'t, 'p, 'h, F: Folder> Desk for PagedDesk<'t, 'p, 'h, F> {
+    ghost use Rattle.std.proofs.Common.{◌∙◌, ap, refl};
+    ghost use Rattle.vs_tree.specs.Sames.{one_text};
+    ghost use Rattle.vs_desk.specs.PageLaws.{same_none, same_then, same_text};
+
+    ghost has_text = { λ desk text. Tells F.tells.folder (present_of desk.pages.pages.now) desk.tree.now.present text };
+
+    ghost lines = { λ desk. desk.tree.now.present.lines };
+
+    ghost reads = { λ desk name. ⊥ };
+
+    ghost valid = { λ desk. Fits F.tells.folder (present_of desk.pages.pages.now) desk.tree.now.present };
+
+    ghost stays = { λ a b. (b.tree.ghost_name ≡ a.tree.ghost_name) × (b.pages.pages.ghost_name ≡ a.pages.pages.ghost_name) × (b.pages.host.ghost_name ≡ a.pages.host.ghost_name)
+        × SamePages F.tells.folder a.pages.pages.now b.pages.pages.now a.tree.now b.tree.now };
+
+    ghost tells_one = { λ desk valid told. let r = valid.one told in (r.0, record { told = told; has = r.1 }) };
+
+    ghost has_one = { λ desk a b is_a is_b. one_text (present_of desk.pages.pages.now) desk.tree.now.present a b is_a.has is_b.has };
+
+    ghost has_lines = { λ desk text is. is.has.lines };
+
+    ghost few_lines = { λ desk valid. valid.few };
+
+    ghost stays_itself = { λ desk. (refl, refl, refl, same_none F.tells.folder desk.pages.pages.now desk.tree.now) };
+
+    ghost stays_on = { λ p q r first second. (
+      second.0 ∙ first.0,
+      second.1 ∙ first.1,
+      second.2 ∙ first.2,
+      same_then F.tells.folder p.pages.pages.now q.pages.pages.now r.pages.pages.now p.tree.now q.tree.now r.tree.now first.3 second.3,
+    ) };
+
+    ghost stays_text = { λ p q text stays is. same_text F.tells.folder p.pages.pages.now q.pages.pages.now p.tree.now q.tree.now text stays.3 is };
+
+    ghost stays_lines = { λ p q stays. ap (λ (t : LineTree). t.present.lines) stays.3.tree };
+
+    ghost stays_reads = { λ p q name stays reads. reads };
+
+    fn has(&mut self, name: &str) -> Result<bool, Failed> {
+        self.pages.host.has(name)
+    }
+
+    fn create(&mut self, name: &str) -> Result<(), Failed> {
+        self.pages.host.create(name)
+    }
+
+    fn create_private(&mut self, name: &str) -> Result<(), Failed> {
+        self.pages.host.create_private(name)
+    }
+
+    fn len(&mut self, name: &str) -> Result<u64, Failed> {
+        self.pages.host.len(name)
+    }
+
+    fn read_at(&mut self, name: &str, at: u64, into: &mut [u8]) -> Result<(), Failed> {
+        self.pages.host.read_at(name, at, into)
+    }
+
+    fn write_at(&mut self, name: &str, at: u64, piece: &[u8]) -> Result<(), Failed> {
+        self.pages.host.write_at(name, at, piece)
+    }
+
+    fn cut(&mut self, name: &str, len: u64) -> Result<(), Failed> {
+        self.pages.host.cut(name, len)
+    }
+
+    fn sync(&mut self, name: &str) -> Result<(), Failed> {
+        self.pages.host.sync(name)
+    }
+
+    fn rename(&mut self, from: &str, to: &str) -> Result<(), Failed> {
+        self.pages.host.rename(from, to)
+    }
+
+    fn remove(&mut self, name: &str) -> Result<(), Failed> {
+        self.pages.host.remove(name)
+    }
+
+    fn take_mode(&mut self, from: &str, to: &str) {
+        self.pages.host.take_mode(from, to);
+    }
+
+    fn sync_names(&mut self) -> Result<(), Failed> {
+        self.pages.host.sync_names()
+    }
+
+    fn damaged(&mut self) {
+        self.pages.host.damaged();
+    }
+
+    fn text_len(&self) -> u64 {
+        self.tree.len()
+    }
+
+    fn text_lines(
+        &mut self,
+        alloc: Global,
+        at: u64,
+        count: u64,
+        into: &mut Vec<u8>,
+    ) -> Result<(), StoreErr> {
+        into.clear();
+        match self
+            .tree
+            .copy_lines(alloc, &mut self.pages, at, count, into)
+        {
+            Ok(()) => Ok(()),
+            Err(PageErr::NoMemory) => Err(StoreErr::NoMemory),
+            Err(PageErr::Failed) => Err(StoreErr::Failed),
+        }
+    }
+}

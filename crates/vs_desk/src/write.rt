@@ -1,0 +1,95 @@
+// Writing a text of a swap pair into its file.
+ghost use Rattle.std.specs.Prelude.{◌≡◌, IsErrOf, IsTrue, List};
+ghost use Rattle.vs_faults.specs.Faults.{HasCause};
+ghost use Rattle.vs_host.specs.Names.{AreNames};
+ghost use Rattle.vs_host.specs.World.{ChangesFolder};
+ghost use Rattle.vs_disk.specs.Runs.{Runs};
+ghost use Rattle.vs_pages.specs.declared.memory.MemPages.{MemPages};
+ghost use Rattle.vs_text.specs.Text.{file_of};
+ghost use Rattle.vs_backup.specs.Backups.{IsNoName, WorksOn};
+ghost use Rattle.vs_backup.specs.Works.{SparesOthers};
+ghost use Rattle.vs_backup.specs.Writing.{IsFailed};
+ghost use Rattle.vs_safety.specs.Texts.{Sync, Text, recoverable};
+ghost use Rattle.vs_paged.specs.Fits.{Fits, names_of};
+ghost use Rattle.vs_paged.specs.Pages.{IsBounded, IsPaged};
+ghost use Rattle.vs_desk.specs.Pages.{SamePages};
+ghost use Rattle.vs_desk.specs.Still.{SparesStill};
+ghost use Rattle.vs_desk.specs.Writes.{KeepsSwap, WritesFile};
+
+use crate::desk::PagedDesk;
+use crate::pages::FolderPages;
+use std::alloc::Global;
+use vs_backup::{WriteErr, WriteOptions, write_out};
+use vs_host::{Folder, Names};
+use vs_paged::PagedText;
+use vs_pages::MemPages;
+use vs_tree::LineTree;
+
+// Writes a text in pages into the file of these names.
+fn write_in<F: Folder>(
+    alloc: Global,
+    tree: &mut LineTree,
+    pages: &mut MemPages,
+    host: &mut F,
+    names: &Names,
+    options: &WriteOptions,
+) -> Result<u64, WriteErr>
+    requires bounded { IsBounded tree.old }
+    requires names { AreNames names.now }
+    requires paged { IsTrue F.tells.folder → (text : Text) × IsPaged pages.old tree.old text }
+    ensures written { IsTrue F.tells.folder → (text : Text) → IsPaged pages.old tree.old text
+        → WritesFile options.now names.now (file_of text) (F.scene host.old) (F.scene host.new) result }
+    ensures no_name { IsErrOf result WriteErr.NoBackupName → IsNoName options.now names.now.file F.tells.folder (F.scene host.old).folder }
+    ensures others { IsTrue F.tells.folder → SparesOthers (WorksOn options.now names.now.file (F.scene host.old).folder) (F.scene host.old) (F.scene host.new) }
+    ensures same { SamePages F.tells.folder pages.old pages.new tree.old tree.new }
+    ensures frame { ChangesFolder (F.scene host.old) (F.scene host.new) }
+    ensures cause { HasCause (F.scene host.old).folder_faults (F.scene host.new).folder_faults (IsFailed result) }
+{
+    let mut desk = PagedDesk {
+        tree,
+        pages: FolderPages { pages, host },
+    };
+    write_out(alloc, &mut desk, names, options)
+}
+
+/// Writes the text into its file, by these options (docs/FORMATS.md, Writing). Gives the number of bytes.
+///
+/// After an error `old_in` says where the old bytes stand. At each moment what may be recovered from the swap files is
+/// recovered, and text and swap files are as before, whatever was answered. Names that are still, and on which the write does
+/// not work, are left alone.
+pub fn write_text<F: Folder>(
+    alloc: Global,
+    text: &mut PagedText,
+    host: &mut F,
+    options: &WriteOptions,
+) -> Result<u64, WriteErr>
+    requires fits { IsTrue F.tells.folder → (lines : Text) × (syncs : List Sync) × Fits text.old (F.scene host.old).folder lines syncs }
+
+    // The file and its backup.
+    ensures written { IsTrue F.tells.folder → (lines : Text) (syncs : List Sync) → Fits text.old (F.scene host.old).folder lines syncs
+        → WritesFile options.now (names_of text.old) (file_of lines) (F.scene host.old) (F.scene host.new) result }
+    ensures no_name { IsErrOf result WriteErr.NoBackupName → IsNoName options.now (names_of text.old).file F.tells.folder (F.scene host.old).folder }
+
+    // The swap files, at each moment and at the end.
+    ensures recovers { IsTrue F.tells.folder → (lines : Text) (syncs : List Sync) → Fits text.old (F.scene host.old).folder lines syncs
+        → Runs (KeepsSwap (names_of text.old) (recoverable syncs)) (F.scene host.old) (F.scene host.new) }
+    ensures fits { IsTrue F.tells.folder → (lines : Text) (syncs : List Sync) → Fits text.old (F.scene host.old).folder lines syncs
+        → Fits text.new (F.scene host.new).folder lines syncs }
+
+    // All names on which the write does not work.
+    ensures others { IsTrue F.tells.folder → SparesStill (WorksOn options.now (names_of text.old).file (F.scene host.old).folder) (F.scene host.old) (F.scene host.new) }
+    ensures names { names_of text.new ≡ names_of text.old }
+    ensures generation { text.new.pair.files.generation ≡ text.old.pair.files.generation }
+    ensures tree { text.new.tree ≡ text.old.tree }
+    ensures frame { ChangesFolder (F.scene host.old) (F.scene host.new) }
+    ensures cause { HasCause (F.scene host.old).folder_faults (F.scene host.new).folder_faults (IsFailed result) }
+{
+    write_in(
+        alloc,
+        &mut text.tree,
+        &mut text.pair.pages,
+        host,
+        &text.pair.files.names,
+        options,
+    )
+}

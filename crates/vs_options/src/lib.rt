@@ -1,0 +1,6 @@
+//! The options that `:set` sets (`:help :set`), and what it answers.
+#![tactic(auto)]
+
+mod setting;
+
+pub use setting::{first_options, full_text, set};

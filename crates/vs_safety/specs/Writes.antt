@@ -1,0 +1,93 @@
+-- A write of the edited file: what it leaves of other names, what a stop leaves of the file and its backup while it is under way,
+-- and what it leaves in the end.
+use Rattle.std.specs.Prelude.{◌≡◌, ◌⊎◌, ℕ, Bool, true, false, ◌||◌, List, [], Option, Some, None, IsSome}
+use Rattle.std.specs.Str.{bytes_eq}
+use Rattle.vs_faults.specs.Faults.{HasRisen}
+use Rattle.vs_host.specs.Disk.{Disk, Name, names_at, content_in}
+use Rattle.vs_host.specs.Trace.{Snapshot}
+use Rattle.vs_host.specs.World.{Scene}
+use Rattle.vs_host.specs.declared.names.Names.{Names}
+use Rattle.vs_text.specs.Text.{file_of}
+use Rattle.vs_disk.specs.Images.{HoldsBytes, MayLeave, Takes}
+use Rattle.vs_disk.specs.Names.{IsImageAt, SameAt}
+use Rattle.vs_pair.specs.Pair.{Image, is_foreign}
+use Rattle.vs_backup.specs.declared.options.WriteOptions.{WriteOptions}
+use Rattle.vs_backup.specs.Backups.{WorksOn, backup_of}
+use Rattle.vs_backup.specs.Works.{IsOutside}
+use Rattle.vs_backup.specs.Writing.{IsWhole, MayLackNew}
+use Rattle.vs_safety.specs.Texts.{Text}
+
+-- A write of the edited file: its options, the text, and the folder when the command began.
+pub record Write : Type 0 where
+  pub options : WriteOptions
+  pub text : Text
+  pub found : Disk
+
+-- the backup that the write makes, where the file was there
+abbrev pub backup_for : Names → Write → Option Name
+backup_for names write = backup_of write.options names.file write.found
+
+-- the bytes of the file when the command began
+abbrev pub old_bytes : Names → Write → Option (List ℕ)
+old_bytes names write = content_in write.found names.file
+
+-- the bytes that the file gets
+abbrev pub new_bytes : Write → List ℕ
+new_bytes write = file_of write.text
+
+-- ---- other names
+
+-- no name of the set is one of the pair
+abbrev pub AreForeign : Names → (Name → Bool) → Type 0
+AreForeign names inside = (name : Name) → inside name ≡ true → is_foreign names name ≡ true
+
+-- the write works on no name of the set
+abbrev pub Avoids : Names → Write → (Name → Bool) → Type 0
+Avoids names write inside = IsOutside (WorksOn write.options names.file write.found) inside
+
+-- What a command leaves of the names that are not of the pair: all, where it writes no file. A write leaves those on which it does
+-- not work: what was spared since a folder in which no change of a name was pending, goes on to be spared.
+abbrev pub Keeps : Names → Option Write → Disk → Disk → Type 0
+Keeps names None old new = SameAt (is_foreign names) old new
+Keeps names (Some write) old new =
+    (inside : Name → Bool) (start : Disk) → AreForeign names inside → Avoids names write inside → start.pending ≡ [] → SameAt inside start old → SameAt inside start new
+
+-- ---- the file and its backup
+
+abbrev pub is_either : Name → Name → Name → Bool
+is_either one other name = bytes_eq one name || bytes_eq other name
+
+-- what a stop may leave under these two names together, it might leave before
+abbrev pub LeavesOld : Name → Name → Disk → Disk → Type 0
+LeavesOld one other old new = (image : Image) → IsImageAt (is_either one other) new image → IsImageAt (is_either one other) old image
+
+-- A moment of a write. Over a file that was there, with a backup: a stop leaves of both only what it might leave before, or in each
+-- image one of them has the old or the new bytes whole. Of a file that was not there, a stop leaves the new bytes, or what it might
+-- leave before.
+pub record IsWholeIn (names : Names) (write : Write) (folder : Disk) : Type 0 where
+  pub backed : (old : List ℕ) (backup : Name) → old_bytes names write ≡ Some old → backup_for names write ≡ Some backup
+      → LeavesOld names.file backup write.found folder ⊎ IsWhole names.file backup old (new_bytes write) folder
+  pub fresh : old_bytes names write ≡ None → Takes names.file (new_bytes write) write.found folder
+
+-- the folder, and how many calls on it failed so far
+pub record State : Type 0 where
+  pub folder : Disk
+  pub faults : ℕ
+
+abbrev pub state_in : Snapshot → State
+state_in snapshot = record { folder = snapshot.folder; faults = snapshot.folder_faults }
+
+abbrev pub state_now : Scene → State
+state_now scene = record { folder = scene.folder; faults = scene.folder_faults }
+
+-- What a write leaves. Where it was carried out the file has the new bytes in each image, and a backup that is kept has the old ones;
+-- one that is not kept is in no image, unless a call failed. Where it was not, a stop may leave something else than the new bytes.
+pub record HasWritten (names : Names) (write : Write) (done : Bool) (old new : State) : Type 0 where
+  pub found : write.found ≡ old.folder
+  pub written : done ≡ true → HoldsBytes names.file (new_bytes write) new.folder
+  pub kept : (bytes : List ℕ) (backup : Name) → done ≡ true → write.options.backup ≡ true → old_bytes names write ≡ Some bytes → backup_for names write ≡ Some backup
+      → HoldsBytes backup bytes new.folder
+  pub gone : (backup : Name) → done ≡ true → write.options.backup ≡ false → IsSome (old_bytes names write) → backup_for names write ≡ Some backup
+      → (HasRisen old.faults new.faults → ⊥) → (lost : ℕ) → names_at new.folder lost backup ≡ None
+  pub not_written : (bytes : List ℕ) → done ≡ false → old_bytes names write ≡ Some bytes → MayLackNew names.file bytes new.folder
+  pub absent : done ≡ false → old_bytes names write ≡ None → MayLeave new.folder names.file None

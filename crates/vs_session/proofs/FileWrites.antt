@@ -1,0 +1,200 @@
+-- A write of the file after the sync that its command begins, as a run sees it: at each moment, and in the end.
+use Rattle.std.proofs.Common.{◌≡◌, ◌⊎◌, inl, inr, ℕ, zero, suc, ◌+◌, ◌≤◌, Bool, true, false, cond, ◌&&◌, ◌||◌, not, length, map, codes, List, [], ◌∷◌, ◌++◌, Option, Some, None, Result, Ok, Err, IfOk, OnOk, OnErr, refl, sym, ◌∙◌, ap, subst, arith}
+use Rattle.std.specs.Prelude.{is_some, is_none, IsSome, IfSome}
+use Rattle.std.specs.Str.{bytes_eq}
+use Rattle.std.proofs.lemmas.Slice.Eq.{bytes_eq-Decides}
+use Rattle.std.proofs.lemmas.Bool.{true≢false, cases_Bool}
+use Rattle.std.proofs.lemmas.List.{append_cancel_right}
+use Rattle.vs_faults.specs.Faults.{HasRisen}
+use Rattle.vs_host.specs.File.{File}
+use Rattle.vs_host.specs.Disk.{Disk, Name, names_of, names_at, read_under, content_in, IsImageOf}
+use Rattle.vs_host.specs.Names.{AreNames, temporary}
+use Rattle.vs_host.specs.Trace.{Snapshot, Each, GoesOn}
+use Rattle.vs_host.specs.World.{Scene}
+use Rattle.vs_host.specs.declared.names.Names.{Names}
+use Rattle.vs_disk.specs.Images.{HoldsBytes, MayLeave, Takes}
+use Rattle.vs_disk.specs.Names.{IsImageAt, SameAt}
+use Rattle.vs_disk.specs.Runs.{Inside, Runs, Looks}
+use Rattle.vs_disk.proofs.Contents.{takes_then, some_bytes}
+use Rattle.vs_disk.proofs.Others.{same_then, image_same, image_before}
+use Rattle.vs_disk.proofs.Runs.{goes_then, goes_weaker}
+use Rattle.vs_pair.specs.Pair.{Image, is_swap, is_apart, is_foreign}
+use Rattle.vs_pair.proofs.MadeFiles.{same_weaker}
+use Rattle.vs_backup.specs.declared.options.WriteOptions.{WriteOptions}
+use Rattle.vs_backup.specs.declared.errors.WriteErr.{WriteErr}
+use Rattle.vs_backup.specs.declared.errors.WriteErr.TheVariants as error
+use Rattle.vs_backup.specs.declared.errors.Place.TheVariants as place
+use Rattle.vs_backup.specs.Backups.{WorksOn, IsBackupName, IsNoName, backs_up, backup_of, backup_name, candidates, first_free, lettered, letters}
+use Rattle.vs_backup.specs.Backups.WorksOn.{TheFile, TheNewFile, TheBackup, TheCopy}
+use Rattle.vs_backup.specs.Works.{IsOutside, Narrowed}
+use Rattle.vs_backup.specs.Writing.{IsUnseen, IsWhole, FindsNoName, MayLackNew, WritesFresh, WritesInPlace, WritesNew, WritesPlain, WritesWith, nowhere}
+use Rattle.vs_backup.proofs.Choosing.{candidates_are, letters_next, none_left, IsBackupName-plain, IsBackupName-lettered, some_name}
+use Rattle.vs_backup.proofs.Frames.{absent_now, not_same}
+use Rattle.vs_backup.proofs.Kept.{may_leave_now}
+use Rattle.vs_backup.proofs.NamesApart.{file_apart, backup_apart, temporary_apart}
+use Rattle.vs_safety.specs.Writes.{Write, State, AreForeign, Avoids, HasWritten, IsWholeIn, Keeps, LeavesOld, backup_for, is_either, new_bytes, old_bytes, state_now}
+use Rattle.vs_desk.specs.Still.{IsStill, SparesStill}
+use Rattle.vs_desk.specs.Writes.{WritesFile}
+use Rattle.vs_desk.proofs.Stillness.{still_settled, still_lasts}
+use Rattle.vs_session.specs.Session.{lacks_name}
+use Rattle.vs_session.specs.Writes.{outcome_to}
+use Rattle.vs_machine.specs.Machine.{is_done}
+use Rattle.vs_session.proofs.Steps.{apart_foreign}
+
+-- ---- the same calls, seen in several ways
+
+each_both : (P Q : Snapshot → Type 0) (ms : List Snapshot) → Each P ms → Each Q ms → Each (λ m. P m × Q m) ms
+each_both P Q [] p q = tt
+each_both P Q (m ∷ ms) p q = ((p.0, q.0), each_both P Q ms p.1 q.1)
+
+each_all : (A : Type 0) (P : A → Snapshot → Type 0) (ms : List Snapshot) → ((a : A) → Each (P a) ms) → Each (λ m. (a : A) → P a m) ms
+each_all A P [] all = tt
+each_all A P (m ∷ ms) all = (λ a. (all a).0, each_all A P ms (λ a. (all a).1))
+
+moved_to : (P : Snapshot → Type 0) (old new : List Snapshot) (added : List Snapshot) → new ≡ added ++ old → GoesOn P old new → Each P added
+moved_to P old new added is goes = subst (λ (ms : List Snapshot). Each P ms) (append_cancel_right goes.added added old (sym goes.is ∙ is)) goes.each
+
+pub goes_both : (P Q : Snapshot → Type 0) (old new : List Snapshot) → GoesOn P old new → GoesOn Q old new → GoesOn (λ m. P m × Q m) old new
+goes_both P Q old new p q = record { added = p.added; is = p.is; each = each_both P Q p.added p.each (moved_to Q old new p.added p.is q) }
+
+pub goes_all : (A : Type 0) (P : A → Snapshot → Type 0) (Q : Snapshot → Type 0) (old new : List Snapshot) → GoesOn Q old new → ((a : A) → GoesOn (P a) old new) → GoesOn (λ m. (a : A) → P a m) old new
+goes_all A P Q old new base all = record { added = base.added; is = base.is; each = each_all A P base.added (λ a. moved_to (P a) old new base.added base.is (all a)) }
+
+-- ---- Bools
+
+pub both_true : (a b : Bool) → (a && b) ≡ true → (a ≡ true) × (b ≡ true)
+both_true true true is = (refl, refl)
+both_true true false is = absurd (true≢false (sym is))
+both_true false b is = absurd (true≢false (sym is))
+
+pub not_true : (a : Bool) → not a ≡ true → a ≡ false
+not_true true is = absurd (true≢false (sym is))
+not_true false is = refl
+
+pub none_is : (o : Option Name) → is_none o ≡ true → o ≡ None
+none_is None is = refl
+none_is (Some name) is = absurd (true≢false (sym is))
+
+-- ---- the bytes under a name whose file was left alone
+
+read_same : (old new : Disk) (a b : Option ℕ) → b ≡ a → ((number : ℕ) → b ≡ Some number → new.files number ≡ old.files number) → read_under new b ≡ read_under old a
+read_same old new a None is files = ap (λ (at : Option ℕ). read_under old at) is
+read_same old new a (Some number) is files = ap (λ (f : File). Some f.bytes) (files number refl) ∙ ap (λ (at : Option ℕ). read_under old at) is
+
+free_step : (old new : Disk) (name : Name) (names : List Name) → content_in new name ≡ content_in old name → first_free new names ≡ first_free old names → first_free new (name ∷ names) ≡ first_free old (name ∷ names)
+unfolding first_free
+free_step old new name names same more = λ i. cond (is_some (same i)) (more i) (Some name)
+
+-- the first free name is one of those
+free_of : (P : Name → Type 0) (disk : Disk) (name : Name) (names : List Name) → P name → ((b : Name) → first_free disk names ≡ Some b → P b) → (b : Name) → first_free disk (name ∷ names) ≡ Some b → P b
+unfolding first_free
+free_of P disk name names one more b is = elim (cases_Bool (is_some (content_in disk name))) [
+  | inl taken ↦ more b (sym (ap (λ (c : Bool). cond c (first_free disk names) (Some name)) taken) ∙ is)
+  | inr free ↦ subst P (some_name_is name b (sym (ap (λ (c : Bool). cond c (first_free disk names) (Some name)) free) ∙ is)) one
+]
+  where
+    some_name_is : (a b : Name) → Some a ≡ Some b → a ≡ b
+    some_name_is a b e = cc
+
+none_some : (b : Name) (X : Type 0) → None ≡ Some b → X
+none_some b X e = cc
+
+module _ (names : Names) (are : AreNames names) where
+  lettered_names : (disk : Disk) (n : ℕ) (b : Name) → first_free disk (map (lettered names.file) (letters n)) ≡ Some b → IsBackupName names.file b
+  lettered_names disk zero b is = none_some b (IsBackupName names.file b) (sym (none_left disk names.file 0 refl) ∙ is)
+  lettered_names disk (suc n) b is =
+      free_of (IsBackupName names.file) disk (lettered names.file (97 + n)) (map (lettered names.file) (letters n)) (IsBackupName-lettered names.file (97 + n) (some_name names.file are.allowed))
+      (lettered_names disk n) b (sym (ap (λ (l : List Name). first_free disk l) (letters_next names.file (suc n) n refl)) ∙ is)
+
+  candidate_names : (disk : Disk) (b : Name) → first_free disk (candidates names.file) ≡ Some b → IsBackupName names.file b
+  candidate_names disk b is =
+      free_of (IsBackupName names.file) disk (backup_name names.file) (map (lettered names.file) (letters 26)) (IsBackupName-plain names.file) (lettered_names disk 26) b
+      (sym (ap (λ (l : List Name). first_free disk l) (candidates_are names.file)) ∙ is)
+
+  pub backup_named : (options : WriteOptions) (disk : Disk) (b : Name) → backup_of options names.file disk ≡ Some b → IsBackupName names.file b
+  backup_named options disk b is = elim (cases_Bool options.backup) [
+    | inl on ↦
+        let made : Some (backup_name names.file) ≡ Some b = sym (ap (λ (c : Bool). cond c (Some (backup_name names.file)) (cond options.writebackup (first_free disk (candidates names.file)) None)) on) ∙ is in
+        subst (IsBackupName names.file) (some_name_is (backup_name names.file) b made) (IsBackupName-plain names.file)
+    | inr off ↦
+        let rest : cond options.writebackup (first_free disk (candidates names.file)) None ≡ Some b =
+        sym (ap (λ (c : Bool). cond c (Some (backup_name names.file)) (cond options.writebackup (first_free disk (candidates names.file)) None)) off) ∙ is in
+        elim (cases_Bool options.writebackup) [
+          | inl on ↦ candidate_names disk b (sym (ap (λ (c : Bool). cond c (first_free disk (candidates names.file)) None) on) ∙ rest)
+          | inr none ↦ none_some b (IsBackupName names.file b) (sym (ap (λ (c : Bool). cond c (first_free disk (candidates names.file)) None) none) ∙ rest)
+        ]
+  ]
+    where
+      some_name_is : (a b : Name) → Some a ≡ Some b → a ≡ b
+      some_name_is a b e = cc
+
+  -- a name that is no swap file
+  apart_name : (name : Name) → ((name ≡ names.swp) ⊎ (name ≡ names.swo) → ⊥) → is_apart names name ≡ true
+  apart_name name none = λ i. not (not_same names.swp name (λ is. none (inl is)) i || not_same names.swo name (λ is. none (inr is)) i)
+
+  pub apart_file : is_apart names names.file ≡ true
+  apart_file = apart_name names.file (file_apart names are)
+
+  apart_backup : (backup : Name) → IsBackupName names.file backup → is_apart names backup ≡ true
+  apart_backup backup is = apart_name backup (backup_apart names are backup is)
+
+  -- ---- from the folder that the command found to the one after its sync
+  module _ (old mid : Disk) (same : SameAt (is_apart names) old mid) where
+    content_same : (name : Name) → is_apart names name ≡ true → content_in mid name ≡ content_in old name
+    content_same name is = read_same old mid (names_of old name) (names_of mid name) (same.now name is) (λ number leads. same.files 0 name number is leads)
+
+    pub file_same : content_in mid names.file ≡ content_in old names.file
+    file_same = content_same names.file apart_file
+
+    letters_same : (n : ℕ) → first_free mid (map (lettered names.file) (letters n)) ≡ first_free old (map (lettered names.file) (letters n))
+    letters_same zero = none_left mid names.file 0 refl ∙ sym (none_left old names.file 0 refl)
+    letters_same (suc n) =
+        ap (λ (l : List Name). first_free mid l) (letters_next names.file (suc n) n refl)
+        ∙ free_step old mid (lettered names.file (97 + n)) (map (lettered names.file) (letters n))
+        (content_same (lettered names.file (97 + n)) (apart_backup (lettered names.file (97 + n)) (IsBackupName-lettered names.file (97 + n) (some_name names.file are.allowed)))) (letters_same n)
+        ∙ sym (ap (λ (l : List Name). first_free old l) (letters_next names.file (suc n) n refl))
+
+    free_same : first_free mid (candidates names.file) ≡ first_free old (candidates names.file)
+    free_same =
+        ap (λ (l : List Name). first_free mid l) (candidates_are names.file)
+        ∙ free_step old mid (backup_name names.file) (map (lettered names.file) (letters 26)) (content_same (backup_name names.file) (apart_backup (backup_name names.file) (IsBackupName-plain names.file))) (letters_same 26)
+        ∙ sym (ap (λ (l : List Name). first_free old l) (candidates_are names.file))
+
+    pub backup_same : (options : WriteOptions) → backup_of options names.file mid ≡ backup_of options names.file old
+    backup_same options = ap (λ (o : Option Name). cond options.backup (Some (backup_name names.file)) (cond options.writebackup o None)) free_same
+
+    pub works_same : (options : WriteOptions) (other : Name) → WorksOn options names.file mid other → WorksOn options names.file old other
+    works_same options other (TheFile is) = TheFile is
+    works_same options other (TheNewFile none is) = TheNewFile (sym file_same ∙ none) is
+    works_same options other (TheBackup backup there made is) = TheBackup backup (subst (λ (o : Option (List ℕ)). IsSome o) file_same there) (sym (backup_same options) ∙ made) is
+    works_same options other (TheCopy backup there made copied is) = TheCopy backup (subst (λ (o : Option (List ℕ)). IsSome o) file_same there) (sym (backup_same options) ∙ made) copied is
+
+    -- what a stop may leave after the sync, it might leave before
+    either_apart : (backup name : Name) → is_apart names backup ≡ true → is_either names.file backup name ≡ true → is_apart names name ≡ true
+    either_apart backup name apart is = elim (cases_Bool (bytes_eq names.file name)) [
+      | inl file ↦ subst (λ (n : Name). is_apart names n ≡ true) ((bytes_eq-Decides names.file name).0 file) apart_file
+      | inr other ↦ subst (λ (n : Name). is_apart names n ≡ true) ((bytes_eq-Decides backup name).0 (sym (ap (λ (b : Bool). b || bytes_eq backup name) other) ∙ is)) apart
+    ]
+
+    pub leaves_old : (backup : Name) → IsBackupName names.file backup → LeavesOld names.file backup old mid
+    leaves_old backup named image part =
+        image_before (is_either names.file backup) old mid
+        (same_weaker (is_apart names) (is_either names.file backup) old mid (λ name is. either_apart backup name (apart_backup backup named) is) same) image part
+
+    pub takes_old : (new : List ℕ) → Takes names.file new old mid
+    takes_old new found may =
+        let l = same.back may.0 in
+        inr (l.0, image_same old mid (names_at old l.0 names.file) (names_at mid may.0 names.file) found (l.1 names.file apart_file) (λ number leads. same.files may.0 names.file number apart_file leads) may.1)
+
+-- what narrowed, leaves of two names only what it left before
+narrowed_image : (old new : Disk) (at : Option ℕ) (found : Option (List ℕ)) → Narrowed old new → IsImageOf new at found → IsImageOf old at found
+narrowed_image old new None found narrowed image = image
+narrowed_image old new (Some number) found narrowed image = (image.0, image.1, (narrowed.files number).images image.0 image.2)
+
+pub narrowed_leaves : (one other : Name) (old new : Disk) → Narrowed old new → LeavesOld one other old new
+narrowed_leaves one other old new narrowed image part =
+    let l = narrowed.back part.0 in
+    (l.0, λ name is. subst (λ (at : Option ℕ). IsImageOf old at (image name)) (l.1 name) (narrowed_image old new (names_at new part.0 name) (image name) narrowed (part.1 name is)))
+
+pub leaves_then : (one other : Name) (a b c : Disk) → LeavesOld one other a b → LeavesOld one other b c → LeavesOld one other a c
+leaves_then one other a b c first second image part = first image (second image part)

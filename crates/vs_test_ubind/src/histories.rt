@@ -1,0 +1,149 @@
+// Undo files of small histories, with the bytes and links that the format says (docs/FORMATS.md, "Undo file").
+ghost use Rattle.std.specs.Prelude.{IfOk};
+ghost use Rattle.vs_undo.specs.Moves.{IsReady};
+ghost use Rattle.vs_ufile.specs.Decode.{IsWellFormed};
+ghost use Rattle.vs_ufile.specs.Values.{history_of};
+
+use crate::digests::{EMPTY, store_of};
+use std::alloc::{AllocError, Global};
+use std::process::Abort;
+use std::test::Fail;
+use vs_edit::{LineStore, allows_splice};
+use vs_text::read_text;
+use vs_ubind::unbind;
+use vs_ufile::{FileHistory, encode};
+use vs_undo::{UndoTree, change};
+
+#[derive(Drop)]
+struct Editor<S> {
+    tree: UndoTree,
+    text: S,
+}
+
+// A history of one state, which is the text of the store.
+fn begin<S: LineStore + Drop>(alloc: Global, text: S) -> Result<Editor<S>, AllocError>
+    requires { S.valid text }
+    ensures { IfOk result (λ editor. IsReady S.LineStore editor.tree editor.text) }
+{
+    let mut text = text;
+    text.commit();
+    let tree = UndoTree::new(alloc)?;
+    Ok(Editor { tree, text })
+}
+
+// Puts a line behind the last one, at a time.
+fn append<S: LineStore>(
+    alloc: Global,
+    editor: &mut Editor<S>,
+    line: &[u8],
+    time: u64,
+) -> Result<(), Fail>
+    requires { IsReady S.LineStore editor.old.tree editor.old.text }
+    ensures { IsReady S.LineStore editor.new.tree editor.new.text }
+{
+    let new = read_text(alloc, line).ok().ok_or("it is a line")?;
+    let top = editor.text.len();
+    if !allows_splice(&editor.text, top, 0, new.lines()) {
+        return Err(Fail::new("there is no room for the line"));
+    }
+    let changed = change(
+        alloc,
+        &mut editor.tree,
+        &mut editor.text,
+        top,
+        0,
+        new.lines(),
+        time,
+    );
+    changed.ok().ok_or("there is memory for the change")?;
+    Ok(())
+}
+
+fn go_to<S: LineStore>(alloc: Global, editor: &mut Editor<S>, number: u64) -> Result<(), Fail>
+    requires { IsReady S.LineStore editor.old.tree editor.old.text }
+    ensures { IsReady S.LineStore editor.new.tree editor.new.text }
+{
+    let moved = editor.tree.goto(alloc, &mut editor.text, number);
+    moved.ok().ok_or("the state is kept")?;
+    Ok(())
+}
+
+fn data_of<S: LineStore>(
+    alloc: Global,
+    editor: &mut Editor<S>,
+    save_next: bool,
+) -> Result<FileHistory, Fail>
+    requires { IsReady S.LineStore editor.old.tree editor.old.text }
+    ensures { IfOk result (λ history. IsWellFormed (history_of history)) }
+{
+    let history = unbind(alloc, &editor.tree, &mut editor.text, save_next);
+    Ok(history.ok().ok_or("there is memory for the history")?)
+}
+
+#[test]
+fn one_empty_line_without_changes_has_these_bytes(rt: HostRuntime) -> Result<(), Fail> {
+    let alloc = rt.alloc();
+    let mut editor = begin(alloc, store_of(alloc, b"\n")?)?;
+    let bytes = encode(alloc, &data_of(alloc, &mut editor, false)?)?;
+    let mut wanted = Vec::new(alloc);
+    wanted.extend_from_slice(&[0x56, 0x69, 0x6d, 0x9f, 0x55, 0x6e, 0x44, 0x6f, 0xe5, 0, 2])?;
+    wanted.extend_from_slice(&EMPTY)?;
+    wanted.extend_from_slice(&[0, 0, 0, 1])?;
+    wanted.extend_from_slice(&[0; 44])?;
+    wanted.extend_from_slice(&[4, 1, 0, 0, 0, 0, 0, 0xe7, 0xaa])?;
+    assert!(rt; bytes.len() == 100 && bytes.as_slice() == wanted.as_slice());
+    Ok(())
+}
+
+#[test]
+fn a_line_more_takes_519_bytes(rt: HostRuntime) -> Result<(), Fail> {
+    let alloc = rt.alloc();
+    let mut editor = begin(alloc, store_of(alloc, b"a\n")?)?;
+    append(alloc, &mut editor, b"b\n", 7)?;
+    let bytes = encode(alloc, &data_of(alloc, &mut editor, false)?)?;
+    assert!(rt; bytes.len() == 519);
+    Ok(())
+}
+
+// What a file says of a change: its number, the links next, prev, alt_next and alt_prev, its time and its save number.
+type Row = (u32, [u32; 4], u64, u32);
+
+// Whether these are the changes of the file.
+fn are_changes(history: &FileHistory, rows: &[Row]) -> bool {
+    let changes = history.changes.as_slice();
+    changes.len() == rows.len()
+        && changes.iter().zip(rows.iter()).all(|(change, row)| {
+            let links = [change.next, change.prev, change.alt_next, change.alt_prev];
+            change.number == row.0 && links == row.1 && change.time == row.2 && change.save == row.3
+        })
+}
+
+// Changes 1 and 2, one after the other, and 3 to 5 beside 2; then back to 3. The next write would mark 3.
+#[test]
+fn a_chain_begins_with_the_child_last_used(rt: HostRuntime) -> Result<(), Fail> {
+    let alloc = rt.alloc();
+    let mut editor = begin(alloc, store_of(alloc, b"")?)?;
+    append(alloc, &mut editor, b"a\n", 11)?;
+    append(alloc, &mut editor, b"b\n", 12)?;
+    go_to(alloc, &mut editor, 1)?;
+    append(alloc, &mut editor, b"c\n", 13)?;
+    go_to(alloc, &mut editor, 1)?;
+    append(alloc, &mut editor, b"d\n", 14)?;
+    let _ = editor.tree.mark_write();
+    go_to(alloc, &mut editor, 1)?;
+    append(alloc, &mut editor, b"e\n", 15)?;
+    go_to(alloc, &mut editor, 3)?;
+    let rows: [Row; 5] = [
+        (1, [0, 3, 0, 0], 11, 0),
+        (2, [1, 0, 0, 4], 12, 0),
+        (3, [1, 0, 5, 0], 13, 2),
+        (4, [1, 0, 2, 5], 14, 1),
+        (5, [1, 0, 4, 3], 15, 0),
+    ];
+    let history = data_of(alloc, &mut editor, true)?;
+    assert!(rt; are_changes(&history, &rows));
+    assert!(rt; history.oldest == 1 && history.newest == 3 && history.current_head == 0);
+    assert!(rt; history.heads == 5 && history.last == 5 && history.current == 3);
+    assert!(rt; history.time == 13 && history.last_save == 2 && history.lines == 2);
+    Ok(())
+}

@@ -1,0 +1,9 @@
+//! Tests of what binds a history to its text: the digest, and the undo file under its name.
+#![tactic(auto)]
+
+#[cfg(test)]
+mod digests;
+#[cfg(test)]
+mod files;
+#[cfg(test)]
+mod histories;

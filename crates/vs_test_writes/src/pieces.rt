@@ -1,0 +1,48 @@
+// A long file is read and written in pieces.
+use crate::helpers::{edit_f, host_of};
+use crate::watched::Watched;
+use std::alloc::Global;
+use std::process::Abort;
+use std::test::Fail;
+
+// 100,000 lines of forty bytes and their ends.
+fn many_lines(alloc: Global) -> Result<Vec<u8>, Fail> {
+    let mut bytes = vec![in alloc; b'a'; 4_100_000]?;
+    for line in bytes.chunks_mut(41) {
+        if let Some(last) = line.last_mut() {
+            *last = b'\n';
+        }
+    }
+    Ok(bytes)
+}
+
+// The host after a run over this text.
+fn after_run(alloc: Global, text: &[u8], script: &[u8]) -> Result<Watched, Fail> {
+    let inner = host_of(alloc, &[("f", text)], script)?;
+    let mut host = Watched::new(inner, "f~");
+    edit_f(alloc, &mut host)?;
+    Ok(host)
+}
+
+#[test]
+fn a_renamed_file_takes_no_call_of_more_than_65536_bytes(rt: HostRuntime) -> Result<(), Fail> {
+    let text = many_lines(rt.alloc())?;
+    let host = after_run(rt.alloc(), &text, b"set bkc=no\nw\nq\n")?;
+    let output = b"\"f\" 100000L, 4100000B\nbackupcopy=no\n\"f\" 100000L, 4100000B written\nquit\n";
+    assert_eq!(rt; host.inner.output(), output.as_slice());
+    assert!(rt; 0 < host.renamed && host.inner.file("f") == Some(text.as_slice()));
+    assert!(rt; host.most <= 65_536, "{} bytes", host.most);
+    Ok(())
+}
+
+#[test]
+fn a_copied_file_takes_no_call_of_more_than_65536_bytes(rt: HostRuntime) -> Result<(), Fail> {
+    let text = many_lines(rt.alloc())?;
+    let host = after_run(rt.alloc(), &text, b"set bkc=yes\nw\nq\n")?;
+    let output =
+        b"\"f\" 100000L, 4100000B\nbackupcopy=yes\n\"f\" 100000L, 4100000B written\nquit\n";
+    assert_eq!(rt; host.inner.output(), output.as_slice());
+    assert!(rt; 0 < host.cut && host.inner.file("f") == Some(text.as_slice()));
+    assert!(rt; host.most <= 65_536, "{} bytes", host.most);
+    Ok(())
+}

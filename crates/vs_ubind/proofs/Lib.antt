@@ -1,0 +1,10 @@
+pub mod Fed
+pub mod Calls
+pub mod Used
+pub mod Flags
+pub mod Marked
+pub mod Places
+pub mod Chains
+pub mod Formed
+pub mod Known
+pub mod Meant

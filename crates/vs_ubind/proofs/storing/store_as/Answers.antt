@@ -1,0 +1,83 @@
+use Rattle.std.proofs.Common.{sym}
+use Rattle.std.proofs.lemmas.Result.{on_ok_weaker}
+use Rattle.vs_host.specs.World.{Scene}
+use Rattle.vs_disk.specs.Images.{Takes}
+use Rattle.vs_disk.proofs.Runs.{runs_on}
+use Rattle.vs_disk.proofs.Contents.{takes_then}
+use Rattle.vs_pair.proofs.Acts.{none_then}
+use Rattle.vs_backup.specs.Works.{one_name, two_names}
+use Rattle.vs_backup.proofs.Calls.{synced_there}
+use Rattle.vs_ubind.proofs.Calls.{spares_acts, takes_one, wider_acts}
+use Rattle.vs_ubind.proofs.storing.store_as.Goals as goal
+
+pub take_name-requires-clause-differ : goal.take_name-requires-clause-differ
+take_name-requires-clause-differ g c same = c.requires (sym same)
+
+pub take_name-requires-clause-there : goal.take_name-requires-clause-there
+take_name-requires-clause-there g c told =
+    synced_there c.args.temporary.now c.args.bytes.now (g.F.World.scene c.fill.new.host).folder (c.in_ok-fill.ensures.synced told)
+
+pub returns-in_err-make_anew-clause-acts : goal.returns-in_err-make_anew-clause-acts
+returns-in_err-make_anew-clause-acts g c =
+    wider_acts g.F.World.tells c.args.temporary.now c.args.name.now (g.F.World.scene c.args.host.now) (g.F.World.scene c.make_anew.new.host) c.make_anew.ensures.acts
+
+pub returns-in_err-make_anew-clause-takes : goal.returns-in_err-make_anew-clause-takes
+returns-in_err-make_anew-clause-takes g c told =
+    takes_one g.F.World.tells c.args.name.now c.args.temporary.now c.args.bytes.now (g.F.World.scene c.args.host.now) (g.F.World.scene c.make_anew.new.host)
+    c.requires c.make_anew.ensures.acts told
+
+pub returns-in_err-fill-clause-acts : goal.returns-in_err-fill-clause-acts
+returns-in_err-fill-clause-acts g c =
+    let s0 : Scene = g.F.World.scene c.args.host.now in
+    let s1 : Scene = g.F.World.scene c.make_anew.new.host in
+    let s2 : Scene = g.F.World.scene c.fill.new.host in
+    wider_acts g.F.World.tells c.args.temporary.now c.args.name.now s0 s2
+    (spares_acts g.F.World.tells (one_name c.args.temporary.now) s0 s1 s2 c.in_ok-make_anew.ensures.none c.make_anew.ensures.acts c.fill.ensures.acts)
+
+pub returns-in_err-fill-clause-takes : goal.returns-in_err-fill-clause-takes
+returns-in_err-fill-clause-takes g c told =
+    let s0 : Scene = g.F.World.scene c.args.host.now in
+    let s1 : Scene = g.F.World.scene c.make_anew.new.host in
+    let s2 : Scene = g.F.World.scene c.fill.new.host in
+    takes_one g.F.World.tells c.args.name.now c.args.temporary.now c.args.bytes.now s0 s2
+    c.requires
+    (spares_acts g.F.World.tells (one_name c.args.temporary.now) s0 s1 s2 c.in_ok-make_anew.ensures.none c.make_anew.ensures.acts c.fill.ensures.acts) told
+
+pub returns-clause-acts : goal.returns-clause-acts
+returns-clause-acts g c =
+    let s0 : Scene = g.F.World.scene c.args.host.now in
+    let s1 : Scene = g.F.World.scene c.make_anew.new.host in
+    let s2 : Scene = g.F.World.scene c.fill.new.host in
+    let s3 : Scene = g.F.World.scene c.take_name.new.host in
+    spares_acts g.F.World.tells (two_names c.args.temporary.now c.args.name.now) s0 s2 s3
+    (none_then g.F.World.tells s0 s1 s2 c.in_ok-make_anew.ensures.none c.in_ok-fill.ensures.none)
+    (wider_acts g.F.World.tells c.args.temporary.now c.args.name.now s0 s2
+    (spares_acts g.F.World.tells (one_name c.args.temporary.now) s0 s1 s2 c.in_ok-make_anew.ensures.none c.make_anew.ensures.acts c.fill.ensures.acts))
+    c.take_name.ensures.acts
+
+pub returns-clause-takes : goal.returns-clause-takes
+returns-clause-takes g c told =
+    let undo = c.args.name.now in
+    let bytes = c.args.bytes.now in
+    let s0 : Scene = g.F.World.scene c.args.host.now in
+    let s1 : Scene = g.F.World.scene c.make_anew.new.host in
+    let s2 : Scene = g.F.World.scene c.fill.new.host in
+    let s3 : Scene = g.F.World.scene c.take_name.new.host in
+    let filled = spares_acts g.F.World.tells (one_name c.args.temporary.now) s0 s1 s2 c.in_ok-make_anew.ensures.none c.make_anew.ensures.acts c.fill.ensures.acts in
+    runs_on (Takes undo bytes) (takes_then undo bytes) s0 s2 s3 filled.frame
+    (takes_one g.F.World.tells undo c.args.temporary.now bytes s0 s2 c.requires filled told)
+    (c.take_name.ensures.takes told bytes (c.in_ok-fill.ensures.synced told))
+
+pub returns-clause-holds : goal.returns-clause-holds
+returns-clause-holds g c =
+    on_ok_weaker c.take_name.result (λ holds told. holds told c.args.bytes.now (c.in_ok-fill.ensures.synced told)) c.take_name.ensures.holds
+
+pub returns-clause-none : goal.returns-clause-none
+returns-clause-none g c =
+    let s0 : Scene = g.F.World.scene c.args.host.now in
+    let s1 : Scene = g.F.World.scene c.make_anew.new.host in
+    let s2 : Scene = g.F.World.scene c.fill.new.host in
+    let s3 : Scene = g.F.World.scene c.take_name.new.host in
+    on_ok_weaker c.take_name.result
+    (λ last. none_then g.F.World.tells s0 s2 s3 (none_then g.F.World.tells s0 s1 s2 c.in_ok-make_anew.ensures.none c.in_ok-fill.ensures.none) last)
+    c.take_name.ensures.none

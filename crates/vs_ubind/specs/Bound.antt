@@ -1,0 +1,23 @@
+-- Which history the data of an undo file stands for at a text.
+use Rattle.std.specs.Prelude.{ℕ, ◌≡◌, Bool, true, false, List, length}
+use Rattle.vs_text.specs.Text.{stored}
+use Rattle.vs_undo.specs.declared.parts.Parts.{Parts}
+use Rattle.vs_undo.specs.History.{history_marked, History, IsHistory}
+use Rattle.vs_undo.specs.Sound.{IsSound}
+use Rattle.vs_ufile.specs.Values as file
+use Rattle.vs_ubind.specs.Digest.{digest_of}
+use Rattle.vs_ubind.specs.Meaning.{Means}
+
+-- The data was made for this text, and stands for a tree whose entries lead from this text to those of the history.
+pub record IsBound (contents : file.History) (text : List (List ℕ)) (history : History) : Type 0 where
+  pub digest : contents.digest ≡ digest_of text
+  pub lines : contents.lines ≡ length (stored text)
+  pub tree : Parts
+  pub sound : IsSound tree
+  pub means : Means contents tree
+  pub is : IsHistory tree text history
+
+-- the history, or the history after the next write
+abbrev pub history_next : Bool → History → History
+history_next false history = history
+history_next true history = history_marked history

@@ -1,0 +1,4 @@
+pub mod Digest
+pub mod Unbound
+pub mod Meaning
+pub mod Bound

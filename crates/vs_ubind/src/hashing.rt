@@ -1,0 +1,45 @@
+// The digest of a text, line by line.
+ghost use Rattle.std.specs.Prelude.{◌≡◌, ◌++◌, ◌∷◌, [], ℕ, List, IfOk, IsErrOf};
+ghost use Rattle.sha2.specs.Hashers.{Holds256};
+ghost use Rattle.vs_faults.specs.Faults.{HasCause};
+ghost use Rattle.vs_text.specs.Text.{stored_line};
+ghost use Rattle.vs_edit.specs.Calls.{OnlyReads};
+ghost use Rattle.vs_ubind.specs.Digest.{digest_of};
+
+use sha2::{Digest, Sha256};
+use std::alloc::Global;
+use vs_edit::{LineStore, StoreErr};
+use vs_text::to_stored;
+
+/// What stands behind each line.
+const LINE_END: [u8; 1] = [0];
+
+// Feeds the stored form of a line, and the zero byte behind it. The line is then in its stored form.
+fn feed(hasher: &mut Sha256, line: &mut [u8])
+    ensures { (fed : List ℕ) → Holds256 hasher.old fed → Holds256 hasher.new (fed ++ (stored_line line.old ++ 0 ∷ [])) }
+{
+    to_stored(line);
+    hasher.update(&*line);
+    hasher.update(&LINE_END);
+}
+
+/// SHA-256 over the stored form of a text, each line followed by one zero byte (docs/FORMATS.md, "Undo file"). A text without
+/// lines has the digest of one empty line.
+pub fn digest<S: LineStore>(alloc: Global, text: &mut S) -> Result<[u8; 32], StoreErr>
+    requires { S.valid text.old }
+    ensures digest { IfOk result (λ digest. (lines : List (List ℕ)) → (S.shows text.old).present.Is lines → digest ≡ digest_of lines) }
+    ensures kept { OnlyReads S.LineStore text.old text.new }
+    ensures cause { HasCause (S.shows text.old).faults (S.shows text.new).faults (IsErrOf result StoreErr.Failed) }
+{
+    let count = text.len();
+    if count == 0 {
+        return Ok(Sha256::digest(&LINE_END));
+    }
+    let mut hasher = Sha256::new();
+    let mut line = Vec::new(alloc);
+    'lines: for at in 0..count {
+        text.line(alloc, at, &mut line)?;
+        feed(&mut hasher, &mut line);
+    }
+    Ok(hasher.finalize())
+}
