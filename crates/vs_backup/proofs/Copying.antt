@@ -1,27 +1,24 @@
 -- Writing over a file in its place: until the copy stands under the backup name the file has the old bytes, and then the copy has.
-use Rattle.std.proofs.Common.{◌≡◌, inl, inr, ℕ, Bool, true, List, [], ◌∷◌, Some, length, OnOk, OnErr, Result, Ok, Err, sym, ◌∙◌, ap, subst, arith}
+use Rattle.std.proofs.Common.{◌≡◌, inl, inr, ℕ, Bool, true, List, [], Some, length, Ok, Err, sym, ◌∙◌, ap}
 use Rattle.std.specs.Prelude.{IsErrOf}
 use Rattle.vs_host.specs.File.{File, Cuts}
 use Rattle.vs_host.specs.Disk.{Disk, Name, content_in, ChangesFile, IsFolder}
-use Rattle.vs_host.specs.Trace.{Cut}
-use Rattle.vs_host.specs.World.{Scene, ChangesFolder, IsTold}
-use Rattle.vs_host.specs.declared.traits.Failed.{Failed}
+use Rattle.vs_host.specs.World.{Scene, ChangesFolder}
 use Rattle.vs_disk.specs.Images.{HoldsBytes, IsSynced, MayLeave}
 use Rattle.vs_disk.specs.Runs.{Runs}
 use Rattle.vs_disk.proofs.Steps.{same_at}
-use Rattle.vs_disk.proofs.Images.{cut_keeps_images, read_image}
-use Rattle.vs_disk.proofs.Runs.{one_call, runs_as, runs_then}
+use Rattle.vs_disk.proofs.Images.{read_image}
+use Rattle.vs_disk.proofs.Runs.{runs_as, runs_then}
 use Rattle.vs_disk.proofs.Contents.{file_of_content, content_of_file, holds_synced}
 use Rattle.vs_backup.specs.Works.{ChangesOne, Fills, IsAlone, LeadsTo, Spares, one_name, two_names, three_names}
-use Rattle.vs_backup.specs.Writing.{IsKept, IsSettled, Places, StartsOver, WritesOver, OldIn, backed_names, stopped}
+use Rattle.vs_backup.specs.Writing.{IsKept, IsSettled, Places, StartsOver, IsStartedOver, WritesOver, OldIn, backed_names, stopped}
 use Rattle.vs_backup.specs.declared.errors.Place.{Place}
 use Rattle.vs_backup.specs.declared.errors.Place.TheVariants as place
 use Rattle.vs_backup.specs.declared.errors.Stop.{Stop}
 use Rattle.vs_backup.specs.declared.errors.Stop.TheVariants as stop
 use Rattle.vs_backup.specs.declared.errors.WriteErr.TheVariants as error
 use Rattle.vs_backup.proofs.Calls.{runs_wider, runs_file, spares_on, synced_bytes}
-use Rattle.vs_backup.proofs.Frames.{alone_settled, holds_spared, synced_spared, spares_same}
-use Rattle.vs_backup.proofs.Filling.{changes_by, changes_same}
+use Rattle.vs_backup.proofs.Frames.{alone_settled, holds_spared, synced_spared}
 use Rattle.vs_backup.proofs.Places.{in_place_spared, in_place_on}
 use Rattle.vs_backup.proofs.Kept.{kept_by_name, kept_by_backup, settled_holds, may_leave_now, may_leave_filled}
 
@@ -82,46 +79,6 @@ module _ (name backup temporary : Name) (old : List ℕ) (s0 s1 : Scene) (differ
   pub copy_content : content_in s1.folder name ≡ Some old
   copy_content = synced_bytes name old s1.folder (synced_spared (two_names temporary backup) name old s0.folder s1.folder not_two runs.now is.synced)
 
-  pub copy_failed : (result : Result (Unit {0}) Failed) → OnOk result ⊥ → StartsOver name temporary backup old s0 s1 result
-  copy_failed (Ok x) none = absurd none
-  copy_failed (Err e) none = record { spares = copy_spares; kept = copy_kept; in_place = copy_in_place; backed = tt; empty = tt; may_leave = tt; not_done = copy_holds }
-
-  -- the file is cut, or not
-  pub cut_over : (result : Result (Unit {0}) Failed) (s2 : Scene) → ChangesFolder s0 s1 → (backup ≡ name → ⊥) → IsSettled backup old s1.folder → IsFolder s1.folder → ChangesFolder s1 s2
-      → IsTold Cut (name ∷ []) result s1 s2 → OnOk result (ChangesFile name (Cuts 0) s1.folder s2.folder) → OnErr result (s2.folder ≡ s1.folder)
-      → StartsOver name temporary backup old s0 s2 result
-  cut_over (Ok x) s2 frame apart settled folder framed told ok err =
-      let answer : Result (Unit {0}) Failed = Ok x in
-      let runs_cut : Runs (ChangesOne name) s1 s2 = one_call (ChangesOne name) Cut (name ∷ []) answer s1 s2 framed told (changes_by name (Cuts 0) s1.folder s2.folder ok) in
-      let keeps : Fills name s1.folder s2.folder = record {
-        synced = ok.synced;
-        pending = ok.pending;
-        others = ok.others;
-        this = λ number leads. cut_keeps_images 0 (s1.folder.files number) (s2.folder.files number) (omega arith) (ok.this number leads);
-      } in
-      record {
-        spares = spares_on (three_names name temporary backup) s0 s1 s2 frame copy_spares (over_spares name backup temporary old s1 s2 apart settled folder old copy_content runs_cut);
-        kept = kept_on (IsKept name backup old) s0 s1 s2 frame copy_kept (over_kept name backup temporary old s1 s2 apart settled folder old copy_content runs_cut);
-        in_place = in_place_on name s0 s1 s2 frame copy_in_place runs_cut;
-        backed = over_backed name backup temporary old s1 s2 apart settled folder old copy_content runs_cut;
-        empty = cut_content name old s1.folder s2.folder ok copy_content;
-        may_leave = may_leave_filled name old s1.folder s2.folder keeps (may_leave_now name old s1.folder copy_content);
-        not_done = tt;
-      }
-  cut_over (Err e) s2 frame apart settled folder framed told ok err =
-      let on = three_names name temporary backup in
-      let answer : Result (Unit {0}) Failed = Err e in
-      record {
-        spares = spares_on on s0 s1 s2 frame copy_spares (one_call (Spares on) Cut (name ∷ []) answer s1 s2 framed told (spares_same on s1.folder s2.folder err));
-        kept = kept_on (IsKept name backup old) s0 s1 s2 frame copy_kept
-            (one_call (λ a b. IsKept name backup old b) Cut (name ∷ []) answer s1 s2 framed told (subst (λ (d : Disk). IsKept name backup old d) (sym err) (kept_by_name name backup old s1.folder copy_holds)));
-        in_place = in_place_on name s0 s1 s2 frame copy_in_place (one_call (ChangesOne name) Cut (name ∷ []) answer s1 s2 framed told (changes_same name s1.folder s2.folder err));
-        backed = tt;
-        empty = tt;
-        may_leave = tt;
-        not_done = subst (λ (d : Disk). HoldsBytes name old d) (sym err) copy_holds;
-      }
-
 -- ---- the whole
 pub never_file : (why : Stop) {T : Type 0} → OldIn {T = T} place.File (Err (stopped why place.Backup)) → ⊥
 never_file stop.Failed (inl is) = cc
@@ -156,15 +113,15 @@ may_leave_held name bytes disk holds =
 
 -- after the file was emptied, the text was written, or not
 module _ (name backup temporary : Name) (old new : List ℕ) (s0 s1 s2 : Scene) (frame : ChangesFolder s0 s1) (differ : backup ≡ name → ⊥) (folder : IsFolder s1.folder)
-    (over : StartsOver name temporary backup old s0 s1 (Ok tt)) (runs : Runs (ChangesOne name) s1 s2) where
+    (over : StartsOver name temporary backup old s0 s1) (started : IsStartedOver name backup old s1.folder) (runs : Runs (ChangesOne name) s1 s2) where
   all_spares : Runs (Spares (three_names name temporary backup)) s0 s2
-  all_spares = spares_on (three_names name temporary backup) s0 s1 s2 frame over.spares (over_spares name backup temporary old s1 s2 differ over.backed folder [] over.empty runs)
+  all_spares = spares_on (three_names name temporary backup) s0 s1 s2 frame over.spares (over_spares name backup temporary old s1 s2 differ started.backed folder [] started.empty runs)
 
   all_kept : Runs (λ a b. IsKept name backup old b) s0 s2
-  all_kept = kept_on (IsKept name backup old) s0 s1 s2 frame over.kept (over_kept name backup temporary old s1 s2 differ over.backed folder [] over.empty runs)
+  all_kept = kept_on (IsKept name backup old) s0 s1 s2 frame over.kept (over_kept name backup temporary old s1 s2 differ started.backed folder [] started.empty runs)
 
   backed : IsSettled backup old s2.folder
-  backed = over_backed name backup temporary old s1 s2 differ over.backed folder [] over.empty runs
+  backed = over_backed name backup temporary old s1 s2 differ started.backed folder [] started.empty runs
 
   pub copying_done : (size : ℕ) → size ≡ length new → IsSynced name new s2.folder → WritesOver true name temporary backup old new s0 s2 (Ok size)
   copying_done size is synced = record {
@@ -184,9 +141,9 @@ module _ (name backup temporary : Name) (old new : List ℕ) (s0 s1 s2 : Scene) 
     kept = all_kept;
     places = in_place_on name s0 s1 s2 frame over.in_place runs;
     written = tt;
-    not_written = inl (may_leave_filled name old s1.folder s2.folder fills over.may_leave);
+    not_written = inl (may_leave_filled name old s1.folder s2.folder fills started.may_leave);
     in_file = λ refused. absurd (never_file why refused);
-    in_backup = λ refused some. (Some [], may_leave_filled name [] s1.folder s2.folder fills (may_leave_now name [] s1.folder over.empty), λ same. some (let is : [] ≡ old = cc in sym is));
+    in_backup = λ refused some. (Some [], may_leave_filled name [] s1.folder s2.folder fills (may_leave_now name [] s1.folder started.empty), λ same. some (let is : [] ≡ old = cc in sym is));
     somewhere = (λ refused. never_nowhere why refused, λ is. never_no_name why is);
   }
 

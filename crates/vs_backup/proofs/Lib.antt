@@ -1,3 +1,4 @@
+pub mod Anew
 pub mod Backed
 pub mod Calls
 pub mod Choosing
@@ -9,5 +10,7 @@ pub mod Moving
 pub mod NamesApart
 pub mod Others
 pub mod Places
+pub mod Settling
+pub mod Starting
 pub mod Unbacked
 pub mod Whole

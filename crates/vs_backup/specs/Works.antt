@@ -1,10 +1,11 @@
 -- What calls on some names leave of all others.
-use Rattle.std.specs.Prelude.{◌≡◌, ◌⊎◌, ℕ, Bool, true, Some}
-use Rattle.vs_host.specs.Disk.{Disk, Name, names_of, names_at, ChangesFile}
-use Rattle.vs_host.specs.World.{Scene}
-use Rattle.vs_disk.specs.Images.{Changes, KeepsImages, Narrows}
+use Rattle.std.specs.Prelude.{◌≡◌, ◌⊎◌, ℕ, Bool, true, false, List, Some, IsTrue}
+use Rattle.vs_host.specs.File.{Cuts}
+use Rattle.vs_host.specs.Disk.{Disk, Name, names_of, names_at, ChangesFile, IsFolder, SyncsNames}
+use Rattle.vs_host.specs.World.{Scene, content_of}
+use Rattle.vs_disk.specs.Images.{Changes, IsSynced, KeepsImages, Narrows}
 use Rattle.vs_disk.specs.Names.{IsApart, SameAt}
-use Rattle.vs_disk.specs.Runs.{Runs}
+use Rattle.vs_disk.specs.Runs.{Runs, Looks}
 
 -- sets of one name, of two, and of three
 abbrev pub one_name : Name → Name → Type 0
@@ -60,3 +61,36 @@ Fills name = ChangesFile name KeepsImages
 -- The file of this name alone was changed.
 abbrev pub ChangesOne : Name → Disk → Disk → Type 0
 ChangesOne name = ChangesFile name Changes
+
+-- The file of this name was synced, or the names were: at each moment all names are read as before, and a stop leaves only what it
+-- left before, also under other names alone.
+pub record Settles (told : Bool) (name : Name) (before after : Scene) : Type 0 where
+  pub narrowed : IsTrue told → Runs Narrowed before after
+  pub same : IsTrue told → (inside : Name → Bool) → inside name ≡ false → IsApart inside before.folder → Runs (SameAt inside) before after
+  pub apart : IsTrue told → (inside : Name → Bool) → inside name ≡ false → IsApart inside before.folder → IsApart inside after.folder
+
+-- so it is for each name
+pub record SettlesAny (told : Bool) (before after : Scene) : Type 0 where
+  pub each : (name : Name) → Settles told name before after
+
+-- The file of this name has its bytes since its last sync.
+pub record SyncsBytes (told : Bool) (name : Name) (before after : Scene) : Type 0 where
+  pub synced : IsTrue told → (bytes : List ℕ) → content_of before name ≡ Some bytes → IsSynced name bytes after.folder
+
+-- Nothing has changed.
+pub record Unchanged (told : Bool) (before after : Scene) : Type 0 where
+  pub looks : IsTrue told → Looks before after
+
+-- The names were synced.
+pub record SyncsAll (told : Bool) (before after : Scene) : Type 0 where
+  pub runs : IsTrue told → Runs SyncsNames before after
+
+-- The file of this name was emptied.
+pub record Empties (told : Bool) (name : Name) (before after : Scene) : Type 0 where
+  pub folder : IsTrue told → IsFolder before.folder
+  pub runs : IsTrue told → Runs (ChangesOne name) before after
+  pub cuts : IsTrue told → ChangesFile name (Cuts 0) before.folder after.folder
+
+-- All names but these two are left alone.
+pub record SparesTwo (told : Bool) (a b : Name) (before after : Scene) : Type 0 where
+  pub spares : IsTrue told → Runs (Spares (two_names a b)) before after

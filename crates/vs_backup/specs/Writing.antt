@@ -1,15 +1,15 @@
 -- What a write promises of the file and its backup.
-use Rattle.std.specs.Prelude.{◌≡◌, ◌⊎◌, ℕ, List, [], length, Option, Some, None, IsSomeAnd, IfOk, OnOk, OnErr, IsErr, IsErrOf, Result, Ok, Err, Bool, true, false}
+use Rattle.std.specs.Prelude.{◌≡◌, ◌⊎◌, ℕ, List, [], length, Option, Some, None, IsSomeAnd, IfOk, OnOk, OnErr, IsErr, IsErrOf, IsTrue, Result, Ok, Err, Bool, true, false}
 use Rattle.vs_faults.specs.Faults.{HasRisen}
+use Rattle.vs_text.specs.Text.{file_of}
 use Rattle.vs_host.specs.File.{Leaves}
 use Rattle.vs_host.specs.Disk.{Disk, Name, IsImage, names_of, names_at, content_in}
 use Rattle.vs_host.specs.Names.{temporary}
-use Rattle.vs_host.specs.World.{Scene}
+use Rattle.vs_host.specs.World.{Scene, content_of}
 use Rattle.vs_disk.specs.Images.{HoldsBytes, IsSynced, MayLeave, Takes}
 use Rattle.vs_disk.specs.Runs.{Runs, Looks}
 use Rattle.vs_backup.specs.Works.{LeadsAway, LeadsTo, Narrowed, Spares, SparesOthers, StandsUnder, one_name, two_names, three_names}
 use Rattle.vs_backup.specs.Backups.{copies}
-use Rattle.vs_host.specs.declared.traits.Failed.{Failed}
 use Rattle.vs_backup.specs.declared.options.WriteOptions.{WriteOptions}
 use Rattle.vs_backup.specs.declared.errors.Place.{Place}
 use Rattle.vs_backup.specs.declared.errors.Place.TheVariants.{File, Backup, Nowhere}
@@ -80,6 +80,14 @@ pub record IsSettled (name : Name) (bytes : List ℕ) (disk : Disk) : Type 0 whe
   pub pending : disk.pending ≡ []
   pub synced : IsSynced name bytes disk
 
+-- A file that was synced is settled.
+pub record SettlesSynced (told : Bool) (before after : Scene) : Type 0 where
+  pub settled : IsTrue told → (name : Name) (bytes : List ℕ) → IsSynced name bytes before.folder → IsSettled name bytes after.folder
+
+-- The file of this name is settled with its bytes.
+pub record SettlesBytes (told : Bool) (name : Name) (before after : Scene) : Type 0 where
+  pub settled : IsTrue told → (bytes : List ℕ) → content_of before name ≡ Some bytes → IsSettled name bytes after.folder
+
 -- A stop may leave the old bytes under the name, or no file: so the name does not hold other bytes in every image.
 abbrev pub MayLackNew : Name → List ℕ → Disk → Type 0
 MayLackNew name old disk = MayLeave disk name (Some old) ⊎ MayLeave disk name None
@@ -95,15 +103,33 @@ pub record IsGuarded (name backup : Name) (number : ℕ) (old : List ℕ) (disk 
   pub each : (lost : ℕ) → (names_at disk lost name ≡ Some number) ⊎ (names_at disk lost backup ≡ Some number)
   pub leaves : Leaves (disk.files number) (λ c. c ≡ old)
 
--- From a file that is settled, until it is empty and a copy of it stands under the backup name.
-pub record StartsOver (name temporary backup : Name) (old : List ℕ) (before after : Scene) (result : Result (Unit {0}) Failed) : Type 0 where
+-- From a file that is settled, until it is empty and a copy of it stands under the backup name: other names are left alone, and at
+-- each moment, in each image, the file or the backup has the old bytes.
+pub record StartsOver (name temporary backup : Name) (old : List ℕ) (before after : Scene) : Type 0 where
   pub spares : Runs (Spares (three_names name temporary backup)) before after
   pub kept : Runs (λ a b. IsKept name backup old b) before after
   pub in_place : Runs (LeadsTo name name) before after
-  pub backed : OnOk result (IsSettled backup old after.folder)
-  pub empty : OnOk result (content_in after.folder name ≡ Some [])
-  pub may_leave : OnOk result (MayLeave after.folder name (Some old))
-  pub not_done : OnErr result (HoldsBytes name old after.folder)
+
+-- The file is empty, and the copy stands.
+pub record IsStartedOver (name backup : Name) (old : List ℕ) (disk : Disk) : Type 0 where
+  pub backed : IsSettled backup old disk
+  pub empty : content_in disk name ≡ Some []
+  pub may_leave : MayLeave disk name (Some old)
+
+-- the same of a file that may be settled, where the folder is told
+pub record StartsOverFrom (told : Bool) (name temporary backup : Name) (before after : Scene) : Type 0 where
+  pub each : IsTrue told → (old : List ℕ) → IsSettled name old before.folder → StartsOver name temporary backup old before after
+
+pub record StartedOverFrom (told : Bool) (name backup : Name) (before after : Scene) : Type 0 where
+  pub each : IsTrue told → (old : List ℕ) → IsSettled name old before.folder → IsStartedOver name backup old after.folder
+
+-- A file that was settled has its bytes in every image.
+pub record StillHolds (told : Bool) (name : Name) (before after : Scene) : Type 0 where
+  pub each : IsTrue told → (old : List ℕ) → IsSettled name old before.folder → HoldsBytes name old after.folder
+
+-- A settled copy of the file stands under the backup name.
+pub record CopiesBytes (told : Bool) (name backup : Name) (before after : Scene) : Type 0 where
+  pub settled : IsTrue told → (old : List ℕ) → content_of before name ≡ Some old → IsSettled backup old after.folder
 
 -- From a file that is settled, a write with this backup, which stays. Other names are left alone; at each moment, in each image,
 -- the name or the backup has the old bytes.
@@ -124,6 +150,27 @@ pub record WritesAnew (name backup : Name) (number : ℕ) (old new : List ℕ) (
   pub guarded : Runs (λ a b. IsGuarded name backup number old b) before after
   pub written : IfOk result (λ size. (size ≡ length new) × IsSettled name new after.folder)
   pub absent : OnErr result (MayLeave after.folder name None)
+
+-- From such a file, at each moment: other names are left alone, and in each image the name or the backup name leads to the old file.
+pub record MakesAnew (name backup : Name) (number : ℕ) (old : List ℕ) (before after : Scene) : Type 0 where
+  pub spares : Runs (Spares (one_name name)) before after
+  pub guarded : Runs (λ a b. IsGuarded name backup number old b) before after
+
+-- the same of a file that may be guarded, where the folder is told
+pub record MakesAnewFrom (told : Bool) (name backup : Name) (before after : Scene) : Type 0 where
+  pub each : IsTrue told → (number : ℕ) (old : List ℕ) → (backup ≡ name → ⊥) → IsGuarded name backup number old before.folder → MakesAnew name backup number old before after
+
+-- A stop may leave no file under the name.
+pub record MayBeAbsent (told : Bool) (name : Name) (after : Scene) : Type 0 where
+  pub leaves : IsTrue told → MayLeave after.folder name None
+
+-- The file of this name has this text, in so many bytes, since its last sync.
+pub record IsFilled (told : Bool) (name : Name) (has : List (List ℕ) → Type 0) (size : ℕ) (after : Scene) : Type 0 where
+  pub each : IsTrue told → (text : List (List ℕ)) → has text → (size ≡ length (file_of text)) × IsSynced name (file_of text) after.folder
+
+-- and no name change is pending
+pub record IsFilledFirm (told : Bool) (name : Name) (has : List (List ℕ) → Type 0) (size : ℕ) (after : Scene) : Type 0 where
+  pub each : IsTrue told → (text : List (List ℕ)) → has text → (size ≡ length (file_of text)) × IsSettled name (file_of text) after.folder
 
 -- Before the two syncs at the beginning nothing has changed. After them, at each moment, in each image, the file or its backup is
 -- whole, and other names are left alone.

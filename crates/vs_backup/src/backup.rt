@@ -1,16 +1,15 @@
 // Writing over a file that is there, with a backup.
-ghost use Rattle.std.specs.Prelude.{◌≡◌, ◌≢◌, true, false, ℕ, List, length, IsErr, OnErr, OnOk, IsErrOf, IsTrue, Some, None, IsSome};
+ghost use Rattle.std.specs.Prelude.{◌≡◌, ◌≢◌, true, false, ℕ, List, length, IfOk, IsErr, OnErr, OnOk, IsErrOf, IsTrue, Some, None, IsSome};
 ghost use Rattle.vs_faults.specs.Faults.{HasCause, HasRisen};
 ghost use Rattle.vs_text.specs.Text.{file_of};
 ghost use Rattle.vs_host.specs.Disk.{Name};
 ghost use Rattle.vs_host.specs.World.{content_of, ChangesFolder};
-ghost use Rattle.vs_disk.specs.Runs.{Runs};
-ghost use Rattle.vs_backup.specs.Works.{Spares, two_names};
-ghost use Rattle.vs_backup.specs.Writing.{IsFailed, IsGuarded, IsSettled, StartsOver, WritesAnew, WritesBacked, WritesOver};
+ghost use Rattle.vs_backup.specs.Works.{SparesTwo};
+ghost use Rattle.vs_backup.specs.Writing.{CopiesBytes, IsFailed, IsFilled, IsFilledFirm, IsSettled, MakesAnewFrom, MayBeAbsent, StartedOverFrom, StartsOverFrom, StillHolds, WritesBacked, WritesOver};
 
 use crate::Desk;
 use crate::errors::{Place, Stop, WriteErr};
-use crate::files::{Readers, drop_name, make_anew, settle, take_name};
+use crate::files::{Readers, drop_name, empty_file, make_anew, settle, sync_directory, take_name};
 use crate::fill::{PIECE, fill_copy, fill_like, fill_text};
 use std::alloc::Global;
 use vs_host::Failed;
@@ -31,9 +30,8 @@ fn copy_to_backup<D: Desk>(
     requires differ_backup { temporary.now ≢ backup.now }
     requires buffer { length buffer.old ≡ PIECE }
     requires there { IsTrue (D.tells).folder → IsSome (content_of (D.scene desk.old) name.now) }
-    ensures spares { IsTrue (D.tells).folder → Runs (Spares (two_names temporary.now backup.now)) (D.scene desk.old) (D.scene desk.new) }
-    ensures ok { OnOk result (IsTrue (D.tells).folder → (old : List ℕ) → content_of (D.scene desk.old) name.now ≡ Some old
-        → IsSettled backup.now old (D.scene desk.new).folder) }
+    ensures spares { SparesTwo (D.tells).folder temporary.now backup.now (D.scene desk.old) (D.scene desk.new) }
+    ensures ok { OnOk result (CopiesBytes (D.tells).folder name.now backup.now (D.scene desk.old) (D.scene desk.new)) }
     ensures cause { HasCause (D.scene desk.old).folder_faults (D.scene desk.new).folder_faults (IsErr result) }
     ensures frame { ChangesFolder (D.scene desk.old) (D.scene desk.new) }
     ensures valid { D.valid desk.new }
@@ -45,6 +43,7 @@ fn copy_to_backup<D: Desk>(
 }
 
 /// Copies the file to its backup, and empties it then.
+#[tactic(auto, using(crate::proofs::Starting::start_steps))]
 fn start_over<D: Desk>(
     desk: &mut D,
     name: &str,
@@ -61,15 +60,17 @@ fn start_over<D: Desk>(
     requires differ_name { name.now ≢ backup.now }
     requires buffer { length buffer.old ≡ PIECE }
     requires settled { IsTrue (D.tells).folder → (old : List ℕ) × IsSettled name.now old (D.scene desk.old).folder }
-    ensures over { IsTrue (D.tells).folder → (old : List ℕ) → IsSettled name.now old (D.scene desk.old).folder
-        → StartsOver name.now temporary.now backup.now old (D.scene desk.old) (D.scene desk.new) result }
+    ensures over { StartsOverFrom (D.tells).folder name.now temporary.now backup.now (D.scene desk.old) (D.scene desk.new) }
+    ensures ok { OnOk result (StartedOverFrom (D.tells).folder name.now backup.now (D.scene desk.old) (D.scene desk.new)) }
+    ensures err { OnErr result (StillHolds (D.tells).folder name.now (D.scene desk.old) (D.scene desk.new)) }
     ensures cause { HasCause (D.scene desk.old).folder_faults (D.scene desk.new).folder_faults (IsErr result) }
     ensures frame { ChangesFolder (D.scene desk.old) (D.scene desk.new) }
     ensures valid { D.valid desk.new }
     ensures stays { D.stays desk.old desk.new }
 {
     copy_to_backup(desk, name, backup, temporary, buffer)?;
-    desk.cut(name, 0)
+    empty_file(desk, name)?;
+    Ok(())
 }
 
 /// Writes over the file in its place, after it was copied to the backup.
@@ -109,8 +110,32 @@ fn write_copying<D: Desk>(
     }
 }
 
-/// Makes the file, writes the text into it, gives it the mode bits of the backup, and syncs the file and the names. Gives the
-/// number of bytes.
+/// Makes the file, writes the text into it, gives it the mode bits of the backup, and syncs it. Gives the number of bytes.
+fn fill_anew<D: Desk>(
+    alloc: Global,
+    desk: &mut D,
+    name: &str,
+    backup: &str,
+    piece: &mut Vec<u8>,
+) -> Result<u64, Stop>
+    requires valid { D.valid desk.old }
+    requires apart { D.reads desk.old name.now → ⊥ }
+    requires apart_backup { D.reads desk.old backup.now → ⊥ }
+    requires free { IsTrue (D.tells).folder → content_of (D.scene desk.old) name.now ≡ None }
+    ensures anew { MakesAnewFrom (D.tells).folder name.now backup.now (D.scene desk.old) (D.scene desk.new) }
+    ensures absent { MayBeAbsent (D.tells).folder name.now (D.scene desk.new) }
+    ensures ok { IfOk result (λ size. IsFilled (D.tells).folder name.now (D.has_text desk.old) size (D.scene desk.new)) }
+    ensures cause { HasCause (D.scene desk.old).folder_faults (D.scene desk.new).folder_faults (IsErrOf result Stop.Failed) }
+    ensures frame { ChangesFolder (D.scene desk.old) (D.scene desk.new) }
+    ensures valid { D.valid desk.new }
+    ensures stays { D.stays desk.old desk.new }
+{
+    desk.create_private(name)?;
+    fill_like(alloc, desk, name, backup, piece)
+}
+
+/// Makes the file with the text, and syncs it and the names. Gives the number of bytes.
+#[tactic(auto, using(crate::proofs::Anew::anew_steps))]
 fn write_anew<D: Desk>(
     alloc: Global,
     desk: &mut D,
@@ -122,17 +147,16 @@ fn write_anew<D: Desk>(
     requires apart { D.reads desk.old name.now → ⊥ }
     requires apart_backup { D.reads desk.old backup.now → ⊥ }
     requires free { IsTrue (D.tells).folder → content_of (D.scene desk.old) name.now ≡ None }
-    ensures anew { IsTrue (D.tells).folder → (number : ℕ) (old : List ℕ) → (backup.now ≡ name.now → ⊥)
-        → IsGuarded name.now backup.now number old (D.scene desk.old).folder → (text : List (List ℕ)) → D.has_text desk.old text
-        → WritesAnew name.now backup.now number old (file_of text) (D.scene desk.old) (D.scene desk.new) result }
+    ensures anew { MakesAnewFrom (D.tells).folder name.now backup.now (D.scene desk.old) (D.scene desk.new) }
+    ensures ok { IfOk result (λ size. IsFilledFirm (D.tells).folder name.now (D.has_text desk.old) size (D.scene desk.new)) }
+    ensures err { OnErr result (MayBeAbsent (D.tells).folder name.now (D.scene desk.new)) }
     ensures cause { HasCause (D.scene desk.old).folder_faults (D.scene desk.new).folder_faults (IsErrOf result Stop.Failed) }
     ensures frame { ChangesFolder (D.scene desk.old) (D.scene desk.new) }
     ensures valid { D.valid desk.new }
     ensures stays { D.stays desk.old desk.new }
 {
-    desk.create_private(name)?;
-    let size = fill_like(alloc, desk, name, backup, piece)?;
-    desk.sync_names()?;
+    let size = fill_anew(alloc, desk, name, backup, piece)?;
+    sync_directory(desk)?;
     Ok(size)
 }
 

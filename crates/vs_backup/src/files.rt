@@ -6,31 +6,74 @@ ghost use Rattle.vs_host.specs.Disk.{Name, names_at, ChangesFile, CreatesFile};
 ghost use Rattle.vs_host.specs.Trace.{Created, Synced};
 ghost use Rattle.vs_host.specs.World.{content_of, ChangesFolder, IsTold};
 ghost use Rattle.vs_disk.specs.Images.{IsSynced, MayLeave, Takes};
-ghost use Rattle.vs_disk.specs.Names.{IsApart, SameAt};
 ghost use Rattle.vs_disk.specs.Runs.{Runs};
-ghost use Rattle.vs_backup.specs.Works.{IsAlone, Narrowed, Spares, one_name, two_names};
-ghost use Rattle.vs_backup.specs.Writing.{IsSettled};
+ghost use Rattle.vs_backup.specs.Works.{Empties, IsAlone, Settles, SettlesAny, Spares, SyncsAll, SyncsBytes, Unchanged, one_name, two_names};
+ghost use Rattle.vs_backup.specs.Writing.{IsSettled, SettlesBytes, SettlesSynced};
 
 use crate::Desk;
 use vs_host::Failed;
 
-/// Syncs the file and the names.
-pub(crate) fn settle<D: Desk>(desk: &mut D, name: &str) -> Result<(), Failed>
+/// Syncs the file.
+fn sync_file<D: Desk>(desk: &mut D, name: &str) -> Result<(), Failed>
     requires valid { D.valid desk.old }
     requires apart { D.reads desk.old name.now → ⊥ }
     requires there { IsTrue (D.tells).folder → IsSome (content_of (D.scene desk.old) name.now) }
-    ensures narrowed { IsTrue (D.tells).folder → Runs Narrowed (D.scene desk.old) (D.scene desk.new) }
-    ensures same { IsTrue (D.tells).folder → (inside : Name → Bool) → inside name.now ≡ false → IsApart inside (D.scene desk.old).folder
-        → Runs (SameAt inside) (D.scene desk.old) (D.scene desk.new) }
-    ensures ok { OnOk result (IsTrue (D.tells).folder → (bytes : List ℕ) → content_of (D.scene desk.old) name.now ≡ Some bytes
-        → IsSettled name.now bytes (D.scene desk.new).folder) }
+    ensures settles { Settles (D.tells).folder name.now (D.scene desk.old) (D.scene desk.new) }
+    ensures ok { OnOk result (SyncsBytes (D.tells).folder name.now (D.scene desk.old) (D.scene desk.new)) }
     ensures cause { HasCause (D.scene desk.old).folder_faults (D.scene desk.new).folder_faults (IsErr result) }
     ensures frame { ChangesFolder (D.scene desk.old) (D.scene desk.new) }
     ensures valid { D.valid desk.new }
     ensures stays { D.stays desk.old desk.new }
 {
-    desk.sync(name)?;
+    desk.sync(name)
+}
+
+/// Syncs the names: a file that is synced is settled then.
+pub(crate) fn sync_directory<D: Desk>(desk: &mut D) -> Result<(), Failed>
+    requires valid { D.valid desk.old }
+    ensures settles { SettlesAny (D.tells).folder (D.scene desk.old) (D.scene desk.new) }
+    ensures ok { OnOk result (SettlesSynced (D.tells).folder (D.scene desk.old) (D.scene desk.new)) }
+    ensures all { OnOk result (SyncsAll (D.tells).folder (D.scene desk.old) (D.scene desk.new)) }
+    ensures err { OnErr result (Unchanged (D.tells).folder (D.scene desk.old) (D.scene desk.new)) }
+    ensures cause { HasCause (D.scene desk.old).folder_faults (D.scene desk.new).folder_faults (IsErr result) }
+    ensures frame { ChangesFolder (D.scene desk.old) (D.scene desk.new) }
+    ensures valid { D.valid desk.new }
+    ensures stays { D.stays desk.old desk.new }
+{
     desk.sync_names()
+}
+
+/// Syncs the file and the names.
+#[tactic(auto, using(crate::proofs::Settling::settle_steps))]
+pub(crate) fn settle<D: Desk>(desk: &mut D, name: &str) -> Result<(), Failed>
+    requires valid { D.valid desk.old }
+    requires apart { D.reads desk.old name.now → ⊥ }
+    requires there { IsTrue (D.tells).folder → IsSome (content_of (D.scene desk.old) name.now) }
+    ensures settles { Settles (D.tells).folder name.now (D.scene desk.old) (D.scene desk.new) }
+    ensures ok { OnOk result (SettlesBytes (D.tells).folder name.now (D.scene desk.old) (D.scene desk.new)) }
+    ensures cause { HasCause (D.scene desk.old).folder_faults (D.scene desk.new).folder_faults (IsErr result) }
+    ensures frame { ChangesFolder (D.scene desk.old) (D.scene desk.new) }
+    ensures valid { D.valid desk.new }
+    ensures stays { D.stays desk.old desk.new }
+{
+    sync_file(desk, name)?;
+    sync_directory(desk)?;
+    Ok(())
+}
+
+/// Empties a file.
+pub(crate) fn empty_file<D: Desk>(desk: &mut D, name: &str) -> Result<(), Failed>
+    requires valid { D.valid desk.old }
+    requires apart { D.reads desk.old name.now → ⊥ }
+    requires there { IsTrue (D.tells).folder → IsSome (content_of (D.scene desk.old) name.now) }
+    ensures ok { OnOk result (Empties (D.tells).folder name.now (D.scene desk.old) (D.scene desk.new)) }
+    ensures err { OnErr result (Unchanged (D.tells).folder (D.scene desk.old) (D.scene desk.new)) }
+    ensures cause { HasCause (D.scene desk.old).folder_faults (D.scene desk.new).folder_faults (IsErr result) }
+    ensures frame { ChangesFolder (D.scene desk.old) (D.scene desk.new) }
+    ensures valid { D.valid desk.new }
+    ensures stays { D.stays desk.old desk.new }
+{
+    desk.cut(name, 0)
 }
 
 /// Takes a name away if a file stands under it.

@@ -9,3 +9,4 @@ pub mod Reading
 pub mod Removing
 pub mod Splitting
 pub mod Stored
+pub mod Zeros

@@ -4,10 +4,12 @@ ghost use Rattle.std.specs.List.{list_all};
 ghost use Rattle.vs_bytes.specs.Fields.{field_at, with_field};
 ghost use Rattle.vs_data.specs.Blocks.{is_line};
 
+use memchr::memchr;
+
 fn has_no_zero(bytes: &[u8]) -> bool
     ensures { result ≡ list_all (λ byte. not (byte == 0)) bytes.now }
 {
-    bytes.iter().all(|byte| *byte != 0)
+    memchr(0, bytes).is_none()
 }
 
 // Whether the bytes from one place up to another are those of a line: some, of which the last and no other is zero.

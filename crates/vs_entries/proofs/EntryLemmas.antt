@@ -5,7 +5,7 @@ use Rattle.std.proofs.lemmas.List.{take_all}
 use Rattle.vs_text.specs.Text.{bytes_of}
 use Rattle.vs_text.specs.declared.TheConstants.{MAX_TEXT_BYTES}
 use Rattle.vs_edit.specs.Splices.{splice, cut_out}
-use Rattle.vs_edit.proofs.SpliceLemmas.{splice_back, length-splice}
+use Rattle.vs_edit.proofs.SpliceLemmas.{splice_back, length-splice, bytes_of-splice, bytes_of-cut_out}
 use Rattle.vs_entries.specs.declared.entry.Entry.{Entry}
 use Rattle.vs_entries.specs.Entries.{filled, has_no_lines, settled, range_in, applied, way_back, splice_back as entry_back, led_back, LeadsCount, Leads}
 
@@ -152,3 +152,56 @@ leads_splice_back entry text new top old lines after_lines is within lines_are a
       from_bytes = after_bytes;
       to_bytes = bytes;
     }
+
+bytes_of-stored : (text : List (List ℕ)) → bytes_of (filled text) ≡ max 1 (bytes_of text)
+bytes_of-stored [] = refl
+bytes_of-stored (line ∷ text) = omega arith
+
+-- the flag adds one byte at most
+bytes_of-settled_le : (empty : Bool) (lines : List (List ℕ)) → bytes_of (settled empty lines) ≤ max 1 (bytes_of lines)
+bytes_of-settled_le false lines = omega (arith, bytes_of-stored lines)
+bytes_of-settled_le true lines =
+    elim (nat_le (bytes_of lines) 1) as (λ b. bytes_of (cond b [] (filled lines)) ≤ max 1 (bytes_of lines)) [
+      | true ↦ omega arith
+      | false ↦ omega (arith, bytes_of-stored lines)
+    ]
+
+-- The bytes of a text after an entry, where its range has `old` lines.
+module _ (entry : Entry) (text : List (List ℕ)) (old : ℕ) (within : entry.top + old ≤ length (filled text)) (is : old ≡ range_in entry (length (filled text))) where
+  pub gone_le : bytes_of (cut_out (filled text) entry.top old) ≤ max 1 (bytes_of text)
+  gone_le = omega (arith, bytes_of-cut_out (filled text) entry.top old within, bytes_of-stored text)
+
+  spliced : bytes_of (splice (filled text) entry.top old entry.lines) + bytes_of (cut_out (filled text) entry.top old) ≡ max 1 (bytes_of text) + bytes_of entry.lines
+  spliced = omega (arith, bytes_of-splice (filled text) entry.lines entry.top old within, bytes_of-stored text)
+
+  same : applied entry text ≡ settled entry.empty (splice (filled text) entry.top old entry.lines)
+  same = ap (λ k. settled entry.empty (splice (filled text) entry.top k entry.lines)) (sym is)
+
+  pub applied_few : max 1 (bytes_of text) - bytes_of (cut_out (filled text) entry.top old) + bytes_of entry.lines ≤ MAX_TEXT_BYTES → bytes_of (applied entry text) ≤ MAX_TEXT_BYTES
+  applied_few few =
+      omega (arith, few, ap bytes_of same, gone_le, spliced, bytes_of-settled_le entry.empty (splice (filled text) entry.top old entry.lines))
+
+  pub applied_room : bytes_of (applied entry text) ≤ MAX_TEXT_BYTES → max 1 (bytes_of text) - bytes_of (cut_out (filled text) entry.top old) + bytes_of entry.lines ≤ MAX_TEXT_BYTES
+  applied_room few =
+      omega (arith, few, ap bytes_of same, gone_le, spliced, bytes_of-settled entry.empty (splice (filled text) entry.top old entry.lines))
+
+-- an entry leads from a text to the one after it, where the store counts the lines of both texts
+pub leads_counted : (entry : Entry) (from to : List (List ℕ)) (from_lines to_lines : ℕ) → length from ≡ from_lines → length to ≡ to_lines
+    → LeadsCount entry (max 1 from_lines) (max 1 to_lines) → to ≡ applied entry from → bytes_of from ≤ MAX_TEXT_BYTES → bytes_of to ≤ MAX_TEXT_BYTES → Leads entry from to
+leads_counted entry from to from_lines to_lines from_is to_is count is from_bytes to_bytes =
+    let a : max 1 from_lines ≡ length (filled from) = sym (length-filled from ∙ ap (max 1) from_is) in
+    let b : max 1 to_lines ≡ length (filled to) = sym (length-filled to ∙ ap (max 1) to_is) in
+    record {
+      count = subst (λ n. LeadsCount entry (length (filled from)) n) b (subst (λ n. LeadsCount entry n (max 1 to_lines)) a count);
+      is = is;
+      from_bytes = from_bytes;
+      to_bytes = to_bytes;
+    }
+
+-- the way back over a text, where the store counts the lines of both texts
+pub leads_back_counted : (entry back : Entry) (from to : List (List ℕ)) (from_lines to_lines : ℕ) → length from ≡ from_lines → length to ≡ to_lines
+    → LeadsCount back (max 1 to_lines) (max 1 from_lines) → back ≡ led_back entry from → Leads entry from to → Leads back to from
+leads_back_counted entry back from to from_lines to_lines from_is to_is count is leads =
+    let a : max 1 to_lines ≡ length (filled to) = sym (length-filled to ∙ ap (max 1) to_is) in
+    let b : max 1 from_lines ≡ length (filled from) = sym (length-filled from ∙ ap (max 1) from_is) in
+    leads_back entry back from to (subst (λ n. LeadsCount back (length (filled to)) n) b (subst (λ n. LeadsCount back n (max 1 from_lines)) a count)) is leads

@@ -46,7 +46,7 @@ fn settle<S: LineStore>(alloc: Global, store: &mut S, empty: bool) -> Result<(),
 }
 
 // The number of lines in the range of an entry, where this lies within a stored form with this number of lines.
-fn range_in(entry: &Entry, count: u64) -> Option<u64>
+pub(crate) fn range_in(entry: &Entry, count: u64) -> Option<u64>
     requires { count < 2 ^ 64 - 1 }
     ensures range { MatchOption result (¬ (Fits entry.now count)) (λ old. old ≡ range_in entry.now count) }
     ensures fits { OnSome result (Fits entry.now count) }

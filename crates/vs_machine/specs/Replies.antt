@@ -80,6 +80,36 @@ no_write = codes "E37: No write since last change (add ! to override)"
 abbrev pub written_line : List ℕ → ℕ → ℕ → List ℕ
 written_line name lines bytes = codes "\"" ++ name ++ codes "\" " ++ decimal lines ++ codes "L, " ++ decimal bytes ++ codes "B written"
 
+-- the undo file was stored
+abbrev pub undo_file_written : List ℕ
+undo_file_written = codes "undo file written"
+
+-- the undo file was read: the number of the current state, and how many changes are kept
+abbrev pub undo_file_read : ℕ → ℕ → List ℕ
+undo_file_read number changes = codes "undo file read, at " ++ decimal number ++ codes ", " ++ decimal changes ++ codes " changes"
+
+-- why no undo file was read, or why it was not taken
+abbrev pub no_undo_file : List ℕ
+no_undo_file = codes "no undo file"
+
+abbrev pub not_undo_file : List ℕ
+not_undo_file = codes "not an undo file"
+
+abbrev pub undo_file_version : List ℕ
+undo_file_version = codes "undo file of another version"
+
+abbrev pub undo_file_encrypted : List ℕ
+undo_file_encrypted = codes "encrypted undo file"
+
+abbrev pub undo_file_corrupted : ℕ → List ℕ
+undo_file_corrupted place = codes "corrupted undo file at " ++ decimal place
+
+abbrev pub undo_file_of_other : List ℕ
+undo_file_of_other = codes "undo file of another text"
+
+abbrev pub undo_file_misfit : ℕ → List ℕ
+undo_file_misfit number = codes "undo file does not fit at change " ++ decimal number
+
 -- every name that the backup of a write may get is taken
 abbrev pub no_backup_name : List ℕ
 no_backup_name = codes "no free backup name"

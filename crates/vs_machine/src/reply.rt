@@ -1,6 +1,6 @@
 // Replies. All but printed lines stand in a fixed buffer, so they take no memory.
 ghost use Rattle.std.specs.Prelude.{◌≡◌, ◌<◌, ◌≤◌, ◌+◌, ◌++◌, ◌∷◌, [], length, decimal, false, true, None, Some};
-ghost use Rattle.vs_machine.specs.Replies.{says, refuses, prints, error_text, undo_error_text, with_lines, change_line, move_line, no_change, out_of_memory, device_fault, file_preserved, quit, no_write, opening_of, written_line, no_backup_name};
+ghost use Rattle.vs_machine.specs.Replies.{says, refuses, prints, error_text, undo_error_text, with_lines, change_line, move_line, no_change, out_of_memory, device_fault, file_preserved, quit, no_write, opening_of, written_line, undo_file_written, undo_file_read, undo_file_corrupted, undo_file_misfit, no_backup_name};
 
 use crate::errors::error_text;
 use arrayvec::ArrayVec;
@@ -122,7 +122,7 @@ impl Reply {
     }
 
     /// One line of at most 319 bytes that is an error.
-    fn refuses(text: &[u8]) -> Reply
+    pub fn refuses(text: &[u8]) -> Reply
         requires { length text.now < 320 }
         ensures { result ≡ refuses text.now }
     {
@@ -241,6 +241,53 @@ impl Reply {
         add(&mut text, digits.format(bytes).as_bytes());
         add(&mut text, b"B written");
         Reply::says(text.as_slice())
+    }
+
+    /// The undo file was stored.
+    pub fn undo_file_written() -> Reply
+        ensures { result ≡ says undo_file_written }
+    {
+        Reply::says(b"undo file written")
+    }
+
+    /// The undo file was read: the number of the current state, and how many changes its history keeps.
+    pub fn undo_file_read(number: u64, changes: u64) -> Reply
+        ensures { result ≡ says (undo_file_read number changes) }
+    {
+        let mut text = ArrayVec::new();
+        let mut digits = Buffer::new();
+        add(&mut text, b"undo file read, at ");
+        add(&mut text, digits.format(number).as_bytes());
+        add(&mut text, b", ");
+        add(&mut text, digits.format(changes).as_bytes());
+        add(&mut text, b" changes");
+        Reply::says(text.as_slice())
+    }
+
+    // An error of some words and a number.
+    fn refuses_at(words: &[u8], number: u64) -> Reply
+        requires { length words.now ≤ 40 }
+        ensures { result ≡ refuses (words.now ++ decimal number) }
+    {
+        let mut text = ArrayVec::new();
+        let mut digits = Buffer::new();
+        add(&mut text, words);
+        add(&mut text, digits.format(number).as_bytes());
+        Reply::refuses(text.as_slice())
+    }
+
+    /// The undo file differs from its form at this byte, counted from 0.
+    pub fn undo_file_corrupted(at: u64) -> Reply
+        ensures { result ≡ refuses (undo_file_corrupted at) }
+    {
+        Reply::refuses_at(b"corrupted undo file at ", at)
+    }
+
+    /// An entry of the change with this number does not fit the text.
+    pub fn undo_file_misfit(number: u64) -> Reply
+        ensures { result ≡ refuses (undo_file_misfit number) }
+    {
+        Reply::refuses_at(b"undo file does not fit at change ", number)
     }
 
     /// Every name that the backup of a write may get is taken.

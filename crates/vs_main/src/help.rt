@@ -7,12 +7,15 @@ Usage: levertaupe edit NAME < SCRIPT
        levertaupe recover NAME > FILE
        levertaupe info NAME
        levertaupe discard NAME
+       levertaupe stress N
        levertaupe -h | --help
        levertaupe -V | --version
 
 Runs a script of Ex commands over the file NAME of the current folder, and
 answers each command on standard output. After a crash, recover writes the text
 that the swap files of NAME have, info shows what they are, discard removes them.
+stress N tries the program: it answers N commands of its own over the file
+stress.vs, and writes what came of them.
 
 Commands, one on a line, with the range of lines before them:
   {range}a[ppend]        puts the lines that follow, up to a line `.`, after the
@@ -30,7 +33,10 @@ Commands, one on a line, with the range of lines before them:
   {range}=               prints the number of the range's last line
   pre[serve]             syncs the text into a swap file
   w[rite][!]             writes the text into the file
-  se[t] {option}         sets backup, writebackup, backupcopy=yes, no or auto
+  wundo                  stores the history as the undo file
+  rundo                  takes the history of the undo file
+  se[t] {option}         sets backup, writebackup, undofile, backupcopy=yes, no
+                         or auto
   q[uit][!]              removes the swap files and ends the run
   \" {text}               a comment
 
@@ -55,7 +61,7 @@ Exit status; from 2 on a line on standard error says the same:
    0  every command did its work, or the text was recovered, and so on
    1  some reply is an error
    2  the arguments are none of the above
-   3  the file to edit has a swap file
+   3  the file to edit, or stress.vs, has a swap file
    4  there is no swap file
    5  the script cannot be read
    6  the output cannot be written

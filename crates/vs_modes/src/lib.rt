@@ -4,7 +4,6 @@
 mod describing;
 mod discarding;
 mod error;
-mod piece;
 mod recovering;
 mod writing;
 

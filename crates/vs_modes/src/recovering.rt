@@ -8,15 +8,13 @@ ghost use Rattle.vs_swap.specs.Recovery.{Recovered};
 ghost use Rattle.vs_modes.specs.Recover.{RefusesRecover, RunsRecover};
 
 use crate::ModeErr;
-use crate::piece::Piece;
-use crate::writing::write_lines;
+use crate::writing::write_bytes;
 use std::alloc::Global;
 use vs_host::{Folder, Host, Names};
-use vs_recover::{Chosen, choose};
-use vs_text::Text;
+use vs_recover::{Chosen, FileText, choose};
 
 // The text that the two swap files give.
-fn read_text<F: Folder>(alloc: Global, host: &mut F, names: &Names) -> Result<Text, ModeErr>
+fn read_text<F: Folder>(alloc: Global, host: &mut F, names: &Names) -> Result<FileText, ModeErr>
     ensures text { IfOk result (λ text. IsTrue F.tells.folder → Recovered (content_of (F.scene host.old) names.now.swp) (content_of (F.scene host.old) names.now.swo) text) }
     ensures refused { IfErr result (λ why. IsTrue F.tells.folder → RefusesRecover (content_of (F.scene host.old) names.now.swp) (content_of (F.scene host.old) names.now.swo) why) }
     ensures later { (F.scene host.old).folder_faults ≤ (F.scene host.new).folder_faults }
@@ -38,7 +36,6 @@ pub fn recover<H: Host>(alloc: Global, name: &str, host: &mut H) -> Result<(), M
     ensures { RunsRecover H.tells (names_of_file name.now) (H.scene host.old) (H.scene host.new) result }
 {
     let names = Names::of(alloc, name)?;
-    let mut piece = Piece::new(alloc)?;
     let text = read_text(alloc, host, &names)?;
-    write_lines(host, text.lines(), &mut piece)
+    write_bytes(host, text.bytes())
 }

@@ -1,24 +1,23 @@
 -- The options of a session, and what `:set` does to them.
-use Rattle.std.specs.Prelude.{ℕ, true, false, List, codes, Result, Ok, Err}
+use Rattle.std.specs.Prelude.{ℕ, true, false, List, codes}
 use Rattle.vs_backup.specs.declared.options.CopyMode.TheVariants.{Yes, No, Auto}
 use Rattle.vs_backup.specs.declared.options.WriteOptions.{WriteOptions}
-use Rattle.vs_exparse.specs.declared.command.ExErr.{ExErr}
-use Rattle.vs_exparse.specs.declared.command.ExErr.TheVariants.{E518}
 use Rattle.vs_exparse.specs.declared.command.Setting.{Setting}
 use Rattle.vs_exparse.specs.declared.command.Setting.TheVariants.{Backup, WriteBackup, UndoFile, CopyYes, CopyNo, CopyAuto}
+use Rattle.vs_options.specs.declared.setting.Options.{Options}
 
 -- the options with which a file is opened
-abbrev pub first_options : WriteOptions
-first_options = record { backup = false; writebackup = true; copy = Auto }
+abbrev pub first_options : Options
+first_options = record { write = record { backup = false; writebackup = true; copy = Auto }; undofile = false }
 
--- the options after a setting. One that is not built yet is unknown.
-abbrev pub options_with : WriteOptions → Setting → Result WriteOptions ExErr
-options_with options (Backup on) = Ok (record options { backup = on })
-options_with options (WriteBackup on) = Ok (record options { writebackup = on })
-options_with options CopyYes = Ok (record options { copy = Yes })
-options_with options CopyNo = Ok (record options { copy = No })
-options_with options CopyAuto = Ok (record options { copy = Auto })
-options_with options (UndoFile on) = Err E518
+-- the options after a setting
+abbrev pub options_with : Options → Setting → Options
+options_with options (Backup on) = record options { write = record (options.write) { backup = on } }
+options_with options (WriteBackup on) = record options { write = record (options.write) { writebackup = on } }
+options_with options CopyYes = record options { write = record (options.write) { copy = Yes } }
+options_with options CopyNo = record options { write = record (options.write) { copy = No } }
+options_with options CopyAuto = record options { write = record (options.write) { copy = Auto } }
+options_with options (UndoFile on) = record options { undofile = on }
 
 -- a setting as it is written in full
 abbrev pub full_text : Setting → List ℕ

@@ -3,4 +3,4 @@
 
 mod setting;
 
-pub use setting::{first_options, full_text, set};
+pub use setting::{Options, first_options, full_text, set};

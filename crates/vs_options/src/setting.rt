@@ -4,33 +4,45 @@ ghost use Rattle.vs_exparse.specs.Argument.{setting_of};
 ghost use Rattle.vs_options.specs.Options.{first_options, full_text, options_with};
 
 use vs_backup::{CopyMode, WriteOptions};
-use vs_exparse::{ExErr, Setting};
+use vs_exparse::Setting;
 
-/// The options with which a file is opened: `nobackup`, `writebackup` and `backupcopy=auto`.
-pub fn first_options() -> WriteOptions
+/// The options of a session.
+#[derive(Clone, Copy, Debug, PartialEq, Eq)]
+pub struct Options {
+    /// How the file is written.
+    pub write: WriteOptions,
+    /// Each write of the file writes its undo file too (`:help 'undofile'`).
+    pub undofile: bool,
+}
+
+/// The options with which a file is opened: `nobackup`, `writebackup`, `backupcopy=auto` and `noundofile`.
+pub fn first_options() -> Options
     ensures { result ≡ first_options }
 {
-    WriteOptions {
-        backup: false,
-        writebackup: true,
-        copy: CopyMode::Auto,
+    Options {
+        write: WriteOptions {
+            backup: false,
+            writebackup: true,
+            copy: CopyMode::Auto,
+        },
+        undofile: false,
     }
 }
 
-/// The options after `:set` with this setting. `undofile` is unknown as long as no undo file is written, and leaves them.
-pub fn set(options: &WriteOptions, setting: Setting) -> Result<WriteOptions, ExErr>
+/// The options after `:set` with this setting.
+pub fn set(options: &Options, setting: Setting) -> Options
     ensures { result ≡ options_with options.now setting }
 {
     let mut options = *options;
     match setting {
-        Setting::Backup(on) => options.backup = on,
-        Setting::WriteBackup(on) => options.writebackup = on,
-        Setting::CopyYes => options.copy = CopyMode::Yes,
-        Setting::CopyNo => options.copy = CopyMode::No,
-        Setting::CopyAuto => options.copy = CopyMode::Auto,
-        Setting::UndoFile(_) => return Err(ExErr::E518),
+        Setting::Backup(on) => options.write.backup = on,
+        Setting::WriteBackup(on) => options.write.writebackup = on,
+        Setting::CopyYes => options.write.copy = CopyMode::Yes,
+        Setting::CopyNo => options.write.copy = CopyMode::No,
+        Setting::CopyAuto => options.write.copy = CopyMode::Auto,
+        Setting::UndoFile(on) => options.undofile = on,
     }
-    Ok(options)
+    options
 }
 
 /// The setting as it is written in full, which is what `:set` answers. `:set` reads it as this setting.

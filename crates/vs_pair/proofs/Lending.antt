@@ -19,4 +19,5 @@ keeps_damaged tells files old new silent counts = record {
   files = refl;
   frame = counts ∙ (λ i. record old { folder_faults = new.folder_faults; trace = sym (ap (λ (s : Scene). s.trace) counts) i });
   looks = λ told. absurd (silent told);
+  still = λ told. absurd (silent told);
 }

@@ -15,8 +15,10 @@ IsReady pair disk =
     ((pair.files.generation ≡ 0) × IsFresh pair.files.names disk)
     ⊎ ((newest : Synced) × (begun : List Synced) × (past : List Synced) × IsFit (known_of pair) disk newest begun past)
 
--- The swap files are as they were known, and the folder was only looked at.
+-- The swap files are as they were known, and the folder was only looked at. The pages are kept in memory, so one that is told was not
+-- even asked.
 pub record KeepsFiles (tells : Tells) (files_old files_new : SwapFiles) (old new : Scene) : Type 0 where
   pub files : files_new ≡ files_old
   pub frame : ReadsFolder old new
   pub looks : IsTrue tells.folder → Looks old new
+  pub still : IsTrue tells.folder → new ≡ old

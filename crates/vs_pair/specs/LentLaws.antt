@@ -6,7 +6,7 @@ use Rattle.vs_pair.specs.declared.files.SwapFiles.{SwapFiles}
 use Rattle.vs_pair.specs.Lent.{KeepsFiles}
 
 pub keeps_none : (tells : Tells) (files : SwapFiles) (scene : Scene) → KeepsFiles tells files files scene scene
-keeps_none tells files scene = record { files = refl; frame = refl; looks = λ told. starts (λ a b. b ≡ a) scene refl }
+keeps_none tells files scene = record { files = refl; frame = refl; looks = λ told. starts (λ a b. b ≡ a) scene refl; still = λ told. refl }
 
 reads_then : (old mid new : Scene) → ReadsFolder old mid → ReadsFolder mid new → ReadsFolder old new
 reads_then old mid new first second = second ∙ ap (λ (s : Scene). record s { folder_faults = new.folder_faults; trace = new.trace }) first
@@ -16,4 +16,5 @@ keeps_then tells a b c old mid new first second = record {
   files = second.files ∙ first.files;
   frame = reads_then old mid new first.frame second.frame;
   looks = λ told. looks_on old mid new (reads_change old mid first.frame) (first.looks told) (second.looks told);
+  still = λ told. second.still told ∙ first.still told;
 }

@@ -1,11 +1,12 @@
 // How one swap file is written: its gate is closed, then the pages are written after it, then the gate is opened.
-ghost use Rattle.std.specs.Prelude.{◌≡◌, ◌≢◌, ◌≤◌, ℕ, List, Some, None, length, OnOk, OnErr, IsErr, IsTrue};
+ghost use Rattle.std.specs.Prelude.{◌≡◌, ◌≢◌, ◌≤◌, ◌+◌, ◌*◌, ◌^◌, ℕ, List, Some, None, length, OnOk, OnErr, IsErr, IsTrue};
 ghost use Rattle.vs_faults.specs.Faults.{HasCause};
-ghost use Rattle.vs_host.specs.File.{Leaves};
+ghost use Rattle.vs_host.specs.File.{Leaves, put};
 ghost use Rattle.vs_host.specs.Disk.{ChangesFile, Name};
 ghost use Rattle.vs_disk.specs.Images.{FileHas, KeepsImages};
 ghost use Rattle.vs_pages.specs.Memory.{committed_of};
 ghost use Rattle.vs_pair.specs.Acts.{Acts, NoneFails};
+ghost use Rattle.vs_pair.specs.Writes.{HasRun};
 ghost use Rattle.vs_pair.specs.Swap.{Body, Holds, HasMark, ChangesMark, KeepsMark, WritesBody, Fits, CloseStep, Closes, SyncStep, FailedSync, open_mark, zeros_page};
 
 use crate::Gate;
@@ -14,6 +15,11 @@ use vs_pages::{MemPages, PAGE_SIZE};
 
 // a page of zeros
 const ZEROS: [u8; PAGE_SIZE] = [0; PAGE_SIZE];
+
+// How many pages one write has at most, so that a sync of a large text makes few calls, and their bytes.
+const RUN_PAGES: u64 = 16;
+
+const RUN_SIZE: usize = 65_536;
 
 // the identifier of an open swap file, and that of a closed one
 pub(crate) const OPEN: &[u8] = b"b0";
@@ -48,7 +54,28 @@ fn page_or_zeros(pages: &MemPages, at: u64) -> &[u8]
     }
 }
 
-// Writes all that stands after the identifier, and syncs the file. What `first` has before that is not written.
+fn put_page(run: &mut [u8], at: usize, page: &[u8])
+    requires { at + length page.now ≤ length run.old }
+    ensures { run.new ≡ put run.old at page.now }
+{
+    run[at..at + page.len()].copy_from_slice(page);
+}
+
+// Fills the front of the run with the pages from this number on, and with zeros for each number that has none.
+fn fill_run(pages: &MemPages, at: u64, count: u64, run: &mut [u8])
+    requires numbers { at + count ≤ 2 ^ 40 }
+    requires room { 4096 * count ≤ length run.old }
+    ensures size { length run.new ≡ length run.old }
+    ensures pages { HasRun (committed_of pages.now) at count run.new }
+{
+    for next in 0..count {
+        let page = page_or_zeros(pages, at + next);
+        put_page(run, next as usize * PAGE_SIZE, page);
+    }
+}
+
+// Writes all that stands after the identifier, the pages in runs, and syncs the file. What `first` has before that is not
+// written.
 pub(crate) fn write_pages<F: Folder>(
     host: &mut F,
     name: &str,
@@ -66,8 +93,15 @@ pub(crate) fn write_pages<F: Folder>(
     ensures cause { HasCause (F.scene host.old).folder_faults (F.scene host.new).folder_faults (IsErr result) }
 {
     host.write_at(name, 2, &first[2..])?;
-    for at in 1..pages.committed_end() {
-        host.write_at(name, at * PAGE_SIZE as u64, page_or_zeros(pages, at))?;
+    let mut run = [0; RUN_SIZE];
+    let end = pages.committed_end();
+    let mut at = 1;
+    'runs: while at < end {
+        let count = RUN_PAGES.min(end - at);
+        fill_run(pages, at, count, &mut run);
+        let size = count as usize * PAGE_SIZE;
+        host.write_at(name, at * PAGE_SIZE as u64, &run[..size])?;
+        at += count;
     }
     host.sync(name)
 }

@@ -6,5 +6,6 @@ pub mod StageLaws
 pub mod WalkLaws
 pub mod TextLaws
 pub mod ChoiceLaws
+pub mod FileTextLaws
 pub mod BitLaws
 pub mod ReadingLaws

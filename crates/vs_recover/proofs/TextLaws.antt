@@ -1,7 +1,5 @@
 -- The text that a tree's lines stand for.
 use Rattle.std.proofs.Common.{◌≡◌, ◌≢◌, ◌==◌, ℕ, zero, suc, ◌<◌, List, [], ◌∷◌, length, get_or, take, map, Some, None, Result, Ok, Err, Bool, true, false, sym, refl, ap, subst, ◌∙◌, arith, All}
-use Rattle.std.specs.Prelude.{Vec}
-use Rattle.std.specs.declared.alloc.Global.{Global}
 use Rattle.std.specs.List.{flat_map, AllByRecursion}
 use Rattle.std.proofs.lemmas.Bool.Decides.{nat_tests}
 use Rattle.std.proofs.lemmas.List.{get_or_default}
@@ -102,8 +100,8 @@ text_found empty (line ∷ text) is some =
 abbrev pair_of : ℕ → List (List ℕ) → Pair
 pair_of g t = record { generation = g; empty = length t == 0 }
 
-pub walked_stands : (file : List ℕ) (fields : Zero) (pair : Pair) (lines : Vec (List ℕ) Global) (text : List (List ℕ)) → reading_of (take 4096 file) ≡ Ok fields → fields.page_size ≡ 4096 → fields.pair ≡ Some pair
-    → Walked (pages_in file) (Some lines) → text_in pair.empty lines.items ≡ Some text → StandsFor file pair.generation text
+pub walked_stands : (file : List ℕ) (fields : Zero) (pair : Pair) (lines : List (List ℕ)) (text : List (List ℕ)) → reading_of (take 4096 file) ≡ Ok fields → fields.page_size ≡ 4096 → fields.pair ≡ Some pair
+    → Walked (pages_in file) (Some lines) → text_in pair.empty lines ≡ Some text → StandsFor file pair.generation text
 walked_stands file fields pair lines text reads size paired walked is =
     let known = text_stands pair.empty walked.0 text (clean_lines (pages_in file) walked.0 walked.1) (ap (λ ls. text_in pair.empty ls) (sym walked.2) ∙ is) in
     record {
@@ -126,12 +124,12 @@ not_paired file fields reads none = λ g t s.
 pub not_walked : (file : List ℕ) → Walked (pages_in file) None → StandsNot file
 not_walked file walked = λ g t s. walked (stored t) (s.depth, s.tree)
 
-pub not_text : (file : List ℕ) (fields : Zero) (pair : Pair) (lines : Vec (List ℕ) Global) → reading_of (take 4096 file) ≡ Ok fields → fields.pair ≡ Some pair → Walked (pages_in file) (Some lines) → text_in pair.empty lines.items ≡ None → StandsNot file
+pub not_text : (file : List ℕ) (fields : Zero) (pair : Pair) (lines : List (List ℕ)) → reading_of (take 4096 file) ≡ Ok fields → fields.pair ≡ Some pair → Walked (pages_in file) (Some lines) → text_in pair.empty lines ≡ None → StandsNot file
 not_text file fields pair lines reads paired walked none = λ g t s.
     let pairs : Some (pair_of g t) ≡ Some pair = sym s.head.paired ∙ (ap (λ (z : Zero). z.pair) (same_zero file fields g t reads s) ∙ paired) in
     let same : pair_of g t ≡ pair = cc in
     let all : walked.0 ≡ stored t = one_list (pages_in file) walked.1.0 s.depth walked.0 (stored t) walked.1.1 s.tree in
-    let found : text_in pair.empty lines.items ≡ Some t =
+    let found : text_in pair.empty lines ≡ Some t =
     ap (λ ls. text_in pair.empty ls) (walked.2 ∙ ap (λ ls. map plain_line ls) all) ∙ text_found pair.empty t s.is_text (ap (λ (p : Pair). p.empty) (sym same)) in
     absurd (cc)
 

@@ -73,7 +73,7 @@ plain_level : (m : Map) (first : Entry) (others : List Entry) (lines : List (Lis
 plain_level m first others lines is = plain_chained (lines_at swap_format m first) (gathered swap_format m others) ∙ ap (λ o. chained o (plain (gathered swap_format m others))) is
 
 -- its first block is a data block
-pub level_gathered : (m : Map) (used : ℕ → ℕ) (first : Entry) (others : List Entry) (lines : List (List ℕ)) (found : Vec (List ℕ) Global) → plain (lines_at swap_format m first) ≡ Some lines → chained (Some lines) (plain (gathered swap_format m others)) ≡ Some found.items
+pub level_gathered : (m : Map) (used : ℕ → ℕ) (first : Entry) (others : List Entry) (lines : List (List ℕ)) (found : List (List ℕ)) → plain (lines_at swap_format m first) ≡ Some lines → chained (Some lines) (plain (gathered swap_format m others)) ≡ Some found
     → FindsBelow m used (first ∷ others) (Some (Lines found))
 level_gathered m used first others lines found is gives = plain_level m first others lines is ∙ gives
 

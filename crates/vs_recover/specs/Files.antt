@@ -27,6 +27,6 @@ Extends others old new false = others ≡ None
 Extends others old new true = chained (Some old) others ≡ Some new
 
 -- What a walk found is the plain form of the lines of the tree, or there is no tree.
-abbrev pub Walked : Map → Option (Vec (List ℕ) Global) → Type 0
+abbrev pub Walked : Map → Option (List (List ℕ)) → Type 0
 Walked pages None = (lines : List (List ℕ)) → Reaches pages lines → ⊥
-Walked pages (Some found) = (lines : List (List ℕ)) × Reaches pages lines × (found.items ≡ map plain_line lines)
+Walked pages (Some found) = (lines : List (List ℕ)) × Reaches pages lines × (found ≡ map plain_line lines)

@@ -25,5 +25,5 @@ MarksBelow old new None = Unit {0}
 -- next level would use a page twice.
 abbrev pub FindsBelow : Map → (ℕ → ℕ) → List Entry → Option Below → Type 0
 FindsBelow m used level (Some (Entries next)) = opened swap_format m level ≡ Some next.items
-FindsBelow m used level (Some (Lines lines)) = plain (gathered swap_format m level) ≡ Some lines.items
+FindsBelow m used level (Some (Lines lines)) = plain (gathered swap_format m level) ≡ Some lines
 FindsBelow m used level None = Clashes used (opened swap_format m level) × (gathered swap_format m level ≡ None)

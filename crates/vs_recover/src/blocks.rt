@@ -1,9 +1,9 @@
 // Blocks of a swap file, read through the folder.
-ghost use Rattle.std.specs.Prelude.{◌≡◌, ◌≤◌, ◌<◌, ◌+◌, ◌*◌, ◌/◌, ◌^◌, ◌&&◌, nat_eq, ◌++◌, Some, ℕ, List, Bool, IfOk, OnOk, IfSome, IsFalse, IsTrue, Ok, Err, length, map};
+ghost use Rattle.std.specs.Prelude.{◌≡◌, ◌≤◌, ◌<◌, ◌+◌, ◌*◌, ◌/◌, ◌^◌, ◌&&◌, nat_eq, ◌++◌, Some, ℕ, List, Bool, IfOk, OnOk, IfSome, IsTrue, Ok, Err, length, map};
 ghost use Rattle.vs_faults.specs.Faults.{HasRisen};
 ghost use Rattle.vs_pages.specs.Maps.{pages_at};
 ghost use Rattle.vs_data.specs.Blocks.{lines_in, view_in};
-ghost use Rattle.vs_text.specs.Text.{IsLine, plain_line};
+ghost use Rattle.vs_text.specs.Text.{plain_line};
 ghost use Rattle.vs_tree_shape.specs.Places.{lines_below};
 ghost use Rattle.vs_tree_shape.specs.Trees.{read_by};
 ghost use Rattle.vs_swap.specs.Entries.{pointer_in, swap_points};
@@ -12,14 +12,12 @@ ghost use Rattle.vs_recover.specs.Files.{IsFile, Gives, Extends, plain};
 ghost use Rattle.vs_recover.specs.Levels.{are_wide, fitting_lines, fitting_points, points_at, lines_at};
 ghost use Rattle.vs_recover.specs.Reading.{CallsAtMost, IsThere, NoneFails, Reads};
 
-use crate::Fault;
 use crate::calls::read_part;
-use memchr::memchr;
+use crate::{Fault, FileText};
 use std::alloc::{AllocError, Global};
 use vs_data::DataView;
 use vs_host::Folder;
 use vs_ptr::{PtrEntry, PtrView};
-use vs_text::{Line, from_stored};
 use vs_tree_shape::{Entry, count_lines};
 
 /// The bytes of neighbouring pages of a file of so many whole pages; None where it has not all of them.
@@ -182,51 +180,22 @@ pub fn load_points<F: Folder>(
     Ok(found)
 }
 
-// Whether one of the bytes is 10.
-fn has_ten(bytes: &[u8]) -> bool
-    ensures { IsFalse result → IsLine bytes.now }
-{
-    memchr(10, bytes).is_some()
-}
-
-// The line of a stored form. Most have no byte 10, and are copied as they are.
-fn line_of(alloc: Global, stored: &[u8]) -> Result<Line, AllocError>
-    ensures { IfOk result (λ line. line ≡ plain_line stored.now) }
-{
-    if !has_ten(stored) {
-        return Line::raw(alloc, stored);
-    }
-    let mut line = Vec::from_slice(alloc, stored)?;
-    from_stored(&mut line);
-    Ok(Line::from_vec(line))
-}
-
 // Adds the lines of a data block in their plain form.
-fn add_lines(
-    alloc: Global,
-    view: &DataView,
-    bytes: &[u8],
-    lines: &mut Vec<Line>,
-) -> Result<(), AllocError>
+fn add_lines(view: &DataView, bytes: &[u8], lines: &mut FileText) -> Result<(), AllocError>
     requires { view_in bytes.now ≡ Ok view.now }
-    ensures { OnOk result ((found : List (List ℕ)) → lines_in bytes.now ≡ Some found → lines.new.items ≡ lines.old.items ++ map plain_line found) }
+    ensures { OnOk result ((found : List (List ℕ)) → lines_in bytes.now ≡ Some found → lines.new ≡ lines.old ++ map plain_line found) }
 {
     for at in 0..view.count {
-        lines.push(line_of(alloc, view.line(bytes, at))?)?;
+        lines.push_stored(view.line(bytes, at))?;
     }
     Ok(())
 }
 
 /// Adds the lines of the data block that an entry leads to, from its bytes, in their plain form; false where they are no data
 /// block that fits.
-pub fn read_lines(
-    alloc: Global,
-    entry: &Entry,
-    bytes: &[u8],
-    lines: &mut Vec<Line>,
-) -> Result<bool, AllocError>
+pub fn read_lines(entry: &Entry, bytes: &[u8], lines: &mut FileText) -> Result<bool, AllocError>
     requires some { 1 ≤ entry.now.pages }
-    ensures value { IfOk result (λ done. Extends (plain (fitting_lines entry.now (lines_in bytes.now))) lines.old.items lines.new.items done) }
+    ensures value { IfOk result (λ done. Extends (plain (fitting_lines entry.now (lines_in bytes.now))) lines.old lines.new done) }
 {
     let Ok(view) = DataView::read(bytes) else {
         return Ok(false);
@@ -234,7 +203,7 @@ pub fn read_lines(
     if u64::from(view.count) != entry.lines {
         return Ok(false);
     }
-    add_lines(alloc, &view, bytes, lines)?;
+    add_lines(&view, bytes, lines)?;
     Ok(true)
 }
 
@@ -245,13 +214,13 @@ pub fn load_lines<F: Folder>(
     name: &str,
     count: u64,
     entry: &Entry,
-    lines: &mut Vec<Line>,
+    lines: &mut FileText,
 ) -> Result<bool, Fault>
     requires some { 1 ≤ entry.now.pages }
     requires bound { count < 2 ^ 52 }
     requires count { IsThere F.tells (F.scene host.old) name.now (λ file. count ≡ length file / 4096) }
     ensures value { IfOk result (λ done. (file : List ℕ) → IsFile F.tells (F.scene host.old) name.now file
-        → Extends (plain (lines_at swap_format (pages_in file) entry.now)) lines.old.items lines.new.items done) }
+        → Extends (plain (lines_at swap_format (pages_in file) entry.now)) lines.old lines.new done) }
     ensures later { (F.scene host.old).folder_faults ≤ (F.scene host.new).folder_faults }
     ensures failed { result ≡ Err Fault.Failed → HasRisen (F.scene host.old).folder_faults (F.scene host.new).folder_faults }
     ensures memory { result ≡ Err Fault.NoMemory → NoneFails F.tells (F.scene host.old) (F.scene host.new) }
@@ -262,6 +231,6 @@ pub fn load_lines<F: Folder>(
     let Some(bytes) = load_pages(alloc, host, name, count, entry.block, entry.pages)? else {
         return Ok(false);
     };
-    let done = read_lines(alloc, entry, &bytes, lines)?;
+    let done = read_lines(entry, &bytes, lines)?;
     Ok(done)
 }

@@ -8,10 +8,9 @@ ghost use Rattle.vs_recover.specs.Reading.{CallsAtMost, NoneFails, Reads, blocks
 use crate::error::error_of;
 use crate::newest::{find_opening, read_newer};
 use crate::roots::{Root, Roots, read_roots};
-use crate::{Fault, RecErr};
+use crate::{Fault, FileText, RecErr};
 use std::alloc::Global;
 use vs_host::{Folder, Names};
-use vs_text::Text;
 
 /// One of the two swap files.
 #[derive(Clone, Copy, Debug, PartialEq, Eq)]
@@ -38,7 +37,7 @@ fn choose_root(first: Root, second: Root) -> Result<Swap, RecErr>
 /// What a user gets: the text of a file that stands, or a file to salvage.
 #[derive(Debug, Drop)]
 pub enum Chosen {
-    Text(Text),
+    Text(FileText),
     Salvage(Swap),
 }
 
@@ -46,7 +45,7 @@ pub enum Chosen {
 #[derive(Drop)]
 pub enum Found {
     /// One of them stands.
-    Text(Text),
+    Text(FileText),
     /// Neither stands.
     Roots(Roots),
 }

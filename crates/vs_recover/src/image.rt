@@ -11,17 +11,16 @@ ghost use Rattle.vs_recover.specs.Reading.{CallsAtMost, IsThere, NoneFails, Read
 use crate::calls::{file_len, read_part};
 use crate::error::error_of;
 use crate::tree::read_tree;
-use crate::{Fault, RecErr};
+use crate::{Fault, FileText, RecErr};
 use std::alloc::Global;
 use vs_host::Folder;
-use vs_text::{Line, Text};
 use vs_zero::{Zero, ZeroErr};
 
 /// What a swap file is: docs/FORMATS.md, "Standing, choosing, info".
 #[derive(Debug, Drop)]
 pub enum Image {
     /// The file stands for a text.
-    Standing { generation: u64, text: Text },
+    Standing { generation: u64, text: FileText },
     /// Page 0 reads, with pages of so many bytes, and the file does not stand.
     Open { page_size: u32 },
     /// Page 0 is that of a closed file.
@@ -41,20 +40,19 @@ pub struct Opening {
 
 // The text of lines in their plain form; None where they are not those of the text without lines and should be, or the
 // other way round.
-fn text_of(mut lines: Vec<Line>, empty: bool) -> Option<Text>
-    ensures { result ≡ text_in empty lines.items }
+fn text_of(alloc: Global, lines: FileText, empty: bool) -> Option<FileText>
+    ensures { result ≡ text_in empty lines }
 {
     if !empty {
         if lines.is_empty() {
             return None;
         }
-        return Some(Text::of(lines));
+        return Some(lines);
     }
-    if lines.len() != 1 || !lines[0].bytes().is_empty() {
+    if lines.bytes() != b"\n".as_slice() {
         return None;
     }
-    lines.clear();
-    Some(Text::of(lines))
+    Some(FileText::new(alloc))
 }
 
 // The first page of the file, or all of it where it is shorter.
@@ -131,7 +129,7 @@ pub fn read_open<F: Folder>(
     let Some(lines) = read_tree(alloc, host, name, len / 4096)? else {
         return Ok(Image::Open { page_size });
     };
-    let Some(text) = text_of(lines, pair.empty) else {
+    let Some(text) = text_of(alloc, lines, pair.empty) else {
         return Ok(Image::Open { page_size });
     };
     Ok(Image::Standing {

@@ -2,18 +2,17 @@
 ghost use Rattle.std.specs.Prelude.{◌≡◌, ◌≤◌, ◌<◌, ◌+◌, ◌/◌, ◌^◌, ◌∷◌, ℕ, List, IfOk, IfSome, IfNone, IsTrue, Some, Err, length, OnOk};
 ghost use Rattle.vs_faults.specs.Faults.{HasRisen};
 ghost use Rattle.vs_swap.specs.Files.{pages_in, swap_format};
-ghost use Rattle.vs_recover.specs.Files.{IsFile, Gives, plain};
+ghost use Rattle.vs_recover.specs.Files.{IsFile, plain};
 ghost use Rattle.vs_recover.specs.Levels.{Clashes, are_wide, chained, opened, gathered};
 ghost use Rattle.vs_recover.specs.Marks.{used_in};
 ghost use Rattle.vs_recover.specs.Reading.{CallsAtMost, IsThere, NoneFails, Reads};
 ghost use Rattle.vs_recover.specs.Walks.{FindsBelow, IsMarked, MarksBelow};
 
-use crate::Fault;
 use crate::blocks::{load_lines, load_pages, load_points, read_lines, read_points};
 use crate::marks::Marks;
+use crate::{Fault, FileText};
 use std::alloc::Global;
 use vs_host::Folder;
-use vs_text::Line;
 use vs_tree_shape::Entry;
 
 /// What lies below a level of blocks.
@@ -21,7 +20,7 @@ pub enum Below {
     /// The blocks are pointer blocks, and these are their entries.
     Entries(Vec<Entry>),
     /// The blocks are data blocks, and these are their lines.
-    Lines(Vec<Line>),
+    Lines(FileText),
 }
 
 // The entries of a level of pointer blocks, whose pages are marked. Those of the first block were read. None where another
@@ -74,14 +73,14 @@ fn gather_level<F: Folder>(
     host: &mut F,
     name: &str,
     count: u64,
-    first: Vec<Line>,
+    first: FileText,
     others: &[Entry],
-) -> Result<Option<Vec<Line>>, Fault>
+) -> Result<Option<FileText>, Fault>
     requires wide { IsTrue (are_wide others.now) }
     requires bound { count < 2 ^ 52 }
     requires count { IsThere F.tells (F.scene host.old) name.now (λ file. count ≡ length file / 4096) }
     ensures value { IfOk result (λ found. (file : List ℕ) → IsFile F.tells (F.scene host.old) name.now file
-        → Gives (chained (Some first.items) (plain (gathered swap_format (pages_in file) others.now))) found) }
+        → chained (Some first) (plain (gathered swap_format (pages_in file) others.now)) ≡ found) }
     ensures later { (F.scene host.old).folder_faults ≤ (F.scene host.new).folder_faults }
     ensures failed { result ≡ Err Fault.Failed → HasRisen (F.scene host.old).folder_faults (F.scene host.new).folder_faults }
     ensures memory { result ≡ Err Fault.NoMemory → NoneFails F.tells (F.scene host.old) (F.scene host.new) }
@@ -131,8 +130,8 @@ pub fn read_level<F: Folder>(
         };
         return Ok(Some(Below::Entries(next)));
     }
-    let mut lines = Vec::new(alloc);
-    if !read_lines(alloc, first, &bytes, &mut lines)? {
+    let mut lines = FileText::new(alloc);
+    if !read_lines(first, &bytes, &mut lines)? {
         return Ok(None);
     }
     let Some(all) = gather_level(alloc, host, name, count, lines, others)? else {

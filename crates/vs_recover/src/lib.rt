@@ -5,6 +5,7 @@ mod blocks;
 mod calls;
 mod choices;
 mod error;
+mod file_text;
 mod image;
 mod infos;
 mod levels;
@@ -15,6 +16,7 @@ mod tree;
 
 pub use choices::{Chosen, Swap, choose};
 pub use error::{Fault, RecErr};
+pub use file_text::FileText;
 pub use image::{Image, read_image};
 pub use infos::info;
 pub use roots::Root;

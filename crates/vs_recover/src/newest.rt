@@ -5,12 +5,11 @@ ghost use Rattle.vs_host.specs.World.{content_of};
 ghost use Rattle.vs_recover.specs.Choices.{IsOpening, IsStanding, Recovers, StandsInTurn, generation_in, generation_of, is_newer, text_of};
 ghost use Rattle.vs_recover.specs.Reading.{CallsAtMost, NoneFails, Reads, blocks_of};
 
-use crate::Fault;
 use crate::calls::has_file;
 use crate::image::{Image, Opening, read_open, read_opening};
+use crate::{Fault, FileText};
 use std::alloc::Global;
 use vs_host::Folder;
-use vs_text::Text;
 use vs_zero::Zero;
 
 /// The length of a file and what its page 0 reads as, where the file is there.
@@ -72,7 +71,7 @@ fn is_newer(first: Option<u64>, second: Option<u64>) -> bool
 }
 
 // The text of a file that stands.
-fn text_of(image: Image) -> Option<Text>
+fn text_of(image: Image) -> Option<FileText>
     ensures { result ≡ text_of image }
 {
     match image {
@@ -90,7 +89,7 @@ fn read_text<F: Folder>(
     host: &mut F,
     name: &str,
     opening: &Option<Opening>,
-) -> Result<Option<Text>, Fault>
+) -> Result<Option<FileText>, Fault>
     requires opening { IsTrue F.tells.folder → IsOpening (content_of (F.scene host.old) name.now) opening.now }
     ensures text { IfOk result (λ found. IsTrue F.tells.folder → IsStanding (content_of (F.scene host.old) name.now) found) }
     ensures later { (F.scene host.old).folder_faults ≤ (F.scene host.new).folder_faults }
@@ -120,7 +119,7 @@ fn read_in_turn<F: Folder>(
     first_opening: &Option<Opening>,
     second: &str,
     second_opening: &Option<Opening>,
-) -> Result<Option<Text>, Fault>
+) -> Result<Option<FileText>, Fault>
     requires first { IsTrue F.tells.folder → IsOpening (content_of (F.scene host.old) first.now) first_opening.now }
     requires second { IsTrue F.tells.folder → IsOpening (content_of (F.scene host.old) second.now) second_opening.now }
     ensures text { IfOk result (λ found. IsTrue F.tells.folder → StandsInTurn (content_of (F.scene host.old) first.now) (content_of (F.scene host.old) second.now) found) }
@@ -147,7 +146,7 @@ pub fn read_newer<F: Folder>(
     swp_opening: &Option<Opening>,
     swo: &str,
     swo_opening: &Option<Opening>,
-) -> Result<Option<Text>, Fault>
+) -> Result<Option<FileText>, Fault>
     requires swp { IsTrue F.tells.folder → IsOpening (content_of (F.scene host.old) swp.now) swp_opening.now }
     requires swo { IsTrue F.tells.folder → IsOpening (content_of (F.scene host.old) swo.now) swo_opening.now }
     ensures text { IfOk result (λ found. IsTrue F.tells.folder → Recovers (content_of (F.scene host.old) swp.now) (content_of (F.scene host.old) swo.now) found) }

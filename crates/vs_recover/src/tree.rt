@@ -5,13 +5,12 @@ ghost use Rattle.vs_swap.specs.Files.{pages_in};
 ghost use Rattle.vs_recover.specs.Files.{IsFile, Walked};
 ghost use Rattle.vs_recover.specs.Reading.{CallsAtMost, IsThere, NoneFails, Reads};
 
-use crate::Fault;
 use crate::blocks::{are_wide, load_entries};
 use crate::levels::{Below, read_level};
 use crate::marks::Marks;
+use crate::{Fault, FileText};
 use std::alloc::Global;
 use vs_host::Folder;
-use vs_text::Line;
 
 /// The lines of the tree from block 1 on, in their plain form; None where the file has no such tree.
 pub fn read_tree<F: Folder>(
@@ -19,7 +18,7 @@ pub fn read_tree<F: Folder>(
     host: &mut F,
     name: &str,
     count: u64,
-) -> Result<Option<Vec<Line>>, Fault>
+) -> Result<Option<FileText>, Fault>
     requires bound { count < 2 ^ 52 }
     requires count { IsThere F.tells (F.scene host.old) name.now (λ file. count ≡ length file / 4096) }
     ensures value { IfOk result (λ found. (file : List ℕ) → IsFile F.tells (F.scene host.old) name.now file → Walked (pages_in file) found) }
@@ -50,5 +49,5 @@ pub fn read_tree<F: Folder>(
             None => return Ok(None),
         }
     }
-    Ok(Some(Vec::new(alloc)))
+    Ok(Some(FileText::new(alloc)))
 }

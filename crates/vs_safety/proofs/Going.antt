@@ -10,7 +10,8 @@ use Rattle.vs_host.specs.World.{Scene, IsRecorded, snapshot_of}
 use Rattle.vs_host.specs.declared.names.Names.{Names}
 use Rattle.vs_disk.proofs.Runs.{Each-append, Each-weaker}
 use Rattle.vs_safety.specs.Texts.{Text, Sync, recoverable, Recovers, IsFlag, IsBetween}
-use Rattle.vs_safety.specs.Writes.{State, state_in, state_now, HasWritten, IsWholeIn}
+use Rattle.vs_safety.specs.Writes.{State, state_in, state_now}
+use Rattle.vs_safety.specs.FileWork.{HasLeft, IsWholeAt}
 use Rattle.vs_safety.specs.Turns.{Turn, with_sync, with_begun, after_turns, opened, replies, SparesOthers}
 use Rattle.vs_safety.specs.Stretches.{IsFirst, IsShorter, EachTurn, HasStretch}
 use Rattle.vs_safety.specs.Safety.{IsFirstPart, opened_at, Looks, Writes, Stepped, IsUnderWay, Spares}
@@ -95,7 +96,7 @@ module _ (names : Names) (start : Scene) (text : Text) (opening : List ℕ) wher
         begins = subst (λ (l : List ℕ). IsFirst (length l) (newer ++ going.moments) going.here) (sym stepped.works.output) (first_stays (length now.output) going.moments newer going.here going.begins);
         found = subst (λ (d : Disk). IfSome turn.found (λ found. found ≡ d)) (sym folder) stepped.found;
         flag = subst (λ (d : Disk). IfSome turn.sync (λ sync. IsFlag names turn.done d new.folder sync.acknowledged)) (sym folder) stepped.flag;
-        wrote = subst (λ (s : State). IfSome turn.write (λ write. HasWritten names write turn.done s (state_now new))) (sym going.state) stepped.wrote;
+        wrote = subst (λ (s : State). IfSome turn.write (λ work. HasLeft names work turn.done s (state_now new))) (sym going.state) stepped.wrote;
         cause = λ failed. subst (λ (n : ℕ). HasRisen n new.folder_faults) (sym faults) (stepped.cause failed);
         whole = stepped.whole;
         between = stepped.between;
@@ -126,7 +127,7 @@ module _ (names : Names) (start : Scene) (text : Text) (opening : List ℕ) wher
             (record {
               recovers = subst (λ (d : Disk). Recovers names (recoverable (with_begun turn.sync (syncs turns))) d) (sym folder)
                   (recovers_more names _ _ now.folder (ended_within turn.sync (syncs turns)) (between_recovers names (with_sync turn.sync (syncs turns)) now.folder stepping.between));
-              whole = subst (λ (d : Disk). IfSome turn.write (λ write. IsWholeIn names write d)) (sym folder) stepping.whole;
+              whole = subst (λ (d : Disk). IfSome turn.write (λ work. IsWholeAt names work d)) (sym folder) stepping.whole;
             })
             (subst (λ (d : Disk). SparesOthers names more_turns start.folder d) (sym folder) stepping.course.spared)
         | inr ge ↦ kept_whole names start text opening more_turns m ge (subst (λ (d : Disk). Recovers names (recoverable (syncs more_turns)) d) (sym folder) (between_recovers names (syncs more_turns) now.folder between_now))
@@ -173,7 +174,7 @@ module _ (names : Names) (start : Scene) (text : Text) (opening : List ℕ) wher
                     ends = subst (λ (n : ℕ). IsFirst n (m ∷ stepping.moments) m) long here;
                     found = stepping.found;
                     flag = subst (λ (d : Disk). IfSome turn.sync (λ sync. IsFlag names turn.done stepping.here.folder d sync.acknowledged)) (sym writes.folder) stepping.flag;
-                    wrote = subst (λ (s : State). IfSome turn.write (λ write. HasWritten names write turn.done (state_in stepping.here) s)) (sym same_state) stepping.wrote;
+                    wrote = subst (λ (s : State). IfSome turn.write (λ work. HasLeft names work turn.done (state_in stepping.here) s)) (sym same_state) stepping.wrote;
                     cause = λ failed. subst (λ (n : ℕ). HasRisen stepping.here.folder_faults n) (sym writes.faults) (stepping.cause failed);
                   });
               here = m;
@@ -214,7 +215,7 @@ module _ (names : Names) (start : Scene) (text : Text) (opening : List ℕ) wher
                 ends = inr (shorter names start text opening (at more_turns) new more_turns (newer ++ stepping.moments) lt course, refl);
                 found = stepping.found;
                 flag = subst (λ (d : Disk). IfSome turn.sync (λ sync. IsFlag names turn.done stepping.here.folder d sync.acknowledged)) (sym folder) stepping.flag;
-                wrote = subst (λ (s : State). IfSome turn.write (λ write. HasWritten names write turn.done (state_in stepping.here) s)) (λ i. record { folder = sym folder i; faults = sym faults i }) stepping.wrote;
+                wrote = subst (λ (s : State). IfSome turn.write (λ work. HasLeft names work turn.done (state_in stepping.here) s)) (λ i. record { folder = sym folder i; faults = sym faults i }) stepping.wrote;
                 cause = λ failed. subst (λ (k : ℕ). HasRisen stepping.here.folder_faults k) (sym faults) (stepping.cause failed);
               });
         }

@@ -13,7 +13,9 @@ use Rattle.vs_disk.proofs.Others.{same_then}
 use Rattle.vs_pair.specs.Pair.{is_foreign}
 use Rattle.vs_pair.proofs.MadeFiles.{same_weaker}
 use Rattle.vs_safety.specs.Texts.{Text, recoverable, Recovers, RecoversOrNone}
-use Rattle.vs_safety.specs.Writes.{Write, Keeps, AreForeign, Avoids, IsWholeIn, State, state_in, HasWritten}
+use Rattle.vs_safety.specs.Writes.{AreForeign, IsWholeIn, State, Write, state_in}
+use Rattle.vs_safety.specs.Undo.{IsUndoIn, UndoWrite}
+use Rattle.vs_safety.specs.FileWork.{FileWork, EditedFile, UndoFile, Keeps, AvoidsFiles, IsFoundIn, IsWholeAt, HasLeft}
 use Rattle.vs_safety.specs.Turns.{Turn, after_turns, with_begun, opened, replies, AllAvoid, SparesOthers}
 use Rattle.vs_safety.specs.Stretches.{IsShorter, IsFirst, HasStretch}
 use Rattle.vs_safety.specs.Safety.{IsFirstPart, opened_at, IsKept, Spares, Works, IsUnderWay}
@@ -73,7 +75,7 @@ module _ (names : Names) (moments newer : List Snapshot) (from to : ℕ) (turn :
 -- ---- a write
 
 -- what was spared goes on to be spared, but for the names on which a command writes
-keeps_on : (names : Names) (write : Option Write) (start old new : Disk) (inside : Name → Bool) → start.pending ≡ [] → AreForeign names inside → IfSome write (λ w. Avoids names w inside)
+keeps_on : (names : Names) (write : Option FileWork) (start old new : Disk) (inside : Name → Bool) → start.pending ≡ [] → AreForeign names inside → IfSome write (λ w. AvoidsFiles names w inside)
     → Keeps names write old new → SameAt inside start old → SameAt inside start new
 keeps_on names None start old new inside settled foreign avoids keeps same = same_then inside start old new same (same_weaker (is_foreign names) inside old new foreign keeps)
 keeps_on names (Some write) start old new inside settled foreign avoids keeps same = keeps inside start foreign avoids settled same
@@ -84,13 +86,21 @@ spared_step names turn turns start old new settled spared keeps inside foreign a
     keeps_on names turn.write start old new inside settled foreign (avoid_back names inside turns (turn ∷ []) all).0 keeps (spared inside foreign (avoid_front names inside turns (turn ∷ []) all))
 
 -- as it begins, nothing has changed
-pub whole_found : (names : Names) (write : Option Write) (folder : Disk) → IfSome write (λ w. w.found ≡ folder) → IfSome write (λ w. IsWholeIn names w folder)
-whole_found names None folder found = tt
-whole_found names (Some write) folder found = subst (λ (d : Disk). IsWholeIn names write d) found (record { backed = λ old backup is made. inl (λ image part. part); fresh = λ none left may. inr may })
+write_found : (names : Names) (write : Write) (folder : Disk) → write.found ≡ folder → IsWholeIn names write folder
+write_found names write folder found = subst (λ (d : Disk). IsWholeIn names write d) found (record { backed = λ old backup is made. inl (λ image part. part); fresh = λ none left may. inr may })
 
-pub written_found : (names : Names) (write : Option Write) (done : Bool) (old new : State) → IfSome write (λ w. HasWritten names w done old new) → IfSome write (λ w. w.found ≡ old.folder)
+undo_found : (names : Names) (undo : UndoWrite) (folder : Disk) → undo.found ≡ folder → IsUndoIn names undo folder
+undo_found names undo folder found = subst (λ (d : Disk). IsUndoIn names undo d) found (λ left may. inl may)
+
+pub whole_found : (names : Names) (write : Option FileWork) (folder : Disk) → IfSome write (λ w. IsFoundIn w folder) → IfSome write (λ w. IsWholeAt names w folder)
+whole_found names None folder found = tt
+whole_found names (Some (EditedFile write)) folder found = write_found names write folder found
+whole_found names (Some (UndoFile undo)) folder found = undo_found names undo folder found
+
+pub written_found : (names : Names) (write : Option FileWork) (done : Bool) (old new : State) → IfSome write (λ w. HasLeft names w done old new) → IfSome write (λ w. IsFoundIn w old.folder)
 written_found names None done old new wrote = tt
-written_found names (Some write) done old new wrote = wrote.found
+written_found names (Some (EditedFile write)) done old new wrote = wrote.found
+written_found names (Some (UndoFile undo)) done old new wrote = wrote.found
 
 each_both : (P Q : Snapshot → Type 0) (moments : List Snapshot) → Each P moments → Each Q moments → Each (λ m. P m × Q m) moments
 each_both P Q [] p q = tt
@@ -105,7 +115,7 @@ module _ (names : Names) (start : Scene) (text : Text) (opening : List ℕ) wher
   pub kept_before : (turns : List Turn) (m : Snapshot) → length m.output < opened_at start opening → RecoversOrNone names (text ∷ []) m.folder → SameAt (is_foreign names) start.folder m.folder → IsKept names start text opening turns m
   kept_before turns m lt all spared = record { before = λ below. all; spared = λ below. spared; running = λ le. absurd (omega (arith, lt, le)) }
 
-  pub kept_push : (turn : Turn) (turns : List Turn) (m : Snapshot) → length m.output < total (turns ++ turn ∷ []) → (total turns ≤ length m.output → IfSome turn.write (λ write. IsWholeIn names write m.folder)) → IsKept names start text opening turns m
+  pub kept_push : (turn : Turn) (turns : List Turn) (m : Snapshot) → length m.output < total (turns ++ turn ∷ []) → (total turns ≤ length m.output → IfSome turn.write (λ work. IsWholeAt names work m.folder)) → IsKept names start text opening turns m
       → IsKept names start text opening (turns ++ turn ∷ []) m
   kept_push turn turns m lt idle kept = record {
     before = kept.before;
@@ -144,7 +154,7 @@ module _ (names : Names) (start : Scene) (text : Text) (opening : List ℕ) wher
     spared = spared;
   }
 
-  pub course_push : (now : Scene) (turn : Turn) (turns : List Turn) (moments : List Snapshot) → length now.output ≡ total turns → length now.output < total (turns ++ turn ∷ []) → Each (IsStill now) moments → IfSome turn.write (λ w. w.found ≡ now.folder)
+  pub course_push : (now : Scene) (turn : Turn) (turns : List Turn) (moments : List Snapshot) → length now.output ≡ total turns → length now.output < total (turns ++ turn ∷ []) → Each (IsStill now) moments → IfSome turn.write (λ w. IsFoundIn w now.folder)
       → Course names start now text opening turns moments → Course names start now text opening (turns ++ turn ∷ []) moments
   course_push now turn turns moments long lt still found course = record {
     added = course.added;
@@ -159,11 +169,11 @@ module _ (names : Names) (start : Scene) (text : Text) (opening : List ℕ) wher
       pushed m both = record {
         output = both.0.output;
         kept = kept_push turn turns m (omega (arith, lt, part_long m.output now.output both.0.output))
-            (λ le. whole_found names turn.write m.folder (subst (λ (d : Disk). IfSome turn.write (λ w. w.found ≡ d)) (sym (both.1 (omega (arith, le, long)))) found)) both.0.kept;
+            (λ le. whole_found names turn.write m.folder (subst (λ (d : Disk). IfSome turn.write (λ w. IsFoundIn w d)) (sym (both.1 (omega (arith, le, long)))) found)) both.0.kept;
       }
 
   -- work on the folder
-  pub works_sound : (write : Option Write) (P : Disk → Type 0) (now new : Scene) (turns : List Turn)
+  pub works_sound : (write : Option FileWork) (P : Disk → Type 0) (now new : Scene) (turns : List Turn)
       → ((m : Snapshot) → length m.output ≡ length now.output → Spares names write P now.folder m.folder → IsKept names start text opening turns m) → (works : Works names write P now new)
       → Each (Sound names start new text opening turns) works.moments.added
   works_sound write P now new turns keeps works = Each-weaker (Inside new (Spares names write P now.folder)) (Sound names start new text opening turns) one works.moments.added works.moments.each

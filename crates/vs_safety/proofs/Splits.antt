@@ -6,7 +6,7 @@ use Rattle.vs_host.specs.Disk.{Disk, Name}
 use Rattle.vs_host.specs.declared.names.Names.{Names}
 use Rattle.vs_safety.specs.Texts.{Text, Sync, recoverable, Recovers}
 use Rattle.vs_safety.specs.Turns.{Turn, with_sync, with_begun, after_turns, with_next, opened, replies, EndsAfter, IsSplit, AllAvoid, SparesOthers, next_of, IsWholeNext}
-use Rattle.vs_safety.specs.Writes.{Avoids, IsWholeIn}
+use Rattle.vs_safety.specs.FileWork.{AvoidsFiles, IsWholeAt}
 use Rattle.vs_safety.specs.Stretches.{EachTurn}
 use Rattle.vs_safety.specs.Safety.{IsAllowed}
 use Rattle.vs_safety.proofs.Texts.{Within, begun_within, recovers_more}
@@ -79,7 +79,7 @@ pub spared_front : (names : Names) (turns more : List Turn) (old new : Disk) →
 spared_front names turns more old new spared inside foreign all = spared inside foreign (avoid_front names inside turns more all)
 
 module _ (names : Names) (start : Disk) (text : Text) (from n : ℕ) (folder : Disk) where
-  pub allowed_push : (turn : Turn) (turns : List Turn) → n < from + length (replies (turns ++ turn ∷ [])) → (from + length (replies turns) ≤ n → IfSome turn.write (λ write. IsWholeIn names write folder))
+  pub allowed_push : (turn : Turn) (turns : List Turn) → n < from + length (replies (turns ++ turn ∷ [])) → (from + length (replies turns) ≤ n → IfSome turn.write (λ work. IsWholeAt names work folder))
       → IsAllowed names start text turns from n folder → IsAllowed names start text (turns ++ turn ∷ []) from n folder
   allowed_push turn turns lt idle allowed = record {
     first = allowed.first;
@@ -110,7 +110,7 @@ module _ (names : Names) (start : Disk) (text : Text) (from n : ℕ) (folder : D
 
   -- all but the last one are
   pub allowed_part : (turn : Turn) (turns : List Turn) → from + length (replies turns) ≤ n → n < from + length (replies (turns ++ turn ∷ []))
-      → Recovers names (recoverable (with_begun turn.sync (after_turns (opened text) turns))) folder → SparesOthers names (turns ++ turn ∷ []) start folder → IfSome turn.write (λ write. IsWholeIn names write folder)
+      → Recovers names (recoverable (with_begun turn.sync (after_turns (opened text) turns))) folder → SparesOthers names (turns ++ turn ∷ []) start folder → IfSome turn.write (λ work. IsWholeAt names work folder)
       → IsAllowed names start text (turns ++ turn ∷ []) from n folder
   allowed_part turn turns le lt all spared whole = record {
     first = turns;

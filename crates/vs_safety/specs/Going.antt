@@ -5,7 +5,8 @@ use Rattle.vs_host.specs.Trace.{Snapshot, Each}
 use Rattle.vs_host.specs.World.{Scene}
 use Rattle.vs_host.specs.declared.names.Names.{Names}
 use Rattle.vs_safety.specs.Texts.{Text, RecoversOrNone, IsFlag, IsBetween}
-use Rattle.vs_safety.specs.Writes.{HasWritten, IsWholeIn, state_in, state_now}
+use Rattle.vs_safety.specs.Writes.{state_in, state_now}
+use Rattle.vs_safety.specs.FileWork.{HasLeft, IsWholeAt}
 use Rattle.vs_safety.specs.Turns.{Turn, with_sync, after_turns, opened, replies, SparesOthers}
 use Rattle.vs_safety.specs.Stretches.{IsFirst, EachTurn, HasStretch}
 use Rattle.vs_safety.specs.Safety.{IsFirstPart, opened_at, IsKept}
@@ -31,7 +32,7 @@ pub record HasEnded (names : Names) (moments : List Snapshot) (from to : ℕ) (t
   pub ends : IsFirst to moments last
   pub found : IfSome turn.found (λ found. found ≡ first.folder)
   pub flag : IfSome turn.sync (λ sync. IsFlag names turn.done first.folder last.folder sync.acknowledged)
-  pub wrote : IfSome turn.write (λ write. HasWritten names write turn.done (state_in first) (state_in last))
+  pub wrote : IfSome turn.write (λ work. HasLeft names work turn.done (state_in first) (state_in last))
   pub cause : turn.failed ≡ true → HasRisen first.folder_faults last.folder_faults
 
 -- The file was opened, and nothing was written.
@@ -69,9 +70,9 @@ pub record Stepping (names : Names) (start now : Scene) (text : Text) (opening :
   pub begins : IsFirst (length now.output) moments here
   pub found : IfSome turn.found (λ found. found ≡ here.folder)
   pub flag : IfSome turn.sync (λ sync. IsFlag names turn.done here.folder now.folder sync.acknowledged)
-  pub wrote : IfSome turn.write (λ write. HasWritten names write turn.done (state_in here) (state_now now))
+  pub wrote : IfSome turn.write (λ work. HasLeft names work turn.done (state_in here) (state_now now))
   pub cause : turn.failed ≡ true → HasRisen here.folder_faults now.folder_faults
-  pub whole : IfSome turn.write (λ write. IsWholeIn names write now.folder)
+  pub whole : IfSome turn.write (λ work. IsWholeAt names work now.folder)
   pub between : IsBetween names (with_sync turn.sync (after_turns (opened text) turns)) now.folder
 
 -- The run stopped, and these are the commands that it began.

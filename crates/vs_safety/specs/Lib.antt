@@ -1,5 +1,7 @@
 pub mod Texts
 pub mod Writes
+pub mod Undo
+pub mod FileWork
 pub mod Turns
 pub mod Stretches
 pub mod Safety

@@ -9,7 +9,8 @@ use Rattle.vs_disk.specs.Names.{SameAt}
 use Rattle.vs_disk.specs.Runs.{Inside}
 use Rattle.vs_pair.specs.Pair.{Image, NoneThere, is_foreign}
 use Rattle.vs_safety.specs.Texts.{Text, Sync, recoverable, Recovers, RecoversOrNone, IsFlag, IsBetween}
-use Rattle.vs_safety.specs.Writes.{Write, Keeps, IsWholeIn, HasWritten, state_now}
+use Rattle.vs_safety.specs.Writes.{state_now}
+use Rattle.vs_safety.specs.FileWork.{FileWork, Keeps, IsWholeAt, HasLeft}
 use Rattle.vs_safety.specs.Turns.{Turn, Ran, Quits, with_sync, with_begun, after_turns, with_next, opened, replies, IsSplit, all_turns, all_written, SparesOthers, next_of, IsWholeNext}
 use Rattle.vs_safety.specs.Stretches.{EachTurn, HasStretch}
 
@@ -86,28 +87,28 @@ pub record Writes (n : ℕ) (bytes : List ℕ) (old new : Scene) : Type 0 where
   pub added : IsAdded WroteOutput [] old new
 
 -- A folder of which P holds, and in which no name but those of the pair changed, and those on which a write works, where there is one.
-pub record Spares (names : Names) (write : Option Write) (P : Disk → Type 0) (old new : Disk) : Type 0 where
+pub record Spares (names : Names) (write : Option FileWork) (P : Disk → Type 0) (old new : Disk) : Type 0 where
   pub folder : P new
   pub spared : Keeps names write old new
 
 -- Work on the folder between two scenes: P holds of it at each moment. The output stays, and the clock is read before all else.
-pub record Works (names : Names) (write : Option Write) (P : Disk → Type 0) (old new : Scene) : Type 0 where
+pub record Works (names : Names) (write : Option FileWork) (P : Disk → Type 0) (old new : Scene) : Type 0 where
   pub moments : GoesOn (Inside new (Spares names write P old.folder)) old.trace new.trace
   pub output : new.output ≡ old.output
   pub spared : Keeps names write old.folder new.folder
 
 -- A folder from which these texts may be recovered, at a moment of a write, where there is one.
-pub record IsUnderWay (names : Names) (syncs : List Sync) (write : Option Write) (folder : Disk) : Type 0 where
+pub record IsUnderWay (names : Names) (syncs : List Sync) (write : Option FileWork) (folder : Disk) : Type 0 where
   pub recovers : Recovers names (recoverable syncs) folder
-  pub whole : IfSome write (λ write. IsWholeIn names write folder)
+  pub whole : IfSome write (λ work. IsWholeAt names work folder)
 
 -- One command, where these syncs were before it.
 pub record Stepped (names : Names) (syncs : List Sync) (turn : Turn) (old new : Scene) : Type 0 where
   pub found : IfSome turn.found (λ found. found ≡ old.folder)
   -- what was recoverable is recovered, or the text of the sync that the command begins
   pub works : Works names turn.write (IsUnderWay names (with_begun turn.sync syncs) turn.write) old new
-  pub wrote : IfSome turn.write (λ write. HasWritten names write turn.done (state_now old) (state_now new))
-  pub whole : IfSome turn.write (λ write. IsWholeIn names write new.folder)
+  pub wrote : IfSome turn.write (λ work. HasLeft names work turn.done (state_now old) (state_now new))
+  pub whole : IfSome turn.write (λ work. IsWholeAt names work new.folder)
   pub flag : IfSome turn.sync (λ sync. IsFlag names turn.done old.folder new.folder sync.acknowledged)
   pub cause : turn.failed ≡ true → HasRisen old.folder_faults new.folder_faults
   pub between : IsBetween names (with_sync turn.sync syncs) new.folder

@@ -6,7 +6,8 @@ use Rattle.vs_host.specs.World.{Scene}
 use Rattle.vs_host.specs.declared.names.Names.{Names}
 use Rattle.vs_safety.specs.Texts.{IsFlag}
 use Rattle.vs_safety.specs.Turns.{Turn}
-use Rattle.vs_safety.specs.Writes.{State, state_in, state_now, HasWritten}
+use Rattle.vs_safety.specs.Writes.{State, state_in, state_now}
+use Rattle.vs_safety.specs.FileWork.{HasLeft}
 
 abbrev pub IsShorter : ℕ → Snapshot → Type 0
 IsShorter n snapshot = length snapshot.output < n
@@ -34,7 +35,7 @@ pub record HasStretch (names : Names) (moments : List Snapshot) (now : Scene) (f
   pub ends : IsEnd to moments now last
   pub found : IfSome turn.found (λ found. found ≡ first.folder)
   pub flag : IfSome turn.sync (λ sync. IsFlag names turn.done first.folder last.folder sync.acknowledged)
-  pub wrote : IfSome turn.write (λ write. HasWritten names write turn.done (state_in first) last)
+  pub wrote : IfSome turn.write (λ work. HasLeft names work turn.done (state_in first) last)
   pub cause : turn.failed ≡ true → HasRisen first.folder_faults last.faults
 
 -- P holds of each command, of how long the output was before its reply, and with it

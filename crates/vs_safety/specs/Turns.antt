@@ -4,15 +4,16 @@ use Rattle.vs_host.specs.Disk.{Disk, Name}
 use Rattle.vs_host.specs.declared.names.Names.{Names}
 use Rattle.vs_disk.specs.Names.{SameAt}
 use Rattle.vs_safety.specs.Texts.{Text, Sync, begun}
-use Rattle.vs_safety.specs.Writes.{Write, AreForeign, Avoids, IsWholeIn}
+use Rattle.vs_safety.specs.Writes.{AreForeign}
+use Rattle.vs_safety.specs.FileWork.{FileWork, AvoidsFiles, IsWholeAt}
 
 -- One command: the folder that it found as it began, where it asks for it; the sync that it begins before all else, if it does; the
--- write of the edited file that it then begins, if it does; whether it was carried out, and whether it was answered that a call on the
+-- files that it then writes, if it does; whether it was carried out, and whether it was answered that a call on the
 -- folder failed; and the bytes of its reply.
 pub record Turn : Type 0 where
   pub found : Option Disk
   pub sync : Option Sync
-  pub write : Option Write
+  pub write : Option FileWork
   pub done : Bool
   pub failed : Bool
   pub reply : List ℕ
@@ -48,7 +49,7 @@ opened text = record { text = text; dirty = false; acknowledged = true } ∷ []
 -- none of these commands writes on a name of the set
 abbrev pub AllAvoid : Names → List Turn → (Name → Bool) → Type 0
 AllAvoid names [] inside = Unit {0}
-AllAvoid names (turn ∷ turns) inside = IfSome turn.write (λ write. Avoids names write inside) × AllAvoid names turns inside
+AllAvoid names (turn ∷ turns) inside = IfSome turn.write (λ work. AvoidsFiles names work inside) × AllAvoid names turns inside
 
 -- all names are spared but those of the pair and those on which these commands write
 abbrev pub SparesOthers : Names → List Turn → Disk → Disk → Type 0
@@ -62,7 +63,7 @@ next_of (turn ∷ turns) = turn ∷ []
 -- a moment of the write of the first of these commands
 abbrev pub IsWholeNext : Names → List Turn → Disk → Type 0
 IsWholeNext names [] folder = Unit {0}
-IsWholeNext names (turn ∷ turns) folder = IfSome turn.write (λ write. IsWholeIn names write folder)
+IsWholeNext names (turn ∷ turns) folder = IfSome turn.write (λ work. IsWholeAt names work folder)
 
 -- ---- replies
 

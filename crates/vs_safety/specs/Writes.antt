@@ -1,6 +1,6 @@
 -- A write of the edited file: what it leaves of other names, what a stop leaves of the file and its backup while it is under way,
 -- and what it leaves in the end.
-use Rattle.std.specs.Prelude.{◌≡◌, ◌⊎◌, ℕ, Bool, true, false, ◌||◌, List, [], Option, Some, None, IsSome}
+use Rattle.std.specs.Prelude.{◌≡◌, ◌⊎◌, ℕ, Bool, true, false, ◌||◌, List, Option, Some, None, IsSome}
 use Rattle.std.specs.Str.{bytes_eq}
 use Rattle.vs_faults.specs.Faults.{HasRisen}
 use Rattle.vs_host.specs.Disk.{Disk, Name, names_at, content_in}
@@ -9,7 +9,7 @@ use Rattle.vs_host.specs.World.{Scene}
 use Rattle.vs_host.specs.declared.names.Names.{Names}
 use Rattle.vs_text.specs.Text.{file_of}
 use Rattle.vs_disk.specs.Images.{HoldsBytes, MayLeave, Takes}
-use Rattle.vs_disk.specs.Names.{IsImageAt, SameAt}
+use Rattle.vs_disk.specs.Names.{IsImageAt}
 use Rattle.vs_pair.specs.Pair.{Image, is_foreign}
 use Rattle.vs_backup.specs.declared.options.WriteOptions.{WriteOptions}
 use Rattle.vs_backup.specs.Backups.{WorksOn, backup_of}
@@ -44,13 +44,6 @@ AreForeign names inside = (name : Name) → inside name ≡ true → is_foreign 
 -- the write works on no name of the set
 abbrev pub Avoids : Names → Write → (Name → Bool) → Type 0
 Avoids names write inside = IsOutside (WorksOn write.options names.file write.found) inside
-
--- What a command leaves of the names that are not of the pair: all, where it writes no file. A write leaves those on which it does
--- not work: what was spared since a folder in which no change of a name was pending, goes on to be spared.
-abbrev pub Keeps : Names → Option Write → Disk → Disk → Type 0
-Keeps names None old new = SameAt (is_foreign names) old new
-Keeps names (Some write) old new =
-    (inside : Name → Bool) (start : Disk) → AreForeign names inside → Avoids names write inside → start.pending ≡ [] → SameAt inside start old → SameAt inside start new
 
 -- ---- the file and its backup
 

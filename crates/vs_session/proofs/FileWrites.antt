@@ -32,7 +32,7 @@ use Rattle.vs_backup.proofs.Choosing.{candidates_are, letters_next, none_left, I
 use Rattle.vs_backup.proofs.Frames.{absent_now, not_same}
 use Rattle.vs_backup.proofs.Kept.{may_leave_now}
 use Rattle.vs_backup.proofs.NamesApart.{file_apart, backup_apart, temporary_apart}
-use Rattle.vs_safety.specs.Writes.{Write, State, AreForeign, Avoids, HasWritten, IsWholeIn, Keeps, LeavesOld, backup_for, is_either, new_bytes, old_bytes, state_now}
+use Rattle.vs_safety.specs.Writes.{Write, State, AreForeign, Avoids, HasWritten, IsWholeIn, LeavesOld, backup_for, is_either, new_bytes, old_bytes, state_now}
 use Rattle.vs_desk.specs.Still.{IsStill, SparesStill}
 use Rattle.vs_desk.specs.Writes.{WritesFile}
 use Rattle.vs_desk.proofs.Stillness.{still_settled, still_lasts}

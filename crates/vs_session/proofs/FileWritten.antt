@@ -4,7 +4,7 @@ use Rattle.std.proofs.lemmas.Bool.{cases_Bool}
 use Rattle.vs_host.specs.World.{Scene}
 use Rattle.vs_text.specs.Text.{file_of}
 use Rattle.vs_disk.specs.Runs.{Runs}
-use Rattle.vs_backup.specs.declared.options.WriteOptions.{WriteOptions}
+use Rattle.vs_options.specs.declared.setting.Options.{Options}
 use Rattle.vs_backup.specs.declared.errors.WriteErr.{WriteErr}
 use Rattle.vs_backup.specs.declared.errors.WriteErr.TheVariants as error
 use Rattle.vs_backup.specs.Backups.{IsNoName, WorksOn}
@@ -22,15 +22,15 @@ use Rattle.vs_session.specs.Fits.{Fits, names_of}
 
 -- with the options that the state has
 pub wrote : (state : SessionState) (syncs : List Sync) (before after : Session) (old new : Scene) (result : Result ℕ WriteErr) (outcome : Outcome) (reply : Answer) → Fits before old.folder state syncs
-    → WritesFile before.options (names_of before) (file_of state.machine.text) old new result → (result ≡ Err error.NoBackupName → IsNoName before.options (names_of before).file true old.folder)
-    → Runs (KeepsSwap (names_of before) (recoverable syncs)) old new → SparesStill (WorksOn before.options (names_of before).file old.folder) old new → outcome ≡ outcome_to result → reply ≡ reply_to state result
+    → WritesFile before.options.write (names_of before) (file_of state.machine.text) old new result → (result ≡ Err error.NoBackupName → IsNoName before.options.write (names_of before).file true old.folder)
+    → Runs (KeepsSwap (names_of before) (recoverable syncs)) old new → SparesStill (WorksOn before.options.write (names_of before).file old.folder) old new → outcome ≡ outcome_to result → reply ≡ reply_to state result
     → Fits after new.folder (state_to state result) syncs → Wrote state syncs before after outcome reply old new
 wrote state syncs before after old new result outcome reply fits file no_name swap others outcome_is reply_is now = record {
   result = result;
-  file = subst (λ (o : WriteOptions). WritesFile o (names_of before) (file_of state.machine.text) old new result) fits.options file;
-  no_name = λ is. subst (λ (o : WriteOptions). IsNoName o (names_of before).file true old.folder) fits.options (no_name is);
+  file = subst (λ (o : Options). WritesFile o.write (names_of before) (file_of state.machine.text) old new result) fits.options file;
+  no_name = λ is. subst (λ (o : Options). IsNoName o.write (names_of before).file true old.folder) fits.options (no_name is);
   swap = swap;
-  others = subst (λ (o : WriteOptions). SparesStill (WorksOn o (names_of before).file old.folder) old new) fits.options others;
+  others = subst (λ (o : Options). SparesStill (WorksOn o.write (names_of before).file old.folder) old new) fits.options others;
   outcome_is = outcome_is;
   reply_is = reply_is;
   fits = now;

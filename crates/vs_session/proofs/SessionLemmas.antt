@@ -7,8 +7,8 @@ use Rattle.vs_exparse.specs.declared.command.ExErr.{ExErr}
 use Rattle.vs_exparse.specs.Command.Command.{Preserve, Quit, Set}
 use Rattle.vs_exparse.specs.declared.command.Setting.{Setting}
 use Rattle.vs_exparse.specs.declared.command.Setting.TheVariants as setting
-use Rattle.vs_backup.specs.declared.options.WriteOptions.{WriteOptions}
 use Rattle.vs_options.specs.Options.{full_text}
+use Rattle.vs_options.specs.declared.setting.Options.{Options}
 use Rattle.vs_excmd.specs.Request.{Instruction}
 use Rattle.vs_undo.specs.History.{IsHistory}
 use Rattle.vs_undo.specs.declared.parts.Parts.{Parts}
@@ -21,7 +21,7 @@ use Rattle.vs_safety.specs.Texts.{Sync}
 use Rattle.vs_paged.specs.Fits as folder
 use Rattle.vs_paged.specs.declared.paged.PagedText.{PagedText}
 use Rattle.vs_session.specs.declared.session.Session.{Session}
-use Rattle.vs_session.specs.Session.{SessionState, accepts_quit, answered, begins_after, begins_sync, carried, counted, options_set, own_reply, quits, sync_in}
+use Rattle.vs_session.specs.Session.{SessionState, accepts_quit, answered, begins_after, begins_sync, carried, counted, is_saved, options_set, own_reply, quits, sync_in}
 use Rattle.vs_session.specs.Standing.{FitsState}
 use Rattle.vs_session.specs.Fits.{Fits}
 
@@ -29,14 +29,14 @@ use Rattle.vs_session.specs.Fits.{Fits}
 pub current_is : (undo : Parts) (state : State) → IsHistory undo state.text state.history → undo.current ≡ current_of state
 current_is undo state is = ap (λ (p : Parts). p.current) is.links
 
-pub saved_is : (session : Session) (disk : Disk) (state : SessionState) (syncs : List Sync) (k : ℕ) → Fits session disk state syncs → k ≡ session.history.current → (k == session.saved) ≡ (current_of state.machine == state.saved)
-saved_is session disk state syncs k fits is = ap (λ (n : ℕ). n == session.saved) (is ∙ current_is session.history state.machine fits.stands.history) ∙ ap (λ (n : ℕ). current_of state.machine == n) fits.saved
+pub saved_is : (session : Session) (disk : Disk) (state : SessionState) (syncs : List Sync) → Fits session disk state syncs → is_saved session.saved session.history.current ≡ is_saved state.saved (current_of state.machine)
+saved_is session disk state syncs fits = ap (λ (n : ℕ). is_saved session.saved n) (current_is session.history state.machine fits.stands.history) ∙ ap (λ (o : Option ℕ). is_saved o (current_of state.machine)) fits.saved
 
 -- one more sync of this state
-pub stands_synced : (old : Session) (paged : PagedText) (was now : Disk) (state : SessionState) (syncs : List Sync) (k : ℕ) (flag : Bool) → Fits old was state syncs → k ≡ old.history.current
-    → folder.Fits paged now state.machine.text (record { text = state.machine.text; dirty = not (k == old.saved); acknowledged = flag } ∷ syncs) → FitsState paged old.history now state.machine (sync_in state flag ∷ syncs)
-stands_synced old paged was now state syncs k flag fits is text = record {
-  text = subst (λ (b : Bool). folder.Fits paged now state.machine.text (record { text = state.machine.text; dirty = not b; acknowledged = flag } ∷ syncs)) (saved_is old was state syncs k fits is) text;
+pub stands_synced : (old : Session) (paged : PagedText) (was now : Disk) (state : SessionState) (syncs : List Sync) (here : Bool) (flag : Bool) → Fits old was state syncs → here ≡ is_saved old.saved old.history.current
+    → folder.Fits paged now state.machine.text (record { text = state.machine.text; dirty = not here; acknowledged = flag } ∷ syncs) → FitsState paged old.history now state.machine (sync_in state flag ∷ syncs)
+stands_synced old paged was now state syncs here flag fits is text = record {
+  text = subst (λ (b : Bool). folder.Fits paged now state.machine.text (record { text = state.machine.text; dirty = not b; acknowledged = flag } ∷ syncs)) (is ∙ saved_is old was state syncs fits) text;
   history = fits.stands.history;
 }
 
@@ -57,32 +57,33 @@ counted_is old undo was state after syncs k n fits history before now =
     ∙ ap (λ (m : ℕ). counted state.steps (current_of after == m)) (before ∙ current_is old.history state.machine fits.stands.history)
 
 -- a command that the session answers itself leaves the machine's state
-pub own_stays : (state : SessionState) (options : WriteOptions) (instruction : Instruction) (reply : _) (at : ℕ) → own_reply options instruction.parsed ≡ Some reply → machine.state_after state.machine instruction (record { outcome = Done; at = at }) ≡ state.machine
-own_stays state options instruction reply at is = stays instruction.parsed is
+pub own_stays : (state : SessionState) (instruction : Instruction) (reply : _) (at : ℕ) → own_reply instruction.parsed ≡ Some reply → machine.state_after state.machine instruction (record { outcome = Done; at = at }) ≡ state.machine
+own_stays state instruction reply at is = stays instruction.parsed is
   where
-    stays : (parsed : _) → own_reply options parsed ≡ Some reply → machine.done_state state.machine at (machine.meaning_of state.machine parsed instruction.block) ≡ state.machine
+    stays : (parsed : _) → own_reply parsed ≡ Some reply → machine.done_state state.machine at (machine.meaning_of state.machine parsed instruction.block) ≡ state.machine
     stays (Ok Preserve) e = refl
     stays (Ok (Quit bang)) e = refl
     stays (Ok (Set setting)) e = refl
     stays parsed e = absurd (cc)
 
-pub own_carried : (session : Session) (options : WriteOptions) (parsed : Result Command ExErr) (disk : Disk) (state : SessionState) (syncs : List Sync) (instruction : Instruction) (reply : _) (at : ℕ) → parsed ≡ instruction.parsed
-    → own_reply session.options parsed ≡ Some reply → options ≡ options_set session.options parsed → Fits session disk state syncs
+pub own_carried : (session : Session) (options : Options) (parsed : Result Command ExErr) (disk : Disk) (state : SessionState) (syncs : List Sync) (instruction : Instruction) (reply : _) (at : ℕ) → parsed ≡ instruction.parsed
+    → own_reply parsed ≡ Some reply → options ≡ options_set session.options parsed → Fits session disk state syncs
     → Fits (record session { options = options }) disk (carried state instruction (record { outcome = Done; at = at })) syncs
 own_carried session options parsed disk state syncs instruction reply at is own set fits =
     subst (λ (m : State). Fits (record session { options = options }) disk (record { name = state.name; machine = m; saved = state.saved; steps = counted state.steps (current_of m == current_of state.machine); options = options_set state.options instruction.parsed }) syncs)
-    (sym (own_stays state session.options instruction reply at (sym (ap (λ p. own_reply session.options p) is) ∙ own)))
+    (sym (own_stays state instruction reply at (sym (ap own_reply is) ∙ own)))
     (record {
       stands = fits.stands;
       name = fits.name;
       cursor = fits.cursor;
       saved = fits.saved;
       steps = fits.steps ∙ sym (counted_same state.steps (current_of state.machine));
-      options = set ∙ ap (λ p. options_set session.options p) is ∙ ap (λ (o : WriteOptions). options_set o instruction.parsed) fits.options;
+      options = set ∙ ap (λ p. options_set session.options p) is ∙ ap (λ (o : Options). options_set o instruction.parsed) fits.options;
+      acknowledged = fits.acknowledged;
     })
 
 -- a command that the machine answers leaves the options
-pub options_stay : (options : WriteOptions) (parsed : Result Command ExErr) → own_reply options parsed ≡ None → options_set options parsed ≡ options
+pub options_stay : (options : Options) (parsed : Result Command ExErr) → own_reply parsed ≡ None → options_set options parsed ≡ options
 options_stay options (Ok (Set setting)) none = absurd (cc)
 options_stay options parsed none = refl
 
@@ -98,11 +99,6 @@ short_text setting.CopyYes = omega arith
 short_text setting.CopyNo = omega arith
 short_text setting.CopyAuto = omega arith
 
--- what the session answers itself, by what it keeps of the options
-pub own_is : (session : Session) (disk : Disk) (state : SessionState) (syncs : List Sync) (instruction : Instruction) (parsed : Result Command ExErr) → Fits session disk state syncs → parsed ≡ instruction.parsed
-    → own_reply session.options parsed ≡ own_reply state.options instruction.parsed
-own_is session disk state syncs instruction parsed fits is = ap (λ p. own_reply session.options p) is ∙ ap (λ (o : WriteOptions). own_reply o instruction.parsed) fits.options
-
 -- ---- what a command is
 
 pub answered_none : (outcome : Outcome) (reply : Answer) → answered outcome None reply ≡ reply
@@ -111,9 +107,9 @@ answered_none NoMemory reply = refl
 answered_none Fault reply = refl
 
 pub quits_is : (session : Session) (disk : Disk) (state : SessionState) (syncs : List Sync) (instruction : Instruction) (parsed : Result Command ExErr) (b : Bool) → Fits session disk state syncs → parsed ≡ instruction.parsed
-    → quits parsed (session.history.current == session.saved) ≡ b → accepts_quit state instruction ≡ b
+    → quits parsed (is_saved session.saved session.history.current) ≡ b → accepts_quit state instruction ≡ b
 quits_is session disk state syncs instruction parsed b fits is same =
-    sym (ap (λ p. quits p (current_of state.machine == state.saved)) is) ∙ sym (ap (λ (x : Bool). quits parsed x) (saved_is session disk state syncs session.history.current fits refl)) ∙ same
+    sym (ap (λ p. quits p (is_saved state.saved (current_of state.machine))) is) ∙ sym (ap (λ (x : Bool). quits parsed x) (saved_is session disk state syncs fits)) ∙ same
 
 pub begins_is : (session : Session) (disk : Disk) (state : SessionState) (syncs : List Sync) (instruction : Instruction) (parsed : Result Command ExErr) (b : Bool) → Fits session disk state syncs → parsed ≡ instruction.parsed
     → begins_after session.steps parsed ≡ b → begins_sync state instruction ≡ b
@@ -126,6 +122,6 @@ pub reply_machine : (outcome : Outcome) (own : Option Answer) (reply other : Ans
 reply_machine outcome own reply other none is = is ∙ sym (ap (λ (o : Option Answer). answered outcome o other) none ∙ answered_none outcome other)
 
 pub stays_set : (session : Session) (disk : Disk) (state : SessionState) (syncs : List Sync) (instruction : Instruction) (parsed : Result Command ExErr) → Fits session disk state syncs → parsed ≡ instruction.parsed
-    → own_reply session.options parsed ≡ None → session.options ≡ options_set state.options instruction.parsed
+    → own_reply parsed ≡ None → session.options ≡ options_set state.options instruction.parsed
 stays_set session disk state syncs instruction parsed fits is none =
-    sym (options_stay session.options parsed none) ∙ ap (λ p. options_set session.options p) is ∙ ap (λ (o : WriteOptions). options_set o instruction.parsed) fits.options
+    sym (options_stay session.options parsed none) ∙ ap (λ p. options_set session.options p) is ∙ ap (λ (o : Options). options_set o instruction.parsed) fits.options

@@ -13,7 +13,7 @@ use Rattle.vs_disk.proofs.Runs.{goes_then, goes_weaker, reads_change}
 use Rattle.vs_disk.proofs.Others.{same_none, same_then}
 use Rattle.vs_pair.specs.Pair.{Rises, is_swap, is_apart, is_foreign}
 use Rattle.vs_pair.proofs.MadeFiles.{same_weaker}
-use Rattle.vs_exparse.specs.Command.Command.{Write as WriteFile}
+use Rattle.vs_exparse.specs.Command.Command.{Write as WriteFile, WriteUndo, ReadUndo}
 use Rattle.vs_excmd.specs.Request.{Instruction}
 use Rattle.vs_machine.specs.Machine as machine
 use Rattle.vs_machine.specs.Machine.{is_done, current_of}
@@ -23,14 +23,17 @@ use Rattle.vs_machine.specs.declared.command.Outcome.{Outcome}
 use Rattle.vs_machine.specs.declared.command.Outcome.TheVariants.{Done, NoMemory, Fault}
 use Rattle.vs_safety.specs.Texts.{Sync, IsBetween, IsFlag, Recovers, RecoversOrNone, begun, recoverable}
 use Rattle.vs_safety.specs.Turns.{Turn, with_sync, last_turn}
-use Rattle.vs_safety.specs.Writes.{Write}
+use Rattle.vs_safety.specs.FileWork.{EditedFile, FileWork}
 use Rattle.vs_safety.specs.Safety.{Spares, Works, IsUnderWay, Stepped}
+use Rattle.vs_undo.specs.History.{History}
 use Rattle.vs_paged.specs.Fits as folder
 use Rattle.vs_paged.proofs.SyncLemmas.{fits_between, fits_recovers}
 use Rattle.vs_session.specs.declared.session.Session.{Session}
 use Rattle.vs_session.specs.declared.session.Step.{Step}
 use Rattle.vs_session.specs.declared.session.Step.TheVariants as steps
-use Rattle.vs_session.specs.Session.{SessionState, Ended, accepts_quit, after_sync, answered, begins_sync, carried, is_fault, is_write, lacks_name, own_reply, reply_of, session_reply, state_after, sync_in, sync_of, write_in, write_of, written_state}
+use Rattle.vs_session.specs.declared.taking.TakeErr.{TakeErr}
+use Rattle.vs_session.specs.declared.taking.TakeErr.TheVariants as take
+use Rattle.vs_session.specs.Session.{SessionState, Ended, HasFound, accepts_quit, after_sync, answered, begins_after, begins_sync, carried, history_by, history_taken, is_fault, is_rundo, is_write, is_wundo, lacks_name, own_reply, reply_of, session_reply, state_after, sync_in, sync_of, undo_work, uses_files, with_history, work_of, write_in, writes_files, written_state}
 use Rattle.vs_session.specs.Fits.{Answers, Fits, IsStep, Leaves, names_of}
 use Rattle.vs_session.proofs.SessionLemmas.{counted_same}
 
@@ -163,10 +166,58 @@ and_false : (b : Bool) → (b && false) ≡ false
 and_false true = refl
 and_false false = refl
 
--- a command that writes no file is answered by the session, or by the machine
-plain_reply : (state : SessionState) (found : Disk) (parsed : _) → is_write parsed ≡ false → own_reply state.options parsed ≡ session_reply state found parsed
-plain_reply state found (Ok (WriteFile bang)) none = absurd (true≢false none)
-plain_reply state found parsed none = refl
+-- a command that neither writes nor reads another file is answered by the session, or by the machine
+plain_reply : (state : SessionState) (found : Disk) (read : Result History TakeErr) (parsed : _) → uses_files parsed ≡ false → own_reply parsed ≡ session_reply state found read parsed
+plain_reply state found read (Ok (WriteFile bang)) none = absurd (true≢false none)
+plain_reply state found read (Ok WriteUndo) none = absurd (true≢false none)
+plain_reply state found read (Ok ReadUndo) none = absurd (true≢false none)
+plain_reply state found read parsed none = refl
+
+none_left : (a b : Bool) → (a || b) ≡ false → a ≡ false
+none_left true b none = none
+none_left false b none = refl
+
+none_right : (a b : Bool) → (a || b) ≡ false → b ≡ false
+none_right true b none = absurd (true≢false none)
+none_right false b none = none
+
+pub plain_write : (parsed : _) → uses_files parsed ≡ false → is_write parsed ≡ false
+plain_write parsed plain = none_left (is_write parsed) (is_wundo parsed) (none_left (writes_files parsed) (is_rundo parsed) plain)
+
+plain_read : (parsed : _) → uses_files parsed ≡ false → is_rundo parsed ≡ false
+plain_read parsed plain = none_right (writes_files parsed) (is_rundo parsed) plain
+
+plain_work : (state : SessionState) (found : Disk) (parsed : _) → uses_files parsed ≡ false → undo_work state found parsed ≡ None
+plain_work state found (Ok WriteUndo) plain = absurd (true≢false plain)
+plain_work state found parsed plain = refl
+
+-- `wundo` begins no sync
+begun_work : (steps : ℕ) (state : SessionState) (found : Disk) (parsed : _) → begins_after steps parsed ≡ true → undo_work state found parsed ≡ None
+begun_work steps state found (Ok WriteUndo) begun = absurd (true≢false (sym begun ∙ and_false _))
+begun_work steps state found parsed begun = refl
+
+-- nor does `rundo`
+begun_read : (steps : ℕ) (parsed : _) → begins_after steps parsed ≡ true → is_rundo parsed ≡ false
+begun_read steps (Ok ReadUndo) begun = absurd (true≢false (sym begun ∙ and_false _))
+begun_read steps parsed begun = refl
+
+-- ---- no other command takes a history
+
+-- what is kept of a command that does not read the undo file
+abbrev pub unread : Result History TakeErr
+unread = Err take.NoFile
+
+no_history_by : (done : Bool) (parsed : _) (read : Result History TakeErr) → is_rundo parsed ≡ false → cond done (history_by parsed read) None ≡ None
+no_history_by false parsed read none = refl
+no_history_by true (Ok ReadUndo) read none = absurd (true≢false none)
+no_history_by true parsed read none = refl
+
+pub no_history : (instruction : Instruction) (ended : Ended) → is_rundo instruction.parsed ≡ false → history_taken instruction ended ≡ None
+no_history instruction ended none = no_history_by (is_done ended.mark.outcome) instruction.parsed ended.read none
+
+pub untaken : (session : Session) (disk : Disk) (state : SessionState) (syncs : List Sync) (instruction : Instruction) (ended : Ended) → is_rundo instruction.parsed ≡ false → Fits session disk state syncs
+    → Fits session disk (with_history (history_taken instruction ended) state) syncs
+untaken session disk state syncs instruction ended none fits = subst (λ (o : Option History). Fits session disk (with_history o state) syncs) (sym (no_history instruction ended none)) fits
 
 module _ (state : SessionState) (syncs : List Sync) (instruction : Instruction) (before : Session) (old : Scene) (goes_on : accepts_quit state instruction ≡ false) (fits : Fits before old.folder state syncs) where
   abbrev begins : Bool
@@ -176,53 +227,69 @@ module _ (state : SessionState) (syncs : List Sync) (instruction : Instruction) 
   writes = is_write instruction.parsed
 
   abbrev ended_with : Mark → Bool → Ended
-  ended_with mark acknowledged = record { mark = mark; acknowledged = acknowledged; found = old.folder }
+  ended_with mark acknowledged = record { mark = mark; acknowledged = acknowledged; found = old.folder; read = unread }
 
   abbrev lacks : Bool
-  lacks = lacks_name state.options state.name old.folder
+  lacks = lacks_name state.options.write state.name old.folder
 
-  -- the answer, by the sync and the write that the command began
-  pub assemble : (after : Session) (mark : Mark) (acknowledged : Bool) (reply : Answer) (new : Scene) (sync : Option Sync) (write : Option Write) → sync_of state instruction (ended_with mark acknowledged) ≡ sync
-      → write_of state instruction (ended_with mark acknowledged) ≡ write → reply ≡ reply_of state instruction (ended_with mark acknowledged)
+  -- the answer, by the sync and the write that the command began, and by what it read
+  pub assemble_read : (after : Session) (mark : Mark) (acknowledged : Bool) (read : Result History TakeErr) (reply : Answer) (new : Scene) (sync : Option Sync) (write : Option FileWork)
+      → let ended : Ended = record { mark = mark; acknowledged = acknowledged; found = old.folder; read = read } in
+      HasFound state instruction ended → sync_of state instruction ended ≡ sync → work_of state instruction ended ≡ write → reply ≡ reply_of state instruction ended
+      → Fits after new.folder (state_after state instruction ended) (with_sync sync syncs)
+      → Stepped (names_of before) syncs (record { found = Some old.folder; sync = sync; write = write; done = is_done mark.outcome; failed = is_fault mark.outcome; reply = (reply_of state instruction ended).bytes }) old new
+      → Answers state syncs instruction before after mark reply old new
+  assemble_read after mark acknowledged read reply new sync write found sync_is write_is replied now stepped =
+      let ended : Ended = record { mark = mark; acknowledged = acknowledged; found = old.folder; read = read } in
+      record {
+        not_quit = goes_on;
+        ended = ended;
+        mark_is = refl;
+        found = found;
+        reply_is = replied;
+        fits = subst (λ (o : Option Sync). Fits after new.folder (state_after state instruction ended) (with_sync o syncs)) (sym sync_is) now;
+        stepped = subst (λ (t : Turn). Stepped (names_of before) syncs t old new)
+            (λ i. record { found = Some old.folder; sync = sym sync_is i; write = sym write_is i; done = is_done mark.outcome; failed = is_fault mark.outcome; reply = (reply_of state instruction ended).bytes }) stepped;
+      }
+
+  -- that of a command which reads no undo file
+  pub assemble : (after : Session) (mark : Mark) (acknowledged : Bool) (reply : Answer) (new : Scene) (sync : Option Sync) (write : Option FileWork) → is_rundo instruction.parsed ≡ false
+      → sync_of state instruction (ended_with mark acknowledged) ≡ sync → work_of state instruction (ended_with mark acknowledged) ≡ write → reply ≡ reply_of state instruction (ended_with mark acknowledged)
       → Fits after new.folder (state_after state instruction (ended_with mark acknowledged)) (with_sync sync syncs)
       → Stepped (names_of before) syncs (record { found = Some old.folder; sync = sync; write = write; done = is_done mark.outcome; failed = is_fault mark.outcome; reply = (reply_of state instruction (ended_with mark acknowledged)).bytes }) old new
       → Answers state syncs instruction before after mark reply old new
-  assemble after mark acknowledged reply new sync write sync_is write_is replied now stepped = record {
-    not_quit = goes_on;
-    ended = ended_with mark acknowledged;
-    mark_is = refl;
-    reply_is = replied;
-    fits = subst (λ (o : Option Sync). Fits after new.folder (state_after state instruction (ended_with mark acknowledged)) (with_sync o syncs)) (sym sync_is) now;
-    stepped = subst (λ (t : Turn). Stepped (names_of before) syncs t old new)
-        (λ i. record { found = Some old.folder; sync = sym sync_is i; write = sym write_is i; done = is_done mark.outcome; failed = is_fault mark.outcome; reply = (reply_of state instruction (ended_with mark acknowledged)).bytes }) stepped;
-  }
+  assemble after mark acknowledged reply new sync write none sync_is write_is replied now stepped =
+      assemble_read after mark acknowledged unread reply new sync write (λ reads. absurd (true≢false (sym reads ∙ none))) sync_is write_is replied now stepped
 
   sync_is : (b : Bool) (mark : Mark) (acknowledged : Bool) → begins ≡ b → sync_of state instruction (ended_with mark acknowledged) ≡ cond b (Some (sync_in state acknowledged)) None
   sync_is b mark acknowledged is = ap (λ (c : Bool). cond c (Some (sync_in state acknowledged)) None) is
 
-  -- a command that writes no file
-  module _ (plain : writes ≡ false) where
-    no_file : (mark : Mark) (acknowledged : Bool) → write_of state instruction (ended_with mark acknowledged) ≡ None
-    no_file mark acknowledged = ap (λ (w : Bool). cond ((w && acknowledged) && not lacks) (Some (write_in state old.folder)) None) plain
+  -- a command that neither writes nor reads another file
+  module _ (plain : uses_files instruction.parsed ≡ false) where
+    no_file : (mark : Mark) (acknowledged : Bool) → work_of state instruction (ended_with mark acknowledged) ≡ None
+    no_file mark acknowledged =
+        ap (λ (w : Bool). cond ((w && acknowledged) && not lacks) (Some (EditedFile (write_in state old.folder))) (undo_work state old.folder instruction.parsed)) (plain_write instruction.parsed plain)
+        ∙ plain_work state old.folder instruction.parsed plain
 
     plainly : (after : Session) (mark : Mark) (acknowledged : Bool) (new : Scene) (b : Bool) (ss : List Sync) → begins ≡ b → Fits after new.folder (carried (after_sync state (b && acknowledged)) instruction mark) ss
         → Fits after new.folder (state_after state instruction (ended_with mark acknowledged)) ss
     plainly after mark acknowledged new b ss is now =
         let synced : SessionState = after_sync state (begins && acknowledged) in
-        subst (λ (w : Bool). Fits after new.folder (cond (((w && acknowledged) && not lacks) && is_done mark.outcome) (written_state synced) (carried synced instruction mark)) ss) (sym plain)
-        (subst (λ (c : Bool). Fits after new.folder (carried (after_sync state (c && acknowledged)) instruction mark) ss) (sym is) now)
+        subst (λ (w : Bool). Fits after new.folder (cond (((w && acknowledged) && not lacks) && is_done mark.outcome) (written_state synced) (with_history (history_taken instruction (ended_with mark acknowledged)) (carried synced instruction mark))) ss) (sym (plain_write instruction.parsed plain))
+        (untaken after new.folder (carried synced instruction mark) ss instruction (ended_with mark acknowledged) (plain_read instruction.parsed plain)
+        (subst (λ (c : Bool). Fits after new.folder (carried (after_sync state (c && acknowledged)) instruction mark) ss) (sym is) now))
 
-    replied_plainly : (mark : Mark) (acknowledged : Bool) (reply : Answer) → reply ≡ answered mark.outcome (own_reply state.options instruction.parsed) (machine.reply_of state.machine instruction mark)
+    replied_plainly : (mark : Mark) (acknowledged : Bool) (reply : Answer) → reply ≡ answered mark.outcome (own_reply instruction.parsed) (machine.reply_of state.machine instruction mark)
         → reply ≡ reply_of state instruction (ended_with mark acknowledged)
     replied_plainly mark acknowledged reply is =
-        is ∙ ap (λ (o : Option Answer). answered mark.outcome o (machine.reply_of state.machine instruction mark)) (plain_reply state old.folder instruction.parsed plain)
+        is ∙ ap (λ (o : Option Answer). answered mark.outcome o (machine.reply_of state.machine instruction mark)) (plain_reply state old.folder unread instruction.parsed plain)
 
     -- no sync
     pub answers_plainly : (after : Session) (mark : Mark) (reply : Answer) (new : Scene) → begins ≡ false → names_of after ≡ names_of before → ReadsFolder old new → Looks old new
-        → HasCause old.folder_faults new.folder_faults (mark.outcome ≡ Fault) → reply ≡ answered mark.outcome (own_reply state.options instruction.parsed) (machine.reply_of state.machine instruction mark)
+        → HasCause old.folder_faults new.folder_faults (mark.outcome ≡ Fault) → reply ≡ answered mark.outcome (own_reply instruction.parsed) (machine.reply_of state.machine instruction mark)
         → Fits after new.folder (carried state instruction mark) syncs → Answers state syncs instruction before after mark reply old new
     answers_plainly after mark reply new none names frame looks cause replied now =
-        assemble after mark false reply new None None (sync_is false mark false none) (no_file mark false) (replied_plainly mark false reply replied) (plainly after mark false new false syncs none now)
+        assemble after mark false reply new None None (plain_read instruction.parsed plain) (sync_is false mark false none) (no_file mark false) (replied_plainly mark false reply replied) (plainly after mark false new false syncs none now)
         (record {
           works = works_looks (names_of before) (IsUnderWay (names_of before) syncs None) old new frame
               (no_write (names_of before) syncs old.folder (recovers_synced (names_of before) before old.folder state syncs refl fits)) looks;
@@ -238,10 +305,10 @@ module _ (state : SessionState) (syncs : List Sync) (instruction : Instruction) 
     pub answers_synced : (between after : Session) (mark : Mark) (reply : Answer) (mid new : Scene) → begins ≡ true → names_of between ≡ names_of before → names_of after ≡ names_of before → ChangesFolder old mid
         → Runs (folder.Syncing before.text) old mid → old.folder_faults ≤ mid.folder_faults → Rises (names_of before) old.folder mid.folder → Fits between mid.folder (after_sync state true) (sync_in state true ∷ syncs)
         → ReadsFolder mid new → Looks mid new → HasCause mid.folder_faults new.folder_faults (mark.outcome ≡ Fault)
-        → reply ≡ answered mark.outcome (own_reply state.options instruction.parsed) (machine.reply_of state.machine instruction mark)
+        → reply ≡ answered mark.outcome (own_reply instruction.parsed) (machine.reply_of state.machine instruction mark)
         → Fits after new.folder (carried (after_sync state true) instruction mark) (sync_in state true ∷ syncs) → Answers state syncs instruction before after mark reply old new
     answers_synced between after mark reply mid new begun same names frame runs later rises synced second looks cause replied now =
-        assemble after mark true reply new (Some (sync_in state true)) None (sync_is true mark true begun) (no_file mark true) (replied_plainly mark true reply replied) (plainly after mark true new true (sync_in state true ∷ syncs) begun now)
+        assemble after mark true reply new (Some (sync_in state true)) None (plain_read instruction.parsed plain) (sync_is true mark true begun) (no_file mark true) (replied_plainly mark true reply replied) (plainly after mark true new true (sync_in state true ∷ syncs) begun now)
         (looked_synced before after state syncs (carried (after_sync state true) instruction mark) (is_done mark.outcome) (is_fault mark.outcome) (reply_of state instruction (ended_with mark true)).bytes old mid new fits between same names frame runs rises synced
         (ap (λ (s : Scene). s.folder) second) (reads_change mid new second) looks (λ failed. risen_since old.folder_faults mid.folder_faults new.folder_faults later (cause.risen (failed_is mark.outcome failed))) now)
 
@@ -250,8 +317,9 @@ module _ (state : SessionState) (syncs : List Sync) (instruction : Instruction) 
       → HasRisen old.folder_faults new.folder_faults → reply ≡ refuses device_fault → (Rises (names_of before) old.folder new.folder → ⊥) → Fits after new.folder state (sync_in state false ∷ syncs)
       → Answers state syncs instruction before after (record { outcome = Fault; at = at }) reply old new
   answers_failed after at reply new begun names frame runs risen replied none now =
-      assemble after mark false reply new (Some (sync_in state false)) None (sync_is true mark false begun)
-      (ap (λ (w : Bool). cond (w && not lacks) (Some (write_in state old.folder)) None) (and_false writes)) replied stays
+      assemble after mark false reply new (Some (sync_in state false)) None (begun_read state.steps instruction.parsed begun) (sync_is true mark false begun)
+      (ap (λ (w : Bool). cond (w && not lacks) (Some (EditedFile (write_in state old.folder))) (undo_work state old.folder instruction.parsed)) (and_false writes)
+      ∙ begun_work state.steps state old.folder instruction.parsed begun) replied stays
       (record {
         works = synced_works (names_of before) before old new state syncs refl fits frame runs;
         found = refl;
@@ -273,6 +341,7 @@ module _ (state : SessionState) (syncs : List Sync) (instruction : Instruction) 
         saved = now.saved;
         steps = now.steps ∙ sym (counted_same state.steps (current_of state.machine));
         options = now.options;
+        acknowledged = now.acknowledged;
       }
 
       stays : Fits after new.folder (state_after state instruction (ended_with mark false)) (sync_in state false ∷ syncs)
@@ -291,6 +360,7 @@ answers_from state syncs instruction before after mark reply old mid new clock i
       not_quit = now.not_quit;
       ended = now.ended;
       mark_is = now.mark_is;
+      found = now.found;
       reply_is = now.reply_is;
       fits = now.fits;
       stepped = record {

@@ -1,5 +1,5 @@
 -- A text in the pages of a pair is what a store over them has, so each clause of the store says what the text is.
-use Rattle.std.proofs.Common.{◌≡◌, inr, Bool, IsTrue, List, Result, Ok, Err, IfOk, sym, subst, arith}
+use Rattle.std.proofs.Common.{◌≡◌, inr, Bool, IsTrue, List, Result, Ok, Err, IfOk, sym, ◌∙◌, subst, arith}
 use Rattle.vs_pages.specs.Memory.{present_of, committed_of}
 use Rattle.vs_pages.specs.declared.memory.MemPages.{MemPages}
 use Rattle.vs_edit.specs.State.{SameText}
@@ -117,3 +117,18 @@ fits_left old new was now text after syncs files same fits pages = record {
 pub state_left : (old new : PagedText) (undo left : Parts) (was now : Disk) (state after : State) (syncs : List Sync) → new.pair.files ≡ old.pair.files → now ≡ was → FitsState old undo was state syncs
     → Stands new.pair.pages new.tree left after → FitsState new left now after syncs
 state_left old new undo left was now state after syncs files same fits stands = record { text = fits_left old new was now state.text after.text syncs files same fits.text stands.text; history = stands.history }
+
+-- what was committed is the present text still, where a store kept both
+pub kept_same : (tells : Bool) (pages left : MemPages) (tree after : LineTree) → IsBounded tree → (IsTrue tells → (text : Text) × IsPaged pages tree text)
+    → SameText (text_of tells (present_of pages) tree.present) (text_of tells (present_of left) after.present) → SameText (text_of tells (committed_of pages) tree.committed) (text_of tells (committed_of left) after.committed)
+    → SameText (text_of tells (present_of left) after.present) (text_of tells (committed_of left) after.committed)
+kept_same tells pages left tree after bounded paged present committed = record {
+  text = λ text is.
+      let here = paged is.told in
+      let now = present.text here.0 (told_text tells pages tree here.0 is.told here.1) in
+      let same : here.0 ≡ text = one_text (present_of left) after.present here.0 text now.has is.has in
+      let H : Text → Type 0 = λ t. Tells tells (committed_of left) after.committed t in
+      subst H same (committed.text here.0 (record { told = is.told; has = here.1.committed }));
+  lines = committed.lines ∙ bounded.same_lines ∙ sym present.lines;
+  bytes = committed.bytes ∙ bounded.same_bytes ∙ sym present.bytes;
+}

@@ -27,7 +27,8 @@ use Rattle.vs_backup.specs.Writing.{FindsNoName, IsUnseen, IsWhole, MayLackNew, 
 use Rattle.vs_backup.proofs.Frames.{absent_now}
 use Rattle.vs_backup.proofs.Kept.{may_leave_now}
 use Rattle.vs_safety.specs.Texts.{Text}
-use Rattle.vs_safety.specs.Writes.{Write, State, AreForeign, Avoids, HasWritten, IsWholeIn, Keeps, state_now}
+use Rattle.vs_safety.specs.Writes.{Write, State, AreForeign, Avoids, HasWritten, IsWholeIn, state_now}
+use Rattle.vs_safety.specs.FileWork.{EditedFile, Keeps}
 use Rattle.vs_paged.proofs.SyncLemmas.{on_ok_as}
 use Rattle.vs_desk.specs.Still.{SparesStill}
 use Rattle.vs_desk.specs.Writes.{WritesFile}
@@ -66,7 +67,7 @@ whole_synced names are options text old d same = record {
   fresh = λ none. takes_old names are old d same (file_of text);
 }
 
-pub keeps_synced : (names : Names) (write : Write) (old d : Disk) → SameAt (is_apart names) old d → Keeps names (Some write) old d
+pub keeps_synced : (names : Names) (write : Write) (old d : Disk) → SameAt (is_apart names) old d → Keeps names (Some (EditedFile write)) old d
 keeps_synced names write old d same inside start foreign avoids settled spared =
     same_then inside start old d spared (same_weaker (is_apart names) inside old d (λ name is. apart_foreign names name (foreign name is)) same)
 
@@ -96,18 +97,18 @@ module _ (names : Names) (are : AreNames names) (options : WriteOptions) (text :
   spares_since others a = others a.inside (λ name is on. a.avoids name is (works_same names are old mid.folder same options name on))
       (still_lasts a.inside a.start mid.folder (since_mid a) (still_settled a.inside a.start a.settled))
 
-  keeps_of : (d : Disk) → ((a : Since) → SameAt a.inside a.start d) → Keeps names (Some write) old d
+  keeps_of : (d : Disk) → ((a : Since) → SameAt a.inside a.start d) → Keeps names (Some (EditedFile write)) old d
   keeps_of d all inside start foreign avoids settled spared = all (record { inside = inside; start = start; foreign = foreign; avoids = avoids; settled = settled; spared = spared })
 
   pub keeps_moments : (Q : Snapshot → Type 0) → GoesOn Q mid.trace new.trace → SparesStill (WorksOn options names.file mid.folder) mid new
-      → GoesOn (λ m. Keeps names (Some write) old m.folder) mid.trace new.trace
+      → GoesOn (λ m. Keeps names (Some (EditedFile write)) old m.folder) mid.trace new.trace
   keeps_moments Q base others =
-      goes_weaker (λ m. (a : Since) → SameAt a.inside a.start m.folder) (λ m. Keeps names (Some write) old m.folder) (λ m all. keeps_of m.folder all) mid.trace new.trace
+      goes_weaker (λ m. (a : Since) → SameAt a.inside a.start m.folder) (λ m. Keeps names (Some (EditedFile write)) old m.folder) (λ m all. keeps_of m.folder all) mid.trace new.trace
       (goes_all Since (λ a m. SameAt a.inside a.start m.folder) Q mid.trace new.trace base
       (λ a. goes_weaker (Inside mid (SameAt a.inside mid.folder)) (λ m. SameAt a.inside a.start m.folder) (λ m inside. same_then a.inside a.start mid.folder m.folder (since_mid a) inside.folder) mid.trace new.trace
       (spares_since others a).moments))
 
-  pub keeps_now : SparesStill (WorksOn options names.file mid.folder) mid new → Keeps names (Some write) old new.folder
+  pub keeps_now : SparesStill (WorksOn options names.file mid.folder) mid new → Keeps names (Some (EditedFile write)) old new.folder
   keeps_now others = keeps_of new.folder (λ a. same_then a.inside a.start mid.folder new.folder (since_mid a) (spares_since others a).now)
 
   -- ---- the file and its backup, at each moment

@@ -20,25 +20,28 @@ use Rattle.vs_backup.specs.declared.options.WriteOptions.{WriteOptions}
 use Rattle.vs_backup.specs.declared.errors.WriteErr.{WriteErr}
 use Rattle.vs_backup.specs.declared.errors.WriteErr.TheVariants as error
 use Rattle.vs_backup.specs.Backups.{IsNoName, WorksOn}
+use Rattle.vs_options.specs.declared.setting.Options.{Options}
 use Rattle.vs_machine.specs.Machine as machine
 use Rattle.vs_machine.specs.Machine.{State, is_done, current_of}
 use Rattle.vs_machine.specs.Replies.{Answer, says, refuses, no_backup_name, written_line}
 use Rattle.vs_machine.specs.declared.command.Mark.{Mark}
 use Rattle.vs_machine.specs.declared.command.Outcome.{Outcome}
 use Rattle.vs_machine.specs.declared.command.Outcome.TheVariants.{Done, NoMemory, Fault}
+use Rattle.vs_undo.specs.History.{History}
 use Rattle.vs_safety.specs.Texts.{Sync, Text, Recovers, begun, recoverable}
 use Rattle.vs_safety.specs.Turns.{Turn}
-use Rattle.vs_safety.specs.Writes.{Write, HasWritten, IsWholeIn, Keeps, state_now}
+use Rattle.vs_safety.specs.Writes.{Write, HasWritten, IsWholeIn, state_now}
+use Rattle.vs_safety.specs.FileWork.{EditedFile, FileWork, Keeps}
 use Rattle.vs_safety.specs.Safety.{IsUnderWay, Spares, Stepped, Works}
 use Rattle.vs_paged.specs.Fits as folder
 use Rattle.vs_desk.specs.Still.{SparesStill}
 use Rattle.vs_desk.specs.Writes.{KeepsSwap, WritesFile}
 use Rattle.vs_session.specs.declared.session.Session.{Session}
-use Rattle.vs_session.specs.Session.{SessionState, Ended, accepts_quit, after_sync, answered, begins_after, begins_sync, carried, counted, is_fault, is_write, lacks_name, options_after, quits, reply_of, session_reply, state_after, sync_in, write_in, write_of, write_reply, written_state}
+use Rattle.vs_session.specs.Session.{SessionState, Ended, accepts_quit, after_sync, answered, begins_after, begins_sync, carried, counted, is_fault, is_rundo, is_write, lacks_name, options_after, quits, reply_of, session_reply, state_after, sync_in, undo_work, with_history, work_of, write_in, write_reply, written_state}
 use Rattle.vs_session.specs.Writes.{Wrote, outcome_to, reply_to, state_to}
 use Rattle.vs_session.specs.Fits.{Answers, Fits, names_of}
 use Rattle.vs_session.proofs.SessionLemmas.{counted_same}
-use Rattle.vs_session.proofs.Steps.{assemble, between_synced, failed_is, flag_true, inside_new, looked_synced, recovers_under, risen_since}
+use Rattle.vs_session.proofs.Steps.{assemble, between_synced, failed_is, flag_true, inside_new, looked_synced, no_history, recovers_under, risen_since, unread}
 use Rattle.vs_session.proofs.FileWrites.{goes_both}
 use Rattle.vs_session.proofs.WriteMoments.{facts, has_written, keeps_moments, keeps_now, keeps_synced, lacks_looks, named_lacks, whole_moments, whole_synced}
 
@@ -52,9 +55,17 @@ pub begins_is : (steps : ℕ) (parsed : _) → is_write parsed ≡ true → begi
 begins_is steps (Ok (WriteFile bang)) is = refl
 begins_is steps parsed is = absurd (true≢false (sym is))
 
-reply_is : (state : SessionState) (found : Disk) (parsed : _) → is_write parsed ≡ true → Some (write_reply state found) ≡ session_reply state found parsed
+reply_is : (state : SessionState) (found : Disk) (parsed : _) → is_write parsed ≡ true → Some (write_reply state found) ≡ session_reply state found unread parsed
 reply_is state found (Ok (WriteFile bang)) is = refl
 reply_is state found parsed is = absurd (true≢false (sym is))
+
+no_read : (parsed : _) → is_write parsed ≡ true → is_rundo parsed ≡ false
+no_read (Ok (WriteFile bang)) is = refl
+no_read parsed is = absurd (true≢false (sym is))
+
+no_undo : (state : SessionState) (found : Disk) (parsed : _) → is_write parsed ≡ true → undo_work state found parsed ≡ None
+no_undo state found (Ok (WriteFile bang)) is = refl
+no_undo state found parsed is = absurd (true≢false (sym is))
 
 machine_stays : (m : State) (at : ℕ) (outcome : Outcome) (block : _) (parsed : _) → is_write parsed ≡ true → machine.state_by outcome m at (machine.meaning_of m parsed block) ≡ m
 machine_stays m at Done block (Ok (WriteFile bang)) is = refl
@@ -62,7 +73,7 @@ machine_stays m at Done block parsed is = absurd (true≢false (sym is))
 machine_stays m at NoMemory block parsed is = refl
 machine_stays m at Fault block parsed is = refl
 
-options_stay : (options : WriteOptions) (outcome : Outcome) (parsed : _) → is_write parsed ≡ true → options_after outcome options parsed ≡ options
+options_stay : (options : Options) (outcome : Outcome) (parsed : _) → is_write parsed ≡ true → options_after outcome options parsed ≡ options
 options_stay options Done (Ok (WriteFile bang)) is = refl
 options_stay options Done parsed is = absurd (true≢false (sym is))
 options_stay options NoMemory parsed is = refl
@@ -86,6 +97,7 @@ carried_on session disk state syncs instruction mark is fits =
       saved = fits.saved;
       steps = fits.steps ∙ sym (counted_same state.steps (current_of state.machine));
       options = fits.options ∙ sym (options_stay state.options mark.outcome instruction.parsed is);
+      acknowledged = fits.acknowledged;
     })
 
 -- what a write did, for these names
@@ -104,7 +116,7 @@ module _ (state : SessionState) (syncs : List Sync) (instruction : Instruction) 
   names = names_of before
 
   abbrev options : WriteOptions
-  options = state.options
+  options = state.options.write
 
   abbrev text : Text
   text = state.machine.text
@@ -146,14 +158,16 @@ module _ (state : SessionState) (syncs : List Sync) (instruction : Instruction) 
   begins = begins_is state.steps instruction.parsed is
 
   abbrev ended : Ended
-  ended = record { mark = mark; acknowledged = true; found = old.folder }
+  ended = record { mark = mark; acknowledged = true; found = old.folder; read = unread }
 
   -- the state after it
   fits_by : (b : Bool) → (((is_write instruction.parsed && true) && not lacks) && is_done outcome) ≡ b → Fits after new.folder (cond b (written_state (after_sync state true)) (carried (after_sync state true) instruction mark)) all
       → Fits after new.folder (state_after state instruction ended) all
   fits_by b which now =
-      subst (λ (c : Bool). Fits after new.folder (cond (((is_write instruction.parsed && true) && not lacks) && is_done outcome) (written_state (after_sync state (c && true))) (carried (after_sync state (c && true)) instruction mark)) all) (sym begins)
-      (subst (λ (c : Bool). Fits after new.folder (cond c (written_state (after_sync state true)) (carried (after_sync state true) instruction mark)) all) (sym which) now)
+      subst (λ (o : Option History). Fits after new.folder (cond (((is_write instruction.parsed && true) && not lacks) && is_done outcome) (written_state (after_sync state (begins_sync state instruction && true)))
+      (with_history o (carried (after_sync state (begins_sync state instruction && true)) instruction mark))) all) (sym (no_history instruction ended (no_read instruction.parsed is)))
+      (subst (λ (c : Bool). Fits after new.folder (cond (((is_write instruction.parsed && true) && not lacks) && is_done outcome) (written_state (after_sync state (c && true))) (carried (after_sync state (c && true)) instruction mark)) all) (sym begins)
+      (subst (λ (c : Bool). Fits after new.folder (cond c (written_state (after_sync state true)) (carried (after_sync state true) instruction mark)) all) (sym which) now))
 
   -- its reply
   reply_by : (o : Outcome) → outcome ≡ o → reply ≡ answered o (Some (write_reply state old.folder)) (machine.reply_by o state.machine (machine.meaning_of state.machine instruction.parsed instruction.block)) → reply ≡ reply_of state instruction ended
@@ -186,8 +200,8 @@ module _ (state : SessionState) (syncs : List Sync) (instruction : Instruction) 
 
     pub refused : Answers state syncs instruction before after mark reply old new
     refused =
-        assemble state syncs instruction before old goes_on fits after mark true reply new (Some (sync_in state true)) None (ap (λ (c : Bool). cond c (Some (sync_in state true)) None) begins)
-        (λ i. cond ((is i && true) && not (taken i)) (Some write) None) (refused_reply wrote.result refl wrote.outcome_is wrote.reply_is) refused_fits
+        assemble state syncs instruction before old goes_on fits after mark true reply new (Some (sync_in state true)) None (no_read instruction.parsed is) (ap (λ (c : Bool). cond c (Some (sync_in state true)) None) begins)
+        ((λ i. cond ((is i && true) && not (taken i)) (Some (EditedFile write)) (undo_work state old.folder instruction.parsed)) ∙ no_undo state old.folder instruction.parsed is) (refused_reply wrote.result refl wrote.outcome_is wrote.reply_is) refused_fits
         (looked_synced before after state syncs (state_after state instruction ended) (is_done outcome) (is_fault outcome) (reply_of state instruction ended).bytes old mid new fits between names_mid names_after first runs rises synced
         looked.0.now second looked.0 failed_then refused_fits)
 
@@ -218,12 +232,12 @@ module _ (state : SessionState) (syncs : List Sync) (instruction : Instruction) 
     written_reply (Err (error.NoMemory p)) r_is o_is replied = reply_by NoMemory o_is replied
 
     abbrev P : Disk → Type 0
-    P = IsUnderWay names under (Some write)
+    P = IsUnderWay names under (Some (EditedFile write))
 
     recovers_on : (d : Disk) → Recovers names (recoverable all) d → Recovers names (recoverable under) d
     recovers_on d recovers image whole = let given = recovers image whole in (given.0, elim given.1 [ inl here ↦ inl here | inr none ↦ absurd none ], given.2)
 
-    in_sync : (d : Disk) → folder.Syncing before.text old.folder d → Spares names (Some write) P old.folder d
+    in_sync : (d : Disk) → folder.Syncing before.text old.folder d → Spares names (Some (EditedFile write)) P old.folder d
     in_sync d syncing =
         let apart : SameAt (is_apart names) old.folder d = syncing.spared text syncs fits.stands.text in
         record {
@@ -237,25 +251,25 @@ module _ (state : SessionState) (syncs : List Sync) (instruction : Instruction) 
     whole_all : GoesOn (λ m. IsWholeIn names write m.folder) mid.trace new.trace × IsWholeIn names write new.folder
     whole_all = whole_moments names are options text old.folder mid new same wrote.result did.file Base did.swap.moments
 
-    in_write : GoesOn (Inside new (Spares names (Some write) P old.folder)) mid.trace new.trace
+    in_write : GoesOn (Inside new (Spares names (Some (EditedFile write)) P old.folder)) mid.trace new.trace
     in_write =
-        goes_weaker (λ m. Base m × (Keeps names (Some write) old.folder m.folder × IsWholeIn names write m.folder)) (Inside new (Spares names (Some write) P old.folder))
-        (λ m is_so. inside_new mid new (Spares names (Some write) P old.folder) second m (record {
+        goes_weaker (λ m. Base m × (Keeps names (Some (EditedFile write)) old.folder m.folder × IsWholeIn names write m.folder)) (Inside new (Spares names (Some (EditedFile write)) P old.folder))
+        (λ m is_so. inside_new mid new (Spares names (Some (EditedFile write)) P old.folder) second m (record {
           output = is_so.0.output;
           answered = is_so.0.answered;
           script_faults = is_so.0.script_faults;
           out_faults = is_so.0.out_faults;
           folder = record { folder = record { recovers = recovers_on m.folder is_so.0.folder.recovers; whole = is_so.1.1 }; spared = is_so.1.0 };
         })) mid.trace new.trace
-        (goes_both Base (λ m. Keeps names (Some write) old.folder m.folder × IsWholeIn names write m.folder) mid.trace new.trace did.swap.moments
-        (goes_both (λ m. Keeps names (Some write) old.folder m.folder) (λ m. IsWholeIn names write m.folder) mid.trace new.trace
+        (goes_both Base (λ m. Keeps names (Some (EditedFile write)) old.folder m.folder × IsWholeIn names write m.folder) mid.trace new.trace did.swap.moments
+        (goes_both (λ m. Keeps names (Some (EditedFile write)) old.folder m.folder) (λ m. IsWholeIn names write m.folder) mid.trace new.trace
         (keeps_moments names are options text old.folder mid new same Base did.swap.moments did.others) whole_all.0))
 
-    works : Works names (Some write) P old new
+    works : Works names (Some (EditedFile write)) P old new
     works = record {
-      moments = goes_then (Inside new (Spares names (Some write) P old.folder)) old.trace mid.trace new.trace
-          (goes_weaker (Inside old (folder.Syncing before.text old.folder)) (Inside new (Spares names (Some write) P old.folder))
-          (λ m inside. inside_new mid new (Spares names (Some write) P old.folder) second m (inside_new old mid (Spares names (Some write) P old.folder) first m (record {
+      moments = goes_then (Inside new (Spares names (Some (EditedFile write)) P old.folder)) old.trace mid.trace new.trace
+          (goes_weaker (Inside old (folder.Syncing before.text old.folder)) (Inside new (Spares names (Some (EditedFile write)) P old.folder))
+          (λ m inside. inside_new mid new (Spares names (Some (EditedFile write)) P old.folder) second m (inside_new old mid (Spares names (Some (EditedFile write)) P old.folder) first m (record {
             output = inside.output;
             answered = inside.answered;
             script_faults = inside.script_faults;
@@ -271,8 +285,8 @@ module _ (state : SessionState) (syncs : List Sync) (instruction : Instruction) 
 
     pub written : Answers state syncs instruction before after mark reply old new
     written =
-        assemble state syncs instruction before old goes_on fits after mark true reply new (Some (sync_in state true)) (Some write) (ap (λ (c : Bool). cond c (Some (sync_in state true)) None) begins)
-        (λ i. cond ((is i && true) && not (free i)) (Some write) None) (written_reply wrote.result refl wrote.outcome_is wrote.reply_is) now
+        assemble state syncs instruction before old goes_on fits after mark true reply new (Some (sync_in state true)) (Some (EditedFile write)) (no_read instruction.parsed is) (ap (λ (c : Bool). cond c (Some (sync_in state true)) None) begins)
+        (λ i. cond ((is i && true) && not (free i)) (Some (EditedFile write)) (undo_work state old.folder instruction.parsed)) (written_reply wrote.result refl wrote.outcome_is wrote.reply_is) now
         (record {
           found = refl;
           works = works;

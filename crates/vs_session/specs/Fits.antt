@@ -18,8 +18,9 @@ use Rattle.vs_paged.specs.Fits as paged
 use Rattle.vs_session.specs.declared.session.Session.{Session}
 use Rattle.vs_session.specs.declared.session.Step.{Step}
 use Rattle.vs_session.specs.declared.session.Step.TheVariants as step
-use Rattle.vs_session.specs.Session.{SessionState, Ended, accepts_quit, reply_of, state_after, syncs_after, turn_of}
+use Rattle.vs_session.specs.Session.{SessionState, Ended, HasFound, accepts_quit, reply_of, state_after, syncs_after, turn_of}
 use Rattle.vs_session.specs.Standing.{FitsState}
+use Rattle.vs_session.specs.Summary.{acknowledged_in}
 use Rattle.vs_session.specs.Opened.{Opened, text_in}
 
 -- The session is in this state, and the folder has the swap files that these syncs, the newest first, made.
@@ -30,6 +31,7 @@ pub record Fits (session : Session) (disk : Disk) (state : SessionState) (syncs 
   pub saved : session.saved ≡ state.saved
   pub steps : session.steps ≡ state.steps
   pub options : session.options ≡ state.options
+  pub acknowledged : session.acknowledged ≡ acknowledged_in syncs
 
 -- the names of the file and of what goes with it
 abbrev pub names_of : Session → Names
@@ -79,6 +81,7 @@ pub record Answers (state : SessionState) (syncs : List Sync) (instruction : Ins
   pub not_quit : accepts_quit state instruction ≡ false
   pub ended : Ended
   pub mark_is : ended.mark ≡ mark
+  pub found : HasFound state instruction ended
   pub reply_is : reply ≡ reply_of state instruction ended
   pub fits : Fits after new.folder (state_after state instruction ended) (syncs_after state instruction ended syncs)
   pub stepped : Stepped (names_of before) syncs (turn_of state instruction ended) old new

@@ -1,6 +1,9 @@
+pub mod Taken
 pub mod Session
 pub mod Opened
 pub mod Open
 pub mod Standing
+pub mod Summary
 pub mod Fits
 pub mod Writes
+pub mod Stores

@@ -1,14 +1,16 @@
 -- What a session is between two commands, and what a command comes to in it.
-use Rattle.std.specs.Prelude.{ℕ, ◌+◌, length, is_some, is_none, Bool, true, false, ◌==◌, ◌&&◌, ◌||◌, nat_le, not, min, if◌then◌else◌, List, [], ◌∷◌, ◌++◌, Option, Some, None, Result, Ok, Err}
+use Rattle.std.specs.Prelude.{ℕ, ◌+◌, length, is_some, is_none, Bool, true, false, ◌≡◌, ◌==◌, ◌&&◌, ◌||◌, nat_le, not, min, if◌then◌else◌, List, [], ◌∷◌, ◌++◌, Option, Some, None, Result, Ok, Err}
 use Rattle.vs_host.specs.Disk.{Disk, content_in}
+use Rattle.vs_host.specs.Names.{names_of_file}
 use Rattle.vs_text.specs.Text.{file_of}
 use Rattle.vs_exparse.specs.Command.{Command}
-use Rattle.vs_exparse.specs.Command.Command.{Undo, Redo, Earlier, Later, Write, Preserve, Quit, Set}
+use Rattle.vs_exparse.specs.Command.Command.{Undo, Redo, Earlier, Later, Write, Preserve, Quit, Set, WriteUndo, ReadUndo}
 use Rattle.vs_exparse.specs.declared.command.ExErr.{ExErr}
 use Rattle.vs_exparse.specs.declared.command.Setting.{Setting}
 use Rattle.vs_backup.specs.declared.options.WriteOptions.{WriteOptions}
 use Rattle.vs_backup.specs.Backups.{backup_of}
 use Rattle.vs_options.specs.Options.{first_options, full_text, options_with}
+use Rattle.vs_options.specs.declared.setting.Options.{Options}
 use Rattle.vs_excmd.specs.Meaning.{changes_text}
 use Rattle.vs_excmd.specs.Request.{Instruction}
 use Rattle.vs_machine.specs.declared.command.Mark.{Mark}
@@ -16,30 +18,41 @@ use Rattle.vs_machine.specs.declared.command.Outcome.{Outcome}
 use Rattle.vs_machine.specs.declared.command.Outcome.TheVariants.{Done, NoMemory, Fault}
 use Rattle.vs_machine.specs.Machine as machine
 use Rattle.vs_machine.specs.Machine.{State, first_state, current_of, is_done}
-use Rattle.vs_machine.specs.Replies.{Answer, says, refuses, error_text, file_preserved, no_write, no_backup_name, written_line}
-use Rattle.vs_undo.specs.History.{history_marked}
+use Rattle.vs_machine.specs.Replies.{Answer, says, refuses, file_preserved, no_write, no_backup_name, undo_file_written, written_line}
+use Rattle.vs_undo.specs.History.{History, history_marked}
 use Rattle.vs_safety.specs.Texts.{Text, Sync}
 use Rattle.vs_safety.specs.Writes as writes
+use Rattle.vs_safety.specs.Undo.{UndoWrite}
+use Rattle.vs_safety.specs.FileWork.{FileWork, EditedFile, UndoFile}
 use Rattle.vs_safety.specs.Turns.{Turn, with_sync}
+use Rattle.vs_session.specs.declared.taking.TakeErr.{TakeErr}
+use Rattle.vs_session.specs.Taken.{IsTaken, outcome_by, taken_reply}
 
--- The name of the file, the state of the machine, the number of its state that was opened or last written, how many steps since the
--- last acknowledged sync made a change or moved to another state, counted up to 200, and the options.
+-- The name of the file, the state of the machine, the number of its state that was opened or last written, where there is one, how
+-- many steps since the last acknowledged sync made a change or moved to another state, counted up to 200, and the options.
 pub record SessionState : Type 0 where
   pub name : List ℕ
   pub machine : State
-  pub saved : ℕ
+  pub saved : Option ℕ
   pub steps : ℕ
-  pub options : WriteOptions
+  pub options : Options
 
 -- the state in which the text of a file is opened
 abbrev pub opened_state : List ℕ → Text → SessionState
-opened_state name text = record { name = name; machine = first_state text; saved = current_of (first_state text); steps = 0; options = first_options }
+opened_state name text = record { name = name; machine = first_state text; saved = Some (current_of (first_state text)); steps = 0; options = first_options }
 
--- How a command ended: its mark, whether the sync that it began is acknowledged, and the folder when it began.
+-- whether a state is the one that was opened or last written
+abbrev pub is_saved : Option ℕ → ℕ → Bool
+is_saved None number = false
+is_saved (Some saved) number = number == saved
+
+-- How a command ended: its mark, whether the sync that it began is acknowledged, the folder when it began, and what `rundo` found
+-- there. No other command looks at that.
 pub record Ended : Type 0 where
   pub mark : Mark
   pub acknowledged : Bool
   pub found : Disk
+  pub read : Result History TakeErr
 
 -- whether a command was answered that a call on the folder failed
 abbrev pub is_fault : Outcome → Bool
@@ -73,7 +86,7 @@ begins_sync state instruction = begins_after state.steps instruction.parsed
 
 -- whether the text has changes that are not in the edited file
 abbrev pub is_dirty : SessionState → Bool
-is_dirty state = not (current_of state.machine == state.saved)
+is_dirty state = not (is_saved state.saved (current_of state.machine))
 
 -- the sync that a command begins, which ended so
 abbrev pub sync_in : SessionState → Bool → Sync
@@ -92,48 +105,99 @@ abbrev pub is_write : Result Command ExErr → Bool
 is_write (Ok (Write bang)) = true
 is_write parsed = false
 
+abbrev pub is_wundo : Result Command ExErr → Bool
+is_wundo (Ok WriteUndo) = true
+is_wundo parsed = false
+
+-- whether a command writes files beside the swap files
+abbrev pub writes_files : Result Command ExErr → Bool
+writes_files parsed = is_write parsed || is_wundo parsed
+
+abbrev pub is_rundo : Result Command ExErr → Bool
+is_rundo (Ok ReadUndo) = true
+is_rundo parsed = false
+
+-- whether a command writes or reads files beside the swap files
+abbrev pub uses_files : Result Command ExErr → Bool
+uses_files parsed = writes_files parsed || is_rundo parsed
+
 -- whether a write of the file of this name finds every name taken that its backup may get
 abbrev pub lacks_name : WriteOptions → List ℕ → Disk → Bool
 lacks_name options name found = ((not options.backup && options.writebackup) && is_some (content_in found name)) && is_none (backup_of options name found)
 
 -- whether a command writes the file, where it is one that does and its sync is acknowledged
 abbrev pub begins_write : SessionState → Instruction → Ended → Bool
-begins_write state instruction ended = (is_write instruction.parsed && ended.acknowledged) && not (lacks_name state.options state.name ended.found)
+begins_write state instruction ended = (is_write instruction.parsed && ended.acknowledged) && not (lacks_name state.options.write state.name ended.found)
 
--- the write of the file that a command begins
+-- the write of the file that `w` begins
 abbrev pub write_in : SessionState → Disk → writes.Write
-write_in state found = record { options = state.options; text = state.machine.text; found = found }
+write_in state found = record { options = state.options.write; text = state.machine.text; found = found }
 
-abbrev pub write_of : SessionState → Instruction → Ended → Option writes.Write
-write_of state instruction ended = if begins_write state instruction ended then Some (write_in state ended.found) else None
+-- the undo file that `wundo` stores: of the text and the history as they are
+abbrev pub undo_in : SessionState → Disk → UndoWrite
+undo_in state found = record { text = state.machine.text; history = state.machine.history; found = found }
 
--- whether it was carried out
+abbrev pub undo_work : SessionState → Disk → Result Command ExErr → Option FileWork
+undo_work state found (Ok WriteUndo) = Some (UndoFile (undo_in state found))
+undo_work state found parsed = None
+
+-- the files that a command writes beside the swap files
+abbrev pub work_of : SessionState → Instruction → Ended → Option FileWork
+work_of state instruction ended = if begins_write state instruction ended then Some (EditedFile (write_in state ended.found)) else undo_work state ended.found instruction.parsed
+
+-- whether the file was written
 abbrev pub has_written : SessionState → Instruction → Ended → Bool
 has_written state instruction ended = begins_write state instruction ended && is_done ended.mark.outcome
 
+-- ---- the undo file that is read
+
+-- What is known of a command that ended so: `rundo` found this in the folder, and its mark says so.
+abbrev pub HasFound : SessionState → Instruction → Ended → Type 0
+HasFound state instruction ended =
+    is_rundo instruction.parsed ≡ true → IsTaken state.machine.text (content_in ended.found (names_of_file state.name).undo) ended.read × (ended.mark.outcome ≡ outcome_by ended.read)
+
+-- the history that `rundo` takes from what it found
+abbrev pub history_in : Result History TakeErr → Option History
+history_in (Ok history) = Some history
+history_in (Err error) = None
+
+abbrev pub history_by : Result Command ExErr → Result History TakeErr → Option History
+history_by (Ok ReadUndo) read = history_in read
+history_by parsed read = None
+
+-- the history that a command takes
+abbrev pub history_taken : Instruction → Ended → Option History
+history_taken instruction ended = if is_done ended.mark.outcome then history_by instruction.parsed ended.read else None
+
+-- The state with another history of its text. Where the current state was the one that was opened or last written, that of the new
+-- history is the one now. Else none is.
+abbrev pub with_history : Option History → SessionState → SessionState
+with_history None state = state
+with_history (Some history) state = record state {
+  machine = record (state.machine) { history = history };
+  saved = if is_saved state.saved (current_of state.machine) then Some history.links.current else None;
+}
+
 -- ---- replies
 
--- the reply to a setting, by the options after it, or why it is refused
-abbrev pub set_reply : Setting → Result WriteOptions ExErr → Answer
-set_reply setting (Ok options) = says (full_text setting)
-set_reply setting (Err error) = refuses (error_text error)
-
 -- what the session itself answers to a command that was carried out; all others are the machine's
-abbrev pub own_reply : WriteOptions → Result Command ExErr → Option Answer
-own_reply options (Ok Preserve) = Some (says file_preserved)
-own_reply options (Ok (Quit bang)) = Some (refuses no_write)
-own_reply options (Ok (Set setting)) = Some (set_reply setting (options_with options setting))
-own_reply options parsed = None
+abbrev pub own_reply : Result Command ExErr → Option Answer
+own_reply (Ok Preserve) = Some (says file_preserved)
+own_reply (Ok (Quit bang)) = Some (refuses no_write)
+own_reply (Ok (Set setting)) = Some (says (full_text setting))
+own_reply parsed = None
 
 -- the reply to a write: how many lines and bytes were written, or that no backup name is free
 abbrev pub write_reply : SessionState → Disk → Answer
 write_reply state found =
-    if lacks_name state.options state.name found then refuses no_backup_name else says (written_line state.name (length state.machine.text) (length (file_of state.machine.text)))
+    if lacks_name state.options.write state.name found then refuses no_backup_name else says (written_line state.name (length state.machine.text) (length (file_of state.machine.text)))
 
--- the session's reply to a command that found the folder so
-abbrev pub session_reply : SessionState → Disk → Result Command ExErr → Option Answer
-session_reply state found (Ok (Write bang)) = Some (write_reply state found)
-session_reply state found parsed = own_reply state.options parsed
+-- the session's reply to a command that found the folder so, and there this undo file
+abbrev pub session_reply : SessionState → Disk → Result History TakeErr → Result Command ExErr → Option Answer
+session_reply state found read (Ok (Write bang)) = Some (write_reply state found)
+session_reply state found read (Ok WriteUndo) = Some (says undo_file_written)
+session_reply state found read (Ok ReadUndo) = Some (taken_reply read)
+session_reply state found read parsed = own_reply parsed
 
 abbrev pub answered : Outcome → Option Answer → Answer → Answer
 answered Done (Some own) reply = own
@@ -141,7 +205,7 @@ answered outcome own reply = reply
 
 -- the reply to a command that ended so
 abbrev pub reply_of : SessionState → Instruction → Ended → Answer
-reply_of state instruction ended = answered ended.mark.outcome (session_reply state ended.found instruction.parsed) (machine.reply_of state.machine instruction ended.mark)
+reply_of state instruction ended = answered ended.mark.outcome (session_reply state ended.found ended.read instruction.parsed) (machine.reply_of state.machine instruction ended.mark)
 
 -- whether `q` or `q!` is accepted: `q!` always, and `q` where the current state is the one that was opened or last written
 abbrev pub quits : Result Command ExErr → Bool → Bool
@@ -149,7 +213,7 @@ quits (Ok (Quit bang)) is_saved = bang || is_saved
 quits parsed is_saved = false
 
 abbrev pub accepts_quit : SessionState → Instruction → Bool
-accepts_quit state instruction = quits instruction.parsed (current_of state.machine == state.saved)
+accepts_quit state instruction = quits instruction.parsed (is_saved state.saved (current_of state.machine))
 
 -- ---- the state after a command
 
@@ -161,17 +225,12 @@ after_sync state synced = record state { steps = if synced then 0 else state.ste
 abbrev pub counted : ℕ → Bool → ℕ
 counted steps same = if same then steps else min steps_between_syncs (steps + 1)
 
--- the options after a setting, which are as before where it is refused
-abbrev pub set_or : WriteOptions → Result WriteOptions ExErr → WriteOptions
-set_or options (Ok new) = new
-set_or options (Err error) = options
-
 -- the options after a command that was carried out
-abbrev pub options_set : WriteOptions → Result Command ExErr → WriteOptions
-options_set options (Ok (Set setting)) = set_or options (options_with options setting)
+abbrev pub options_set : Options → Result Command ExErr → Options
+options_set options (Ok (Set setting)) = options_with options setting
 options_set options parsed = options
 
-abbrev pub options_after : Outcome → WriteOptions → Result Command ExErr → WriteOptions
+abbrev pub options_after : Outcome → Options → Result Command ExErr → Options
 options_after Done options parsed = options_set options parsed
 options_after NoMemory options parsed = options
 options_after Fault options parsed = options
@@ -192,13 +251,13 @@ carried state instruction mark =
 abbrev pub written_state : SessionState → SessionState
 written_state state = record state {
   machine = record (state.machine) { history = history_marked state.machine.history };
-  saved = current_of state.machine;
+  saved = Some (current_of state.machine);
 }
 
 abbrev pub state_after : SessionState → Instruction → Ended → SessionState
 state_after state instruction ended =
     let synced = after_sync state (begins_sync state instruction && ended.acknowledged) in
-    if has_written state instruction ended then written_state synced else carried synced instruction ended.mark
+    if has_written state instruction ended then written_state synced else with_history (history_taken instruction ended) (carried synced instruction ended.mark)
 
 -- ---- the commands of a run
 
@@ -207,7 +266,7 @@ abbrev pub turn_of : SessionState → Instruction → Ended → Turn
 turn_of state instruction ended = record {
   found = Some ended.found;
   sync = sync_of state instruction ended;
-  write = write_of state instruction ended;
+  write = work_of state instruction ended;
   done = is_done ended.mark.outcome;
   failed = is_fault ended.mark.outcome;
   reply = (reply_of state instruction ended).bytes;

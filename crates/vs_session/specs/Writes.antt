@@ -36,10 +36,10 @@ state_to state (Err why) = state
 -- What a write did to the file, its backup, the swap files and all other names, and what it answered.
 pub record Wrote (state : SessionState) (syncs : List Sync) (before after : Session) (outcome : Outcome) (reply : Answer) (old new : Scene) : Type 0 where
   pub result : Result ℕ WriteErr
-  pub file : WritesFile state.options (names_of before) (file_of state.machine.text) old new result
-  pub no_name : result ≡ Err error.NoBackupName → IsNoName state.options (names_of before).file true old.folder
+  pub file : WritesFile state.options.write (names_of before) (file_of state.machine.text) old new result
+  pub no_name : result ≡ Err error.NoBackupName → IsNoName state.options.write (names_of before).file true old.folder
   pub swap : Runs (KeepsSwap (names_of before) (recoverable syncs)) old new
-  pub others : SparesStill (WorksOn state.options (names_of before).file old.folder) old new
+  pub others : SparesStill (WorksOn state.options.write (names_of before).file old.folder) old new
   pub outcome_is : outcome ≡ outcome_to result
   pub reply_is : reply ≡ reply_to state result
   pub fits : Fits after new.folder (state_to state result) syncs

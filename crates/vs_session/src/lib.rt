@@ -2,16 +2,23 @@
 #![tactic(auto)]
 
 mod answering;
+mod binding;
 mod ending;
 mod looking;
 mod open;
 mod opening;
 mod reading;
+mod replacing;
 mod session;
 mod step;
+mod storing;
+mod summary;
+mod taking;
+mod unbinding;
 mod writing;
 
 pub use ending::End;
 pub use open::OpenErr;
 pub use session::{Session, Step};
+pub use summary::Summary;
 pub use vs_machine::{Block, Mark, Outcome, Reply, Request};

@@ -112,8 +112,9 @@ impl Session {
             text,
             cursor,
             history,
-            saved: 0,
+            saved: Some(0),
             steps: 0,
+            acknowledged: 1,
             options: first_options(),
         })
     }

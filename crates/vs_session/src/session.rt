@@ -1,10 +1,10 @@
 // The session, and the answer to a command.
-ghost use Rattle.std.specs.Prelude.{◌≡◌, ◌≤◌, length, string_bytes};
+ghost use Rattle.std.specs.Prelude.{◌≡◌, ◌<◌, ◌≤◌, length, string_bytes};
 ghost use Rattle.vs_host.specs.Names.{names_of_file};
 ghost use Rattle.vs_paged.specs.Fits.{names_of};
 
-use vs_backup::WriteOptions;
 use vs_machine::{Mark, Reply, UndoTree};
+use vs_options::Options;
 use vs_paged::PagedText;
 
 /// The number of steps that changed the text after which it is synced.
@@ -19,14 +19,17 @@ pub struct Session {
     pub(crate) text: PagedText,
     pub(crate) cursor: u64,
     pub(crate) history: UndoTree,
-    // The number of the state that was opened or last written.
-    pub(crate) saved: u64,
+    // The number of the state that was opened or last written, where there is one.
+    pub(crate) saved: Option<u64>,
     // The steps since the last acknowledged sync that led to another state, counted up to 200.
     pub(crate) steps: u64,
-    pub(crate) options: WriteOptions,
+    // The syncs that were acknowledged, with that of the opening.
+    pub(crate) acknowledged: u64,
+    pub(crate) options: Options,
     ghost short: { length (string_bytes name) ≤ 200 },
     ghost named: { names_of text ≡ names_of_file (string_bytes name) },
     ghost few_steps: { steps ≤ 200 },
+    ghost few_syncs: { acknowledged < text.pair.files.generation },
 }
 
 /// The answer to one command.

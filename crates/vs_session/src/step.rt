@@ -1,5 +1,5 @@
 // One step of a session.
-ghost use Rattle.std.specs.Prelude.{◌≡◌, ◌+◌, ◌<◌, ◌≤◌, ◌==◌, ◌^◌, ◌∷◌, ℕ, List, None, true, false, IsErr, IsTrue, OnErr, OnOk, length};
+ghost use Rattle.std.specs.Prelude.{◌≡◌, ◌+◌, ◌<◌, ◌≤◌, ◌^◌, ◌∷◌, ℕ, List, None, true, false, IsErr, IsTrue, OnErr, OnOk, length};
 ghost use Rattle.vs_faults.specs.Faults.{HasCause};
 ghost use Rattle.vs_host.specs.World.{ChangesFolder, ReadsFolder};
 ghost use Rattle.vs_disk.specs.Runs.{Looks};
@@ -12,20 +12,18 @@ ghost use Rattle.vs_machine.specs.declared.command.Mark.{Mark};
 ghost use Rattle.vs_safety.specs.Texts.{Sync};
 ghost use Rattle.vs_paged.specs.Fits.{Syncing};
 ghost use Rattle.vs_session.specs.Fits.{Fits, FitsUndo, IsFault, IsMarkedAt, IsStep, IsTimed, SameFile, StepsIn, generation_of, names_of};
-ghost use Rattle.vs_options.specs.Options.{options_with};
-ghost use Rattle.vs_session.specs.Session.{SessionState, after_sync, answered, begins_after, carried, counted, is_move, is_write, options_set, own_reply, quits, set_reply, sync_in};
+ghost use Rattle.vs_session.specs.Session.{SessionState, after_sync, answered, begins_after, carried, counted, is_move, is_rundo, is_saved, is_write, is_wundo, options_set, own_reply, quits, sync_in, uses_files};
 
 use crate::answering::answer_text;
 use crate::session::STEPS_BETWEEN_SYNCS;
 use crate::{Session, Step};
 use std::alloc::Global;
-use vs_backup::WriteOptions;
 use vs_edit::StoreErr;
 use vs_excmd::{Request, changes_text};
-use vs_exparse::{Command, Setting};
+use vs_exparse::Command;
 use vs_host::{Failed, Folder, Host};
 use vs_machine::{Answered, Mark, Outcome, Reply};
-use vs_options::{full_text, set};
+use vs_options::{Options, full_text, set};
 
 // Whether a command moves to another state of the history.
 fn is_move(command: &Command) -> bool
@@ -49,6 +47,20 @@ fn counted(steps: u64, same: bool) -> u64
     (steps + 1).min(STEPS_BETWEEN_SYNCS)
 }
 
+// Whether the command is `wundo`.
+fn is_wundo(request: &Request) -> bool
+    ensures { result ≡ is_wundo (result_of request.now.parsed) }
+{
+    matches!(request.parsed, Ok(Command::WriteUndo))
+}
+
+// Whether the command is `rundo`.
+fn is_rundo(request: &Request) -> bool
+    ensures { result ≡ is_rundo (result_of request.now.parsed) }
+{
+    matches!(request.parsed, Ok(Command::ReadUndo))
+}
+
 // Whether the command is `w`.
 fn is_write(request: &Request) -> bool
     ensures { result ≡ is_write (result_of request.now.parsed) }
@@ -56,48 +68,45 @@ fn is_write(request: &Request) -> bool
     matches!(request.parsed, Ok(Command::Write { .. }))
 }
 
-// The answer to a setting.
-fn set_reply(options: &WriteOptions, setting: Setting) -> Reply
-    ensures { result ≡ set_reply setting (options_with options.now setting) }
-{
-    match set(options, setting) {
-        Ok(_) => Reply::says(full_text(setting)),
-        Err(error) => Reply::error(error),
-    }
-}
-
 // What the session itself answers to a command that is no accepted quit.
-fn own_reply(options: &WriteOptions, request: &Request) -> Option<Reply>
-    ensures { result ≡ own_reply options.now (result_of request.now.parsed) }
+fn own_reply(request: &Request) -> Option<Reply>
+    ensures { result ≡ own_reply (result_of request.now.parsed) }
 {
     match &request.parsed {
         Ok(Command::Preserve) => Some(Reply::preserved()),
         Ok(Command::Quit { .. }) => Some(Reply::no_write()),
-        Ok(Command::Set { setting }) => Some(set_reply(options, *setting)),
+        Ok(Command::Set { setting }) => Some(Reply::says(full_text(*setting))),
         _ => None,
     }
 }
 
 // The options after a command that was carried out.
-fn options_set(options: &WriteOptions, request: &Request) -> WriteOptions
+fn options_set(options: &Options, request: &Request) -> Options
     ensures { result ≡ options_set options.now (result_of request.now.parsed) }
 {
     match &request.parsed {
-        Ok(Command::Set { setting }) => match set(options, *setting) {
-            Ok(new) => new,
-            Err(_) => *options,
-        },
+        Ok(Command::Set { setting }) => set(options, *setting),
         _ => *options,
     }
 }
 
 impl Session {
+    // Whether the current state is the one that was opened or last written.
+    pub(crate) fn is_saved(&self) -> bool
+        ensures { result ≡ is_saved self.now.saved self.now.history.current }
+    {
+        match self.saved {
+            Some(saved) => self.history.current() == saved,
+            None => false,
+        }
+    }
+
     // Whether the command is a `q` or `q!` that is accepted.
     fn accepts_quit(&self, request: &Request) -> bool
-        ensures { result ≡ quits (result_of request.now.parsed) (self.now.history.current == self.now.saved) }
+        ensures { result ≡ quits (result_of request.now.parsed) (is_saved self.now.saved self.now.history.current) }
     {
         match request.parsed {
-            Ok(Command::Quit { bang }) => bang || self.history.current() == self.saved,
+            Ok(Command::Quit { bang }) => bang || self.is_saved(),
             _ => false,
         }
     }
@@ -132,8 +141,10 @@ impl Session {
         ensures none { OnOk result (NoneFails F.tells (F.scene host.old) (F.scene host.new)) }
         ensures cause { HasCause (F.scene host.old).folder_faults (F.scene host.new).folder_faults (IsErr result) }
     {
-        self.text.sync(host, self.history.current() != self.saved)?;
+        let is_dirty = !self.is_saved();
+        self.text.sync(host, is_dirty)?;
         self.steps = 0;
+        self.acknowledged += 1;
         Ok(())
     }
 
@@ -146,7 +157,7 @@ impl Session {
         at: u64,
     ) -> (Outcome, Reply)
         requires form { IsFormed request.now }
-        requires own { own_reply self.old.options (result_of request.now.parsed) ≡ None }
+        requires own { own_reply (result_of request.now.parsed) ≡ None }
         requires undo { FitsUndo self.old }
         requires fits { IsTrue F.tells.folder → (state : SessionState) × (syncs : List Sync) × Fits self.old (F.scene host.old).folder state syncs }
         ensures reply { IsTrue F.tells.folder → (state : SessionState) (syncs : List Sync) (instruction : Instruction) → Fits self.old (F.scene host.old).folder state syncs
@@ -194,7 +205,7 @@ impl Session {
         requires fits { IsTrue F.tells.folder → (state : SessionState) × (syncs : List Sync) × Fits self.old (F.scene host.old).folder state syncs }
         ensures reply { IsTrue F.tells.folder → (state : SessionState) (syncs : List Sync) (instruction : Instruction) → Fits self.old (F.scene host.old).folder state syncs
             → IsRequest request.now instruction →
-            result.1 ≡ answered result.0 (own_reply state.options instruction.parsed) (machine_reply state.machine instruction (record { outcome = result.0; at = at })) }
+            result.1 ≡ answered result.0 (own_reply instruction.parsed) (machine_reply state.machine instruction (record { outcome = result.0; at = at })) }
         ensures fits { IsTrue F.tells.folder → (state : SessionState) (syncs : List Sync) (instruction : Instruction) → Fits self.old (F.scene host.old).folder state syncs
             → IsRequest request.now instruction → Fits self.new (F.scene host.new).folder (carried state instruction (record { outcome = result.0; at = at })) syncs }
         ensures looks { IsTrue F.tells.folder → Looks (F.scene host.old) (F.scene host.new) }
@@ -204,7 +215,7 @@ impl Session {
         ensures undo { FitsUndo self.new }
         ensures cause { HasCause (F.scene host.old).folder_faults (F.scene host.new).folder_faults (result.0 ≡ Outcome.Fault) }
     {
-        match own_reply(&self.options, request) {
+        match own_reply(request) {
             Some(reply) => {
                 self.options = options_set(&self.options, request);
                 (Outcome::Done, reply)
@@ -213,7 +224,7 @@ impl Session {
         }
     }
 
-    // Answers a command that begins a sync and writes no file.
+    // Answers a command that begins a sync and neither writes nor reads another file.
     fn answer_synced<F: Folder>(
         &mut self,
         alloc: Global,
@@ -222,8 +233,8 @@ impl Session {
         at: u64,
     ) -> Step
         requires form { IsFormed request.now }
-        requires goes_on { quits (result_of request.now.parsed) (self.old.history.current == self.old.saved) ≡ false }
-        requires plain { is_write (result_of request.now.parsed) ≡ false }
+        requires goes_on { quits (result_of request.now.parsed) (is_saved self.old.saved self.old.history.current) ≡ false }
+        requires plain { uses_files (result_of request.now.parsed) ≡ false }
         requires begins { begins_after self.old.steps (result_of request.now.parsed) ≡ true }
         requires room { generation_of self.old < 2 ^ 63 }
         requires undo { FitsUndo self.old }
@@ -258,7 +269,7 @@ impl Session {
     // Answers a command that is no accepted quit, with the sync that it begins before all else.
     fn answer<F: Folder>(&mut self, alloc: Global, host: &mut F, request: &Request, at: u64) -> Step
         requires form { IsFormed request.now }
-        requires goes_on { quits (result_of request.now.parsed) (self.old.history.current == self.old.saved) ≡ false }
+        requires goes_on { quits (result_of request.now.parsed) (is_saved self.old.saved self.old.history.current) ≡ false }
         requires room { generation_of self.old < 2 ^ 63 }
         requires undo { FitsUndo self.old }
         requires fits { IsTrue F.tells.folder → (state : SessionState) × (syncs : List Sync) × Fits self.old (F.scene host.old).folder state syncs }
@@ -273,6 +284,12 @@ impl Session {
     {
         if is_write(request) {
             return self.answer_write(alloc, host, at);
+        }
+        if is_wundo(request) {
+            return self.answer_wundo(alloc, host, at);
+        }
+        if is_rundo(request) {
+            return self.answer_rundo(alloc, host, at);
         }
         if self.begins_sync(request) {
             return self.answer_synced(alloc, host, request, at);
@@ -298,6 +315,7 @@ impl Session {
         ensures undo { FitsUndo self.new }
         ensures file { SameFile self.old self.new }
         ensures room { generation_of self.new ≤ generation_of self.old + 1 }
+        ensures quit { result ≡ Step.Quit → quits (result_of request.now.parsed) (is_saved self.old.saved self.old.history.current) ≡ true }
         ensures clock { IsTrue (H.tells).clock → IsTimed result (H.scene host.old) (H.scene host.new) }
         ensures frame { StepsIn (H.scene host.old) (H.scene host.new) }
         ensures cause { HasCause (H.scene host.old).folder_faults (H.scene host.new).folder_faults (IsFault result) }

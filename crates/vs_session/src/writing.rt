@@ -28,10 +28,10 @@ impl Session {
         ensures undo { FitsUndo self.new }
         ensures cause { HasCause (F.scene host.old).folder_faults (F.scene host.new).folder_faults (result.0 ≡ Outcome.Fault) }
     {
-        match write_text(alloc, &mut self.text, host, &self.options) {
+        match write_text(alloc, &mut self.text, host, &self.options.write) {
             Ok(bytes) => {
                 self.history.mark_write();
-                self.saved = self.history.current();
+                self.saved = Some(self.history.current());
                 let reply = Reply::written(&self.name, self.text.len(), bytes);
                 (Outcome::Done, reply)
             }

@@ -7,7 +7,7 @@ use vs_backup::{CopyMode, WriteOptions};
 use vs_memory::{Choice, Keep, MemHost};
 
 // The calls with which both swap files are made.
-const START: u64 = 17;
+const START: u64 = 15;
 
 // The greatest number of calls of a write here.
 const CALLS: u64 = 17;

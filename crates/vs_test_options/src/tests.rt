@@ -3,13 +3,13 @@ use std::process::Abort;
 use std::test::Fail;
 use vs_backup::{CopyMode, WriteOptions};
 use vs_exparse::{Command, ExErr, Parsed, parse};
-use vs_options::{first_options, full_text, set};
+use vs_options::{Options, first_options, full_text, set};
 
 // What a line answers. It changes the options unless it is refused.
-fn answer(options: &mut WriteOptions, line: &[u8]) -> Result<&'static [u8], ExErr> {
+fn answer(options: &mut Options, line: &[u8]) -> Result<&'static [u8], ExErr> {
     match parse(line)? {
         Parsed::Command(Command::Set { setting }) => {
-            *options = set(options, setting)?;
+            *options = set(options, setting);
             Ok(full_text(setting))
         }
         _ => Err(ExErr::E492),
@@ -33,13 +33,17 @@ fn options_are_set_and_told_in_full(rt: HostRuntime) -> Result<(), Fail> {
         b"set bk" => Ok(b"backup"),
         b"set nowb" => Ok(b"nowritebackup"),
         b"set bkc=yes" => Ok(b"backupcopy=yes"),
+        b"set udf" => Ok(b"undofile"),
         b"set bkc=maybe" => Err(ExErr::E474),
         b"set tw=3" => Err(ExErr::E518),
     }
-    let kept = WriteOptions {
-        backup: true,
-        writebackup: false,
-        copy: CopyMode::Yes,
+    let kept = Options {
+        write: WriteOptions {
+            backup: true,
+            writebackup: false,
+            copy: CopyMode::Yes,
+        },
+        undofile: true,
     };
     assert_eq!(rt; options, kept);
     Ok(())
@@ -59,6 +63,10 @@ fn each_name_sets_its_option(rt: HostRuntime) -> Result<(), Fail> {
         b"set bkc=no" => Ok(b"backupcopy=no"),
         b"set backupcopy=yes" => Ok(b"backupcopy=yes"),
         b"set bkc=auto" => Ok(b"backupcopy=auto"),
+        b"set udf" => Ok(b"undofile"),
+        b"set noudf" => Ok(b"noundofile"),
+        b"set undofile" => Ok(b"undofile"),
+        b"set noundofile" => Ok(b"noundofile"),
         b"set backupcopy=auto" => Ok(b"backupcopy=auto"),
     }
     assert_eq!(rt; options, first_options());
@@ -74,8 +82,7 @@ fn what_is_refused_leaves_the_options(rt: HostRuntime) -> Result<(), Fail> {
         b"set nobackupcopy" => Err(ExErr::E518),
         b"set backup=yes" => Err(ExErr::E474),
         b"set backup?" => Err(ExErr::E474),
-        b"set undofile" => Err(ExErr::E518),
-        b"set noudf" => Err(ExErr::E518),
+        b"set undofile=yes" => Err(ExErr::E474),
     }
     assert_eq!(rt; options, first_options());
     Ok(())

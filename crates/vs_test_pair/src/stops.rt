@@ -12,11 +12,11 @@ use vs_memory::{Choice, Keep, MemHost};
 use vs_pages::PAGE_SIZE;
 use vs_zero::Zero;
 
-// The calls of a life without faults: 17 of the start, 8 of each sync and 3 of the end.
-const CALLS: u64 = 36;
+// The calls of a life without faults: 15 of the start, 7 of each sync and 3 of the end.
+const CALLS: u64 = 32;
 
 // The calls of a start.
-const START: u64 = 17;
+const START: u64 = 15;
 
 // As many name changes as are pending at once in a life, and more: two files made, and two renamed.
 const PREFIXES: [u32; 6] = [0, 1, 2, 3, 4, u32::MAX];

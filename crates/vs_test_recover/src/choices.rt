@@ -37,8 +37,8 @@ fn rootless(alloc: Global) -> Result<Vec<u8>, Fail> {
 // The byte of a text of one line of one byte, or why there is none.
 fn chosen(host: &mut MemHost, alloc: Global) -> Result<Result<u8, RecErr>, Fail> {
     match choose(alloc, host, &names(alloc)?) {
-        Ok(Chosen::Text(text)) => match text.lines() {
-            [line] if line.bytes().len() == 1 => Ok(Ok(line.bytes()[0])),
+        Ok(Chosen::Text(text)) => match text.bytes() {
+            [byte, b'\n'] => Ok(Ok(*byte)),
             _ => Err(Fail::new("another text")),
         },
         Ok(Chosen::Salvage(Swap::Swp)) => Ok(Ok(b'1')),

@@ -127,11 +127,12 @@ pub fn said(alloc: Global, image: &Image) -> Result<String, Fail> {
     match image {
         Image::Standing { generation, text } => {
             let mut words = format!(in alloc; "stands {generation} ")?;
-            for line in text.lines() {
-                for byte in line.bytes() {
-                    words.push(char::from(*byte))?;
-                }
-                words.push('.')?;
+            for byte in text.bytes() {
+                words.push(if *byte == b'\n' {
+                    '.'
+                } else {
+                    char::from(*byte)
+                })?;
             }
             Ok(words)
         }

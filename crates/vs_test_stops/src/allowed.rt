@@ -13,7 +13,7 @@ pub struct Allowed<'a> {
 }
 
 /// The bytes after these, where they are the first ones.
-pub fn after<'a>(bytes: &'a [u8], first: &[u8]) -> Option<&'a [u8]> {
+fn after<'a>(bytes: &'a [u8], first: &[u8]) -> Option<&'a [u8]> {
     if bytes.starts_with(first) {
         return bytes.get(first.len()..);
     }

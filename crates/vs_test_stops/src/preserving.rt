@@ -11,11 +11,11 @@ const SCRIPT: &[u8] = b"$a\nb\n.\npreserve\nq!\n";
 
 const REPLIES: &[u8] = b"\"f\" 1L, 2B\nchange 1, 2 lines\nFile preserved\n";
 
-// The calls before those of the `preserve`: 22, the opening reply, the read of the script and one reply.
-const BEFORE: u64 = 22 + 1 + 1 + 1;
+// The calls before those of the `preserve`: 20, the opening reply, the read of the script and one reply.
+const BEFORE: u64 = 20 + 1 + 1 + 1;
 
 // The calls of a sync.
-const SYNC: u64 = 8;
+const SYNC: u64 = 7;
 
 // Whether `recover f` ends with status 0 over the image that the choice makes, and writes one of these files.
 fn recovers(

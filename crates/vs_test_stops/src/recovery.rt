@@ -1,5 +1,5 @@
 // What is recovered of the images of a folder.
-use crate::allowed::{Allowed, after, allowed_after};
+use crate::allowed::{Allowed, allowed_after};
 use crate::helpers::after_run;
 use crate::story::{FILE, Story};
 use std::alloc::Global;
@@ -7,7 +7,6 @@ use std::test::Fail;
 use vs_host::Names;
 use vs_memory::{Choice, Keep, MemHost};
 use vs_recover::{Chosen, RecErr, choose};
-use vs_text::Text;
 
 /// What a stop may leave where a file was changed and not synced: the bytes as read or as last synced, or one byte throughout.
 pub const KEEPS: [Keep; 7] = [
@@ -37,24 +36,9 @@ pub const CLOSING: u64 = 3 + 1;
 /// As many name changes as are pending at once in a run: two files made, and two renamed.
 pub const PREFIXES: [u32; 5] = [0, 1, 2, 3, 4];
 
-// Whether a text has this form as a file.
-fn is_text(text: &Text, file: &[u8]) -> bool {
-    let mut rest = file;
-    for line in text.lines() {
-        let Some(end) = after(rest, line.bytes()) else {
-            return false;
-        };
-        let Some(next) = after(end, b"\n") else {
-            return false;
-        };
-        rest = next;
-    }
-    rest.is_empty()
-}
-
 fn is_allowed(allowed: &Allowed<'_>, chosen: &Result<Chosen, RecErr>) -> bool {
     match chosen {
-        Ok(Chosen::Text(text)) => allowed.texts.iter().any(|file| is_text(text, file)),
+        Ok(Chosen::Text(text)) => allowed.texts.iter().any(|file| text.bytes() == *file),
         Err(RecErr::NoSwap) => allowed.none,
         Ok(Chosen::Salvage(_)) | Err(_) => false,
     }

@@ -43,14 +43,14 @@ const FAULT: Mark = Mark {
     at: 0,
 };
 
-// The last call of the first sync, which comes after 22 calls, the opening reply, the read of the script and one reply.
-const FAILING: u64 = 22 + 1 + 1 + 1 + 8;
+// The last call of the first sync, which comes after 20 calls, the opening reply, the read of the script and one reply.
+const FAILING: u64 = 20 + 1 + 1 + 1 + 7;
 
 // The second change has its reply after that of the first `pre`.
 const CHANGED: u64 = FAILING + 2;
 
-// The second `pre` has a sync of 8 calls and its reply.
-const PRESERVED: u64 = CHANGED + 8 + 1;
+// The second `pre` has a sync of 7 calls and its reply.
+const PRESERVED: u64 = CHANGED + 7 + 1;
 
 fn failed_run(alloc: Global, story: &Story) -> Result<(MemHost, Report), Fail> {
     let mut host = host_with(alloc, Some(FILE), &story.script)?;

@@ -110,9 +110,9 @@ const STORY: &str = ">$a
 <change 10, 5 lines
 ";
 
-// The calls of the run: 22 before the opening reply, which is one; one that reads the script; seven syncs of 8; one reply to each
+// The calls of the run: 20 before the opening reply, which is one; one that reads the script; seven syncs of 7; one reply to each
 // of 32 commands; three that remove the swap files, and one for the last line.
-const CALLS: u64 = 22 + 1 + 1 + 7 * 8 + 32 + CLOSING;
+const CALLS: u64 = 20 + 1 + 1 + 7 * 7 + 32 + CLOSING;
 
 #[test]
 fn the_run_comes_to_its_end(rt: HostRuntime) -> Result<(), Fail> {

@@ -15,13 +15,13 @@ use vs_ufile::{FileHistory, encode};
 use vs_undo::{UndoTree, change};
 
 #[derive(Drop)]
-struct Editor<S> {
-    tree: UndoTree,
-    text: S,
+pub struct Editor<S> {
+    pub tree: UndoTree,
+    pub text: S,
 }
 
 // A history of one state, which is the text of the store.
-fn begin<S: LineStore + Drop>(alloc: Global, text: S) -> Result<Editor<S>, AllocError>
+pub fn begin<S: LineStore + Drop>(alloc: Global, text: S) -> Result<Editor<S>, AllocError>
     requires { S.valid text }
     ensures { IfOk result (λ editor. IsReady S.LineStore editor.tree editor.text) }
 {
@@ -32,7 +32,7 @@ fn begin<S: LineStore + Drop>(alloc: Global, text: S) -> Result<Editor<S>, Alloc
 }
 
 // Puts a line behind the last one, at a time.
-fn append<S: LineStore>(
+pub fn append<S: LineStore>(
     alloc: Global,
     editor: &mut Editor<S>,
     line: &[u8],
@@ -59,7 +59,7 @@ fn append<S: LineStore>(
     Ok(())
 }
 
-fn go_to<S: LineStore>(alloc: Global, editor: &mut Editor<S>, number: u64) -> Result<(), Fail>
+pub fn go_to<S: LineStore>(alloc: Global, editor: &mut Editor<S>, number: u64) -> Result<(), Fail>
     requires { IsReady S.LineStore editor.old.tree editor.old.text }
     ensures { IsReady S.LineStore editor.new.tree editor.new.text }
 {
@@ -68,7 +68,7 @@ fn go_to<S: LineStore>(alloc: Global, editor: &mut Editor<S>, number: u64) -> Re
     Ok(())
 }
 
-fn data_of<S: LineStore>(
+pub fn data_of<S: LineStore>(
     alloc: Global,
     editor: &mut Editor<S>,
     save_next: bool,

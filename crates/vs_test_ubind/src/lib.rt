@@ -2,8 +2,12 @@
 #![tactic(auto)]
 
 #[cfg(test)]
+mod bindings;
+#[cfg(test)]
 mod digests;
 #[cfg(test)]
 mod files;
 #[cfg(test)]
 mod histories;
+#[cfg(test)]
+mod trees;

@@ -13,9 +13,9 @@ const SCRIPTS: [&[u8]; 4] = [
     b"set backup\nset bkc=yes\n$a\nx\n.\nw\nq!\n",
 ];
 
-// The calls before the write: 22 before the opening reply, which is one; one that reads the script; and the replies to `set` and to
+// The calls before the write: 20 before the opening reply, which is one; one that reads the script; and the replies to `set` and to
 // the change.
-const BEFORE: u64 = 22 + 1 + 1 + 2;
+const BEFORE: u64 = 20 + 1 + 1 + 2;
 
 fn is_whole(image: &MemHost, name: &str) -> bool {
     match image.file(name) {

@@ -10,7 +10,7 @@ use Rattle.vs_host.specs.declared.names.Names.{Names}
 use Rattle.vs_disk.specs.Runs.{Inside}
 use Rattle.vs_disk.proofs.Runs.{goes_weaker}
 use Rattle.vs_script.specs.Reads.{IsAsBefore, ReadsAll}
-use Rattle.vs_safety.specs.Writes.{Write}
+use Rattle.vs_safety.specs.FileWork.{FileWork}
 use Rattle.vs_safety.specs.Safety.{Spares, Works}
 use Rattle.vs_safety.specs.Causes.{IsCounted, script_count, output_count, folder_count}
 use Rattle.vs_safety.proofs.Causes.{counted_on, counted_told}
@@ -40,7 +40,7 @@ causes_on a b c (m ∷ marks) later all =
     All-cons (HasCause a c) m marks (λ is. risen_before (All-head (HasCause a b) m marks all is) later) (causes_on a b c marks later (All-tail (HasCause a b) m marks all))
 
 -- the output's count is kept by work on the folder
-pub counted_works : (names : Names) (write : Option Write) (P : Disk → Type 0) (old now mid : Scene) → mid.out_faults ≡ now.out_faults → Works names write P now mid → IsCounted output_count old now → IsCounted output_count old mid
+pub counted_works : (names : Names) (write : Option FileWork) (P : Disk → Type 0) (old now mid : Scene) → mid.out_faults ≡ now.out_faults → Works names write P now mid → IsCounted output_count old now → IsCounted output_count old mid
 counted_works names write P old now mid same works counted =
     counted_on output_count old now mid
     (goes_weaker (Inside mid (Spares names write P now.folder)) (λ m. m.out_faults ≡ now.out_faults) (λ m inside. inside.out_faults ∙ same) now.trace mid.trace works.moments) same counted

@@ -182,7 +182,7 @@ through tells name old new ending.NotSwap marks runs free = runs.counts
 through tells name old new (ending.TextLimit size) marks runs free = passes_no_limit (content_of old name) size free.file (runs.file free.told.folder)
 through tells name old new ending.ScriptTooLong marks runs free = omega (arith, free.script, (runs.told free.told).answered.longer)
 
-through_outcome : (o : Outcome) → (o ≡ outcome.Fault → ⊥) → (o ≡ outcome.Done) ⊎ (o ≡ outcome.NoMemory)
+pub through_outcome : (o : Outcome) → (o ≡ outcome.Fault → ⊥) → (o ≡ outcome.Done) ⊎ (o ≡ outcome.NoMemory)
 through_outcome outcome.Done calm = inl refl
 through_outcome outcome.NoMemory calm = inr refl
 through_outcome outcome.Fault calm = absurd (calm refl)

@@ -10,3 +10,9 @@ mod Stepping
 mod Opening
 mod Edits
 mod Forms
+pub mod StressSteps
+pub mod StressEnds
+pub mod StressClosing
+pub mod StressOpening
+pub mod StressForms
+pub mod StressCommands

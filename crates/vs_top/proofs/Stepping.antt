@@ -127,7 +127,7 @@ module _ (tells : Tells) (name : List ℕ) (old now read stepped : Scene) (sessi
     kept_did marks' kept = record {
       one_each = one_more commands ends taken.first ended here.one_each;
       marks_are = kept ∙ ap (λ (l : List Mark). l ++ mark ∷ []) here.marks_are ∙ ap (λ (m : Mark). map (λ (e : Ended). e.mark) ends ++ m ∷ []) (sym answers.mark_is) ∙ sym (map_push (λ (e : Ended). e.mark) ends ended);
-      none_quits = none_push taken.first ended first commands ends here.one_each here.none_quits answers.not_quit;
+      none_quits = none_push taken.first ended first commands ends here.one_each here.none_quits answers.not_quit answers.found;
     }
 
     written_are : old.output ++ (opening_at old name ++ replies (turns ++ turn ∷ [])) ≡ old.output ++ written (opened_file old name) commands' ends'

@@ -9,6 +9,8 @@ use Rattle.vs_session.specs.declared.open.OpenErr.{OpenErr}
 use Rattle.vs_session.specs.declared.open.OpenErr.TheVariants as opening
 use Rattle.vs_top.specs.declared.ending.Ending.{Ending}
 use Rattle.vs_top.specs.declared.ending.Ending.TheVariants as ending
+use Rattle.vs_edit.specs.declared.store.StoreErr.{StoreErr}
+use Rattle.vs_edit.specs.declared.store.StoreErr.TheVariants as store
 use Rattle.vs_script.specs.declared.reader.ScriptErr.{ScriptErr}
 use Rattle.vs_script.specs.declared.reader.ScriptErr.TheVariants as script
 
@@ -51,6 +53,10 @@ open_ending opening.SwapFound = ending.SwapFound
 open_ending (opening.TextLimit size) = ending.TextLimit size
 open_ending opening.Failed = ending.FolderFault
 open_ending opening.NoMemory = ending.NoMemory
+
+abbrev pub store_ending : StoreErr → Ending
+store_ending store.NoMemory = ending.NoMemory
+store_ending store.Failed = ending.FolderFault
 
 -- the ending of a run that went on to the script's end, or stopped before it
 abbrev pub ending_in : Result Ending Ending → Ending

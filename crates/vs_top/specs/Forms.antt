@@ -1,5 +1,5 @@
 -- The forms of the arguments, and what each of them does.
-use Rattle.std.specs.Prelude.{◌≡◌, ℕ, List, [], ◌∷◌, codes, IsTrue}
+use Rattle.std.specs.Prelude.{◌≡◌, ◌⊎◌, ℕ, List, [], ◌∷◌, codes, IsTrue}
 use Rattle.vs_faults.specs.Faults.{HasRisen}
 use Rattle.vs_host.specs.Disk.{Name}
 use Rattle.vs_host.specs.Names.{is_allowed, names_of_file, swp_of, swo_of}
@@ -15,6 +15,7 @@ use Rattle.vs_top.specs.declared.form.Mode.{Mode}
 use Rattle.vs_top.specs.declared.form.Mode.TheVariants as mode
 use Rattle.vs_top.specs.Ending.{ended_by}
 use Rattle.vs_top.specs.Run.{RunsEdit}
+use Rattle.vs_top.specs.Stress.{IsStress}
 
 -- the first argument of a form
 abbrev pub word_of : Mode → List ℕ
@@ -27,9 +28,13 @@ word_of mode.Discard = codes "discard"
 abbrev pub IsForm : List (List ℕ) → Mode → List ℕ → Type 0
 IsForm words mode name = (words ≡ word_of mode ∷ name ∷ []) × IsTrue (is_allowed name)
 
+-- The arguments are one of the forms with the name of a file.
+abbrev pub NamesFile : List (List ℕ) → Type 0
+NamesFile words = (mode : Mode) × (name : List ℕ) × IsForm words mode name
+
 -- The arguments are one of the forms that are built.
 abbrev pub IsBuilt : List (List ℕ) → Type 0
-IsBuilt words = (mode : Mode) × (name : List ℕ) × IsForm words mode name
+IsBuilt words = NamesFile words ⊎ ((count : ℕ) × IsStress words count)
 
 -- A mode other than `edit` ended so. It has no marks.
 abbrev pub EndsBy : (Ended → Type 0) → Ending → List Mark → Type 0

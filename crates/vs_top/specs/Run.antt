@@ -16,7 +16,7 @@ use Rattle.vs_machine.specs.declared.command.Outcome.TheVariants as outcome
 use Rattle.vs_safety.specs.Turns.{Closing, NotBegun, LastSync, Quits, Ran, preserved_line, quit_line}
 use Rattle.vs_safety.specs.Safety.{IsCrashSafe}
 use Rattle.vs_safety.specs.Causes.{RoseLast, script_count, output_count, folder_count}
-use Rattle.vs_session.specs.Session.{SessionState, Ended, accepts_quit, sync_in, state_after, states_after, turns_of, replies_of, any_error}
+use Rattle.vs_session.specs.Session.{SessionState, Ended, HasFound, accepts_quit, sync_in, state_after, states_after, turns_of, replies_of, any_error}
 use Rattle.vs_session.specs.Open.{PassesLimit}
 use Rattle.vs_session.specs.Opened.{Opened, opened, text_in}
 use Rattle.vs_session.specs.Fits.{HasSwap}
@@ -55,11 +55,11 @@ written file commands ends = (opening_of file.name file.found).bytes ++ replies_
 abbrev pub refuses_any : Opened → List Instruction → List Ended → Bool
 refuses_any file commands ends = any_error file.state commands ends
 
--- none of these commands was an accepted `q` or `q!`
+-- None of these commands was an accepted `q` or `q!`, and each `rundo` found what stood under the name of the undo file.
 abbrev pub NoneQuits : SessionState → List Instruction → List Ended → Type 0
 NoneQuits state [] ends = ⊤
 NoneQuits state (command ∷ commands) [] = ⊤
-NoneQuits state (command ∷ commands) (ended ∷ ends) = (accepts_quit state command ≡ false) × NoneQuits (state_after state command ended) commands ends
+NoneQuits state (command ∷ commands) (ended ∷ ends) = (accepts_quit state command ≡ false) × HasFound state command ended × NoneQuits (state_after state command ended) commands ends
 
 -- ---- what a run answered
 

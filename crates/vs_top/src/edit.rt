@@ -23,7 +23,7 @@ use vs_host::{Host, Out};
 use vs_script::{LineBuffer, ScriptReader};
 use vs_session::{End, Mark, Outcome, Reply, Session, Step};
 
-fn put<O: Out>(host: &mut O, reply: Reply) -> Result<(), Ending>
+pub(crate) fn put<O: Out>(host: &mut O, reply: Reply) -> Result<(), Ending>
     ensures some { 0 < length reply.bytes }
     ensures ok { OnOk result (IsTrue (O.tells).output → (O.scene host.new).output ≡ (O.scene host.old).output ++ reply.bytes) }
     ensures err { OnErr result (IsTrue (O.tells).output → (n : ℕ) × ((O.scene host.new).output ≡ (O.scene host.old).output ++ take n reply.bytes)) }
@@ -39,7 +39,7 @@ fn put<O: Out>(host: &mut O, reply: Reply) -> Result<(), Ending>
     }
 }
 
-fn is_clean(mark: Mark, reply: &Reply) -> bool
+pub(crate) fn is_clean(mark: Mark, reply: &Reply) -> bool
     ensures { result ≡ (is_done mark.outcome && not reply.now.is_error) }
 {
     match mark.outcome {
@@ -49,14 +49,14 @@ fn is_clean(mark: Mark, reply: &Reply) -> bool
 }
 
 /// Keeps the mark of a command, for which there is room.
-fn keep(marks: &mut Vec<Mark>, mark: Mark)
+pub(crate) fn keep(marks: &mut Vec<Mark>, mark: Mark)
     requires { vec_len marks.old < vec_capacity marks.old }
     ensures { marks.new.items ≡ marks.old.items ++ mark ∷ [] }
 {
     let _ = marks.push(mark);
 }
 
-fn ending_of(clean: bool) -> Ending
+pub(crate) fn ending_of(clean: bool) -> Ending
     ensures { result ≡ (if clean then Ending.Done else Ending.WithErrors) }
 {
     if clean {
@@ -77,7 +77,7 @@ fn last_line(how: End) -> Reply
 }
 
 // Ends the session.
-fn finish<H: Host>(session: Session, host: &mut H, how: End) -> Result<(), Ending>
+pub(crate) fn finish<H: Host>(session: Session, host: &mut H, how: End) -> Result<(), Ending>
     requires room { generation_of session < 2 ^ 63 }
     requires fits { IsTrue (H.tells).folder → (state : SessionState) × (syncs : List Sync) × Fits session (H.scene host.old).folder state syncs }
     ensures sync { how ≡ End.Sync → IsTrue (H.tells).folder → (state : SessionState) (syncs : List Sync) → Fits session (H.scene host.old).folder state syncs

@@ -3,6 +3,7 @@ ghost use Rattle.std.specs.Prelude.{◌≡◌, MatchOption, None, Some};
 ghost use Rattle.vs_top.specs.Ending.{status_of, message_of};
 
 use std::alloc::AllocError;
+use vs_edit::StoreErr;
 use vs_host::Failed;
 use vs_modes::ModeErr;
 use vs_script::ScriptErr;
@@ -101,6 +102,19 @@ impl From<Failed> for Ending {
 
     fn from(_: Failed) -> Self {
         Ending::FolderFault
+    }
+}
+
+impl From<StoreErr> for Ending {
+    ghost use Rattle.vs_top.specs.Ending.{store_ending};
+
+    ghost from_gives = { λ error e. e ≡ store_ending error };
+
+    fn from(error: StoreErr) -> Self {
+        match error {
+            StoreErr::NoMemory => Ending::NoMemory,
+            StoreErr::Failed => Ending::FolderFault,
+        }
     }
 }
 

@@ -1,8 +1,10 @@
 // The forms of the arguments.
-ghost use Rattle.std.specs.Prelude.{◌≡◌, ◌≢◌, IfSome, IsNone, map, string_bytes};
-ghost use Rattle.vs_top.specs.Forms.{IsForm, IsBuilt, word_of};
+ghost use Rattle.std.specs.Prelude.{◌≡◌, ◌≢◌, ℕ, IfSome, IsNone, map, string_bytes};
+ghost use Rattle.vs_top.specs.Forms.{IsForm, NamesFile, word_of};
+ghost use Rattle.vs_top.specs.Stress.{IsStress};
 
 use vs_host::allowed;
+use vs_stress::count_of;
 
 /// What is done with the file of a name.
 #[derive(Clone, Copy, Debug, PartialEq, Eq)]
@@ -33,10 +35,10 @@ fn mode_of(word: &str) -> Option<Mode>
     }
 }
 
-/// The form of the arguments, where they have one that is built.
+/// The form of the arguments, where they have one with the name of a file.
 pub fn form_of(words: &[String]) -> Option<Form<'_>>
     ensures some { IfSome result (λ form. IsForm (map string_bytes words.entry.now) form.mode form.name.now) }
-    ensures none { IsNone result → ¬ IsBuilt (map string_bytes words.entry.now) }
+    ensures none { IsNone result → ¬ NamesFile (map string_bytes words.entry.now) }
 {
     let [word, name] = words else {
         return None;
@@ -47,4 +49,18 @@ pub fn form_of(words: &[String]) -> Option<Form<'_>>
         return None;
     }
     Some(Form { mode, name })
+}
+
+/// The number of commands that the arguments ask for, where they are those of the stress mode.
+pub fn stress_count(words: &[String]) -> Option<u64>
+    ensures some { IfSome result (λ count. IsStress (map string_bytes words.now) count) }
+    ensures none { IsNone result → (count : ℕ) → ¬ IsStress (map string_bytes words.now) count }
+{
+    let [word, number] = words else {
+        return None;
+    };
+    if word.as_str() != "stress" {
+        return None;
+    }
+    count_of(number.as_str())
 }

@@ -5,6 +5,7 @@ mod edit;
 mod ending;
 mod form;
 mod runs;
+mod stress;
 
 pub use ending::Ending;
 pub use form::Mode;

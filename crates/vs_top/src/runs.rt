@@ -1,16 +1,18 @@
 // The top call, and the forms of its arguments.
-ghost use Rattle.std.specs.Prelude.{◌≡◌, ◌⊎◌, ◌<◌, ◌^◌, [], List, ℕ, length, map, All, IsTrue, string_bytes};
+ghost use Rattle.std.specs.Prelude.{◌≡◌, ◌⊎◌, ◌<◌, ◌≤◌, ◌^◌, [], List, ℕ, length, map, All, IsTrue, string_bytes};
 ghost use Rattle.vs_host.specs.Names.{is_allowed, names_of_file};
 ghost use Rattle.vs_modes.specs.Recover.{RunsRecover};
 ghost use Rattle.vs_modes.specs.Info.{RunsInfo};
 ghost use Rattle.vs_modes.specs.Discard.{RunsDiscard};
 ghost use Rattle.vs_top.specs.Ending.{status_of, ending_in, ended_by};
-ghost use Rattle.vs_top.specs.Forms.{EndsBy, Gives, IsBuilt, IsForm, IsSpared, Performs};
+ghost use Rattle.vs_top.specs.Forms.{EndsBy, Gives, IsBuilt, IsForm, IsSpared, NamesFile, Performs};
+ghost use Rattle.vs_top.specs.Stress.{IsStress, IsStressUnhindered, RunsStress};
 ghost use Rattle.vs_top.specs.Run.{IsEdit, IsThrough, IsThroughMark, IsUnhindered, RunsEdit};
 
 use crate::edit::edit;
 use crate::ending::Ending;
-use crate::form::{Form, Mode, form_of};
+use crate::form::{Form, Mode, form_of, stress_count};
+use crate::stress::stress;
 use std::alloc::Global;
 use vs_host::Host;
 use vs_modes::{ModeErr, discard, info, recover};
@@ -74,9 +76,49 @@ fn perform<H: Host>(alloc: Global, form: Form<'_>, host: &mut H, marks: &mut Vec
     }
 }
 
-/// Does what the arguments say with the file of a name: `edit NAME` runs the script of the host over it, and `recover NAME`,
-/// `info NAME` and `discard NAME` go to its swap files. With other arguments it ends with `Usage`, takes no memory and makes no
-/// call.
+// Does what arguments with the name of a file say. With other arguments it ends with `Usage`.
+fn run_form<H: Host>(alloc: Global, words: &[String], host: &mut H) -> Report
+    requires clock { IsTrue (H.tells).clock → length (H.scene host.old).answers < 2 ^ 62 }
+    requires settled { IsTrue (H.tells).folder → (H.scene host.old).folder.pending ≡ [] }
+    ensures usage { result.ending ≡ Ending.Usage → ¬ NamesFile (map string_bytes words.now) }
+    ensures idle { result.ending ≡ Ending.Usage → (H.scene host.new ≡ H.scene host.old) × (result.marks.items ≡ []) }
+    ensures edit { (name : List ℕ) → IsEdit (map string_bytes words.now) name →
+        RunsEdit H.tells name (H.scene host.old) (H.scene host.new) result.ending result.marks.items }
+    ensures through { (name : List ℕ) → IsEdit (map string_bytes words.now) name → IsUnhindered H.tells name (H.scene host.old) (H.scene host.new) →
+        IsThrough result.ending × All IsThroughMark result.marks.items }
+    ensures recover { (name : List ℕ) → IsForm (map string_bytes words.now) Mode.Recover name →
+        EndsBy (RunsRecover H.tells (names_of_file name) (H.scene host.old) (H.scene host.new)) result.ending result.marks.items }
+    ensures recovers { (name : List ℕ) → IsForm (map string_bytes words.now) Mode.Recover name → Gives H.tells (H.scene host.old) name →
+        IsSpared (H.scene host.old) (H.scene host.new) → (result.ending ≡ Ending.Done) ⊎ (result.ending ≡ Ending.NoMemory) }
+    ensures info { (name : List ℕ) → IsForm (map string_bytes words.now) Mode.Info name →
+        EndsBy (RunsInfo H.tells (names_of_file name) (H.scene host.old) (H.scene host.new)) result.ending result.marks.items }
+    ensures discard { (name : List ℕ) → IsForm (map string_bytes words.now) Mode.Discard name →
+        EndsBy (RunsDiscard H.tells (names_of_file name) (H.scene host.old) (H.scene host.new)) result.ending result.marks.items }
+    ensures other { ¬ NamesFile (map string_bytes words.now) → result.ending ≡ Ending.Usage }
+{
+    let mut marks = Vec::new(alloc);
+    let Some(form) = form_of(words) else {
+        return Report::of(Ending::Usage, marks);
+    };
+    let ending = perform(alloc, form, host, &mut marks);
+    Report::of(ending, marks)
+}
+
+// Runs the stress mode.
+fn run_stress<H: Host>(alloc: Global, count: u64, host: &mut H) -> Report
+    requires few { count ≤ 100000 }
+    requires clock { IsTrue (H.tells).clock → length (H.scene host.old).answers < 2 ^ 62 }
+    requires settled { IsTrue (H.tells).folder → (H.scene host.old).folder.pending ≡ [] }
+    ensures { RunsStress H.tells count (H.scene host.old) (H.scene host.new) result.ending result.marks.items }
+{
+    let mut marks = Vec::new(alloc);
+    let ending = ending_in(stress(alloc, count, host, &mut marks));
+    Report::of(ending, marks)
+}
+
+/// Does what the arguments say: `edit NAME` runs the script of the host over the file of a name, `recover NAME`, `info NAME` and
+/// `discard NAME` go to its swap files, and `stress N` tries a session with N commands of its own. With other arguments it ends
+/// with `Usage`, takes no memory and makes no call.
 pub fn run<H: Host>(alloc: Global, words: &[String], host: &mut H) -> Report
     requires clock { IsTrue (H.tells).clock → length (H.scene host.old).answers < 2 ^ 62 }
     requires settled { IsTrue (H.tells).folder → (H.scene host.old).folder.pending ≡ [] }
@@ -95,11 +137,13 @@ pub fn run<H: Host>(alloc: Global, words: &[String], host: &mut H) -> Report
     ensures discard { (name : List ℕ) → IsForm (map string_bytes words.now) Mode.Discard name →
         EndsBy (RunsDiscard H.tells (names_of_file name) (H.scene host.old) (H.scene host.new)) result.ending result.marks.items }
     ensures other { ¬ IsBuilt (map string_bytes words.now) → result.ending ≡ Ending.Usage }
+    ensures stress { (count : ℕ) → IsStress (map string_bytes words.now) count →
+        RunsStress H.tells count (H.scene host.old) (H.scene host.new) result.ending result.marks.items }
+    ensures stresses { (count : ℕ) → IsStress (map string_bytes words.now) count → IsStressUnhindered H.tells (H.scene host.old) (H.scene host.new) →
+        IsThrough result.ending × All IsThroughMark result.marks.items }
 {
-    let mut marks = Vec::new(alloc);
-    let Some(form) = form_of(words) else {
-        return Report::of(Ending::Usage, marks);
-    };
-    let ending = perform(alloc, form, host, &mut marks);
-    Report::of(ending, marks)
+    match stress_count(words) {
+        Some(count) => run_stress(alloc, count, host),
+        None => run_form(alloc, words, host),
+    }
 }

@@ -8,3 +8,11 @@ pub mod Chains
 pub mod Formed
 pub mod Known
 pub mod Meant
+pub mod Takes
+pub mod Members
+pub mod Sounds
+pub mod Unique
+pub mod Joined
+pub mod Kept
+pub mod Alike
+pub mod NoMisfit

@@ -13,10 +13,11 @@ use Rattle.vs_undo.specs.History.{History, IsHistory}
 use Rattle.vs_undo.proofs.MarkLemmas.{marked_history}
 use Rattle.vs_text.specs.Text.{stored, stored_line}
 use Rattle.vs_ufile.specs.Values as file
+use Rattle.vs_ufile.specs.Descent.{IsLastUsed}
 use Rattle.vs_ufile.specs.Tree.{link, IsChange}
 use Rattle.vs_ubind.specs.Digest.{digest_of}
 use Rattle.vs_ubind.specs.Bound.{history_next, IsBound}
-use Rattle.vs_ubind.specs.Meaning.{entries_in, flagged, last_flag, taken, IsKeptSave, IsLastUsed, Means, StandsFor}
+use Rattle.vs_ubind.specs.Meaning.{entries_in, flagged, last_flag, taken, IsKeptSave, Means, StandsFor}
 use Rattle.vs_ubind.specs.Unbound.{filed, filed_change, filed_entry, flag_of, used_within, with_next}
 use Rattle.vs_ubind.proofs.Chains.{child_index, none}
 use Rattle.vs_ubind.proofs.Formed.{change_child, first_is, next_is, one_first, parent_is, some_child, some_same}
@@ -135,7 +136,7 @@ pub means_next : (next : Bool) (digest : List ℕ) (lines : ℕ) (parts : Parts)
 means_next next digest lines parts sound = means_it (with_next next parts) (sound_next next parts sound) digest lines
 
 -- ---- at a text
-stored_count : (text : List (List ℕ)) → length (stored text) ≡ max 1 (length text)
+pub stored_count : (text : List (List ℕ)) → length (stored text) ≡ max 1 (length text)
 stored_count [] = refl
 stored_count (line ∷ text) = let count = length-map text stored_line in omega (arith, count)
 

@@ -2,3 +2,5 @@ pub mod Digest
 pub mod Unbound
 pub mod Meaning
 pub mod Bound
+pub mod Taken
+pub mod Binding

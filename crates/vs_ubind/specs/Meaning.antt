@@ -7,8 +7,11 @@ use Rattle.vs_undo.specs.declared.parts.Node.{Node}
 use Rattle.vs_undo.specs.declared.parts.Parts.{Parts}
 use Rattle.vs_undo.specs.Numbers as tree
 use Rattle.vs_undo.specs.Ways.{node_at}
+use Rattle.vs_undo.specs.History.{links_of}
 use Rattle.vs_ufile.specs.Values as file
-use Rattle.vs_ufile.specs.Tree.{link, IsChange, IsFirst, IsParent}
+use Rattle.vs_ufile.specs.Decode.{KeepsRules}
+use Rattle.vs_ufile.specs.Descent.{IsLastUsed}
+use Rattle.vs_ufile.specs.Tree.{IsChange, IsParent}
 
 -- an entry of the file, with this flag
 abbrev pub taken : Bool → file.Entry → Entry
@@ -30,11 +33,6 @@ abbrev pub last_flag : List Entry → List Entry
 last_flag [] = []
 last_flag (entry ∷ []) = entry ∷ []
 last_flag (entry ∷ next ∷ entries) = record entry { empty = false } ∷ last_flag (next ∷ entries)
-
--- The child last used of a state: the first of the chain of its children, or 0 where it has none.
-pub record IsLastUsed (changes : List file.Change) (state child : ℕ) : Type 0 where
-  pub first : child ≢ 0 → IsFirst changes child child × (link (λ c. c.next) changes child ≡ state)
-  pub none : child ≡ 0 → (n : ℕ) → IsChange changes n → IsParent changes n state → ⊥
 
 -- The save number that a change keeps: its own, unless a change with a greater number has it too.
 abbrev pub IsKeptSave : List file.Change → file.Change → ℕ → Type 0
@@ -71,3 +69,9 @@ pub record Means (history : file.History) (parts : Parts) : Type 0 where
   pub at_newest : history.current_head ≡ 0 → parts.current ≡ history.newest
   pub last : IsGreatest history.last (IsChange history.changes) parts.last
   pub last_save : IsGreatest history.last_save (HasSave history.changes) parts.last_save
+
+-- The data stands for one tree at most, but for flags of entries that do not show.
+abbrev pub OneMeaning : Type 0
+OneMeaning =
+    (history : file.History) (a b : Parts) → KeepsRules history → Means history a → Means history b
+    → (links_of a ≡ links_of b) × ((n : ℕ) (x y : Node) → node_at a.nodes n ≡ Some x → node_at b.nodes n ≡ Some y → last_flag x.entries ≡ last_flag y.entries)

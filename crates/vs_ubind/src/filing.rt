@@ -26,7 +26,7 @@ pub(crate) fn narrow(number: u64) -> Result<u32, AllocError>
     }
 }
 
-fn copies(alloc: Global, lines: &[Line]) -> Result<Vec<Line>, AllocError>
+pub(crate) fn copies(alloc: Global, lines: &[Line]) -> Result<Vec<Line>, AllocError>
     ensures { IfOk result (λ copies. copies.items ≡ lines.now) }
 {
     let mut copies = Vec::with_capacity(alloc, lines.len())?;

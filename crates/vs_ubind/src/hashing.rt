@@ -1,4 +1,4 @@
-// The digest of a text, line by line.
+// The digest of a text, whose lines are read in runs.
 ghost use Rattle.std.specs.Prelude.{◌≡◌, ◌++◌, ◌∷◌, [], ℕ, List, IfOk, IsErrOf};
 ghost use Rattle.sha2.specs.Hashers.{Holds256};
 ghost use Rattle.vs_faults.specs.Faults.{HasCause};
@@ -9,6 +9,7 @@ ghost use Rattle.vs_ubind.specs.Digest.{digest_of};
 use sha2::{Digest, Sha256};
 use std::alloc::Global;
 use vs_edit::{LineStore, StoreErr};
+use vs_reads::LineReader;
 use vs_text::to_stored;
 
 /// What stands behind each line.
@@ -36,9 +37,10 @@ pub fn digest<S: LineStore>(alloc: Global, text: &mut S) -> Result<[u8; 32], Sto
         return Ok(Sha256::digest(&LINE_END));
     }
     let mut hasher = Sha256::new();
+    let mut reader = LineReader::new(alloc, 0, count);
     let mut line = Vec::new(alloc);
-    'lines: for at in 0..count {
-        text.line(alloc, at, &mut line)?;
+    'lines: for _at in 0..count {
+        reader.line(alloc, text, &mut line)?;
         feed(&mut hasher, &mut line);
     }
     Ok(hasher.finalize())

@@ -1,8 +1,11 @@
 // How an undo file comes to stand: it is written under another name, and renamed when it is synced.
-ghost use Rattle.std.specs.Prelude.{◌≡◌, ◌≢◌, [], ℕ, List, None, Some, IsErr, IsSome, IsTrue, OnOk};
+ghost use Rattle.std.specs.Prelude.{◌≡◌, ◌≢◌, ◌∷◌, [], ℕ, List, None, Some, IsErr, IsSome, IsTrue, OnErr, OnOk};
 ghost use Rattle.vs_faults.specs.Faults.{HasCause};
 ghost use Rattle.vs_host.specs.Names.{AreNames};
-ghost use Rattle.vs_host.specs.World.{content_of};
+ghost use Rattle.vs_host.specs.Disk.{ChangesFile};
+ghost use Rattle.vs_host.specs.File.{Syncs};
+ghost use Rattle.vs_host.specs.Trace.{Synced};
+ghost use Rattle.vs_host.specs.World.{ChangesFolder, IsTold, content_of};
 ghost use Rattle.vs_disk.specs.Images.{HoldsBytes, IsSynced, Takes};
 ghost use Rattle.vs_disk.specs.Runs.{Runs};
 ghost use Rattle.vs_pair.specs.Acts.{Acts, NoneFails};
@@ -23,7 +26,7 @@ fn clear<F: Folder>(host: &mut F, name: &str) -> Result<(), Failed>
     Ok(())
 }
 
-// Makes an empty file under the name, in place of one that may stand there.
+// Makes an empty file under the name, which its owner alone may read, in place of one that may stand there.
 fn make_anew<F: Folder>(host: &mut F, name: &str) -> Result<(), Failed>
     ensures acts { Acts F.tells (Spares (one_name name.now)) (F.scene host.old) (F.scene host.new) }
     ensures empty { OnOk result (IsTrue F.tells.folder → content_of (F.scene host.new) name.now ≡ Some []) }
@@ -32,11 +35,25 @@ fn make_anew<F: Folder>(host: &mut F, name: &str) -> Result<(), Failed>
     ensures cause { HasCause (F.scene host.old).folder_faults (F.scene host.new).folder_faults (IsErr result) }
 {
     clear(host, name)?;
-    host.create(name)
+    host.create_private(name)
 }
 
-// Writes the bytes into an empty file, and syncs it.
-fn fill<F: Folder>(host: &mut F, name: &str, bytes: &[u8]) -> Result<(), Failed>
+// Gives a file the mode bits of another one, where that is there, and syncs it.
+fn sync_like<F: Folder>(host: &mut F, model: &str, name: &str) -> Result<(), Failed>
+    requires { IsTrue F.tells.folder → IsSome (content_of (F.scene host.old) name.now) }
+    ensures ok { OnOk result (IsTrue F.tells.folder → ChangesFile name.now Syncs (F.scene host.old).folder (F.scene host.new).folder) }
+    ensures err { OnErr result ((F.scene host.new).folder ≡ (F.scene host.old).folder) }
+    ensures cause { HasCause (F.scene host.old).folder_faults (F.scene host.new).folder_faults (IsErr result) }
+    ensures quiet { OnOk result ((F.scene host.new).folder_faults ≡ (F.scene host.old).folder_faults) }
+    ensures told { IsTrue F.tells.folder → IsTold Synced (name.now ∷ []) result (F.scene host.old) (F.scene host.new) }
+    ensures frame { ChangesFolder (F.scene host.old) (F.scene host.new) }
+{
+    host.take_mode(model, name);
+    host.sync(name)
+}
+
+// Writes the bytes into an empty file, gives it the mode bits of another one, and syncs it.
+fn fill<F: Folder>(host: &mut F, name: &str, model: &str, bytes: &[u8]) -> Result<(), Failed>
     requires empty { IsTrue F.tells.folder → content_of (F.scene host.old) name.now ≡ Some [] }
     requires alone { IsTrue F.tells.folder → IsAlone name.now (F.scene host.old).folder }
     ensures acts { Acts F.tells (Spares (one_name name.now)) (F.scene host.old) (F.scene host.new) }
@@ -45,7 +62,7 @@ fn fill<F: Folder>(host: &mut F, name: &str, bytes: &[u8]) -> Result<(), Failed>
     ensures cause { HasCause (F.scene host.old).folder_faults (F.scene host.new).folder_faults (IsErr result) }
 {
     host.write_at(name, 0, bytes)?;
-    host.sync(name)
+    sync_like(host, model, name)
 }
 
 // Renames a synced file and syncs the names.
@@ -64,11 +81,12 @@ fn take_name<F: Folder>(host: &mut F, from: &str, to: &str) -> Result<(), Failed
     host.sync_names()
 }
 
-// Stores bytes under a name, by way of a temporary name.
+// Stores bytes under a name, by way of a temporary name, with the mode bits of another file.
 fn store_as<F: Folder>(
     host: &mut F,
     temporary: &str,
     name: &str,
+    model: &str,
     bytes: &[u8],
 ) -> Result<(), Failed>
     requires { name.now ≢ temporary.now }
@@ -79,11 +97,14 @@ fn store_as<F: Folder>(
     ensures cause { HasCause (F.scene host.old).folder_faults (F.scene host.new).folder_faults (IsErr result) }
 {
     make_anew(host, temporary)?;
-    fill(host, temporary, bytes)?;
+    fill(host, temporary, model, bytes)?;
     take_name(host, temporary, name)
 }
 
 /// Stores bytes as the undo file of these names (docs/FORMATS.md, "Writing a file"). It takes no memory.
+///
+/// The undo file has the mode bits of its text file, since it holds that one's lines; where there is none, its owner alone may
+/// read it.
 ///
 /// At each moment a stop leaves under the name of the undo file these bytes, or what it left before; after an error as well.
 /// All names but that and its temporary name are left alone, and no call but the last one has failed.
@@ -95,5 +116,11 @@ pub fn store<F: Folder>(host: &mut F, names: &Names, bytes: &[u8]) -> Result<(),
     ensures none { OnOk result (NoneFails F.tells (F.scene host.old) (F.scene host.new)) }
     ensures cause { HasCause (F.scene host.old).folder_faults (F.scene host.new).folder_faults (IsErr result) }
 {
-    store_as(host, names.undo_new.as_str(), names.undo.as_str(), bytes)
+    store_as(
+        host,
+        names.undo_new.as_str(),
+        names.undo.as_str(),
+        names.file.as_str(),
+        bytes,
+    )
 }

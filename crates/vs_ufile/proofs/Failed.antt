@@ -31,10 +31,10 @@ pub record AreNeighbours (placed : List Placed) (f b : List ℕ) : Type 0 where
   pub numbers : AreNumbers (numbers_of placed)
   pub known : KnowsAll placed
 
-chain_is : (placed : List Placed) (f b : List ℕ) → AreNeighbours placed f b → (p : ℕ) → p < length placed + 1 → FailsAt f b p ↔ FailsInChain (changes_of placed) (at (names placed) p)
+pub chain_is : (placed : List Placed) (f b : List ℕ) → AreNeighbours placed f b → (p : ℕ) → p < length placed + 1 → FailsAt f b p ↔ FailsInChain (changes_of placed) (at (names placed) p)
 chain_is placed f b h p lt = fails_named (changes_of placed) (length placed + 1) (names placed) f b (are_names placed h.numbers) (leads AltNext placed f h.after h.numbers h.known) (leads AltPrev placed b h.before h.numbers h.known) p lt
 
-size_is : (placed : List Placed) (f b : List ℕ) → AreNeighbours placed f b → length f ≡ length placed + 1
+pub size_is : (placed : List Placed) (f b : List ℕ) → AreNeighbours placed f b → length f ≡ length placed + 1
 size_is placed f b h = (leads AltNext placed f h.after h.numbers h.known).lead.all
 
 -- some place is marked

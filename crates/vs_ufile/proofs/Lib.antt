@@ -21,3 +21,4 @@ pub mod Linked
 pub mod Least
 pub mod Failed
 pub mod Rules
+pub mod Descents

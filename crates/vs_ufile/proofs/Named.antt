@@ -34,7 +34,7 @@ walk_named size names links g h (suc k) p lt =
 -- ---- chains
 
 -- nowhere by place is nowhere by number
-is_none : (changes : List Change) (size : ℕ) (names : List ℕ) → AreNames changes size names → (p : ℕ) → p < size → at names p ≡ 0 → p ≡ 0
+pub is_none : (changes : List Change) (size : ℕ) (names : List ℕ) → AreNames changes size names → (p : ℕ) → p < size → at names p ≡ 0 → p ≡ 0
 is_none changes size names n p lt e = n.one p 0 lt n.some (e ∙ sym n.none)
 
 back_named : (changes : List Change) (size : ℕ) (names f b : List ℕ) (g h : ℕ → ℕ) → AreNames changes size names → LeadAs size names f g → LeadAs size names b h → (p : ℕ) → p < size
@@ -137,22 +137,22 @@ first_at changes size names b n lb p first lt f =
       },
     )
 
-head_of : (changes : List Change) (size : ℕ) (names b next heads parents : List ℕ) → IsLinked changes size names b next heads parents → (p : ℕ) → 0 < p → p < size → LeadsToHead b p (at heads p)
+pub head_of : (changes : List Change) (size : ℕ) (names b next heads parents : List ℕ) → IsLinked changes size names b next heads parents → (p : ℕ) → 0 < p → p < size → LeadsToHead b p (at heads p)
 head_of changes size names b next heads parents l p pos lt = l.firsts.each p pos (omega (arith, lt, l.back.lead.all))
 
-parent_named : (changes : List Change) (size : ℕ) (names b next heads parents : List ℕ) → IsLinked changes size names b next heads parents → (p h : ℕ) → 0 < p → p < size → LeadsToHead b p h
+pub parent_named : (changes : List Change) (size : ℕ) (names b next heads parents : List ℕ) → IsLinked changes size names b next heads parents → (p h : ℕ) → 0 < p → p < size → LeadsToHead b p h
     → link (λ c. c.next) changes (at names h) ≡ at names (at parents p)
 parent_named changes size names b next heads parents l p h pos lt to =
     let same : h ≡ at heads p = one_head b p h (at heads p) l.back.lead.none to (head_of changes size names b next heads parents l p pos lt) in
     let inside : h < size = omega (arith, to.is_head.within, l.back.lead.all) in
     sym (l.on.each h inside) ∙ ap (λ (x : ℕ). at names (at next x)) same ∙ ap (at names) (sym (l.each p lt))
 
-is_parent : (changes : List Change) (size : ℕ) (names b next heads parents : List ℕ) → IsLinked changes size names b next heads parents → (p : ℕ) → 0 < p → p < size → IsParent changes (at names p) (at names (at parents p))
+pub is_parent : (changes : List Change) (size : ℕ) (names b next heads parents : List ℕ) → IsLinked changes size names b next heads parents → (p : ℕ) → 0 < p → p < size → IsParent changes (at names p) (at names (at parents p))
 is_parent changes size names b next heads parents l p pos lt =
     let to = head_of changes size names b next heads parents l p pos lt in
     (at names (at heads p), first_named changes size names b l.named l.back p (at heads p) lt to, parent_named changes size names b next heads parents l p (at heads p) pos lt to)
 
-parent_is : (changes : List Change) (size : ℕ) (names b next heads parents : List ℕ) → IsLinked changes size names b next heads parents → (p q : ℕ) → 0 < p → p < size → IsParent changes (at names p) q → at names (at parents p) ≡ q
+pub parent_is : (changes : List Change) (size : ℕ) (names b next heads parents : List ℕ) → IsLinked changes size names b next heads parents → (p q : ℕ) → 0 < p → p < size → IsParent changes (at names p) q → at names (at parents p) ≡ q
 parent_is changes size names b next heads parents l p q pos lt w =
     let f = first_at changes size names b l.named l.back p w.0 lt w.1 in
     sym (parent_named changes size names b next heads parents l p f.0 pos lt f.2) ∙ ap (link (λ c. c.next) changes) f.1 ∙ w.2
@@ -171,7 +171,7 @@ ends_at changes size names b next heads parents l (q ∷ ps) p lt w = elim (case
       (suc k.0, k.1)
 ]
 
-ancestors : (changes : List Change) (size : ℕ) (names b next heads parents : List ℕ) → IsLinked changes size names b next heads parents → (k p : ℕ) → p < size → walk (at parents) k p ≡ 0
+pub ancestors : (changes : List Change) (size : ℕ) (names b next heads parents : List ℕ) → IsLinked changes size names b next heads parents → (k p : ℕ) → p < size → walk (at parents) k p ≡ 0
     → (ps : List ℕ) × AreAncestors changes (at names p) ps
 ancestors changes size names b next heads parents l zero p lt e = ([], ap (at names) e ∙ l.named.none)
 ancestors changes size names b next heads parents l (suc k) p lt e = elim (cases_eq p 0) [
@@ -184,7 +184,7 @@ ancestors changes size names b next heads parents l (suc k) p lt e = elim (cases
 -- ---- chains with one parent
 
 -- a head leads to itself
-own_head : (b : List ℕ) (h : ℕ) → IsHead b h → LeadsToHead b h h
+pub own_head : (b : List ℕ) (h : ℕ) → IsHead b h → LeadsToHead b h h
 own_head b h is = record { steps = 0; way = refl; is_head = is }
 
 two_heads : (changes : List Change) (size : ℕ) (names b next heads parents : List ℕ) → IsLinked changes size names b next heads parents → (p : ℕ) → 0 < p → p < size → SharesParent changes (at names p) → HaveTwoHeads b parents (at parents p)

@@ -8,3 +8,4 @@ pub mod Writing
 pub mod Walks
 pub mod Tree
 pub mod Failing
+pub mod Descent

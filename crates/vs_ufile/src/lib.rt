@@ -9,6 +9,7 @@
 mod answer;
 mod chains;
 mod changes;
+mod descent;
 mod encoding;
 mod error;
 mod fault;
@@ -23,6 +24,7 @@ mod walks;
 mod writing;
 
 pub use answer::{decode, one_reading};
+pub use descent::{Lineage, lineage_of};
 pub use encoding::{encode, round_trip};
 pub use error::{UfErr, UfKind};
 pub use history::{FileChange, FileEntry, FileHistory};

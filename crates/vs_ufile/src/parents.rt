@@ -21,7 +21,11 @@ pub fn parents(alloc: Global, heads: &[usize], next: &[usize]) -> Result<Vec<usi
 }
 
 // A head with each parent that has one, and 0 at every other place.
-fn last_heads(alloc: Global, before: &[usize], parents: &[usize]) -> Result<Vec<usize>, AllocError>
+pub fn last_heads(
+    alloc: Global,
+    before: &[usize],
+    parents: &[usize],
+) -> Result<Vec<usize>, AllocError>
     requires size { length before.now ≡ length parents.now }
     requires parents { AreLinks (length parents.now) parents.now }
     ensures { IfOk result (λ last. AreLastHeads before.now parents.now (length parents.now) last.items) }

@@ -1,9 +1,8 @@
 -- Entries that lead between states, one after another.
-use Rattle.std.proofs.Common.{◌≡◌, ℕ, ◌+◌, ◌<◌, List, [], ◌∷◌, ◌++◌, append_assoc, length, get_or, drop, max, sym, ap, subst, ◌∙◌}
+use Rattle.std.proofs.Common.{◌≡◌, ℕ, ◌+◌, ◌<◌, List, [], ◌∷◌, ◌++◌, append_assoc, length, get_or, drop, sym, ap, subst, ◌∙◌}
 use Rattle.std.proofs.lemmas.List.{drop_more}
 use Rattle.vs_entries.specs.declared.entry.Entry.{Entry}
-use Rattle.vs_entries.specs.Entries.{applied, filled, Leads, LeadsCount, led_back}
-use Rattle.vs_entries.proofs.EntryLemmas.{leads_back, length-filled}
+use Rattle.vs_entries.specs.Entries.{applied, led_back}
 use Rattle.vs_undo.specs.Edges.{IsLed}
 use Rattle.vs_undo.specs.Turns.{all_led_back}
 
@@ -22,11 +21,3 @@ back_step entries i entry other text now next before after within is next_is oth
     let cut : drop i entries ≡ entry ∷ rest = drop_more entries i entry within ∙ ap (λ e. e ∷ rest) (sym is) in
     whole ∙ (ap (λ es. all_led_back es now ++ before) cut ∙ (append_assoc (all_led_back rest (applied entry now)) (led_back entry now ∷ []) before
     ∙ (ap (λ t. all_led_back rest t ++ (led_back entry now ∷ before)) (sym next_is) ∙ ap (λ es. all_led_back rest next ++ es) (ap (λ e. e ∷ before) (sym other_is) ∙ sym after_is))))
-
--- the way back over a text, where the store counts the lines of both texts
-pub leads_back_counted : (entry back : Entry) (from to : List (List ℕ)) (from_lines to_lines : ℕ) → length from ≡ from_lines → length to ≡ to_lines
-    → LeadsCount back (max 1 to_lines) (max 1 from_lines) → back ≡ led_back entry from → Leads entry from to → Leads back to from
-leads_back_counted entry back from to from_lines to_lines from_is to_is count is leads =
-    let a : max 1 to_lines ≡ length (filled to) = sym (length-filled to ∙ ap (max 1) to_is) in
-    let b : max 1 from_lines ≡ length (filled from) = sym (length-filled from ∙ ap (max 1) from_is) in
-    leads_back entry back from to (subst (λ n. LeadsCount back (length (filled to)) n) b (subst (λ n. LeadsCount back n (max 1 from_lines)) a count)) is leads

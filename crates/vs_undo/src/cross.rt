@@ -29,8 +29,10 @@ fn store_err(error: EditErr) -> StoreErr
     }
 }
 
-// Applies the entries of one change, and gives those that lead back.
-fn apply_all<S: LineStore>(
+/// Applies entries that lead from the text of a store, one after another, and gives those that lead back.
+///
+/// After an `Err` the store may only be rolled back. [`StoreErr::Failed`] comes only from the store.
+pub fn apply_all<S: LineStore>(
     alloc: Global,
     store: &mut S,
     entries: &[Entry],

@@ -16,11 +16,13 @@ mod tree;
 mod way;
 mod writes;
 
+pub use cross::apply_all;
 pub use edit::change;
 pub use error::UndoErr;
 pub use leaves::Leaf;
 pub use parts::{Entries, Node, Nodes, Parts};
 pub use tree::UndoTree;
+pub use way::{find, path_between, way_of};
 
 /// The greatest number that a new change gets.
 pub const MAX_NUMBER: u64 = 2_000_000_000;

@@ -18,8 +18,8 @@ fn search(nodes: &[Node], number: u64) -> Option<usize>
     nodes.binary_search_by_key(&number, |node| node.number).ok()
 }
 
-// The place of the change with this number: at once as long as no number is left out, and else in logarithmic time.
-pub(crate) fn find(nodes: &[Node], number: u64) -> Option<usize>
+/// The place of the change with this number: at once as long as no number is left out, and else in logarithmic time.
+pub fn find(nodes: &[Node], number: u64) -> Option<usize>
     requires { IsStrictlyIncreasing (numbers nodes.now) }
     ensures { result ≡ position (λ (node : Node). node.number == number) nodes.now }
 {
@@ -64,8 +64,8 @@ pub(crate) fn last_child(parts: &Parts, number: u64) -> u64
     }
 }
 
-// The way from a state up to the root.
-pub(crate) fn way_of(alloc: Global, nodes: &[Node], number: u64) -> Result<Vec<u64>, AllocError>
+/// The way from a state up to the root.
+pub fn way_of(alloc: Global, nodes: &[Node], number: u64) -> Result<Vec<u64>, AllocError>
     requires rising { IsStrictlyIncreasing (numbers nodes.now) }
     requires tree { IsTree nodes.now }
     requires kept { IsKept nodes.now number }
@@ -99,9 +99,9 @@ fn shared_end(from: &[u64], to: &[u64]) -> usize
     most
 }
 
-// The changes above which a move between two states crosses an edge, given the ways of both: up to the last state that the ways
-// share, and down from there.
-pub(crate) fn path_between(alloc: Global, from: &[u64], to: &[u64]) -> Result<Vec<u64>, AllocError>
+/// The changes above which a move between two states crosses an edge, given the ways of both: up to the last state that the ways
+/// share, and down from there.
+pub fn path_between(alloc: Global, from: &[u64], to: &[u64]) -> Result<Vec<u64>, AllocError>
     ensures { IfOk result (λ path. IsBetween from.now to.now path.items) }
 {
     let shared = shared_end(from, to);

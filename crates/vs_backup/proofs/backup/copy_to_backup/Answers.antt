@@ -1,42 +1,48 @@
-use Rattle.std.proofs.Common.{◌≡◌, ◌∙◌, inl, ℕ, List, Option, Some, IsTrue, ap}
+use Rattle.std.proofs.Common.{◌∙◌, inl, ℕ, List, Option, IsTrue, ap}
 use Rattle.std.specs.Prelude.{is_some}
-use Rattle.vs_host.specs.World.{Scene, content_of}
+use Rattle.vs_host.specs.World.{Scene}
 use Rattle.vs_disk.specs.Images.{IsSynced}
 use Rattle.vs_disk.proofs.Runs.{frames}
 use Rattle.vs_disk.proofs.Contents.{some_content}
 use Rattle.vs_backup.specs.Works.{one_name, two_names}
-use Rattle.vs_backup.specs.Writing.{IsSettled}
+use Rattle.vs_backup.specs.Writing.{CopiesBytes, IsSettled}
 use Rattle.vs_backup.proofs.Calls.{spares_on, runs_wider, runs_file, synced_there}
 use Rattle.vs_backup.proofs.Frames.{ok_leads, content_spared}
 use Rattle.vs_backup.proofs.backup.copy_to_backup.Goals as goal
 
 pub returns-in_err-make_anew-clause-spares : goal.returns-in_err-make_anew-clause-spares
-returns-in_err-make_anew-clause-spares g c told =
+returns-in_err-make_anew-clause-spares g c =
     let s0 : Scene = g.D.World.scene c.args.desk.now in
     let s1 : Scene = g.D.World.scene c.make_anew.new.desk in
-    runs_wider (one_name c.args.temporary.now) (two_names c.args.temporary.now c.args.backup.now) s0 s1 (λ n is. inl is) (c.make_anew.ensures.spares told)
+    record { spares = λ told. runs_wider (one_name c.args.temporary.now) (two_names c.args.temporary.now c.args.backup.now) s0 s1 (λ n is. inl is) (c.make_anew.ensures.spares told) }
 
 pub returns-in_err-fill_copy-clause-spares : goal.returns-in_err-fill_copy-clause-spares
-returns-in_err-fill_copy-clause-spares g c told =
+returns-in_err-fill_copy-clause-spares g c =
     let tmp = one_name c.args.temporary.now in
     let both = two_names c.args.temporary.now c.args.backup.now in
     let s0 : Scene = g.D.World.scene c.args.desk.now in
     let s1 : Scene = g.D.World.scene c.make_anew.new.desk in
     let s2 : Scene = g.D.World.scene c.fill_copy.new.desk in
-    let filled = runs_file c.args.temporary.now s1 s2 (c.in_ok-make_anew.ensures.alone told) (c.fill_copy.ensures.runs told) in
-    runs_wider tmp both s0 s2 (λ n is. inl is) (spares_on tmp s0 s1 s2 c.make_anew.ensures.frame (c.make_anew.ensures.spares told) filled)
+    record {
+      spares = λ told.
+          let filled = runs_file c.args.temporary.now s1 s2 (c.in_ok-make_anew.ensures.alone told) (c.fill_copy.ensures.runs told) in
+          runs_wider tmp both s0 s2 (λ n is. inl is) (spares_on tmp s0 s1 s2 c.make_anew.ensures.frame (c.make_anew.ensures.spares told) filled);
+    }
 
 pub returns-clause-spares : goal.returns-clause-spares
-returns-clause-spares g c told =
+returns-clause-spares g c =
     let tmp = one_name c.args.temporary.now in
     let both = two_names c.args.temporary.now c.args.backup.now in
     let s0 : Scene = g.D.World.scene c.args.desk.now in
     let s1 : Scene = g.D.World.scene c.make_anew.new.desk in
     let s2 : Scene = g.D.World.scene c.fill_copy.new.desk in
     let s3 : Scene = g.D.World.scene c.take_name.new.desk in
-    let filled = runs_file c.args.temporary.now s1 s2 (c.in_ok-make_anew.ensures.alone told) (c.fill_copy.ensures.runs told) in
-    let copied = runs_wider tmp both s0 s2 (λ n is. inl is) (spares_on tmp s0 s1 s2 c.make_anew.ensures.frame (c.make_anew.ensures.spares told) filled) in
-    spares_on both s0 s2 s3 (frames s0 s1 s2 c.make_anew.ensures.frame c.fill_copy.ensures.frame) copied (c.take_name.ensures.spares told)
+    record {
+      spares = λ told.
+          let filled = runs_file c.args.temporary.now s1 s2 (c.in_ok-make_anew.ensures.alone told) (c.fill_copy.ensures.runs told) in
+          let copied = runs_wider tmp both s0 s2 (λ n is. inl is) (spares_on tmp s0 s1 s2 c.make_anew.ensures.frame (c.make_anew.ensures.spares told) filled) in
+          spares_on both s0 s2 s3 (frames s0 s1 s2 c.make_anew.ensures.frame c.fill_copy.ensures.frame) copied (c.take_name.ensures.spares told);
+    }
 
 pub fill_copy-requires-clause-there : goal.fill_copy-requires-clause-there
 fill_copy-requires-clause-there g c told =
@@ -60,8 +66,10 @@ returns-clause-ok g c =
     let s2 : Scene = g.D.World.scene c.fill_copy.new.desk in
     let s3 : Scene = g.D.World.scene c.take_name.new.desk in
     ok_leads (IsTrue g.D.World.tells.folder → (bytes : List ℕ) → IsSynced c.args.temporary.now bytes s2.folder → IsSettled c.args.backup.now bytes s3.folder)
-    (IsTrue g.D.World.tells.folder → (old : List ℕ) → content_of s0 c.args.name.now ≡ Some old → IsSettled c.args.backup.now old s3.folder) c.take_name.result
-    (λ takes told old is.
-    let same = content_spared (one_name c.args.temporary.now) c.args.name.now s0.folder s1.folder c.requires.differ (c.make_anew.ensures.spares told).now in
-    takes told old (c.in_ok-fill_copy.ensures.ok told old (same ∙ is)))
+    (CopiesBytes g.D.World.tells.folder c.args.name.now c.args.backup.now s0 s3) c.take_name.result
+    (λ takes. record {
+      settled = λ told old is.
+          let same = content_spared (one_name c.args.temporary.now) c.args.name.now s0.folder s1.folder c.requires.differ (c.make_anew.ensures.spares told).now in
+          takes told old (c.in_ok-fill_copy.ensures.ok told old (same ∙ is));
+    })
     c.take_name.ensures.ok

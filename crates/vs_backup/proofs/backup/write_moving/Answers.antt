@@ -15,7 +15,7 @@ use Rattle.vs_backup.proofs.Frames.{spares_same}
 use Rattle.vs_backup.proofs.Kept.{guard_moved, moved_away, kept_by_name, settled_holds}
 use Rattle.vs_backup.proofs.Copying.{only_file, over_not_begun}
 use Rattle.vs_backup.proofs.Places.{under_still}
-use Rattle.vs_backup.proofs.Moving.{moving_done, moving_stopped}
+use Rattle.vs_backup.proofs.Moving.{anew_done, anew_stopped, moving_done, moving_stopped}
 use Rattle.vs_backup.proofs.backup.write_moving.Goals as goal
 
 pub returns-in-Ok-write_anew-clause-over : goal.returns-in-Ok-write_anew-clause-over
@@ -27,9 +27,11 @@ returns-in-Ok-write_anew-clause-over g c told old is text has temporary =
     let s2 : Scene = g.D.World.scene c.write_anew.new.desk in
     let renames = c.in-Ok.ensures.ok told in
     let kept = g.met.D.Desk.stays_text c.args.desk.now c.rename.new.self text c.rename.ensures.stays has in
+    let done = c.in-Ok-write_anew.ensures.ok.each told text kept in
     moving_done name backup old (file_of text) s0 s1 s2 is c.rename.ensures.frame c.rename.result (c.rename.ensures.told told) renames c.in-Ok-write_anew.size
     temporary c.requires.differ_name (g.D.World.is_folder c.write_anew.new.desk told)
-    (c.in-Ok-write_anew.ensures.anew told is.synced.number old (λ e. c.requires.differ_name (sym e)) (guard_moved name backup old s0.folder s1.folder is renames) text kept)
+    (anew_done name backup is.synced.number c.in-Ok-write_anew.size old (file_of text) s1 s2
+    (c.write_anew.ensures.anew.each told is.synced.number old (λ e. c.requires.differ_name (sym e)) (guard_moved name backup old s0.folder s1.folder is renames)) done.0 done.1)
 
 pub returns-in-Err-write_anew-clause-over : goal.returns-in-Err-write_anew-clause-over
 returns-in-Err-write_anew-clause-over g c told old is text has temporary =
@@ -39,10 +41,10 @@ returns-in-Err-write_anew-clause-over g c told old is text has temporary =
     let s1 : Scene = g.D.World.scene c.rename.new.self in
     let s2 : Scene = g.D.World.scene c.write_anew.new.desk in
     let renames = c.in-Ok.ensures.ok told in
-    let kept = g.met.D.Desk.stays_text c.args.desk.now c.rename.new.self text c.rename.ensures.stays has in
     subst (λ (error : WriteErr). WritesOver false name temporary backup old (file_of text) s0 s2 (Err error)) (sym c.with.ensures)
     (moving_stopped name backup old (file_of text) s0 s1 s2 is c.rename.ensures.frame c.rename.result (c.rename.ensures.told told) renames c.in-Err-write_anew.stop temporary
-    (c.in-Err-write_anew.ensures.anew told is.synced.number old (λ e. c.requires.differ_name (sym e)) (guard_moved name backup old s0.folder s1.folder is renames) text kept))
+    (anew_stopped name backup is.synced.number c.in-Err-write_anew.stop old (file_of text) s1 s2
+    (c.write_anew.ensures.anew.each told is.synced.number old (λ e. c.requires.differ_name (sym e)) (guard_moved name backup old s0.folder s1.folder is renames)) (c.in-Err-write_anew.ensures.err.leaves told)))
 
 pub returns-in-Err-clause-over : goal.returns-in-Err-clause-over
 returns-in-Err-clause-over g c told old is text has temporary =

@@ -16,20 +16,20 @@ returns-in-Ok-clause-backed g c told old content text has =
     let s1 : Scene = g.D.World.scene c.settle.new.desk in
     let s2 : Scene = g.D.World.scene c.write_backed.new.desk in
     let kept = g.met.D.Desk.stays_text c.args.desk.now c.settle.new.desk text c.settle.ensures.stays has in
-    backed_after c.args.copying c.args.keep c.args.name.now c.args.temporary.now c.args.backup.now old (file_of text) s0 s1 content (c.settle.ensures.narrowed told)
-    (others_settled on c.args.name.now s0 s1 (file_named c.args.copying c.args.name.now c.args.temporary.now c.args.backup.now) (c.settle.ensures.same told)) c.write_backed.result s2 c.settle.ensures.frame c.settle.ensures.cause.later
-    (c.write_backed.ensures.backed told old (c.in-Ok.ensures.ok told old content) text kept)
+    backed_after c.args.copying c.args.keep c.args.name.now c.args.temporary.now c.args.backup.now old (file_of text) s0 s1 content (c.settle.ensures.settles.narrowed told)
+    (others_settled on c.args.name.now s0 s1 (file_named c.args.copying c.args.name.now c.args.temporary.now c.args.backup.now) (c.settle.ensures.settles.same told)) c.write_backed.result s2 c.settle.ensures.frame c.settle.ensures.cause.later
+    (c.write_backed.ensures.backed told old (c.in-Ok.ensures.ok.settled told old content) text kept)
 
 pub returns-in-Err-clause-backed : goal.returns-in-Err-clause-backed
 returns-in-Err-clause-backed g c told old content text has =
     let on = backed_names c.args.copying c.args.name.now c.args.temporary.now c.args.backup.now in
     let s0 : Scene = g.D.World.scene c.args.desk.now in
     let s1 : Scene = g.D.World.scene c.settle.new.desk in
-    backed_not_begun c.args.copying c.args.keep c.args.name.now c.args.temporary.now c.args.backup.now old (file_of text) s0 s1 content (c.settle.ensures.narrowed told)
-    (others_settled on c.args.name.now s0 s1 (file_named c.args.copying c.args.name.now c.args.temporary.now c.args.backup.now) (c.settle.ensures.same told)) (error.Failed place.File)
+    backed_not_begun c.args.copying c.args.keep c.args.name.now c.args.temporary.now c.args.backup.now old (file_of text) s0 s1 content (c.settle.ensures.settles.narrowed told)
+    (others_settled on c.args.name.now s0 s1 (file_named c.args.copying c.args.name.now c.args.temporary.now c.args.backup.now) (c.settle.ensures.settles.same told)) (error.Failed place.File)
     (λ refused. only_file place.Nowhere (λ e. cc) refused) (λ refused. only_file place.Backup (λ e. cc) refused) (λ e. cc)
 
 pub write_backed-requires-clause-settled : goal.write_backed-requires-clause-settled
 write_backed-requires-clause-settled g c told =
     let has = some_content (g.D.World.scene c.args.desk.now).folder c.args.name.now (c.requires.there told) in
-    (has.0, c.in-Ok.ensures.ok told has.0 has.1)
+    (has.0, c.in-Ok.ensures.ok.settled told has.0 has.1)

@@ -18,7 +18,7 @@ returns-in_err-settle-clause-plain g c told old content text has =
     let s0 : Scene = g.D.World.scene c.args.desk.now in
     let s1 : Scene = g.D.World.scene c.settle.new.desk in
     let p = err_from_is_err_and c.from_residual.result c.from_residual.ensures.1 in
-    plain_not_begun c.args.name.now old (file_of text) s0 s1 content (c.settle.ensures.narrowed told) (others_settled (one_name c.args.name.now) c.args.name.now s0 s1 refl (c.settle.ensures.same told)) c.from_residual.result (rw p.1 tt)
+    plain_not_begun c.args.name.now old (file_of text) s0 s1 content (c.settle.ensures.settles.narrowed told) (others_settled (one_name c.args.name.now) c.args.name.now s0 s1 refl (c.settle.ensures.settles.same told)) c.from_residual.result (rw p.1 tt)
 
 pub returns-in_err-cut-clause-plain : goal.returns-in_err-cut-clause-plain
 returns-in_err-cut-clause-plain g c told old content text has =
@@ -26,8 +26,8 @@ returns-in_err-cut-clause-plain g c told old content text has =
     let s1 : Scene = g.D.World.scene c.settle.new.desk in
     let s2 : Scene = g.D.World.scene c.cut.new.self in
     let p = err_from_is_err_and c.from_residual-in_err-cut.result c.from_residual-in_err-cut.ensures.1 in
-    plain_not_cut c.args.name.now old (file_of text) s0 s1 content (c.settle.ensures.narrowed told) (others_settled (one_name c.args.name.now) c.args.name.now s0 s1 refl (c.settle.ensures.same told))
-    c.settle.ensures.frame (c.in_ok-settle.ensures.ok told old content) (g.D.World.is_folder c.settle.new.desk told)
+    plain_not_cut c.args.name.now old (file_of text) s0 s1 content (c.settle.ensures.settles.narrowed told) (others_settled (one_name c.args.name.now) c.args.name.now s0 s1 refl (c.settle.ensures.settles.same told))
+    c.settle.ensures.frame (c.in_ok-settle.ensures.ok.settled told old content) (g.D.World.is_folder c.settle.new.desk told)
     s2 c.cut.ensures.frame c.cut.result (c.cut.ensures.told told) c.from_residual-in_err-cut.result (rw p.1 tt) c.in_err-cut.ensures.err
 
 pub returns-clause-plain : goal.returns-clause-plain
@@ -38,8 +38,8 @@ returns-clause-plain g c told old content text has =
     let s3 : Scene = g.D.World.scene c.fill_text.new.desk in
     let stays = g.met.D.Desk.stays_on c.args.desk.now c.settle.new.desk c.cut.new.self c.settle.ensures.stays c.cut.ensures.stays in
     let kept = g.met.D.Desk.stays_text c.args.desk.now c.cut.new.self text stays has in
-    plain_filled c.args.name.now old (file_of text) s0 s1 content (c.settle.ensures.narrowed told) (others_settled (one_name c.args.name.now) c.args.name.now s0 s1 refl (c.settle.ensures.same told))
-    c.settle.ensures.frame (c.in_ok-settle.ensures.ok told old content) (g.D.World.is_folder c.settle.new.desk told)
+    plain_filled c.args.name.now old (file_of text) s0 s1 content (c.settle.ensures.settles.narrowed told) (others_settled (one_name c.args.name.now) c.args.name.now s0 s1 refl (c.settle.ensures.settles.same told))
+    c.settle.ensures.frame (c.in_ok-settle.ensures.ok.settled told old content) (g.D.World.is_folder c.settle.new.desk told)
     s2 c.cut.ensures.frame c.cut.result (c.cut.ensures.told told) (c.in_ok-cut.ensures.ok told) s3 (c.fill_text.ensures.runs told) c.fill_text.result
     (ok_with c.fill_text.result (λ size. IsTrue g.D.World.tells.folder → (t : List (List ℕ)) → g.D.Desk.has_text c.cut.new.self t → (size ≡ length (file_of t)) × IsSynced c.args.name.now (file_of t) s3.folder)
     (λ size. (size ≡ length (file_of text)) × IsSynced c.args.name.now (file_of text) s3.folder) (λ size f. f told text kept) c.fill_text.ensures.ok)
@@ -50,7 +50,7 @@ cut-requires-clause-there g c told =
     let s0 : Scene = g.D.World.scene c.args.desk.now in
     let s1 : Scene = g.D.World.scene c.settle.new.desk in
     let had = some_content s0.folder c.args.name.now (c.requires.there told) in
-    let content = synced_bytes c.args.name.now had.0 s1.folder (c.in_ok-settle.ensures.ok told had.0 had.1).synced in
+    let content = synced_bytes c.args.name.now had.0 s1.folder (c.in_ok-settle.ensures.ok.settled told had.0 had.1).synced in
     subst (λ (o : Option (List ℕ)). IsSomeAnd o (λ bytes. 0 ≤ length bytes)) (sym content) (omega arith)
 
 pub fill_text-requires-clause-empty : goal.fill_text-requires-clause-empty
@@ -59,5 +59,5 @@ fill_text-requires-clause-empty g c told =
     let s1 : Scene = g.D.World.scene c.settle.new.desk in
     let s2 : Scene = g.D.World.scene c.cut.new.self in
     let had = some_content s0.folder c.args.name.now (c.requires.there told) in
-    let content = synced_bytes c.args.name.now had.0 s1.folder (c.in_ok-settle.ensures.ok told had.0 had.1).synced in
+    let content = synced_bytes c.args.name.now had.0 s1.folder (c.in_ok-settle.ensures.ok.settled told had.0 had.1).synced in
     cut_content c.args.name.now had.0 s1.folder s2.folder (c.in_ok-cut.ensures.ok told) content

@@ -3,7 +3,6 @@ use Rattle.vs_host.specs.declared.names.Names.{Names}
 use Rattle.vs_host.specs.Names.{names_of_file}
 use Rattle.vs_host.specs.World.{Scene, content_of}
 use Rattle.vs_disk.proofs.Runs.{reads_change}
-use Rattle.vs_text.specs.Text.{file_of}
 use Rattle.vs_modes.specs.declared.error.ModeErr.{ModeErr}
 use Rattle.vs_modes.specs.declared.error.ModeErr.TheVariants as refusal
 use Rattle.vs_modes.specs.Recover.{IsRecovery, RefusesRecover, RunsRecover}
@@ -18,13 +17,6 @@ returns-in_err-names g c =
     let s0 : Scene = g.H.World.scene c.args.host.now in
     let names : Names = names_of_file c.args.name.now in
     subst (λ (r : Ended). RunsRecover g.H.World.tells names s0 s0 r) (refused_as c.from_residual.result refusal.NoMemory c.from_residual.ensures.1)
-    (mode_idle IsSame (IsRecovery (content_of s0 names.swp) (content_of s0 names.swo)) (RefusesRecover (content_of s0 names.swp) (content_of s0 names.swo)) g.H.World.tells s0 refl tt)
-
-pub returns-in_err-piece : goal.returns-in_err-piece
-returns-in_err-piece g c =
-    let s0 : Scene = g.H.World.scene c.args.host.now in
-    let names : Names = names_of_file c.args.name.now in
-    subst (λ (r : Ended). RunsRecover g.H.World.tells names s0 s0 r) (refused_as c.from_residual-in_err-piece.result refusal.NoMemory c.from_residual-in_err-piece.ensures.1)
     (mode_idle IsSame (IsRecovery (content_of s0 names.swp) (content_of s0 names.swo)) (RefusesRecover (content_of s0 names.swp) (content_of s0 names.swo)) g.H.World.tells s0 refl tt)
 
 pub returns-in_err-text : goal.returns-in_err-text
@@ -45,9 +37,9 @@ pub returns : goal.returns
 returns g c =
     let s0 : Scene = g.H.World.scene c.args.host.now in
     let s1 : Scene = g.H.World.scene c.read_text.new.host in
-    let s2 : Scene = g.H.World.scene c.write_lines.new.out in
+    let s2 : Scene = g.H.World.scene c.write_bytes.new.out in
     let names : Names = c.in_ok-names.names in
-    subst (λ (n : Names). RunsRecover g.H.World.tells n s0 s2 c.write_lines.result) c.in_ok-names.ensures.names
-    (mode_written IsSame (IsRecovery (content_of s0 names.swp) (content_of s0 names.swo)) (RefusesRecover (content_of s0 names.swp) (content_of s0 names.swo)) g.H.World.tells s0 s1 s2 (file_of c.lines.result.now) c.write_lines.result
-    (λ told. (c.in_ok-text.text, c.in_ok-text.ensures.text told, ap file_of c.lines.ensures)) (reads_change s0 s1 c.read_text.ensures.reads.frame) (c.in_ok-text.ensures.none (λ is. cc)).faults
-    (c.in_ok-text.ensures.none (λ is. cc)).quiet (reads_proceed g.H.World.tells s0 s1 c.read_text.ensures.reads) c.write_lines.ensures.outputs c.write_lines.ensures.cause c.write_lines.ensures.none c.write_lines.ensures.failed c.write_lines.ensures.ok c.write_lines.ensures.err)
+    subst (λ (n : Names). RunsRecover g.H.World.tells n s0 s2 c.write_bytes.result) c.in_ok-names.ensures.names
+    (mode_written IsSame (IsRecovery (content_of s0 names.swp) (content_of s0 names.swo)) (RefusesRecover (content_of s0 names.swp) (content_of s0 names.swo)) g.H.World.tells s0 s1 s2 c.bytes.result.now c.write_bytes.result
+    (λ told. (c.in_ok-text.text, c.in_ok-text.ensures.text told, c.bytes.ensures)) (reads_change s0 s1 c.read_text.ensures.reads.frame) (c.in_ok-text.ensures.none (λ is. cc)).faults
+    (c.in_ok-text.ensures.none (λ is. cc)).quiet (reads_proceed g.H.World.tells s0 s1 c.read_text.ensures.reads) c.write_bytes.ensures.outputs c.write_bytes.ensures.cause c.write_bytes.ensures.none c.write_bytes.ensures.failed c.write_bytes.ensures.ok c.write_bytes.ensures.err)

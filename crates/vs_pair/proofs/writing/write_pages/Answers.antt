@@ -1,4 +1,4 @@
-use Rattle.std.proofs.Common.{drop, refl, arith, length-drop}
+use Rattle.std.proofs.Common.{◌≤◌, ◌*◌, length, drop, refl, arith, length-drop, length-take}
 use Rattle.std.proofs.lemmas.List.{take_all}
 use Rattle.std.proofs.lemmas.Result.{on_ok_weaker}
 use Rattle.vs_host.specs.Trace.{Wrote, Synced}
@@ -6,15 +6,15 @@ use Rattle.vs_pages.specs.Memory.{committed_of}
 use Rattle.vs_pair.specs.Swap.{KeepsMark}
 use Rattle.vs_pair.proofs.Acts.{none_call, none_then}
 use Rattle.vs_pair.proofs.Calls.{write_acts, sync_acts, acts_file, there_and, is_there}
-use Rattle.vs_pair.proofs.PageWrites.{keeps_joins, write_after, sync_after, has_first, has_more, has_all, next_place}
+use Rattle.vs_pair.proofs.PageWrites.{keeps_joins, write_after, sync_after, has_first, has_more, has_all, next_place, run_cut}
 use Rattle.vs_pair.proofs.writing.write_pages.Goals as goal
 
 pub returns-in_err-write_at-clause-acts : goal.returns-in_err-write_at-clause-acts
 returns-in_err-write_at-clause-acts g c =
     write_acts g.F.World.tells c.args.name.now KeepsMark 2 _ (write_after 2 _ (omega arith)) c.write_at.result _ _ c.write_at.ensures.some c.write_at.ensures.cause c.write_at.ensures.told c.write_at.ensures.frame
 
-pub loop-at-init : goal.loop-at-init
-loop-at-init g c = record {
+pub runs-init : goal.runs-init
+runs-init g c = record {
   some = omega arith;
   acts = write_acts g.F.World.tells c.args.name.now KeepsMark 2 _ (write_after 2 _ (omega arith)) c.write_at.result _ _ c.write_at.ensures.some c.write_at.ensures.cause c.write_at.ensures.told c.write_at.ensures.frame;
   none = none_call g.F.World.tells Wrote _ c.write_at.result _ _ c.write_at.ensures.frame c.write_at.ensures.told c.in_ok-write_at.ensures.quiet;
@@ -22,46 +22,47 @@ loop-at-init g c = record {
       has_first c.args.name.now c.args.first.now (committed_of c.args.pages.now) _ c.requires.size (take_all _ (drop 2 c.args.first.now) (omega (arith, length-drop 2 c.args.first.now))) _ _ (c.requires.there told) (c.in_ok-write_at.ensures.ok told);
 }
 
-pub write_at-requires-in-loop-at : goal.write_at-requires-in-loop-at
-write_at-requires-in-loop-at g c told =
-    there_and _ c.args.name.now _ (next_place c.args.name.now c.args.first.now (committed_of c.args.pages.now) _ c.loop-at.at (omega arith) _ _ (c.requires.there told) (c.loop-at.invariant.so_far told))
+pub write_at-requires-in-runs : goal.write_at-requires-in-runs
+write_at-requires-in-runs g c told =
+    there_and _ c.args.name.now _ (next_place c.args.name.now c.args.first.now (committed_of c.args.pages.now) _ c.runs.at (omega arith) _ _ (c.requires.there told) (c.runs.invariant.so_far told))
 
 pub sync-requires : goal.sync-requires
 sync-requires g c told =
-    is_there _ c.args.name.now _ (next_place c.args.name.now c.args.first.now (committed_of c.args.pages.now) _ c.loop-at.at refl _ _ (c.requires.there told) (c.loop-at.invariant.so_far told))
+    is_there _ c.args.name.now _ (next_place c.args.name.now c.args.first.now (committed_of c.args.pages.now) _ c.runs.at refl _ _ (c.requires.there told) (c.runs.invariant.so_far told))
 
 pub returns-in_err-write_at-2-clause-acts : goal.returns-in_err-write_at-2-clause-acts
 returns-in_err-write_at-2-clause-acts g c =
-    acts_file g.F.World.tells c.args.name.now KeepsMark KeepsMark KeepsMark (λ a b keeps. keeps) keeps_joins _ _ _ c.loop-at.invariant.none c.loop-at.invariant.acts
-    (write_acts g.F.World.tells c.args.name.now KeepsMark _ _ (write_after _ _ (omega (arith, c.loop-at.invariant.some))) c.write_at-in-loop-at.result _ _ c.write_at-in-loop-at.ensures.some c.write_at-in-loop-at.ensures.cause
-    c.write_at-in-loop-at.ensures.told c.write_at-in-loop-at.ensures.frame)
+    acts_file g.F.World.tells c.args.name.now KeepsMark KeepsMark KeepsMark (λ a b keeps. keeps) keeps_joins _ _ _ c.runs.invariant.none c.runs.invariant.acts
+    (write_acts g.F.World.tells c.args.name.now KeepsMark _ _ (write_after _ _ (omega (arith, c.runs.invariant.some))) c.write_at-in-runs.result _ _ c.write_at-in-runs.ensures.some c.write_at-in-runs.ensures.cause
+    c.write_at-in-runs.ensures.told c.write_at-in-runs.ensures.frame)
 
-pub loop-at-preserved : goal.loop-at-preserved
-loop-at-preserved g c = record {
+pub runs-preserved : goal.runs-preserved
+runs-preserved g c = record {
   some = omega arith;
-  acts = acts_file g.F.World.tells c.args.name.now KeepsMark KeepsMark KeepsMark (λ a b keeps. keeps) keeps_joins _ _ _ c.loop-at.invariant.none c.loop-at.invariant.acts
-      (write_acts g.F.World.tells c.args.name.now KeepsMark _ _ (write_after _ _ (omega (arith, c.loop-at.invariant.some))) c.write_at-in-loop-at.result _ _ c.write_at-in-loop-at.ensures.some c.write_at-in-loop-at.ensures.cause
-      c.write_at-in-loop-at.ensures.told c.write_at-in-loop-at.ensures.frame);
-  none = none_then g.F.World.tells _ _ _ c.loop-at.invariant.none
-      (none_call g.F.World.tells Wrote _ c.write_at-in-loop-at.result _ _ c.write_at-in-loop-at.ensures.frame c.write_at-in-loop-at.ensures.told c.in_ok-write_at-2.ensures.quiet);
+  acts = acts_file g.F.World.tells c.args.name.now KeepsMark KeepsMark KeepsMark (λ a b keeps. keeps) keeps_joins _ _ _ c.runs.invariant.none c.runs.invariant.acts
+      (write_acts g.F.World.tells c.args.name.now KeepsMark _ _ (write_after _ _ (omega (arith, c.runs.invariant.some))) c.write_at-in-runs.result _ _ c.write_at-in-runs.ensures.some c.write_at-in-runs.ensures.cause
+      c.write_at-in-runs.ensures.told c.write_at-in-runs.ensures.frame);
+  none = none_then g.F.World.tells _ _ _ c.runs.invariant.none
+      (none_call g.F.World.tells Wrote _ c.write_at-in-runs.result _ _ c.write_at-in-runs.ensures.frame c.write_at-in-runs.ensures.told c.in_ok-write_at-2.ensures.quiet);
   so_far = λ told.
-      has_more c.args.name.now c.args.first.now (committed_of c.args.pages.now) c.page_or_zeros.result.now _ c.loop-at.at c.loop-at.invariant.some (omega arith) c.page_or_zeros.ensures.size c.page_or_zeros.ensures.page c.page_or_zeros.ensures.zeros _ _ _
-      (c.loop-at.invariant.so_far told) (c.in_ok-write_at-2.ensures.ok told);
+      let room : c.min-count.result * 4096 ≤ length c.fill_run.new.run = omega (arith, c.fill_run.ensures.size, c.min-count.ensures, c.min-count.array_long) in
+      has_more c.args.name.now c.args.first.now (committed_of c.args.pages.now) _ _ c.runs.at c.min-count.result c.runs.invariant.some (omega arith) (omega (arith, room, length-take (c.min-count.result * 4096) c.fill_run.new.run))
+      (run_cut (committed_of c.args.pages.now) c.runs.at c.min-count.result (c.min-count.result * 4096) c.fill_run.new.run (omega arith) room c.fill_run.ensures.pages) _ _ _ (c.runs.invariant.so_far told) (c.in_ok-write_at-2.ensures.ok told);
 }
 
 pub returns-clause-acts : goal.returns-clause-acts
 returns-clause-acts g c =
-    acts_file g.F.World.tells c.args.name.now KeepsMark KeepsMark KeepsMark (λ a b keeps. keeps) keeps_joins _ _ _ c.loop-at.invariant.none c.loop-at.invariant.acts
+    acts_file g.F.World.tells c.args.name.now KeepsMark KeepsMark KeepsMark (λ a b keeps. keeps) keeps_joins _ _ _ c.runs.invariant.none c.runs.invariant.acts
     (sync_acts g.F.World.tells c.args.name.now KeepsMark sync_after c.sync.result _ _ c.sync.ensures.ok c.sync.ensures.err c.sync.ensures.cause c.sync.ensures.told c.sync.ensures.frame)
 
 pub returns-clause-written : goal.returns-clause-written
 returns-clause-written g c =
     on_ok_weaker c.sync.result
-    (λ syncs told. has_all c.args.name.now c.args.first.now (committed_of c.args.pages.now) c.loop-at.at c.committed_end-at-end.result c.loop-at-test.false c.committed_end-at-end.ensures.past _ _ _ (c.loop-at.invariant.so_far told) (syncs told))
+    (λ syncs told. has_all c.args.name.now c.args.first.now (committed_of c.args.pages.now) c.runs.at c.committed_end-end.result (omega arith) c.committed_end-end.ensures.past _ _ _ (c.runs.invariant.so_far told) (syncs told))
     c.sync.ensures.ok
 
 pub returns-clause-none : goal.returns-clause-none
 returns-clause-none g c =
     on_ok_weaker c.sync.result
-    (λ quiet. none_then g.F.World.tells _ _ _ c.loop-at.invariant.none (none_call g.F.World.tells Synced _ c.sync.result _ _ c.sync.ensures.frame c.sync.ensures.told quiet))
+    (λ quiet. none_then g.F.World.tells _ _ _ c.runs.invariant.none (none_call g.F.World.tells Synced _ c.sync.result _ _ c.sync.ensures.frame c.sync.ensures.told quiet))
     c.sync.ensures.quiet

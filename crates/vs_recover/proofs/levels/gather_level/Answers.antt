@@ -14,8 +14,8 @@ returns-then-not-branch-clause-value g c = λ file is.
     let d : Entry = record { block = 0; pages = 0; lines = 0 } in
     let f : Entry → Option (List (List ℕ)) = λ e. plain (lines_at swap_format (pages_in file) e) in
     let none = extends_none _ _ _ _ c.if-not-branch.true (c.in_ok-load_lines.ensures.value file (file_stays _ _ _ _ file c.loop-entry.invariant.reads.frame is)) in
-    ap (λ o. chained (Some c.args.first.items) o) (sym (plain_chain (λ (e : Entry). lines_at swap_format (pages_in file) e) c.args.others.now))
-    ∙ chain_stops f c.args.first.items c.args.others.now c.loop-entry.entry-index d c.loop-entry.lines.items (omega arith) none (c.loop-entry.invariant.so file is)
+    ap (λ o. chained (Some c.args.first) o) (sym (plain_chain (λ (e : Entry). lines_at swap_format (pages_in file) e) c.args.others.now))
+    ∙ chain_stops f c.args.first c.args.others.now c.loop-entry.entry-index d c.loop-entry.lines (omega arith) none (c.loop-entry.invariant.so file is)
 
 pub loop-entry-preserved : goal.loop-entry-preserved
 loop-entry-preserved g c = record {
@@ -23,7 +23,7 @@ loop-entry-preserved g c = record {
       let d : Entry = record { block = 0; pages = 0; lines = 0 } in
       let f : Entry → Option (List (List ℕ)) = λ e. plain (lines_at swap_format (pages_in file) e) in
       let some = extends_some _ _ _ _ c.if-not-branch.false (c.in_ok-load_lines.ensures.value file (file_stays _ _ _ _ file c.loop-entry.invariant.reads.frame is)) in
-      chain_add f c.args.first.items c.args.others.now c.loop-entry.entry-index d c.loop-entry.lines.items c.load_lines.new.lines.items (omega arith) some (c.loop-entry.invariant.so file is);
+      chain_add f c.args.first c.args.others.now c.loop-entry.entry-index d c.loop-entry.lines c.load_lines.new.lines (omega arith) some (c.loop-entry.invariant.so file is);
   later = omega (arith, c.in_ok-load_lines.ensures.later, c.loop-entry.invariant.later);
   reads = reads_on c.loop-entry.invariant.none c.loop-entry.invariant.reads c.load_lines.ensures.reads;
   none = none_then c.loop-entry.invariant.none c.in_ok-load_lines.ensures.none;
@@ -33,8 +33,8 @@ loop-entry-preserved g c = record {
 pub returns-clause-value : goal.returns-clause-value
 returns-clause-value g c = λ file is.
     let f : Entry → Option (List (List ℕ)) = λ e. plain (lines_at swap_format (pages_in file) e) in
-    ap (λ o. chained (Some c.args.first.items) o) (sym (plain_chain (λ (e : Entry). lines_at swap_format (pages_in file) e) c.args.others.now))
-    ∙ chain_ends f c.args.first.items c.args.others.now c.loop-entry.entry-index c.loop-entry.lines.items (omega arith) (c.loop-entry.invariant.so file is)
+    ap (λ o. chained (Some c.args.first) o) (sym (plain_chain (λ (e : Entry). lines_at swap_format (pages_in file) e) c.args.others.now))
+    ∙ chain_ends f c.args.first c.args.others.now c.loop-entry.entry-index c.loop-entry.lines (omega arith) (c.loop-entry.invariant.so file is)
 
 pub loop-entry-init : goal.loop-entry-init
 loop-entry-init g c = record {

@@ -8,7 +8,7 @@ use Rattle.vs_recover.proofs.levels.gather_level.Given as goal
 
 abbrev pub invariant-loop-entry : goal.invariant-loop-entry
 invariant-loop-entry g l = record {
-  so : (file : List ℕ) → IsFile g.F.World.tells (g.F.World.scene l.fn.host) l.name file → So (λ e. plain (lines_at swap_format (pages_in file) e)) l.fn.first.items l.others l.entry-index l.lines.items;
+  so : (file : List ℕ) → IsFile g.F.World.tells (g.F.World.scene l.fn.host) l.name file → So (λ e. plain (lines_at swap_format (pages_in file) e)) l.fn.first l.others l.entry-index l.lines;
   later : (g.F.World.scene l.fn.host).folder_faults ≤ (g.F.World.scene l.host).folder_faults;
   reads : Reads g.F.World.tells (g.F.World.scene l.fn.host) (g.F.World.scene l.host);
   none : NoneFails g.F.World.tells (g.F.World.scene l.fn.host) (g.F.World.scene l.host);

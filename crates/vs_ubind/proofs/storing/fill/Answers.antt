@@ -25,8 +25,8 @@ returns-in_err-write_at-clause-acts g c =
     spares_one g.F.World.tells name s0 s1 c.requires.alone
     (write_acts g.F.World.tells name Changes 0 (length c.args.bytes.now) (λ a b some. tt) c.write_at.result s0 s1 c.write_at.ensures.some c.write_at.ensures.cause c.write_at.ensures.told c.write_at.ensures.frame)
 
-pub sync-requires : goal.sync-requires
-sync-requires g c told =
+pub sync_like-requires : goal.sync_like-requires
+sync_like-requires g c told =
     ap (λ (o : Option (List ℕ)). is_some o)
     (written_end c.args.name.now 0 c.args.bytes.now [] (g.F.World.scene c.args.host.now).folder (g.F.World.scene c.write_at.new.self).folder (c.in_ok-write_at.ensures.ok told) (c.requires.empty told) refl)
 
@@ -35,30 +35,30 @@ returns-clause-acts g c =
     let name = c.args.name.now in
     let s0 : Scene = g.F.World.scene c.args.host.now in
     let s1 : Scene = g.F.World.scene c.write_at.new.self in
-    let s2 : Scene = g.F.World.scene c.sync.new.self in
+    let s2 : Scene = g.F.World.scene c.sync_like.new.host in
     spares_acts g.F.World.tells (one_name name) s0 s1 s2
     (none_call g.F.World.tells Wrote (name ∷ []) c.write_at.result s0 s1 c.write_at.ensures.frame c.write_at.ensures.told c.in_ok-write_at.ensures.quiet)
     (spares_one g.F.World.tells name s0 s1 c.requires.alone
     (write_acts g.F.World.tells name Changes 0 (length c.args.bytes.now) (λ a b some. tt) c.write_at.result s0 s1 c.write_at.ensures.some c.write_at.ensures.cause c.write_at.ensures.told c.write_at.ensures.frame))
     (spares_one g.F.World.tells name s1 s2 (λ told. alone_file name (WritesSome 0 (length c.args.bytes.now)) s0.folder s1.folder (c.write_at.ensures.some told) (c.requires.alone told))
-    (sync_acts g.F.World.tells name Changes (λ a b may. tt) c.sync.result s1 s2 c.sync.ensures.ok c.sync.ensures.err c.sync.ensures.cause c.sync.ensures.told c.sync.ensures.frame))
+    (sync_acts g.F.World.tells name Changes (λ a b may. tt) c.sync_like.result s1 s2 c.sync_like.ensures.ok c.sync_like.ensures.err c.sync_like.ensures.cause c.sync_like.ensures.told c.sync_like.ensures.frame))
 
 pub returns-clause-synced : goal.returns-clause-synced
 returns-clause-synced g c =
     let s0 : Scene = g.F.World.scene c.args.host.now in
     let s1 : Scene = g.F.World.scene c.write_at.new.self in
-    let s2 : Scene = g.F.World.scene c.sync.new.self in
-    on_ok_weaker c.sync.result
+    let s2 : Scene = g.F.World.scene c.sync_like.new.host in
+    on_ok_weaker c.sync_like.result
     (λ syncs told. synced_content c.args.name.now c.args.bytes.now s1.folder s2.folder (syncs told)
-    (written_end c.args.name.now 0 c.args.bytes.now [] s0.folder s1.folder (c.in_ok-write_at.ensures.ok told) (c.requires.empty told) refl)) c.sync.ensures.ok
+    (written_end c.args.name.now 0 c.args.bytes.now [] s0.folder s1.folder (c.in_ok-write_at.ensures.ok told) (c.requires.empty told) refl)) c.sync_like.ensures.ok
 
 pub returns-clause-none : goal.returns-clause-none
 returns-clause-none g c =
     let s0 : Scene = g.F.World.scene c.args.host.now in
     let s1 : Scene = g.F.World.scene c.write_at.new.self in
-    let s2 : Scene = g.F.World.scene c.sync.new.self in
-    on_ok_weaker c.sync.result
+    let s2 : Scene = g.F.World.scene c.sync_like.new.host in
+    on_ok_weaker c.sync_like.result
     (λ quiet. none_then g.F.World.tells s0 s1 s2
     (none_call g.F.World.tells Wrote (c.args.name.now ∷ []) c.write_at.result s0 s1 c.write_at.ensures.frame c.write_at.ensures.told c.in_ok-write_at.ensures.quiet)
-    (none_call g.F.World.tells Synced (c.args.name.now ∷ []) c.sync.result s1 s2 c.sync.ensures.frame c.sync.ensures.told quiet))
-    c.sync.ensures.quiet
+    (none_call g.F.World.tells Synced (c.args.name.now ∷ []) c.sync_like.result s1 s2 c.sync_like.ensures.frame c.sync_like.ensures.told quiet))
+    c.sync_like.ensures.quiet

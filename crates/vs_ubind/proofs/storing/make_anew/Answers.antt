@@ -14,22 +14,22 @@ returns-clause-acts g c =
     let on = one_name c.args.name.now in
     let s0 : Scene = g.F.World.scene c.args.host.now in
     let s1 : Scene = g.F.World.scene c.clear.new.host in
-    let s2 : Scene = g.F.World.scene c.create.new.self in
+    let s2 : Scene = g.F.World.scene c.create_private.new.self in
     spares_acts g.F.World.tells on s0 s1 s2 c.in_ok-clear.ensures.none c.clear.ensures.acts
-    (spares_call g.F.World.tells on (CreatesFile c.args.name.now) (spares_created c.args.name.now) Created (c.args.name.now ∷ []) c.create.result s1 s2
-    c.create.ensures.ok c.create.ensures.err c.create.ensures.cause c.create.ensures.told c.create.ensures.frame)
+    (spares_call g.F.World.tells on (CreatesFile c.args.name.now) (spares_created c.args.name.now) Created (c.args.name.now ∷ []) c.create_private.result s1 s2
+    c.create_private.ensures.ok c.create_private.ensures.err c.create_private.ensures.cause c.create_private.ensures.told c.create_private.ensures.frame)
 
 pub returns-clause-alone : goal.returns-clause-alone
 returns-clause-alone g c =
-    on_ok_weaker c.create.result
-    (λ creates told. alone_created c.args.name.now (g.F.World.scene c.clear.new.host).folder (g.F.World.scene c.create.new.self).folder (creates told)) c.create.ensures.ok
+    on_ok_weaker c.create_private.result
+    (λ creates told. alone_created c.args.name.now (g.F.World.scene c.clear.new.host).folder (g.F.World.scene c.create_private.new.self).folder (creates told)) c.create_private.ensures.ok
 
 pub returns-clause-none : goal.returns-clause-none
 returns-clause-none g c =
     let s0 : Scene = g.F.World.scene c.args.host.now in
     let s1 : Scene = g.F.World.scene c.clear.new.host in
-    let s2 : Scene = g.F.World.scene c.create.new.self in
-    on_ok_weaker c.create.result
+    let s2 : Scene = g.F.World.scene c.create_private.new.self in
+    on_ok_weaker c.create_private.result
     (λ quiet. none_then g.F.World.tells s0 s1 s2 c.in_ok-clear.ensures.none
-    (none_call g.F.World.tells Created (c.args.name.now ∷ []) c.create.result s1 s2 c.create.ensures.frame c.create.ensures.told quiet))
-    c.create.ensures.quiet
+    (none_call g.F.World.tells Created (c.args.name.now ∷ []) c.create_private.result s1 s2 c.create_private.ensures.frame c.create_private.ensures.told quiet))
+    c.create_private.ensures.quiet

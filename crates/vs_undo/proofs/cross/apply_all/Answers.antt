@@ -6,7 +6,8 @@ use Rattle.vs_edit.proofs.Steps.{Continues-trans}
 use Rattle.vs_edit.proofs.UndoingLemmas.{reverse_pushed}
 use Rattle.vs_entries.specs.Entries.{Leads, LeadsCount, applied}
 use Rattle.vs_undo.specs.Edges.{IsLed}
-use Rattle.vs_undo.proofs.EdgeLemmas.{back_step, led_step, leads_back_counted}
+use Rattle.vs_entries.proofs.EntryLemmas.{leads_back_counted}
+use Rattle.vs_undo.proofs.EdgeLemmas.{back_step, led_step}
 use Rattle.vs_undo.proofs.cross.apply_all.Goals as goal
 
 pub apply-requires-clause-allowed : goal.apply-requires-clause-allowed

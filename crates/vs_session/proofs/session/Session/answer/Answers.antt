@@ -1,5 +1,5 @@
-use Rattle.std.proofs.Common.{false, sym, ap, ◌∙◌}
-use Rattle.vs_session.specs.Session.{is_write}
+use Rattle.std.proofs.Common.{◌≡◌, ◌||◌, false, sym, ap, ◌∙◌}
+use Rattle.vs_session.specs.Session.{is_rundo, is_write, is_wundo, uses_files}
 use Rattle.vs_session.proofs.SessionLemmas.{quits_is, begins_is}
 use Rattle.vs_session.proofs.Steps.{answers_plainly}
 use Rattle.vs_session.proofs.session.Session.answer.Goals as goal
@@ -8,6 +8,10 @@ pub returns-clause-step : goal.returns-clause-step
 returns-clause-step g c told state syncs instruction fits is =
     let old = g.F.World.scene c.args.host.now in
     let new = g.F.World.scene c.carry_out-outcome.new.host in
-    answers_plainly state syncs instruction c.args.self.now old (quits_is c.args.self.now old.folder state syncs instruction _ false fits is.parsed c.requires.goes_on) fits (sym (ap is_write is.parsed) ∙ sym c.is_write.ensures ∙ c.if-is_write.false) c.carry_out-outcome.new.self _ _ new
+    let no_write : is_write instruction.parsed ≡ false = sym (ap is_write is.parsed) ∙ sym c.is_write.ensures ∙ c.if-is_write.false in
+    let no_wundo : is_wundo instruction.parsed ≡ false = sym (ap is_wundo is.parsed) ∙ sym c.is_wundo.ensures ∙ c.if-is_wundo.false in
+    let no_rundo : is_rundo instruction.parsed ≡ false = sym (ap is_rundo is.parsed) ∙ sym c.is_rundo.ensures ∙ c.if-is_rundo.false in
+    let plain : uses_files instruction.parsed ≡ false = λ i. (no_write i || no_wundo i) || no_rundo i in
+    answers_plainly state syncs instruction c.args.self.now old (quits_is c.args.self.now old.folder state syncs instruction _ false fits is.parsed c.requires.goes_on) fits plain c.carry_out-outcome.new.self _ _ new
     (begins_is c.args.self.now old.folder state syncs instruction _ false fits is.parsed (sym c.begins_sync.ensures ∙ c.if-begins_sync.false)) c.carry_out-outcome.ensures.file.names c.carry_out-outcome.ensures.frame
     (c.carry_out-outcome.ensures.looks told) c.carry_out-outcome.ensures.cause (c.carry_out-outcome.ensures.reply told state syncs instruction fits is) (c.carry_out-outcome.ensures.fits told state syncs instruction fits is)

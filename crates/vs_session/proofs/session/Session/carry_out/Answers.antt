@@ -1,16 +1,16 @@
 use Rattle.std.proofs.Common.{sym, ap, ◌∙◌}
 use Rattle.vs_session.specs.Session.{own_reply}
-use Rattle.vs_session.proofs.SessionLemmas.{own_carried, own_is, reply_own, reply_machine}
+use Rattle.vs_session.proofs.SessionLemmas.{own_carried, reply_own, reply_machine}
 use Rattle.vs_session.proofs.session.Session.carry_out.Goals as goal
 
 pub returns-in-Some-clause-reply : goal.returns-in-Some-clause-reply
-returns-in-Some-clause-reply g c told state syncs instruction fits is = reply_own (own_reply state.options instruction.parsed) _ _ (sym (own_is c.args.self.now _ state syncs instruction _ fits is.parsed) ∙ sym c.in-Some.ensures)
+returns-in-Some-clause-reply g c told state syncs instruction fits is = reply_own (own_reply instruction.parsed) _ _ (sym (ap own_reply is.parsed) ∙ sym c.in-Some.ensures)
 
 pub returns-in-Some-clause-fits : goal.returns-in-Some-clause-fits
 returns-in-Some-clause-fits g c told state syncs instruction fits is =
     let now = own_carried c.args.self.now _ _ _ state syncs instruction _ _ is.parsed (sym c.in-Some.ensures) c.options_set-self.ensures fits in
-    record { stands = now.stands; name = now.name; cursor = now.cursor; saved = now.saved; steps = now.steps; options = now.options }
+    record { stands = now.stands; name = now.name; cursor = now.cursor; saved = now.saved; steps = now.steps; options = now.options; acknowledged = now.acknowledged }
 
 pub returns-in-None-clause-reply : goal.returns-in-None-clause-reply
 returns-in-None-clause-reply g c told state syncs instruction fits is =
-    reply_machine c.run_machine.result.0 (own_reply state.options instruction.parsed) _ _ (sym (own_is c.args.self.now _ state syncs instruction _ fits is.parsed) ∙ sym c.in-None.ensures) (c.run_machine.ensures.reply told state syncs instruction fits is)
+    reply_machine c.run_machine.result.0 (own_reply instruction.parsed) _ _ (sym (ap own_reply is.parsed) ∙ sym c.in-None.ensures) (c.run_machine.ensures.reply told state syncs instruction fits is)

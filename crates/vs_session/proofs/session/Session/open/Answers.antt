@@ -73,6 +73,7 @@ returns-clause-fits g c = λ told.
       saved = refl;
       steps = refl;
       options = c.first_options.ensures;
+      acknowledged = refl;
     }
 
 pub returns-clause-over : goal.returns-clause-over

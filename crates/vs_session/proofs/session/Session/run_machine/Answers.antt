@@ -21,6 +21,7 @@ returns-in-Ok-clause-fits g c told state syncs instruction fits is =
       saved = fits.saved;
       steps = c.counted-self.ensures.count ∙ counted_is c.args.self.now _ (g.F.World.scene c.args.host.now).folder state (machine.done_state state.machine c.args.at (meaning_at state.machine instruction)) syncs c.current-before.result c.current.result fits after.0.history c.current-before.ensures c.current.ensures;
       options = stays_set c.args.self.now _ state syncs instruction _ fits is.parsed c.requires.own;
+      acknowledged = fits.acknowledged;
     }
 
 pub returns-in-Err-NoMemory-clause-fits : goal.returns-in-Err-NoMemory-clause-fits
@@ -31,6 +32,7 @@ returns-in-Err-NoMemory-clause-fits g c told state syncs instruction fits is = r
   saved = fits.saved;
   steps = fits.steps ∙ sym (counted_same state.steps (current_of state.machine));
   options = fits.options;
+  acknowledged = fits.acknowledged;
 }
 
 pub returns-in-Err-Failed-clause-fits : goal.returns-in-Err-Failed-clause-fits
@@ -41,4 +43,5 @@ returns-in-Err-Failed-clause-fits g c told state syncs instruction fits is = rec
   saved = fits.saved;
   steps = fits.steps ∙ sym (counted_same state.steps (current_of state.machine));
   options = fits.options;
+  acknowledged = fits.acknowledged;
 }

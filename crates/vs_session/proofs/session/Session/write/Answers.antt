@@ -1,4 +1,4 @@
-use Rattle.std.proofs.Common.{◌≡◌, Bool, List, ℕ, Result, Ok, Err, length, refl, sym, ap, subst, ◌∙◌}
+use Rattle.std.proofs.Common.{◌≡◌, Bool, List, ℕ, Some, Result, Ok, Err, length, refl, sym, ap, subst, ◌∙◌}
 use Rattle.vs_backup.specs.Backups.{IsNoName}
 use Rattle.vs_backup.specs.declared.errors.WriteErr.{WriteErr}
 use Rattle.vs_tree.specs.declared.tree.LineTree.{LineTree}
@@ -19,12 +19,13 @@ returns-in-Ok-clause-wrote g c told state syncs fits =
     (c.in-Ok.ensures.recovers told state.machine.text syncs fits.stands.text) (c.in-Ok.ensures.others told) refl
     (c.written-reply.ensures ∙ (λ i. says (written_line ((c.deref.ensures ∙ fits.name) i) (lines i) c.in-Ok.bytes)))
     (record {
-      stands = record { text = c.in-Ok.ensures.fits told state.machine.text syncs fits.stands.text; history = c.mark_write-self.ensures.history state.machine.text state.machine.history fits.stands.history };
+      stands = record { text = c.in-Ok.ensures.fits told state.machine.text syncs fits.stands.text; history = c.mark_write.ensures.history state.machine.text state.machine.history fits.stands.history };
       name = fits.name;
       cursor = fits.cursor;
-      saved = c.current-self.ensures ∙ ap (λ (p : Parts). p.current) c.mark_write-self.ensures.parts ∙ marked_current c.args.self.now.history ∙ current_is c.args.self.now.history state.machine fits.stands.history;
+      saved = ap Some (c.current.ensures ∙ ap (λ (p : Parts). p.current) c.mark_write.ensures.parts ∙ marked_current c.args.self.now.history ∙ current_is c.args.self.now.history state.machine fits.stands.history);
       steps = fits.steps;
       options = fits.options;
+      acknowledged = fits.acknowledged;
     })
 
 pub returns-in-Err-NoBackupName-clause-wrote : goal.returns-in-Err-NoBackupName-clause-wrote
@@ -33,7 +34,7 @@ returns-in-Err-NoBackupName-clause-wrote g c told state syncs fits =
     let new = g.F.World.scene c.write_text.new.host in
     let why = c.in-Err-NoBackupName.field-0 in
     wrote state syncs c.args.self.now _ old new (Err why) _ _ fits (c.in-Err-NoBackupName.ensures.written told state.machine.text syncs fits.stands.text)
-    (λ is. subst (λ (b : Bool). IsNoName c.args.self.now.options (names_of c.args.self.now).file b old.folder) told (c.in-Err-NoBackupName.ensures.no_name (ap refused c.in-Err-NoBackupName.field-0-is)))
+    (λ is. subst (λ (b : Bool). IsNoName c.args.self.now.options.write (names_of c.args.self.now).file b old.folder) told (c.in-Err-NoBackupName.ensures.no_name (ap refused c.in-Err-NoBackupName.field-0-is)))
     (c.in-Err-NoBackupName.ensures.recovers told state.machine.text syncs fits.stands.text) (c.in-Err-NoBackupName.ensures.others told)
     (sym (ap (λ (e : WriteErr). outcome_to (Err e)) c.in-Err-NoBackupName.field-0-is)) (c.no_backup_name.ensures ∙ sym (ap (λ (e : WriteErr). reply_to state (Err e)) c.in-Err-NoBackupName.field-0-is))
     (record {
@@ -43,6 +44,7 @@ returns-in-Err-NoBackupName-clause-wrote g c told state syncs fits =
       saved = fits.saved;
       steps = fits.steps;
       options = fits.options;
+      acknowledged = fits.acknowledged;
     })
 
 pub returns-in-Err-NoMemory-clause-wrote : goal.returns-in-Err-NoMemory-clause-wrote
@@ -61,6 +63,7 @@ returns-in-Err-NoMemory-clause-wrote g c told state syncs fits =
       saved = fits.saved;
       steps = fits.steps;
       options = fits.options;
+      acknowledged = fits.acknowledged;
     })
 
 pub returns-in-Err-Failed-clause-wrote : goal.returns-in-Err-Failed-clause-wrote
@@ -79,4 +82,5 @@ returns-in-Err-Failed-clause-wrote g c told state syncs fits =
       saved = fits.saved;
       steps = fits.steps;
       options = fits.options;
+      acknowledged = fits.acknowledged;
     })

@@ -1,0 +1,15 @@
+# Builds, tests and installs the program. The work is done by tools/build, tests/run and tools/install.
+PREFIX = /usr/local
+DESTDIR =
+PROGRAM = crates/vs_main/out/vs_main
+
+.PHONY: all test install
+
+all:
+	tools/build
+
+test:
+	tests/run
+
+install:
+	DESTDIR='$(DESTDIR)' PREFIX='$(PREFIX)' tools/install '$(PROGRAM)'

@@ -1,0 +1,42 @@
+use Rattle.std.proofs.Common.{◌≡◌, ℕ, List, IsTrue, length}
+use Rattle.vs_text.specs.Text.{file_of}
+use Rattle.vs_host.specs.World.{Scene}
+use Rattle.vs_disk.specs.Images.{IsSynced}
+use Rattle.vs_backup.specs.Writing.{IsFilled}
+use Rattle.vs_backup.proofs.Anew.{absent_not_made, absent_filled, anew_not_made, anew_filled}
+use Rattle.vs_backup.proofs.Frames.{ok_with}
+use Rattle.vs_backup.proofs.backup.fill_anew.Goals as goal
+
+pub returns-in_err-create_private-clause-anew : goal.returns-in_err-create_private-clause-anew
+returns-in_err-create_private-clause-anew g c = record {
+  each = λ told number old differ guard.
+      anew_not_made c.args.name.now c.args.backup.now number old differ (g.D.World.scene c.args.desk.now) (g.D.World.scene c.create_private.new.self) guard
+      c.create_private.ensures.frame c.create_private.result (c.create_private.ensures.told told) c.in_err-create_private.ensures.err;
+}
+
+pub returns-in_err-create_private-clause-absent : goal.returns-in_err-create_private-clause-absent
+returns-in_err-create_private-clause-absent g c = record {
+  leaves = λ told. absent_not_made c.args.name.now (g.D.World.scene c.args.desk.now).folder (g.D.World.scene c.create_private.new.self).folder c.in_err-create_private.ensures.err (c.requires.free told);
+}
+
+pub returns-clause-anew : goal.returns-clause-anew
+returns-clause-anew g c = record {
+  each = λ told number old differ guard.
+      anew_filled c.args.name.now c.args.backup.now number old differ (g.D.World.scene c.args.desk.now) (g.D.World.scene c.create_private.new.self) guard
+      c.create_private.ensures.frame c.create_private.result (c.create_private.ensures.told told) (c.in_ok-create_private.ensures.ok told) (g.D.World.scene c.fill_like.new.desk) (c.fill_like.ensures.runs told);
+}
+
+pub returns-clause-absent : goal.returns-clause-absent
+returns-clause-absent g c = record {
+  leaves = λ told. absent_filled c.args.name.now (g.D.World.scene c.args.desk.now).folder (g.D.World.scene c.create_private.new.self).folder (g.D.World.scene c.fill_like.new.desk).folder
+      (c.requires.free told) (c.in_ok-create_private.ensures.ok told) (c.fill_like.ensures.runs told).now;
+}
+
+pub returns-clause-ok : goal.returns-clause-ok
+returns-clause-ok g c =
+    let s2 : Scene = g.D.World.scene c.fill_like.new.desk in
+    ok_with c.fill_like.result
+    (λ size. IsTrue g.D.World.tells.folder → (t : List (List ℕ)) → g.D.Desk.has_text c.create_private.new.self t → (size ≡ length (file_of t)) × IsSynced c.args.name.now (file_of t) s2.folder)
+    (λ size. IsFilled g.D.World.tells.folder c.args.name.now (g.D.Desk.has_text c.args.desk.now) size s2)
+    (λ size filled. record { each = λ told text has. filled told text (g.met.D.Desk.stays_text c.args.desk.now c.create_private.new.self text c.create_private.ensures.stays has) })
+    c.fill_like.ensures.ok

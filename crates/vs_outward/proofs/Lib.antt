@@ -1,0 +1,4 @@
+pub mod OutLemmas
+pub mod LedLemmas
+pub mod TriedLemmas
+pub mod FitLemmas

@@ -1,0 +1,46 @@
+-- The steps that are left after the shared ones are those of the path, as far as they fit.
+use Rattle.std.proofs.Common.{◌≡◌, ℕ, ◌++◌, ◌∷◌, List, Option, Some, None, Result, Ok, Err, IfOk, IfNone, IfSome, OnOk, map, reverse}
+use Rattle.vs_edit.specs.declared.store.LineStore.{Ghosts}
+use Rattle.vs_edit.specs.declared.store.StoreErr.{StoreErr}
+use Rattle.vs_edit.proofs.Steps.{Continues-trans}
+use Rattle.vs_entries.specs.Entries.{Leads}
+use Rattle.vs_undo.specs.declared.parts.Node.{Node}
+use Rattle.vs_undo.specs.Edges.{IsLed}
+use Rattle.vs_outward.specs.declared.trail.Step.{Step}
+use Rattle.vs_outward.specs.Outward.{entries_at}
+use Rattle.vs_outward.specs.Trails.{IsBarredBy, IsOnTrail, IsTried}
+use Rattle.vs_outward.proofs.TriedLemmas.{barred_at, tried_barred, tried_whole}
+use Rattle.vs_outward.proofs.trail.walk.Goals as goal
+
+module _ {S : Type 0} (g : Ghosts S) (nodes : List Node) (start before now : S) (old began trail : List Step) (path : List ℕ)
+    (left : (first : S) → IsOnTrail g nodes first old start → IsOnTrail g nodes first began before) where
+  bars : (r : Result (Option ℕ) StoreErr) → OnOk r ((first : S) → IsOnTrail g nodes first began before → IsOnTrail g nodes first trail now)
+      → IfOk r (λ o. IfSome o (λ number. (after : List ℕ) × (path ≡ map (λ (step : Step). step.number) trail ++ number ∷ after)))
+      → IfOk r (λ o. IfSome o (λ number. (text to : List (List ℕ)) → (g.shows now).present.Is text → IsLed Leads (entries_at nodes number) text to → ⊥))
+      → IfOk r (λ o. IfSome o (λ number. (first : S) → IsOnTrail g nodes first old start → (text : List (List ℕ)) → (g.shows first).present.Is text → IsBarredBy nodes (reverse path) text number))
+  bars (Err e) on at refused = tt
+  bars (Ok None) on at refused = tt
+  bars (Ok (Some number)) on at refused = λ first was. barred_at g nodes first trail path at.0 number now (on first (left first was)) at.1 refused
+
+  tries : (r : Result (Option ℕ) StoreErr) → OnOk r ((first : S) → IsOnTrail g nodes first began before → IsOnTrail g nodes first trail now)
+      → IfOk r (λ o. IfNone o (map (λ (step : Step). step.number) trail ≡ path))
+      → IfOk r (λ o. IfSome o (λ number. (after : List ℕ) × (path ≡ map (λ (step : Step). step.number) trail ++ number ∷ after)))
+      → IfOk r (λ o. IfSome o (λ number. (text to : List (List ℕ)) → (g.shows now).present.Is text → IsLed Leads (entries_at nodes number) text to → ⊥))
+      → IfOk r (λ o. (first : S) → IsOnTrail g nodes first old start → IsTried g nodes first o (reverse path))
+  tries (Err e) on whole at refused = tt
+  tries (Ok None) on whole at refused = λ first was. tried_whole g nodes first trail path now (on first (left first was)) whole
+  tries (Ok (Some number)) on whole at refused = λ first was.
+      tried_barred g nodes first (reverse path) number (barred_at g nodes first trail path at.0 number now (on first (left first was)) at.1 refused)
+
+pub returns-clause-tried : goal.returns-clause-tried
+returns-clause-tried g c =
+    tries g.S.LineStore c.args.nodes.now c.args.store.now c.go_in.new.store c.go_out.new.store c.args.trail.now.items c.go_in.new.trail.items c.go_out.new.trail.items c.args.path.now
+    c.in_ok-go_in.ensures.on c.go_out.result c.go_out.ensures.on c.go_out.ensures.whole c.go_out.ensures.barred c.go_out.ensures.refused
+
+pub returns-clause-barred : goal.returns-clause-barred
+returns-clause-barred g c =
+    bars g.S.LineStore c.args.nodes.now c.args.store.now c.go_in.new.store c.go_out.new.store c.args.trail.now.items c.go_in.new.trail.items c.go_out.new.trail.items c.args.path.now
+    c.in_ok-go_in.ensures.on c.go_out.result c.go_out.ensures.on c.go_out.ensures.barred c.go_out.ensures.refused
+
+pub returns-clause-kept : goal.returns-clause-kept
+returns-clause-kept g c = Continues-trans g.met.S.LineStore.stays_on c.in_ok-go_in.ensures.kept c.go_out.ensures.kept

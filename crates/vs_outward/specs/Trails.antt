@@ -1,0 +1,55 @@
+-- What is known while the text of a store is led outward over the changes of a tree, and back.
+use Rattle.std.specs.Prelude.{ℕ, ◌≡◌, ◌<◌, ◌≤◌, ◌⊎◌, true, false, List, [], ◌∷◌, ◌++◌, length, get_or, Option, Some, None, max, reverse}
+use Rattle.vs_edit.specs.declared.store.LineStore.{Ghosts}
+use Rattle.vs_entries.specs.declared.entry.Entry.{Entry}
+use Rattle.vs_entries.specs.Entries.{Leads, LeadsCount}
+use Rattle.vs_undo.specs.declared.parts.Node.{Node}
+use Rattle.vs_undo.specs.declared.parts.Parts.{Parts}
+use Rattle.vs_undo.specs.Edges.{IsLed}
+use Rattle.vs_outward.specs.declared.trail.Step.{Step}
+use Rattle.vs_outward.specs.declared.fitting.Search.{Search}
+use Rattle.vs_outward.specs.Outward.{entries_at, LeadsOver, IsOutward, IsMisfit}
+
+-- The entries of the changes that were crossed lead from one to the other, and the kept ones back. The last step comes first.
+abbrev pub HasTrail : {X : Type 0} (L : Entry → X → X → Type 0) → List Node → List Step → X → X → Type 0
+HasTrail L nodes [] from to = to ≡ from
+HasTrail {X = X} L nodes (step ∷ trail) from to =
+    (x : X) × (HasTrail L nodes trail from x × IsLed L (entries_at nodes step.number) x to × IsLed L step.back to x)
+
+-- A store was led from its first text over these steps, in their order.
+pub record IsOnTrail {S : Type 0} (g : Ghosts S) (nodes : List Node) (first : S) (trail : List Step) (now : S) : Type 0 where
+  pub began : g.valid first
+  pub counts : HasTrail LeadsCount nodes (reverse trail) (max 1 (g.shows first).present.lines) (max 1 (g.shows now).present.lines)
+  pub texts : (text : List (List ℕ)) → (g.shows first).present.Is text
+      → (here : List (List ℕ)) × ((g.shows now).present.Is here × HasTrail Leads nodes (reverse trail) text here)
+
+-- No text within the limits follows over the entries of this change from the one that the changes before it lead to.
+pub record IsBarredBy (nodes : List Node) (path : List ℕ) (text : List (List ℕ)) (number : ℕ) : Type 0 where
+  pub after : List ℕ
+  pub before : List ℕ
+  pub path_is : path ≡ after ++ number ∷ before
+  pub here : List (List ℕ)
+  pub led : LeadsOver Leads nodes before text here
+  pub none : (there : List (List ℕ)) → IsLed Leads (entries_at nodes number) here there → ⊥
+
+-- A path was tried from the first text of a store on: its entries fit, or the one of a change does not, and the least that is known so
+-- far is no greater.
+pub record IsTried {S : Type 0} (g : Ghosts S) (nodes : List Node) (first : S) (least : Option ℕ) (path : List ℕ) : Type 0 where
+  pub counts : least ≡ None → (to : ℕ) × LeadsOver LeadsCount nodes path (max 1 (g.shows first).present.lines) to
+  pub texts : (text : List (List ℕ)) → (g.shows first).present.Is text
+      → ((to : List (List ℕ)) × LeadsOver Leads nodes path text to) ⊎ ((l : ℕ) × ((least ≡ Some l) × ((number : ℕ) × (IsBarredBy nodes path text number × (l ≤ number)))))
+
+-- The path from the current state to another one was tried.
+abbrev pub IsSettledAt : {S : Type 0} (g : Ghosts S) → Parts → S → Option ℕ → ℕ → Type 0
+IsSettledAt g parts first least state = (path : List ℕ) × (IsOutward parts path state × IsTried g parts.nodes first least path)
+
+-- The least change that is known so far does not fit.
+abbrev pub IsKnownMisfit : {S : Type 0} (g : Ghosts S) → Parts → S → Option ℕ → Type 0
+IsKnownMisfit g parts first least = (l : ℕ) → least ≡ Some l → (text : List (List ℕ)) → (g.shows first).present.Is text → IsMisfit parts text l
+
+-- A search over the states of a tree has settled those that it has marked, each at the place of its change.
+pub record IsSearch {S : Type 0} (g : Ghosts S) (parts : Parts) (first : S) (search : Search) (now : S) : Type 0 where
+  pub on : IsOnTrail g parts.nodes first search.trail.items now
+  pub count : length search.settled.items ≡ length parts.nodes
+  pub settled : (i : ℕ) (node : Node) → i < length parts.nodes → get_or search.settled.items i false ≡ true → IsSettledAt g parts first search.least (get_or parts.nodes i node).number
+  pub misfit : IsKnownMisfit g parts first search.least

@@ -1,0 +1,8 @@
+//! Whether the entries of a history fit a text.
+#![tactic(auto)]
+
+mod crossing;
+mod fitting;
+mod trail;
+
+pub use fitting::first_misfit;

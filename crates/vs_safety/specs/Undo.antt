@@ -1,0 +1,36 @@
+-- The undo file that a command stores: what a stop leaves under its name while it is stored, and what it leaves in the end.
+use Rattle.std.specs.Prelude.{◌≡◌, ◌⊎◌, ℕ, Bool, true, List, Option, IsSomeAnd}
+use Rattle.vs_host.specs.Disk.{Disk}
+use Rattle.vs_host.specs.declared.names.Names.{Names}
+use Rattle.vs_disk.specs.Images.{HoldsBytes, MayLeave}
+use Rattle.vs_undo.specs.History.{History}
+use Rattle.vs_ufile.specs.Decode.{IsUndoFile, IsWellFormed}
+use Rattle.vs_ufile.specs.Values as file
+use Rattle.vs_ubind.specs.Bound.{IsBound}
+use Rattle.vs_safety.specs.Texts.{Text}
+use Rattle.vs_safety.specs.Writes.{State}
+
+-- These bytes are a well formed undo file whose entries lead from this text to the texts of this history.
+pub record IsUndoOf (text : Text) (history : History) (bytes : List ℕ) : Type 0 where
+  pub contents : file.History
+  pub formed : IsWellFormed contents
+  pub file : IsUndoFile contents bytes
+  pub bound : IsBound contents text history
+
+-- An undo file that a command stores: the text that it is made for and the history that it is to hold, and the folder when the
+-- command began.
+pub record UndoWrite : Type 0 where
+  pub text : Text
+  pub history : History
+  pub found : Disk
+
+-- A moment while it is stored: a stop leaves under the name of the undo file what it might leave before, or a whole undo file of the
+-- history at its text.
+abbrev pub IsUndoIn : Names → UndoWrite → Disk → Type 0
+IsUndoIn names undo folder =
+    (left : Option (List ℕ)) → MayLeave folder names.undo left → MayLeave undo.found names.undo left ⊎ IsSomeAnd left (IsUndoOf undo.text undo.history)
+
+-- What is left in the end: where the command was carried out, the name has it in each image.
+pub record HasStored (names : Names) (undo : UndoWrite) (done : Bool) (old new : State) : Type 0 where
+  pub found : undo.found ≡ old.folder
+  pub stored : done ≡ true → (bytes : List ℕ) × IsUndoOf undo.text undo.history bytes × HoldsBytes names.undo bytes new.folder

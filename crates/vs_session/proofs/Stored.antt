@@ -1,0 +1,316 @@
+-- The answer to `wundo`, and the calls that store an undo file.
+use Rattle.std.proofs.Common.{◌≡◌, ◌⊎◌, inl, inr, ℕ, Bool, true, false, cond, ◌&&◌, ◌==◌, not, List, [], ◌++◌, Option, Some, None, Result, Ok, Err, refl, sym, ◌∙◌, ap, subst}
+use Rattle.std.specs.Prelude.{IsSomeAnd}
+use Rattle.std.proofs.lemmas.Bool.{true≢false}
+use Rattle.std.proofs.lemmas.List.{append-nil}
+use Rattle.vs_faults.specs.Faults.{HasCause}
+use Rattle.vs_host.specs.Disk.{Disk, Name}
+use Rattle.vs_host.specs.Names.{AreNames, temporary, undo_of, hidden}
+use Rattle.vs_host.specs.World.{Scene, ChangesFolder, ReadsFolder}
+use Rattle.vs_host.specs.declared.names.Names.{Names}
+use Rattle.vs_host.proofs.Apart.{names_apart}
+use Rattle.vs_disk.specs.Images.{HoldsBytes, MayLeave, Takes}
+use Rattle.vs_disk.specs.Names.{SameAt}
+use Rattle.vs_disk.specs.Runs.{Inside, Runs, Looks}
+use Rattle.vs_disk.proofs.Others.{same_then}
+use Rattle.vs_disk.proofs.Runs.{goes_weaker, reads_change, runs_as, runs_then}
+use Rattle.vs_pair.specs.Pair.{is_swap, is_foreign}
+use Rattle.vs_pair.specs.declared.side.Side.{Side}
+use Rattle.vs_pair.specs.declared.side.Side.TheVariants.{Swp, Swo}
+use Rattle.vs_pair.specs.Pair.{name_of}
+use Rattle.vs_pair.proofs.FitLemmas.{at_side}
+use Rattle.vs_exparse.specs.Command.Command.{WriteUndo}
+use Rattle.vs_excmd.specs.Request.{Instruction}
+use Rattle.vs_backup.specs.Works.{IsOutside, Spares as SparesNames, two_names}
+use Rattle.vs_backup.proofs.Frames.{spares_none}
+use Rattle.vs_backup.proofs.NamesApart.{temporary_apart}
+use Rattle.vs_edit.specs.declared.store.StoreErr.{StoreErr}
+use Rattle.vs_undo.specs.History.{History}
+use Rattle.vs_ufile.specs.Decode.{IsUndoFile, IsWellFormed}
+use Rattle.vs_ufile.specs.Values as file
+use Rattle.vs_ubind.specs.Bound.{IsBound}
+use Rattle.vs_options.specs.declared.setting.Options.{Options}
+use Rattle.vs_machine.specs.Machine as machine
+use Rattle.vs_machine.specs.Machine.{State, is_done, current_of}
+use Rattle.vs_machine.specs.Replies.{Answer, says, undo_file_written}
+use Rattle.vs_machine.specs.declared.command.Mark.{Mark}
+use Rattle.vs_machine.specs.declared.command.Outcome.{Outcome}
+use Rattle.vs_machine.specs.declared.command.Outcome.TheVariants.{Done, NoMemory, Fault}
+use Rattle.vs_safety.specs.Texts.{Sync, Text, Recovers, recoverable}
+use Rattle.vs_safety.specs.Undo.{IsUndoOf, UndoWrite, HasStored}
+use Rattle.vs_safety.specs.Writes.{state_now}
+use Rattle.vs_safety.specs.FileWork.{EditedFile, FileWork, UndoFile, Keeps}
+use Rattle.vs_safety.specs.Safety.{IsUnderWay, Spares, Works}
+use Rattle.vs_paged.specs.Fits as folder
+use Rattle.vs_paged.proofs.SyncLemmas.{fits_kept, fits_recovers}
+use Rattle.vs_session.specs.declared.session.Session.{Session}
+use Rattle.vs_session.specs.Session.{SessionState, Ended, accepts_quit, after_sync, answered, begins_after, begins_sync, carried, counted, is_fault, is_rundo, is_write, is_wundo, lacks_name, options_after, quits, reply_of, session_reply, state_after, sync_in, undo_in, undo_work, with_history, work_of, write_in, written_state}
+use Rattle.vs_session.specs.Stores.{HasUndo, StoresUndo, wundo_reply}
+use Rattle.vs_session.specs.Fits.{Answers, Fits, names_of}
+use Rattle.vs_session.proofs.SessionLemmas.{counted_same}
+use Rattle.vs_session.proofs.Steps.{assemble, between_synced, failed_is, inside_new, no_history, unread}
+use Rattle.vs_session.proofs.FileWrites.{goes_both}
+
+-- ---- the bytes
+
+pub undo_of_bytes : (text : Text) (history : History) (contents : file.History) (bytes : List ℕ) → IsWellFormed contents → ((more : List ℕ) → IsUndoFile contents (bytes ++ more)) → IsBound contents text history
+    → IsUndoOf text history bytes
+undo_of_bytes text history contents bytes formed written bound = record {
+  contents = contents;
+  formed = formed;
+  file = subst (λ (b : List ℕ). IsUndoFile contents b) (append-nil bytes) (written []);
+  bound = bound;
+}
+
+-- ---- the calls
+
+module _ (names : Names) (text : Text) (history : History) where
+  pub stores_none : (disk : Disk) → StoresUndo names text history disk disk
+  stores_none disk = record { spares = spares_none (two_names names.undo_new names.undo) disk; undo = λ left may. inl may }
+
+  same_stores : (old d : Disk) → d ≡ old → StoresUndo names text history old d
+  same_stores old d is = subst (λ (e : Disk). StoresUndo names text history old e) (sym is) (stores_none old)
+
+  pub stores_looked : (old new : Scene) → Looks old new → Runs (StoresUndo names text history) old new
+  stores_looked old new looks = runs_as (λ a b. b ≡ a) (StoresUndo names text history) old new (same_stores old.folder) looks
+
+  taken : (bytes : List ℕ) (left : Option (List ℕ)) → IsUndoOf text history bytes → left ≡ Some bytes → IsSomeAnd left (IsUndoOf text history)
+  taken bytes left is same = subst (λ (o : Option (List ℕ)). IsSomeAnd o (IsUndoOf text history)) (sym same) is
+
+  stores : (bytes : List ℕ) → IsUndoOf text history bytes → (old new : Disk) → SparesNames (two_names names.undo_new names.undo) old new → Takes names.undo bytes old new → StoresUndo names text history old new
+  stores bytes is old new spares takes = record { spares = spares; undo = λ left may. elim (takes left may) [ inl same ↦ inr (taken bytes left is same) | inr before ↦ inl before ] }
+
+  pub stores_runs : (bytes : List ℕ) → IsUndoOf text history bytes → (old new : Scene) → Runs (SparesNames (two_names names.undo_new names.undo)) old new → Runs (Takes names.undo bytes) old new
+      → Runs (StoresUndo names text history) old new
+  stores_runs bytes is old new spares takes = record {
+    moments = goes_weaker (λ m. Inside old (SparesNames (two_names names.undo_new names.undo) old.folder) m × Inside old (Takes names.undo bytes old.folder) m) (Inside old (StoresUndo names text history old.folder))
+        (λ m both. record {
+          output = both.0.output;
+          answered = both.0.answered;
+          script_faults = both.0.script_faults;
+          out_faults = both.0.out_faults;
+          folder = stores bytes is old.folder m.folder both.0.folder both.1.folder;
+        }) old.trace new.trace
+        (goes_both (Inside old (SparesNames (two_names names.undo_new names.undo) old.folder)) (Inside old (Takes names.undo bytes old.folder)) old.trace new.trace spares.moments takes.moments);
+    now = stores bytes is old.folder new.folder spares.now takes.now;
+  }
+
+-- looked at first
+pub stores_after : (names : Names) (text : Text) (history : History) (old mid new : Scene) → ChangesFolder old mid → ChangesFolder mid new → Looks old mid → Runs (StoresUndo names text history) mid new
+    → Runs (StoresUndo names text history) old new
+stores_after names text history old mid new first second looks runs =
+    runs_then (λ a b. b ≡ a) (StoresUndo names text history) (StoresUndo names text history) old mid new
+    (λ d is. subst (λ (e : Disk). StoresUndo names text history old.folder e) (sym is) (stores_none names text history old.folder))
+    (λ d is. subst (λ (a : Disk). StoresUndo names text history a d) looks.now is) first looks runs
+
+-- with the names and the bytes as the calls had them
+module _ (names other : Names) (text : Text) (history : History) (bytes given : List ℕ) (same : other ≡ names) (copied : given ≡ bytes) (is : IsUndoOf text history bytes) where
+  pub stored_runs : (old mid new : Scene) → ReadsFolder old mid → Looks old mid → ChangesFolder mid new → Runs (SparesNames (two_names other.undo_new other.undo)) mid new → Runs (Takes other.undo given) mid new
+      → Runs (StoresUndo names text history) old new
+  stored_runs old mid new first looks second spares takes =
+      stores_after names text history old mid new (reads_change old mid first) second looks
+      (subst (λ (n : Names). Runs (StoresUndo n text history) mid new) same (stores_runs other text history bytes is mid new spares (subst (λ (b : List ℕ). Runs (Takes other.undo b) mid new) copied takes)))
+
+  pub stored_bytes : (disk : Disk) → HoldsBytes other.undo given disk → HasUndo names text history disk
+  stored_bytes disk holds = (bytes, is, subst (λ (n : Names). HoldsBytes n.undo bytes disk) same (subst (λ (b : List ℕ). HoldsBytes other.undo b disk) copied holds))
+
+abbrev pub error_is : {T : Type 0} → StoreErr → Result T StoreErr
+error_is why = Err why
+
+-- ---- the swap files
+
+module _ (names : Names) (are : AreNames names) where
+  undo_name : names.undo ≡ undo_of names.file
+  undo_name = ap (λ (n : Names). n.undo) are.others
+
+  new_name : names.undo_new ≡ temporary names.undo
+  new_name = ap (λ (n : Names). n.undo_new) are.others ∙ ap temporary (sym undo_name)
+
+  side_name : (side : Side) → (name_of names side ≡ names.swp) ⊎ (name_of names side ≡ names.swo)
+  side_name Swp = inl refl
+  side_name Swo = inr refl
+
+  swap_name : (name : Name) → is_swap names name ≡ true → (name ≡ names.swp) ⊎ (name ≡ names.swo)
+  swap_name name is =
+      let at = at_side names name (ap not is) in
+      subst (λ (n : Name). (n ≡ names.swp) ⊎ (n ≡ names.swo)) (sym at.1) (side_name at.0)
+
+  undo_apart : (names.undo ≡ names.swp) ⊎ (names.undo ≡ names.swo) → ⊥
+  undo_apart (inl swp) = (names_apart names are).1.0.1.0 (sym swp)
+  undo_apart (inr swo) = (names_apart names are).1.1.0.0 (sym swo)
+
+  swap_as : (name other : Name) → name ≡ other → is_swap names name ≡ true → (other ≡ names.swp) ⊎ (other ≡ names.swo)
+  swap_as name other same is = subst (λ (n : Name). (n ≡ names.swp) ⊎ (n ≡ names.swo)) same (swap_name name is)
+
+  -- the storing works on no swap file
+  pub undo_outside : IsOutside (two_names names.undo_new names.undo) (is_swap names)
+  undo_outside name is (inl same) = temporary_apart names are names.undo (swap_as name (temporary names.undo) (same ∙ new_name) is)
+  undo_outside name is (inr same) = undo_apart (swap_as name names.undo same is)
+
+-- the session goes on to fit
+pub fits_stored : (session : Session) (old new : Disk) (state : SessionState) (syncs : List Sync) → AreNames (names_of session) → SparesNames (two_names (names_of session).undo_new (names_of session).undo) old new
+    → Fits session old state syncs → Fits session new state syncs
+fits_stored session old new state syncs are spares fits = record {
+  stands = record { text = fits_kept session.text old new state.machine.text syncs (spares (is_swap (names_of session)) (undo_outside (names_of session) are)) fits.stands.text; history = fits.stands.history };
+  name = fits.name;
+  cursor = fits.cursor;
+  saved = fits.saved;
+  steps = fits.steps;
+  options = fits.options;
+  acknowledged = fits.acknowledged;
+}
+
+-- ---- the command
+
+pub never_quits : (parsed : _) (saved : Bool) → is_wundo parsed ≡ true → quits parsed saved ≡ false
+never_quits (Ok WriteUndo) saved is = refl
+never_quits parsed saved is = absurd (true≢false (sym is))
+
+and_false : (b : Bool) → (b && false) ≡ false
+and_false true = refl
+and_false false = refl
+
+begins_none : (steps : ℕ) (parsed : _) → is_wundo parsed ≡ true → begins_after steps parsed ≡ false
+begins_none steps (Ok WriteUndo) is = and_false _
+begins_none steps parsed is = absurd (true≢false (sym is))
+
+no_read : (parsed : _) → is_wundo parsed ≡ true → is_rundo parsed ≡ false
+no_read (Ok WriteUndo) is = refl
+no_read parsed is = absurd (true≢false (sym is))
+
+no_write : (parsed : _) → is_wundo parsed ≡ true → is_write parsed ≡ false
+no_write (Ok WriteUndo) is = refl
+no_write parsed is = absurd (true≢false (sym is))
+
+work_is : (state : SessionState) (found : Disk) (parsed : _) → is_wundo parsed ≡ true → undo_work state found parsed ≡ Some (UndoFile (undo_in state found))
+work_is state found (Ok WriteUndo) is = refl
+work_is state found parsed is = absurd (true≢false (sym is))
+
+reply_is : (state : SessionState) (found : Disk) (parsed : _) → is_wundo parsed ≡ true → session_reply state found unread parsed ≡ Some (says undo_file_written)
+reply_is state found (Ok WriteUndo) is = refl
+reply_is state found parsed is = absurd (true≢false (sym is))
+
+machine_stays : (m : State) (at : ℕ) (outcome : Outcome) (block : _) (parsed : _) → is_wundo parsed ≡ true → machine.state_by outcome m at (machine.meaning_of m parsed block) ≡ m
+machine_stays m at Done block (Ok WriteUndo) is = refl
+machine_stays m at Done block parsed is = absurd (true≢false (sym is))
+machine_stays m at NoMemory block parsed is = refl
+machine_stays m at Fault block parsed is = refl
+
+options_stay : (options : Options) (outcome : Outcome) (parsed : _) → is_wundo parsed ≡ true → options_after outcome options parsed ≡ options
+options_stay options Done (Ok WriteUndo) is = refl
+options_stay options Done parsed is = absurd (true≢false (sym is))
+options_stay options NoMemory parsed is = refl
+options_stay options Fault parsed is = refl
+
+replied : (outcome : Outcome) (m : State) (meaning : machine.Meaning) → wundo_reply outcome ≡ answered outcome (Some (says undo_file_written)) (machine.reply_by outcome m meaning)
+replied Done m meaning = refl
+replied NoMemory m meaning = refl
+replied Fault m meaning = refl
+
+module _ (state : SessionState) (syncs : List Sync) (instruction : Instruction) (before : Session) (old : Scene) (fits : Fits before old.folder state syncs) (is : is_wundo instruction.parsed ≡ true) (after : Session)
+    (outcome : Outcome) (at : ℕ) (reply : Answer) (new : Scene) (names_after : names_of after ≡ names_of before) (frame : ChangesFolder old new)
+    (runs : Runs (StoresUndo (names_of before) state.machine.text state.machine.history) old new)
+    (stored : outcome ≡ Done → HasUndo (names_of before) state.machine.text state.machine.history new.folder) (cause : HasCause old.folder_faults new.folder_faults (outcome ≡ Fault))
+    (reply_to : reply ≡ wundo_reply outcome) (left : Fits after new.folder state syncs) where
+  abbrev names : Names
+  names = names_of before
+
+  abbrev mark : Mark
+  mark = record { outcome = outcome; at = at }
+
+  abbrev ended : Ended
+  ended = record { mark = mark; acknowledged = false; found = old.folder; read = unread }
+
+  abbrev undo : UndoWrite
+  undo = undo_in state old.folder
+
+  abbrev lacks : Bool
+  lacks = lacks_name state.options.write state.name old.folder
+
+  goes_on : accepts_quit state instruction ≡ false
+  goes_on = never_quits instruction.parsed _ is
+
+  none_begun : begins_sync state instruction ≡ false
+  none_begun = begins_none state.steps instruction.parsed is
+
+  -- the state is as before
+  stays : Fits after new.folder (carried state instruction mark) syncs
+  stays =
+      subst (λ (m : State). Fits after new.folder (record {
+        name = state.name;
+        machine = m;
+        saved = state.saved;
+        steps = counted state.steps (current_of m == current_of state.machine);
+        options = options_after outcome state.options instruction.parsed;
+      }) syncs) (sym (machine_stays state.machine at outcome instruction.block instruction.parsed is))
+      (record {
+        stands = left.stands;
+        name = left.name;
+        cursor = left.cursor;
+        saved = left.saved;
+        steps = left.steps ∙ sym (counted_same state.steps (current_of state.machine));
+        options = left.options ∙ sym (options_stay state.options outcome instruction.parsed is);
+        acknowledged = left.acknowledged;
+      })
+
+  now : Fits after new.folder (state_after state instruction ended) syncs
+  now =
+      subst (λ (o : Option History). Fits after new.folder (cond (((is_write instruction.parsed && false) && not lacks) && is_done outcome) (written_state (after_sync state (begins_sync state instruction && false)))
+      (with_history o (carried (after_sync state (begins_sync state instruction && false)) instruction mark))) syncs) (sym (no_history instruction ended (no_read instruction.parsed is)))
+      (subst (λ (w : Bool). Fits after new.folder (cond (((w && false) && not lacks) && is_done outcome) (written_state (after_sync state (begins_sync state instruction && false))) (carried (after_sync state (begins_sync state instruction && false)) instruction mark)) syncs)
+      (sym (no_write instruction.parsed is))
+      (subst (λ (c : Bool). Fits after new.folder (carried (after_sync state (c && false)) instruction mark) syncs) (sym none_begun) stays))
+
+  replied_as : reply ≡ reply_of state instruction ended
+  replied_as =
+      reply_to ∙ replied outcome state.machine (machine.meaning_of state.machine instruction.parsed instruction.block)
+      ∙ ap (λ (own : Option Answer). answered outcome own (machine.reply_by outcome state.machine (machine.meaning_of state.machine instruction.parsed instruction.block))) (sym (reply_is state old.folder instruction.parsed is))
+
+  work : work_of state instruction ended ≡ Some (UndoFile undo)
+  work =
+      ap (λ (w : Bool). cond ((w && false) && not lacks) (Some (EditedFile (write_in state old.folder))) (undo_work state old.folder instruction.parsed)) (no_write instruction.parsed is)
+      ∙ work_is state old.folder instruction.parsed is
+
+  abbrev P : Disk → Type 0
+  P = IsUnderWay names syncs (Some (UndoFile undo))
+
+  recovers : (d : Disk) → SparesNames (two_names names.undo_new names.undo) old.folder d → Recovers names (recoverable syncs) d
+  recovers d spares = fits_recovers before.text d state.machine.text syncs (fits_stored before old.folder d state syncs fits.stands.text.fit.named spares fits).stands.text
+
+  spared : (d : Disk) → StoresUndo names state.machine.text state.machine.history old.folder d → Spares names (Some (UndoFile undo)) P old.folder d
+  spared d stores = record {
+    folder = record { recovers = recovers d stores.spares; whole = stores.undo };
+    spared = λ inside start foreign avoids settled same. same_then inside start old.folder d same (stores.spares inside avoids);
+  }
+
+  works : Works names (Some (UndoFile undo)) P old new
+  works = record {
+    moments = goes_weaker (Inside old (StoresUndo names state.machine.text state.machine.history old.folder)) (Inside new (Spares names (Some (UndoFile undo)) P old.folder))
+        (λ m inside. inside_new old new (Spares names (Some (UndoFile undo)) P old.folder) frame m (record {
+          output = inside.output;
+          answered = inside.answered;
+          script_faults = inside.script_faults;
+          out_faults = inside.out_faults;
+          folder = spared m.folder inside.folder;
+        })) old.trace new.trace runs.moments;
+    output = ap (λ (s : Scene). s.output) frame;
+    spared = (spared new.folder runs.now).spared;
+  }
+
+  done_is : (o : Outcome) → is_done o ≡ true → o ≡ Done
+  done_is Done one = refl
+  done_is NoMemory one = absurd (true≢false (sym one))
+  done_is Fault one = absurd (true≢false (sym one))
+
+  pub answers_stored : Answers state syncs instruction before after mark reply old new
+  answers_stored =
+      assemble state syncs instruction before old goes_on fits after mark false reply new None (Some (UndoFile undo)) (no_read instruction.parsed is) (ap (λ (c : Bool). cond c (Some (sync_in state false)) None) none_begun) work replied_as now
+      (record {
+        found = refl;
+        works = works;
+        wrote = record { found = refl; stored = λ done. stored (done_is outcome done) };
+        whole = runs.now.undo;
+        flag = tt;
+        cause = λ failed. cause.risen (failed_is outcome failed);
+        between = between_synced names after new.folder (state_after state instruction ended) syncs names_after now;
+      })

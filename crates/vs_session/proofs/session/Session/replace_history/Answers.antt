@@ -1,0 +1,18 @@
+use Rattle.std.proofs.Common.{Ok, Err, refl, ◌∙◌}
+use Rattle.vs_session.proofs.Replaced.{fits_replaced, read_line}
+use Rattle.vs_session.proofs.session.Session.replace_history.Goals as goal
+
+pub returns-in-Ok-clause-read : goal.returns-in-Ok-clause-read
+returns-in-Ok-clause-read g c told state syncs fits =
+    let new = g.F.World.scene c.take_undo.new.host in
+    let taken = c.in-Ok.ensures.taken told state syncs fits in (
+      Ok taken.0,
+      taken.1,
+      refl,
+      c.undo_file_read-reply.ensures ∙ read_line c.in-Ok.field-0.tree state.machine.text taken.0 _ _ taken.2 c.current.ensures taken.3,
+      fits_replaced c.take_undo.new.self _ c.in-Ok.field-0.tree new.folder state syncs taken.0 (c.in-Ok.ensures.fits told state syncs fits) taken.2 refl refl refl refl refl refl refl c.saved_in-saved.ensures,
+    )
+
+pub returns-in-Err-clause-read : goal.returns-in-Err-clause-read
+returns-in-Err-clause-read g c told state syncs fits =
+    (Err c.in-Err.error, c.in-Err.ensures.refused told state syncs fits, c.refused.ensures.outcome, c.refused.ensures.reply, c.in-Err.ensures.fits told state syncs fits)

@@ -1,0 +1,35 @@
+use Rattle.std.proofs.Common.{◌≡◌, Ok, Err, Some, List, ℕ, sym, ap, subst, ◌∙◌}
+use Rattle.vs_host.specs.Disk.{Disk}
+use Rattle.vs_host.specs.World.{Scene}
+use Rattle.vs_paged.specs.Fits as paged
+use Rattle.vs_session.proofs.Bindings.{handed, taken_at}
+use Rattle.vs_session.proofs.session.Session.take_undo.Goals as goal
+
+pub bind_undo-requires-clause-rules : goal.bind_undo-requires-clause-rules
+bind_undo-requires-clause-rules g c = c.in_ok-contents.ensures.found.rules
+
+pub bind_undo-requires-clause-fits : goal.bind_undo-requires-clause-fits
+bind_undo-requires-clause-fits g c told =
+    let given = c.requires.fits told in
+    let same = ap (λ (s : Scene). s.folder) c.in_ok-bytes.ensures.frame in
+    (given.0.machine.text, given.1, subst (λ (d : Disk). paged.Fits c.args.self.now.text d given.0.machine.text given.1) (sym same) given.2.stands.text)
+
+pub returns-in_err-bytes-clause-refused : goal.returns-in_err-bytes-clause-refused
+returns-in_err-bytes-clause-refused g c = handed _ _ _ c.from_residual.ensures.1 (λ told state syncs fits. c.in_err-bytes.ensures.refused told state.machine.text)
+
+pub returns-in_err-contents-clause-refused : goal.returns-in_err-contents-clause-refused
+returns-in_err-contents-clause-refused g c =
+    handed _ _ _ c.from_residual-in_err-contents.ensures.1 (λ told state syncs fits. taken_at state.machine.text _ _ (Err c.in_err-contents.field-0.0) (c.in_ok-bytes.ensures.found told ∙ ap Some (sym c.deref.ensures.value)) (c.in_err-contents.ensures.refused state.machine.text))
+
+pub returns-in_err-tree-clause-refused : goal.returns-in_err-tree-clause-refused
+returns-in_err-tree-clause-refused g c =
+    handed _ _ _ c.from_residual-in_err-tree.ensures.1 (λ told state syncs fits.
+    let same = ap (λ (s : Scene). s.folder) c.in_ok-bytes.ensures.frame in
+    taken_at state.machine.text _ _ (Err c.in_err-tree.field-0.0) (c.in_ok-bytes.ensures.found told ∙ ap Some (sym c.deref.ensures.value))
+    (c.in_err-tree.ensures.refused told state.machine.text syncs c.deref.result.now (subst (λ (d : Disk). paged.Fits c.args.self.now.text d state.machine.text syncs) (sym same) fits.stands.text) c.in_ok-contents.ensures.found))
+
+pub returns-clause-taken : goal.returns-clause-taken
+returns-clause-taken g c told state syncs fits =
+    let same = ap (λ (s : Scene). s.folder) c.in_ok-bytes.ensures.frame in
+    let taken = c.in_ok-tree.ensures.taken told state.machine.text syncs c.deref.result.now (subst (λ (d : Disk). paged.Fits c.args.self.now.text d state.machine.text syncs) (sym same) fits.stands.text) c.in_ok-contents.ensures.found in
+    (taken.0, taken_at state.machine.text _ _ (Ok taken.0) (c.in_ok-bytes.ensures.found told ∙ ap Some (sym c.deref.ensures.value)) taken.1, taken.2, c.len.ensures ∙ c.in_ok-contents.contents.changes.ok.0 ∙ taken.3)

@@ -1,0 +1,26 @@
+use Rattle.std.proofs.Common.{◌≤◌, sym, ap, subst}
+use Rattle.vs_host.specs.World.{Scene}
+use Rattle.vs_pair.specs.declared.files.SwapFiles.{SwapFiles}
+use Rattle.vs_session.proofs.StoreLemmas.{if_ok_as, fits_ready, fits_left}
+use Rattle.vs_session.proofs.summary.digest_text.Goals as goal
+
+pub digest_in-requires-clause-ready : goal.digest_in-requires-clause-ready
+digest_in-requires-clause-ready g c told = let fits = (c.requires.fits told).2 in fits_ready _ _ _ _ fits
+
+pub digest_in-requires-clause-paged : goal.digest_in-requires-clause-paged
+digest_in-requires-clause-paged g c told = let given = c.requires.fits told in (given.0, given.2.pages)
+
+pub invariant_of-text : goal.invariant_of-text
+invariant_of-text g c = record {
+  bounded = c.digest_in.ensures.bounded;
+  started = subst (λ (f : SwapFiles). 2 ≤ f.generation) (sym c.digest_in.ensures.keeps.files) c.args.text.now.started;
+}
+
+pub returns-clause-digest : goal.returns-clause-digest
+returns-clause-digest g c =
+    if_ok_as c.digest_in.result _ _ (λ digest is told lines syncs fits. is told lines fits.pages) c.digest_in.ensures.digest
+
+pub returns-clause-fits : goal.returns-clause-fits
+returns-clause-fits g c = λ told lines syncs fits.
+    let keeps = c.digest_in.ensures.keeps in
+    fits_left c.args.text.now _ _ _ lines lines syncs keeps.files (ap (λ (s : Scene). s.folder) keeps.frame) fits (c.digest_in.ensures.paged told lines fits.pages)

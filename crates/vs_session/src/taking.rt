@@ -1,0 +1,143 @@
+// The undo file of a session is read, and its history is bound to the text.
+ghost use Rattle.std.specs.Prelude.{◌≡◌, ℕ, Err, IfErr, IfOk, IsErrOf, IsTrue, List, Ok, Some, length, max};
+ghost use Rattle.vs_faults.specs.Faults.{HasCause};
+ghost use Rattle.vs_host.specs.World.{ReadsFolder, content_of};
+ghost use Rattle.vs_disk.specs.Runs.{Looks};
+ghost use Rattle.vs_pair.specs.Lent.{KeepsFiles};
+ghost use Rattle.vs_undo.specs.History.{FitsCount, History, IsHistory};
+ghost use Rattle.vs_ufile.specs.Decode.{IsUndoFile, KeepsRules};
+ghost use Rattle.vs_ufile.specs.Values.{history_of};
+ghost use Rattle.vs_safety.specs.Texts.{Sync, Text};
+ghost use Rattle.vs_paged.specs.Fits as paged;
+ghost use Rattle.vs_session.specs.Fits.{Fits, FitsUndo, SameFile, generation_of, names_of};
+ghost use Rattle.vs_session.specs.Session.{SessionState};
+ghost use Rattle.vs_session.specs.Taken.{IsTaken};
+
+use crate::Session;
+use crate::binding::bind_text;
+use std::alloc::Global;
+use vs_host::{Folder, Names};
+use vs_machine::UndoTree;
+use vs_paged::PagedText;
+use vs_ubind::{BindErr, FetchErr, fetch};
+use vs_ufile::{FileHistory, UfErr, UfKind, decode};
+
+/// Why no history is taken from an undo file.
+#[derive(Clone, Copy, Debug, PartialEq, Eq)]
+pub enum TakeErr {
+    /// There is no undo file.
+    NoFile,
+    /// The file is no undo file.
+    Unreadable(UfErr),
+    /// It was made for another text.
+    OtherText,
+    /// An entry of this change does not fit the text, and no change with a smaller number does not either.
+    Misfit(u32),
+    /// There was no memory.
+    NoMemory,
+    /// A call on the folder failed.
+    Failed,
+}
+
+/// A history that was taken.
+#[derive(Drop)]
+pub struct Taken {
+    pub tree: UndoTree,
+    /// The number of its changes.
+    pub changes: u64,
+}
+
+// The bytes of the undo file.
+fn fetch_undo<F: Folder>(alloc: Global, host: &mut F, names: &Names) -> Result<Vec<u8>, TakeErr>
+    ensures found { IfOk result (λ bytes. IsTrue F.tells.folder → content_of (F.scene host.old) names.now.undo ≡ Some bytes.items) }
+    ensures refused { IfErr result (λ error. IsTrue F.tells.folder → (text : Text) → IsTaken text (content_of (F.scene host.old) names.now.undo) (Err error)) }
+    ensures frame { ReadsFolder (F.scene host.old) (F.scene host.new) }
+    ensures looks { IsTrue F.tells.folder → Looks (F.scene host.old) (F.scene host.new) }
+    ensures cause { HasCause (F.scene host.old).folder_faults (F.scene host.new).folder_faults (IsErrOf result TakeErr.Failed) }
+{
+    match fetch(alloc, host, names) {
+        Ok(bytes) => Ok(bytes),
+        Err(FetchErr::NoFile) => Err(TakeErr::NoFile),
+        Err(FetchErr::NoMemory) => Err(TakeErr::NoMemory),
+        Err(FetchErr::Failed) => Err(TakeErr::Failed),
+    }
+}
+
+// The data of the undo file.
+fn decode_undo(alloc: Global, bytes: &[u8]) -> Result<FileHistory, TakeErr>
+    ensures found { IfOk result (λ contents. IsUndoFile (history_of contents) bytes.now) }
+    ensures refused { IfErr result (λ error. (text : Text) → IsTaken text (Some bytes.now) (Err error)) }
+    ensures calm { IsErrOf result TakeErr.Failed → ⊥ }
+{
+    match decode(alloc, bytes) {
+        Ok(contents) => Ok(contents),
+        Err(error) => match error.kind {
+            UfKind::NoMemory => Err(TakeErr::NoMemory),
+            _ => Err(TakeErr::Unreadable(error)),
+        },
+    }
+}
+
+// The tree that this data stands for at a text.
+fn bind_undo<F: Folder>(
+    alloc: Global,
+    text: &mut PagedText,
+    host: &mut F,
+    contents: &FileHistory,
+) -> Result<UndoTree, TakeErr>
+    requires rules { KeepsRules (history_of contents.now) }
+    requires fits { IsTrue F.tells.folder → (lines : Text) × (syncs : List Sync) × paged.Fits text.old (F.scene host.old).folder lines syncs }
+    ensures taken { IfOk result (λ undo. IsTrue F.tells.folder → (lines : Text) (syncs : List Sync) (bytes : List ℕ) → paged.Fits text.old (F.scene host.old).folder lines syncs
+        → IsUndoFile (history_of contents.now) bytes
+        → (history : History) × IsTaken lines (Some bytes) (Ok history) × IsHistory undo lines history × (length contents.now.changes.items ≡ length history.links.nodes)) }
+    ensures refused { IfErr result (λ error. IsTrue F.tells.folder → (lines : Text) (syncs : List Sync) (bytes : List ℕ) → paged.Fits text.old (F.scene host.old).folder lines syncs
+        → IsUndoFile (history_of contents.now) bytes → IsTaken lines (Some bytes) (Err error)) }
+    ensures counts { IfOk result (λ undo. FitsCount undo (max 1 text.new.tree.present.lines)) }
+    ensures fits { IsTrue F.tells.folder → (lines : Text) (syncs : List Sync) → paged.Fits text.old (F.scene host.old).folder lines syncs
+        → paged.Fits text.new (F.scene host.new).folder lines syncs }
+    ensures lines { text.new.tree.present.lines ≡ text.old.tree.present.lines }
+    ensures keeps { KeepsFiles F.tells text.old.pair.files text.new.pair.files (F.scene host.old) (F.scene host.new) }
+    ensures cause { HasCause (F.scene host.old).folder_faults (F.scene host.new).folder_faults (IsErrOf result TakeErr.Failed) }
+{
+    match bind_text(alloc, text, host, contents) {
+        Ok(tree) => Ok(tree),
+        Err(BindErr::DigestDiffers { .. }) => Err(TakeErr::OtherText),
+        Err(BindErr::LinesDiffer { .. }) => Err(TakeErr::OtherText),
+        Err(BindErr::EntryDoesNotFit(number)) => Err(TakeErr::Misfit(number)),
+        Err(BindErr::NoMemory) => Err(TakeErr::NoMemory),
+        Err(BindErr::Failed) => Err(TakeErr::Failed),
+    }
+}
+
+impl Session {
+    /// The history of the undo file, taken with the text. Nothing of the session changes, and the folder is only looked at.
+    pub(crate) fn take_undo<F: Folder>(
+        &mut self,
+        alloc: Global,
+        host: &mut F,
+    ) -> Result<Taken, TakeErr>
+        requires fits { IsTrue F.tells.folder → (state : SessionState) × (syncs : List Sync) × Fits self.old (F.scene host.old).folder state syncs }
+        ensures taken { IfOk result (λ taken. IsTrue F.tells.folder → (state : SessionState) (syncs : List Sync) → Fits self.old (F.scene host.old).folder state syncs
+            → (history : History) × IsTaken state.machine.text (content_of (F.scene host.old) (names_of self.old).undo) (Ok history) × IsHistory taken.tree state.machine.text history
+            × (taken.changes ≡ length history.links.nodes)) }
+        ensures refused { IfErr result (λ error. IsTrue F.tells.folder → (state : SessionState) (syncs : List Sync) → Fits self.old (F.scene host.old).folder state syncs
+            → IsTaken state.machine.text (content_of (F.scene host.old) (names_of self.old).undo) (Err error)) }
+        ensures counts { IfOk result (λ taken. FitsCount taken.tree (max 1 self.new.text.tree.present.lines)) }
+        ensures fits { IsTrue F.tells.folder → (state : SessionState) (syncs : List Sync) → Fits self.old (F.scene host.old).folder state syncs
+            → Fits self.new (F.scene host.new).folder state syncs }
+        ensures looks { IsTrue F.tells.folder → Looks (F.scene host.old) (F.scene host.new) }
+        ensures frame { ReadsFolder (F.scene host.old) (F.scene host.new) }
+        ensures file { SameFile self.old self.new }
+        ensures generation { generation_of self.new ≡ generation_of self.old }
+        ensures undo { FitsUndo self.old → FitsUndo self.new }
+        ensures cause { HasCause (F.scene host.old).folder_faults (F.scene host.new).folder_faults (IsErrOf result TakeErr.Failed) }
+    {
+        let bytes = fetch_undo(alloc, host, &self.text.pair.files.names)?;
+        let contents = decode_undo(alloc, &bytes)?;
+        let tree = bind_undo(alloc, &mut self.text, host, &contents)?;
+        Ok(Taken {
+            tree,
+            changes: contents.changes.len() as u64,
+        })
+    }
+}

@@ -1,0 +1,114 @@
+// The bytes of a session's undo file.
+ghost use Rattle.std.specs.Prelude.{◌≡◌, IfOk, IsErrOf, IsTrue, List, max};
+ghost use Rattle.vs_faults.specs.Faults.{HasCause};
+ghost use Rattle.vs_host.specs.World.{ReadsFolder};
+ghost use Rattle.vs_disk.specs.Runs.{Looks};
+ghost use Rattle.vs_pair.specs.Lent.{IsReady, KeepsFiles};
+ghost use Rattle.vs_undo.specs.History.{FitsCount};
+ghost use Rattle.vs_ufile.specs.Decode.{IsWellFormed};
+ghost use Rattle.vs_ufile.specs.Values.{history_of};
+ghost use Rattle.vs_ubind.specs.Bound.{IsBound, history_next};
+ghost use Rattle.vs_machine.specs.Machine.{State};
+ghost use Rattle.vs_safety.specs.Texts.{Sync};
+ghost use Rattle.vs_safety.specs.Undo.{IsUndoOf};
+ghost use Rattle.vs_paged.specs.Pages.{IsBounded};
+ghost use Rattle.vs_session.specs.Fits.{Fits, FitsUndo, SameFile, generation_of};
+ghost use Rattle.vs_session.specs.Session.{SessionState};
+ghost use Rattle.vs_session.specs.Standing.{FitsState, Stands};
+
+use crate::Session;
+use std::alloc::Global;
+use vs_edit::StoreErr;
+use vs_host::Folder;
+use vs_machine::UndoTree;
+use vs_paged::PagedText;
+use vs_pair::{PairPages, SwapPair};
+use vs_tree::{LineTree, TreeStore};
+use vs_ubind::unbind;
+use vs_ufile::{FileHistory, encode};
+
+// The data of the undo file of a text in the pages of a pair.
+fn unbind_in<F: Folder>(
+    alloc: Global,
+    tree: &mut LineTree,
+    pair: &mut SwapPair,
+    host: &mut F,
+    history: &UndoTree,
+    save_next: bool,
+) -> Result<FileHistory, StoreErr>
+    requires bounded { IsBounded tree.old }
+    requires counts { FitsCount history.now (max 1 tree.old.present.lines) }
+    requires ready { IsTrue F.tells.folder → IsReady pair.old (F.scene host.old).folder }
+    requires stands { IsTrue F.tells.folder → (state : State) × Stands pair.old.pages tree.old history.now state }
+    ensures bound { IfOk result (λ contents. IsTrue F.tells.folder → (state : State) → Stands pair.old.pages tree.old history.now state
+        → IsBound (history_of contents) state.text (history_next save_next state.history)) }
+    ensures formed { IfOk result (λ contents. IsWellFormed (history_of contents)) }
+    ensures stands { IsTrue F.tells.folder → (state : State) → Stands pair.old.pages tree.old history.now state → Stands pair.new.pages tree.new history.now state }
+    ensures bounded { IsBounded tree.new }
+    ensures counts { FitsCount history.now (max 1 tree.new.present.lines) }
+    ensures keeps { KeepsFiles F.tells pair.old.files pair.new.files (F.scene host.old) (F.scene host.new) }
+    ensures cause { HasCause (F.scene host.old).folder_faults (F.scene host.new).folder_faults (IsErrOf result StoreErr.Failed) }
+{
+    let mut store = TreeStore {
+        tree,
+        pages: PairPages { pair, host },
+    };
+    unbind(alloc, history, &mut store, save_next)
+}
+
+// The data of the undo file of a text.
+fn unbind_text<F: Folder>(
+    alloc: Global,
+    text: &mut PagedText,
+    host: &mut F,
+    history: &UndoTree,
+    save_next: bool,
+) -> Result<FileHistory, StoreErr>
+    requires counts { FitsCount history.now (max 1 text.old.tree.present.lines) }
+    requires fits { IsTrue F.tells.folder → (state : State) × (syncs : List Sync) × FitsState text.old history.now (F.scene host.old).folder state syncs }
+    ensures bound { IfOk result (λ contents. IsTrue F.tells.folder → (state : State) (syncs : List Sync) → FitsState text.old history.now (F.scene host.old).folder state syncs
+        → IsBound (history_of contents) state.text (history_next save_next state.history)) }
+    ensures formed { IfOk result (λ contents. IsWellFormed (history_of contents)) }
+    ensures fits { IsTrue F.tells.folder → (state : State) (syncs : List Sync) → FitsState text.old history.now (F.scene host.old).folder state syncs
+        → FitsState text.new history.now (F.scene host.new).folder state syncs }
+    ensures counts { FitsCount history.now (max 1 text.new.tree.present.lines) }
+    ensures keeps { KeepsFiles F.tells text.old.pair.files text.new.pair.files (F.scene host.old) (F.scene host.new) }
+    ensures cause { HasCause (F.scene host.old).folder_faults (F.scene host.new).folder_faults (IsErrOf result StoreErr.Failed) }
+{
+    unbind_in(
+        alloc,
+        &mut text.tree,
+        &mut text.pair,
+        host,
+        history,
+        save_next,
+    )
+}
+
+impl Session {
+    /// The bytes of the undo file of the text with its history, as it is or as it will be after the next write. The folder is only
+    /// looked at.
+    pub(crate) fn undo_bytes<F: Folder>(
+        &mut self,
+        alloc: Global,
+        host: &mut F,
+        save_next: bool,
+    ) -> Result<Vec<u8>, StoreErr>
+        requires undo { FitsUndo self.old }
+        requires fits { IsTrue F.tells.folder → (state : SessionState) × (syncs : List Sync) × Fits self.old (F.scene host.old).folder state syncs }
+        ensures bytes { IfOk result (λ bytes. IsTrue F.tells.folder → (state : SessionState) (syncs : List Sync) → Fits self.old (F.scene host.old).folder state syncs
+            → IsUndoOf state.machine.text (history_next save_next state.machine.history) bytes.items) }
+        ensures fits { IsTrue F.tells.folder → (state : SessionState) (syncs : List Sync) → Fits self.old (F.scene host.old).folder state syncs
+            → Fits self.new (F.scene host.new).folder state syncs }
+        ensures looks { IsTrue F.tells.folder → Looks (F.scene host.old) (F.scene host.new) }
+        ensures frame { ReadsFolder (F.scene host.old) (F.scene host.new) }
+        ensures file { SameFile self.old self.new }
+        ensures generation { generation_of self.new ≡ generation_of self.old }
+        ensures undo { FitsUndo self.new }
+        ensures cause { HasCause (F.scene host.old).folder_faults (F.scene host.new).folder_faults (IsErrOf result StoreErr.Failed) }
+    {
+        let contents = unbind_text(alloc, &mut self.text, host, &self.history, save_next)?;
+        let bytes = encode(alloc, &contents)?;
+        Ok(bytes)
+    }
+}

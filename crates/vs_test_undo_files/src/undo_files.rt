@@ -1,0 +1,171 @@
+// Runs with `wundo`: what the undo file holds, and what a stop or a fault at each call leaves of it.
+use crate::helpers::{KEEPS, PREFIXES, edit_f, host_of};
+use std::alloc::Global;
+use std::process::Abort;
+use std::test::Fail;
+use vs_memory::{Choice, MemHost};
+use vs_ufile::{FileHistory, decode};
+
+// SHA-256 of "a", "b", each followed by one zero byte.
+const TWO_LINES: [u8; 32] = [
+    0x8f, 0xb2, 0x0e, 0xf6, 0x3c, 0xed, 0x41, 0x45, 0xfc, 0x2e, 0x98, 0x3f, 0xfe, 0x59, 0x7d, 0x1d,
+    0xcf, 0xf3, 0x91, 0x54, 0xc3, 0xbf, 0x21, 0xf0, 0xfa, 0x9d, 0xde, 0x6a, 0x0c, 0x50, 0xfd, 0xc9,
+];
+
+// SHA-256 of one zero byte.
+const NO_LINES: [u8; 32] = [
+    0x6e, 0x34, 0x0b, 0x9c, 0xff, 0xb3, 0x7a, 0x98, 0x9c, 0xa5, 0x44, 0xe6, 0xbb, 0x78, 0x0a, 0x2c,
+    0x78, 0x90, 0x1d, 0x3f, 0xb3, 0x37, 0x38, 0x76, 0x85, 0x11, 0xa3, 0x06, 0x17, 0xaf, 0xa0, 0x1d,
+];
+
+// What stands under the name of the undo file before, where something does.
+const OLD: &[u8] = b"an older undo file";
+
+const STORED: &[u8] = b"$a\nb\n.\n$a\nc\n.\nu\nwundo\nq!\n";
+
+const REPLIES: &[u8] =
+    b"\"f\" 1L, 2B\nchange 1, 2 lines\nchange 2, 3 lines\nat 1, 2 lines\nundo file written\nquit\n";
+
+// The undo file, where there is one that decodes.
+fn undo_file(alloc: Global, host: &MemHost) -> Result<Option<FileHistory>, Fail> {
+    let Some(bytes) = host.file(".f.un~") else {
+        return Ok(None);
+    };
+    match decode(alloc, bytes) {
+        Ok(history) => Ok(Some(history)),
+        Err(_) => Ok(None),
+    }
+}
+
+// Whether an undo file has the two changes of the script, of which the first is current.
+fn has_both(history: &FileHistory) -> bool {
+    let changes = history.changes.as_slice();
+    if history.digest != TWO_LINES || history.lines != 2 || changes.len() != 2 {
+        return false;
+    }
+    let numbers = (history.last, history.current, history.current_head);
+    numbers == (2, 1, 2)
+        && (changes[0].number, changes[0].next) == (1, 0)
+        && (changes[1].number, changes[1].next) == (2, 1)
+}
+
+#[test]
+fn wundo_stores_the_history_at_its_text(rt: HostRuntime) -> Result<(), Fail> {
+    let alloc = rt.alloc();
+    let mut host = host_of(alloc, &[("f", b"a\n")], STORED)?;
+    assert_eq!(rt; edit_f(alloc, &mut host)?, 0);
+    assert_eq!(rt; host.output(), REPLIES);
+    let Some(history) = undo_file(alloc, &host)? else {
+        return Err(Fail::new("there is no undo file"));
+    };
+    assert!(rt; has_both(&history), "{history:?}");
+    assert!(rt; host.file("f") == Some(b"a\n".as_slice()));
+    assert!(rt; host.file(".f.un~.vsnew").is_none());
+    Ok(())
+}
+
+#[test]
+fn the_undo_file_of_the_text_without_lines_has_100_bytes(rt: HostRuntime) -> Result<(), Fail> {
+    let alloc = rt.alloc();
+    let mut host = host_of(alloc, &[], b"wundo\nq\n")?;
+    assert_eq!(rt; edit_f(alloc, &mut host)?, 0);
+    assert_eq!(rt;
+        host.output(),
+        b"\"f\" [New]\nundo file written\nquit\n".as_slice()
+    );
+    let mut bytes = Vec::from_slice(alloc, b"Vim\x9fUnDo\xe5\x00\x02")?;
+    bytes.extend_from_slice(&NO_LINES)?;
+    bytes.extend_from_slice(&[0, 0, 0, 1])?;
+    bytes.extend_from_slice(&[0; 44])?;
+    bytes.extend_from_slice(&[4, 1, 0, 0, 0, 0, 0, 0xe7, 0xaa])?;
+    assert_eq!(rt; bytes.len(), 100);
+    assert!(rt; host.file(".f.un~") == Some(bytes.as_slice()));
+    Ok(())
+}
+
+// The host after a run in which the call `failing` fails, and each one after `stop`. Calls are counted from 1.
+fn after_run(alloc: Global, script: &[u8], failing: u64, stop: u64) -> Result<MemHost, Fail> {
+    let mut host = host_of(alloc, &[("f", b"a\n"), (".f.un~", OLD)], script)?;
+    host.fail_call(alloc, failing)?;
+    host.stop_after(stop);
+    edit_f(alloc, &mut host)?;
+    Ok(host)
+}
+
+fn calls_of(alloc: Global, script: &[u8]) -> Result<u64, Fail> {
+    let mut host = host_of(alloc, &[("f", b"a\n"), (".f.un~", OLD)], script)?;
+    edit_f(alloc, &mut host)?;
+    Ok(host.calls())
+}
+
+// An image in which the undo file is neither the older one nor that of the history.
+fn find_torn(alloc: Global, host: &MemHost) -> Result<Option<Choice>, Fail> {
+    for keep in KEEPS {
+        for names in PREFIXES {
+            let choice = Choice { names, keep };
+            let image = host.image(alloc, &choice, Vec::new(alloc))?;
+            if image.file(".f.un~") == Some(OLD) {
+                continue;
+            }
+            match undo_file(alloc, &image)? {
+                Some(history) if has_both(&history) => {}
+                _ => return Ok(Some(choice)),
+            }
+        }
+    }
+    Ok(None)
+}
+
+#[test]
+fn each_stop_leaves_the_older_undo_file_or_the_new_one(rt: HostRuntime) -> Result<(), Fail> {
+    let alloc = rt.alloc();
+    for stop in 0..=calls_of(alloc, STORED)? {
+        let host = after_run(alloc, STORED, 0, stop)?;
+        let torn = find_torn(alloc, &host)?;
+        assert!(rt; torn.is_none(), "{stop} calls: {torn:?}");
+    }
+    Ok(())
+}
+
+// A call that fails, and a stop after it, which leave something else.
+fn find_fault(alloc: Global) -> Result<Option<(u64, u64)>, Fail> {
+    let calls = calls_of(alloc, STORED)?;
+    for failing in 1..=calls {
+        for stop in failing..=calls {
+            let host = after_run(alloc, STORED, failing, stop)?;
+            if find_torn(alloc, &host)?.is_some() {
+                return Ok(Some((failing, stop)));
+            }
+        }
+    }
+    Ok(None)
+}
+
+#[test]
+fn each_fault_leaves_the_older_undo_file_or_the_new_one(rt: HostRuntime) -> Result<(), Fail> {
+    let found = find_fault(rt.alloc())?;
+    assert!(rt; found.is_none(), "{found:?}");
+    Ok(())
+}
+
+// A look at the temporary name, and the calls that make, write, sync and rename the file and sync the names.
+const CALLS: u64 = 6;
+
+const FAULT: &[u8] =
+    b"\"f\" 1L, 2B\nchange 1, 2 lines\nchange 2, 3 lines\nat 1, 2 lines\ndevice fault\nquit\n";
+
+#[test]
+fn a_call_that_fails_is_a_device_fault_and_the_session_goes_on(
+    rt: HostRuntime,
+) -> Result<(), Fail> {
+    let alloc = rt.alloc();
+    let mut faults: u64 = 0;
+    for failing in 1..=calls_of(alloc, STORED)? {
+        let host = after_run(alloc, STORED, failing, u64::MAX)?;
+        if host.output() == FAULT {
+            faults = faults.saturating_add(1);
+        }
+    }
+    assert!(rt; CALLS <= faults, "{faults} calls");
+    Ok(())
+}

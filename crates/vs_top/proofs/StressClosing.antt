@@ -1,0 +1,89 @@
+-- The end of the stress mode: the summary, the line with it, and the removal.
+use Rattle.std.proofs.Common.{◌≡◌, ℕ, ◌≤◌, ◌<◌, ◌++◌, Bool, if◌then◌else◌, List, [], length, take, IsTrue, refl, sym, ap, subst, ◌∙◌, append-nil, arith}
+use Rattle.vs_faults.specs.Faults.{HasRisen}
+use Rattle.vs_host.specs.Trace.{WroteOutput}
+use Rattle.vs_host.specs.World.{Tells, Scene, ChangesOutput, ReadsFolder}
+use Rattle.vs_edit.specs.declared.store.StoreErr.{StoreErr}
+use Rattle.vs_edit.specs.declared.store.StoreErr.TheVariants as store
+use Rattle.vs_pair.specs.Steps.{IsFresh}
+use Rattle.vs_machine.specs.declared.command.Mark.{Mark}
+use Rattle.vs_safety.specs.Texts.{Sync}
+use Rattle.vs_safety.specs.Safety.{IsAdded}
+use Rattle.vs_session.specs.declared.session.Session.{Session}
+use Rattle.vs_session.specs.declared.ending.End.TheVariants as end
+use Rattle.vs_session.specs.declared.summary.Summary.{Summary}
+use Rattle.vs_session.specs.Session.{SessionState, Ended}
+use Rattle.vs_session.specs.Fits.{Fits, names_of}
+use Rattle.vs_session.specs.Summary.{summary_of}
+use Rattle.vs_stress.specs.Arguments.{summary_line}
+use Rattle.vs_stress.specs.Commands.{stress_commands}
+use Rattle.vs_top.specs.Ending.{store_ending}
+use Rattle.vs_top.specs.Run.{Did}
+use Rattle.vs_top.specs.Stress.{TellsStress, RunsStress, stress_line, stress_state, stress_syncs}
+use Rattle.vs_top.specs.StressTurns.{IsStressTurn}
+use Rattle.vs_top.specs.declared.ending.Ending.TheVariants as ending
+use Rattle.vs_top.proofs.Closing.{Finishes}
+use Rattle.vs_top.proofs.StressEnds.{did_of, line_cut, no_memory, no_summary, removal_fails, still_ends, stress_ends, turn_still}
+
+-- What asking a session for its summary did.
+pub record HasSummed (tells : Tells) (now new : Scene) (session after : Session) : Type 0 where
+  pub frame : ReadsFolder now new
+  pub later : now.folder_faults ≤ new.folder_faults
+  pub still : IsTrue tells.folder → new ≡ now
+  pub names : names_of after ≡ names_of session
+  pub fits : IsTrue tells.folder → (state : SessionState) (syncs : List Sync) → Fits session now.folder state syncs → Fits after new.folder state syncs
+
+-- the line is not empty
+pub line_some : (count lines changes syncs : ℕ) (digest : List ℕ) → 0 < length (summary_line count lines changes syncs digest)
+line_some count lines changes syncs digest = omega arith
+
+module _ (tells : Tells) (count : ℕ) (old now new : Scene) (session after : Session) (marks : List Mark) (clean : Bool) (turn : IsStressTurn tells old now session marks clean (stress_commands count)) (summed : HasSummed tells now new session after) where
+  after_summary : IsStressTurn tells old new after marks clean (stress_commands count)
+  after_summary = turn_still tells old now session marks clean (stress_commands count) turn new after summed.frame summed.later summed.still summed.names summed.fits
+
+  ends_same : (told : TellsStress tells) → (turn.told told).0 ≡ (after_summary.told told).0
+  unfolding after_summary
+  ends_same told = still_ends tells old now session marks clean (stress_commands count) turn new after summed.frame summed.later summed.still summed.names summed.fits told
+
+  -- there was no memory
+  pub close_no_memory : RunsStress tells count old new ending.NoMemory marks
+  close_no_memory = no_memory tells old new after marks clean (stress_commands count) after_summary count [] (sym (append-nil (stress_commands count)))
+
+  -- the summary failed
+  pub close_fails : (error : StoreErr) → (error ≡ store.Failed → HasRisen now.folder_faults new.folder_faults) → RunsStress tells count old new (store_ending error) marks
+  close_fails store.NoMemory failed = close_no_memory
+  close_fails store.Failed failed =
+      no_summary tells old new after marks clean (stress_commands count) after_summary count now.folder_faults refl (failed refl) turn.keeps.counts.later
+      (λ told. subst (λ (s : Scene). HasRisen s.folder_faults new.folder_faults) (sym (summed.still told)) (failed refl))
+
+  -- the line was made
+  module _ (summary : Summary) (is : IsTrue tells.folder → (state : SessionState) (syncs : List Sync) → Fits session now.folder state syncs → summary ≡ summary_of state syncs)
+      (line : List ℕ) (made : line ≡ summary_line count summary.lines summary.changes summary.syncs summary.digest) where
+    some : 0 < length line
+    some = subst (λ (l : List ℕ). 0 < length l) (sym made) (line_some count summary.lines summary.changes summary.syncs summary.digest)
+
+    line_of : (did : Did) → summary ≡ summary_of (stress_state old did) (stress_syncs old did) → line ≡ stress_line count old did
+    line_of did same = made ∙ ap (λ (s : Summary). summary_line count s.lines s.changes s.syncs s.digest) same
+
+    summary_is : (told : TellsStress tells) → (ends : List Ended) → (turn.told told).0 ≡ ends → summary ≡ summary_of (stress_state old (did_of (stress_commands count) ends)) (stress_syncs old (did_of (stress_commands count) ends))
+    summary_is told ends same =
+        is told.folder (stress_state old (did_of (stress_commands count) (turn.told told).0)) (stress_syncs old (did_of (stress_commands count) (turn.told told).0)) (turn.told told).1.fits
+        ∙ ap (λ (es : List Ended). summary_of (stress_state old (did_of (stress_commands count) es)) (stress_syncs old (did_of (stress_commands count) es))) same
+
+    line_is : (told : TellsStress tells) → line ≡ stress_line count old (did_of (stress_commands count) (after_summary.told told).0)
+    line_is told = line_of (did_of (stress_commands count) (after_summary.told told).0) (summary_is told (after_summary.told told).0 (ends_same told))
+
+    -- it was not written whole
+    pub close_cut : (mid : Scene) → ChangesOutput new mid → (IsTrue tells.folder → IsAdded WroteOutput [] new mid) → (IsTrue tells.output → (n : ℕ) × (mid.output ≡ new.output ++ take n line)) → HasRisen new.out_faults mid.out_faults
+        → RunsStress tells count old mid ending.OutputFault marks
+    close_cut mid frame added wrote rose = line_cut tells old new after marks clean (stress_commands count) after_summary count refl line some line_is mid frame added wrote rose
+
+    module _ (mid last : Scene) (frame : ChangesOutput new mid) (added : IsTrue tells.folder → IsAdded WroteOutput [] new mid) (wrote : IsTrue tells.output → mid.output ≡ new.output ++ line) (quiet : mid.out_faults ≡ new.out_faults)
+        (ok : Bool) (finishes : Finishes tells after mid last end.Quit ok) where
+      -- the removal failed
+      pub close_left : HasRisen mid.folder_faults last.folder_faults → RunsStress tells count old last ending.FolderFault marks
+      close_left rose = removal_fails tells old new after marks clean (stress_commands count) after_summary count refl line some line_is mid last frame added wrote quiet ok finishes rose
+
+      -- all was done
+      pub close_ends : (IsTrue tells.folder → IsFresh (names_of after) last.folder) → RunsStress tells count old last (if clean then ending.Done else ending.WithErrors) marks
+      close_ends gone = stress_ends tells old new after marks clean (stress_commands count) after_summary count refl line some line_is mid last frame added wrote quiet ok finishes gone

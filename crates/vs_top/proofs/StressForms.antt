@@ -1,0 +1,64 @@
+-- The arguments of the stress mode, and what comes of it where no call fails.
+use Rattle.std.proofs.Common.{◌≡◌, ℕ, List, [], ◌∷◌, All, Option, Some, None, IfSome, get_or, refl, sym, ◌∙◌, ap, subst, arith}
+use Rattle.std.specs.Prelude.{codes}
+use Rattle.std.specs.Str.Parse.{digits_value}
+use Rattle.vs_stress.specs.Arguments.{IsCount}
+use Rattle.vs_host.specs.World.{Tells, Scene, content_of}
+use Rattle.vs_machine.specs.declared.command.Mark.{Mark}
+use Rattle.vs_top.specs.Forms.{IsForm, word_of}
+use Rattle.vs_top.specs.Run.{CountsBy, IsThrough, IsThroughMark, counts_of}
+use Rattle.vs_top.specs.Stress.{IsStress, IsStressUnhindered, RunsStress, stress_name}
+use Rattle.vs_top.specs.declared.ending.Ending.{Ending}
+use Rattle.vs_top.specs.declared.ending.Ending.TheVariants as ending
+use Rattle.vs_top.specs.declared.form.Mode.{Mode}
+use Rattle.vs_top.specs.declared.form.Mode.TheVariants as mode
+use Rattle.vs_top.proofs.Edits.{through_outcome}
+use Rattle.vs_top.proofs.Limits.{passes_no_limit}
+use Rattle.vs_top.proofs.Words.{same_second}
+
+-- no other mode begins with its letter
+other_letter : (m : Mode) → 115 ≡ get_or (word_of m) 0 0 → ⊥
+other_letter mode.Edit is = omega (arith, is)
+other_letter mode.Recover is = omega (arith, is)
+other_letter mode.Info is = omega (arith, is)
+other_letter mode.Discard is = omega (arith, is)
+
+pub no_form : (words : List (List ℕ)) (count : ℕ) (m : Mode) (name : List ℕ) → IsStress words count → IsForm words m name → ⊥
+no_form words count m name stress form =
+    other_letter m (ap (λ (xs : List (List ℕ)). get_or (get_or xs 0 []) 0 0) (sym stress.1 ∙ form.0))
+
+-- the arguments of a number
+pub some_count : (words : List (List ℕ)) (first word : List ℕ) (found : Option ℕ) → first ≡ codes "stress" → words ≡ first ∷ word ∷ [] → IfSome found (λ count. IsCount word count) → IfSome found (λ count. IsStress words count)
+some_count words first word None is are says = tt
+some_count words first word (Some count) is are says = (word, are ∙ ap (λ (w : List ℕ). w ∷ word ∷ []) is, says)
+
+-- they say one number
+pub one_count : (words : List (List ℕ)) (a b : ℕ) → IsStress words a → IsStress words b → a ≡ b
+one_count words a b first second =
+    let same : first.0 ≡ second.0 = same_second (codes "stress") first.0 (codes "stress") second.0 (sym first.1 ∙ second.1) in
+    sym first.2.says ∙ ap (λ (word : List ℕ). digits_value 10 word) same ∙ second.2.says
+
+pub never_usage : (tells : Tells) (count : ℕ) (old new : Scene) (end : Ending) (marks : List Mark) → RunsStress tells count old new end marks → end ≡ ending.Usage → ⊥
+never_usage tells count old new end marks runs is = subst (λ (e : Ending). CountsBy e (counts_of old) (counts_of new)) is runs.counts
+
+pub stress_through : (tells : Tells) (count : ℕ) (old new : Scene) (end : Ending) (marks : List Mark) → RunsStress tells count old new end marks → IsStressUnhindered tells old new → IsThrough end
+stress_through tells count old new ending.Done marks runs free = tt
+stress_through tells count old new ending.WithErrors marks runs free = tt
+stress_through tells count old new ending.Usage marks runs free = runs.counts
+stress_through tells count old new ending.SwapFound marks runs free = free.free (runs.swap free.told.folder refl)
+stress_through tells count old new ending.NoSwap marks runs free = runs.counts
+stress_through tells count old new ending.ScriptFault marks runs free = (runs.told free.told).answered
+stress_through tells count old new ending.OutputFault marks runs free = free.no_out_fault runs.counts.0
+stress_through tells count old new ending.FolderFault marks runs free = free.no_folder_fault runs.counts.0
+stress_through tells count old new ending.NoMemory marks runs free = tt
+stress_through tells count old new ending.Encrypted marks runs free = runs.counts
+stress_through tells count old new ending.NotSwap marks runs free = runs.counts
+stress_through tells count old new (ending.TextLimit size) marks runs free = passes_no_limit (content_of old stress_name) size free.file (runs.file free.told.folder)
+stress_through tells count old new ending.ScriptTooLong marks runs free = (runs.told free.told).answered
+
+pub stress_marks : (tells : Tells) (count : ℕ) (old new : Scene) (end : Ending) (marks : List Mark) → RunsStress tells count old new end marks → IsStressUnhindered tells old new → All IsThroughMark marks
+stress_marks tells count old new end marks runs free = λ k d within. through_outcome (get_or marks k d).outcome (λ is. free.no_folder_fault (runs.causes k d within is))
+
+-- the same run of a number that is the same
+pub stress_same : (tells : Tells) (a b : ℕ) (old new : Scene) (end : Ending) (marks : List Mark) → a ≡ b → RunsStress tells a old new end marks → RunsStress tells b old new end marks
+stress_same tells a b old new end marks is runs = subst (λ (n : ℕ). RunsStress tells n old new end marks) is runs

@@ -1,0 +1,147 @@
+-- The opening of the stress mode, and what comes of it where it fails.
+use Rattle.std.proofs.Common.{◌≡◌, ◌⊎◌, inl, inr, ℕ, true, List, [], length, IsTrue, refl, sym, ap, ◌∙◌, append-nil, arith}
+use Rattle.std.proofs.lemmas.Bool.{true≢false}
+use Rattle.std.proofs.lemmas.List.Elements.{All-nil}
+use Rattle.vs_faults.specs.Faults.{HasRisen, IsQuiet}
+use Rattle.vs_host.specs.Names.{names_of_file}
+use Rattle.vs_host.specs.Trace.{Snapshot}
+use Rattle.vs_host.specs.World.{Tells, Scene, content_of}
+use Rattle.vs_host.specs.declared.names.Names.{Names}
+use Rattle.vs_disk.specs.Runs.{Inside}
+use Rattle.vs_disk.proofs.Runs.{Each-weaker}
+use Rattle.vs_pair.specs.Acts.{Acts}
+use Rattle.vs_machine.specs.declared.command.Mark.{Mark}
+use Rattle.vs_safety.specs.Turns.{opened}
+use Rattle.vs_safety.specs.Causes.{folder_count, output_count}
+use Rattle.vs_safety.proofs.Causes.{counted_none, counted_on, rose_last}
+use Rattle.vs_session.specs.declared.session.Session.{Session}
+use Rattle.vs_session.specs.declared.open.OpenErr.{OpenErr}
+use Rattle.vs_session.specs.declared.open.OpenErr.TheVariants as opening
+use Rattle.vs_session.specs.Open.{IsTooLarge, OnlyLooks}
+use Rattle.vs_session.specs.Fits.{Fits, HasSwap, Opens, names_of}
+use Rattle.vs_stress.specs.Commands.{stress_commands}
+use Rattle.vs_top.specs.Ending.{open_ending}
+use Rattle.vs_top.specs.Run.{FailedBy, FileFits, HasCause, counts_of, is_early, opened_file}
+use Rattle.vs_top.specs.Stress.{TellsStress, HasStress, IsBeforeRemoval, IsStressMoment, RunsStress, StressedBy, stress_name, stress_text}
+use Rattle.vs_top.specs.StressTurns.{IsStressTurn}
+use Rattle.vs_top.specs.declared.ending.Ending.{Ending}
+use Rattle.vs_top.specs.declared.ending.Ending.TheVariants as ending
+use Rattle.vs_top.proofs.Counting.{only_folder}
+use Rattle.vs_top.proofs.Opening.{did_none, kept_none, no_causes, no_times}
+use Rattle.vs_top.proofs.StressEnds.{at_moment}
+
+abbrev names : Names
+names = names_of_file stress_name
+
+module _ (tells : Tells) (old new : Scene) (acts : Acts tells (Opens stress_name) old new) where
+  before : (free : HasSwap names old.folder → ⊥) → (m : Snapshot) → Inside old (Opens stress_name old.folder) m → IsBeforeRemoval names old (stress_text old) [] m
+  before free m inside = record { spared = inside.folder.spared; recovers = inl (record { answered = inside.answered; recovers = inside.folder.safe free }) }
+
+  -- it was not opened
+  module _ (count : ℕ) (marks : List Mark) (none : marks ≡ []) where
+    stress_none : (end : Ending) → TellsStress tells → StressedBy end count old new marks did_none → FailedBy end old new → (IsTrue (is_early end) → new.folder ≡ old.folder) → HasStress count old new end marks
+    stress_none end told answered failed same = record {
+      did = did_none;
+      kept = kept_none stress_name old marks none;
+      answered = answered;
+      safe = λ free.
+          let runs = acts.runs told.folder in
+          record {
+            moments = runs.moments.added;
+            added = runs.moments.is;
+            safe = Each-weaker (Inside old (Opens stress_name old.folder)) (IsStressMoment names old (stress_text old) []) (λ m inside. at_moment old (stress_text old) [] m (before free m inside)) runs.moments.added runs.moments.each;
+            spared = runs.now.spared;
+            first = new.folder;
+            last = new.folder;
+            steps = refl;
+          };
+      failed = failed;
+      same = same;
+    }
+
+    output_same : new.output ≡ old.output
+    output_same = ap (λ (s : Scene). s.output) acts.frame
+
+    all_quiet : new.folder_faults ≡ old.folder_faults → counts_of new ≡ counts_of old
+    all_quiet quiet = ap counts_of acts.frame ∙ ap (λ n. record (counts_of old) { folder = n }) quiet
+
+    pub stress_open_fails : (error : OpenErr) → (error ≡ opening.Failed → HasRisen old.folder_faults new.folder_faults) → IsQuiet old.folder_faults new.folder_faults (error ≡ opening.Failed)
+        → ((size : ℕ) → error ≡ opening.TextLimit size → IsTooLarge tells size (content_of old stress_name)) → (error ≡ opening.SwapFound → IsTrue tells.folder → HasSwap names old.folder)
+        → (IsTrue tells.folder → HasSwap names old.folder → (error ≡ opening.SwapFound) ⊎ (error ≡ opening.Failed) ⊎ (error ≡ opening.NoMemory))
+        → ((error ≡ opening.Failed → ⊥) → OnlyLooks tells old new) → RunsStress tells count old new (open_ending error) marks
+    stress_open_fails opening.SwapFound failed quiet limit swap barred looks = record {
+      told = λ told. stress_none ending.SwapFound told (record { none = none; output = output_same }) tt (λ early. ((looks (λ is. absurd (cc))).runs told.folder).now);
+      swap = λ told is. swap refl told;
+      barred = λ told has. tt;
+      file = λ told. tt;
+      script = ap (λ (s : Scene). s.script) acts.frame;
+      counts = all_quiet (quiet (λ is. absurd (cc)));
+      causes = no_causes (counts_of old) (counts_of new) marks none;
+      times = λ told. no_times old new marks none (ap (λ (s : Scene). s.answers) acts.frame);
+    }
+    stress_open_fails opening.Failed failed quiet limit swap barred looks = record {
+      told = λ told. stress_none ending.FolderFault told (inl (record { none = none; output = output_same }))
+          (rose_last folder_count old old new (λ m calm. calm.folder) (acts.last told.folder) (failed refl) (counted_none folder_count old)) (λ early. absurd (true≢false (sym early)));
+      swap = λ told is. absurd (cc);
+      barred = λ told has. tt;
+      file = λ told. tt;
+      script = ap (λ (s : Scene). s.script) acts.frame;
+      counts = (failed refl, only_folder old new acts.frame acts.later);
+      causes = no_causes (counts_of old) (counts_of new) marks none;
+      times = λ told. no_times old new marks none (ap (λ (s : Scene). s.answers) acts.frame);
+    }
+    stress_open_fails opening.NoMemory failed quiet limit swap barred looks = record {
+      told = λ told. stress_none ending.NoMemory told (record { rest = stress_commands count; first = refl; output = output_same }) tt (λ early. absurd (true≢false (sym early)));
+      swap = λ told is. absurd (cc);
+      barred = λ told has. tt;
+      file = λ told. tt;
+      script = ap (λ (s : Scene). s.script) acts.frame;
+      counts = only_folder old new acts.frame acts.later;
+      causes = no_causes (counts_of old) (counts_of new) marks none;
+      times = λ told. no_times old new marks none (ap (λ (s : Scene). s.answers) acts.frame);
+    }
+    stress_open_fails (opening.TextLimit size) failed quiet limit swap barred looks = record {
+      told = λ told. stress_none (ending.TextLimit size) told (record { none = none; output = output_same }) tt (λ early. ((looks (λ is. absurd (cc))).runs told.folder).now);
+      swap = λ told is. absurd (cc);
+      barred = λ told has. elim (barred told has) [ inl is ↦ absurd (cc) | inr more ↦ elim more [ inl is ↦ absurd (cc) | inr is ↦ absurd (cc) ] ];
+      file = λ told. (limit size refl).passes told;
+      script = ap (λ (s : Scene). s.script) acts.frame;
+      counts = all_quiet (quiet (λ is. absurd (cc)));
+      causes = no_causes (counts_of old) (counts_of new) marks none;
+      times = λ told. no_times old new marks none (ap (λ (s : Scene). s.answers) acts.frame);
+    }
+
+  -- it was opened
+  pub stress_opened : (session : Session) → names_of session ≡ names → (IsTrue tells.folder → HasSwap names old.folder → ⊥) → (IsTrue tells.folder → FileFits (content_of old stress_name))
+      → (IsTrue tells.folder → Fits session new.folder (opened_file old stress_name).state (opened (stress_text old))) → IsStressTurn tells old new session [] true []
+  stress_opened session same free file fits = record {
+    told = λ told.
+        let runs = acts.runs told.folder in (
+          [],
+          record {
+            one_each = refl;
+            marks_are = refl;
+            none_quits = tt;
+            errors = refl;
+            fits = fits told.folder;
+            moments = runs.moments.added;
+            added = runs.moments.is;
+            safe = Each-weaker (Inside old (Opens stress_name old.folder)) (IsBeforeRemoval names old (stress_text old) []) (before (free told.folder)) runs.moments.added runs.moments.each;
+            spared = runs.now.spared;
+            first = new.folder;
+            steps = refl;
+            output = ap (λ (s : Scene). s.output) acts.frame;
+            answers = omega (arith, ap (λ (s : Scene). length s.answers) acts.frame);
+            counted = counted_on output_count old old new
+                (record {
+                  added = runs.moments.added;
+                  is = runs.moments.is;
+                  each = Each-weaker (Inside old (Opens stress_name old.folder)) (λ m. m.out_faults ≡ old.out_faults) (λ m inside. inside.out_faults) runs.moments.added runs.moments.each;
+                })
+                (ap (λ (s : Scene). s.out_faults) acts.frame) (counted_none output_count old);
+          },
+        );
+    keeps = record { free = free; file = file; names = same; counts = only_folder old new acts.frame acts.later; causes = All-nil (HasCause (counts_of old) (counts_of new)) };
+    script = ap (λ (s : Scene). s.script) acts.frame;
+    times = λ told. ap (λ (s : Scene). s.answers) acts.frame ∙ sym (append-nil old.answers);
+  }

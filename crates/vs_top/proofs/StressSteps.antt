@@ -1,0 +1,182 @@
+-- A command of the stress mode: what it leaves of what is known between two of them.
+use Rattle.std.proofs.Common.{◌≡◌, inl, inr, ℕ, ◌+◌, Bool, true, false, not, ◌&&◌, ◌||◌, if◌then◌else◌, List, [], ◌∷◌, ◌++◌, length, map, Option, Some, None, Ok, IfSome, refl, sym, ap, subst, ◌∙◌, append_assoc, arith}
+use Rattle.std.proofs.lemmas.Bool.{true≢false}
+use Rattle.std.proofs.lemmas.List.{length-append}
+use Rattle.std.proofs.lemmas.List.Elements.{All-nil, All-cons, All-append}
+use Rattle.vs_faults.proofs.Causes.{risen_after}
+use Rattle.vs_host.specs.Disk.{Disk}
+use Rattle.vs_host.specs.Names.{names_of_file}
+use Rattle.vs_host.specs.Trace.{Snapshot, Each}
+use Rattle.vs_host.specs.World.{Tells, Scene}
+use Rattle.vs_host.specs.declared.names.Names.{Names}
+use Rattle.vs_disk.specs.Runs.{Inside}
+use Rattle.vs_disk.proofs.Runs.{Each-append, Each-weaker}
+use Rattle.vs_disk.proofs.Others.{same_then}
+use Rattle.vs_pair.specs.Pair.{is_foreign}
+use Rattle.vs_exparse.specs.Command.Command.{Write as WriteFile, WriteUndo}
+use Rattle.vs_excmd.specs.Request.{Instruction, IsRequest}
+use Rattle.vs_excmd.specs.declared.request.Request.{Request}
+use Rattle.vs_machine.specs.Machine.{is_done}
+use Rattle.vs_machine.specs.Replies.{Answer}
+use Rattle.vs_machine.specs.declared.command.Mark.{Mark}
+use Rattle.vs_safety.specs.Texts.{Text, Sync, IsFlag}
+use Rattle.vs_safety.specs.Turns.{Turn, with_begun, with_sync, after_turns, opened}
+use Rattle.vs_safety.specs.FileWork.{FileWork, EditedFile}
+use Rattle.vs_safety.specs.Safety.{IsUnderWay, Spares, Stepped, Works}
+use Rattle.vs_safety.proofs.Splits.{after_push}
+use Rattle.vs_session.specs.declared.session.Session.{Session}
+use Rattle.vs_session.specs.Session.{SessionState, Ended, is_write, lacks_name, states_after, turn_of, turns_of, any_error, undo_work, write_in, writes_files}
+use Rattle.vs_session.specs.Fits.{Answers, Fits}
+use Rattle.vs_top.specs.Run.{counts_of, HasCause, opened_file}
+use Rattle.vs_top.specs.Stress.{TellsStress, HasSteps, IsBeforeRemoval, stress_name, stress_text}
+use Rattle.vs_top.specs.StressTurns.{IsStressTurn, StressTold}
+use Rattle.vs_top.proofs.Counting.{causes_on, counted_works}
+use Rattle.vs_top.proofs.Pushes.{and_not, errors_push, map_push, none_push, states_push, turns_push}
+use Rattle.vs_top.proofs.Stepping.{HasStepped}
+
+-- one more step
+pub steps_push : (names : Names) (first mid last : Disk) (turns : List Turn) (turn : Turn) → HasSteps names first turns mid → turn.found ≡ Some mid
+    → IfSome turn.sync (λ sync. IsFlag names turn.done mid last sync.acknowledged) → HasSteps names first (turns ++ turn ∷ []) last
+steps_push names first mid last [] turn is found flag =
+    (last, found ∙ ap Some is, subst (λ (d : Disk). IfSome turn.sync (λ sync. IsFlag names turn.done d last sync.acknowledged)) is flag, refl)
+steps_push names first mid last (one ∷ turns) turn all found flag = (all.0, all.1, all.2, steps_push names all.0 mid last turns turn all.3 found flag)
+
+-- the moments so far, with one command more
+pub moment_on : (names : Names) (start : Scene) (text : Text) (turns : List Turn) (turn : Turn) (m : Snapshot) → IsBeforeRemoval names start text turns m → IsBeforeRemoval names start text (turns ++ turn ∷ []) m
+moment_on names start text turns turn m is = record {
+  spared = is.spared;
+  recovers = elim is.recovers [
+    | inl opening ↦ inl opening
+    | inr at ↦ inr (record {
+      first = at.first;
+      turn = at.turn;
+      rest = at.rest ++ turn ∷ [];
+      turns_are = ap (λ (ts : List Turn). ts ++ turn ∷ []) at.turns_are ∙ append_assoc at.first (at.turn ∷ at.rest) (turn ∷ []);
+      answered = at.answered;
+      recovers = at.recovers;
+    })
+  ];
+}
+
+-- a command that writes no other file
+no_work : (state : SessionState) (found : Disk) (acknowledged lacks : Bool) (parsed : _) → writes_files parsed ≡ false
+    → (if (is_write parsed && acknowledged) && not lacks then Some (EditedFile (write_in state found)) else undo_work state found parsed) ≡ None
+no_work state found acknowledged lacks (Ok (WriteFile bang)) plain = absurd (true≢false plain)
+no_work state found acknowledged lacks (Ok WriteUndo) plain = absurd (true≢false plain)
+no_work state found acknowledged lacks parsed plain = refl
+
+pub writes_none : (state : SessionState) (instruction : Instruction) (ended : Ended) → writes_files instruction.parsed ≡ false → (turn_of state instruction ended).write ≡ None
+writes_none state instruction ended plain = no_work state ended.found ended.acknowledged (lacks_name state.options.write state.name ended.found) instruction.parsed plain
+
+module _ (tells : Tells) (old now new : Scene) (session after : Session) (marks : List Mark) (clean : Bool) (request : Request) (mark : Mark) (reply : Answer) (instruction : Instruction) (commands : List Instruction)
+    (step : HasStepped tells now new session after request mark reply) (meant : IsRequest request instruction) (plain : writes_files instruction.parsed ≡ false) (turn : IsStressTurn tells old now session marks clean commands) where
+  module _ (told : TellsStress tells) (ends : List Ended) (here : StressTold old now session marks clean commands ends) where
+    abbrev names : Names
+    names = names_of_file stress_name
+
+    abbrev first : SessionState
+    first = (opened_file old stress_name).state
+
+    abbrev state : SessionState
+    state = states_after first commands ends
+
+    abbrev turns : List Turn
+    turns = turns_of first commands ends
+
+    abbrev syncs : List Sync
+    syncs = after_turns (opened (stress_text old)) turns
+
+    answers : Answers state syncs instruction session after mark reply now new
+    answers = step.step told.folder state syncs instruction here.fits meant
+
+    abbrev ended : Ended
+    ended = answers.ended
+
+    abbrev one : Turn
+    one = turn_of state instruction ended
+
+    stepped : Stepped names syncs one now new
+    stepped = subst (λ (n : Names). Stepped n syncs one now new) turn.keeps.names answers.stepped
+
+    works : Works names None (IsUnderWay names (with_begun one.sync syncs) None) now new
+    works = subst (λ (w : Option FileWork). Works names w (IsUnderWay names (with_begun one.sync syncs) w) now new) (writes_none state instruction ended plain) stepped.works
+
+    abbrev commands' : List Instruction
+    commands' = commands ++ instruction ∷ []
+
+    abbrev ends' : List Ended
+    ends' = ends ++ ended ∷ []
+
+    turns_are : turns_of first commands' ends' ≡ turns ++ one ∷ []
+    turns_are = turns_push instruction ended first commands ends here.one_each
+
+    syncs_are : after_turns (opened (stress_text old)) (turns_of first commands' ends') ≡ with_sync one.sync syncs
+    syncs_are = ap (λ (ts : List Turn). after_turns (opened (stress_text old)) ts) turns_are ∙ after_push one turns (opened (stress_text old))
+
+    long_now : length new.answers ≡ length old.answers + (length turns + 1)
+    long_now =
+        let at : List ℕ = mark.at ∷ [] in
+        omega (arith, ap (λ (l : List ℕ). length l) (step.clock told.clock), length-append now.answers at, here.answers)
+
+    moment_here : (m : Snapshot) → Inside new (Spares names None (IsUnderWay names (with_begun one.sync syncs) None) now.folder) m → IsBeforeRemoval names old (stress_text old) (turns ++ one ∷ []) m
+    moment_here m inside = record {
+      spared = same_then (is_foreign names) old.folder now.folder m.folder here.spared inside.folder.spared;
+      recovers = inr (record { first = turns; turn = one; rest = []; turns_are = refl; answered = inside.answered ∙ long_now; recovers = inside.folder.folder.recovers });
+    }
+
+    told_on : StressTold old new after (marks ++ mark ∷ []) (clean && (is_done mark.outcome && not reply.is_error)) commands' ends'
+    told_on =
+        let newer : List Snapshot = works.moments.added in
+        let each : List Turn → Snapshot → Type 0 = λ ts. IsBeforeRemoval names old (stress_text old) ts in
+        let last : List Ended = ended ∷ [] in
+        let more : List Instruction = instruction ∷ [] in
+        let one_turn : List Turn = one ∷ [] in
+        record {
+          one_each = omega (arith, here.one_each, length-append ends last, length-append commands more);
+          marks_are = ap (λ (l : List Mark). l ++ mark ∷ []) here.marks_are ∙ ap (λ (m : Mark). map (λ (e : Ended). e.mark) ends ++ m ∷ []) (sym answers.mark_is) ∙ sym (map_push (λ (e : Ended). e.mark) ends ended);
+          none_quits = none_push instruction ended first commands ends here.one_each here.none_quits answers.not_quit answers.found;
+          errors = ap (λ (b : Bool). clean && b) (ap (λ (m : Mark). is_done m.outcome && not reply.is_error) (sym answers.mark_is)) ∙ ap (λ (b : Bool). b && (is_done ended.mark.outcome && not reply.is_error)) here.errors
+              ∙ and_not (any_error first commands ends) (is_done ended.mark.outcome) reply.is_error
+              ∙ ap (λ (a : Answer). not (any_error first commands ends || (not (is_done ended.mark.outcome) || a.is_error))) answers.reply_is
+              ∙ ap not (sym (errors_push instruction ended first commands ends here.one_each));
+          fits = subst (λ (ss : List Sync). Fits after new.folder (states_after first commands' ends') ss) (sym syncs_are)
+              (subst (λ (s : SessionState). Fits after new.folder s (with_sync one.sync syncs)) (sym (states_push instruction ended first commands ends here.one_each)) answers.fits);
+          moments = newer ++ here.moments;
+          added = works.moments.is ∙ ap (λ (ms : List Snapshot). newer ++ ms) here.added ∙ sym (append_assoc newer here.moments old.trace);
+          safe = subst (λ (ts : List Turn). Each (each ts) (newer ++ here.moments)) (sym turns_are)
+              (Each-append (each (turns ++ one ∷ [])) newer here.moments
+              (Each-weaker (Inside new (Spares names None (IsUnderWay names (with_begun one.sync syncs) None) now.folder)) (each (turns ++ one ∷ [])) moment_here newer works.moments.each)
+              (Each-weaker (each turns) (each (turns ++ one ∷ [])) (λ m is. moment_on names old (stress_text old) turns one m is) here.moments here.safe));
+          spared = same_then (is_foreign names) old.folder now.folder new.folder here.spared works.spared;
+          first = here.first;
+          steps = subst (λ (ts : List Turn). HasSteps names here.first ts new.folder) (sym turns_are)
+              (steps_push names here.first now.folder new.folder turns one here.steps (ap Some stepped.found) stepped.flag);
+          output = works.output ∙ here.output;
+          answers = omega (arith, long_now, ap (λ (ts : List Turn). length ts) turns_are, length-append turns one_turn);
+          counted = counted_works names None _ old now new (ap (λ (s : Scene). s.out_faults) step.frame) works here.counted;
+        }
+
+  -- over any host
+  pub turn_on : IsStressTurn tells old new after (marks ++ mark ∷ []) (clean && (is_done mark.outcome && not reply.is_error)) (commands ++ instruction ∷ [])
+  turn_on =
+      let before = turn.keeps.counts in
+      record {
+        told = λ told. let was = turn.told told in (was.0 ++ ended told was.0 was.1 ∷ [], told_on told was.0 was.1);
+        keeps = record {
+          free = turn.keeps.free;
+          file = turn.keeps.file;
+          names = step.names ∙ turn.keeps.names;
+          counts = record {
+            script = ap (λ (s : Scene). s.script_faults) step.frame ∙ before.script;
+            output = ap (λ (s : Scene). s.out_faults) step.frame ∙ before.output;
+            later = omega (arith, before.later, step.later);
+          };
+          causes = All-append (HasCause (counts_of old) (counts_of new)) marks (mark ∷ [])
+              (causes_on (counts_of old) (counts_of now) (counts_of new) marks step.later turn.keeps.causes)
+              (All-cons (HasCause (counts_of old) (counts_of new)) mark [] (λ is. risen_after before.later (step.risen is)) (All-nil (HasCause (counts_of old) (counts_of new))));
+        };
+        script = ap (λ (s : Scene). s.script) step.frame ∙ turn.script;
+        times = λ told.
+            step.clock told ∙ ap (λ (l : List ℕ). l ++ mark.at ∷ []) (turn.times told) ∙ append_assoc old.answers (map (λ (m : Mark). m.at) marks) (mark.at ∷ [])
+            ∙ ap (λ (l : List ℕ). old.answers ++ l) (sym (map_push (λ (m : Mark). m.at) marks mark));
+      }

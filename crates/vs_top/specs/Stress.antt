@@ -1,0 +1,169 @@
+-- What the stress mode does: it answers commands of its own over a session, and writes what the session has come to.
+use Rattle.std.specs.Prelude.{ℕ, Bool, true, false, List, ◌∷◌, [], ◌≡◌, ◌≤◌, ◌+◌, ◌⊎◌, ◌++◌, ⊤, All, codes, length, take, IsTrue, IfSome, Some}
+use Rattle.vs_faults.specs.Faults.{HasRisen}
+use Rattle.vs_host.specs.Disk.{Disk}
+use Rattle.vs_host.specs.Names.{names_of_file}
+use Rattle.vs_host.specs.Trace.{Snapshot, Each}
+use Rattle.vs_host.specs.World.{Tells, Scene, content_of}
+use Rattle.vs_host.specs.declared.names.Names.{Names}
+use Rattle.vs_disk.specs.Names.{SameAt}
+use Rattle.vs_pair.specs.Pair.{is_foreign}
+use Rattle.vs_pair.specs.Steps.{IsFresh}
+use Rattle.vs_excmd.specs.Request.{Instruction}
+use Rattle.vs_machine.specs.declared.command.Mark.{Mark}
+use Rattle.vs_safety.specs.Texts.{Text, Sync, Recovers, RecoversOrNone, IsFlag, recoverable}
+use Rattle.vs_safety.specs.Turns.{Turn, with_begun, after_turns, opened}
+use Rattle.vs_session.specs.Session.{SessionState, states_after, turns_of}
+use Rattle.vs_session.specs.Opened.{text_in}
+use Rattle.vs_session.specs.Fits.{HasSwap}
+use Rattle.vs_session.specs.Summary.{summary_of}
+use Rattle.vs_stress.specs.Arguments.{IsCount, summary_line}
+use Rattle.vs_stress.specs.Commands.{stress_commands}
+use Rattle.vs_top.specs.Run.{Did, IsKept, AnswersNone, Counts, CountsBy, FailedBy, HasCause, HasFile, IsBarred, IsTimed, FileFits, counts_of, is_early, opened_file, refuses_any}
+use Rattle.vs_top.specs.declared.ending.Ending.{Ending}
+use Rattle.vs_top.specs.declared.ending.Ending.TheVariants as ending
+
+-- the file of the stress mode
+abbrev pub stress_name : List ℕ
+stress_name = codes "stress.vs"
+
+-- the arguments are `stress` and this number
+abbrev pub IsStress : List (List ℕ) → ℕ → Type 0
+IsStress words count = (word : List ℕ) × (words ≡ codes "stress" ∷ word ∷ []) × IsCount word count
+
+-- a host tells all that the stress mode depends on, and what it writes
+pub record TellsStress (tells : Tells) : Type 0 where
+  pub folder : IsTrue tells.folder
+  pub output : IsTrue tells.output
+  pub clock : IsTrue tells.clock
+
+-- ---- what it answered
+
+abbrev pub stress_text : Scene → Text
+stress_text old = text_in (content_of old stress_name)
+
+-- the commands as turns, and the state and the syncs after them
+abbrev pub stress_turns : Scene → Did → List Turn
+stress_turns old did = turns_of (opened_file old stress_name).state did.commands did.ends
+
+abbrev pub stress_state : Scene → Did → SessionState
+stress_state old did = states_after (opened_file old stress_name).state did.commands did.ends
+
+abbrev pub stress_syncs : Scene → Did → List Sync
+stress_syncs old did = after_turns (opened (stress_text old)) (stress_turns old did)
+
+-- the line with the summary after these commands
+abbrev pub stress_line : ℕ → Scene → Did → List ℕ
+stress_line count old did =
+    let summary = summary_of (stress_state old did) (stress_syncs old did) in summary_line count summary.lines summary.changes summary.syncs summary.digest
+
+-- All commands were answered, and this was written.
+pub record HasStressed (count : ℕ) (old new : Scene) (did : Did) (written : List ℕ) : Type 0 where
+  pub all : did.commands ≡ stress_commands count
+  pub output : new.output ≡ old.output ++ written
+
+-- The whole line was written, and the swap files were removed.
+pub record StressEnds (errors : Bool) (count : ℕ) (old new : Scene) (did : Did) : Type 0 where
+  pub stressed : HasStressed count old new did (stress_line count old did)
+  pub errors_are : refuses_any (opened_file old stress_name) did.commands did.ends ≡ errors
+  pub gone : IsFresh (names_of_file stress_name) new.folder
+
+-- The first commands were answered, and nothing was written.
+pub record IsStressing (count : ℕ) (old new : Scene) (did : Did) : Type 0 where
+  pub rest : List Instruction
+  pub first : stress_commands count ≡ did.commands ++ rest
+  pub output : new.output ≡ old.output
+
+-- what the stress mode answered, by its ending
+abbrev pub StressedBy : Ending → ℕ → Scene → Scene → List Mark → Did → Type 0
+StressedBy ending.Done count old new marks did = StressEnds false count old new did
+StressedBy ending.WithErrors count old new marks did = StressEnds true count old new did
+StressedBy ending.Usage count old new marks did = ⊥
+StressedBy ending.SwapFound count old new marks did = AnswersNone old new marks
+StressedBy ending.NoSwap count old new marks did = ⊥
+StressedBy ending.ScriptFault count old new marks did = ⊥
+StressedBy ending.OutputFault count old new marks did = (n : ℕ) × HasStressed count old new did (take n (stress_line count old did))
+StressedBy ending.FolderFault count old new marks did = AnswersNone old new marks ⊎ HasStressed count old new did [] ⊎ HasStressed count old new did (stress_line count old did)
+StressedBy ending.NoMemory count old new marks did = IsStressing count old new did
+StressedBy ending.Encrypted count old new marks did = ⊥
+StressedBy ending.NotSwap count old new marks did = ⊥
+StressedBy (ending.TextLimit size) count old new marks did = AnswersNone old new marks
+StressedBy ending.ScriptTooLong count old new marks did = ⊥
+
+-- ---- the folder
+
+-- Each command found the folder as the one before it left it, and its sync is acknowledged as the folder has it at both its ends.
+abbrev pub HasSteps : Names → Disk → List Turn → Disk → Type 0
+HasSteps names first [] last = last ≡ first
+HasSteps names first (turn ∷ turns) last =
+    (mid : Disk) × (turn.found ≡ Some first) × IfSome turn.sync (λ sync. IsFlag names turn.done first mid sync.acknowledged) × HasSteps names mid turns last
+
+-- A moment while the command after these was under way, or had ended: the clock was read as often as commands had begun.
+pub record IsAtCommand (names : Names) (start : Scene) (text : Text) (turns : List Turn) (moment : Snapshot) : Type 0 where
+  pub first : List Turn
+  pub turn : Turn
+  pub rest : List Turn
+  pub turns_are : turns ≡ first ++ turn ∷ rest
+  pub answered : moment.answered ≡ length start.answers + (length first + 1)
+  -- what was recoverable is recovered, or the text of the sync that the command begins
+  pub recovers : Recovers names (recoverable (with_begun turn.sync (after_turns (opened text) first))) moment.folder
+
+-- A moment before the first command.
+pub record IsAtOpening (names : Names) (start : Scene) (text : Text) (moment : Snapshot) : Type 0 where
+  pub answered : moment.answered ≡ length start.answers
+  pub recovers : RecoversOrNone names (text ∷ []) moment.folder
+
+-- A moment after the last command, while the swap files are removed.
+pub record IsAtRemoval (names : Names) (start : Scene) (text : Text) (turns : List Turn) (moment : Snapshot) : Type 0 where
+  pub answered : moment.answered ≡ length start.answers + length turns
+  pub recovers : RecoversOrNone names (recoverable (after_turns (opened text) turns)) moment.folder
+
+-- At a moment before the removal no name but those of the pair has changed, and recovery gives what it may.
+pub record IsBeforeRemoval (names : Names) (start : Scene) (text : Text) (turns : List Turn) (moment : Snapshot) : Type 0 where
+  pub spared : SameAt (is_foreign names) start.folder moment.folder
+  pub recovers : IsAtOpening names start text moment ⊎ IsAtCommand names start text turns moment
+
+-- And so at any moment.
+pub record IsStressMoment (names : Names) (start : Scene) (text : Text) (turns : List Turn) (moment : Snapshot) : Type 0 where
+  pub spared : SameAt (is_foreign names) start.folder moment.folder
+  pub recovers : IsAtOpening names start text moment ⊎ IsAtCommand names start text turns moment ⊎ IsAtRemoval names start text turns moment
+
+-- So it is at each moment from one scene to another.
+pub record IsStressSafe (names : Names) (start now : Scene) (text : Text) (turns : List Turn) : Type 0 where
+  pub moments : List Snapshot
+  pub added : now.trace ≡ moments ++ start.trace
+  pub safe : Each (IsStressMoment names start text turns) moments
+  pub spared : SameAt (is_foreign names) start.folder now.folder
+  pub first : Disk
+  pub last : Disk
+  pub steps : HasSteps names first turns last
+
+-- ---- a run
+
+-- What it did, over a host that tells: its commands and how they ended.
+pub record HasStress (count : ℕ) (old new : Scene) (end : Ending) (marks : List Mark) : Type 0 where
+  pub did : Did
+  pub kept : IsKept (opened_file old stress_name) marks did
+  pub answered : StressedBy end count old new marks did
+  pub safe : (HasSwap (names_of_file stress_name) old.folder → ⊥) → IsStressSafe (names_of_file stress_name) old new (stress_text old) (stress_turns old did)
+  pub failed : FailedBy end old new
+  pub same : IsTrue (is_early end) → new.folder ≡ old.folder
+
+-- What the stress mode does, by its ending. The script is not read.
+pub record RunsStress (tells : Tells) (count : ℕ) (old new : Scene) (end : Ending) (marks : List Mark) : Type 0 where
+  pub told : TellsStress tells → HasStress count old new end marks
+  pub swap : IsTrue tells.folder → end ≡ ending.SwapFound → HasSwap (names_of_file stress_name) old.folder
+  pub barred : IsTrue tells.folder → HasSwap (names_of_file stress_name) old.folder → IsBarred end
+  pub file : IsTrue tells.folder → HasFile end (content_of old stress_name)
+  pub script : new.script ≡ old.script
+  pub counts : CountsBy end (counts_of old) (counts_of new)
+  pub causes : All (HasCause (counts_of old) (counts_of new)) marks
+  pub times : IsTrue tells.clock → IsTimed old new marks
+
+-- The file is within its limits, no swap file is there, and no count of faults rose.
+pub record IsStressUnhindered (tells : Tells) (old new : Scene) : Type 0 where
+  pub told : TellsStress tells
+  pub free : HasSwap (names_of_file stress_name) old.folder → ⊥
+  pub file : FileFits (content_of old stress_name)
+  pub no_out_fault : ¬ HasRisen old.out_faults new.out_faults
+  pub no_folder_fault : ¬ HasRisen old.folder_faults new.folder_faults

@@ -1,0 +1,53 @@
+-- What is known of the stress mode between two of its commands.
+use Rattle.std.specs.Prelude.{ℕ, Bool, true, not, List, [], ◌∷◌, ◌≡◌, ◌+◌, ◌++◌, All, length, map, IsTrue}
+use Rattle.vs_host.specs.Disk.{Disk}
+use Rattle.vs_host.specs.Names.{names_of_file}
+use Rattle.vs_host.specs.Trace.{Snapshot, Each}
+use Rattle.vs_host.specs.World.{Tells, Scene, content_of}
+use Rattle.vs_disk.specs.Names.{SameAt}
+use Rattle.vs_pair.specs.Pair.{is_foreign}
+use Rattle.vs_excmd.specs.Request.{Instruction}
+use Rattle.vs_machine.specs.declared.command.Mark.{Mark}
+use Rattle.vs_safety.specs.Texts.{IsBetween}
+use Rattle.vs_safety.specs.Turns.{after_turns, opened}
+use Rattle.vs_safety.specs.Causes.{IsCounted, output_count}
+use Rattle.vs_session.specs.declared.session.Session.{Session}
+use Rattle.vs_session.specs.Session.{Ended, states_after, turns_of, any_error}
+use Rattle.vs_session.specs.Fits.{Fits, names_of}
+use Rattle.vs_stress.specs.Commands.{stress_commands}
+use Rattle.vs_top.specs.Run.{NoneQuits, opened_file}
+use Rattle.vs_top.specs.Stress.{TellsStress, HasSteps, IsBeforeRemoval, stress_name, stress_text}
+use Rattle.vs_top.specs.Turns.{Keeps}
+
+-- These commands were answered, and nothing was written.
+pub record StressTold (old now : Scene) (session : Session) (marks : List Mark) (clean : Bool) (commands : List Instruction) (ends : List Ended) : Type 0 where
+  pub one_each : length ends ≡ length commands
+  pub marks_are : marks ≡ map (λ ended. ended.mark) ends
+  pub none_quits : NoneQuits (opened_file old stress_name).state commands ends
+  pub errors : clean ≡ not (any_error (opened_file old stress_name).state commands ends)
+  pub fits : Fits session now.folder (states_after (opened_file old stress_name).state commands ends)
+      (after_turns (opened (stress_text old)) (turns_of (opened_file old stress_name).state commands ends))
+  pub moments : List Snapshot
+  pub added : now.trace ≡ moments ++ old.trace
+  pub safe : Each (IsBeforeRemoval (names_of_file stress_name) old (stress_text old) (turns_of (opened_file old stress_name).state commands ends)) moments
+  pub spared : SameAt (is_foreign (names_of_file stress_name)) old.folder now.folder
+  pub first : Disk
+  pub steps : HasSteps (names_of_file stress_name) first (turns_of (opened_file old stress_name).state commands ends) now.folder
+  pub output : now.output ≡ old.output
+  pub answers : length now.answers ≡ length old.answers + length (turns_of (opened_file old stress_name).state commands ends)
+  pub counted : IsCounted output_count old now
+
+-- over any host
+pub record IsStressTurn (tells : Tells) (old now : Scene) (session : Session) (marks : List Mark) (clean : Bool) (commands : List Instruction) : Type 0 where
+  pub told : TellsStress tells → (ends : List Ended) × StressTold old now session marks clean commands ends
+  pub keeps : Keeps tells stress_name old now session marks
+  pub script : now.script ≡ old.script
+  pub times : IsTrue tells.clock → now.answers ≡ old.answers ++ map (λ mark. mark.at) marks
+
+-- There was no memory for more than the first of the commands.
+pub record StopsStress (tells : Tells) (count : ℕ) (old now : Scene) (session : Session) (marks : List Mark) : Type 0 where
+  pub commands : List Instruction
+  pub rest : List Instruction
+  pub first : stress_commands count ≡ commands ++ rest
+  pub clean : Bool
+  pub turn : IsStressTurn tells old now session marks clean commands
