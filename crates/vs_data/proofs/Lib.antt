@@ -2,6 +2,7 @@ pub mod Entries
 pub mod Fresh
 pub mod Headers
 pub mod Inserting
+pub mod Joining
 pub mod Lines
 pub mod Lists
 pub mod Moves

@@ -1,10 +1,11 @@
 -- Lists that are made line by line, where the lines of one are those of another but for some: the same at each place.
-use Rattle.std.proofs.Common.{◌≡◌, ℕ, suc, ◌+◌, ◌-◌, ◌<◌, ◌≤◌, List, length, get_or, take, drop, map, sym, ap, ◌∙◌, subst, ⊎_elim, arith, add-one, length-drop}
+use Rattle.std.proofs.Common.{◌≡◌, ℕ, suc, ◌+◌, ◌-◌, ◌<◌, ◌≤◌, List, ◌++◌, length, get_or, take, drop, map, sym, ap, ◌∙◌, subst, ⊎_elim, arith, add-one, length-append, length-drop}
 use Rattle.std.specs.List.{insert, range_with_len, remove}
 use Rattle.std.proofs.lemmas.Bool.{cases_lt}
-use Rattle.std.proofs.lemmas.List.{get_or-drop, same_lists}
+use Rattle.std.proofs.lemmas.List.{get_or_append_left, get_or-append_right, get_or-drop, get_or-take, length-take-le, same_lists}
 use Rattle.std.proofs.lemmas.List.Edits.{get_or-insert_above, get_or-insert_at, get_or-insert_below, get_or-remove_above, get_or-remove_below, length-insert, length-remove}
 use Rattle.std.proofs.lemmas.List.FromFn.{get_or-map-range_with_len, length-map-range_with_len, take-map-range_with_len}
+use Rattle.vs_data.specs.Blocks.{put_in}
 
 module _ {X : Type 0} (f g : ℕ → X) (n : ℕ) where
   at_old : (k : ℕ) (d : X) → k < n → f k ≡ get_or (map f (range_with_len 0 n)) k d
@@ -33,6 +34,37 @@ module _ {X : Type 0} (f g : ℕ → X) (n : ℕ) where
       (cases_lt at k))
       (cases_lt k at) in
       same_lists (map g (range_with_len 0 (n + 1))) (insert old at x) (omega arith) (λ k d until. at_new (n + 1) k d (omega arith) ∙ each k d (omega arith))
+
+  -- the lines of another list in between
+  pub map-put_in : (h : ℕ → X) (at m : ℕ) → at ≤ n → ((k : ℕ) → k < at → g k ≡ f k) → ((j : ℕ) → j < m → g (at + j) ≡ h j) → ((k : ℕ) → at ≤ k → k < n → g (m + k) ≡ f k)
+      → map g (range_with_len 0 (n + m)) ≡ put_in (map f (range_with_len 0 n)) at (map h (range_with_len 0 m))
+  map-put_in h at m within before here after =
+      let old : List X = map f (range_with_len 0 n) in
+      let more : List X = map h (range_with_len 0 m) in
+      let front : List X = take at old in
+      let back : List X = drop at old in
+      let wide : length old ≡ n = length-map-range_with_len f 0 n in
+      let size : length more ≡ m = length-map-range_with_len h 0 m in
+      let cut : length front ≡ at = length-take-le at old (omega arith) in
+      let rest : length back ≡ n - at = omega (arith, length-drop at old) in
+      let inner : length (more ++ back) ≡ m + (n - at) = omega (arith, length-append more back) in
+      let longer : length (put_in old at more) ≡ n + m = omega (arith, length-append front (more ++ back)) in
+      let many : length (map g (range_with_len 0 (n + m))) ≡ n + m = length-map-range_with_len g 0 (n + m) in
+      let each : (k : ℕ) (d : X) → k < n + m → g k ≡ get_or (put_in old at more) k d =
+      λ k d until. ⊎_elim
+      (λ (below : k < at). before k below ∙ at_old k d (omega arith) ∙ sym (get_or_append_left front (more ++ back) d k (omega arith) ∙ get_or-take at old k d below))
+      (λ (above : at ≤ k). ⊎_elim
+      (λ (mid : k < at + m). let is : k ≡ at + (k - at) = omega arith in
+      ap g is ∙ here (k - at) (omega arith)
+      ∙ sym (get_or-append_right front (more ++ back) at k d cut above ∙ get_or_append_left more back d (k - at) (omega arith) ∙ get_or-map-range_with_len h 0 m (k - at) (k - at) d (omega arith) (omega arith)))
+      (λ (past : at + m ≤ k).
+      let is : k ≡ m + (k - m) = omega arith in
+      let place : at + (k - at - m) ≡ k - m = omega arith in
+      ap g is ∙ after (k - m) (omega arith) (omega arith) ∙ at_old (k - m) d (omega arith)
+      ∙ sym (get_or-append_right front (more ++ back) at k d cut above ∙ get_or-append_right more back m (k - at) d size (omega arith) ∙ get_or-drop at old (k - at - m) d ∙ ap (λ (i : ℕ). get_or old i d) place))
+      (cases_lt k (at + m)))
+      (cases_lt k at) in
+      same_lists (map g (range_with_len 0 (n + m))) (put_in old at more) (omega arith) (λ k d until. at_new (n + m) k d (omega arith) ∙ each k d (omega arith))
 
   -- one line less
   pub map-remove : (at : ℕ) → at < n → ((k : ℕ) → k < at → g k ≡ f k) → ((k : ℕ) → at ≤ k → suc k < n → g k ≡ f (suc k))

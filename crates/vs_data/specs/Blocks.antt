@@ -1,6 +1,6 @@
 -- A data block: stored lines of a text. Places are bytes of the block, and lines are counted from 0.
 use Rattle.std.specs.Prelude.{◌≡◌, ℕ, zero, suc, ◌+◌, ◌-◌, ◌*◌, ◌/◌, ◌%◌, ◌^◌, ◌<◌, ◌≤◌, Bool, not, ◌&&◌, ◌||◌, if◌then◌else◌, ◌==◌, nat_le, nat_lt, List, [], ◌∷◌, ◌++◌, length, take, drop, map, slice_index, slice_range, Option, None, Some, Result, Ok, Err}
-use Rattle.std.specs.Option.{option_map}
+use Rattle.std.specs.Option.{option_and_then, option_map}
 use Rattle.std.specs.Result.{result_ok}
 use Rattle.std.specs.List.{find, list_all, range_with_len, sum_by}
 use Rattle.vs_bytes.specs.Fields.{Little, bytes_of, number_at}
@@ -98,6 +98,14 @@ each_line block f = map f (range_with_len 0 (count_in block))
 -- the stored lines, where the block is not refused
 unfoldable pub lines_in : List ℕ → Option (List (List ℕ))
 lines_in block = option_map (λ _. each_line block (λ line. line_at block line)) (result_ok (view_in block))
+
+-- a list with another put in before one of its places
+abbrev pub put_in : {X : Type 0} → List X → ℕ → List X → List X
+put_in xs at more = take at xs ++ (more ++ drop at xs)
+
+-- the stored lines of a block with those of another put in, where neither is refused
+abbrev pub with_lines_in : List ℕ → ℕ → List ℕ → Option (List (List ℕ))
+with_lines_in block at other = option_and_then (λ more. option_map (λ lines. put_in lines at more) (lines_in block)) (lines_in other)
 
 -- the lines' mark bits
 abbrev pub marks_in : List ℕ → List ℕ

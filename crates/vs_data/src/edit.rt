@@ -1,12 +1,14 @@
 // The changes of a block.
-ghost use Rattle.std.specs.Prelude.{◌≡◌, ◌≢◌, ◌+◌, ◌-◌, ◌^◌, ◌<◌, ◌≤◌, ◌++◌, [], Some, Ok, length, replicate, take};
+ghost use Rattle.std.specs.Prelude.{◌≡◌, ◌≢◌, ◌+◌, ◌-◌, ◌*◌, ◌^◌, ◌<◌, ◌≤◌, ◌++◌, [], Some, Ok, length, replicate, take};
 ghost use Rattle.std.specs.List.{All, insert, remove};
 ghost use Rattle.std.specs.Option.{option_map};
 ghost use Rattle.vs_bytes.specs.Fields.{with_field};
-ghost use Rattle.vs_data.specs.Blocks.{HasRest, IsBlockLength, KeepsFrame, end_at, free_space, header_of, id_bytes, lines_in, marks_in, start_at, view_in};
+ghost use Rattle.vs_data.specs.Blocks.{HasRest, IsBlockLength, KeepsFrame, end_at, free_space, header_of, id_bytes, lines_in, marks_in, put_in, start_at, view_in, with_lines_in};
 
 use crate::bytes::{move_bytes, put_bytes};
-use crate::index::{close_index, entry_place, move_starts, open_index, open_text};
+use crate::index::{
+    close_index, entry_place, join_index, join_text, move_starts, open_index, open_text,
+};
 use crate::{COUNT, DataView, FREE, ID, INDEX, TEXT_END, TEXT_START};
 use vs_bytes::{put_le_u16, put_le_u32, put_le_u64};
 
@@ -56,6 +58,39 @@ impl DataView {
         open_index(block, at, self.count, end - size);
         move_starts(block, at + 1, self.count + 1, self.text_start, text_start);
         self.count += 1;
+        self.text_start = text_start;
+        self.write_header(block);
+    }
+
+    /// Puts the lines of another block, whose view is `more`, before line `at`, or last where `at` is the count, with their
+    /// mark bits. The index has places below 2^31, so the text has to end there or before.
+    pub fn insert_lines(&mut self, block: &mut [u8], at: u32, more: DataView, lines: &[u8])
+        requires view { view_in block.old ≡ Ok self.old }
+        requires more { view_in lines.now ≡ Ok more }
+        requires places { self.old.text_end ≤ 2 ^ 31 }
+        requires at { at ≤ self.old.count }
+        requires fits { 4 * more.count + (more.text_end - more.text_start) ≤ free_space self.old }
+        ensures header { self.new ≡ record self.old {
+          count = self.old.count + more.count;
+          text_start = self.old.text_start - (more.text_end - more.text_start);
+        } }
+        ensures view { view_in block.new ≡ Ok self.new }
+        ensures lines { lines_in block.new ≡ with_lines_in block.old at lines.now }
+        ensures marks { marks_in block.new ≡ put_in (marks_in block.old) at (marks_in lines.now) }
+        ensures frame { KeepsFrame block.old block.new self.new }
+    {
+        let size = more.text_end - more.text_start;
+        let end = self.end(block, at);
+        let text_start = self.text_start - size;
+        let text = &lines[more.text_start as usize..more.text_end as usize];
+        join_text(block, self.text_start as usize, end as usize, text);
+        let index = &lines[INDEX..entry_place(more.count)];
+        join_index(block, at, self.count, index);
+        let past = at + more.count;
+        let count = self.count + more.count;
+        move_starts(block, at, past, more.text_start, end - size);
+        move_starts(block, past, count, self.text_start, text_start);
+        self.count = count;
         self.text_start = text_start;
         self.write_header(block);
     }

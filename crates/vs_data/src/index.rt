@@ -43,6 +43,32 @@ pub(crate) fn open_index(block: &mut [u8], at: u32, count: u32, start: u32)
     put_le_u32(block, place, start);
 }
 
+// Moves the text below `end` down, and puts other text into the gap.
+pub(crate) fn join_text(block: &mut [u8], text_start: usize, end: usize, text: &[u8])
+    requires order { text_start ≤ end }
+    requires within { end ≤ length block.old }
+    requires room { length text.now ≤ text_start }
+    ensures { let size = length text.now in
+        let moved = with_field block.old (text_start - size) (field_at block.old text_start (end - text_start)) in
+        block.new ≡ with_field moved (end - size) text.now }
+{
+    move_bytes(block, text_start, end, text_start - text.len());
+    put_bytes(block, end - text.len(), text);
+}
+
+// Moves the index entries from line `at` on up, and puts other entries into the gap.
+pub(crate) fn join_index(block: &mut [u8], at: u32, count: u32, entries: &[u8])
+    requires order { at ≤ count }
+    requires room { 24 + 4 * count + length entries.now ≤ length block.old }
+    ensures { let place = 24 + 4 * at in
+        let moved = with_field block.old (place + length entries.now) (field_at block.old place (4 * (count - at))) in
+        block.new ≡ with_field moved place entries.now }
+{
+    let place = entry_place(at);
+    move_bytes(block, place, entry_place(count), place + entries.len());
+    put_bytes(block, place, entries);
+}
+
 // Moves the index entries after that of line `at` down by one, over it.
 pub(crate) fn close_index(block: &mut [u8], at: u32, count: u32)
     requires order { at < count }

@@ -1,2 +1,3 @@
 pub mod Stillness
 pub mod Spared
+pub mod Left

@@ -22,7 +22,7 @@ use Rattle.vs_backup.proofs.Choosing.{IsBackupName-lettered, IsBackupName-plain,
 use Rattle.vs_backup.proofs.NamesApart.{backup_apart, file_apart, temporary_apart}
 use Rattle.vs_pair.specs.declared.side.Side.{Side}
 use Rattle.vs_pair.specs.declared.side.Side.TheVariants.{Swp, Swo}
-use Rattle.vs_pair.specs.Pair.{Known, IsFit, is_swap, known_of, name_of}
+use Rattle.vs_pair.specs.Pair.{is_swap, name_of}
 use Rattle.vs_pair.proofs.FitLemmas.{at_side}
 use Rattle.vs_safety.specs.Texts.{Sync, Text, recoverable}
 use Rattle.vs_paged.specs.Fits.{Fits, names_of}
@@ -112,17 +112,6 @@ paged_same told p q t u text is same paged = record {
   where
     has_same : {m n : Map} (extent : LineTree → Extent) → n ≡ m → HasText m (extent t) text → HasText n (extent u) text
     has_same {m} {n} extent pages has = subst (λ (k : Map). HasText k (extent u) text) (sym pages) (subst (λ (x : LineTree). HasText m (extent x) text) (sym same.tree) has)
-
--- the same swap files, with pages that have the same text
-pub fits_pages : (old new : PagedText) (disk : Disk) (text : Text) (syncs : List Sync) → known_of new.pair ≡ known_of old.pair → IsPaged new.pair.pages new.tree text → Fits old disk text syncs → Fits new disk text syncs
-fits_pages old new disk text syncs files pages fits = record {
-  pages = pages;
-  newest = fits.newest;
-  later = fits.later;
-  past = fits.past;
-  fit = subst (λ (k : Known). IsFit k disk fits.newest fits.later fits.past) (sym files) fits.fit;
-  syncs_are = fits.syncs_are;
-}
 
 module _ (paged : PagedText) (text : Text) (syncs : List Sync) (before after : Scene) (fits : Fits paged before.folder text syncs) (runs : Runs (SameAt (is_swap (names_of paged))) before after) where
   pub keeps_swap : Runs (KeepsSwap (names_of paged) (recoverable syncs)) before after

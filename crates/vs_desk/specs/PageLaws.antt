@@ -22,13 +22,14 @@ looks_then tells old mid new first second = record {
 }
 
 pub same_none : (told : Bool) (pages : MemPages) (tree : LineTree) → SamePages told pages pages tree tree
-same_none told pages tree = record { tree = refl; present = λ is. refl; committed = λ is. refl }
+same_none told pages tree = record { tree = refl; present = λ is. refl; committed = λ is. refl; marks = λ mark map since. since }
 
 pub same_then : (told : Bool) (p q r : MemPages) (t u v : LineTree) → SamePages told p q t u → SamePages told q r u v → SamePages told p r t v
 same_then told p q r t u v first second = record {
   tree = second.tree ∙ first.tree;
   present = λ is. second.present is ∙ first.present is;
   committed = λ is. second.committed is ∙ first.committed is;
+  marks = λ mark map since. second.marks mark map (first.marks mark map since);
 }
 
 -- the same pages have the same text

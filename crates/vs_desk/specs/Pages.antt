@@ -2,6 +2,7 @@
 use Rattle.std.specs.Prelude.{◌≡◌, Bool, IsTrue}
 use Rattle.vs_host.specs.World.{Tells, Scene, ReadsFolder}
 use Rattle.vs_disk.specs.Runs.{Looks}
+use Rattle.vs_pages.specs.Changes.{KeepsAllMarks}
 use Rattle.vs_pages.specs.Memory.{present_of, committed_of}
 use Rattle.vs_pages.specs.declared.memory.MemPages.{MemPages}
 use Rattle.vs_tree.specs.declared.tree.LineTree.{LineTree}
@@ -11,8 +12,9 @@ pub record OnlyLooks (tells : Tells) (old new : Scene) : Type 0 where
   pub frame : ReadsFolder old new
   pub looks : IsTrue tells.folder → Looks old new
 
--- The tree is the same, and so are the pages where they are told.
+-- The tree is the same, and so are the pages where they are told. No committed page changed that is not marked.
 pub record SamePages (told : Bool) (pages_old pages_new : MemPages) (tree_old tree_new : LineTree) : Type 0 where
   pub tree : tree_new ≡ tree_old
   pub present : IsTrue told → present_of pages_new ≡ present_of pages_old
   pub committed : IsTrue told → committed_of pages_new ≡ committed_of pages_old
+  pub marks : KeepsAllMarks pages_old pages_new

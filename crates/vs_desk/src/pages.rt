@@ -1,5 +1,6 @@
 // Pages in memory beside the folder that counts their faults.
 ghost use Rattle.std.specs.Prelude.{◌≡◌, IsTrue};
+ghost use Rattle.vs_pages.specs.Changes.{KeepsAllMarks};
 ghost use Rattle.vs_pages.specs.Memory.{present_of, committed_of};
 ghost use Rattle.vs_pages.specs.MemoryLaws.{are_present, are_committed};
 ghost use Rattle.vs_desk.specs.Pages.{OnlyLooks};
@@ -31,18 +32,19 @@ impl<'p, 'h, F: Folder> Pages for FolderPages<'p, 'h, F> {
     ghost valid = { λ _. Unit {0} };
 
     ghost stays = { λ old new. (new.pages.ghost_name ≡ old.pages.ghost_name) × (new.host.ghost_name ≡ old.host.ghost_name)
-        × OnlyLooks F.tells (F.scene old.host.now) (F.scene new.host.now) };
+        × OnlyLooks F.tells (F.scene old.host.now) (F.scene new.host.now) × KeepsAllMarks old.pages.now new.pages.now };
 
     ghost present_pages = { λ store valid told. are_present store.pages.now };
 
     ghost committed_pages = { λ store valid told. are_committed store.pages.now };
 
-    ghost stays_itself = { λ store. (refl, refl, looks_none F.tells (F.scene store.host.now)) };
+    ghost stays_itself = { λ store. (refl, refl, looks_none F.tells (F.scene store.host.now), λ _ _ since. since) };
 
     ghost stays_on = { λ p q r first second. (
       second.0 ∙ first.0,
       second.1 ∙ first.1,
       looks_then F.tells (F.scene p.host.now) (F.scene q.host.now) (F.scene r.host.now) first.2 second.2,
+      λ mark map since. second.3 mark map (first.3 mark map since),
     ) };
 
     fn load(
@@ -83,6 +85,7 @@ impl<'p, 'h, F: Folder> Pages for FolderPages<'p, 'h, F> {
         self.pages.count()
     }
 
+    // No write commits.
     fn commit(&mut self) {
         self.pages.commit();
     }

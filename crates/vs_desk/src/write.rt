@@ -13,7 +13,7 @@ ghost use Rattle.vs_safety.specs.Texts.{Sync, Text, recoverable};
 ghost use Rattle.vs_paged.specs.Fits.{Fits, names_of};
 ghost use Rattle.vs_paged.specs.Pages.{IsBounded, IsPaged};
 ghost use Rattle.vs_desk.specs.Pages.{SamePages};
-ghost use Rattle.vs_desk.specs.Still.{SparesStill};
+ghost use Rattle.vs_desk.specs.Still.{KeepsLeft, SparesStill};
 ghost use Rattle.vs_desk.specs.Writes.{KeepsSwap, WritesFile};
 
 use crate::desk::PagedDesk;
@@ -55,8 +55,8 @@ fn write_in<F: Folder>(
 /// Writes the text into its file, by these options (docs/FORMATS.md, Writing). Gives the number of bytes.
 ///
 /// After an error `old_in` says where the old bytes stand. At each moment what may be recovered from the swap files is
-/// recovered, and text and swap files are as before, whatever was answered. Names that are still, and on which the write does
-/// not work, are left alone.
+/// recovered, and text and swap files are as before, whatever was answered. A stop leaves under each name on which the write does
+/// not work only what it might leave there before, and such names that are still are left alone.
 pub fn write_text<F: Folder>(
     alloc: Global,
     text: &mut PagedText,
@@ -78,6 +78,8 @@ pub fn write_text<F: Folder>(
 
     // All names on which the write does not work.
     ensures others { IsTrue F.tells.folder → SparesStill (WorksOn options.now (names_of text.old).file (F.scene host.old).folder) (F.scene host.old) (F.scene host.new) }
+    ensures left { IsTrue F.tells.folder → (lines : Text) (syncs : List Sync) → Fits text.old (F.scene host.old).folder lines syncs
+        → Runs (KeepsLeft (WorksOn options.now (names_of text.old).file (F.scene host.old).folder)) (F.scene host.old) (F.scene host.new) }
     ensures names { names_of text.new ≡ names_of text.old }
     ensures generation { text.new.pair.files.generation ≡ text.old.pair.files.generation }
     ensures tree { text.new.tree ≡ text.old.tree }

@@ -3,6 +3,7 @@ use Rattle.std.proofs.Common.{◌≡◌, ℕ, zero, suc, ◌+◌, ◌-◌, ◌*�
 use Rattle.std.specs.List.{sum}
 use Rattle.std.proofs.lemmas.List.{replicate-append-replicate, take-replicate, drop-replicate}
 use Rattle.std.proofs.lemmas.List.Sums.{sum_by-append}
+use Rattle.std.proofs.Math.Nat.{suc-mul}
 use Rattle.vs_text.specs.Text.{bytes_of, file_of}
 use Rattle.vs_edit.specs.Splices.{splice}
 use Rattle.vs_load.specs.Loads.{sample, samples}
@@ -21,6 +22,10 @@ replace_samples n at within =
     let back : drop (at + 1) (samples n) ≡ samples (n - (at + 1)) = drop-replicate (at + 1) n sample in
     let all : at + 1 + (n - (at + 1)) ≡ n = omega arith in
     rw (front, back) (simp replicate-append-replicate (ap samples all))
+
+-- a run of lines more
+pub run_more : (n i size : ℕ) → n + i * size + size ≡ n + (i + 1) * size
+run_more n i size = omega (arith, suc-mul i size)
 
 -- the first lines of a run go after a text
 pub splice_part : (lines : List (List ℕ)) (all part n : ℕ) → lines ≡ samples all → part ≤ all → splice (samples n) n 0 (take part lines) ≡ samples (n + part)

@@ -2,7 +2,7 @@
 use Rattle.std.specs.Prelude.{ℕ, ◌+◌, ◌*◌, List, replicate}
 use Rattle.vs_load.specs.declared.load.Counts.{Counts}
 use Rattle.vs_load.specs.declared.words.Load.{Load}
-use Rattle.vs_load.specs.declared.words.Load.TheVariants.{Fill, Once, Append, Replace}
+use Rattle.vs_load.specs.declared.words.Load.TheVariants.{Fill, Once, Lines, Append, Replace}
 
 -- each line of a load: 39 bytes, all of them the letter x
 unfoldable pub sample : List ℕ
@@ -16,7 +16,8 @@ samples n = replicate n sample
 abbrev pub lines_after : Load → ℕ
 lines_after (Fill lines) = lines
 lines_after (Once lines) = lines
-lines_after (Append lines more) = lines + more
+lines_after (Lines lines) = 0
+lines_after (Append lines runs size) = lines + runs * size
 lines_after (Replace lines count) = lines
 
 -- what is counted of so many lines in so many pages: each line has 40 bytes with its end, whose sum is 39 * 120 + 10

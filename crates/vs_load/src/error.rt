@@ -3,6 +3,7 @@ use std::alloc::{AllocError, AllocFailed};
 use thiserror::Error;
 use vs_edit::StoreErr;
 use vs_pages::PageErr;
+use vs_tree::store_err;
 
 #[derive(Debug, Drop, Error, PartialEq, Eq)]
 pub enum LoadErr {
@@ -28,10 +29,7 @@ impl<T: Drop> From<AllocFailed<T>> for LoadErr {
 
 impl From<PageErr> for LoadErr {
     fn from(error: PageErr) -> Self {
-        match error {
-            PageErr::NoMemory => LoadErr::NoMemory,
-            PageErr::Failed => LoadErr::Failed,
-        }
+        LoadErr::from(store_err(error))
     }
 }
 

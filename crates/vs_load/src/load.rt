@@ -90,16 +90,16 @@ fn fill<S: LineStore>(alloc: Global, store: &mut S, count: u64) -> Result<(), Lo
     Ok(())
 }
 
-// Puts single lines into the middle.
-fn append<S: LineStore>(alloc: Global, store: &mut S, count: u64) -> Result<(), LoadErr>
+// Puts runs of so many lines into the middle.
+fn append<S: LineStore>(alloc: Global, store: &mut S, runs: u64, size: u64) -> Result<(), LoadErr>
     requires { S.valid store.old }
-    ensures text { OnOk result ((n : ℕ) → (S.shows store.old).present.Is (samples n) → (S.shows store.new).present.Is (samples (n + count))) }
+    ensures text { OnOk result ((n : ℕ) → (S.shows store.old).present.Is (samples n) → (S.shows store.new).present.Is (samples (n + runs * size))) }
     ensures valid { S.valid store.new }
 {
-    let line = sample_lines(alloc, 1)?;
-    for _ in 0..count {
+    let lines = sample_lines(alloc, size as usize)?;
+    for _ in 0..runs {
         let middle = store.len() / 2;
-        put(alloc, store, middle, 0, &line)?;
+        put(alloc, store, middle, 0, &lines)?;
     }
     Ok(())
 }
@@ -168,9 +168,13 @@ fn put_all<S: LineStore>(alloc: Global, store: &mut S, load: Load) -> Result<(),
     match load {
         Load::Fill(lines) => fill(alloc, store, lines),
         Load::Once(lines) => fill_once(alloc, store, lines),
-        Load::Append(lines, more) => {
+        Load::Lines(lines) => {
+            sample_lines(alloc, lines as usize)?;
+            Ok(())
+        }
+        Load::Append(lines, more, size) => {
             fill(alloc, store, lines)?;
-            append(alloc, store, more)
+            append(alloc, store, more, size)
         }
         Load::Replace(lines, count) => {
             fill(alloc, store, lines)?;

@@ -1,5 +1,5 @@
-//! A program to be measured: it fills a line tree over pages in memory, puts single lines into its middle or in place of
-//! others, and reads all lines.
+//! A program to be measured: it fills a line tree over pages in memory, puts runs of lines into its middle or single ones in
+//! place of others, and reads all lines.
 #![tactic(auto)]
 
 mod error;
@@ -13,7 +13,8 @@ use std::process::ExitCode;
 use std::{env, io};
 use words::Load;
 
-const USAGE: &str = "usage: vs_load fill LINES [once] | append LINES MORE | replace LINES COUNT";
+const USAGE: &str =
+    "usage: vs_load fill LINES [once] | lines LINES | append LINES RUNS [SIZE] | replace LINES COUNT";
 
 /// The arguments after the program's name.
 fn given_words(rt: &HostRuntime) -> io::Result<Vec<String>> {

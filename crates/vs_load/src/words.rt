@@ -7,8 +7,10 @@ pub enum Load {
     Fill(u64),
     /// This many lines are put in by one splice.
     Once(u64),
-    /// This many lines are put in, and then this many more in the middle, one after another.
-    Append(u64, u64),
+    /// This many lines are made as they are given to one splice, and none of them is put in.
+    Lines(u64),
+    /// This many lines are put in, and then this many runs of so many lines into the middle, one after another.
+    Append(u64, u64, u64),
     /// This many lines are put in, and then so many of them, spread over the text, are replaced one after another.
     Replace(u64, u64),
 }
@@ -21,9 +23,15 @@ impl Load {
             [verb, lines, how] if verb.as_str() == "fill" && how.as_str() == "once" => {
                 Some(Load::Once(lines.parse().ok()?))
             }
+            [verb, lines] if verb.as_str() == "lines" => Some(Load::Lines(lines.parse().ok()?)),
             [verb, lines, more] if verb.as_str() == "append" => {
-                Some(Load::Append(lines.parse().ok()?, more.parse().ok()?))
+                Some(Load::Append(lines.parse().ok()?, more.parse().ok()?, 1))
             }
+            [verb, lines, more, run] if verb.as_str() == "append" => Some(Load::Append(
+                lines.parse().ok()?,
+                more.parse().ok()?,
+                run.parse().ok()?,
+            )),
             [verb, lines, count] if verb.as_str() == "replace" => {
                 Some(Load::Replace(lines.parse().ok()?, count.parse().ok()?))
             }

@@ -22,7 +22,7 @@ use Rattle.vs_machine.specs.declared.moves.Move.TheVariants as move
 use Rattle.vs_machine.specs.Moves.{goal_of, undo_move, earlier_move, later_move, kept_within}
 use Rattle.vs_machine.specs.declared.command.Mark.{Mark}
 use Rattle.vs_machine.specs.declared.command.Outcome.{Outcome}
-use Rattle.vs_machine.specs.declared.command.Outcome.TheVariants.{Done, NoMemory, Fault}
+use Rattle.vs_machine.specs.declared.command.Outcome.TheVariants.{Done, NoMemory, Fault, NoUndo}
 use Rattle.vs_machine.specs.Replies.{Answer, says, refuses, prints, error_text, undo_error_text, change_line, move_line, no_change, out_of_memory, device_fault}
 use Rattle.vs_machine.specs.Listing.{listing}
 use Rattle.vs_machine.specs.Shown.{shown_lines}
@@ -148,11 +148,13 @@ abbrev pub reply_by : Outcome → State → Meaning → Answer
 reply_by Done state meaning = done_reply state meaning
 reply_by NoMemory state meaning = refuses out_of_memory
 reply_by Fault state meaning = refuses device_fault
+reply_by NoUndo state meaning = done_reply state meaning
 
 abbrev pub state_by : Outcome → State → ℕ → Meaning → State
 state_by Done state at meaning = done_state state at meaning
 state_by NoMemory state at meaning = state
 state_by Fault state at meaning = state
+state_by NoUndo state at meaning = done_state state at meaning
 
 abbrev pub reply_of : State → Instruction → Mark → Answer
 reply_of state instruction mark = reply_by mark.outcome state (meaning_of state instruction.parsed instruction.block)
@@ -164,3 +166,11 @@ abbrev pub is_done : Outcome → Bool
 is_done Done = true
 is_done NoMemory = false
 is_done Fault = false
+is_done NoUndo = false
+
+-- whether a command that ended so has had its effect: where only its undo file was not stored, it has
+abbrev pub took_effect : Outcome → Bool
+took_effect Done = true
+took_effect NoMemory = false
+took_effect Fault = false
+took_effect NoUndo = true

@@ -80,6 +80,10 @@ no_write = codes "E37: No write since last change (add ! to override)"
 abbrev pub written_line : List ℕ → ℕ → ℕ → List ℕ
 written_line name lines bytes = codes "\"" ++ name ++ codes "\" " ++ decimal lines ++ codes "L, " ++ decimal bytes ++ codes "B written"
 
+-- what a write wrote of which the undo file was not stored
+abbrev pub unstored_line : List ℕ → ℕ → ℕ → List ℕ
+unstored_line name lines bytes = written_line name lines bytes ++ codes ", no undo file"
+
 -- the undo file was stored
 abbrev pub undo_file_written : List ℕ
 undo_file_written = codes "undo file written"

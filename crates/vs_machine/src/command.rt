@@ -9,6 +9,8 @@ pub enum Outcome {
     NoMemory,
     /// A call on the folder failed for it. Text and cursor have not changed.
     Fault,
+    /// The file was written, and a call on the folder failed while its undo file was stored.
+    NoUndo,
 }
 
 /// What is kept of a command that was answered.

@@ -1,6 +1,6 @@
 // Replies. All but printed lines stand in a fixed buffer, so they take no memory.
 ghost use Rattle.std.specs.Prelude.{◌≡◌, ◌<◌, ◌≤◌, ◌+◌, ◌++◌, ◌∷◌, [], length, decimal, false, true, None, Some};
-ghost use Rattle.vs_machine.specs.Replies.{says, refuses, prints, error_text, undo_error_text, with_lines, change_line, move_line, no_change, out_of_memory, device_fault, file_preserved, quit, no_write, opening_of, written_line, undo_file_written, undo_file_read, undo_file_corrupted, undo_file_misfit, no_backup_name};
+ghost use Rattle.vs_machine.specs.Replies.{says, refuses, prints, error_text, undo_error_text, with_lines, change_line, move_line, no_change, out_of_memory, device_fault, file_preserved, quit, no_write, opening_of, written_line, unstored_line, undo_file_written, undo_file_read, undo_file_corrupted, undo_file_misfit, no_backup_name};
 
 use crate::errors::error_text;
 use arrayvec::ArrayVec;
@@ -42,6 +42,24 @@ fn add(line: &mut ArrayVec<u8, 320>, bytes: &[u8])
     for byte in bytes {
         line.push(*byte);
     }
+}
+
+// What a write of the file of this name wrote.
+fn written_line(name: &str, lines: u64, bytes: u64) -> ArrayVec<u8, 320>
+    requires { length name.now ≤ 200 }
+    ensures value { result.items ≡ written_line name.now lines bytes }
+    ensures few { length result.items ≤ 255 }
+{
+    let mut text = ArrayVec::new();
+    let mut digits = Buffer::new();
+    add(&mut text, b"\"");
+    add(&mut text, name.as_bytes());
+    add(&mut text, b"\" ");
+    add(&mut text, digits.format(lines).as_bytes());
+    add(&mut text, b"L, ");
+    add(&mut text, digits.format(bytes).as_bytes());
+    add(&mut text, b"B written");
+    text
 }
 
 impl Reply {
@@ -231,15 +249,16 @@ impl Reply {
         requires { length name.now ≤ 200 }
         ensures { result ≡ says (written_line name.now lines bytes) }
     {
-        let mut text = ArrayVec::new();
-        let mut digits = Buffer::new();
-        add(&mut text, b"\"");
-        add(&mut text, name.as_bytes());
-        add(&mut text, b"\" ");
-        add(&mut text, digits.format(lines).as_bytes());
-        add(&mut text, b"L, ");
-        add(&mut text, digits.format(bytes).as_bytes());
-        add(&mut text, b"B written");
+        Reply::says(written_line(name, lines, bytes).as_slice())
+    }
+
+    /// A write of the file of this name, of which the undo file was not stored, with the numbers of lines and bytes that were written.
+    pub fn unstored(name: &str, lines: u64, bytes: u64) -> Reply
+        requires { length name.now ≤ 200 }
+        ensures { result ≡ says (unstored_line name.now lines bytes) }
+    {
+        let mut text = written_line(name, lines, bytes);
+        add(&mut text, b", no undo file");
         Reply::says(text.as_slice())
     }
 

@@ -59,7 +59,7 @@ leaves swap files with its text.
 
 Exit status; from 2 on a line on standard error says the same:
    0  every command did its work, or the text was recovered, and so on
-   1  some reply is an error
+   1  some reply is an error, or a write stored no undo file
    2  the arguments are none of the above
    3  the file to edit, or stress.vs, has a swap file
    4  there is no swap file

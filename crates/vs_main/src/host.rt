@@ -4,15 +4,14 @@ ghost use Rattle.vs_faults.specs.Faults.{HasCause};
 ghost use Rattle.vs_main.specs.Untold.{no_folder, never};
 
 use std::fs::{self, File, OpenOptions};
-use std::io::{self, ErrorKind, Read, Seek, SeekFrom, Write};
-use std::os::unix::fs::OpenOptionsExt;
+use std::io::{self, ErrorKind, Read, Write};
+use std::os::unix::fs::{FileExt, OpenOptionsExt};
 use std::time::{SystemTime, UNIX_EPOCH};
 use vs_host::{Clock, Failed, Folder, Host, Out, Script, World};
 
-/// A file that stays open from its first write to its sync, so that the sync is told of a write that failed after the system had
-/// taken it, and that a file of many pages is opened once.
+/// A file that stays open, so that a file of many pages is opened once. It is closed before any name may lead to another file.
 #[derive(Drop)]
-struct Writing {
+struct OpenFile {
     name: String,
     file: File,
 }
@@ -22,7 +21,10 @@ struct Writing {
 #[derive(Drop)]
 pub struct RealHost {
     rt: HostRuntime,
-    writing: Option<Writing>,
+    /// The file that was written last, up to its sync, so that the sync is told of a write that failed after the system had taken it.
+    writing: Option<OpenFile>,
+    /// The file that was read last.
+    reading: Option<OpenFile>,
     /// The clock's last answer, for where it cannot be read.
     last_answer: u64,
     script_faults: u64,
@@ -35,6 +37,7 @@ impl RealHost {
         RealHost {
             rt,
             writing: None,
+            reading: None,
             last_answer: 0,
             script_faults: 0,
             out_faults: 0,
@@ -137,19 +140,8 @@ fn size_of(rt: &HostRuntime, name: &str) -> io::Result<u64> {
     Ok(fs::metadata(rt, name)?.len())
 }
 
-fn read_part(rt: &HostRuntime, name: &str, at: u64, into: &mut [u8]) -> io::Result<()> {
-    let mut file = File::open(rt, name)?;
-    file.seek(SeekFrom::Start(at))?;
-    file.read_exact(into)
-}
-
 fn open_to_write(rt: &HostRuntime, name: &str) -> io::Result<File> {
     OpenOptions::new().write(true).open(rt, name)
-}
-
-fn write_part(file: &mut File, at: u64, piece: &[u8]) -> io::Result<()> {
-    file.seek(SeekFrom::Start(at))?;
-    file.write_all(piece)
 }
 
 fn cut_to(rt: &HostRuntime, name: &str, len: u64) -> io::Result<()> {
@@ -161,43 +153,58 @@ fn sync_open(rt: &HostRuntime, name: &str) -> io::Result<()> {
     File::open(rt, name)?.sync_all()
 }
 
+/// The file of this name where it is the one that is open. Another one is closed.
+fn take_open(kept: &mut Option<OpenFile>, name: &str) -> Option<File> {
+    let open = kept.take()?;
+    if open.name.as_str() == name {
+        return Some(open.file);
+    }
+    None
+}
+
+/// A file to keep open, which has this name. Without memory it is closed.
+fn keep_open(rt: &HostRuntime, name: &str, file: File) -> Option<OpenFile> {
+    let name = String::from_str(rt.alloc(), name).ok()?;
+    Some(OpenFile { name, file })
+}
+
 impl RealHost {
-    /// The file of this name where it is open, which is closed if it has another name.
-    fn take_open(&mut self, name: &str) -> Option<File>
-        ensures frame { self.new ≡ record self.old { writing = self.new.writing } }
+    /// Closes what is open, since a name is going to lead to another file or to none.
+    fn close_files(&mut self)
+        ensures frame { self.new ≡ record self.old { writing = self.new.writing; reading = self.new.reading } }
     {
-        let writing = self.writing.take()?;
-        if writing.name.as_str() == name {
-            return Some(writing.file);
-        }
-        None
+        self.writing = None;
+        self.reading = None;
     }
 
-    /// Keeps a file open that has this name. Without memory it is closed.
-    fn keep_open(&mut self, name: &str, file: File)
-        ensures frame { self.new ≡ record self.old { writing = self.new.writing } }
+    fn read_open(&mut self, name: &str, at: u64, into: &mut [u8]) -> io::Result<()>
+        ensures frame { self.new ≡ record self.old { reading = self.new.reading } }
     {
-        if let Ok(name) = String::from_str(self.rt.alloc(), name) {
-            self.writing = Some(Writing { name, file });
-        }
+        let file = match take_open(&mut self.reading, name) {
+            Some(file) => file,
+            None => File::open(&self.rt, name)?,
+        };
+        file.read_exact_at(into, at)?;
+        self.reading = keep_open(&self.rt, name, file);
+        Ok(())
     }
 
     fn write_open(&mut self, name: &str, at: u64, piece: &[u8]) -> io::Result<()>
         ensures frame { self.new ≡ record self.old { writing = self.new.writing } }
     {
-        let mut file = match self.take_open(name) {
+        let file = match take_open(&mut self.writing, name) {
             Some(file) => file,
             None => open_to_write(&self.rt, name)?,
         };
-        write_part(&mut file, at, piece)?;
-        self.keep_open(name, file);
+        file.write_all_at(piece, at)?;
+        self.writing = keep_open(&self.rt, name, file);
         Ok(())
     }
 
     fn sync_written(&mut self, name: &str) -> io::Result<()>
         ensures frame { self.new ≡ record self.old { writing = self.new.writing } }
     {
-        match self.take_open(name) {
+        match take_open(&mut self.writing, name) {
             Some(file) => file.sync_all(),
             None => sync_open(&self.rt, name),
         }
@@ -226,13 +233,13 @@ impl Folder for RealHost {
     }
 
     fn create(&mut self, name: &str) -> Result<(), Failed> {
-        self.writing = None;
+        self.close_files();
         let answer = create_empty(&self.rt, name, USUAL_MODE);
         self.folder_answer(answer)
     }
 
     fn create_private(&mut self, name: &str) -> Result<(), Failed> {
-        self.writing = None;
+        self.close_files();
         let answer = create_empty(&self.rt, name, PRIVATE_MODE);
         self.folder_answer(answer)
     }
@@ -248,7 +255,7 @@ impl Folder for RealHost {
     }
 
     fn read_at(&mut self, name: &str, at: u64, into: &mut [u8]) -> Result<(), Failed> {
-        let answer = read_part(&self.rt, name, at, into);
+        let answer = self.read_open(name, at, into);
         self.folder_answer(answer)
     }
 
@@ -268,13 +275,13 @@ impl Folder for RealHost {
     }
 
     fn rename(&mut self, from: &str, to: &str) -> Result<(), Failed> {
-        self.writing = None;
+        self.close_files();
         let answer = fs::rename(&self.rt, from, to);
         self.folder_answer(answer)
     }
 
     fn remove(&mut self, name: &str) -> Result<(), Failed> {
-        self.writing = None;
+        self.close_files();
         let answer = fs::remove_file(&self.rt, name);
         self.folder_answer(answer)
     }

@@ -13,6 +13,7 @@ ghost use Rattle.vs_outward.specs.Outward.{IsFirstMisfit, IsOutward};
 ghost use Rattle.vs_outward.specs.Trails.{IsBarredBy, IsKnownMisfit, IsOnTrail, IsSearch, IsSettledAt, IsTried};
 ghost use Rattle.vs_outward.specs.declared.fitting.Search.{Search};
 
+use crate::order::visits;
 use crate::trail::{Step, walk};
 use std::alloc::{AllocError, Global};
 use vs_edit::{LineStore, StoreErr};
@@ -196,7 +197,7 @@ fn visit_at<S: LineStore>(
     Ok(())
 }
 
-// Leads a store over all changes of a tree that fit. The newest states come first, since the others mostly lie before them.
+// Leads a store over all changes of a tree that fit.
 fn find_misfit<S: LineStore>(
     alloc: Global,
     parts: &Parts,
@@ -214,8 +215,9 @@ fn find_misfit<S: LineStore>(
     let way = way_of(alloc, nodes, parts.current)?;
     let mut search = begin(alloc, nodes.len())?;
     visit(alloc, store, parts, &mut search, &way, 0)?;
-    for i in 0..nodes.len() {
-        visit_at(alloc, store, parts, &mut search, &way, nodes.len() - 1 - i)?;
+    let order = visits(alloc, nodes)?;
+    for place in &order {
+        visit_at(alloc, store, parts, &mut search, &way, *place)?;
     }
     Ok(search.least)
 }

@@ -3,6 +3,7 @@
 
 mod crossing;
 mod fitting;
+mod order;
 mod trail;
 
 pub use fitting::first_misfit;

@@ -5,6 +5,7 @@ use Rattle.vs_host.specs.Disk.{Disk}
 use Rattle.vs_host.specs.declared.names.Names.{Names}
 use Rattle.vs_host.specs.Names.{is_allowed, names_of_file}
 use Rattle.vs_disk.specs.Names.{SameAt}
+use Rattle.vs_pages.specs.Changes.{KeepsMarks}
 use Rattle.vs_pages.specs.Memory.{present_of}
 use Rattle.vs_pages.specs.declared.memory.MemPages.{MemPages}
 use Rattle.vs_pair.specs.Swap.{Synced, body_of, zero_of, Holds}
@@ -12,10 +13,11 @@ use Rattle.vs_pair.specs.Pair as pair
 use Rattle.vs_pair.specs.Pair.{Image, IsIn, IsTextOf, IsFit, Known, known_of, sync_of, sync_with, is_swap, HasEarlier, HasLater, IsThere, NoneThere, name_of, other_side}
 use Rattle.vs_pair.specs.Steps as steps
 use Rattle.vs_pair.specs.declared.head.Head.{Head}
+use Rattle.vs_pair.specs.declared.files.SwapFiles.{SwapFiles}
 use Rattle.vs_pair.specs.declared.pair.SwapPair.{SwapPair}
 use Rattle.vs_pair.proofs.Offers.{holds_stands, offered_recovered}
 use Rattle.vs_pair.proofs.Reading.{holds_reads}
-use Rattle.vs_pair.proofs.Others.{fit_between, fit_recovers, fit_kept}
+use Rattle.vs_pair.proofs.Others.{fit_between, fit_changed, fit_recovers, fit_kept}
 use Rattle.vs_safety.specs.Texts.{Text, Sync, IsOneOf, GivesOneOf, IsSyncIn, NoneAcknowledged, Recovers, RecoversOrNone, begun, recoverable, StandsAs, IsThereAs, IsBeside, IsBetween}
 use Rattle.vs_tree.specs.declared.tree.LineTree.{LineTree}
 use Rattle.vs_tree.specs.TextIn.{text_in}
@@ -304,6 +306,25 @@ fits_kept paged old new text syncs same fits = record {
   later = fits.later;
   past = fits.past;
   fit = fit_kept (known_of paged.pair) old new fits.newest fits.later fits.past same fits.fit;
+  syncs_are = fits.syncs_are;
+}
+
+-- ---- other pages
+
+-- the same files with these pages
+pub known_changed : (old new : SwapPair) → new.files ≡ old.files → known_of new ≡ known_of (record { files = old.files; pages = new.pages })
+known_changed old new files = ap (λ (f : SwapFiles). known_of (record { files = f; pages = new.pages })) files
+
+-- pages with another text, where each change that was committed is marked
+pub fits_changed : (old new : PagedText) (disk : Disk) (text after : Text) (syncs : List Sync) → known_of new.pair ≡ known_of (record { files = old.pair.files; pages = new.pair.pages })
+    → KeepsMarks old.pair.files.generation old.pair.pages new.pair.pages → IsPaged new.pair.pages new.tree after → Fits old disk text syncs → Fits new disk after syncs
+fits_changed old new disk text after syncs known marks pages fits = record {
+  pages = pages;
+  newest = fits.newest;
+  later = fits.later;
+  past = fits.past;
+  fit = subst (λ (k : Known). IsFit k disk fits.newest fits.later fits.past) (sym known)
+      (fit_changed old.pair (record { files = old.pair.files; pages = new.pair.pages }) disk fits.newest fits.later fits.past refl marks fits.fit);
   syncs_are = fits.syncs_are;
 }
 

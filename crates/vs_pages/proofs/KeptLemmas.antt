@@ -14,10 +14,10 @@ use Rattle.vs_pages.specs.declared.page.Page.{Page}
 use Rattle.vs_pages.proofs.MapsLemmas.{put-same, put-other}
 use Rattle.vs_pages.proofs.TableLemmas.{map_of-take, map_of-take_past}
 
-before_at : (p : Map) (kept : ℕ → Option (Option Page)) (n k : ℕ) → k < n → before p kept n k ≡ kept_or (kept k) (p k)
+pub before_at : (p : Map) (kept : ℕ → Option (Option Page)) (n k : ℕ) → k < n → before p kept n k ≡ kept_or (kept k) (p k)
 before_at p kept n k lt = grind (arith, nat_tests)
 
-before_past : (p : Map) (kept : ℕ → Option (Option Page)) (n k : ℕ) → n ≤ k → before p kept n k ≡ None
+pub before_past : (p : Map) (kept : ℕ → Option (Option Page)) (n k : ℕ) → n ≤ k → before p kept n k ≡ None
 before_past p kept n k past = grind (arith, nat_tests)
 
 same_kept : (was : Option (Option Page)) (a b : Option (List ℕ)) → IsSome was ⊎ (a ≡ b) → kept_or was a ≡ kept_or was b
@@ -32,7 +32,7 @@ before_same p q kept n same = fun_ext (λ k. elim (cases_lt k n) [
   | inl lt ↦ before_at q kept n k lt ∙ (same_kept (kept k) (q k) (p k) (same k lt) ∙ sym (before_at p kept n k lt))
 ])
 
-kept_other : (m n : BTreeMap ℕ (Option Page)) (at : ℕ) (w : Option (Option Page)) → Updates nat_cmp m n at w → (k : ℕ) → k ≢ at → get nat_cmp n k ≡ get nat_cmp m k
+pub kept_other : (m n : BTreeMap ℕ (Option Page)) (at : ℕ) (w : Option (Option Page)) → Updates nat_cmp m n at w → (k : ℕ) → k ≢ at → get nat_cmp n k ≡ get nat_cmp m k
 kept_other m n at w updates k ne = grind (arith, common_steps, nat_tests, updates.0 k)
 
 -- one place goes back

@@ -1,5 +1,6 @@
 pub mod KeptLemmas
 pub mod MapsLemmas
+pub mod MarkLemmas
 pub mod MemoryLemmas
 pub mod Runs
 pub mod Steps

@@ -14,15 +14,16 @@ step_trans a b c m n first second = record {
   present = second.present;
   committed = second.committed ∙ first.committed;
   kept = λ k is. second.kept k (first.kept k is);
+  marks = second.marks ∙ first.marks;
   places = second.places ∙ first.places;
 }
 
 pub step_none : (pages : MemPages) → IsStep pages pages (present_of pages)
-step_none pages = record { present = refl; committed = refl; kept = λ k is. is; places = refl }
+step_none pages = record { present = refl; committed = refl; kept = λ k is. is; marks = refl; places = refl }
 
 -- the same step, to an equal map
 pub step_to : (a b : MemPages) (m n : Map) → IsStep a b m → m ≡ n → IsStep a b n
-step_to a b m n step same = record { present = step.present ∙ same; committed = step.committed; kept = step.kept; places = step.places }
+step_to a b m n step same = record { present = step.present ∙ same; committed = step.committed; kept = step.kept; marks = step.marks; places = step.places }
 
 -- one step more, whatever the pages are then
 pub step_on : (a b c : MemPages) (m n : Map) → IsStep a b m → IsStep b c n → IsStep a c (present_of c)
@@ -30,6 +31,7 @@ step_on a b c m n first second = record {
   present = refl;
   committed = second.committed ∙ first.committed;
   kept = λ k is. second.kept k (first.kept k is);
+  marks = second.marks ∙ first.marks;
   places = second.places ∙ first.places;
 }
 

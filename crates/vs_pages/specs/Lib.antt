@@ -1,4 +1,5 @@
 pub mod Calls
+pub mod Changes
 pub mod Maps
 pub mod Memory
 pub mod MemoryLaws

@@ -1,5 +1,5 @@
 -- What pages in memory are seen as.
-use Rattle.std.specs.Prelude.{◌≡◌, ℕ, ◌+◌, ◌<◌, ◌≤◌, ◌⊎◌, List, length, Option, Some, None, IsSome, if◌then◌else◌, nat_lt}
+use Rattle.std.specs.Prelude.{◌≡◌, ℕ, ◌+◌, ◌<◌, ◌≤◌, ◌⊎◌, List, length, Option, Some, None, IsSome, if◌then◌else◌, nat_lt, slice_index_or}
 use Rattle.std.specs.Ordering.{nat_cmp}
 use Rattle.std.specs.BTreeMap.{get}
 use Rattle.vs_pages.specs.Maps.{Map}
@@ -28,6 +28,10 @@ before present kept n = λ k. if nat_lt k n then kept_or (kept k) (present k) el
 abbrev pub committed_of : MemPages → Map
 committed_of pages = before (present_of pages) (kept_at pages) pages.committed
 
+-- the number with which the commit that last changed this page marked it, and 0 past the places that there were so far
+abbrev pub mark_of : MemPages → ℕ → ℕ
+mark_of pages = λ k. slice_index_or pages.marks.items k 0
+
 -- The page of this number may change, since what was committed is kept.
 abbrev pub IsKept : MemPages → ℕ → Type 0
 IsKept pages k = (pages.committed ≤ k) ⊎ IsSome (kept_at pages k)
@@ -36,9 +40,10 @@ IsKept pages k = (pages.committed ≤ k) ⊎ IsSome (kept_at pages k)
 abbrev pub AreKept : MemPages → ℕ → ℕ → Type 0
 AreKept pages at n = (k : ℕ) → at ≤ k → k < at + n → IsKept pages k
 
--- The pages are these now, and what was committed stays.
+-- The pages are these now, and what was committed stays, with its marks.
 pub record IsStep (old new : MemPages) (map : Map) : Type 0 where
   pub present : present_of new ≡ map
   pub committed : committed_of new ≡ committed_of old
   pub kept : (k : ℕ) → IsKept old k → IsKept new k
+  pub marks : mark_of new ≡ mark_of old
   pub places : length new.table.places.items ≡ length old.table.places.items

@@ -58,7 +58,7 @@ impl<'p> Pages for LentPages<'p> {
     }
 
     fn commit(&mut self) {
-        self.pages.commit();
+        self.pages.commit_marked(0);
     }
 
     fn rollback(&mut self) {

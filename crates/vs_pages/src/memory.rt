@@ -1,7 +1,7 @@
 // Pages in memory.
-ghost use Rattle.std.specs.Prelude.{◌≡◌, ◌+◌, ◌-◌, ◌*◌, ◌^◌, ◌<◌, ◌≤◌, ℕ, All, Some, None, IfOk, OnOk, OnErr, IsSome, IfSome, IsTrue, ◌↔◌, length, option_map, vec_len};
+ghost use Rattle.std.specs.Prelude.{◌≡◌, ◌+◌, ◌-◌, ◌*◌, ◌^◌, ◌<◌, ◌≤◌, ℕ, All, Some, None, IfOk, OnOk, OnErr, IsSome, IfSome, IsTrue, ◌↔◌, ◌⊎◌, length, option_map, vec_len};
 ghost use Rattle.std.specs.Ordering.{nat_cmp};
-ghost use Rattle.std.specs.BTreeMap.{get};
+ghost use Rattle.std.specs.BTreeMap.{get, btree_map_len};
 ghost use Rattle.vs_pages.specs.Maps.{put, pages_at, put_pages, without, zeros, first_pages, IsVacant};
 ghost use Rattle.vs_pages.specs.Table.{bytes_of};
 
@@ -21,6 +21,9 @@ const MOST_PAGES: u64 = 1 << 40;
 ///
 /// The first change of a committed page keeps a copy of it until the next commit, and a page that came since is not kept.
 /// So the store takes at most twice the memory of the pages that were committed, and a commit and a rollback take none.
+///
+/// A commit marks each page that it may have changed with a number. So a caller whose numbers grow from commit to commit can
+/// tell which committed pages may differ from those of an earlier commit.
 #[derive(Drop)]
 pub struct MemPages {
     table: Table,
@@ -29,8 +32,11 @@ pub struct MemPages {
     // The number of places at the last commit.
     committed: u64,
     vacant: Vacant,
+    // The number with which the commit that last changed each place marked it. A rollback does not shorten it.
+    marks: Vec<u64>,
     ghost within: { committed ≤ length table.places.items },
     ghost kept_within: { (k : ℕ) → IsSome (get nat_cmp kept k) → k < committed },
+    ghost marked: { length table.places.items ≤ vec_len marks },
 }
 
 fn zero_pages(alloc: Global, pages: u32) -> Result<Vec<Page>, AllocError>
@@ -45,7 +51,8 @@ fn zero_pages(alloc: Global, pages: u32) -> Result<Vec<Page>, AllocError>
 }
 
 impl MemPages {
-    ghost use Rattle.vs_pages.specs.Memory.{present_of, committed_of, IsKept, AreKept, IsStep};
+    ghost use Rattle.vs_pages.specs.Memory.{present_of, committed_of, kept_at, mark_of, IsKept, AreKept, IsStep};
+    ghost use Rattle.vs_pages.specs.Changes.{KeepsMarks};
 
     /// A store with the pages 0, 1 and 2, as zeros, which are committed.
     pub fn new(alloc: Global) -> Result<MemPages, AllocError>
@@ -57,26 +64,66 @@ impl MemPages {
             kept: BTreeMap::new(alloc),
             committed: 0,
             vacant: Vacant::new(alloc),
+            marks: Vec::new(alloc),
         };
         pages.add_pages(alloc, 0, 3)?;
-        pages.keep_all();
+        pages.commit_marked(0);
         Ok(pages)
     }
 
-    // Makes the pages as they are now the committed ones.
-    fn keep_all(&mut self)
+    // Marks each place that is kept, and keeps none any more.
+    fn mark_kept(&mut self, mark: u64)
+        ensures table { self.new.table ≡ self.old.table }
+        ensures committed { self.new.committed ≡ self.old.committed }
+        ensures marked { (k : ℕ) → IsSome (kept_at self.old k) → mark_of self.new k ≡ mark }
+        ensures others { (k : ℕ) → (mark_of self.new k ≡ mark_of self.old k) ⊎ IsSome (kept_at self.old k) }
+        ensures empty { btree_map_len self.new.kept ≡ 0 }
+    {
+        while let Some((at, _)) = self.kept.pop_first() {
+            self.marks[at as usize] = mark;
+        }
+    }
+
+    // Marks each place that came since the last commit.
+    fn mark_fresh(&mut self, mark: u64)
+        ensures table { self.new.table ≡ self.old.table }
+        ensures kept { self.new.kept ≡ self.old.kept }
+        ensures committed { self.new.committed ≡ self.old.committed }
+        ensures marked { (k : ℕ) → self.old.committed ≤ k → k < length self.old.table.places.items → mark_of self.new k ≡ mark }
+        ensures others { (k : ℕ) → (mark_of self.new k ≡ mark_of self.old k) ⊎ ((self.old.committed ≤ k) × (k < length self.old.table.places.items)) }
+    {
+        for k in self.committed..self.table.len() {
+            self.marks[k as usize] = mark;
+        }
+    }
+
+    /// Makes the pages as they are now the committed ones, and marks each page that may have changed since the last commit
+    /// with this number. Takes no memory.
+    pub fn commit_marked(&mut self, mark: u64)
         ensures present { present_of self.new ≡ present_of self.old }
         ensures committed { committed_of self.new ≡ present_of self.old }
+        ensures marks { KeepsMarks mark self.old self.new }
+        ensures others { (k : ℕ) → (mark_of self.new k ≡ mark_of self.old k) ⊎ IsKept self.old k }
     {
-        self.kept.clear();
+        self.mark_fresh(mark);
+        self.mark_kept(mark);
         self.committed = self.table.len();
         self.vacant.commit();
+    }
+
+    /// The number with which the commit that last changed this page marked it, or 0 where there was no such page yet. Takes
+    /// no memory.
+    pub fn mark(&self, at: u64) -> u64
+        ensures { result ≡ mark_of self.now at }
+    {
+        self.marks.get(at as usize).copied().unwrap_or(0)
     }
 
     // Goes back to the committed pages.
     fn restore_all(&mut self)
         ensures present { present_of self.new ≡ committed_of self.old }
         ensures committed { committed_of self.new ≡ committed_of self.old }
+        ensures marks { mark_of self.new ≡ mark_of self.old }
     {
         while let Some((at, was)) = self.kept.pop_first() {
             self.table.set(at, was);
@@ -180,14 +227,31 @@ impl MemPages {
         }
     }
 
+    // Adds marks of 0, until there are at least `len` marks.
+    fn extend_marks(&mut self, len: u64) -> Result<(), AllocError>
+        ensures table { self.new.table ≡ self.old.table }
+        ensures kept { self.new.kept ≡ self.old.kept }
+        ensures committed { self.new.committed ≡ self.old.committed }
+        ensures marks { mark_of self.new ≡ mark_of self.old }
+        ensures len { OnOk result (len ≤ vec_len self.new.marks) }
+    {
+        let more = len.saturating_sub(self.marks.len() as u64);
+        for _ in 0..more {
+            self.marks.push(0)?;
+        }
+        Ok(())
+    }
+
     // Adds places without a page, until there are at least `len` places.
     fn extend_to(&mut self, len: u64) -> Result<(), AllocError>
         requires { len ≤ 2 ^ 40 }
         ensures present { present_of self.new ≡ present_of self.old }
         ensures committed { committed_of self.new ≡ committed_of self.old }
         ensures kept { (k : ℕ) → IsKept self.old k → IsKept self.new k }
+        ensures marks { mark_of self.new ≡ mark_of self.old }
         ensures len { OnOk result (len ≤ length self.new.table.places.items) }
     {
+        self.extend_marks(len)?;
         self.table.extend_to(len)
     }
 
@@ -196,6 +260,7 @@ impl MemPages {
         ensures ok { OnOk result (present_of self.new ≡ put_pages (present_of self.old) at pages (zeros pages)) }
         ensures err { OnErr result (present_of self.new ≡ present_of self.old) }
         ensures committed { committed_of self.new ≡ committed_of self.old }
+        ensures marks { mark_of self.new ≡ mark_of self.old }
     {
         let fresh = zero_pages(alloc, pages)?;
         self.keep_pages(alloc, at, pages)?;

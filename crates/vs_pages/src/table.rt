@@ -1,5 +1,5 @@
 // A table of pages by number, which counts them.
-ghost use Rattle.std.specs.Prelude.{◌≡◌, ◌-◌, ◌^◌, ◌<◌, ◌≤◌, [], Some, None, option_map, is_some, IfOk, OnOk, length, take, slice_set, slice_index_or};
+ghost use Rattle.std.specs.Prelude.{◌≡◌, ◌-◌, ◌^◌, ◌<◌, ◌≤◌, [], Some, None, option_map, is_some, IfOk, OnOk, length, max, take, slice_set, slice_index_or};
 ghost use Rattle.vs_pages.specs.Table.{bytes_of, page_count, pages_in, map_of};
 
 use crate::page::Page;
@@ -87,6 +87,7 @@ impl Table {
         requires { len ≤ 2 ^ 40 }
         ensures len { OnOk result (len ≤ length self.new.places.items) }
         ensures longer { length self.old.places.items ≤ length self.new.places.items }
+        ensures most { length self.new.places.items ≤ max (length self.old.places.items) len }
         ensures map { map_of self.new.places.items ≡ map_of self.old.places.items }
     {
         let more = len.saturating_sub(self.len());

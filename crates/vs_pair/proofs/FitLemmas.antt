@@ -1,5 +1,5 @@
 -- The pair through a sync of its older file.
-use Rattle.std.proofs.Common.{◌≡◌, ◌≢◌, ◌⊎◌, inl, inr, ℕ, ◌+◌, ◌<◌, ◌≤◌, ◌^◌, Bool, true, false, not, ◌||◌, cond, List, [], ◌∷◌, Option, Some, option_map, refl, sym, ◌∙◌, ap, subst, arith}
+use Rattle.std.proofs.Common.{◌≡◌, ◌≢◌, ◌⊎◌, inl, inr, ℕ, ◌+◌, ◌-◌, ◌<◌, ◌≤◌, ◌^◌, Bool, true, false, not, ◌||◌, cond, List, [], ◌∷◌, Option, Some, IsSome, option_map, refl, sym, ◌∙◌, ap, subst, arith}
 use Rattle.std.specs.Str.{bytes_eq}
 use Rattle.std.proofs.lemmas.Slice.Eq.{bytes_eq-Decides}
 use Rattle.std.proofs.lemmas.Bool.{cases_Bool, cond-true, cond-false, true≢false, or_cases}
@@ -12,6 +12,7 @@ use Rattle.vs_disk.proofs.Images.{read_image}
 use Rattle.vs_disk.proofs.Steps.{same_at, itself, always_after, other_after}
 use Rattle.vs_disk.proofs.Others.{file_outside}
 use Rattle.vs_disk.proofs.Parts.{read_name}
+use Rattle.vs_pages.specs.Memory.{committed_of}
 use Rattle.vs_swap.specs.Recovery.{StandsIn}
 use Rattle.vs_swap.specs.Files.{StandsFor}
 use Rattle.vs_pair.specs.declared.gate.Gate.{Gate}
@@ -21,6 +22,8 @@ use Rattle.vs_pair.specs.declared.side.Side.TheVariants.{Swp, Swo}
 use Rattle.vs_pair.specs.Swap.{Synced, Body, body_of, page_zero, IsOpen, HasBody, Holds, Fits, SyncStep, FailedSync}
 use Rattle.vs_pair.specs.Swap.FailedSync.{InClosing, InWriting, InOpening}
 use Rattle.vs_pair.specs.Pair.{Image, Known, name_of, other_side, is_swap, is_apart, HasEarlier, HasLater, Recovers, IsFit, IsOrdered, Syncing, IsTextOf, IsAbove, RisesAt, Rises}
+use Rattle.vs_pair.specs.Stale.{nothing}
+use Rattle.vs_pair.proofs.FreshPages.{keeps_nothing, keeps_all}
 use Rattle.vs_pair.proofs.Gates.{body_stays, fits_body, has_at, zeros_not_open}
 use Rattle.vs_pair.proofs.Offers.{image_at, two_offer, other_twice, holds_stands}
 use Rattle.vs_pair.proofs.Reading.{stands_open, stands_generation}
@@ -263,7 +266,7 @@ module _ (files : Known) (newest : Synced) (begun past : List Synced) (old : Dis
 
   -- after a sync that failed
   abbrev pub with_gate : Gate → Known
-  with_gate gate = record files { gate = gate; generation = files.generation + 1 }
+  with_gate gate = record files { gate = gate; generation = files.generation + 1; older_has = nothing }
 
   pub failed : (gate : Gate) (new : Disk) → ChangesFile older (FailedSync files.gate gate (body_of file sync)) old new → IsFit (with_gate gate) new newest (sync ∷ begun) past
   failed gate new changes =
@@ -283,6 +286,10 @@ module _ (files : Known) (newest : Synced) (begun past : List Synced) (old : Dis
           ordered = same.1;
           newer_used = omega (arith, fit.newer_used);
           older_used = omega (arith, fit.older_used);
+          newer_keeps = fit.newer_keeps;
+          older_keeps = keeps_nothing gate files.pages fit.older_sync.pages;
+          newer_marked = omega (arith, fit.newer_marked);
+          older_marked = omega arith;
           bound = omega (arith, room);
         }
         | inr later ↦ record {
@@ -296,13 +303,23 @@ module _ (files : Known) (newest : Synced) (begun past : List Synced) (old : Dis
           ordered = later.1;
           newer_used = omega (arith, fit.newer_used);
           older_used = omega (arith, next);
+          newer_keeps = fit.newer_keeps;
+          older_keeps = keeps_nothing gate files.pages sync.pages;
+          newer_marked = omega (arith, fit.newer_marked);
+          older_marked = omega arith;
           bound = omega (arith, room);
         }
       ]
 
   -- after a sync that was acknowledged: the older file is the newer one from now on
-  abbrev pub turned : Known
-  turned = record files { newer = other_side files.newer; gate = Open; generation = files.generation + 1 }
+  abbrev pub turned : ℕ → Known
+  turned end = record files {
+    newer = other_side files.newer;
+    gate = Open;
+    generation = files.generation + 1;
+    newer_has = record { mark = files.generation + 1; end = end };
+    older_has = files.newer_has;
+  }
 
   module _ (step : File → File → Type 0) (new : Disk) (changes : ChangesFile older step old new) (has : FileHas new older (λ f. Leaves f (Holds (body_of file sync)))) where
     now_newer : FileAlways new older fit.older_number (λ f. Leaves f (Holds (body_of file sync)))
@@ -310,8 +327,8 @@ module _ (files : Known) (newest : Synced) (begun past : List Synced) (old : Dis
         let leads = λ (lost : ℕ). same_at older step old new changes lost older ∙ fit.older.leads lost in
         record { leads = leads; has = has_at older (λ f. Leaves f (Holds (body_of file sync))) new has fit.older_number (leads 0) }
 
-    pub done : IsFit turned new sync [] (newest ∷ past)
-    done =
+    pub done : (end : ℕ) → sync.pages ≡ committed_of files.pages → (0 < end → IsSome (sync.pages (end - 1))) → IsFit (turned end) new sync [] (newest ∷ past)
+    done end all last =
         let first = newest_stays step new changes in
         record {
           named = fit.named;
@@ -324,6 +341,10 @@ module _ (files : Known) (newest : Synced) (begun past : List Synced) (old : Dis
           ordered = record { member = inl refl; less = more };
           newer_used = omega (arith, next);
           older_used = omega (arith, fit.newer_used);
+          newer_keeps = keeps_all files.pages sync.pages (files.generation + 1) end all (omega (arith, room)) last;
+          older_keeps = fit.newer_keeps;
+          newer_marked = omega arith;
+          older_marked = omega (arith, fit.newer_marked);
           bound = omega (arith, room);
         }
 

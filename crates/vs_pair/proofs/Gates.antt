@@ -1,25 +1,28 @@
 -- The gate of a file: what stays while it is closed, written behind and opened.
-use Rattle.std.proofs.Common.{◌≡◌, ◌≢◌, ◌⊎◌, inl, inr, ℕ, ◌+◌, ◌-◌, ◌*◌, ◌≤◌, List, length, take, drop, Some, None, refl, sym, ◌∙◌, ap, subst, arith, IsTrue, length-take, length-drop}
-use Rattle.std.proofs.lemmas.Bool.{cases_lt}
-use Rattle.std.proofs.lemmas.Bool.Decides.{nat_tests}
+use Rattle.std.proofs.Common.{◌≡◌, ◌≢◌, ◌⊎◌, inl, inr, ℕ, ◌+◌, ◌-◌, ◌*◌, ◌≤◌, List, length, false, take, drop, Some, refl, sym, ◌∙◌, ap, subst, arith, IsTrue, length-take, length-drop}
 use Rattle.std.proofs.lemmas.List.{drop-drop}
 use Rattle.vs_host.specs.File.{File, IsFileImage, Leaves, synced_file}
 use Rattle.vs_host.specs.Disk.{Disk, Name, ChangesFile, names_of}
 use Rattle.vs_host.specs.World.{Tells, Scene}
 use Rattle.vs_disk.specs.Images.{FileHas, KeepsImages}
 use Rattle.vs_disk.proofs.Images.{read_image, synced_image}
-use Rattle.vs_disk.proofs.Contents.{some_bytes}
 use Rattle.vs_disk.proofs.Steps.{same_at, file_as, file_then, file_after}
 use Rattle.vs_pair.specs.declared.gate.Gate.{Gate}
 use Rattle.vs_pair.specs.declared.gate.Gate.TheVariants.{Open, Closed, Unknown}
 use Rattle.vs_swap.specs.Files.{page_in}
+use Rattle.vs_pages.specs.Memory.{committed_of}
+use Rattle.vs_pages.specs.declared.memory.MemPages.{MemPages}
+use Rattle.vs_pair.specs.declared.written.Written.{Written}
 use Rattle.vs_pair.specs.Acts.{Acts, NoneFails}
 use Rattle.vs_pair.specs.Swap.{Body, HasBody, Holds, IsOpen, HasMark, ChangesMark, KeepsMark, WritesBody, Fits, CloseStep, Closes, SyncStep, FailedSync, open_mark, closed_mark, zeros_page}
 use Rattle.vs_pair.specs.Swap.FailedSync.{InClosing, InWriting, InOpening}
+use Rattle.vs_pair.specs.Stale.{HasFresh, Keeps, is_stale}
+use Rattle.vs_pair.specs.Writes.{page_or_zeros}
 use Rattle.vs_pair.proofs.Acts.{acts_as, acts_then}
 use Rattle.vs_pair.proofs.Calls.{both_files}
-use Rattle.vs_pair.proofs.PageWrites.{page_is}
+use Rattle.vs_pair.proofs.PageWrites.{page_is, page_found}
 use Rattle.vs_pair.proofs.Marks.{mark_same}
+use Rattle.vs_pair.proofs.FreshPages.{fresh_in, none_fresh}
 
 pub not_closed : (gate : Gate) → (gate ≡ Open) ⊎ (gate ≡ Unknown) → gate ≢ Closed
 not_closed gate (inl opened) is = let clash : Open ≡ Closed = sym opened ∙ is in cc clash
@@ -57,12 +60,6 @@ mark_closes name gate old new changes has = record {
 
 -- ---- the body stays while the identifier changes
 
-page_found : (d : List ℕ) (k : ℕ) (page : List ℕ) → page_in d k ≡ Some page → (4096 * (k + 1) ≤ length d) × (take 4096 (drop (4096 * k) d) ≡ page)
-page_found d k page is = elim (cases_lt (length d) (4096 * (k + 1))) [
-  | inl short ↦ let none : page_in d k ≡ None = grind (arith, nat_tests) in absurd (cc)
-  | inr long ↦ (long, some_bytes (take 4096 (drop (4096 * k) d)) page (sym (page_is d k long) ∙ is))
-]
-
 same_page : (c d : List ℕ) → drop 2 c ≡ drop 2 d → (k : ℕ) (page : List ℕ) → 1 ≤ k → page_in d k ≡ Some page → page_in c k ≡ Some page
 same_page c d same k page least is =
     let found = page_found d k page is in
@@ -82,6 +79,9 @@ body_same body c d same has = record {
 
 pub body_stays : (body : Body) (a b : File) → ChangesMark a b → Leaves a (HasBody body) → Leaves b (HasBody body)
 body_stays body a b changes all c image = let was = changes c image in body_same body c was.0 was.2 (all was.0 was.1)
+
+body_read : (body : Body) (a b : File) → ChangesMark a b → Leaves a (HasBody body) → HasBody body b.bytes
+body_read body a b changes all = body_stays body a b changes all b.bytes (read_image b)
 
 pub mark_stays : (mark : List ℕ) (a b : File) → KeepsMark a b → Leaves a (HasMark mark) → Leaves b (HasMark mark)
 mark_stays mark a b keeps all c image = let was = keeps c image in was.2 ∙ all was.0 was.1
@@ -134,6 +134,15 @@ written_shut gate body a b c shuts writes any fits = (
 
 open_step : (gate : Gate) (body : Body) (a b c : File) → ShutsWith gate body a b → ChangesMark b c → SyncStep gate body a c
 open_step gate body a b c shuts changes before fits e image opened = inr (body_stays body b c changes (shuts before fits).1 e image)
+
+fresh_stands : (gate : Gate) (pages : MemPages) (has : Written) (before : Body) → Keeps gate pages has before.pages → (a b : File) → Fits gate before a → Shuts gate a b → ChangesMark a b → HasFresh pages has b.bytes
+fresh_stands gate pages has before keeps a b fits shuts changes = record { long = omega (arith, ap length (shuts before fits b.bytes (read_image b)), length-take 2 b.bytes); fresh = fresh gate keeps fits }
+  where
+    fresh : (h : Gate) → Keeps h pages has before.pages → Fits h before a → (k : ℕ) → 1 ≤ k → is_stale pages has k ≡ false → page_in b.bytes k ≡ Some (page_or_zeros (committed_of pages k))
+    fresh Closed keeps fits k least is = absurd (none_fresh pages k (subst (λ (w : Written). is_stale pages w k ≡ false) (keeps.torn refl) is))
+    fresh Open keeps fits k least is =
+        fresh_in pages has before Open keeps b.bytes (body_read before a b changes (fits_body Open before a (λ e. let clash : Open ≡ Closed = e in cc clash) fits)) k least is
+    fresh Unknown keeps fits k least is = fresh_in pages has before Unknown keeps b.bytes (body_read before a b changes fits) k least is
 
 -- ---- in the folder
 
@@ -195,11 +204,12 @@ module _ (name : Name) (gate : Gate) (body : Body) where
   closing_failed not old new changes keeps =
       file_as name (λ a b. CloseStep gate a b × KeepsImages a b) (FailedSync gate Unknown body) (λ a b both. InClosing not refl both.0.1 both.1) old new (both_files name (CloseStep gate) KeepsImages old new changes keeps)
 
-  -- the file is there, and has an identifier
-  pub long_enough : (before : Body) (old mid : Disk) → FileHas old name (Fits gate before) → ChangesFile name (Closes gate) old mid → FileHas mid name (λ file. 2 ≤ length file.bytes)
-  long_enough before old mid there closes =
-      file_after name (Shuts gate) (Fits gate before) (λ file. 2 ≤ length file.bytes)
-      (λ a b fits shuts. omega (arith, ap length (shuts before fits b.bytes (read_image b)), length-take 2 b.bytes)) old mid there (closed_file old mid closes)
+  -- what is not stale stands behind the gate, whatever its identifier
+  pub fresh_behind : (pages : MemPages) (has : Written) (before : Body) → Keeps gate pages has before.pages → (old mid : Disk) → FileHas old name (Fits gate before) → ChangesFile name (Closes gate) old mid
+      → ChangesFile name (CloseStep gate) old mid → FileHas mid name (λ file. HasFresh pages has file.bytes)
+  fresh_behind pages has before keeps old mid there closes changes =
+      file_after name (λ a b. Shuts gate a b × CloseStep gate a b) (Fits gate before) (λ file. HasFresh pages has file.bytes)
+      (λ a b fits both. fresh_stands gate pages has before keeps a b fits both.0 both.1.1) old mid there (both_files name (Shuts gate) (CloseStep gate) old mid (closed_file old mid closes) changes)
 
   pub still_there : (P : File → Type 0) (step : File → File → Type 0) (old new : Disk) → FileHas old name P → ChangesFile name step old new → FileHas new name (λ file. Unit {0})
   still_there P step old new there changes = file_after name step P (λ file. Unit {0}) (λ a b has s. tt) old new there changes

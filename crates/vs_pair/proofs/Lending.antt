@@ -1,9 +1,14 @@
 -- Calls on pages in memory leave what is known of the swap files, and the folder.
-use Rattle.std.proofs.Common.{ℕ, inl, inr, IsTrue, refl, sym, ◌∙◌, ap, arith}
+use Rattle.std.proofs.Common.{◌≡◌, ℕ, inl, inr, IsTrue, refl, sym, ◌∙◌, ap, arith}
 use Rattle.vs_faults.specs.Faults.{HasCause, HasRisen}
+use Rattle.vs_host.specs.Disk.{Disk}
 use Rattle.vs_host.specs.World.{Tells, Scene, CountsFault}
-use Rattle.vs_pair.specs.declared.files.SwapFiles.{SwapFiles}
-use Rattle.vs_pair.specs.Lent.{KeepsFiles}
+use Rattle.vs_disk.proofs.Runs.{starts}
+use Rattle.vs_pages.specs.Changes.{KeepsMarks, KeepsAllMarks}
+use Rattle.vs_pages.specs.declared.memory.MemPages.{MemPages}
+use Rattle.vs_pair.specs.declared.pair.SwapPair.{SwapPair}
+use Rattle.vs_pair.specs.Lent.{IsReady, KeepsFiles}
+use Rattle.vs_pair.proofs.Others.{fit_changed}
 
 -- pages in memory do not fail
 pub no_cause : (Failed : Type 0) (n : ℕ) → HasCause 0 0 Failed → HasCause n n Failed
@@ -14,10 +19,29 @@ no_cause Failed n cause = record { later = omega arith; risen = λ failed. absur
     not_risen (inr full) = omega (arith, full)
 
 -- a fault that was counted, where the folder is not told
-pub keeps_damaged : (tells : Tells) (files : SwapFiles) (old new : Scene) → (IsTrue tells.folder → ⊥) → CountsFault old new → KeepsFiles tells files files old new
-keeps_damaged tells files old new silent counts = record {
+pub keeps_damaged : (tells : Tells) (pair : SwapPair) (old new : Scene) → (IsTrue tells.folder → ⊥) → CountsFault old new → KeepsFiles tells pair pair old new
+keeps_damaged tells pair old new silent counts = record {
   files = refl;
+  marks = λ mark map le since. since;
   frame = counts ∙ (λ i. record old { folder_faults = new.folder_faults; trace = sym (ap (λ (s : Scene). s.trace) counts) i });
   looks = λ told. absurd (silent told);
   still = λ told. absurd (silent told);
+}
+
+-- ---- pages that changed
+
+pub all_kept : (old new : MemPages) (bound : ℕ) → KeepsAllMarks old new → KeepsMarks bound old new
+all_kept old new bound all mark map le since = all mark map since
+
+pub ready_with : (pair : SwapPair) (pages : MemPages) (disk : Disk) → KeepsMarks pair.files.generation pair.pages pages → IsReady pair disk → IsReady (record pair { pages = pages }) disk
+ready_with pair pages disk marks (inl fresh) = inl fresh
+ready_with pair pages disk marks (inr fits) = inr (fits.0, fits.1, fits.2, fit_changed pair (record pair { pages = pages }) disk fits.0 fits.1 fits.2 refl marks fits.3)
+
+pub keeps_with : (tells : Tells) (pair : SwapPair) (pages : MemPages) (scene : Scene) → KeepsMarks pair.files.generation pair.pages pages → KeepsFiles tells pair (record pair { pages = pages }) scene scene
+keeps_with tells pair pages scene marks = record {
+  files = refl;
+  marks = marks;
+  frame = refl;
+  looks = λ told. starts (λ a b. b ≡ a) scene refl;
+  still = λ told. refl;
 }

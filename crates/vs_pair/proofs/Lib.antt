@@ -2,6 +2,8 @@ pub mod Acts
 pub mod Calls
 pub mod Marks
 pub mod PageWrites
+pub mod FreshPages
+pub mod Bounds
 pub mod Gates
 pub mod Reading
 pub mod Offers
@@ -9,5 +11,5 @@ pub mod FitLemmas
 pub mod MadeFiles
 pub mod Starts
 pub mod Ends
-pub mod Lending
 pub mod Others
+pub mod Lending

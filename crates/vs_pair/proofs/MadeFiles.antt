@@ -15,6 +15,9 @@ use Rattle.vs_pair.specs.Swap.{Body, HasMark, Holds, WritesBody, open_mark}
 use Rattle.vs_host.specs.World.{Tells, Scene}
 use Rattle.vs_pair.specs.Acts.{Acts, NoneFails}
 use Rattle.std.specs.Prelude.{IsSomeAnd}
+use Rattle.vs_pages.specs.declared.memory.MemPages.{MemPages}
+use Rattle.vs_pair.specs.Stale.{HasFresh, nothing}
+use Rattle.vs_pair.proofs.FreshPages.{none_fresh}
 use Rattle.vs_pair.proofs.Acts.{acts_as, acts_then}
 use Rattle.vs_pair.proofs.Calls.{there_and}
 use Rattle.vs_pair.specs.Steps.{IsAbsent, MayHold, is_not, is_neither, Makes}
@@ -198,8 +201,13 @@ marked_new temporary old new writes has =
     file_after temporary (Writes 0 open_mark) (λ file. file ≡ synced_file []) (λ file. HasMark open_mark file.bytes)
     (λ a b empty is. ap (λ (f : File). take 2 f.bytes) is ∙ take_at open_mark (drop (0 + length open_mark) a.bytes) 2 refl) old new has writes
 
-pub long_new : (temporary : Name) (disk : Disk) → FileHas disk temporary (λ file. HasMark open_mark file.bytes) → FileHas disk temporary (λ file. 2 ≤ length file.bytes)
-long_new temporary disk has = record { number = has.number; leads = has.leads; has = omega (arith, ap length has.has, length-take 2 (disk.files has.number).bytes) }
+-- nothing is known of its pages
+pub new_fresh : (temporary : Name) (pages : MemPages) (disk : Disk) → FileHas disk temporary (λ file. HasMark open_mark file.bytes) → FileHas disk temporary (λ file. HasFresh pages nothing file.bytes)
+new_fresh temporary pages disk has = record {
+  number = has.number;
+  leads = has.leads;
+  has = record { long = omega (arith, ap length has.has, length-take 2 (disk.files has.number).bytes); fresh = λ k least is. absurd (none_fresh pages k is) };
+}
 
 pub whole_new : (temporary : Name) (body : Body) (old new : Disk) → ChangesFile temporary (WritesBody body) old new → FileHas old temporary (λ file. HasMark open_mark file.bytes) → FileHas new temporary (λ file. Leaves file (Holds body))
 whole_new temporary body old new writes has =

@@ -11,13 +11,19 @@ use Rattle.vs_disk.proofs.Parts.{with_rest, image_with_rest}
 use Rattle.vs_disk.proofs.Steps.{one_state}
 use Rattle.vs_disk.proofs.Contents.{leads_nowhere}
 use Rattle.vs_swap.specs.Recovery.{StandsIn}
+use Rattle.vs_pages.specs.Changes.{KeepsMarks}
+use Rattle.vs_pages.specs.declared.memory.MemPages.{MemPages}
+use Rattle.vs_pair.specs.declared.files.SwapFiles.{SwapFiles}
+use Rattle.vs_pair.specs.declared.gate.Gate.TheVariants.{Open}
+use Rattle.vs_pair.specs.declared.pair.SwapPair.{SwapPair}
 use Rattle.vs_pair.specs.declared.side.Side.{Side}
 use Rattle.vs_pair.specs.declared.side.Side.TheVariants.{Swp, Swo}
 use Rattle.vs_pair.specs.Swap.{Synced, body_of, IsOpen, Holds, Fits}
-use Rattle.vs_pair.specs.Pair.{Image, Known, name_of, other_side, is_swap, IsThere, IsBelow, HasEarlier, HasLater, IsBeside, IsBetween, Recovers, IsFit, IsOrdered, RisesAt, Rises}
+use Rattle.vs_pair.specs.Pair.{Image, Known, name_of, other_side, is_swap, IsThere, IsBelow, HasEarlier, HasLater, IsBeside, IsBetween, Recovers, IsFit, IsOrdered, RisesAt, Rises, known_of}
 use Rattle.vs_pair.specs.Steps.{IsFresh}
 use Rattle.vs_pair.proofs.Ends.{class}
 use Rattle.vs_pair.proofs.FitLemmas.{side_is_swap}
+use Rattle.vs_pair.proofs.FreshPages.{keeps_changed}
 use Rattle.vs_pair.proofs.Offers.{image_at, there_some, two_offer, with_newest}
 
 -- ---- a pair that fits
@@ -72,8 +78,48 @@ fit_kept files old new newest begun past same fit =
       ordered = now.has.1;
       newer_used = fit.newer_used;
       older_used = fit.older_used;
+      newer_keeps = fit.newer_keeps;
+      older_keeps = fit.older_keeps;
+      newer_marked = fit.newer_marked;
+      older_marked = fit.older_marked;
       bound = fit.bound;
     }
+
+-- ---- other pages
+
+-- what is known of these files, and of these pages
+abbrev known_with : SwapFiles → MemPages → Known
+known_with files pages = record {
+  names = files.names;
+  newer = files.newer;
+  gate = files.gate;
+  generation = files.generation;
+  pages = pages;
+  newer_has = files.newer_has;
+  older_has = files.older_has;
+}
+
+pub fit_changed : (old new : SwapPair) (disk : Disk) (newest : Synced) (begun past : List Synced) → new.files ≡ old.files → KeepsMarks old.files.generation old.pages new.pages → IsFit (known_of old) disk newest begun past
+    → IsFit (known_of new) disk newest begun past
+fit_changed old new disk newest begun past files marks fit =
+    let changed : IsFit (known_with old.files new.pages) disk newest begun past = record {
+      named = fit.named;
+      newer_number = fit.newer_number;
+      older_number = fit.older_number;
+      differ = fit.differ;
+      newer = fit.newer;
+      older_sync = fit.older_sync;
+      older = fit.older;
+      ordered = fit.ordered;
+      newer_used = fit.newer_used;
+      older_used = fit.older_used;
+      newer_keeps = keeps_changed Open old.pages new.pages old.files.newer_has newest.pages old.files.generation fit.newer_marked marks fit.newer_keeps;
+      older_keeps = keeps_changed old.files.gate old.pages new.pages old.files.older_has fit.older_sync.pages old.files.generation fit.older_marked marks fit.older_keeps;
+      newer_marked = fit.newer_marked;
+      older_marked = fit.older_marked;
+      bound = fit.bound;
+    } in
+    subst (λ (f : SwapFiles). IsFit (known_with f new.pages) disk newest begun past) (sym files) changed
 
 module _ (names : Names) (old new : Disk) (same : SameAt (is_swap names) old new) where
   -- an image from before, with the same swap files

@@ -1,5 +1,5 @@
--- What the writes of page 0 and of the pages after it leave, run after run: the part before a write stays.
-use Rattle.std.proofs.Common.{◌≡◌, inl, inr, ℕ, ◌+◌, ◌-◌, ◌*◌, ◌<◌, ◌≤◌, max, List, ◌++◌, length, take, drop, Option, Some, None, IsSome, refl, sym, ◌∙◌, ap, subst, arith, length-append, length-take, length-drop}
+-- What the writes of page 0 and of the pages after it leave, run after run: the parts before and after a write stay.
+use Rattle.std.proofs.Common.{◌≡◌, ◌⊎◌, inl, inr, ℕ, ◌+◌, ◌-◌, ◌*◌, ◌<◌, ◌≤◌, max, false, List, ◌++◌, length, take, drop, Option, Some, None, IsSome, refl, sym, ◌∙◌, ap, subst, arith, length-append, length-take, length-drop}
 use Rattle.std.proofs.lemmas.Bool.{cases_lt, true≢false}
 use Rattle.std.proofs.lemmas.Bool.Decides.{nat_tests}
 use Rattle.std.proofs.lemmas.List.{take_at, drop_at, take-take, drop-drop, drop-take, take-append-le}
@@ -7,11 +7,16 @@ use Rattle.vs_host.specs.File.{File, IsFileImage, WritesSome, Writes, Syncs, put
 use Rattle.vs_host.specs.Disk.{Disk, Name, ChangesFile, names_of}
 use Rattle.vs_disk.specs.Images.{FileHas, MaySync}
 use Rattle.vs_disk.proofs.Images.{length-put, torn_image, sync_narrows}
-use Rattle.vs_disk.proofs.Steps.{file_after, file_then}
+use Rattle.vs_disk.proofs.Contents.{some_bytes}
+use Rattle.vs_disk.proofs.Steps.{file_after, file_as, file_then}
 use Rattle.vs_pages.specs.Maps.{Map}
+use Rattle.vs_pages.specs.Memory.{committed_of}
+use Rattle.vs_pages.specs.declared.memory.MemPages.{MemPages}
 use Rattle.vs_swap.specs.Files.{page_in}
-use Rattle.vs_pair.specs.Swap.{KeepsMark, HasBody, WritesBody, zeros_page}
-use Rattle.vs_pair.specs.Writes.{HasRun}
+use Rattle.vs_pair.specs.declared.written.Written.{Written}
+use Rattle.vs_pair.specs.Swap.{KeepsMark, HasBody, WritesBody}
+use Rattle.vs_pair.specs.Stale.{HasFresh, is_stale}
+use Rattle.vs_pair.specs.Writes.{HasRun, page_or_zeros}
 
 -- ---- the identifier stays
 
@@ -59,15 +64,40 @@ part_of bytes from n to within = sym (drop-take from n (take to bytes)) ∙ ap (
 pub page_is : (bytes : List ℕ) (k : ℕ) → 4096 * (k + 1) ≤ length bytes → page_in bytes k ≡ Some (take 4096 (drop (4096 * k) bytes))
 page_is bytes k le = grind (arith, nat_tests)
 
+pub page_found : (d : List ℕ) (k : ℕ) (page : List ℕ) → page_in d k ≡ Some page → (4096 * (k + 1) ≤ length d) × (take 4096 (drop (4096 * k) d) ≡ page)
+page_found d k page is = elim (cases_lt (length d) (4096 * (k + 1))) [
+  | inl short ↦ let none : page_in d k ≡ None = grind (arith, nat_tests) in absurd (cc)
+  | inr long ↦ (long, some_bytes (take 4096 (drop (4096 * k) d)) page (sym (page_is d k long) ∙ is))
+]
+
+-- all that lies after the piece
+beyond : (bytes piece : List ℕ) (at from : ℕ) → at ≤ length bytes → at + length piece ≤ from → drop from (put bytes at piece) ≡ drop from bytes
+beyond bytes piece at from le past =
+    let end : ℕ = at + length piece in
+    let more : ℕ = from - end in
+    let is : from ≡ end + more = omega (arith, past) in
+    ap (λ (n : ℕ). drop n (put bytes at piece)) is
+    ∙ sym (drop-drop more end (put bytes at piece))
+    ∙ ap (λ (l : List ℕ). drop more l) (drop_at (take at bytes ++ piece) (drop end bytes) end (omega (arith, length-append (take at bytes) piece, length-take at bytes, le)))
+    ∙ drop-drop more end bytes
+    ∙ ap (λ (n : ℕ). drop n bytes) (sym is)
+
+-- a page after the piece
+page_after : (bytes piece page : List ℕ) (at k : ℕ) → at ≤ length bytes → at + length piece ≤ 4096 * k → page_in bytes k ≡ Some page → page_in (put bytes at piece) k ≡ Some page
+page_after bytes piece page at k le past there =
+    let found = page_found bytes k page there in
+    page_is (put bytes at piece) k (omega (arith, length-put bytes piece at le, found.0))
+    ∙ ap (λ (l : List ℕ). Some (take 4096 l)) (beyond bytes piece at (4096 * k) le past)
+    ∙ ap (λ (p : List ℕ). Some p) found.1
+
 -- ---- the pages so far
 
--- Page 0 is written after its identifier, and so are the pages of the map below this number.
-pub record IsSoFar (first : List ℕ) (map : Map) (mark : List ℕ) (n : ℕ) (bytes : List ℕ) : Type 0 where
+-- Page 0 is written after its identifier. Each number below this one, and each that is not stale, is as it is committed.
+pub record IsSoFar (first : List ℕ) (pages : MemPages) (has : Written) (mark : List ℕ) (n : ℕ) (bytes : List ℕ) : Type 0 where
   pub marked : take 2 bytes ≡ mark
   pub long : 4096 * n ≤ length bytes
   pub rest : take 4094 (drop 2 bytes) ≡ drop 2 first
-  pub pages : (k : ℕ) (page : List ℕ) → 1 ≤ k → k < n → map k ≡ Some page → page_in bytes k ≡ Some page
-  pub gaps : (k : ℕ) → 1 ≤ k → k < n → map k ≡ None → page_in bytes k ≡ Some zeros_page
+  pub placed : (k : ℕ) → 1 ≤ k → (k < n) ⊎ (is_stale pages has k ≡ false) → page_in bytes k ≡ Some (page_or_zeros (committed_of pages k))
 
 -- what the next write leaves at each place so far and at its own
 page_then : (bytes piece page : List ℕ) (at n k : ℕ) → at ≡ 4096 * n → length piece ≡ 4096 → 4096 * n ≤ length bytes → k < n + 1 → (k < n → page_in bytes k ≡ Some page) → (k ≡ n → piece ≡ page)
@@ -97,10 +127,10 @@ inner bytes piece at from le within =
     ∙ sym (part_of (drop at file) from 4096 (length piece) within)
     ∙ ap (λ (l : List ℕ). take 4096 (drop from l)) (written bytes piece at (length piece) le refl)
 
--- what a write of several pages leaves at each place so far and at its own
-pages_then : (bytes piece page : List ℕ) (at n m k : ℕ) → at ≡ 4096 * n → length piece ≡ 4096 * m → 4096 * n ≤ length bytes → k < n + m → (k < n → page_in bytes k ≡ Some page) → ((i : ℕ) → k ≡ n + i → i < m → page_in piece i ≡ Some page)
-    → page_in (put bytes at piece) k ≡ Some page
-pages_then bytes piece page at n m k place size long most before is =
+-- what a write of several pages leaves at each place, before it, at its own and after it
+pages_then : (bytes piece page : List ℕ) (at n m k : ℕ) → at ≡ 4096 * n → length piece ≡ 4096 * m → 4096 * n ≤ length bytes → ((k < n) ⊎ (n + m ≤ k) → page_in bytes k ≡ Some page)
+    → ((i : ℕ) → k ≡ n + i → i < m → page_in piece i ≡ Some page) → page_in (put bytes at piece) k ≡ Some page
+pages_then bytes piece page at n m k place size long around is =
     let le : at ≤ length bytes = omega (arith, place, long) in
     let grown : length (put bytes at piece) ≡ max (length bytes) (at + length piece) = length-put bytes piece at le in
     elim (cases_lt k n) [
@@ -108,36 +138,33 @@ pages_then bytes piece page at n m k place size long most before is =
           page_is (put bytes at piece) k (omega (arith, grown, place, below, long))
           ∙ ap (λ (p : List ℕ). Some p) (part bytes piece at (4096 * k) 4096 le (omega (arith, place, below)))
           ∙ sym (page_is bytes k (omega (arith, below, long)))
-          ∙ before below
-      | inr past ↦
-          let same : k ≡ n + (k - n) = omega (arith, past) in
-          let less : k - n < m = omega (arith, past, most) in
-          let here : 4096 * k ≡ at + 4096 * (k - n) = omega (arith, past, place) in
-          let inside : 4096 * ((k - n) + 1) ≤ length piece = omega (arith, less, size) in
-          page_is (put bytes at piece) k (omega (arith, grown, here, inside))
-          ∙ ap (λ (x : ℕ). Some (take 4096 (drop x (put bytes at piece)))) here
-          ∙ ap (λ (p : List ℕ). Some p) (inner bytes piece at (4096 * (k - n)) le (omega (arith, inside)))
-          ∙ sym (page_is piece (k - n) inside)
-          ∙ is (k - n) same less
+          ∙ around (inl below)
+      | inr past ↦ elim (cases_lt k (n + m)) [
+        | inl most ↦
+            let same : k ≡ n + (k - n) = omega (arith, past) in
+            let less : k - n < m = omega (arith, past, most) in
+            let here : 4096 * k ≡ at + 4096 * (k - n) = omega (arith, past, place) in
+            let inside : 4096 * ((k - n) + 1) ≤ length piece = omega (arith, less, size) in
+            page_is (put bytes at piece) k (omega (arith, grown, here, inside))
+            ∙ ap (λ (x : ℕ). Some (take 4096 (drop x (put bytes at piece)))) here
+            ∙ ap (λ (p : List ℕ). Some p) (inner bytes piece at (4096 * (k - n)) le (omega (arith, inside)))
+            ∙ sym (page_is piece (k - n) inside)
+            ∙ is (k - n) same less
+        | inr after ↦ page_after bytes piece page at k le (omega (arith, place, size, after)) (around (inr after))
+      ]
     ]
 
 -- ---- a run of pages
 
 pub run_none : (map : Map) (at : ℕ) (run : List ℕ) → HasRun map at 0 run
-run_none map at run = record { pages = λ k page less there. absurd (omega (arith, less)); gaps = λ k less none. absurd (omega (arith, less)) }
+run_none map at run k less = absurd (omega (arith, less))
 
 -- one page more
-pub run_more : (map : Map) (at n place : ℕ) (run page new : List ℕ) → new ≡ put run place page → place ≡ 4096 * n → length page ≡ 4096 → 4096 * (n + 1) ≤ length run → ((p : List ℕ) → map (at + n) ≡ Some p → page ≡ p)
-    → (map (at + n) ≡ None → page ≡ zeros_page) → HasRun map at n run → HasRun map at (n + 1) new
-run_more map at n place run page new now here size room is free so_far =
-    subst (λ (bytes : List ℕ). HasRun map at (n + 1) bytes) (sym now) (record {
-      pages = λ k p less there.
-          page_then run page p place n k here size (omega (arith, room)) less (λ below. so_far.pages k p below there)
-          (λ same. is p (ap (λ (j : ℕ). map (at + j)) (sym same) ∙ there));
-      gaps = λ k less none.
-          page_then run page zeros_page place n k here size (omega (arith, room)) less (λ below. so_far.gaps k below none)
-          (λ same. free (ap (λ (j : ℕ). map (at + j)) (sym same) ∙ none));
-    })
+pub run_more : (map : Map) (at n place : ℕ) (run page new : List ℕ) → new ≡ put run place page → place ≡ 4096 * n → length page ≡ 4096 → 4096 * (n + 1) ≤ length run → page ≡ page_or_zeros (map (at + n))
+    → HasRun map at n run → HasRun map at (n + 1) new
+run_more map at n place run page new now here size room is so_far =
+    subst (λ (bytes : List ℕ). HasRun map at (n + 1) bytes) (sym now)
+    (λ k less. page_then run page (page_or_zeros (map (at + k))) place n k here size (omega (arith, room)) less (λ below. so_far k below) (λ same. is ∙ ap (λ (j : ℕ). page_or_zeros (map (at + j))) (sym same)))
 
 pub length-run : (run page new : List ℕ) (place : ℕ) → new ≡ put run place page → place + length page ≤ length run → length new ≡ length run
 length-run run page new place now room = ap (λ (bytes : List ℕ). length bytes) now ∙ (length-put run page place (omega (arith, room)) ∙ omega (arith, room))
@@ -151,100 +178,124 @@ page_cut run page size n k is room less there =
 
 -- the front of a run
 pub run_cut : (map : Map) (at n size : ℕ) (run : List ℕ) → size ≡ 4096 * n → size ≤ length run → HasRun map at n run → HasRun map at n (take size run)
-run_cut map at n size run is room has = record {
-  pages = λ k page less there. page_cut run page size n k is room less (has.pages k page less there);
-  gaps = λ k less none. page_cut run zeros_page size n k is room less (has.gaps k less none);
-}
+run_cut map at n size run is room has k less = page_cut run (page_or_zeros (map (at + k))) size n k is room less (has k less)
 
-begins : (first : List ℕ) (map : Map) (piece mark : List ℕ) → piece ≡ drop 2 first → length piece ≡ 4094 → (a b : File) → 2 ≤ length a.bytes → take 2 a.bytes ≡ mark → Writes 2 piece a b → IsSoFar first map mark 1 b.bytes
-begins first map piece mark is size a b long marked writes =
+begins : (first : List ℕ) (pages : MemPages) (has : Written) (piece mark : List ℕ) → piece ≡ drop 2 first → length piece ≡ 4094 → (a b : File) → HasFresh pages has a.bytes → take 2 a.bytes ≡ mark → Writes 2 piece a b
+    → IsSoFar first pages has mark 1 b.bytes
+begins first pages has piece mark is size a b fresh marked writes =
     let now : b.bytes ≡ put a.bytes 2 piece = ap (λ (f : File). f.bytes) writes in
-    subst (λ (bytes : List ℕ). IsSoFar first map mark 1 bytes) (sym now) (record {
-      marked = front a.bytes piece 2 long ∙ marked;
-      long = omega (arith, length-put a.bytes piece 2 long, size);
-      rest = written a.bytes piece 2 4094 long size ∙ is;
-      pages = λ k page least most there. absurd (omega (arith, least, most));
-      gaps = λ k least most none. absurd (omega (arith, least, most));
+    subst (λ (bytes : List ℕ). IsSoFar first pages has mark 1 bytes) (sym now) (record {
+      marked = front a.bytes piece 2 fresh.long ∙ marked;
+      long = omega (arith, length-put a.bytes piece 2 fresh.long, size);
+      rest = written a.bytes piece 2 4094 fresh.long size ∙ is;
+      placed = λ k least either. page_after a.bytes piece (page_or_zeros (committed_of pages k)) 2 k fresh.long (omega (arith, size, least)) (fresh.fresh k least (not_zero k least either));
     })
+  where
+    not_zero : (k : ℕ) → 1 ≤ k → (k < 1) ⊎ (is_stale pages has k ≡ false) → is_stale pages has k ≡ false
+    not_zero k least (inl less) = absurd (omega (arith, least, less))
+    not_zero k least (inr is) = is
 
-more : (first : List ℕ) (map : Map) (piece mark : List ℕ) (at n m : ℕ) → 1 ≤ n → at ≡ 4096 * n → length piece ≡ 4096 * m → HasRun map n m piece → (a b : File) → IsSoFar first map mark n a.bytes → Writes at piece a b
-    → IsSoFar first map mark (n + m) b.bytes
-more first map piece mark at n m some place size run a b so_far writes =
+more : (first : List ℕ) (pages : MemPages) (has : Written) (piece mark : List ℕ) (at n m : ℕ) → 1 ≤ n → at ≡ 4096 * n → length piece ≡ 4096 * m → HasRun (committed_of pages) n m piece → (a b : File)
+    → IsSoFar first pages has mark n a.bytes → Writes at piece a b → IsSoFar first pages has mark (n + m) b.bytes
+more first pages has piece mark at n m some place size run a b so_far writes =
     let now : b.bytes ≡ put a.bytes at piece = ap (λ (f : File). f.bytes) writes in
     let le : at ≤ length a.bytes = omega (arith, place, so_far.long) in
     let grown : length (put a.bytes at piece) ≡ max (length a.bytes) (at + length piece) = length-put a.bytes piece at le in
-    subst (λ (bytes : List ℕ). IsSoFar first map mark (n + m) bytes) (sym now) (record {
+    subst (λ (bytes : List ℕ). IsSoFar first pages has mark (n + m) bytes) (sym now) (record {
       marked = sym (take-take 2 at (put a.bytes at piece) (omega (arith, place, some))) ∙ ap (λ (l : List ℕ). take 2 l) (front a.bytes piece at le) ∙ take-take 2 at a.bytes (omega (arith, place, some)) ∙ so_far.marked;
       long = omega (arith, grown, place, size);
       rest = part a.bytes piece at 2 4094 le (omega (arith, place, some)) ∙ so_far.rest;
-      pages = λ k page least most there.
-          pages_then a.bytes piece page at n m k place size so_far.long most (λ below. so_far.pages k page least below there)
-          (λ i same less. run.pages i page less (ap (λ (j : ℕ). map j) (sym same) ∙ there));
-      gaps = λ k least most none.
-          pages_then a.bytes piece zeros_page at n m k place size so_far.long most (λ below. so_far.gaps k least below none)
-          (λ i same less. run.gaps i less (ap (λ (j : ℕ). map j) (sym same) ∙ none));
+      placed = λ k least either.
+          pages_then a.bytes piece (page_or_zeros (committed_of pages k)) at n m k place size so_far.long (λ around. so_far.placed k least (outside k either around))
+          (λ i same less. run i less ∙ ap (λ (j : ℕ). Some (page_or_zeros (committed_of pages j))) (sym same));
     })
+  where
+    outside : (k : ℕ) → (k < n + m) ⊎ (is_stale pages has k ≡ false) → (k < n) ⊎ (n + m ≤ k) → (k < n) ⊎ (is_stale pages has k ≡ false)
+    outside k either (inl below) = inl below
+    outside k (inl less) (inr after) = absurd (omega (arith, less, after))
+    outside k (inr is) (inr after) = inr is
+
+-- numbers that are not stale are passed over
+passes : (first : List ℕ) (pages : MemPages) (has : Written) (mark : List ℕ) (n to : ℕ) (bytes : List ℕ) → 1 ≤ n → n ≤ to → ((k : ℕ) → n ≤ k → k < to → is_stale pages has k ≡ false) → IsSoFar first pages has mark n bytes
+    → IsSoFar first pages has mark to bytes
+passes first pages has mark n to bytes some le passed so_far = record { marked = so_far.marked; long = long; rest = so_far.rest; placed = λ k least either. so_far.placed k least (all k either) }
+  where
+    all : (k : ℕ) → (k < to) ⊎ (is_stale pages has k ≡ false) → (k < n) ⊎ (is_stale pages has k ≡ false)
+    all k (inl less) = elim (cases_lt k n) [ inl below ↦ inl below | inr past ↦ inr (passed k past less) ]
+    all k (inr is) = inr is
+
+    long : 4096 * to ≤ length bytes
+    long = elim (cases_lt n to) [
+      | inl less ↦ omega (arith, less, (page_found bytes (to - 1) _ (so_far.placed (to - 1) (omega (arith, some, less)) (inr (passed (to - 1) (omega (arith, less)) (omega (arith, less)))))).0)
+      | inr past ↦ omega (arith, past, so_far.long)
+    ]
 
 -- ---- in the folder
 
 -- the file so far
-abbrev pub SoFar : List ℕ → Map → ℕ → File → File → Type 0
-SoFar first map n old new = IsSoFar first map (take 2 old.bytes) n new.bytes
+abbrev pub SoFar : List ℕ → MemPages → Written → ℕ → File → File → Type 0
+SoFar first pages has n old new = IsSoFar first pages has (take 2 old.bytes) n new.bytes
 
-pub has_first : (name : Name) (first : List ℕ) (map : Map) (piece : List ℕ) → length first ≡ 4096 → piece ≡ drop 2 first → (old new : Disk) → FileHas old name (λ file. 2 ≤ length file.bytes) → ChangesFile name (Writes 2 piece) old new
-    → ChangesFile name (SoFar first map 1) old new
-has_first name first map piece whole is old new there writes = record {
-  synced = writes.synced;
-  pending = writes.pending;
-  others = writes.others;
-  this = λ number leads. begins first map piece (take 2 (old.files number).bytes) is size (old.files number) (new.files number) (long number leads) refl (writes.this number leads);
-}
-  where
-    size : length piece ≡ 4094
-    size = ap length is ∙ omega (arith, whole, length-drop 2 first)
+module _ (name : Name) (first : List ℕ) (pages : MemPages) (has : Written) where
+  abbrev Fresh : File → Type 0
+  Fresh file = HasFresh pages has file.bytes
 
-    some_same : (a b : ℕ) → Some a ≡ Some b → a ≡ b
-    some_same a b e = cc
+  pub has_first : (piece : List ℕ) → length first ≡ 4096 → piece ≡ drop 2 first → (old new : Disk) → FileHas old name Fresh → ChangesFile name (Writes 2 piece) old new → ChangesFile name (SoFar first pages has 1) old new
+  has_first piece whole is old new there writes = record {
+    synced = writes.synced;
+    pending = writes.pending;
+    others = writes.others;
+    this = λ number leads. begins first pages has piece (take 2 (old.files number).bytes) is size (old.files number) (new.files number) (fresh number leads) refl (writes.this number leads);
+  }
+    where
+      size : length piece ≡ 4094
+      size = ap length is ∙ omega (arith, whole, length-drop 2 first)
 
-    long : (number : ℕ) → names_of old name ≡ Some number → 2 ≤ length (old.files number).bytes
-    long number leads = subst (λ (n : ℕ). 2 ≤ length (old.files n).bytes) (some_same there.number number (sym there.leads ∙ leads)) there.has
+      some_same : (a b : ℕ) → Some a ≡ Some b → a ≡ b
+      some_same a b e = cc
 
-pub has_more : (name : Name) (first : List ℕ) (map : Map) (piece : List ℕ) (at n m : ℕ) → 1 ≤ n → at ≡ 4096 * n → length piece ≡ 4096 * m → HasRun map n m piece → (old mid new : Disk)
-    → ChangesFile name (SoFar first map n) old mid → ChangesFile name (Writes at piece) mid new → ChangesFile name (SoFar first map (n + m)) old new
-has_more name first map piece at n m some place size run old mid new so_far writes =
-    file_then name (SoFar first map n) (Writes at piece) (SoFar first map (n + m)) (λ a b c one two. more first map piece (take 2 a.bytes) at n m some place size run b c one two) old mid new so_far writes
+      fresh : (number : ℕ) → names_of old name ≡ Some number → HasFresh pages has (old.files number).bytes
+      fresh number leads = subst (λ (n : ℕ). HasFresh pages has (old.files n).bytes) (some_same there.number number (sym there.leads ∙ leads)) there.has
 
--- the file is there, and long enough for the next page
-pub next_place : (name : Name) (first : List ℕ) (map : Map) (at n : ℕ) → at ≡ 4096 * n → (old new : Disk) → FileHas old name (λ file. 2 ≤ length file.bytes) → ChangesFile name (SoFar first map n) old new
-    → FileHas new name (λ file. at ≤ length file.bytes)
-next_place name first map at n place old new there so_far =
-    file_after name (SoFar first map n) (λ file. 2 ≤ length file.bytes) (λ file. at ≤ length file.bytes) (λ a b long here. omega (arith, place, here.long)) old new there so_far
+  pub has_passed : (n to : ℕ) → 1 ≤ n → n ≤ to → ((k : ℕ) → n ≤ k → k < to → is_stale pages has k ≡ false) → (old new : Disk) → ChangesFile name (SoFar first pages has n) old new → ChangesFile name (SoFar first pages has to) old new
+  has_passed n to some le passed old new so_far =
+      file_as name (SoFar first pages has n) (SoFar first pages has to) (λ a b here. passes first pages has (take 2 a.bytes) n to b.bytes some le passed here) old new so_far
 
--- all pages are written, and the file is synced
-pub has_all : (name : Name) (first : List ℕ) (map : Map) (n end : ℕ) → end ≤ n → ((k : ℕ) → end ≤ k → map k ≡ None) → (old mid new : Disk) → ChangesFile name (SoFar first map n) old mid → ChangesFile name Syncs mid new
-    → ChangesFile name (WritesBody (record { first = first; pages = map })) old new
-has_all name first map n end all none old mid new so_far syncs =
-    file_then name (SoFar first map n) Syncs (WritesBody (record { first = first; pages = map }))
-    (λ a b c here sync.
-    let now : c.bytes ≡ b.bytes = ap (λ (f : File). f.bytes) sync in
-    record {
-      mark = ap (λ (l : List ℕ). take 2 l) now ∙ here.marked;
-      has = subst (λ (bytes : List ℕ). HasBody (record { first = first; pages = map }) bytes) (sym now) (record {
-        rest = here.rest;
-        pages = λ k page least there. here.pages k page least (below k page there) there;
-        gaps = λ k above least less free some. here.gaps k least (omega (arith, less, below_some above some)) free;
-      });
-      synced = sync ∙ ap (λ (bytes : List ℕ). synced_file bytes) (sym now);
-    }) old mid new so_far syncs
-  where
-    below_some : (k : ℕ) → IsSome (map k) → k < n
-    below_some k some = elim (cases_lt k n) [
-      | inl lt ↦ lt
-      | inr past ↦ absurd (true≢false (sym (subst (λ (o : Option (List ℕ)). IsSome o) (none k (omega (arith, past, all))) some)))
-    ]
+  pub has_more : (piece : List ℕ) (at n m : ℕ) → 1 ≤ n → at ≡ 4096 * n → length piece ≡ 4096 * m → HasRun (committed_of pages) n m piece → (old mid new : Disk) → ChangesFile name (SoFar first pages has n) old mid
+      → ChangesFile name (Writes at piece) mid new → ChangesFile name (SoFar first pages has (n + m)) old new
+  has_more piece at n m some place size run old mid new so_far writes =
+      file_then name (SoFar first pages has n) (Writes at piece) (SoFar first pages has (n + m)) (λ a b c one two. more first pages has piece (take 2 a.bytes) at n m some place size run b c one two) old mid new so_far writes
 
-    below : (k : ℕ) (page : List ℕ) → map k ≡ Some page → k < n
-    below k page there = elim (cases_lt k n) [
-      | inl lt ↦ lt
-      | inr past ↦ let clash : None ≡ Some page = sym (none k (omega (arith, past, all))) ∙ there in absurd (cc)
-    ]
+  -- the file is there, and long enough for the next page
+  pub next_place : (at n : ℕ) → at ≡ 4096 * n → (old new : Disk) → FileHas old name Fresh → ChangesFile name (SoFar first pages has n) old new → FileHas new name (λ file. at ≤ length file.bytes)
+  next_place at n place old new there so_far =
+      file_after name (SoFar first pages has n) Fresh (λ file. at ≤ length file.bytes) (λ a b fresh here. omega (arith, place, here.long)) old new there so_far
+
+  -- all pages are written, and the file is synced
+  pub has_all : (n end : ℕ) → end ≤ n → ((k : ℕ) → end ≤ k → committed_of pages k ≡ None) → (old mid new : Disk) → ChangesFile name (SoFar first pages has n) old mid → ChangesFile name Syncs mid new
+      → ChangesFile name (WritesBody (record { first = first; pages = committed_of pages })) old new
+  has_all n end all none old mid new so_far syncs =
+      file_then name (SoFar first pages has n) Syncs (WritesBody (record { first = first; pages = committed_of pages }))
+      (λ a b c here sync.
+      let now : c.bytes ≡ b.bytes = ap (λ (f : File). f.bytes) sync in
+      record {
+        mark = ap (λ (l : List ℕ). take 2 l) now ∙ here.marked;
+        has = subst (λ (bytes : List ℕ). HasBody (record { first = first; pages = committed_of pages }) bytes) (sym now) (record {
+          rest = here.rest;
+          pages = λ k page least there. here.placed k least (inl (below k page there)) ∙ ap (λ (o : Option (List ℕ)). Some (page_or_zeros o)) there;
+          gaps = λ k above least less free some. here.placed k least (inl (omega (arith, less, below_some above some))) ∙ ap (λ (o : Option (List ℕ)). Some (page_or_zeros o)) free;
+        });
+        synced = sync ∙ ap (λ (bytes : List ℕ). synced_file bytes) (sym now);
+      }) old mid new so_far syncs
+    where
+      below_some : (k : ℕ) → IsSome (committed_of pages k) → k < n
+      below_some k some = elim (cases_lt k n) [
+        | inl lt ↦ lt
+        | inr past ↦ absurd (true≢false (sym (subst (λ (o : Option (List ℕ)). IsSome o) (none k (omega (arith, past, all))) some)))
+      ]
+
+      below : (k : ℕ) (page : List ℕ) → committed_of pages k ≡ Some page → k < n
+      below k page there = elim (cases_lt k n) [
+        | inl lt ↦ lt
+        | inr past ↦ let clash : None ≡ Some page = sym (none k (omega (arith, past, all))) ∙ there in absurd (cc)
+      ]

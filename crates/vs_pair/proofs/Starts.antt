@@ -1,5 +1,5 @@
 -- Both files as they are made: in each state of the names that a stop may leave, each of them is absent or whole.
-use Rattle.std.proofs.Common.{◌≡◌, ◌≢◌, ◌⊎◌, inl, inr, ℕ, Bool, true, false, not, ◌||◌, List, [], ◌∷◌, Option, Some, None, IsTrue, refl, sym, ◌∙◌, ap, subst, arith}
+use Rattle.std.proofs.Common.{◌≡◌, ◌≢◌, ◌⊎◌, inl, inr, ℕ, ◌-◌, ◌<◌, Bool, true, false, not, ◌||◌, List, [], ◌∷◌, Option, Some, None, IsSome, IsTrue, refl, sym, ◌∙◌, ap, subst, arith}
 use Rattle.std.specs.Str.{bytes_eq}
 use Rattle.std.proofs.lemmas.Bool.{true≢false, or_parts}
 use Rattle.vs_host.specs.File.{File, Leaves}
@@ -11,15 +11,19 @@ use Rattle.vs_host.proofs.Apart.{names_apart}
 use Rattle.vs_disk.specs.Images.{FileHas, FileAlways}
 use Rattle.vs_disk.proofs.Steps.{settled}
 use Rattle.vs_disk.proofs.Others.{same_then}
+use Rattle.vs_pages.specs.Maps.{Map}
+use Rattle.vs_pages.specs.Memory.{committed_of}
+use Rattle.vs_pages.specs.declared.memory.MemPages.{MemPages}
 use Rattle.vs_pair.specs.declared.gate.Gate.TheVariants.{Open}
 use Rattle.vs_pair.specs.declared.side.Side.{Side}
 use Rattle.vs_pair.specs.declared.side.Side.TheVariants.{Swp, Swo}
 use Rattle.vs_pair.specs.Acts.{Acts, NoneFails}
 use Rattle.vs_pair.specs.Swap.{Synced, Body, body_of, Holds}
-use Rattle.vs_pair.specs.Pair.{Image, name_of, temporary_of, is_foreign, is_swap, is_pair_name, RecoversOrNone, IsFit}
+use Rattle.vs_pair.specs.Pair.{Image, Known, name_of, temporary_of, is_foreign, is_swap, is_pair_name, RecoversOrNone, IsFit}
 use Rattle.vs_pair.specs.Steps.{IsAbsent, MayHold, is_neither, Makes, IsFresh, Starting}
 use Rattle.vs_pair.proofs.Acts.{acts_as, acts_then}
 use Rattle.vs_pair.proofs.MadeFiles.{neither_apart, same_weaker, synced_same, absent_stays, may_stays, has_stays}
+use Rattle.vs_pair.proofs.FreshPages.{keeps_all}
 use Rattle.vs_pair.proofs.Offers.{offers, there_some, below_some, below_none}
 
 -- ---- the names of the pair
@@ -168,9 +172,20 @@ module _ (tells : Tells) (names : Names) (are : AreNames names) (one two : Synce
       ]) none so_far acts
 
   -- when all is done
-  pub both_fit : (first second new : Disk) → IsFolder new → FileHas first names.swp (λ file. Leaves file (Holds (body_of names.file one))) → MakesSecond first second
-      → FileHas second names.swo (λ file. Leaves file (Holds (body_of names.file two))) → SyncsNames second new → IsFit (record { names = names; newer = Swo; gate = Open; generation = 2 }) new two [] (one ∷ [])
-  both_fit first second new folder has_one makes has_two syncs =
+  abbrev both_known : MemPages → ℕ → Known
+  both_known pages end = record {
+    names = names;
+    newer = Swo;
+    gate = Open;
+    generation = 2;
+    pages = pages;
+    newer_has = record { mark = 2; end = end };
+    older_has = record { mark = 2; end = end };
+  }
+
+  pub both_fit : (pages : MemPages) (end : ℕ) → one.pages ≡ committed_of pages → two.pages ≡ committed_of pages → (0 < end → IsSome (committed_of pages (end - 1))) → (first second new : Disk) → IsFolder new → FileHas first names.swp (λ file. Leaves file (Holds (body_of names.file one))) → MakesSecond first second
+      → FileHas second names.swo (λ file. Leaves file (Holds (body_of names.file two))) → SyncsNames second new → IsFit (both_known pages end) new two [] (one ∷ [])
+  both_fit pages end one_has two_has last first second new folder has_one makes has_two syncs =
       let one_there = has_stays (is_neither names.swo_new names.swo) names.swp (λ file. Leaves file (Holds (body_of names.file one))) first second (swp_apart names are) makes.spared has_one in
       let one_now = always_synced names.swp (λ file. Leaves file (Holds (body_of names.file one))) second new syncs one_there in
       let two_now = always_synced names.swo (λ file. Leaves file (Holds (body_of names.file two))) second new syncs has_two in
@@ -185,6 +200,10 @@ module _ (tells : Tells) (names : Names) (are : AreNames names) (one two : Synce
         ordered = record { member = inl refl; less = omega (arith, first_is, second_is) };
         newer_used = omega (arith, second_is);
         older_used = omega (arith, first_is);
+        newer_keeps = keeps_all pages two.pages 2 end two_has (omega arith) (λ less. subst (λ (m : Map). IsSome (m (end - 1))) (sym two_has) (last less));
+        older_keeps = keeps_all pages one.pages 2 end one_has (omega arith) (λ less. subst (λ (m : Map). IsSome (m (end - 1))) (sym one_has) (last less));
+        newer_marked = omega arith;
+        older_marked = omega arith;
         bound = omega arith;
       }
 

@@ -1,5 +1,5 @@
 -- What a function says of its work on a folder that it is lent.
-use Rattle.std.specs.Prelude.{◌≡◌, ◌≤◌, IsTrue}
+use Rattle.std.specs.Prelude.{◌≡◌, ℕ, ◌+◌, ◌≤◌, IsTrue, length}
 use Rattle.vs_host.specs.Disk.{Disk}
 use Rattle.vs_host.specs.World.{Tells, Scene, ChangesFolder}
 use Rattle.vs_disk.specs.Runs.{Runs, FailsLast}
@@ -17,3 +17,7 @@ pub record Acts (tells : Tells) (step : Disk → Disk → Type 0) (old new : Sce
 pub record NoneFails (tells : Tells) (old new : Scene) : Type 0 where
   pub faults : new.folder_faults ≡ old.folder_faults
   pub quiet : IsTrue tells.folder → Quiet old new
+
+-- Where the folder is told, at most so many calls were made on it.
+pub record CallsAtMost (tells : Tells) (old new : Scene) (most : ℕ) : Type 0 where
+  pub calls : IsTrue tells.folder → length new.trace ≤ length old.trace + most

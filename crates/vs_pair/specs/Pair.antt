@@ -8,6 +8,7 @@ use Rattle.vs_host.specs.Names.{AreNames}
 use Rattle.vs_disk.specs.Images.{FileAlways}
 use Rattle.vs_disk.specs.Names.{SameAt}
 use Rattle.vs_pages.specs.Memory.{committed_of}
+use Rattle.vs_pages.specs.declared.memory.MemPages.{MemPages}
 use Rattle.vs_text.specs.Text.{IsText, stored}
 use Rattle.vs_tree_shape.specs.Trees.{HasLines}
 use Rattle.vs_tree_blocks.specs.Blocks.{tree_format}
@@ -18,7 +19,9 @@ use Rattle.vs_pair.specs.declared.gate.Gate.TheVariants.{Open, Closed, Unknown}
 use Rattle.vs_pair.specs.declared.side.Side.{Side}
 use Rattle.vs_pair.specs.declared.side.Side.TheVariants.{Swp, Swo}
 use Rattle.vs_pair.specs.declared.pair.SwapPair.{SwapPair}
+use Rattle.vs_pair.specs.declared.written.Written.{Written}
 use Rattle.vs_pair.specs.Swap.{Synced, body_of, IsOpen, HasBody, Holds, Fits, MayBeClosed}
+use Rattle.vs_pair.specs.Stale.{Keeps}
 
 abbrev pub Image : Type 0
 Image = Name → Option (List ℕ)
@@ -101,16 +104,27 @@ RecoversOrNone names syncs older disk = (image : Image) → IsImage disk image �
 
 -- ---- a pair that was started
 
--- What a pair knows of its files: which of them has the last acknowledged sync, the gate of the other one, and the greatest
--- generation that was used.
+-- What a pair knows of its files: which of them has the last acknowledged sync, the gate of the other one, the greatest
+-- generation that was used, and what each of them has of the pages.
 pub record Known : Type 0 where
   pub names : Names
   pub newer : Side
   pub gate : Gate
   pub generation : ℕ
+  pub pages : MemPages
+  pub newer_has : Written
+  pub older_has : Written
 
 abbrev pub known_of : SwapPair → Known
-known_of pair = record { names = pair.files.names; newer = pair.files.newer; gate = pair.files.gate; generation = pair.files.generation }
+known_of pair = record {
+  names = pair.files.names;
+  newer = pair.files.newer;
+  gate = pair.files.gate;
+  generation = pair.files.generation;
+  pages = pair.pages;
+  newer_has = pair.files.newer_has;
+  older_has = pair.files.older_has;
+}
 
 -- a sync of the committed pages
 abbrev pub sync_with : SwapPair → ℕ → Head → Synced
@@ -136,7 +150,8 @@ IsOrdered Closed newest older begun past file = Unit {0}
 IsOrdered Unknown newest older begun past file = IsEarlier newest older past ⊎ IsLater newest older begun file
 
 -- The pair fits the folder. In each image the newer file stands with what the last acknowledged sync wrote, and the other one is
--- not open, or has what one of the earlier syncs wrote, or one of those that were begun since and failed.
+-- not open, or has what one of the earlier syncs wrote, or one of those that were begun since and failed. The committed pages differ
+-- from those of either file only where they are marked so.
 pub record IsFit (files : Known) (disk : Disk) (newest : Synced) (begun past : List Synced) : Type 0 where
   pub named : AreNames files.names
   pub newer_number : ℕ
@@ -148,6 +163,10 @@ pub record IsFit (files : Known) (disk : Disk) (newest : Synced) (begun past : L
   pub ordered : IsOrdered files.gate newest older_sync begun past (disk.files older_number)
   pub newer_used : newest.generation ≤ files.generation
   pub older_used : older_sync.generation ≤ files.generation
+  pub newer_keeps : Keeps Open files.pages files.newer_has newest.pages
+  pub older_keeps : Keeps files.gate files.pages files.older_has older_sync.pages
+  pub newer_marked : files.newer_has.mark ≤ files.generation
+  pub older_marked : files.older_has.mark ≤ files.generation
   pub bound : files.generation ≤ 2 ^ 63
 
 -- While a sync writes: all other names are spared, and in each image the files offer the newest sync, this one, or one that was

@@ -7,7 +7,9 @@ ghost use Rattle.vs_disk.specs.Names.{SameAt};
 ghost use Rattle.vs_zero.specs.Zero.{reading_of};
 ghost use Rattle.vs_swap.specs.Recovery.{Recovered};
 ghost use Rattle.vs_pair.specs.Swap.{Synced, Holds, body_of, zero_of};
-ghost use Rattle.vs_pair.specs.Pair.{Image, Known, is_swap, IsFit, IsBetween, IsTextOf, Offers, Recovers, Rises};
+ghost use Rattle.vs_pair.specs.Pair.{Image, Known, is_swap, IsFit, IsBetween, IsTextOf, Offers, Recovers, Rises, known_of};
+ghost use Rattle.vs_pages.specs.Changes.{KeepsMarks};
+ghost use Rattle.vs_pair.specs.declared.pair.SwapPair.{SwapPair};
 ghost use Rattle.vs_pair.specs.Steps.{IsFresh};
 
 /// Between two calls one file stands in every image for the last acknowledged sync, and what may be recovered is that sync or
@@ -33,6 +35,13 @@ pub fn leaving()
     ensures recovers { (names : Names) (old new : Disk) (syncs older : List Synced) → SameAt (is_swap names) old new → Recovers names syncs older old → Recovers names syncs older new }
     ensures rises { (names : Names) (start old new : Disk) → SameAt (is_swap names) old new → Rises names start old → Rises names start new }
     ensures names { (names : Names) (old new : Disk) → SyncsNames old new → SameAt (is_swap names) old new }
+{}
+
+/// Pages that changed leave all that is said of the files, as long as each change that was committed is marked with the
+/// greatest generation that was used, or more.
+pub fn changing()
+    ensures { (old new : SwapPair) (disk : Disk) (newest : Synced) (begun past : List Synced) → new.files ≡ old.files → KeepsMarks old.files.generation old.pages new.pages
+        → IsFit (known_of old) disk newest begun past → IsFit (known_of new) disk newest begun past }
 {}
 
 /// A folder in which nothing is pending, and neither swap file is there, is fresh.

@@ -35,18 +35,18 @@ impl<'p, 'h, F: Folder> Pages for PairPages<'p, 'h, F> {
     ghost valid = { λ store. IsTrue F.tells.folder → IsReady store.pair.now (F.scene store.host.now).folder };
 
     ghost stays = { λ old new. (new.pair.ghost_name ≡ old.pair.ghost_name) × (new.host.ghost_name ≡ old.host.ghost_name)
-        × KeepsFiles F.tells old.pair.now.files new.pair.now.files (F.scene old.host.now) (F.scene new.host.now) };
+        × KeepsFiles F.tells old.pair.now new.pair.now (F.scene old.host.now) (F.scene new.host.now) };
 
     ghost present_pages = { λ store valid told. are_present store.pair.now.pages };
 
     ghost committed_pages = { λ store valid told. are_committed store.pair.now.pages };
 
-    ghost stays_itself = { λ store. (refl, refl, keeps_none F.tells store.pair.now.files (F.scene store.host.now)) };
+    ghost stays_itself = { λ store. (refl, refl, keeps_none F.tells store.pair.now (F.scene store.host.now)) };
 
     ghost stays_on = { λ p q r first second. (
       second.0 ∙ first.0,
       second.1 ∙ first.1,
-      keeps_then F.tells p.pair.now.files q.pair.now.files r.pair.now.files (F.scene p.host.now) (F.scene q.host.now) (F.scene r.host.now) first.2 second.2,
+      keeps_then F.tells p.pair.now q.pair.now r.pair.now (F.scene p.host.now) (F.scene q.host.now) (F.scene r.host.now) first.2 second.2,
     ) };
 
     fn load(
@@ -88,7 +88,8 @@ impl<'p, 'h, F: Folder> Pages for PairPages<'p, 'h, F> {
     }
 
     fn commit(&mut self) {
-        self.pair.pages.commit();
+        let generation = self.pair.files.generation;
+        self.pair.pages.commit_marked(generation);
     }
 
     fn rollback(&mut self) {

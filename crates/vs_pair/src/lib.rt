@@ -10,13 +10,15 @@ mod lent;
 mod making;
 mod pair;
 mod side;
+mod stale;
 mod start;
 mod writing;
+mod written;
 
 pub use files::SwapFiles;
 pub use gate::Gate;
 pub use head::Head;
-pub use laws::{beginning, fitting, leaving, recovering};
+pub use laws::{beginning, changing, fitting, leaving, recovering};
 pub use lent::PairPages;
 pub use pair::SwapPair;
 pub use side::Side;

@@ -11,6 +11,7 @@ ghost use Rattle.vs_pair.specs.Swap.{Holds};
 ghost use Rattle.vs_pair.specs.Steps.{IsAbsent, Makes, is_not};
 
 use crate::writing::{OPEN, write_pages};
+use crate::written::Written;
 use vs_host::{Failed, Folder};
 use vs_pages::MemPages;
 
@@ -47,6 +48,6 @@ pub(crate) fn make_file<F: Folder>(
     clear(host, temporary)?;
     host.create_private(temporary)?;
     host.write_at(temporary, 0, OPEN)?;
-    write_pages(host, temporary, first, pages)?;
+    write_pages(host, temporary, first, pages, &Written::NOTHING)?;
     host.rename(temporary, name)
 }

@@ -1,16 +1,18 @@
 // The swap pair of a session.
-ghost use Rattle.std.specs.Prelude.{◌≡◌, ◌+◌, ◌<◌, ◌≤◌, ◌^◌, ◌∷◌, [], ℕ, List, OnOk, OnErr, IfOk, IsErr, IsTrue};
+ghost use Rattle.std.specs.Prelude.{◌≡◌, ◌+◌, ◌<◌, ◌≤◌, ◌^◌, ◌∷◌, [], ℕ, List, None, OnOk, OnErr, IfOk, IsErr, IsTrue};
 ghost use Rattle.vs_faults.specs.Faults.{HasCause};
 ghost use Rattle.vs_host.specs.Names.{AreNames, is_allowed, names_of_file};
 ghost use Rattle.vs_pages.specs.Maps.{first_pages};
 ghost use Rattle.vs_pages.specs.Memory.{committed_of, present_of};
-ghost use Rattle.vs_pair.specs.Acts.{Acts, NoneFails};
+ghost use Rattle.vs_pair.specs.Acts.{Acts, CallsAtMost, NoneFails};
 ghost use Rattle.vs_pair.specs.Swap.{Synced, page_zero};
 ghost use Rattle.vs_pair.specs.Pair.{IsFit, Syncing, IsTextOf, Rises};
+ghost use Rattle.vs_pair.specs.Stale.{IsEnd, stale_below};
 
 use crate::head::page_zero;
 use crate::side::{Side, swap_name};
 use crate::writing::sync_file;
+use crate::written::Written;
 use crate::{Gate, Head, SwapFiles};
 use std::alloc::{AllocError, Global};
 use vs_host::{Failed, Folder, NameErr, Names};
@@ -48,12 +50,15 @@ impl SwapPair {
                 names,
                 newer: Side::Swo,
                 gate: Gate::Open,
+                newer_has: Written::NOTHING,
+                older_has: Written::NOTHING,
                 generation: 0,
             },
         })
     }
 
-    /// Writes the committed pages into the file that does not hold the last acknowledged sync, which is then the newer one.
+    /// Brings the file that does not hold the last acknowledged sync to the committed pages, and it is then the newer one. Only
+    /// the pages in which it may differ are written: those that changed since it was synced, and all after a sync of it failed.
     pub fn sync<F: Folder>(&mut self, host: &mut F, head: &Head) -> Result<(), Failed>
         requires started { 2 ≤ self.old.files.generation }
         requires room { self.old.files.generation < 2 ^ 63 }
@@ -75,14 +80,28 @@ impl SwapPair {
         ensures generation { self.new.files.generation ≡ self.old.files.generation + 1 }
         ensures none { OnOk result (NoneFails F.tells (F.scene host.old) (F.scene host.new)) }
         ensures cause { HasCause (F.scene host.old).folder_faults (F.scene host.new).folder_faults (IsErr result) }
+
+        // Six calls and one for each page that may differ in the file, at most. What may differ is what was committed since it was synced.
+        ensures calls { (end : ℕ) → IsEnd self.old.pages end
+            → CallsAtMost F.tells (F.scene host.old) (F.scene host.new) (6 + stale_below self.old.pages self.old.files.older_has end) }
+        ensures turned { OnOk result (self.new.files.older_has ≡ self.old.files.newer_has) }
+        ensures marked { OnOk result (self.new.files.newer_has.mark ≡ self.new.files.generation) }
+        ensures ended { OnOk result ((k : ℕ) → self.new.files.newer_has.end ≤ k → committed_of self.old.pages k ≡ None) }
     {
         let files = &mut self.files;
         files.generation += 1;
         let older = files.newer.other();
         let first = page_zero(files.names.file.as_str(), files.generation, head);
         let name = swap_name(&files.names, older);
-        sync_file(host, name, &mut files.gate, &first, &self.pages)?;
+        let had = files.older_has;
+        files.older_has = Written::NOTHING;
+        sync_file(host, name, &mut files.gate, &first, &self.pages, &had)?;
         files.newer = older;
+        files.older_has = files.newer_has;
+        files.newer_has = Written {
+            mark: files.generation,
+            end: self.pages.committed_end(),
+        };
         Ok(())
     }
 }

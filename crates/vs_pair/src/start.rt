@@ -11,6 +11,7 @@ ghost use Rattle.vs_disk.specs.Images.{FileHas};
 use crate::head::page_zero;
 use crate::making::make_file;
 use crate::side::{swap_name, temporary_name};
+use crate::written::Written;
 use crate::{Gate, Head, Side, SwapPair};
 use vs_host::{Failed, Folder};
 
@@ -62,6 +63,12 @@ impl SwapPair {
         self.files.newer = Side::Swo;
         self.files.gate = Gate::Open;
         self.files.generation = 2;
+        let both = Written {
+            mark: 2,
+            end: self.pages.committed_end(),
+        };
+        self.files.newer_has = both;
+        self.files.older_has = both;
         Ok(())
     }
 }

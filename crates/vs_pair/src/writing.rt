@@ -1,24 +1,25 @@
 // How one swap file is written: its gate is closed, then the pages are written after it, then the gate is opened.
-ghost use Rattle.std.specs.Prelude.{◌≡◌, ◌≢◌, ◌≤◌, ◌+◌, ◌*◌, ◌^◌, ℕ, List, Some, None, length, OnOk, OnErr, IsErr, IsTrue};
+ghost use Rattle.std.specs.Prelude.{◌≡◌, ◌≢◌, ◌≤◌, ◌+◌, ◌*◌, ◌^◌, ℕ, true, false, length, OnOk, OnErr, IsErr, IsTrue};
 ghost use Rattle.vs_faults.specs.Faults.{HasCause};
 ghost use Rattle.vs_host.specs.File.{Leaves, put};
 ghost use Rattle.vs_host.specs.Disk.{ChangesFile, Name};
 ghost use Rattle.vs_disk.specs.Images.{FileHas, KeepsImages};
 ghost use Rattle.vs_pages.specs.Memory.{committed_of};
-ghost use Rattle.vs_pair.specs.Acts.{Acts, NoneFails};
-ghost use Rattle.vs_pair.specs.Writes.{HasRun};
-ghost use Rattle.vs_pair.specs.Swap.{Body, Holds, HasMark, ChangesMark, KeepsMark, WritesBody, Fits, CloseStep, Closes, SyncStep, FailedSync, open_mark, zeros_page};
+ghost use Rattle.vs_pair.specs.Acts.{Acts, CallsAtMost, NoneFails};
+ghost use Rattle.vs_pair.specs.Stale.{HasFresh, IsEnd, Keeps, stale_below};
+ghost use Rattle.vs_pair.specs.Writes.{HasRun, page_or_zeros};
+ghost use Rattle.vs_pair.specs.Swap.{Body, Holds, HasMark, ChangesMark, KeepsMark, WritesBody, Fits, CloseStep, Closes, SyncStep, FailedSync, open_mark};
 
 use crate::Gate;
+use crate::stale::{next_stale, stale_run};
+use crate::written::Written;
 use vs_host::{Failed, Folder};
 use vs_pages::{MemPages, PAGE_SIZE};
 
 // a page of zeros
 const ZEROS: [u8; PAGE_SIZE] = [0; PAGE_SIZE];
 
-// How many pages one write has at most, so that a sync of a large text makes few calls, and their bytes.
-const RUN_PAGES: u64 = 16;
-
+// The bytes of the most pages that one write has.
 const RUN_SIZE: usize = 65_536;
 
 // the identifier of an open swap file, and that of a closed one
@@ -37,6 +38,7 @@ fn mark<F: Folder>(host: &mut F, name: &str, identifier: &[u8]) -> Result<(), Fa
     ensures failed { OnErr result (IsTrue F.tells.folder → ChangesFile name.now KeepsImages (F.scene host.old).folder (F.scene host.new).folder) }
     ensures none { OnOk result (NoneFails F.tells (F.scene host.old) (F.scene host.new)) }
     ensures cause { HasCause (F.scene host.old).folder_faults (F.scene host.new).folder_faults (IsErr result) }
+    ensures calls { CallsAtMost F.tells (F.scene host.old) (F.scene host.new) 2 }
 {
     host.write_at(name, 0, identifier)?;
     host.sync(name)
@@ -45,8 +47,7 @@ fn mark<F: Folder>(host: &mut F, name: &str, identifier: &[u8]) -> Result<(), Fa
 // The bytes that a page number has in the file: those of the committed page, and zeros where there is none.
 fn page_or_zeros(pages: &MemPages, at: u64) -> &[u8]
     ensures size { length result.now ≡ 4096 }
-    ensures page { (page : List ℕ) → committed_of pages.now at ≡ Some page → result.now ≡ page }
-    ensures zeros { committed_of pages.now at ≡ None → result.now ≡ zeros_page }
+    ensures bytes { result.now ≡ page_or_zeros (committed_of pages.now at) }
 {
     match pages.committed_page(at) {
         Some(page) => page,
@@ -74,16 +75,16 @@ fn fill_run(pages: &MemPages, at: u64, count: u64, run: &mut [u8])
     }
 }
 
-// Writes all that stands after the identifier, the pages in runs, and syncs the file. What `first` has before that is not
-// written.
+// Writes the rest of page 0 after its identifier, and in runs the pages that may differ in the file, and syncs it.
 pub(crate) fn write_pages<F: Folder>(
     host: &mut F,
     name: &str,
     first: &[u8],
     pages: &MemPages,
+    written: &Written,
 ) -> Result<(), Failed>
     requires size { length first.now ≡ 4096 }
-    requires there { IsTrue F.tells.folder → FileHas (F.scene host.old).folder name.now (λ file. 2 ≤ length file.bytes) }
+    requires there { IsTrue F.tells.folder → FileHas (F.scene host.old).folder name.now (λ file. HasFresh pages.now written.now file.bytes) }
 
     // At each moment each image has an identifier from before.
     ensures acts { Acts F.tells (ChangesFile name.now KeepsMark) (F.scene host.old) (F.scene host.new) }
@@ -91,17 +92,18 @@ pub(crate) fn write_pages<F: Folder>(
         → ChangesFile name.now (WritesBody (record { first = first.now; pages = committed_of pages.now })) (F.scene host.old).folder (F.scene host.new).folder) }
     ensures none { OnOk result (NoneFails F.tells (F.scene host.old) (F.scene host.new)) }
     ensures cause { HasCause (F.scene host.old).folder_faults (F.scene host.new).folder_faults (IsErr result) }
+    ensures calls { (end : ℕ) → IsEnd pages.now end → CallsAtMost F.tells (F.scene host.old) (F.scene host.new) (2 + stale_below pages.now written.now end) }
 {
     host.write_at(name, 2, &first[2..])?;
     let mut run = [0; RUN_SIZE];
     let end = pages.committed_end();
-    let mut at = 1;
+    let mut at = next_stale(pages, written, 1, end);
     'runs: while at < end {
-        let count = RUN_PAGES.min(end - at);
+        let count = stale_run(pages, written, at, end);
         fill_run(pages, at, count, &mut run);
         let size = count as usize * PAGE_SIZE;
         host.write_at(name, at * PAGE_SIZE as u64, &run[..size])?;
-        at += count;
+        at = next_stale(pages, written, at + count, end);
     }
     host.sync(name)
 }
@@ -117,6 +119,7 @@ fn close_gate<F: Folder>(host: &mut F, name: &str, gate: &mut Gate) -> Result<()
     ensures failed { OnErr result (IsTrue F.tells.folder → ChangesFile name.now KeepsImages (F.scene host.old).folder (F.scene host.new).folder) }
     ensures none { OnOk result (NoneFails F.tells (F.scene host.old) (F.scene host.new)) }
     ensures cause { HasCause (F.scene host.old).folder_faults (F.scene host.new).folder_faults (IsErr result) }
+    ensures calls { CallsAtMost F.tells (F.scene host.old) (F.scene host.new) 2 }
 {
     match *gate {
         Gate::Closed => Ok(()),
@@ -139,6 +142,7 @@ fn open_gate<F: Folder>(host: &mut F, name: &str, gate: &mut Gate) -> Result<(),
     ensures failed { OnErr result (IsTrue F.tells.folder → ChangesFile name.now KeepsImages (F.scene host.old).folder (F.scene host.new).folder) }
     ensures none { OnOk result (NoneFails F.tells (F.scene host.old) (F.scene host.new)) }
     ensures cause { HasCause (F.scene host.old).folder_faults (F.scene host.new).folder_faults (IsErr result) }
+    ensures calls { CallsAtMost F.tells (F.scene host.old) (F.scene host.new) 2 }
 {
     *gate = Gate::Unknown;
     mark(host, name, OPEN)?;
@@ -146,16 +150,17 @@ fn open_gate<F: Folder>(host: &mut F, name: &str, gate: &mut Gate) -> Result<(),
     Ok(())
 }
 
-// Syncs the file: closes its gate, writes the pages after it, and opens it.
+// Syncs the file: closes its gate, writes the pages that may differ after it, and opens it.
 pub(crate) fn sync_file<F: Folder>(
     host: &mut F,
     name: &str,
     gate: &mut Gate,
     first: &[u8],
     pages: &MemPages,
+    written: &Written,
 ) -> Result<(), Failed>
     requires size { length first.now ≡ 4096 }
-    requires fits { IsTrue F.tells.folder → (before : Body) × FileHas (F.scene host.old).folder name.now (Fits gate.old before) }
+    requires fits { IsTrue F.tells.folder → (before : Body) × FileHas (F.scene host.old).folder name.now (Fits gate.old before) × Keeps gate.old pages.now written.now before.pages }
 
     // At each moment each image is not open, or has the body before or this one.
     ensures acts { Acts F.tells (ChangesFile name.now (SyncStep gate.old (record { first = first.now; pages = committed_of pages.now }))) (F.scene host.old) (F.scene host.new) }
@@ -166,8 +171,9 @@ pub(crate) fn sync_file<F: Folder>(
         → ChangesFile name.now (FailedSync gate.old gate.new (record { first = first.now; pages = committed_of pages.now })) (F.scene host.old).folder (F.scene host.new).folder) }
     ensures none { OnOk result (NoneFails F.tells (F.scene host.old) (F.scene host.new)) }
     ensures cause { HasCause (F.scene host.old).folder_faults (F.scene host.new).folder_faults (IsErr result) }
+    ensures calls { (end : ℕ) → IsEnd pages.now end → CallsAtMost F.tells (F.scene host.old) (F.scene host.new) (6 + stale_below pages.now written.now end) }
 {
     close_gate(host, name, gate)?;
-    write_pages(host, name, first, pages)?;
+    write_pages(host, name, first, pages, written)?;
     open_gate(host, name, gate)
 }

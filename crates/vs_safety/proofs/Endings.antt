@@ -5,6 +5,7 @@ use Rattle.std.proofs.lemmas.Bool.{cases_lt}
 use Rattle.vs_host.specs.Disk.{Disk, IsImage}
 use Rattle.vs_host.specs.Trace.{WroteOutput, Snapshot, Each}
 use Rattle.vs_host.specs.World.{Scene, IsRecorded, LeavesTrace, snapshot_of}
+use Rattle.vs_host.specs.Names.{AreNames}
 use Rattle.vs_host.specs.declared.names.Names.{Names}
 use Rattle.vs_disk.specs.Names.{SameAt}
 use Rattle.std.specs.Prelude.{None}
@@ -14,11 +15,12 @@ use Rattle.vs_disk.proofs.Others.{same_then}
 use Rattle.vs_pair.proofs.MadeFiles.{same_weaker}
 use Rattle.vs_pair.specs.Pair.{Image, NoneThere, is_foreign}
 use Rattle.vs_safety.specs.Texts.{Text, recoverable, Recovers, RecoversOrNone, IsBetween}
-use Rattle.vs_safety.specs.Turns.{Turn, Ran, quit_run, all_turns, behind, all_written, after_turns, opened, replies, quit_line, SparesOthers}
+use Rattle.vs_safety.specs.Turns.{Turn, Ran, quit_run, all_turns, behind, all_written, after_turns, opened, replies, quit_line, SparesOthers, KeepsUndo}
 use Rattle.vs_safety.specs.Stretches.{HasStretch, IsShorter}
 use Rattle.vs_safety.specs.Safety.{IsFirstPart, opened_at, IsSafe, IsCrashSafe, Spares, Works, Writes}
-use Rattle.vs_safety.specs.Going.{Sound, Course, HasEnded, Opened, Going, Halted, IsStill}
+use Rattle.vs_safety.specs.Going.{Sound, Course, HasEnded, Opened, Going, Halted, IsStill, UndoStands}
 use Rattle.vs_safety.proofs.Texts.{or_none, between_recovers}
+use Rattle.vs_safety.proofs.UndoFiles.{undo_foreign, undo_none, undo_spared}
 use Rattle.vs_safety.proofs.Splits.{each_weaker}
 use Rattle.vs_safety.proofs.Moments.{part_same, part_of, part_then, ended_stretch, total, kept_before, kept_whole, course_more, works_sound, shorter}
 
@@ -76,9 +78,15 @@ module _ (names : Names) (start : Scene) (text : Text) (opening : List ℕ) (som
     stretches = tt;
   }
 
-  pub opening_ends : (now : Scene) → start.folder.pending ≡ [] → RecoversOrNone names (text ∷ []) start.folder → Works names None (RecoversOrNone names (text ∷ [])) start now → IsBetween names (opened text) now.folder
+  pub opening_ends : (now : Scene) → AreNames names → start.folder.pending ≡ [] → RecoversOrNone names (text ∷ []) start.folder → Works names None (RecoversOrNone names (text ∷ [])) start now → IsBetween names (opened text) now.folder
       → Opened names start now text opening
-  opening_ends now settled at_start works between = record { moments = works.moments.added; course = opening_course now settled at_start works; output = works.output; between = between }
+  opening_ends now are settled at_start works between = record {
+    moments = works.moments.added;
+    course = opening_course now settled at_start works;
+    output = works.output;
+    between = between;
+    undo = record { foreign = undo_foreign names are; keeps = undo_none names start.folder now.folder (undo_foreign names are) works.spared };
+  }
 
   -- it was opened, and a call that comes before the reply had no memory
   pub opened_halts : (now : Scene) → Opened names start now text opening → Halted names start now text opening []
@@ -98,6 +106,9 @@ module _ (names : Names) (start : Scene) (text : Text) (opening : List ℕ) (som
     grown = ap (λ (l : List ℕ). length l) writes.output ∙ length-append now.output (take n opening)
         ∙ (λ i. length (opened_here.output i) + length-take n opening i)
 
+    undo : UndoStands names start.folder [] new.folder
+    undo = subst (λ (d : Disk). UndoStands names start.folder [] d) (sym writes.folder) opened_here.undo
+
     spared : SparesOthers names [] start.folder new.folder
     spared = subst (λ (d : Disk). SparesOthers names [] start.folder d) (sym writes.folder) opened_here.course.spared
 
@@ -106,7 +117,7 @@ module _ (names : Names) (start : Scene) (text : Text) (opening : List ℕ) (som
       output = part_same new.output;
       kept = elim (cases_lt (length new.output) (opened_at start opening)) [
         | inl lt ↦ kept_before names start text opening [] (snapshot_of new WroteOutput []) lt (or_none names (text ∷ []) new.folder all_recovers) (spared (is_foreign names) (λ name is. is) tt)
-        | inr le ↦ kept_whole names start text opening [] (snapshot_of new WroteOutput []) (omega (arith, le)) all_recovers spared
+        | inr le ↦ kept_whole names start text opening [] (snapshot_of new WroteOutput []) (omega (arith, le)) all_recovers spared undo.keeps
       ];
     }
 
@@ -154,6 +165,7 @@ module _ (names : Names) (start : Scene) (text : Text) (opening : List ℕ) (som
               (shorter names start text opening (length new.output) now [] opened_here.moments (omega (arith, grown, le, some, ap (λ (l : List ℕ). length l) opened_here.output)) opened_here.course),
         );
         between = subst (λ (d : Disk). IsBetween names (opened text) d) (sym writes.folder) opened_here.between;
+        undo = undo;
       }
     ]
 
@@ -202,6 +214,7 @@ module _ (names : Names) (start now : Scene) (text : Text) (opening : List ℕ) 
             recovers = inside.folder.folder;
             gone = λ lt. absurd (omega (arith, lt, long, long_now));
             spared = spared_on names turns start.folder now.folder m.folder going.course.spared inside.folder.spared;
+            undo = undo_spared names start.folder now.folder m.folder turns going.undo.foreign inside.folder.spared going.undo.keeps;
           });
         }
 
@@ -230,6 +243,7 @@ module _ (names : Names) (start now : Scene) (text : Text) (opening : List ℕ) 
                 recovers = λ image whole. inl (none image whole);
                 gone = λ lt. none;
                 spared = subst (λ (d : Disk). SparesOthers names turns start.folder d) (sym writes.folder) (spared_on names turns start.folder now.folder mid.folder going.course.spared works.spared);
+                undo = subst (λ (d : Disk). KeepsUndo names start.folder turns [] d) (sym writes.folder) (undo_spared names start.folder now.folder mid.folder turns going.undo.foreign works.spared going.undo.keeps);
               });
             },
             before,

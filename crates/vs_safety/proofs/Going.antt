@@ -11,12 +11,13 @@ use Rattle.vs_host.specs.declared.names.Names.{Names}
 use Rattle.vs_disk.proofs.Runs.{Each-append, Each-weaker}
 use Rattle.vs_safety.specs.Texts.{Text, Sync, recoverable, Recovers, IsFlag, IsBetween}
 use Rattle.vs_safety.specs.Writes.{State, state_in, state_now}
-use Rattle.vs_safety.specs.FileWork.{HasLeft, IsWholeAt}
-use Rattle.vs_safety.specs.Turns.{Turn, with_sync, with_begun, after_turns, opened, replies, SparesOthers}
+use Rattle.vs_safety.specs.FileWork.{HasLeft, IsFoundIn, IsWholeAt, Keeps}
+use Rattle.vs_safety.specs.Turns.{Turn, with_sync, with_begun, after_turns, opened, replies, KeepsUndo, SparesOthers}
 use Rattle.vs_safety.specs.Stretches.{IsFirst, IsShorter, EachTurn, HasStretch}
-use Rattle.vs_safety.specs.Safety.{IsFirstPart, opened_at, Looks, Writes, Stepped, IsUnderWay, Spares}
-use Rattle.vs_safety.specs.Going.{Sound, Course, HasEnded, Going, Stepping, Halted, IsStill}
+use Rattle.vs_safety.specs.Safety.{IsFirstPart, opened_at, Looks, Writes, Stepped, IsUnderWay}
+use Rattle.vs_safety.specs.Going.{Sound, Course, HasEnded, Going, Stepping, Halted, IsStill, UndoStands}
 use Rattle.vs_safety.proofs.Texts.{recovers_more, ended_within, between_recovers}
+use Rattle.vs_safety.proofs.UndoFiles.{undo_moment, undo_end, undo_under_way, undo_ended, undo_begun}
 use Rattle.vs_safety.proofs.Splits.{replies_push, after_push, long_push, each_weaker, each_push}
 use Rattle.vs_safety.proofs.Moments.{part_same, part_of, first_stays, ended_stays, ended_stretch, total, kept_whole, kept_part, course_more, course_push, works_sound, spared_step, written_found, shorter}
 
@@ -48,7 +49,8 @@ module _ (names : Names) (start : Scene) (text : Text) (opening : List ℕ) wher
               output = part_of m.output new.output (looks.output ∙ sym same.0);
               kept = kept_whole names start text opening turns m (omega (arith, long, ap (λ (l : List ℕ). length l) same.0))
                   (subst (λ (d : Disk). Recovers names (recoverable (syncs turns)) d) (sym same.1) (between_recovers names (syncs turns) now.folder going.between))
-                  (subst (λ (d : Disk). SparesOthers names turns start.folder d) (sym same.1) going.course.spared);
+                  (subst (λ (d : Disk). SparesOthers names turns start.folder d) (sym same.1) going.course.spared)
+                  (subst (λ (d : Disk). KeepsUndo names start.folder turns [] d) (sym same.1) going.undo.keeps);
             })
             newer looks.moments.each)
             (subst (λ (d : Disk). SparesOthers names turns start.folder d) (sym looks.folder) going.course.spared) going.course;
@@ -61,6 +63,7 @@ module _ (names : Names) (start : Scene) (text : Text) (opening : List ℕ) wher
             (Each-weaker (λ m. (m.output ≡ now.output) × (m.folder ≡ now.folder)) (IsStill new) (λ m same le. same.1 ∙ sym looks.folder) newer looks.moments.each)
             (Each-weaker (IsStill now) (IsStill new) (λ m still le. still (omega (arith, le, ap (λ (l : List ℕ). length l) looks.output)) ∙ sym looks.folder) going.moments going.still);
         between = subst (λ (d : Disk). IsBetween names (syncs turns) d) (sym looks.folder) going.between;
+        undo = subst (λ (d : Disk). UndoStands names start.folder turns d) (sym looks.folder) going.undo;
       }
 
   -- the run stops between two commands
@@ -80,26 +83,34 @@ module _ (names : Names) (start : Scene) (text : Text) (opening : List ℕ) wher
       let more : length now.output < at (turns ++ turn ∷ []) = omega (arith, long, long_push turn turns, some) in
       let folder : going.here.folder ≡ now.folder = ap (λ (s : State). s.folder) going.state in
       let faults : going.here.folder_faults ≡ now.folder_faults = ap (λ (s : State). s.faults) going.state in
+      let found_here : IfSome turn.write (λ work. IsFoundIn work now.folder) = written_found names turn.write turn.done turn.failed (state_now now) (state_now new) stepped.wrote in
+      let undo_at : (d : Disk) → Keeps names turn.write now.folder d → IfSome turn.write (λ work. IsWholeAt names work d) → KeepsUndo names start.folder turns (turn ∷ []) d =
+      λ d keeps whole. undo_under_way names start.folder turn turns now.folder d going.undo.keeps (undo_moment names turn.write now.folder d going.undo.foreign found_here keeps whole) in
       let under : Disk → Type 0 = IsUnderWay names (with_begun turn.sync (syncs turns)) turn.write in
       record {
         moments = newer ++ going.moments;
         course = course_more names start text opening now new (turns ++ turn ∷ []) going.moments newer stepped.works.moments.is (part_of now.output new.output stepped.works.output)
             (works_sound names start text opening turn.write under now new (turns ++ turn ∷ [])
             (λ m same all. kept_part names start text opening turn turns m (omega (arith, same, long)) (omega (arith, same, more)) all.folder
-            (spared_step names turn turns start.folder now.folder m.folder going.course.settled going.course.spared all.spared)) stepped.works)
+            (spared_step names turn turns start.folder now.folder m.folder going.course.settled going.course.spared all.spared)
+            (undo_at m.folder all.spared all.folder.whole)) stepped.works)
             (spared_step names turn turns start.folder now.folder new.folder going.course.settled going.course.spared stepped.works.spared)
-            (course_push names start text opening now turn turns going.moments long more going.still
-            (written_found names turn.write turn.done (state_now now) (state_now new) stepped.wrote) going.course);
+            (course_push names start text opening now turn turns going.moments long more going.still found_here going.course);
         output = stepped.works.output ∙ going.output;
         ended = ended_on going.moments newer turns going.ended;
         here = going.here;
         begins = subst (λ (l : List ℕ). IsFirst (length l) (newer ++ going.moments) going.here) (sym stepped.works.output) (first_stays (length now.output) going.moments newer going.here going.begins);
         found = subst (λ (d : Disk). IfSome turn.found (λ found. found ≡ d)) (sym folder) stepped.found;
         flag = subst (λ (d : Disk). IfSome turn.sync (λ sync. IsFlag names turn.done d new.folder sync.acknowledged)) (sym folder) stepped.flag;
-        wrote = subst (λ (s : State). IfSome turn.write (λ work. HasLeft names work turn.done s (state_now new))) (sym going.state) stepped.wrote;
+        wrote = subst (λ (s : State). IfSome turn.write (λ work. HasLeft names work turn.done turn.failed s (state_now new))) (sym going.state) stepped.wrote;
         cause = λ failed. subst (λ (n : ℕ). HasRisen n new.folder_faults) (sym faults) (stepped.cause failed);
         whole = stepped.whole;
         between = stepped.between;
+        undo = record {
+          foreign = going.undo.foreign;
+          keeps = undo_ended names start.folder turn turns new.folder (undo_at new.folder stepped.works.spared stepped.whole)
+              (undo_end names turn (state_now now) (state_now new) stepped.wrote);
+        };
       }
 
   -- ---- its reply
@@ -130,8 +141,10 @@ module _ (names : Names) (start : Scene) (text : Text) (opening : List ℕ) wher
               whole = subst (λ (d : Disk). IfSome turn.write (λ work. IsWholeAt names work d)) (sym folder) stepping.whole;
             })
             (subst (λ (d : Disk). SparesOthers names more_turns start.folder d) (sym folder) stepping.course.spared)
+            (subst (λ (d : Disk). KeepsUndo names start.folder turns (turn ∷ []) d) (sym folder) (undo_begun names start.folder turn turns now.folder stepping.undo.keeps))
         | inr ge ↦ kept_whole names start text opening more_turns m ge (subst (λ (d : Disk). Recovers names (recoverable (syncs more_turns)) d) (sym folder) (between_recovers names (syncs more_turns) now.folder between_now))
             (subst (λ (d : Disk). SparesOthers names more_turns start.folder d) (sym folder) stepping.course.spared)
+            (subst (λ (d : Disk). KeepsUndo names start.folder more_turns [] d) (sym folder) stepping.undo.keeps)
       ];
     }
 
@@ -174,7 +187,7 @@ module _ (names : Names) (start : Scene) (text : Text) (opening : List ℕ) wher
                     ends = subst (λ (n : ℕ). IsFirst n (m ∷ stepping.moments) m) long here;
                     found = stepping.found;
                     flag = subst (λ (d : Disk). IfSome turn.sync (λ sync. IsFlag names turn.done stepping.here.folder d sync.acknowledged)) (sym writes.folder) stepping.flag;
-                    wrote = subst (λ (s : State). IfSome turn.write (λ work. HasLeft names work turn.done (state_in stepping.here) s)) (sym same_state) stepping.wrote;
+                    wrote = subst (λ (s : State). IfSome turn.write (λ work. HasLeft names work turn.done turn.failed (state_in stepping.here) s)) (sym same_state) stepping.wrote;
                     cause = λ failed. subst (λ (n : ℕ). HasRisen stepping.here.folder_faults n) (sym writes.faults) (stepping.cause failed);
                   });
               here = m;
@@ -186,6 +199,7 @@ module _ (names : Names) (start : Scene) (text : Text) (opening : List ℕ) wher
                     (shorter names start text opening (length new.output) now more_turns stepping.moments (omega (arith, grown, some)) stepping.course),
               );
               between = subst (λ (d : Disk). IsBetween names (syncs more_turns) d) (sym writes.folder) between_now;
+              undo = subst (λ (d : Disk). UndoStands names start.folder more_turns d) (sym writes.folder) stepping.undo;
             }
 
     -- the run ends before it is whole
@@ -215,7 +229,7 @@ module _ (names : Names) (start : Scene) (text : Text) (opening : List ℕ) wher
                 ends = inr (shorter names start text opening (at more_turns) new more_turns (newer ++ stepping.moments) lt course, refl);
                 found = stepping.found;
                 flag = subst (λ (d : Disk). IfSome turn.sync (λ sync. IsFlag names turn.done stepping.here.folder d sync.acknowledged)) (sym folder) stepping.flag;
-                wrote = subst (λ (s : State). IfSome turn.write (λ work. HasLeft names work turn.done (state_in stepping.here) s)) (λ i. record { folder = sym folder i; faults = sym faults i }) stepping.wrote;
+                wrote = subst (λ (s : State). IfSome turn.write (λ work. HasLeft names work turn.done turn.failed (state_in stepping.here) s)) (λ i. record { folder = sym folder i; faults = sym faults i }) stepping.wrote;
                 cause = λ failed. subst (λ (k : ℕ). HasRisen stepping.here.folder_faults k) (sym faults) (stepping.cause failed);
               });
         }

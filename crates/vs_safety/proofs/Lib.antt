@@ -1,4 +1,5 @@
 pub mod Texts
+pub mod UndoFiles
 pub mod Splits
 pub mod Moments
 pub mod Going

@@ -14,9 +14,9 @@ use Rattle.vs_pair.specs.Pair.{is_foreign}
 use Rattle.vs_pair.proofs.MadeFiles.{same_weaker}
 use Rattle.vs_safety.specs.Texts.{Text, recoverable, Recovers, RecoversOrNone}
 use Rattle.vs_safety.specs.Writes.{AreForeign, IsWholeIn, State, Write, state_in}
-use Rattle.vs_safety.specs.Undo.{IsUndoIn, UndoWrite}
-use Rattle.vs_safety.specs.FileWork.{FileWork, EditedFile, UndoFile, Keeps, AvoidsFiles, IsFoundIn, IsWholeAt, HasLeft}
-use Rattle.vs_safety.specs.Turns.{Turn, after_turns, with_begun, opened, replies, AllAvoid, SparesOthers}
+use Rattle.vs_safety.specs.Undo.{IsUndoIn, LeavesUndo, UndoWrite}
+use Rattle.vs_safety.specs.FileWork.{FileWork, EditedFile, UndoFile, BothFiles, Keeps, AvoidsFiles, IsFoundIn, IsWholeAt, HasLeft}
+use Rattle.vs_safety.specs.Turns.{Turn, after_turns, with_begun, opened, replies, SparesOthers, KeepsUndo}
 use Rattle.vs_safety.specs.Stretches.{IsShorter, IsFirst, HasStretch}
 use Rattle.vs_safety.specs.Safety.{IsFirstPart, opened_at, IsKept, Spares, Works, IsUnderWay}
 use Rattle.vs_safety.specs.Going.{Sound, Course, HasEnded, IsStill}
@@ -94,13 +94,16 @@ undo_found names undo folder found = subst (λ (d : Disk). IsUndoIn names undo d
 
 pub whole_found : (names : Names) (write : Option FileWork) (folder : Disk) → IfSome write (λ w. IsFoundIn w folder) → IfSome write (λ w. IsWholeAt names w folder)
 whole_found names None folder found = tt
-whole_found names (Some (EditedFile write)) folder found = write_found names write folder found
+whole_found names (Some (EditedFile write)) folder found = (write_found names write folder found, subst (λ (d : Disk). LeavesUndo names d folder) (sym found) (λ left may. may))
 whole_found names (Some (UndoFile undo)) folder found = undo_found names undo folder found
+whole_found names (Some (BothFiles write undo)) folder found =
+    (write_found names write folder found.0, (undo_found names undo folder found.1, inl (subst (λ (d : Disk). LeavesUndo names d folder) (sym found.0) (λ left may. may))))
 
-pub written_found : (names : Names) (write : Option FileWork) (done : Bool) (old new : State) → IfSome write (λ w. HasLeft names w done old new) → IfSome write (λ w. IsFoundIn w old.folder)
-written_found names None done old new wrote = tt
-written_found names (Some (EditedFile write)) done old new wrote = wrote.found
-written_found names (Some (UndoFile undo)) done old new wrote = wrote.found
+pub written_found : (names : Names) (write : Option FileWork) (done failed : Bool) (old new : State) → IfSome write (λ w. HasLeft names w done failed old new) → IfSome write (λ w. IsFoundIn w old.folder)
+written_found names None done failed old new wrote = tt
+written_found names (Some (EditedFile write)) done failed old new wrote = wrote.found
+written_found names (Some (UndoFile undo)) done failed old new wrote = wrote.found
+written_found names (Some (BothFiles write undo)) done failed old new wrote = (wrote.0.found, wrote.1.found)
 
 each_both : (P Q : Snapshot → Type 0) (moments : List Snapshot) → Each P moments → Each Q moments → Each (λ m. P m × Q m) moments
 each_both P Q [] p q = tt
@@ -124,20 +127,20 @@ module _ (names : Names) (start : Scene) (text : Text) (opening : List ℕ) wher
   }
 
   pub kept_whole : (turns : List Turn) (m : Snapshot) → total turns ≤ length m.output → Recovers names (recoverable (after_turns (opened text) turns)) m.folder → SparesOthers names turns start.folder m.folder
-      → IsKept names start text opening turns m
-  kept_whole turns m le all spared = record {
+      → KeepsUndo names start.folder turns [] m.folder → IsKept names start text opening turns m
+  kept_whole turns m le all spared undo = record {
     before = λ lt. absurd (omega (arith, lt, le));
     spared = λ lt. absurd (omega (arith, lt, le));
-    running = λ at. allowed_whole names start.folder text (opened_at start opening) (length m.output) m.folder turns le all spared;
+    running = λ at. allowed_whole names start.folder text (opened_at start opening) (length m.output) m.folder turns le all spared undo;
   }
 
   pub kept_part : (turn : Turn) (turns : List Turn) (m : Snapshot) → total turns ≤ length m.output → length m.output < total (turns ++ turn ∷ [])
       → IsUnderWay names (with_begun turn.sync (after_turns (opened text) turns)) turn.write m.folder → SparesOthers names (turns ++ turn ∷ []) start.folder m.folder
-      → IsKept names start text opening (turns ++ turn ∷ []) m
-  kept_part turn turns m le lt all spared = record {
+      → KeepsUndo names start.folder turns (turn ∷ []) m.folder → IsKept names start text opening (turns ++ turn ∷ []) m
+  kept_part turn turns m le lt all spared undo = record {
     before = λ below. absurd (omega (arith, below, le));
     spared = λ below. absurd (omega (arith, below, le));
-    running = λ at. allowed_part names start.folder text (opened_at start opening) (length m.output) m.folder turn turns le lt all.recovers spared all.whole;
+    running = λ at. allowed_part names start.folder text (opened_at start opening) (length m.output) m.folder turn turns le lt all.recovers spared undo all.whole;
   }
 
   sound_on : (now new : Scene) (turns : List Turn) → IsFirstPart now.output new.output → (m : Snapshot) → Sound names start now text opening turns m → Sound names start new text opening turns m

@@ -5,10 +5,11 @@ use Rattle.std.specs.Prelude.{Bool, IfSome}
 use Rattle.vs_host.specs.Disk.{Disk, Name}
 use Rattle.vs_host.specs.declared.names.Names.{Names}
 use Rattle.vs_safety.specs.Texts.{Text, Sync, recoverable, Recovers}
-use Rattle.vs_safety.specs.Turns.{Turn, with_sync, with_begun, after_turns, with_next, opened, replies, EndsAfter, IsSplit, AllAvoid, SparesOthers, next_of, IsWholeNext}
-use Rattle.vs_safety.specs.FileWork.{AvoidsFiles, IsWholeAt}
+use Rattle.vs_safety.specs.Turns.{Turn, with_sync, with_begun, after_turns, with_next, opened, replies, EndsAfter, IsSplit, AllAvoid, SparesOthers, KeepsUndo, next_of, IsWholeNext}
+use Rattle.vs_safety.specs.FileWork.{IsWholeAt}
 use Rattle.vs_safety.specs.Stretches.{EachTurn}
 use Rattle.vs_safety.specs.Safety.{IsAllowed}
+use Rattle.vs_safety.proofs.UndoFiles.{undo_next}
 use Rattle.vs_safety.proofs.Texts.{Within, begun_within, recovers_more}
 
 pub replies_push : (turn : Turn) (turns : List Turn) → replies (turns ++ turn ∷ []) ≡ replies turns ++ turn.reply
@@ -87,6 +88,7 @@ module _ (names : Names) (start : Disk) (text : Text) (from n : ℕ) (folder : D
     split = split_push from n turn turns allowed.first allowed.rest lt allowed.split;
     recovers = recovers_more names _ _ folder (next_more turn allowed.rest (after_turns (opened text) allowed.first)) allowed.recovers;
     spared = λ inside foreign all. allowed.spared inside foreign (avoid_next names inside turn allowed.first allowed.rest all);
+    undo = undo allowed.rest allowed.undo;
     whole = next allowed.rest allowed.split.turns_are allowed.whole;
   }
     where
@@ -96,28 +98,34 @@ module _ (names : Names) (start : Disk) (text : Text) (from n : ℕ) (folder : D
           idle (omega (arith, same, allowed.split.whole))
       next (one ∷ rest) is whole = whole
 
+      undo : (rest : List Turn) → KeepsUndo names start allowed.first rest folder → KeepsUndo names start allowed.first (rest ++ turn ∷ []) folder
+      undo [] keeps = undo_next names start turn allowed.first folder keeps
+      undo (one ∷ rest) keeps = keeps
+
   -- all replies are whole
   pub allowed_whole : (turns : List Turn) → from + length (replies turns) ≤ n → Recovers names (recoverable (after_turns (opened text) turns)) folder → SparesOthers names turns start folder
-      → IsAllowed names start text turns from n folder
-  allowed_whole turns le all spared = record {
+      → KeepsUndo names start turns [] folder → IsAllowed names start text turns from n folder
+  allowed_whole turns le all spared undo = record {
     first = turns;
     rest = [];
     split = record { turns_are = sym (append-nil turns); whole = le; next = tt };
     recovers = all;
     spared = spared_front names turns [] start folder spared;
+    undo = undo;
     whole = tt;
   }
 
   -- all but the last one are
   pub allowed_part : (turn : Turn) (turns : List Turn) → from + length (replies turns) ≤ n → n < from + length (replies (turns ++ turn ∷ []))
-      → Recovers names (recoverable (with_begun turn.sync (after_turns (opened text) turns))) folder → SparesOthers names (turns ++ turn ∷ []) start folder → IfSome turn.write (λ work. IsWholeAt names work folder)
-      → IsAllowed names start text (turns ++ turn ∷ []) from n folder
-  allowed_part turn turns le lt all spared whole = record {
+      → Recovers names (recoverable (with_begun turn.sync (after_turns (opened text) turns))) folder → SparesOthers names (turns ++ turn ∷ []) start folder
+      → KeepsUndo names start turns (turn ∷ []) folder → IfSome turn.write (λ work. IsWholeAt names work folder) → IsAllowed names start text (turns ++ turn ∷ []) from n folder
+  allowed_part turn turns le lt all spared undo whole = record {
     first = turns;
     rest = turn ∷ [];
     split = record { turns_are = refl; whole = le; next = omega (arith, lt, long_push turn turns) };
     recovers = all;
     spared = spared;
+    undo = undo;
     whole = whole;
   }
 

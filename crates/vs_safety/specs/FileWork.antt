@@ -1,16 +1,25 @@
--- What a command writes beside the swap files: the edited file with its backup, or the undo file.
-use Rattle.std.specs.Prelude.{◌≡◌, Bool, true, [], Option, Some, None}
+-- What a command writes beside the swap files: the edited file with its backup, the undo file, or both in this order.
+use Rattle.std.specs.Prelude.{◌≡◌, ◌⊎◌, ◌&&◌, Bool, not, [], Option, Some, None}
 use Rattle.vs_host.specs.Disk.{Disk, Name}
 use Rattle.vs_host.specs.declared.names.Names.{Names}
+use Rattle.vs_disk.specs.Images.{HoldsBytes}
 use Rattle.vs_disk.specs.Names.{SameAt}
 use Rattle.vs_pair.specs.Pair.{is_foreign}
 use Rattle.vs_backup.specs.Works.{IsOutside, two_names}
-use Rattle.vs_safety.specs.Writes.{Write, AreForeign, Avoids, HasWritten, IsWholeIn, State}
-use Rattle.vs_safety.specs.Undo.{HasStored, IsUndoIn, UndoWrite}
+use Rattle.vs_safety.specs.Writes.{Write, AreForeign, Avoids, HasWritten, IsWholeIn, State, new_bytes}
+use Rattle.vs_safety.specs.Undo.{HasStored, IsUndoIn, LeavesUndo, UndoWrite}
 
 pub data FileWork : Type 0 where
   EditedFile : Write → FileWork
   UndoFile : UndoWrite → FileWork
+  BothFiles : Write → UndoWrite → FileWork
+
+-- the undo file that a command stores, where it stores one
+abbrev pub undo_stored : Option FileWork → Option UndoWrite
+undo_stored None = None
+undo_stored (Some (EditedFile write)) = None
+undo_stored (Some (UndoFile undo)) = Some undo
+undo_stored (Some (BothFiles write undo)) = Some undo
 
 -- ---- other names
 
@@ -18,6 +27,7 @@ pub data FileWork : Type 0 where
 abbrev pub AvoidsFiles : Names → FileWork → (Name → Bool) → Type 0
 AvoidsFiles names (EditedFile write) inside = Avoids names write inside
 AvoidsFiles names (UndoFile undo) inside = IsOutside (two_names names.undo_new names.undo) inside
+AvoidsFiles names (BothFiles write undo) inside = Avoids names write inside × IsOutside (two_names names.undo_new names.undo) inside
 
 -- What a command leaves of the names that are not of the pair: all, where it writes no other file. Else it leaves those on which it
 -- does not work: what was spared since a folder in which no change of a name was pending, goes on to be spared.
@@ -32,13 +42,21 @@ Keeps names (Some work) old new =
 abbrev pub IsFoundIn : FileWork → Disk → Type 0
 IsFoundIn (EditedFile write) folder = write.found ≡ folder
 IsFoundIn (UndoFile undo) folder = undo.found ≡ folder
+IsFoundIn (BothFiles write undo) folder = (write.found ≡ folder) × (undo.found ≡ folder)
+
+-- The undo file goes after the edited file: a stop leaves of it what it might leave before, or the file has the new bytes in each image.
+abbrev pub GoesAfter : Names → Write → Disk → Type 0
+GoesAfter names write folder = LeavesUndo names write.found folder ⊎ HoldsBytes names.file (new_bytes write) folder
 
 -- a moment of the work
 abbrev pub IsWholeAt : Names → FileWork → Disk → Type 0
-IsWholeAt names (EditedFile write) folder = IsWholeIn names write folder
+IsWholeAt names (EditedFile write) folder = IsWholeIn names write folder × LeavesUndo names write.found folder
 IsWholeAt names (UndoFile undo) folder = IsUndoIn names undo folder
+IsWholeAt names (BothFiles write undo) folder = IsWholeIn names write folder × (IsUndoIn names undo folder × GoesAfter names write folder)
 
--- what is left in the end, where the command was carried out or was not
-abbrev pub HasLeft : Names → FileWork → Bool → State → State → Type 0
-HasLeft names (EditedFile write) done old new = HasWritten names write done old new
-HasLeft names (UndoFile undo) done old new = HasStored names undo done old new
+-- what is left in the end, where the command had its effect or had not, and was answered that a call failed or was not. Where it had
+-- its effect and a call failed, the undo file was not stored.
+abbrev pub HasLeft : Names → FileWork → Bool → Bool → State → State → Type 0
+HasLeft names (EditedFile write) done failed old new = HasWritten names write done old new
+HasLeft names (UndoFile undo) done failed old new = HasStored names undo done old new
+HasLeft names (BothFiles write undo) done failed old new = HasWritten names write done old new × HasStored names undo (done && not failed) old new

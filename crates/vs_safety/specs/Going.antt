@@ -1,13 +1,15 @@
 -- How far a run has come: what its loop keeps from turn to turn.
 use Rattle.std.specs.Prelude.{◌≡◌, ℕ, ◌≤◌, true, List, [], ◌∷◌, ◌++◌, length, IfSome}
 use Rattle.vs_faults.specs.Faults.{HasRisen}
+use Rattle.vs_host.specs.Disk.{Disk}
 use Rattle.vs_host.specs.Trace.{Snapshot, Each}
 use Rattle.vs_host.specs.World.{Scene}
 use Rattle.vs_host.specs.declared.names.Names.{Names}
+use Rattle.vs_pair.specs.Pair.{is_foreign}
 use Rattle.vs_safety.specs.Texts.{Text, RecoversOrNone, IsFlag, IsBetween}
 use Rattle.vs_safety.specs.Writes.{state_in, state_now}
 use Rattle.vs_safety.specs.FileWork.{HasLeft, IsWholeAt}
-use Rattle.vs_safety.specs.Turns.{Turn, with_sync, after_turns, opened, replies, SparesOthers}
+use Rattle.vs_safety.specs.Turns.{Turn, with_sync, after_turns, opened, replies, KeepsUndo, SparesOthers}
 use Rattle.vs_safety.specs.Stretches.{IsFirst, EachTurn, HasStretch}
 use Rattle.vs_safety.specs.Safety.{IsFirstPart, opened_at, IsKept}
 
@@ -32,8 +34,13 @@ pub record HasEnded (names : Names) (moments : List Snapshot) (from to : ℕ) (t
   pub ends : IsFirst to moments last
   pub found : IfSome turn.found (λ found. found ≡ first.folder)
   pub flag : IfSome turn.sync (λ sync. IsFlag names turn.done first.folder last.folder sync.acknowledged)
-  pub wrote : IfSome turn.write (λ work. HasLeft names work turn.done (state_in first) (state_in last))
+  pub wrote : IfSome turn.write (λ work. HasLeft names work turn.done turn.failed (state_in first) (state_in last))
   pub cause : turn.failed ≡ true → HasRisen first.folder_faults last.folder_faults
+
+-- What stands of the undo file after these commands. Its name is none of the pair.
+pub record UndoStands (names : Names) (start : Disk) (turns : List Turn) (now : Disk) : Type 0 where
+  pub foreign : is_foreign names names.undo ≡ true
+  pub keeps : KeepsUndo names start turns [] now
 
 -- The file was opened, and nothing was written.
 pub record Opened (names : Names) (start now : Scene) (text : Text) (opening : List ℕ) : Type 0 where
@@ -41,6 +48,7 @@ pub record Opened (names : Names) (start now : Scene) (text : Text) (opening : L
   pub course : Course names start now text opening [] moments
   pub output : now.output ≡ start.output
   pub between : IsBetween names (opened text) now.folder
+  pub undo : UndoStands names start.folder [] now.folder
 
 -- a moment at which the output was as long as it is now has the folder as it is now
 abbrev pub IsStill : Scene → Snapshot → Type 0
@@ -59,6 +67,7 @@ pub record Going (names : Names) (start now : Scene) (text : Text) (opening : Li
   -- and since then nothing changed in the folder
   pub still : Each (IsStill now) moments
   pub between : IsBetween names (after_turns (opened text) turns) now.folder
+  pub undo : UndoStands names start.folder turns now.folder
 
 -- One more command has ended, and nothing of its reply was written.
 pub record Stepping (names : Names) (start now : Scene) (text : Text) (opening : List ℕ) (turns : List Turn) (turn : Turn) : Type 0 where
@@ -70,10 +79,11 @@ pub record Stepping (names : Names) (start now : Scene) (text : Text) (opening :
   pub begins : IsFirst (length now.output) moments here
   pub found : IfSome turn.found (λ found. found ≡ here.folder)
   pub flag : IfSome turn.sync (λ sync. IsFlag names turn.done here.folder now.folder sync.acknowledged)
-  pub wrote : IfSome turn.write (λ work. HasLeft names work turn.done (state_in here) (state_now now))
+  pub wrote : IfSome turn.write (λ work. HasLeft names work turn.done turn.failed (state_in here) (state_now now))
   pub cause : turn.failed ≡ true → HasRisen here.folder_faults now.folder_faults
   pub whole : IfSome turn.write (λ work. IsWholeAt names work now.folder)
   pub between : IsBetween names (with_sync turn.sync (after_turns (opened text) turns)) now.folder
+  pub undo : UndoStands names start.folder (turns ++ turn ∷ []) now.folder
 
 -- The run stopped, and these are the commands that it began.
 pub record Halted (names : Names) (start now : Scene) (text : Text) (opening : List ℕ) (turns : List Turn) : Type 0 where

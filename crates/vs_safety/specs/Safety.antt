@@ -1,5 +1,5 @@
 -- The promise of a run, and what each of its steps owes to it.
-use Rattle.std.specs.Prelude.{◌≡◌, ◌⊎◌, ℕ, ◌+◌, ◌<◌, ◌≤◌, true, List, [], ◌∷◌, ◌++◌, length, take, Option, None, IfSome}
+use Rattle.std.specs.Prelude.{◌≡◌, ◌⊎◌, ℕ, ◌+◌, ◌<◌, ◌≤◌, true, List, [], ◌∷◌, ◌++◌, length, take, Option, IfSome}
 use Rattle.vs_faults.specs.Faults.{HasRisen}
 use Rattle.vs_host.specs.Disk.{Disk, Name, IsImage}
 use Rattle.vs_host.specs.Trace.{Kind, WroteOutput, Snapshot, Each, GoesOn}
@@ -11,7 +11,7 @@ use Rattle.vs_pair.specs.Pair.{Image, NoneThere, is_foreign}
 use Rattle.vs_safety.specs.Texts.{Text, Sync, recoverable, Recovers, RecoversOrNone, IsFlag, IsBetween}
 use Rattle.vs_safety.specs.Writes.{state_now}
 use Rattle.vs_safety.specs.FileWork.{FileWork, Keeps, IsWholeAt, HasLeft}
-use Rattle.vs_safety.specs.Turns.{Turn, Ran, Quits, with_sync, with_begun, after_turns, with_next, opened, replies, IsSplit, all_turns, all_written, SparesOthers, next_of, IsWholeNext}
+use Rattle.vs_safety.specs.Turns.{Turn, Ran, Quits, with_sync, with_begun, after_turns, with_next, opened, replies, IsSplit, all_turns, all_written, SparesOthers, KeepsUndo, next_of, IsWholeNext}
 use Rattle.vs_safety.specs.Stretches.{EachTurn, HasStretch}
 
 -- these bytes are the first of those
@@ -24,13 +24,15 @@ opened_at start opening = length start.output + length opening
 
 -- The output has n bytes. Over the commands whose replies are whole in it, recovery gives the text of the last acknowledged
 -- sync or of one that was begun after it, or of the one that the next command begins. All names are spared but those of the pair
--- and those on which these commands or the next one write, and the file that the next one writes is whole, or its backup.
+-- and those on which these commands or the next one write, and the file that the next one writes is whole, or its backup. The undo
+-- file is that of the last command that stored one, or of one that began to after that.
 pub record IsAllowed (names : Names) (start : Disk) (text : Text) (turns : List Turn) (from n : ℕ) (folder : Disk) : Type 0 where
   pub first : List Turn
   pub rest : List Turn
   pub split : IsSplit from n turns first rest
   pub recovers : Recovers names (recoverable (with_next (after_turns (opened text) first) rest)) folder
   pub spared : SparesOthers names (first ++ next_of rest) start folder
+  pub undo : KeepsUndo names start first rest folder
   pub whole : IsWholeNext names rest folder
 
 -- A moment before an accepted quit has begun.
@@ -50,9 +52,10 @@ pub record IsLeft (names : Names) (start : Scene) (ran : Ran) (moment : Snapshot
   -- and neither is there from the first byte of the last line on
   pub gone : opened_at start ran.opening + length (replies ran.turns) < length moment.output → (image : Image) → IsImage moment.folder image → NoneThere names image
   pub spared : SparesOthers names ran.turns start.folder moment.folder
+  pub undo : KeepsUndo names start.folder ran.turns [] moment.folder
 
--- What is promised of each moment: what recovery gives whatever a stop leaves, what a write leaves of the file and its backup, and
--- that no name changes but those of the pair and those on which a command writes.
+-- What is promised of each moment: what recovery gives whatever a stop leaves, what a write leaves of the file and its backup, which
+-- undo file stands, and that no name changes but those of the pair and those on which a command writes.
 pub record IsSafe (names : Names) (start now : Scene) (ran : Ran) (moment : Snapshot) : Type 0 where
   pub output : IsFirstPart moment.output now.output
   pub kept : IsKept names start ran.text ran.opening (all_turns ran) moment ⊎ IsLeft names start ran moment
@@ -107,7 +110,7 @@ pub record Stepped (names : Names) (syncs : List Sync) (turn : Turn) (old new : 
   pub found : IfSome turn.found (λ found. found ≡ old.folder)
   -- what was recoverable is recovered, or the text of the sync that the command begins
   pub works : Works names turn.write (IsUnderWay names (with_begun turn.sync syncs) turn.write) old new
-  pub wrote : IfSome turn.write (λ work. HasLeft names work turn.done (state_now old) (state_now new))
+  pub wrote : IfSome turn.write (λ work. HasLeft names work turn.done turn.failed (state_now old) (state_now new))
   pub whole : IfSome turn.write (λ work. IsWholeAt names work new.folder)
   pub flag : IfSome turn.sync (λ sync. IsFlag names turn.done old.folder new.folder sync.acknowledged)
   pub cause : turn.failed ≡ true → HasRisen old.folder_faults new.folder_faults

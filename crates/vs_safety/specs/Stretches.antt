@@ -35,7 +35,7 @@ pub record HasStretch (names : Names) (moments : List Snapshot) (now : Scene) (f
   pub ends : IsEnd to moments now last
   pub found : IfSome turn.found (λ found. found ≡ first.folder)
   pub flag : IfSome turn.sync (λ sync. IsFlag names turn.done first.folder last.folder sync.acknowledged)
-  pub wrote : IfSome turn.write (λ work. HasLeft names work turn.done (state_in first) last)
+  pub wrote : IfSome turn.write (λ work. HasLeft names work turn.done turn.failed (state_in first) last)
   pub cause : turn.failed ≡ true → HasRisen first.folder_faults last.faults
 
 -- P holds of each command, of how long the output was before its reply, and with it

@@ -1,15 +1,17 @@
 -- What a run does, as far as safety goes: the commands that it answers, one turn each, and how it closes.
-use Rattle.std.specs.Prelude.{◌≡◌, ℕ, ◌+◌, ◌<◌, ◌≤◌, Bool, true, false, not, List, [], ◌∷◌, ◌++◌, length, codes, Option, Some, None, IfSome}
+use Rattle.std.specs.Prelude.{◌≡◌, ◌⊎◌, ℕ, ◌+◌, ◌<◌, ◌≤◌, Bool, true, false, not, ◌&&◌, is_some, IsSomeAnd, List, [], ◌∷◌, ◌++◌, length, codes, Option, Some, None, IfSome}
 use Rattle.vs_host.specs.Disk.{Disk, Name}
 use Rattle.vs_host.specs.declared.names.Names.{Names}
+use Rattle.vs_disk.specs.Images.{MayLeave}
 use Rattle.vs_disk.specs.Names.{SameAt}
 use Rattle.vs_safety.specs.Texts.{Text, Sync, begun}
 use Rattle.vs_safety.specs.Writes.{AreForeign}
-use Rattle.vs_safety.specs.FileWork.{FileWork, AvoidsFiles, IsWholeAt}
+use Rattle.vs_safety.specs.Undo.{IsUndoOf}
+use Rattle.vs_safety.specs.FileWork.{FileWork, AvoidsFiles, IsWholeAt, undo_stored}
 
 -- One command: the folder that it found as it began, where it asks for it; the sync that it begins before all else, if it does; the
--- files that it then writes, if it does; whether it was carried out, and whether it was answered that a call on the
--- folder failed; and the bytes of its reply.
+-- files that it then writes, if it does; whether it had its effect, and whether it was answered that a call on the
+-- folder failed, which may both be so where it stores an undo file; and the bytes of its reply.
 pub record Turn : Type 0 where
   pub found : Option Disk
   pub sync : Option Sync
@@ -64,6 +66,37 @@ next_of (turn ∷ turns) = turn ∷ []
 abbrev pub IsWholeNext : Names → List Turn → Disk → Type 0
 IsWholeNext names [] folder = Unit {0}
 IsWholeNext names (turn ∷ turns) folder = IfSome turn.write (λ work. IsWholeAt names work folder)
+
+-- ---- the undo file
+
+-- these bytes are the whole undo file that a command stores
+abbrev pub IsUndoBy : Option FileWork → Option (List ℕ) → Type 0
+IsUndoBy write left = IsSomeAnd (undo_stored write) (λ undo. IsSomeAnd left (IsUndoOf undo.text undo.history))
+
+-- whether a command stored an undo file: it had its effect, and no call failed
+abbrev pub has_stored : Turn → Bool
+has_stored turn = is_some (undo_stored turn.write) && (turn.done && not turn.failed)
+
+abbrev pub NoneStored : List Turn → Type 0
+NoneStored [] = Unit {0}
+NoneStored (turn ∷ turns) = (has_stored turn ≡ false) × NoneStored turns
+
+-- these bytes are the undo file of the last of these commands that stored one, or of one that began to store its own after that
+abbrev pub IsLastUndo : List Turn → Option (List ℕ) → Type 0
+IsLastUndo [] left = ⊥
+IsLastUndo (turn ∷ turns) left = (NoneStored turns × IsUndoBy turn.write left) ⊎ IsLastUndo turns left
+
+-- these bytes are the undo file that the first of these commands stores
+abbrev pub IsNextUndo : List Turn → Option (List ℕ) → Type 0
+IsNextUndo [] left = ⊥
+IsNextUndo (turn ∷ turns) left = IsUndoBy turn.write left
+
+-- Where these commands have ended and the first of the rest is under way, a stop leaves under the name of the undo file what it might
+-- leave at the start, if none of them stored one; or the undo file of the last one that did, or of one that began to store its own
+-- after that.
+abbrev pub KeepsUndo : Names → Disk → List Turn → List Turn → Disk → Type 0
+KeepsUndo names start ended rest folder =
+    (left : Option (List ℕ)) → MayLeave folder names.undo left → ((NoneStored ended × MayLeave start names.undo left) ⊎ IsLastUndo ended left) ⊎ IsNextUndo rest left
 
 -- ---- replies
 

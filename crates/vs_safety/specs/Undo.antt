@@ -24,6 +24,10 @@ pub record UndoWrite : Type 0 where
   pub history : History
   pub found : Disk
 
+-- A stop leaves under the name of the undo file only what it might leave before.
+abbrev pub LeavesUndo : Names → Disk → Disk → Type 0
+LeavesUndo names old new = (left : Option (List ℕ)) → MayLeave new names.undo left → MayLeave old names.undo left
+
 -- A moment while it is stored: a stop leaves under the name of the undo file what it might leave before, or a whole undo file of the
 -- history at its text.
 abbrev pub IsUndoIn : Names → UndoWrite → Disk → Type 0

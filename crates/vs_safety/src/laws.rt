@@ -2,6 +2,7 @@
 ghost use Rattle.std.specs.Prelude.{◌≡◌, ◌⊎◌, ◌↔◌, ◌+◌, ◌<◌, ◌≤◌, ◌∷◌, [], ◌++◌, ℕ, List, None, length};
 ghost use Rattle.vs_faults.specs.Faults.{HasRisen};
 ghost use Rattle.vs_host.specs.Disk.{Disk, IsImage};
+ghost use Rattle.vs_host.specs.Names.{AreNames};
 ghost use Rattle.vs_host.specs.World.{Scene};
 ghost use Rattle.vs_host.specs.declared.names.Names.{Names};
 ghost use Rattle.vs_disk.specs.Runs.{FailsLast};
@@ -30,8 +31,8 @@ pub fn splitting()
 pub fn opening()
     ensures fails { (names : Names) (start now : Scene) (text : Text) (line : List ℕ) → 0 < length line → start.folder.pending ≡ [] → RecoversOrNone names (text ∷ []) start.folder
         → Works names None (RecoversOrNone names (text ∷ [])) start now → Halted names start now text line [] }
-    ensures opens { (names : Names) (start now : Scene) (text : Text) (line : List ℕ) → 0 < length line → start.folder.pending ≡ [] → RecoversOrNone names (text ∷ []) start.folder
-        → Works names None (RecoversOrNone names (text ∷ [])) start now → IsBetween names (opened text) now.folder → Opened names start now text line }
+    ensures opens { (names : Names) (start now : Scene) (text : Text) (line : List ℕ) → 0 < length line → AreNames names → start.folder.pending ≡ []
+        → RecoversOrNone names (text ∷ []) start.folder → Works names None (RecoversOrNone names (text ∷ [])) start now → IsBetween names (opened text) now.folder → Opened names start now text line }
     ensures stops { (names : Names) (start now : Scene) (text : Text) (line : List ℕ) → 0 < length line → Opened names start now text line → Halted names start now text line [] }
     ensures cut { (names : Names) (start now new : Scene) (text : Text) (line : List ℕ) (n : ℕ) → 0 < length line → Opened names start now text line → Writes n line now new
         → Halted names start new text line [] }

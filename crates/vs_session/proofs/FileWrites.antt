@@ -32,30 +32,21 @@ use Rattle.vs_backup.proofs.Choosing.{candidates_are, letters_next, none_left, I
 use Rattle.vs_backup.proofs.Frames.{absent_now, not_same}
 use Rattle.vs_backup.proofs.Kept.{may_leave_now}
 use Rattle.vs_backup.proofs.NamesApart.{file_apart, backup_apart, temporary_apart}
+use Rattle.vs_safety.specs.Undo.{LeavesUndo}
 use Rattle.vs_safety.specs.Writes.{Write, State, AreForeign, Avoids, HasWritten, IsWholeIn, LeavesOld, backup_for, is_either, new_bytes, old_bytes, state_now}
 use Rattle.vs_desk.specs.Still.{IsStill, SparesStill}
 use Rattle.vs_desk.specs.Writes.{WritesFile}
+use Rattle.vs_desk.proofs.Left.{goes_both, moved_to, narrowed_image, same_left}
 use Rattle.vs_desk.proofs.Stillness.{still_settled, still_lasts}
 use Rattle.vs_session.specs.Session.{lacks_name}
-use Rattle.vs_session.specs.Writes.{outcome_to}
-use Rattle.vs_machine.specs.Machine.{is_done}
 use Rattle.vs_session.proofs.Steps.{apart_foreign}
+use Rattle.vs_session.proofs.UndoNames.{undo_apart}
 
 -- ---- the same calls, seen in several ways
-
-each_both : (P Q : Snapshot → Type 0) (ms : List Snapshot) → Each P ms → Each Q ms → Each (λ m. P m × Q m) ms
-each_both P Q [] p q = tt
-each_both P Q (m ∷ ms) p q = ((p.0, q.0), each_both P Q ms p.1 q.1)
 
 each_all : (A : Type 0) (P : A → Snapshot → Type 0) (ms : List Snapshot) → ((a : A) → Each (P a) ms) → Each (λ m. (a : A) → P a m) ms
 each_all A P [] all = tt
 each_all A P (m ∷ ms) all = (λ a. (all a).0, each_all A P ms (λ a. (all a).1))
-
-moved_to : (P : Snapshot → Type 0) (old new : List Snapshot) (added : List Snapshot) → new ≡ added ++ old → GoesOn P old new → Each P added
-moved_to P old new added is goes = subst (λ (ms : List Snapshot). Each P ms) (append_cancel_right goes.added added old (sym goes.is ∙ is)) goes.each
-
-pub goes_both : (P Q : Snapshot → Type 0) (old new : List Snapshot) → GoesOn P old new → GoesOn Q old new → GoesOn (λ m. P m × Q m) old new
-goes_both P Q old new p q = record { added = p.added; is = p.is; each = each_both P Q p.added p.each (moved_to Q old new p.added p.is q) }
 
 pub goes_all : (A : Type 0) (P : A → Snapshot → Type 0) (Q : Snapshot → Type 0) (old new : List Snapshot) → GoesOn Q old new → ((a : A) → GoesOn (P a) old new) → GoesOn (λ m. (a : A) → P a m) old new
 goes_all A P Q old new base all = record { added = base.added; is = base.is; each = each_all A P base.added (λ a. moved_to (P a) old new base.added base.is (all a)) }
@@ -135,6 +126,9 @@ module _ (names : Names) (are : AreNames names) where
   pub apart_file : is_apart names names.file ≡ true
   apart_file = apart_name names.file (file_apart names are)
 
+  pub apart_undo : is_apart names names.undo ≡ true
+  apart_undo = apart_name names.undo (undo_apart names are)
+
   apart_backup : (backup : Name) → IsBackupName names.file backup → is_apart names backup ≡ true
   apart_backup backup is = apart_name backup (backup_apart names are backup is)
 
@@ -163,6 +157,10 @@ module _ (names : Names) (are : AreNames names) where
     pub backup_same : (options : WriteOptions) → backup_of options names.file mid ≡ backup_of options names.file old
     backup_same options = ap (λ (o : Option Name). cond options.backup (Some (backup_name names.file)) (cond options.writebackup o None)) free_same
 
+    -- so a stop leaves under the name of the undo file only what it left before
+    pub undo_same : LeavesUndo names old mid
+    undo_same left may = same_left (is_apart names) names.undo old mid apart_undo same left may
+
     pub works_same : (options : WriteOptions) (other : Name) → WorksOn options names.file mid other → WorksOn options names.file old other
     works_same options other (TheFile is) = TheFile is
     works_same options other (TheNewFile none is) = TheNewFile (sym file_same ∙ none) is
@@ -187,10 +185,6 @@ module _ (names : Names) (are : AreNames names) where
         inr (l.0, image_same old mid (names_at old l.0 names.file) (names_at mid may.0 names.file) found (l.1 names.file apart_file) (λ number leads. same.files may.0 names.file number apart_file leads) may.1)
 
 -- what narrowed, leaves of two names only what it left before
-narrowed_image : (old new : Disk) (at : Option ℕ) (found : Option (List ℕ)) → Narrowed old new → IsImageOf new at found → IsImageOf old at found
-narrowed_image old new None found narrowed image = image
-narrowed_image old new (Some number) found narrowed image = (image.0, image.1, (narrowed.files number).images image.0 image.2)
-
 pub narrowed_leaves : (one other : Name) (old new : Disk) → Narrowed old new → LeavesOld one other old new
 narrowed_leaves one other old new narrowed image part =
     let l = narrowed.back part.0 in

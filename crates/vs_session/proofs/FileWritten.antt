@@ -1,6 +1,7 @@
 -- What a session makes of what the write of its text answered.
-use Rattle.std.proofs.Common.{◌≡◌, inl, inr, ℕ, Bool, true, false, ◌==◌, cond, List, Result, Ok, Err, refl, sym, ◌∙◌, ap, subst}
-use Rattle.std.proofs.lemmas.Bool.{cases_Bool}
+use Rattle.std.proofs.Common.{◌≡◌, inl, inr, ℕ, Bool, true, false, ◌==◌, cond, length, string_bytes, List, Result, Ok, Err, refl, sym, ◌∙◌, ap, subst}
+use Rattle.std.proofs.lemmas.Bool.{cases_Bool, true≢false}
+use Rattle.vs_host.specs.Disk.{Disk}
 use Rattle.vs_host.specs.World.{Scene}
 use Rattle.vs_text.specs.Text.{file_of}
 use Rattle.vs_disk.specs.Runs.{Runs}
@@ -10,29 +11,29 @@ use Rattle.vs_backup.specs.declared.errors.WriteErr.TheVariants as error
 use Rattle.vs_backup.specs.Backups.{IsNoName, WorksOn}
 use Rattle.vs_undo.specs.History.{marked}
 use Rattle.vs_undo.specs.declared.parts.Parts.{Parts}
-use Rattle.vs_machine.specs.Replies.{Answer}
+use Rattle.vs_backup.specs.Writing.{IsFailed}
+use Rattle.vs_machine.specs.Replies.{Answer, says}
 use Rattle.vs_machine.specs.declared.command.Outcome.{Outcome}
 use Rattle.vs_safety.specs.Texts.{Sync, recoverable}
-use Rattle.vs_desk.specs.Still.{SparesStill}
+use Rattle.vs_desk.specs.Still.{KeepsLeft, SparesStill}
 use Rattle.vs_desk.specs.Writes.{KeepsSwap, WritesFile}
 use Rattle.vs_session.specs.declared.session.Session.{Session}
-use Rattle.vs_session.specs.Session.{SessionState}
+use Rattle.vs_session.specs.Session.{SessionState, is_fault, line_by}
 use Rattle.vs_session.specs.Writes.{Wrote, outcome_to, reply_to, state_to}
 use Rattle.vs_session.specs.Fits.{Fits, names_of}
+use Rattle.vs_session.proofs.Written.{Refuses, err_of}
 
 -- with the options that the state has
-pub wrote : (state : SessionState) (syncs : List Sync) (before after : Session) (old new : Scene) (result : Result ℕ WriteErr) (outcome : Outcome) (reply : Answer) → Fits before old.folder state syncs
+pub wrote : (state : SessionState) (syncs : List Sync) (before after : Session) (old new : Scene) (result : Result ℕ WriteErr) → Fits before old.folder state syncs
     → WritesFile before.options.write (names_of before) (file_of state.machine.text) old new result → (result ≡ Err error.NoBackupName → IsNoName before.options.write (names_of before).file true old.folder)
-    → Runs (KeepsSwap (names_of before) (recoverable syncs)) old new → SparesStill (WorksOn before.options.write (names_of before).file old.folder) old new → outcome ≡ outcome_to result → reply ≡ reply_to state result
-    → Fits after new.folder (state_to state result) syncs → Wrote state syncs before after outcome reply old new
-wrote state syncs before after old new result outcome reply fits file no_name swap others outcome_is reply_is now = record {
-  result = result;
+    → Runs (KeepsSwap (names_of before) (recoverable syncs)) old new → SparesStill (WorksOn before.options.write (names_of before).file old.folder) old new
+    → Runs (KeepsLeft (WorksOn before.options.write (names_of before).file old.folder)) old new → Fits after new.folder (state_to state result) syncs → Wrote state syncs before after result old new
+wrote state syncs before after old new result fits file no_name swap others left now = record {
   file = subst (λ (o : Options). WritesFile o.write (names_of before) (file_of state.machine.text) old new result) fits.options file;
   no_name = λ is. subst (λ (o : Options). IsNoName o.write (names_of before).file true old.folder) fits.options (no_name is);
   swap = swap;
   others = subst (λ (o : Options). SparesStill (WorksOn o.write (names_of before).file old.folder) old new) fits.options others;
-  outcome_is = outcome_is;
-  reply_is = reply_is;
+  left = subst (λ (o : Options). Runs (KeepsLeft (WorksOn o.write (names_of before).file old.folder)) old new) fits.options left;
   fits = now;
 }
 
@@ -49,11 +50,22 @@ marked_current parts = elim (cases_Bool (parts.current == 0)) [
     at_other : (parts.current == 0) ≡ false → (marked parts).current ≡ parts.current
     at_other is = rw is refl
 
-abbrev pub refused : WriteErr → Result ℕ WriteErr
-refused why = Err why
+-- ---- why a write is refused
 
-pub never_no : (why : WriteErr) (p : _) → refused why ≡ refused error.NoBackupName → why ≡ error.NoMemory p → ⊥
-never_no why p is other = cc
+pub refuses_as : (why : WriteErr) (outcome : Outcome) (reply : Answer) → outcome ≡ outcome_to why → reply ≡ reply_to why → Refuses why outcome reply
+refuses_as error.NoBackupName outcome reply ended replied = (ended, replied)
+refuses_as (error.Failed place) outcome reply ended replied = inr (ended, replied)
+refuses_as (error.NoMemory place) outcome reply ended replied = inl (ended, replied)
 
-pub never_failed : (why : WriteErr) (p : _) → refused why ≡ refused error.NoBackupName → why ≡ error.Failed p → ⊥
-never_failed why p is other = cc
+pub failed_why : (why : WriteErr) (outcome : Outcome) → outcome ≡ outcome_to why → is_fault outcome ≡ true → IsFailed (err_of why)
+failed_why error.NoBackupName outcome ended fault = absurd (true≢false (sym fault ∙ ap is_fault ended))
+failed_why (error.Failed place) outcome ended fault = (place, refl)
+failed_why (error.NoMemory place) outcome ended fault = absurd (true≢false (sym fault ∙ ap is_fault ended))
+
+-- ---- what was written
+
+-- the numbers in the reply are those of the state
+pub numbers : (session : Session) (disk : Disk) (state : SessionState) (syncs : List Sync) (outcome : Outcome) (name : List ℕ) (lines size : ℕ) → Fits session disk state syncs → name ≡ string_bytes session.name
+    → lines ≡ session.text.tree.present.lines → says (line_by outcome name lines size) ≡ says (line_by outcome state.name (length state.machine.text) size)
+numbers session disk state syncs outcome name lines size fits name_is lines_are =
+    λ i. says (line_by outcome ((name_is ∙ fits.name) i) ((lines_are ∙ sym fits.stands.text.pages.present.lines) i) size)

@@ -13,22 +13,22 @@ use Rattle.vs_undo.specs.History.{History, IsHistory}
 use Rattle.vs_undo.specs.declared.parts.Parts.{Parts}
 use Rattle.vs_options.specs.declared.setting.Options.{Options}
 use Rattle.vs_machine.specs.Machine as machine
-use Rattle.vs_machine.specs.Machine.{State, is_done, current_of}
+use Rattle.vs_machine.specs.Machine.{State, is_done, took_effect, current_of}
 use Rattle.vs_machine.specs.Replies.{Answer, says, undo_file_read}
 use Rattle.vs_machine.specs.declared.command.Mark.{Mark}
 use Rattle.vs_machine.specs.declared.command.Outcome.{Outcome}
-use Rattle.vs_machine.specs.declared.command.Outcome.TheVariants.{Done, NoMemory, Fault}
+use Rattle.vs_machine.specs.declared.command.Outcome.TheVariants.{Done, NoMemory, Fault, NoUndo}
 use Rattle.vs_safety.specs.Texts.{Sync}
-use Rattle.vs_safety.specs.FileWork.{EditedFile, FileWork}
+use Rattle.vs_safety.specs.FileWork.{FileWork}
 use Rattle.vs_safety.specs.Safety.{IsUnderWay}
 use Rattle.vs_session.specs.declared.session.Session.{Session}
 use Rattle.vs_session.specs.declared.taking.TakeErr.{TakeErr}
 use Rattle.vs_session.specs.declared.taking.TakeErr.TheVariants as take
 use Rattle.vs_session.specs.Taken.{IsTaken, outcome_by, taken_reply}
-use Rattle.vs_session.specs.Session.{SessionState, Ended, HasFound, accepts_quit, after_sync, answered, begins_after, begins_sync, carried, counted, history_by, history_in, history_taken, is_fault, is_rundo, is_saved, is_write, lacks_name, options_after, quits, reply_of, session_reply, state_after, sync_in, undo_work, with_history, work_of, write_in, written_state}
+use Rattle.vs_session.specs.Session.{SessionState, Ended, HasFound, accepts_quit, after_sync, answered, begins_after, begins_sync, carried, counted, history_by, history_in, history_taken, is_fault, is_rundo, is_saved, is_write, lacks_name, options_after, quits, reply_of, session_reply, state_after, sync_in, undo_work, with_history, work_of, write_work, written_state}
 use Rattle.vs_session.specs.Fits.{Answers, Fits, names_of}
 use Rattle.vs_session.proofs.SessionLemmas.{counted_same, current_is, saved_is}
-use Rattle.vs_session.proofs.Steps.{assemble_read, between_synced, failed_is, no_write, recovers_synced, works_looks}
+use Rattle.vs_session.proofs.Steps.{assemble_read, between_synced, no_write, recovers_synced, works_looks}
 
 -- ---- the command
 
@@ -52,21 +52,25 @@ stores_none : (state : SessionState) (found : Disk) (parsed : _) → is_rundo pa
 stores_none state found (Ok ReadUndo) is = refl
 stores_none state found parsed is = absurd (true≢false (sym is))
 
-reply_is : (state : SessionState) (found : Disk) (read : Result History TakeErr) (parsed : _) → is_rundo parsed ≡ true → session_reply state found read parsed ≡ Some (taken_reply read)
-reply_is state found read (Ok ReadUndo) is = refl
-reply_is state found read parsed is = absurd (true≢false (sym is))
+reply_is : (state : SessionState) (outcome : Outcome) (found : Disk) (read : Result History TakeErr) (parsed : _) → is_rundo parsed ≡ true → session_reply state outcome found read parsed ≡ Some (taken_reply read)
+reply_is state outcome found read (Ok ReadUndo) is = refl
+reply_is state outcome found read parsed is = absurd (true≢false (sym is))
 
 machine_stays : (m : State) (at : ℕ) (outcome : Outcome) (block : _) (parsed : _) → is_rundo parsed ≡ true → machine.state_by outcome m at (machine.meaning_of m parsed block) ≡ m
 machine_stays m at Done block (Ok ReadUndo) is = refl
 machine_stays m at Done block parsed is = absurd (true≢false (sym is))
 machine_stays m at NoMemory block parsed is = refl
 machine_stays m at Fault block parsed is = refl
+machine_stays m at NoUndo block (Ok ReadUndo) is = refl
+machine_stays m at NoUndo block parsed is = absurd (true≢false (sym is))
 
 options_stay : (options : Options) (outcome : Outcome) (parsed : _) → is_rundo parsed ≡ true → options_after outcome options parsed ≡ options
 options_stay options Done (Ok ReadUndo) is = refl
 options_stay options Done parsed is = absurd (true≢false (sym is))
 options_stay options NoMemory parsed is = refl
 options_stay options Fault parsed is = refl
+options_stay options NoUndo (Ok ReadUndo) is = refl
+options_stay options NoUndo parsed is = absurd (true≢false (sym is))
 
 replied : (read : Result History TakeErr) (m : State) (meaning : machine.Meaning) → taken_reply read ≡ answered (outcome_by read) (Some (taken_reply read)) (machine.reply_by (outcome_by read) m meaning)
 replied (Ok history) m meaning = refl
@@ -76,6 +80,15 @@ replied (Err take.OtherText) m meaning = refl
 replied (Err (take.Misfit number)) m meaning = refl
 replied (Err take.NoMemory) m meaning = refl
 replied (Err take.Failed) m meaning = refl
+
+never_unstored : (read : Result History TakeErr) → outcome_by read ≡ NoUndo → ⊥
+never_unstored (Ok history) is = cc
+never_unstored (Err take.NoFile) is = cc
+never_unstored (Err (take.Unreadable error)) is = cc
+never_unstored (Err take.OtherText) is = cc
+never_unstored (Err (take.Misfit number)) is = cc
+never_unstored (Err take.NoMemory) is = cc
+never_unstored (Err take.Failed) is = cc
 
 cond_none : (b : Bool) → cond b None None ≡ history_in (Err take.NoFile)
 cond_none true = refl
@@ -108,6 +121,18 @@ fits_replaced session after undo disk state syncs history fits is text own name 
   acknowledged = acknowledged ∙ fits.acknowledged;
 }
 
+abbrev pub err_taken : {T : Type 0} → TakeErr → Result T TakeErr
+err_taken error = Err error
+
+-- the mark of a fault is that of a call that failed
+pub failed_taken : (error : TakeErr) (outcome : Outcome) → outcome ≡ outcome_by (Err error) → is_fault outcome ≡ true → error ≡ take.Failed
+failed_taken take.NoFile outcome ended fault = absurd (true≢false (sym fault ∙ ap is_fault ended))
+failed_taken (take.Unreadable why) outcome ended fault = absurd (true≢false (sym fault ∙ ap is_fault ended))
+failed_taken take.OtherText outcome ended fault = absurd (true≢false (sym fault ∙ ap is_fault ended))
+failed_taken (take.Misfit number) outcome ended fault = absurd (true≢false (sym fault ∙ ap is_fault ended))
+failed_taken take.NoMemory outcome ended fault = absurd (true≢false (sym fault ∙ ap is_fault ended))
+failed_taken take.Failed outcome ended fault = refl
+
 -- the reply to a history that was taken
 pub read_line : (undo : Parts) (text : _) (history : History) (number changes : ℕ) → IsHistory undo text history → number ≡ undo.current → changes ≡ Rattle.std.specs.Prelude.length history.links.nodes
     → says (undo_file_read number changes) ≡ taken_reply (Ok history)
@@ -118,7 +143,7 @@ read_line undo text history number changes is number_is changes_are = λ i. says
 module _ (state : SessionState) (syncs : List Sync) (instruction : Instruction) (before : Session) (old : Scene) (fits : Fits before old.folder state syncs) (is : is_rundo instruction.parsed ≡ true) (after : Session)
     (read : Result History TakeErr) (outcome : Outcome) (at : ℕ) (reply : Answer) (new : Scene) (names_after : names_of after ≡ names_of before) (frame : ReadsFolder old new) (looks : Looks old new)
     (taken : IsTaken state.machine.text (content_in old.folder (names_of before).undo) read) (outcome_is : outcome ≡ outcome_by read) (reply_as : reply ≡ taken_reply read)
-    (cause : HasCause old.folder_faults new.folder_faults (outcome ≡ Fault)) (left : Fits after new.folder (with_history (history_in read) state) syncs) where
+    (cause : HasCause old.folder_faults new.folder_faults (is_fault outcome ≡ true)) (left : Fits after new.folder (with_history (history_in read) state) syncs) where
   abbrev names : Names
   names = names_of before
 
@@ -135,7 +160,10 @@ module _ (state : SessionState) (syncs : List Sync) (instruction : Instruction) 
   names_are = before.named ∙ ap names_of_file fits.name
 
   found : HasFound state instruction ended
-  found = λ reads. (subst (λ (n : Names). IsTaken state.machine.text (content_in old.folder n.undo) read) names_are taken, outcome_is)
+  found = record {
+    read = λ reads. (subst (λ (n : Names). IsTaken state.machine.text (content_in old.folder n.undo) read) names_are taken, outcome_is);
+    unstored = λ unstored. absurd (never_unstored read (sym outcome_is ∙ unstored));
+  }
 
   none_begun : begins_sync state instruction ≡ false
   none_begun = begins_none state.steps instruction.parsed is
@@ -158,7 +186,7 @@ module _ (state : SessionState) (syncs : List Sync) (instruction : Instruction) 
 
   now : Fits after new.folder (state_after state instruction ended) syncs
   now =
-      subst (λ (w : Bool). Fits after new.folder (cond (((w && false) && not lacks) && is_done outcome) (written_state (after_sync state (begins_sync state instruction && false)))
+      subst (λ (w : Bool). Fits after new.folder (cond (((w && false) && not lacks) && took_effect outcome) (written_state (after_sync state (begins_sync state instruction && false)))
       (with_history (history_taken instruction ended) (carried (after_sync state (begins_sync state instruction && false)) instruction mark))) syncs) (sym (writes_none instruction.parsed is))
       (subst (λ (c : Bool). Fits after new.folder (with_history (history_taken instruction ended) (carried (after_sync state (c && false)) instruction mark)) syncs) (sym none_begun)
       (subst (λ (o : Option History). Fits after new.folder (with_history o (carried state instruction mark)) syncs) (sym history_is)
@@ -167,11 +195,11 @@ module _ (state : SessionState) (syncs : List Sync) (instruction : Instruction) 
   replied_as : reply ≡ reply_of state instruction ended
   replied_as =
       reply_as ∙ replied read state.machine (machine.meaning_of state.machine instruction.parsed instruction.block)
-      ∙ (λ i. answered (sym outcome_is i) (sym (reply_is state old.folder read instruction.parsed is) i) (machine.reply_by (sym outcome_is i) state.machine (machine.meaning_of state.machine instruction.parsed instruction.block)))
+      ∙ (λ i. answered (sym outcome_is i) (sym (reply_is state outcome old.folder read instruction.parsed is) i) (machine.reply_by (sym outcome_is i) state.machine (machine.meaning_of state.machine instruction.parsed instruction.block)))
 
   work : work_of state instruction ended ≡ None
   work =
-      ap (λ (w : Bool). cond ((w && false) && not lacks) (Some (EditedFile (write_in state old.folder))) (undo_work state old.folder instruction.parsed)) (writes_none instruction.parsed is)
+      ap (λ (w : Bool). cond ((w && false) && not lacks) (Some (write_work state old.folder)) (undo_work state old.folder instruction.parsed)) (writes_none instruction.parsed is)
       ∙ stores_none state old.folder instruction.parsed is
 
   pub answers_read : Answers state syncs instruction before after mark reply old new
@@ -183,6 +211,6 @@ module _ (state : SessionState) (syncs : List Sync) (instruction : Instruction) 
         wrote = tt;
         whole = tt;
         flag = tt;
-        cause = λ failed. cause.risen (failed_is outcome failed);
+        cause = cause.risen;
         between = between_synced names after new.folder (state_after state instruction ended) syncs names_after now;
       })

@@ -1,5 +1,6 @@
 -- What a sync, and a command, make of a session that fits.
 use Rattle.std.proofs.Common.{◌≡◌, ◌<◌, ℕ, Bool, true, false, ◌==◌, not, List, length, ◌∷◌, Option, Some, None, Result, Ok, refl, sym, ◌∙◌, ap, subst, arith}
+use Rattle.std.specs.Prelude.{string_bytes}
 use Rattle.std.proofs.lemmas.Bool.Decides.{nat_tests}
 use Rattle.vs_host.specs.Disk.{Disk}
 use Rattle.vs_exparse.specs.Command.{Command}
@@ -16,7 +17,7 @@ use Rattle.vs_machine.specs.Machine as machine
 use Rattle.vs_machine.specs.Machine.{State, current_of}
 use Rattle.vs_machine.specs.Replies.{Answer}
 use Rattle.vs_machine.specs.declared.command.Outcome.{Outcome}
-use Rattle.vs_machine.specs.declared.command.Outcome.TheVariants.{Done, NoMemory, Fault}
+use Rattle.vs_machine.specs.declared.command.Outcome.TheVariants.{Done, NoMemory, Fault, NoUndo}
 use Rattle.vs_safety.specs.Texts.{Sync}
 use Rattle.vs_paged.specs.Fits as folder
 use Rattle.vs_paged.specs.declared.paged.PagedText.{PagedText}
@@ -31,6 +32,19 @@ current_is undo state is = ap (λ (p : Parts). p.current) is.links
 
 pub saved_is : (session : Session) (disk : Disk) (state : SessionState) (syncs : List Sync) → Fits session disk state syncs → is_saved session.saved session.history.current ≡ is_saved state.saved (current_of state.machine)
 saved_is session disk state syncs fits = ap (λ (n : ℕ). is_saved session.saved n) (current_is session.history state.machine fits.stands.history) ∙ ap (λ (o : Option ℕ). is_saved o (current_of state.machine)) fits.saved
+
+-- the session goes on where its text does, and nothing else of it changes
+pub fits_again : (old new : Session) (was now : Disk) (state : SessionState) (syncs : List Sync) → Fits old was state syncs → FitsState new.text new.history now state.machine syncs → new.name ≡ old.name → new.cursor ≡ old.cursor
+    → new.saved ≡ old.saved → new.steps ≡ old.steps → new.options ≡ old.options → new.acknowledged ≡ old.acknowledged → Fits new now state syncs
+fits_again old new was now state syncs fits stands name cursor saved steps options acknowledged = record {
+  stands = stands;
+  name = ap string_bytes name ∙ fits.name;
+  cursor = cursor ∙ fits.cursor;
+  saved = saved ∙ fits.saved;
+  steps = steps ∙ fits.steps;
+  options = options ∙ fits.options;
+  acknowledged = acknowledged ∙ fits.acknowledged;
+}
 
 -- one more sync of this state
 pub stands_synced : (old : Session) (paged : PagedText) (was now : Disk) (state : SessionState) (syncs : List Sync) (here : Bool) (flag : Bool) → Fits old was state syncs → here ≡ is_saved old.saved old.history.current
@@ -105,6 +119,7 @@ pub answered_none : (outcome : Outcome) (reply : Answer) → answered outcome No
 answered_none Done reply = refl
 answered_none NoMemory reply = refl
 answered_none Fault reply = refl
+answered_none NoUndo reply = refl
 
 pub quits_is : (session : Session) (disk : Disk) (state : SessionState) (syncs : List Sync) (instruction : Instruction) (parsed : Result Command ExErr) (b : Bool) → Fits session disk state syncs → parsed ≡ instruction.parsed
     → quits parsed (is_saved session.saved session.history.current) ≡ b → accepts_quit state instruction ≡ b

@@ -16,14 +16,14 @@ use Rattle.vs_pair.proofs.MadeFiles.{same_weaker}
 use Rattle.vs_exparse.specs.Command.Command.{Write as WriteFile, WriteUndo, ReadUndo}
 use Rattle.vs_excmd.specs.Request.{Instruction}
 use Rattle.vs_machine.specs.Machine as machine
-use Rattle.vs_machine.specs.Machine.{is_done, current_of}
+use Rattle.vs_machine.specs.Machine.{is_done, took_effect, current_of}
 use Rattle.vs_machine.specs.Replies.{Answer, refuses, device_fault}
 use Rattle.vs_machine.specs.declared.command.Mark.{Mark}
 use Rattle.vs_machine.specs.declared.command.Outcome.{Outcome}
-use Rattle.vs_machine.specs.declared.command.Outcome.TheVariants.{Done, NoMemory, Fault}
+use Rattle.vs_machine.specs.declared.command.Outcome.TheVariants.{Fault, NoUndo}
 use Rattle.vs_safety.specs.Texts.{Sync, IsBetween, IsFlag, Recovers, RecoversOrNone, begun, recoverable}
 use Rattle.vs_safety.specs.Turns.{Turn, with_sync, last_turn}
-use Rattle.vs_safety.specs.FileWork.{EditedFile, FileWork}
+use Rattle.vs_safety.specs.FileWork.{FileWork}
 use Rattle.vs_safety.specs.Safety.{Spares, Works, IsUnderWay, Stepped}
 use Rattle.vs_undo.specs.History.{History}
 use Rattle.vs_paged.specs.Fits as folder
@@ -33,7 +33,7 @@ use Rattle.vs_session.specs.declared.session.Step.{Step}
 use Rattle.vs_session.specs.declared.session.Step.TheVariants as steps
 use Rattle.vs_session.specs.declared.taking.TakeErr.{TakeErr}
 use Rattle.vs_session.specs.declared.taking.TakeErr.TheVariants as take
-use Rattle.vs_session.specs.Session.{SessionState, Ended, HasFound, accepts_quit, after_sync, answered, begins_after, begins_sync, carried, history_by, history_taken, is_fault, is_rundo, is_write, is_wundo, lacks_name, own_reply, reply_of, session_reply, state_after, sync_in, sync_of, undo_work, uses_files, with_history, work_of, write_in, writes_files, written_state}
+use Rattle.vs_session.specs.Session.{SessionState, Ended, HasFound, accepts_quit, after_sync, answered, begins_after, begins_sync, carried, history_by, history_taken, is_fault, is_rundo, is_write, is_wundo, lacks_name, own_reply, reply_of, session_reply, state_after, stores_both, sync_in, sync_of, undo_work, uses_files, with_history, work_of, write_work, writes_files, written_state}
 use Rattle.vs_session.specs.Fits.{Answers, Fits, IsStep, Leaves, names_of}
 use Rattle.vs_session.proofs.SessionLemmas.{counted_same}
 
@@ -51,17 +51,18 @@ inside_new old new P frame m inside = record {
 inside_as : (start : Scene) (P Q : Disk → Type 0) → ((d : Disk) → P d → Q d) → (m : Snapshot) → Inside start P m → Inside start Q m
 inside_as start P Q leads m inside = record { output = inside.output; answered = inside.answered; script_faults = inside.script_faults; out_faults = inside.out_faults; folder = leads m.folder inside.folder }
 
-pub works_runs : (names : Names) (P : Disk → Type 0) (step : Disk → Disk → Type 0) (old new : Scene) → ChangesFolder old new → ((d : Disk) → step old.folder d → Spares names None P old.folder d) → Runs step old new → Works names None P old new
-works_runs names P step old new frame leads runs = record {
-  moments = goes_weaker (Inside old (step old.folder)) (Inside new (Spares names None P old.folder))
-      (λ m inside. inside_new old new (Spares names None P old.folder) frame m (inside_as old (step old.folder) (Spares names None P old.folder) leads m inside)) old.trace new.trace runs.moments;
+pub works_runs : (names : Names) (work : Option FileWork) (P : Disk → Type 0) (step : Disk → Disk → Type 0) (old new : Scene) → ChangesFolder old new → ((d : Disk) → step old.folder d → Spares names work P old.folder d)
+    → Runs step old new → Works names work P old new
+works_runs names work P step old new frame leads runs = record {
+  moments = goes_weaker (Inside old (step old.folder)) (Inside new (Spares names work P old.folder))
+      (λ m inside. inside_new old new (Spares names work P old.folder) frame m (inside_as old (step old.folder) (Spares names work P old.folder) leads m inside)) old.trace new.trace runs.moments;
   output = ap (λ (s : Scene). s.output) frame;
   spared = (leads new.folder runs.now).spared;
 }
 
 pub works_looks : (names : Names) (P : Disk → Type 0) (old new : Scene) → ReadsFolder old new → P old.folder → Looks old new → Works names None P old new
 works_looks names P old new frame here looks =
-    works_runs names P (λ a b. b ≡ a) old new (reads_change old new frame)
+    works_runs names None P (λ a b. b ≡ a) old new (reads_change old new frame)
     (λ d is. subst (λ (e : Disk). Spares names None P old.folder e) (sym is) (record { folder = here; spared = same_none (is_foreign names) old.folder })) looks
 
 pub works_then : (names : Names) (P : Disk → Type 0) (old mid new : Scene) → ChangesFolder mid new → Works names None P old mid → Works names None P mid new → Works names None P old new
@@ -93,14 +94,13 @@ flag_true names done old new rises = record { if_done = λ _. refl; rises = λ _
 pub flag_false : (names : Names) (old new : Disk) → (Rises names old new → ⊥) → IsFlag names false old new false
 flag_false names old new none = record { if_done = λ is. absurd (true≢false (sym is)); rises = λ _ is. absurd (true≢false (sym is)); if_rises = λ _ rises. absurd (none rises) }
 
-pub failed_is : (outcome : Outcome) → is_fault outcome ≡ true → outcome ≡ Fault
-failed_is Done is = absurd (true≢false (sym is))
-failed_is NoMemory is = absurd (true≢false (sym is))
-failed_is Fault is = refl
-
 pub risen_since : (a b c : ℕ) → a ≤ b → HasRisen b c → HasRisen a c
 risen_since a b c le (inl less) = inl (omega (arith, le, less))
 risen_since a b c le (inr full) = inr full
+
+pub risen_until : (a b c : ℕ) → HasRisen a b → b ≤ c → HasRisen a c
+risen_until a b c (inl less) le = inl (omega (arith, le, less))
+risen_until a b c (inr full) le = inr (omega (arith, le, full))
 
 pub between_synced : (names : Names) (session : Session) (disk : Disk) (state : SessionState) (syncs : List Sync) → names_of session ≡ names → Fits session disk state syncs → IsBetween names syncs disk
 between_synced names session disk state syncs is fits = subst (λ (n : Names). IsBetween n syncs disk) is (fits_between session.text disk state.machine.text syncs fits.stands.text)
@@ -121,7 +121,7 @@ pub synced_works : (names : Names) (session : Session) (old new : Scene) (state 
     → Runs (folder.Syncing session.text) old new → Works names None (IsUnderWay names (under_sync state syncs) None) old new
 synced_works names session old new state syncs is fits frame runs =
     subst (λ (n : Names). Works n None (IsUnderWay n (under_sync state syncs) None) old new) is
-    (works_runs (names_of session) (IsUnderWay (names_of session) (under_sync state syncs) None) (folder.Syncing session.text) old new frame
+    (works_runs (names_of session) None (IsUnderWay (names_of session) (under_sync state syncs) None) (folder.Syncing session.text) old new frame
     (λ d syncing. record {
       folder = no_write (names_of session) (under_sync state syncs) d (syncing.safe state.machine.text syncs fits.stands.text);
       spared = spares_apart (names_of session) old.folder d (syncing.spared state.machine.text syncs fits.stands.text);
@@ -150,7 +150,7 @@ pub looked_synced : (before after : Session) (state : SessionState) (syncs : Lis
     → Stepped (names_of before) syncs (record { found = Some old.folder; sync = Some (sync_in state true); write = None; done = done; failed = failed; reply = reply }) old new
 looked_synced before after state syncs then done failed reply old mid new fits between same names frame runs rises synced stays second looks cause now = record {
   works = works_then (names_of before) (under_way before state syncs) old mid new second (synced_works (names_of before) before old mid state syncs refl fits frame runs)
-      (works_runs (names_of before) (under_way before state syncs) (λ a b. b ≡ a) mid new second
+      (works_runs (names_of before) None (under_way before state syncs) (λ a b. b ≡ a) mid new second
       (λ d is. subst (λ (e : Disk). Spares (names_of before) None (under_way before state syncs) mid.folder e) (sym is) (record { folder = here_synced before between state syncs mid.folder same synced; spared = same_none (is_foreign (names_of before)) mid.folder })) looks);
   found = refl;
   wrote = tt;
@@ -167,11 +167,11 @@ and_false true = refl
 and_false false = refl
 
 -- a command that neither writes nor reads another file is answered by the session, or by the machine
-plain_reply : (state : SessionState) (found : Disk) (read : Result History TakeErr) (parsed : _) → uses_files parsed ≡ false → own_reply parsed ≡ session_reply state found read parsed
-plain_reply state found read (Ok (WriteFile bang)) none = absurd (true≢false none)
-plain_reply state found read (Ok WriteUndo) none = absurd (true≢false none)
-plain_reply state found read (Ok ReadUndo) none = absurd (true≢false none)
-plain_reply state found read parsed none = refl
+plain_reply : (state : SessionState) (outcome : Outcome) (found : Disk) (read : Result History TakeErr) (parsed : _) → uses_files parsed ≡ false → own_reply parsed ≡ session_reply state outcome found read parsed
+plain_reply state outcome found read (Ok (WriteFile bang)) none = absurd (true≢false none)
+plain_reply state outcome found read (Ok WriteUndo) none = absurd (true≢false none)
+plain_reply state outcome found read (Ok ReadUndo) none = absurd (true≢false none)
+plain_reply state outcome found read parsed none = refl
 
 none_left : (a b : Bool) → (a || b) ≡ false → a ≡ false
 none_left true b none = none
@@ -237,7 +237,7 @@ module _ (state : SessionState) (syncs : List Sync) (instruction : Instruction) 
       → let ended : Ended = record { mark = mark; acknowledged = acknowledged; found = old.folder; read = read } in
       HasFound state instruction ended → sync_of state instruction ended ≡ sync → work_of state instruction ended ≡ write → reply ≡ reply_of state instruction ended
       → Fits after new.folder (state_after state instruction ended) (with_sync sync syncs)
-      → Stepped (names_of before) syncs (record { found = Some old.folder; sync = sync; write = write; done = is_done mark.outcome; failed = is_fault mark.outcome; reply = (reply_of state instruction ended).bytes }) old new
+      → Stepped (names_of before) syncs (record { found = Some old.folder; sync = sync; write = write; done = took_effect mark.outcome; failed = is_fault mark.outcome; reply = (reply_of state instruction ended).bytes }) old new
       → Answers state syncs instruction before after mark reply old new
   assemble_read after mark acknowledged read reply new sync write found sync_is write_is replied now stepped =
       let ended : Ended = record { mark = mark; acknowledged = acknowledged; found = old.folder; read = read } in
@@ -249,17 +249,17 @@ module _ (state : SessionState) (syncs : List Sync) (instruction : Instruction) 
         reply_is = replied;
         fits = subst (λ (o : Option Sync). Fits after new.folder (state_after state instruction ended) (with_sync o syncs)) (sym sync_is) now;
         stepped = subst (λ (t : Turn). Stepped (names_of before) syncs t old new)
-            (λ i. record { found = Some old.folder; sync = sym sync_is i; write = sym write_is i; done = is_done mark.outcome; failed = is_fault mark.outcome; reply = (reply_of state instruction ended).bytes }) stepped;
+            (λ i. record { found = Some old.folder; sync = sym sync_is i; write = sym write_is i; done = took_effect mark.outcome; failed = is_fault mark.outcome; reply = (reply_of state instruction ended).bytes }) stepped;
       }
 
   -- that of a command which reads no undo file
   pub assemble : (after : Session) (mark : Mark) (acknowledged : Bool) (reply : Answer) (new : Scene) (sync : Option Sync) (write : Option FileWork) → is_rundo instruction.parsed ≡ false
-      → sync_of state instruction (ended_with mark acknowledged) ≡ sync → work_of state instruction (ended_with mark acknowledged) ≡ write → reply ≡ reply_of state instruction (ended_with mark acknowledged)
+      → (mark.outcome ≡ NoUndo → stores_both state instruction (ended_with mark acknowledged) ≡ true) → sync_of state instruction (ended_with mark acknowledged) ≡ sync → work_of state instruction (ended_with mark acknowledged) ≡ write → reply ≡ reply_of state instruction (ended_with mark acknowledged)
       → Fits after new.folder (state_after state instruction (ended_with mark acknowledged)) (with_sync sync syncs)
-      → Stepped (names_of before) syncs (record { found = Some old.folder; sync = sync; write = write; done = is_done mark.outcome; failed = is_fault mark.outcome; reply = (reply_of state instruction (ended_with mark acknowledged)).bytes }) old new
+      → Stepped (names_of before) syncs (record { found = Some old.folder; sync = sync; write = write; done = took_effect mark.outcome; failed = is_fault mark.outcome; reply = (reply_of state instruction (ended_with mark acknowledged)).bytes }) old new
       → Answers state syncs instruction before after mark reply old new
-  assemble after mark acknowledged reply new sync write none sync_is write_is replied now stepped =
-      assemble_read after mark acknowledged unread reply new sync write (λ reads. absurd (true≢false (sym reads ∙ none))) sync_is write_is replied now stepped
+  assemble after mark acknowledged reply new sync write none unstored sync_is write_is replied now stepped =
+      assemble_read after mark acknowledged unread reply new sync write (record { read = λ reads. absurd (true≢false (sym reads ∙ none)); unstored = unstored }) sync_is write_is replied now stepped
 
   sync_is : (b : Bool) (mark : Mark) (acknowledged : Bool) → begins ≡ b → sync_of state instruction (ended_with mark acknowledged) ≡ cond b (Some (sync_in state acknowledged)) None
   sync_is b mark acknowledged is = ap (λ (c : Bool). cond c (Some (sync_in state acknowledged)) None) is
@@ -268,28 +268,28 @@ module _ (state : SessionState) (syncs : List Sync) (instruction : Instruction) 
   module _ (plain : uses_files instruction.parsed ≡ false) where
     no_file : (mark : Mark) (acknowledged : Bool) → work_of state instruction (ended_with mark acknowledged) ≡ None
     no_file mark acknowledged =
-        ap (λ (w : Bool). cond ((w && acknowledged) && not lacks) (Some (EditedFile (write_in state old.folder))) (undo_work state old.folder instruction.parsed)) (plain_write instruction.parsed plain)
+        ap (λ (w : Bool). cond ((w && acknowledged) && not lacks) (Some (write_work state old.folder)) (undo_work state old.folder instruction.parsed)) (plain_write instruction.parsed plain)
         ∙ plain_work state old.folder instruction.parsed plain
 
     plainly : (after : Session) (mark : Mark) (acknowledged : Bool) (new : Scene) (b : Bool) (ss : List Sync) → begins ≡ b → Fits after new.folder (carried (after_sync state (b && acknowledged)) instruction mark) ss
         → Fits after new.folder (state_after state instruction (ended_with mark acknowledged)) ss
     plainly after mark acknowledged new b ss is now =
         let synced : SessionState = after_sync state (begins && acknowledged) in
-        subst (λ (w : Bool). Fits after new.folder (cond (((w && acknowledged) && not lacks) && is_done mark.outcome) (written_state synced) (with_history (history_taken instruction (ended_with mark acknowledged)) (carried synced instruction mark))) ss) (sym (plain_write instruction.parsed plain))
+        subst (λ (w : Bool). Fits after new.folder (cond (((w && acknowledged) && not lacks) && took_effect mark.outcome) (written_state synced) (with_history (history_taken instruction (ended_with mark acknowledged)) (carried synced instruction mark))) ss) (sym (plain_write instruction.parsed plain))
         (untaken after new.folder (carried synced instruction mark) ss instruction (ended_with mark acknowledged) (plain_read instruction.parsed plain)
         (subst (λ (c : Bool). Fits after new.folder (carried (after_sync state (c && acknowledged)) instruction mark) ss) (sym is) now))
 
     replied_plainly : (mark : Mark) (acknowledged : Bool) (reply : Answer) → reply ≡ answered mark.outcome (own_reply instruction.parsed) (machine.reply_of state.machine instruction mark)
         → reply ≡ reply_of state instruction (ended_with mark acknowledged)
     replied_plainly mark acknowledged reply is =
-        is ∙ ap (λ (o : Option Answer). answered mark.outcome o (machine.reply_of state.machine instruction mark)) (plain_reply state old.folder unread instruction.parsed plain)
+        is ∙ ap (λ (o : Option Answer). answered mark.outcome o (machine.reply_of state.machine instruction mark)) (plain_reply state mark.outcome old.folder unread instruction.parsed plain)
 
     -- no sync
-    pub answers_plainly : (after : Session) (mark : Mark) (reply : Answer) (new : Scene) → begins ≡ false → names_of after ≡ names_of before → ReadsFolder old new → Looks old new
-        → HasCause old.folder_faults new.folder_faults (mark.outcome ≡ Fault) → reply ≡ answered mark.outcome (own_reply instruction.parsed) (machine.reply_of state.machine instruction mark)
+    pub answers_plainly : (after : Session) (mark : Mark) (reply : Answer) (new : Scene) → (mark.outcome ≡ NoUndo → ⊥) → begins ≡ false → names_of after ≡ names_of before → ReadsFolder old new → Looks old new
+        → HasCause old.folder_faults new.folder_faults (is_fault mark.outcome ≡ true) → reply ≡ answered mark.outcome (own_reply instruction.parsed) (machine.reply_of state.machine instruction mark)
         → Fits after new.folder (carried state instruction mark) syncs → Answers state syncs instruction before after mark reply old new
-    answers_plainly after mark reply new none names frame looks cause replied now =
-        assemble after mark false reply new None None (plain_read instruction.parsed plain) (sync_is false mark false none) (no_file mark false) (replied_plainly mark false reply replied) (plainly after mark false new false syncs none now)
+    answers_plainly after mark reply new stored none names frame looks cause replied now =
+        assemble after mark false reply new None None (plain_read instruction.parsed plain) (λ is. absurd (stored is)) (sync_is false mark false none) (no_file mark false) (replied_plainly mark false reply replied) (plainly after mark false new false syncs none now)
         (record {
           works = works_looks (names_of before) (IsUnderWay (names_of before) syncs None) old new frame
               (no_write (names_of before) syncs old.folder (recovers_synced (names_of before) before old.folder state syncs refl fits)) looks;
@@ -297,28 +297,28 @@ module _ (state : SessionState) (syncs : List Sync) (instruction : Instruction) 
           wrote = tt;
           whole = tt;
           flag = tt;
-          cause = λ failed. cause.risen (failed_is mark.outcome failed);
+          cause = cause.risen;
           between = between_synced (names_of before) after new.folder (carried state instruction mark) syncs names now;
         })
 
     -- a sync that was acknowledged, and the command after it
-    pub answers_synced : (between after : Session) (mark : Mark) (reply : Answer) (mid new : Scene) → begins ≡ true → names_of between ≡ names_of before → names_of after ≡ names_of before → ChangesFolder old mid
+    pub answers_synced : (between after : Session) (mark : Mark) (reply : Answer) (mid new : Scene) → (mark.outcome ≡ NoUndo → ⊥) → begins ≡ true → names_of between ≡ names_of before → names_of after ≡ names_of before → ChangesFolder old mid
         → Runs (folder.Syncing before.text) old mid → old.folder_faults ≤ mid.folder_faults → Rises (names_of before) old.folder mid.folder → Fits between mid.folder (after_sync state true) (sync_in state true ∷ syncs)
-        → ReadsFolder mid new → Looks mid new → HasCause mid.folder_faults new.folder_faults (mark.outcome ≡ Fault)
+        → ReadsFolder mid new → Looks mid new → HasCause mid.folder_faults new.folder_faults (is_fault mark.outcome ≡ true)
         → reply ≡ answered mark.outcome (own_reply instruction.parsed) (machine.reply_of state.machine instruction mark)
         → Fits after new.folder (carried (after_sync state true) instruction mark) (sync_in state true ∷ syncs) → Answers state syncs instruction before after mark reply old new
-    answers_synced between after mark reply mid new begun same names frame runs later rises synced second looks cause replied now =
-        assemble after mark true reply new (Some (sync_in state true)) None (plain_read instruction.parsed plain) (sync_is true mark true begun) (no_file mark true) (replied_plainly mark true reply replied) (plainly after mark true new true (sync_in state true ∷ syncs) begun now)
-        (looked_synced before after state syncs (carried (after_sync state true) instruction mark) (is_done mark.outcome) (is_fault mark.outcome) (reply_of state instruction (ended_with mark true)).bytes old mid new fits between same names frame runs rises synced
-        (ap (λ (s : Scene). s.folder) second) (reads_change mid new second) looks (λ failed. risen_since old.folder_faults mid.folder_faults new.folder_faults later (cause.risen (failed_is mark.outcome failed))) now)
+    answers_synced between after mark reply mid new stored begun same names frame runs later rises synced second looks cause replied now =
+        assemble after mark true reply new (Some (sync_in state true)) None (plain_read instruction.parsed plain) (λ is. absurd (stored is)) (sync_is true mark true begun) (no_file mark true) (replied_plainly mark true reply replied) (plainly after mark true new true (sync_in state true ∷ syncs) begun now)
+        (looked_synced before after state syncs (carried (after_sync state true) instruction mark) (took_effect mark.outcome) (is_fault mark.outcome) (reply_of state instruction (ended_with mark true)).bytes old mid new fits between same names frame runs rises synced
+        (ap (λ (s : Scene). s.folder) second) (reads_change mid new second) looks (λ failed. risen_since old.folder_faults mid.folder_faults new.folder_faults later (cause.risen failed)) now)
 
   -- a sync that failed
   pub answers_failed : (after : Session) (at : ℕ) (reply : Answer) (new : Scene) → begins ≡ true → names_of after ≡ names_of before → ChangesFolder old new → Runs (folder.Syncing before.text) old new
       → HasRisen old.folder_faults new.folder_faults → reply ≡ refuses device_fault → (Rises (names_of before) old.folder new.folder → ⊥) → Fits after new.folder state (sync_in state false ∷ syncs)
       → Answers state syncs instruction before after (record { outcome = Fault; at = at }) reply old new
   answers_failed after at reply new begun names frame runs risen replied none now =
-      assemble after mark false reply new (Some (sync_in state false)) None (begun_read state.steps instruction.parsed begun) (sync_is true mark false begun)
-      (ap (λ (w : Bool). cond (w && not lacks) (Some (EditedFile (write_in state old.folder))) (undo_work state old.folder instruction.parsed)) (and_false writes)
+      assemble after mark false reply new (Some (sync_in state false)) None (begun_read state.steps instruction.parsed begun) (λ is. absurd (cc)) (sync_is true mark false begun)
+      (ap (λ (w : Bool). cond (w && not lacks) (Some (write_work state old.folder)) (undo_work state old.folder instruction.parsed)) (and_false writes)
       ∙ begun_work state.steps state old.folder instruction.parsed begun) replied stays
       (record {
         works = synced_works (names_of before) before old new state syncs refl fits frame runs;
@@ -400,7 +400,7 @@ last_step (Err e) session after state syncs old new same fits frame runs cause r
 
 pub leaves : (session : Session) (state : SessionState) (syncs : List Sync) (old new : Scene) → Fits session old.folder state syncs → ChangesFolder old new → Runs (folder.Ending session.text) old new → Leaves (names_of session) syncs old new
 leaves session state syncs old new fits frame runs = record {
-  works = works_runs (names_of session) (RecoversOrNone (names_of session) (recoverable syncs)) (folder.Ending session.text) old new frame
+  works = works_runs (names_of session) None (RecoversOrNone (names_of session) (recoverable syncs)) (folder.Ending session.text) old new frame
       (λ d ending. record { folder = ending.safe state.machine.text syncs fits.stands.text; spared = spares_apart (names_of session) old.folder d (ending.spared state.machine.text syncs fits.stands.text) }) runs;
   now = runs.now.safe state.machine.text syncs fits.stands.text;
 }

@@ -1,5 +1,5 @@
 -- A text in the pages of a pair is what a store over them has, so each clause of the store says what the text is.
-use Rattle.std.proofs.Common.{◌≡◌, inr, Bool, IsTrue, List, Result, Ok, Err, IfOk, sym, ◌∙◌, subst, arith}
+use Rattle.std.proofs.Common.{◌≡◌, inr, Bool, IsTrue, List, Result, Ok, Err, IfOk, sym, ap, ◌∙◌, subst, arith}
 use Rattle.vs_pages.specs.Memory.{present_of, committed_of}
 use Rattle.vs_pages.specs.declared.memory.MemPages.{MemPages}
 use Rattle.vs_edit.specs.State.{SameText}
@@ -9,9 +9,7 @@ use Rattle.vs_tree.specs.Sames.{one_text}
 use Rattle.vs_host.specs.Disk.{Disk}
 use Rattle.vs_host.specs.World as world
 use Rattle.vs_host.specs.World.{Scene}
-use Rattle.vs_pair.specs.declared.files.SwapFiles.{SwapFiles}
 use Rattle.vs_pair.specs.declared.pair.SwapPair.{SwapPair}
-use Rattle.vs_pair.specs.Pair.{IsFit, known_of}
 use Rattle.vs_pair.specs.Lent.{IsReady, KeepsFiles}
 use Rattle.vs_undo.specs.History.{History, IsHistory, FitsText}
 use Rattle.vs_undo.specs.declared.parts.Parts.{Parts}
@@ -19,6 +17,7 @@ use Rattle.vs_machine.specs.Machine.{State}
 use Rattle.vs_safety.specs.Texts.{Text, Sync}
 use Rattle.vs_paged.specs.Fits as folder
 use Rattle.vs_paged.specs.declared.paged.PagedText.{PagedText}
+use Rattle.vs_paged.proofs.SyncLemmas.{fits_changed, known_changed}
 use Rattle.vs_session.specs.Standing.{Stands, FitsState}
 use Rattle.vs_paged.specs.Pages.{IsBounded, IsPaged}
 
@@ -90,10 +89,10 @@ stands_back now held tree left undo state pair_is tree_is is =
     let Q : LineTree → Type 0 = λ t. Stands held.pages t undo state in
     subst P (sym pair_is) (subst Q (sym tree_is) is)
 
-pub keeps_back : (tells : world.Tells) (was now held : SwapPair) (old new left : Scene) → now ≡ held → new ≡ left → KeepsFiles tells was.files held.files old left → KeepsFiles tells was.files now.files old new
+pub keeps_back : (tells : world.Tells) (was now held : SwapPair) (old new left : Scene) → now ≡ held → new ≡ left → KeepsFiles tells was held old left → KeepsFiles tells was now old new
 keeps_back tells was now held old new left pair_is host_is is =
-    let P : SwapPair → Type 0 = λ p. KeepsFiles tells was.files p.files old new in
-    let Q : Scene → Type 0 = λ s. KeepsFiles tells was.files held.files old s in
+    let P : SwapPair → Type 0 = λ p. KeepsFiles tells was p old new in
+    let Q : Scene → Type 0 = λ s. KeepsFiles tells was held old s in
     subst P (sym pair_is) (subst Q (sym host_is) is)
 
 -- ---- the text in the folder
@@ -102,21 +101,15 @@ pub fits_ready : (paged : PagedText) (disk : Disk) (text : Text) (syncs : List S
 fits_ready paged disk text syncs fits = inr (fits.newest, fits.later, fits.past, fits.fit)
 
 -- the same swap files in the same folder
-pub fits_left : (old new : PagedText) (was now : Disk) (text after : Text) (syncs : List Sync) → new.pair.files ≡ old.pair.files → now ≡ was → folder.Fits old was text syncs → IsPaged new.pair.pages new.tree after → folder.Fits new now after syncs
-fits_left old new was now text after syncs files same fits pages = record {
-  pages = pages;
-  newest = fits.newest;
-  later = fits.later;
-  past = fits.past;
-  fit = let P : SwapFiles → Type 0 = λ f. IsFit (record { names = f.names; newer = f.newer; gate = f.gate; generation = f.generation }) now fits.newest fits.later fits.past in
-      let Q : Disk → Type 0 = λ d. IsFit (known_of old.pair) d fits.newest fits.later fits.past in
-      subst P (sym files) (subst Q (sym same) fits.fit);
-  syncs_are = fits.syncs_are;
-}
+pub fits_left : (tells : world.Tells) (old new : PagedText) (was now : Scene) (text after : Text) (syncs : List Sync) → KeepsFiles tells old.pair new.pair was now → folder.Fits old was.folder text syncs
+    → IsPaged new.pair.pages new.tree after → folder.Fits new now.folder after syncs
+fits_left tells old new was now text after syncs keeps fits pages =
+    let P : Disk → Type 0 = λ disk. folder.Fits new disk after syncs in
+    subst P (sym (ap (λ (s : Scene). s.folder) keeps.frame)) (fits_changed old new was.folder text after syncs (known_changed old.pair new.pair keeps.files) keeps.marks pages fits)
 
-pub state_left : (old new : PagedText) (undo left : Parts) (was now : Disk) (state after : State) (syncs : List Sync) → new.pair.files ≡ old.pair.files → now ≡ was → FitsState old undo was state syncs
-    → Stands new.pair.pages new.tree left after → FitsState new left now after syncs
-state_left old new undo left was now state after syncs files same fits stands = record { text = fits_left old new was now state.text after.text syncs files same fits.text stands.text; history = stands.history }
+pub state_left : (tells : world.Tells) (old new : PagedText) (undo left : Parts) (was now : Scene) (state after : State) (syncs : List Sync) → KeepsFiles tells old.pair new.pair was now
+    → FitsState old undo was.folder state syncs → Stands new.pair.pages new.tree left after → FitsState new left now.folder after syncs
+state_left tells old new undo left was now state after syncs keeps fits stands = record { text = fits_left tells old new was now state.text after.text syncs keeps fits.text stands.text; history = stands.history }
 
 -- what was committed is the present text still, where a store kept both
 pub kept_same : (tells : Bool) (pages left : MemPages) (tree after : LineTree) → IsBounded tree → (IsTrue tells → (text : Text) × IsPaged pages tree text)

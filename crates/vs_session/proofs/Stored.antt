@@ -5,10 +5,9 @@ use Rattle.std.proofs.lemmas.Bool.{true≢false}
 use Rattle.std.proofs.lemmas.List.{append-nil}
 use Rattle.vs_faults.specs.Faults.{HasCause}
 use Rattle.vs_host.specs.Disk.{Disk, Name}
-use Rattle.vs_host.specs.Names.{AreNames, temporary, undo_of, hidden}
+use Rattle.vs_host.specs.Names.{AreNames, temporary}
 use Rattle.vs_host.specs.World.{Scene, ChangesFolder, ReadsFolder}
 use Rattle.vs_host.specs.declared.names.Names.{Names}
-use Rattle.vs_host.proofs.Apart.{names_apart}
 use Rattle.vs_disk.specs.Images.{HoldsBytes, MayLeave, Takes}
 use Rattle.vs_disk.specs.Names.{SameAt}
 use Rattle.vs_disk.specs.Runs.{Inside, Runs, Looks}
@@ -31,25 +30,26 @@ use Rattle.vs_ufile.specs.Values as file
 use Rattle.vs_ubind.specs.Bound.{IsBound}
 use Rattle.vs_options.specs.declared.setting.Options.{Options}
 use Rattle.vs_machine.specs.Machine as machine
-use Rattle.vs_machine.specs.Machine.{State, is_done, current_of}
+use Rattle.vs_machine.specs.Machine.{State, took_effect, current_of}
 use Rattle.vs_machine.specs.Replies.{Answer, says, undo_file_written}
 use Rattle.vs_machine.specs.declared.command.Mark.{Mark}
 use Rattle.vs_machine.specs.declared.command.Outcome.{Outcome}
-use Rattle.vs_machine.specs.declared.command.Outcome.TheVariants.{Done, NoMemory, Fault}
+use Rattle.vs_machine.specs.declared.command.Outcome.TheVariants.{Done, NoMemory, Fault, NoUndo}
 use Rattle.vs_safety.specs.Texts.{Sync, Text, Recovers, recoverable}
 use Rattle.vs_safety.specs.Undo.{IsUndoOf, UndoWrite, HasStored}
 use Rattle.vs_safety.specs.Writes.{state_now}
-use Rattle.vs_safety.specs.FileWork.{EditedFile, FileWork, UndoFile, Keeps}
+use Rattle.vs_safety.specs.FileWork.{FileWork, UndoFile, Keeps}
 use Rattle.vs_safety.specs.Safety.{IsUnderWay, Spares, Works}
 use Rattle.vs_paged.specs.Fits as folder
 use Rattle.vs_paged.proofs.SyncLemmas.{fits_kept, fits_recovers}
+use Rattle.vs_desk.proofs.Left.{goes_both}
 use Rattle.vs_session.specs.declared.session.Session.{Session}
-use Rattle.vs_session.specs.Session.{SessionState, Ended, accepts_quit, after_sync, answered, begins_after, begins_sync, carried, counted, is_fault, is_rundo, is_write, is_wundo, lacks_name, options_after, quits, reply_of, session_reply, state_after, sync_in, undo_in, undo_work, with_history, work_of, write_in, written_state}
-use Rattle.vs_session.specs.Stores.{HasUndo, StoresUndo, wundo_reply}
+use Rattle.vs_session.specs.Session.{SessionState, Ended, accepts_quit, after_sync, answered, begins_after, begins_sync, carried, counted, is_fault, is_rundo, is_write, is_wundo, lacks_name, options_after, quits, reply_of, session_reply, state_after, sync_in, undo_in, undo_work, with_history, work_of, write_work, written_state}
+use Rattle.vs_session.specs.Stores.{HasUndo, StoresUndo}
 use Rattle.vs_session.specs.Fits.{Answers, Fits, names_of}
 use Rattle.vs_session.proofs.SessionLemmas.{counted_same}
-use Rattle.vs_session.proofs.Steps.{assemble, between_synced, failed_is, inside_new, no_history, unread}
-use Rattle.vs_session.proofs.FileWrites.{goes_both}
+use Rattle.vs_session.proofs.UndoNames.{new_name, undo_apart}
+use Rattle.vs_session.proofs.Steps.{assemble, between_synced, no_history, unread, works_runs}
 
 -- ---- the bytes
 
@@ -105,14 +105,16 @@ stores_after names text history old mid new first second looks runs =
 
 -- with the names and the bytes as the calls had them
 module _ (names other : Names) (text : Text) (history : History) (bytes given : List ℕ) (same : other ≡ names) (copied : given ≡ bytes) (is : IsUndoOf text history bytes) where
-  pub stored_runs : (old mid new : Scene) → ReadsFolder old mid → Looks old mid → ChangesFolder mid new → Runs (SparesNames (two_names other.undo_new other.undo)) mid new → Runs (Takes other.undo given) mid new
-      → Runs (StoresUndo names text history) old new
-  stored_runs old mid new first looks second spares takes =
-      stores_after names text history old mid new (reads_change old mid first) second looks
-      (subst (λ (n : Names). Runs (StoresUndo n text history) mid new) same (stores_runs other text history bytes is mid new spares (subst (λ (b : List ℕ). Runs (Takes other.undo b) mid new) copied takes)))
+  given_is : IsUndoOf text history given
+  given_is = subst (λ (b : List ℕ). IsUndoOf text history b) (sym copied) is
 
-  pub stored_bytes : (disk : Disk) → HoldsBytes other.undo given disk → HasUndo names text history disk
-  stored_bytes disk holds = (bytes, is, subst (λ (n : Names). HoldsBytes n.undo bytes disk) same (subst (λ (b : List ℕ). HoldsBytes other.undo b disk) copied holds))
+  pub stored_runs : (old mid new : Scene) → ReadsFolder old mid → Looks old mid → ChangesFolder mid new → ((t : Text) (h : History) → IsUndoOf t h given → Runs (StoresUndo other t h) mid new)
+      → Runs (StoresUndo names text history) old new
+  stored_runs old mid new first looks second stores =
+      stores_after names text history old mid new (reads_change old mid first) second looks (subst (λ (n : Names). Runs (StoresUndo n text history) mid new) same (stores text history given_is))
+
+  pub stored_bytes : (disk : Disk) → ((t : Text) (h : History) → IsUndoOf t h given → HasUndo other t h disk) → HasUndo names text history disk
+  stored_bytes disk holds = subst (λ (n : Names). HasUndo n text history disk) same (holds text history given_is)
 
 abbrev pub error_is : {T : Type 0} → StoreErr → Result T StoreErr
 error_is why = Err why
@@ -120,12 +122,6 @@ error_is why = Err why
 -- ---- the swap files
 
 module _ (names : Names) (are : AreNames names) where
-  undo_name : names.undo ≡ undo_of names.file
-  undo_name = ap (λ (n : Names). n.undo) are.others
-
-  new_name : names.undo_new ≡ temporary names.undo
-  new_name = ap (λ (n : Names). n.undo_new) are.others ∙ ap temporary (sym undo_name)
-
   side_name : (side : Side) → (name_of names side ≡ names.swp) ⊎ (name_of names side ≡ names.swo)
   side_name Swp = inl refl
   side_name Swo = inr refl
@@ -135,17 +131,13 @@ module _ (names : Names) (are : AreNames names) where
       let at = at_side names name (ap not is) in
       subst (λ (n : Name). (n ≡ names.swp) ⊎ (n ≡ names.swo)) (sym at.1) (side_name at.0)
 
-  undo_apart : (names.undo ≡ names.swp) ⊎ (names.undo ≡ names.swo) → ⊥
-  undo_apart (inl swp) = (names_apart names are).1.0.1.0 (sym swp)
-  undo_apart (inr swo) = (names_apart names are).1.1.0.0 (sym swo)
-
   swap_as : (name other : Name) → name ≡ other → is_swap names name ≡ true → (other ≡ names.swp) ⊎ (other ≡ names.swo)
   swap_as name other same is = subst (λ (n : Name). (n ≡ names.swp) ⊎ (n ≡ names.swo)) same (swap_name name is)
 
   -- the storing works on no swap file
   pub undo_outside : IsOutside (two_names names.undo_new names.undo) (is_swap names)
-  undo_outside name is (inl same) = temporary_apart names are names.undo (swap_as name (temporary names.undo) (same ∙ new_name) is)
-  undo_outside name is (inr same) = undo_apart (swap_as name names.undo same is)
+  undo_outside name is (inl same) = temporary_apart names are names.undo (swap_as name (temporary names.undo) (same ∙ new_name names are) is)
+  undo_outside name is (inr same) = undo_apart names are (swap_as name names.undo same is)
 
 -- the session goes on to fit
 pub fits_stored : (session : Session) (old new : Disk) (state : SessionState) (syncs : List Sync) → AreNames (names_of session) → SparesNames (two_names (names_of session).undo_new (names_of session).undo) old new
@@ -186,32 +178,31 @@ work_is : (state : SessionState) (found : Disk) (parsed : _) → is_wundo parsed
 work_is state found (Ok WriteUndo) is = refl
 work_is state found parsed is = absurd (true≢false (sym is))
 
-reply_is : (state : SessionState) (found : Disk) (parsed : _) → is_wundo parsed ≡ true → session_reply state found unread parsed ≡ Some (says undo_file_written)
-reply_is state found (Ok WriteUndo) is = refl
-reply_is state found parsed is = absurd (true≢false (sym is))
+reply_is : (state : SessionState) (outcome : Outcome) (found : Disk) (parsed : _) → is_wundo parsed ≡ true → session_reply state outcome found unread parsed ≡ Some (says undo_file_written)
+reply_is state outcome found (Ok WriteUndo) is = refl
+reply_is state outcome found parsed is = absurd (true≢false (sym is))
 
 machine_stays : (m : State) (at : ℕ) (outcome : Outcome) (block : _) (parsed : _) → is_wundo parsed ≡ true → machine.state_by outcome m at (machine.meaning_of m parsed block) ≡ m
 machine_stays m at Done block (Ok WriteUndo) is = refl
 machine_stays m at Done block parsed is = absurd (true≢false (sym is))
 machine_stays m at NoMemory block parsed is = refl
 machine_stays m at Fault block parsed is = refl
+machine_stays m at NoUndo block (Ok WriteUndo) is = refl
+machine_stays m at NoUndo block parsed is = absurd (true≢false (sym is))
 
 options_stay : (options : Options) (outcome : Outcome) (parsed : _) → is_wundo parsed ≡ true → options_after outcome options parsed ≡ options
 options_stay options Done (Ok WriteUndo) is = refl
 options_stay options Done parsed is = absurd (true≢false (sym is))
 options_stay options NoMemory parsed is = refl
 options_stay options Fault parsed is = refl
-
-replied : (outcome : Outcome) (m : State) (meaning : machine.Meaning) → wundo_reply outcome ≡ answered outcome (Some (says undo_file_written)) (machine.reply_by outcome m meaning)
-replied Done m meaning = refl
-replied NoMemory m meaning = refl
-replied Fault m meaning = refl
+options_stay options NoUndo (Ok WriteUndo) is = refl
+options_stay options NoUndo parsed is = absurd (true≢false (sym is))
 
 module _ (state : SessionState) (syncs : List Sync) (instruction : Instruction) (before : Session) (old : Scene) (fits : Fits before old.folder state syncs) (is : is_wundo instruction.parsed ≡ true) (after : Session)
     (outcome : Outcome) (at : ℕ) (reply : Answer) (new : Scene) (names_after : names_of after ≡ names_of before) (frame : ChangesFolder old new)
     (runs : Runs (StoresUndo (names_of before) state.machine.text state.machine.history) old new)
-    (stored : outcome ≡ Done → HasUndo (names_of before) state.machine.text state.machine.history new.folder) (cause : HasCause old.folder_faults new.folder_faults (outcome ≡ Fault))
-    (reply_to : reply ≡ wundo_reply outcome) (left : Fits after new.folder state syncs) where
+    (stored : outcome ≡ Done → HasUndo (names_of before) state.machine.text state.machine.history new.folder) (cause : HasCause old.folder_faults new.folder_faults (is_fault outcome ≡ true)) (never : outcome ≡ NoUndo → ⊥)
+    (reply_to : reply ≡ answered outcome (Some (says undo_file_written)) (machine.reply_of state.machine instruction (record { outcome = outcome; at = at }))) (left : Fits after new.folder state syncs) where
   abbrev names : Names
   names = names_of before
 
@@ -255,20 +246,19 @@ module _ (state : SessionState) (syncs : List Sync) (instruction : Instruction) 
 
   now : Fits after new.folder (state_after state instruction ended) syncs
   now =
-      subst (λ (o : Option History). Fits after new.folder (cond (((is_write instruction.parsed && false) && not lacks) && is_done outcome) (written_state (after_sync state (begins_sync state instruction && false)))
+      subst (λ (o : Option History). Fits after new.folder (cond (((is_write instruction.parsed && false) && not lacks) && took_effect outcome) (written_state (after_sync state (begins_sync state instruction && false)))
       (with_history o (carried (after_sync state (begins_sync state instruction && false)) instruction mark))) syncs) (sym (no_history instruction ended (no_read instruction.parsed is)))
-      (subst (λ (w : Bool). Fits after new.folder (cond (((w && false) && not lacks) && is_done outcome) (written_state (after_sync state (begins_sync state instruction && false))) (carried (after_sync state (begins_sync state instruction && false)) instruction mark)) syncs)
+      (subst (λ (w : Bool). Fits after new.folder (cond (((w && false) && not lacks) && took_effect outcome) (written_state (after_sync state (begins_sync state instruction && false))) (carried (after_sync state (begins_sync state instruction && false)) instruction mark)) syncs)
       (sym (no_write instruction.parsed is))
       (subst (λ (c : Bool). Fits after new.folder (carried (after_sync state (c && false)) instruction mark) syncs) (sym none_begun) stays))
 
   replied_as : reply ≡ reply_of state instruction ended
   replied_as =
-      reply_to ∙ replied outcome state.machine (machine.meaning_of state.machine instruction.parsed instruction.block)
-      ∙ ap (λ (own : Option Answer). answered outcome own (machine.reply_by outcome state.machine (machine.meaning_of state.machine instruction.parsed instruction.block))) (sym (reply_is state old.folder instruction.parsed is))
+      reply_to ∙ ap (λ (own : Option Answer). answered outcome own (machine.reply_by outcome state.machine (machine.meaning_of state.machine instruction.parsed instruction.block))) (sym (reply_is state outcome old.folder instruction.parsed is))
 
   work : work_of state instruction ended ≡ Some (UndoFile undo)
   work =
-      ap (λ (w : Bool). cond ((w && false) && not lacks) (Some (EditedFile (write_in state old.folder))) (undo_work state old.folder instruction.parsed)) (no_write instruction.parsed is)
+      ap (λ (w : Bool). cond ((w && false) && not lacks) (Some (write_work state old.folder)) (undo_work state old.folder instruction.parsed)) (no_write instruction.parsed is)
       ∙ work_is state old.folder instruction.parsed is
 
   abbrev P : Disk → Type 0
@@ -284,33 +274,23 @@ module _ (state : SessionState) (syncs : List Sync) (instruction : Instruction) 
   }
 
   works : Works names (Some (UndoFile undo)) P old new
-  works = record {
-    moments = goes_weaker (Inside old (StoresUndo names state.machine.text state.machine.history old.folder)) (Inside new (Spares names (Some (UndoFile undo)) P old.folder))
-        (λ m inside. inside_new old new (Spares names (Some (UndoFile undo)) P old.folder) frame m (record {
-          output = inside.output;
-          answered = inside.answered;
-          script_faults = inside.script_faults;
-          out_faults = inside.out_faults;
-          folder = spared m.folder inside.folder;
-        })) old.trace new.trace runs.moments;
-    output = ap (λ (s : Scene). s.output) frame;
-    spared = (spared new.folder runs.now).spared;
-  }
+  works = works_runs names (Some (UndoFile undo)) P (StoresUndo names state.machine.text state.machine.history) old new frame spared runs
 
-  done_is : (o : Outcome) → is_done o ≡ true → o ≡ Done
-  done_is Done one = refl
-  done_is NoMemory one = absurd (true≢false (sym one))
-  done_is Fault one = absurd (true≢false (sym one))
+  done_is : (o : Outcome) → (o ≡ NoUndo → ⊥) → took_effect o ≡ true → o ≡ Done
+  done_is Done none one = refl
+  done_is NoMemory none one = absurd (true≢false (sym one))
+  done_is Fault none one = absurd (true≢false (sym one))
+  done_is NoUndo none one = absurd (none refl)
 
   pub answers_stored : Answers state syncs instruction before after mark reply old new
   answers_stored =
-      assemble state syncs instruction before old goes_on fits after mark false reply new None (Some (UndoFile undo)) (no_read instruction.parsed is) (ap (λ (c : Bool). cond c (Some (sync_in state false)) None) none_begun) work replied_as now
+      assemble state syncs instruction before old goes_on fits after mark false reply new None (Some (UndoFile undo)) (no_read instruction.parsed is) (λ unstored. absurd (never unstored)) (ap (λ (c : Bool). cond c (Some (sync_in state false)) None) none_begun) work replied_as now
       (record {
         found = refl;
         works = works;
-        wrote = record { found = refl; stored = λ done. stored (done_is outcome done) };
+        wrote = record { found = refl; stored = λ done. stored (done_is outcome never done) };
         whole = runs.now.undo;
         flag = tt;
-        cause = λ failed. cause.risen (failed_is outcome failed);
+        cause = cause.risen;
         between = between_synced names after new.folder (state_after state instruction ended) syncs names_after now;
       })

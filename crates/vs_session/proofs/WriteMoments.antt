@@ -1,5 +1,5 @@
 -- What a write did to the file and its backup: at each moment after the sync of its command, and in the end.
-use Rattle.std.proofs.Common.{◌≡◌, ◌⊎◌, inl, inr, ℕ, ◌≤◌, Bool, true, false, ◌&&◌, ◌||◌, not, length, List, [], Option, Some, None, Result, Ok, Err, IfOk, OnOk, OnErr, refl, sym, ◌∙◌, ap, subst, arith}
+use Rattle.std.proofs.Common.{◌≡◌, ◌⊎◌, inl, inr, ℕ, ◌≤◌, Bool, true, false, ◌&&◌, ◌||◌, not, length, List, [], Option, Some, None, Result, Ok, Err, IfOk, OnOk, OnErr, is_ok, refl, sym, ◌∙◌, ap, subst, arith}
 use Rattle.std.specs.Prelude.{is_some, is_none, IsSome, IsErrOf}
 use Rattle.std.proofs.lemmas.Bool.{true≢false, cases_Bool}
 use Rattle.vs_faults.specs.Faults.{HasRisen}
@@ -33,9 +33,7 @@ use Rattle.vs_paged.proofs.SyncLemmas.{on_ok_as}
 use Rattle.vs_desk.specs.Still.{SparesStill}
 use Rattle.vs_desk.specs.Writes.{WritesFile}
 use Rattle.vs_desk.proofs.Stillness.{still_settled, still_lasts}
-use Rattle.vs_machine.specs.Machine.{is_done}
 use Rattle.vs_session.specs.Session.{lacks_name}
-use Rattle.vs_session.specs.Writes.{outcome_to}
 use Rattle.vs_session.proofs.Steps.{apart_foreign, risen_since}
 use Rattle.vs_session.proofs.FileWrites.{both_true, none_is, not_true, goes_all, backup_named, file_same, backup_same, works_same, leaves_old, takes_old, leaves_then, narrowed_leaves}
 
@@ -286,26 +284,24 @@ module _ (names : Names) (are : AreNames names) (options : WriteOptions) (text :
           let taken : backup_of options names.file old ≡ None = sym (backup_same names are old mid.folder same options) ∙ lacking.taken refl in
           λ i. ((not (lacking.off i) && lacking.on i) && there i) && is_none (taken i)
 
-      ok_only : (A : Type 0) (r : Result ℕ WriteErr) → (r ≡ Err error.NoBackupName → ⊥) → is_done (outcome_to r) ≡ true → OnOk r A → A
-      ok_only A (Ok size) none done a = a
-      ok_only A (Err (error.Failed p)) none done a = absurd (true≢false (sym done))
-      ok_only A (Err error.NoBackupName) none done a = absurd (none refl)
-      ok_only A (Err (error.NoMemory p)) none done a = absurd (true≢false (sym done))
+      ok_only : (A : Type 0) (r : Result ℕ WriteErr) → is_ok r ≡ true → OnOk r A → A
+      ok_only A (Ok size) ok a = a
+      ok_only A (Err why) ok a = absurd (true≢false (sym ok))
 
-      err_only : (A : Type 0) (r : Result ℕ WriteErr) → is_done (outcome_to r) ≡ false → OnErr r A → A
-      err_only A (Ok size) not_done a = absurd (true≢false not_done)
-      err_only A (Err why) not_done a = a
+      err_only : (A : Type 0) (r : Result ℕ WriteErr) → is_ok r ≡ false → OnErr r A → A
+      err_only A (Ok size) not_ok a = absurd (true≢false not_ok)
+      err_only A (Err why) not_ok a = a
 
       holds : (r : Result ℕ WriteErr) → IfOk r (λ size. (size ≡ length bytes) × HoldsBytes names.file bytes new.folder) → OnOk r (HoldsBytes names.file bytes new.folder)
       holds (Ok size) is = is.1
       holds (Err why) is = tt
 
-      pub has_written : (result ≡ Err error.NoBackupName → ⊥) → HasWritten names write (is_done (outcome_to result)) (record { folder = old; faults = from }) (state_now new)
-      has_written none = record {
+      pub has_written : HasWritten names write (is_ok result) (record { folder = old; faults = from }) (state_now new)
+      has_written = record {
         found = refl;
-        written = λ done. ok_only (HoldsBytes names.file bytes new.folder) result none done (holds result facts.written);
-        kept = λ was backup done on is made. ok_only (HoldsBytes backup was new.folder) result none done (facts.kept was backup on is made);
-        gone = λ backup done off is made. ok_only ((HasRisen from new.folder_faults → ⊥) → (lost : ℕ) → names_at new.folder lost backup ≡ None) result none done (facts.gone backup off is made);
+        written = λ done. ok_only (HoldsBytes names.file bytes new.folder) result done (holds result facts.written);
+        kept = λ was backup done on is made. ok_only (HoldsBytes backup was new.folder) result done (facts.kept was backup on is made);
+        gone = λ backup done off is made. ok_only ((HasRisen from new.folder_faults → ⊥) → (lost : ℕ) → names_at new.folder lost backup ≡ None) result done (facts.gone backup off is made);
         not_written = λ was not_done is. err_only (MayLackNew names.file was new.folder) result not_done (facts.not_written was is);
         absent = λ not_done gone. err_only (MayLeave new.folder names.file None) result not_done (facts.absent gone);
       }

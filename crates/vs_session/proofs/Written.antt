@@ -1,9 +1,10 @@
--- The answer to `w`, after the sync that it begins was acknowledged.
-use Rattle.std.proofs.Common.{◌≡◌, inl, inr, ℕ, ◌≤◌, Bool, true, false, cond, ◌&&◌, ◌==◌, not, length, List, ◌∷◌, Option, Some, None, Result, Ok, Err, IfOk, string_bytes, refl, sym, ◌∙◌, ap, subst}
+-- The answer to `w`, after the sync that it begins was acknowledged: the moments of the sync and of the write one after the other, and
+-- what is left.
+use Rattle.std.proofs.Common.{◌≡◌, ◌⊎◌, inl, inr, ℕ, ◌+◌, ◌≤◌, Bool, true, false, cond, ◌&&◌, not, length, List, ◌∷◌, Option, Some, None, Result, Ok, Err, IfOk, is_ok, refl, sym, ◌∙◌, ap, subst}
 use Rattle.std.proofs.lemmas.Bool.{true≢false, cases_Bool}
 use Rattle.vs_faults.specs.Faults.{HasCause, HasRisen}
 use Rattle.vs_host.specs.Disk.{Disk}
-use Rattle.vs_host.specs.Names.{AreNames, names_of_file}
+use Rattle.vs_host.specs.Names.{AreNames}
 use Rattle.vs_host.specs.Trace.{Snapshot, GoesOn}
 use Rattle.vs_host.specs.World.{Scene, ChangesFolder}
 use Rattle.vs_host.specs.declared.names.Names.{Names}
@@ -11,94 +12,39 @@ use Rattle.vs_text.specs.Text.{file_of}
 use Rattle.vs_disk.specs.Images.{HoldsBytes}
 use Rattle.vs_disk.specs.Names.{SameAt}
 use Rattle.vs_disk.specs.Runs.{Inside, Runs, Looks}
-use Rattle.vs_disk.proofs.Runs.{goes_then, goes_weaker}
+use Rattle.vs_disk.proofs.Runs.{frames, goes_weaker, runs_as, runs_then}
 use Rattle.vs_pair.specs.Pair.{Rises, is_apart}
 use Rattle.vs_pair.proofs.Others.{rises_kept}
-use Rattle.vs_exparse.specs.Command.Command.{Write as WriteFile}
 use Rattle.vs_excmd.specs.Request.{Instruction}
 use Rattle.vs_backup.specs.declared.options.WriteOptions.{WriteOptions}
 use Rattle.vs_backup.specs.declared.errors.WriteErr.{WriteErr}
 use Rattle.vs_backup.specs.declared.errors.WriteErr.TheVariants as error
 use Rattle.vs_backup.specs.Backups.{IsNoName, WorksOn}
-use Rattle.vs_options.specs.declared.setting.Options.{Options}
 use Rattle.vs_machine.specs.Machine as machine
-use Rattle.vs_machine.specs.Machine.{State, is_done, current_of}
-use Rattle.vs_machine.specs.Replies.{Answer, says, refuses, no_backup_name, written_line}
+use Rattle.vs_machine.specs.Machine.{took_effect}
+use Rattle.vs_machine.specs.Replies.{Answer, says, refuses, device_fault, no_backup_name, out_of_memory, written_line}
 use Rattle.vs_machine.specs.declared.command.Mark.{Mark}
 use Rattle.vs_machine.specs.declared.command.Outcome.{Outcome}
-use Rattle.vs_machine.specs.declared.command.Outcome.TheVariants.{Done, NoMemory, Fault}
+use Rattle.vs_machine.specs.declared.command.Outcome.TheVariants.{Done, NoMemory, Fault, NoUndo}
 use Rattle.vs_undo.specs.History.{History}
 use Rattle.vs_safety.specs.Texts.{Sync, Text, Recovers, begun, recoverable}
-use Rattle.vs_safety.specs.Turns.{Turn}
+use Rattle.vs_safety.specs.Undo.{HasStored, LeavesUndo, UndoWrite}
 use Rattle.vs_safety.specs.Writes.{Write, HasWritten, IsWholeIn, state_now}
-use Rattle.vs_safety.specs.FileWork.{EditedFile, FileWork, Keeps}
-use Rattle.vs_safety.specs.Safety.{IsUnderWay, Spares, Stepped, Works}
+use Rattle.vs_safety.specs.FileWork.{BothFiles, EditedFile, FileWork, HasLeft, IsWholeAt, Keeps}
+use Rattle.vs_safety.specs.Safety.{IsUnderWay, Spares, Works}
 use Rattle.vs_paged.specs.Fits as folder
-use Rattle.vs_desk.specs.Still.{SparesStill}
+use Rattle.vs_desk.specs.Still.{KeepsLeft, SparesStill}
 use Rattle.vs_desk.specs.Writes.{KeepsSwap, WritesFile}
+use Rattle.vs_desk.proofs.Left.{goes_both}
 use Rattle.vs_session.specs.declared.session.Session.{Session}
-use Rattle.vs_session.specs.Session.{SessionState, Ended, accepts_quit, after_sync, answered, begins_after, begins_sync, carried, counted, is_fault, is_rundo, is_write, lacks_name, options_after, quits, reply_of, session_reply, state_after, sync_in, undo_work, with_history, work_of, write_in, write_reply, written_state}
-use Rattle.vs_session.specs.Writes.{Wrote, outcome_to, reply_to, state_to}
+use Rattle.vs_session.specs.Session.{SessionState, Ended, accepts_quit, after_sync, answered, begins_sync, carried, is_fault, is_write, lacks_name, line_by, reply_of, state_after, stores_both, sync_in, undo_after, undo_work, with_history, write_in, write_reply, write_work, written_state}
+use Rattle.vs_session.specs.Writes.{HasSynced, Wrote, state_to}
 use Rattle.vs_session.specs.Fits.{Answers, Fits, names_of}
-use Rattle.vs_session.proofs.SessionLemmas.{counted_same}
-use Rattle.vs_session.proofs.Steps.{assemble, between_synced, failed_is, flag_true, inside_new, looked_synced, no_history, recovers_under, risen_since, unread}
-use Rattle.vs_session.proofs.FileWrites.{goes_both}
+use Rattle.vs_session.proofs.Steps.{assemble, between_synced, flag_true, looked_synced, no_history, risen_since, unread, works_runs}
+use Rattle.vs_session.proofs.FileWrites.{undo_same}
+use Rattle.vs_session.proofs.UndoNames.{undo_unworked}
+use Rattle.vs_session.proofs.WriteCommand.{begins_is, carried_on, never_quits, no_read, no_undo, reply_is}
 use Rattle.vs_session.proofs.WriteMoments.{facts, has_written, keeps_moments, keeps_now, keeps_synced, lacks_looks, named_lacks, whole_moments, whole_synced}
-
--- ---- the command
-
-pub never_quits : (parsed : _) (saved : Bool) → is_write parsed ≡ true → quits parsed saved ≡ false
-never_quits (Ok (WriteFile bang)) saved is = refl
-never_quits parsed saved is = absurd (true≢false (sym is))
-
-pub begins_is : (steps : ℕ) (parsed : _) → is_write parsed ≡ true → begins_after steps parsed ≡ true
-begins_is steps (Ok (WriteFile bang)) is = refl
-begins_is steps parsed is = absurd (true≢false (sym is))
-
-reply_is : (state : SessionState) (found : Disk) (parsed : _) → is_write parsed ≡ true → Some (write_reply state found) ≡ session_reply state found unread parsed
-reply_is state found (Ok (WriteFile bang)) is = refl
-reply_is state found parsed is = absurd (true≢false (sym is))
-
-no_read : (parsed : _) → is_write parsed ≡ true → is_rundo parsed ≡ false
-no_read (Ok (WriteFile bang)) is = refl
-no_read parsed is = absurd (true≢false (sym is))
-
-no_undo : (state : SessionState) (found : Disk) (parsed : _) → is_write parsed ≡ true → undo_work state found parsed ≡ None
-no_undo state found (Ok (WriteFile bang)) is = refl
-no_undo state found parsed is = absurd (true≢false (sym is))
-
-machine_stays : (m : State) (at : ℕ) (outcome : Outcome) (block : _) (parsed : _) → is_write parsed ≡ true → machine.state_by outcome m at (machine.meaning_of m parsed block) ≡ m
-machine_stays m at Done block (Ok (WriteFile bang)) is = refl
-machine_stays m at Done block parsed is = absurd (true≢false (sym is))
-machine_stays m at NoMemory block parsed is = refl
-machine_stays m at Fault block parsed is = refl
-
-options_stay : (options : Options) (outcome : Outcome) (parsed : _) → is_write parsed ≡ true → options_after outcome options parsed ≡ options
-options_stay options Done (Ok (WriteFile bang)) is = refl
-options_stay options Done parsed is = absurd (true≢false (sym is))
-options_stay options NoMemory parsed is = refl
-options_stay options Fault parsed is = refl
-
--- where the file was not written, the state is as before
-carried_on : (session : Session) (disk : Disk) (state : SessionState) (syncs : List Sync) (instruction : Instruction) (mark : Mark) → is_write instruction.parsed ≡ true → Fits session disk state syncs
-    → Fits session disk (carried state instruction mark) syncs
-carried_on session disk state syncs instruction mark is fits =
-    subst (λ (m : State). Fits session disk (record {
-      name = state.name;
-      machine = m;
-      saved = state.saved;
-      steps = counted state.steps (current_of m == current_of state.machine);
-      options = options_after mark.outcome state.options instruction.parsed;
-    }) syncs) (sym (machine_stays state.machine mark.at mark.outcome instruction.block instruction.parsed is))
-    (record {
-      stands = fits.stands;
-      name = fits.name;
-      cursor = fits.cursor;
-      saved = fits.saved;
-      steps = fits.steps ∙ sym (counted_same state.steps (current_of state.machine));
-      options = fits.options ∙ sym (options_stay state.options mark.outcome instruction.parsed is);
-      acknowledged = fits.acknowledged;
-    })
 
 -- what a write did, for these names
 record Did (names : Names) (options : WriteOptions) (text : Text) (syncs : List Sync) (mid new : Scene) (result : Result ℕ WriteErr) : Type 0 where
@@ -106,12 +52,24 @@ record Did (names : Names) (options : WriteOptions) (text : Text) (syncs : List 
   pub no_name : result ≡ Err error.NoBackupName → IsNoName options names.file true mid.folder
   pub swap : Runs (KeepsSwap names (recoverable syncs)) mid new
   pub others : SparesStill (WorksOn options names.file mid.folder) mid new
+  pub left : Runs (KeepsLeft (WorksOn options names.file mid.folder)) mid new
 
-module _ (state : SessionState) (syncs : List Sync) (instruction : Instruction) (before : Session) (old : Scene) (fits : Fits before old.folder state syncs) (is : is_write instruction.parsed ≡ true)
-    (between after : Session) (outcome : Outcome) (at : ℕ) (reply : Answer) (mid new : Scene) (names_mid : names_of between ≡ names_of before) (names_after : names_of after ≡ names_of before) (first : ChangesFolder old mid)
-    (runs : Runs (folder.Syncing before.text) old mid) (later : old.folder_faults ≤ mid.folder_faults) (rises : Rises (names_of before) old.folder mid.folder)
-    (synced : Fits between mid.folder (after_sync state true) (sync_in state true ∷ syncs)) (second : ChangesFolder mid new)
-    (wrote : Wrote (after_sync state true) (sync_in state true ∷ syncs) between after outcome reply mid new) (cause : HasCause mid.folder_faults new.folder_faults (outcome ≡ Fault)) where
+-- A moment of the write, over a folder as the command found it.
+pub record Moment (names : Names) (write : Write) (syncs : List Sync) (old d : Disk) : Type 0 where
+  pub recovers : Recovers names (recoverable syncs) d
+  pub whole : IsWholeIn names write d
+  pub undo : LeavesUndo names old d
+  pub keeps : Keeps names (Some (EditedFile write)) old d
+
+abbrev pub err_of : WriteErr → Result ℕ WriteErr
+err_of why = Err why
+
+-- why a write is refused, and how it ends so
+abbrev pub Refuses : WriteErr → Outcome → Answer → Type 0
+Refuses error.NoBackupName outcome reply = (outcome ≡ Done) × (reply ≡ refuses no_backup_name)
+Refuses why outcome reply = ((outcome ≡ NoMemory) × (reply ≡ refuses out_of_memory)) ⊎ ((outcome ≡ Fault) × (reply ≡ refuses device_fault))
+
+module _ (state : SessionState) (syncs : List Sync) (instruction : Instruction) (is : is_write instruction.parsed ≡ true) (before between : Session) (old mid : Scene) (s : HasSynced state syncs before between old mid) where
   abbrev names : Names
   names = names_of before
 
@@ -124,32 +82,35 @@ module _ (state : SessionState) (syncs : List Sync) (instruction : Instruction) 
   abbrev write : Write
   write = write_in state old.folder
 
-  abbrev mark : Mark
-  mark = record { outcome = outcome; at = at }
+  abbrev undo : UndoWrite
+  undo = undo_after state old.folder
 
   abbrev all : List Sync
   all = sync_in state true ∷ syncs
 
-  abbrev under : List Sync
+  abbrev pub under : List Sync
   under = begun text (sync_in state false).dirty ∷ syncs
 
-  are : AreNames names
-  are = fits.stands.text.fit.named
+  abbrev pub mark : Outcome → ℕ → Mark
+  mark outcome at = record { outcome = outcome; at = at }
+
+  abbrev pub ended : Outcome → ℕ → Ended
+  ended outcome at = record { mark = mark outcome at; acknowledged = true; found = old.folder; read = unread }
+
+  pub are : AreNames names
+  are = s.fits.stands.text.fit.named
 
   file_name : names.file ≡ state.name
-  file_name = ap (λ (n : Names). n.file) before.named ∙ fits.name
+  file_name = ap (λ (n : Names). n.file) before.named ∙ s.fits.name
 
-  abbrev lacks : Bool
+  abbrev pub lacks : Bool
   lacks = lacks_name options state.name old.folder
 
   lacks_here : lacks_name options names.file old.folder ≡ lacks
   lacks_here = ap (λ (n : List ℕ). lacks_name options n old.folder) file_name
 
   same : SameAt (is_apart names) old.folder mid.folder
-  same = runs.now.spared text syncs fits.stands.text
-
-  did : Did names options text all mid new wrote.result
-  did = subst (λ (n : Names). Did n options text all mid new wrote.result) names_mid (record { file = wrote.file; no_name = wrote.no_name; swap = wrote.swap; others = wrote.others })
+  same = s.runs.now.spared text syncs s.fits.stands.text
 
   goes_on : accepts_quit state instruction ≡ false
   goes_on = never_quits instruction.parsed _ is
@@ -157,146 +118,245 @@ module _ (state : SessionState) (syncs : List Sync) (instruction : Instruction) 
   begins : begins_sync state instruction ≡ true
   begins = begins_is state.steps instruction.parsed is
 
-  abbrev ended : Ended
-  ended = record { mark = mark; acknowledged = true; found = old.folder; read = unread }
+  sync_is : cond (begins_sync state instruction) (Some (sync_in state true)) None ≡ Some (sync_in state true)
+  sync_is = ap (λ (c : Bool). cond c (Some (sync_in state true)) None) begins
 
-  -- the state after it
-  fits_by : (b : Bool) → (((is_write instruction.parsed && true) && not lacks) && is_done outcome) ≡ b → Fits after new.folder (cond b (written_state (after_sync state true)) (carried (after_sync state true) instruction mark)) all
-      → Fits after new.folder (state_after state instruction ended) all
-  fits_by b which now =
-      subst (λ (o : Option History). Fits after new.folder (cond (((is_write instruction.parsed && true) && not lacks) && is_done outcome) (written_state (after_sync state (begins_sync state instruction && true)))
-      (with_history o (carried (after_sync state (begins_sync state instruction && true)) instruction mark))) all) (sym (no_history instruction ended (no_read instruction.parsed is)))
-      (subst (λ (c : Bool). Fits after new.folder (cond (((is_write instruction.parsed && true) && not lacks) && is_done outcome) (written_state (after_sync state (c && true))) (carried (after_sync state (c && true)) instruction mark)) all) (sym begins)
-      (subst (λ (c : Bool). Fits after new.folder (cond c (written_state (after_sync state true)) (carried (after_sync state true) instruction mark)) all) (sym which) now))
+  -- ---- the state after it, and its reply
 
-  -- its reply
-  reply_by : (o : Outcome) → outcome ≡ o → reply ≡ answered o (Some (write_reply state old.folder)) (machine.reply_by o state.machine (machine.meaning_of state.machine instruction.parsed instruction.block)) → reply ≡ reply_of state instruction ended
-  reply_by o o_is replied =
-      replied ∙ ap (λ (p : Outcome). answered p (Some (write_reply state old.folder)) (machine.reply_by p state.machine (machine.meaning_of state.machine instruction.parsed instruction.block))) (sym o_is)
-      ∙ ap (λ (own : Option Answer). answered outcome own (machine.reply_by outcome state.machine (machine.meaning_of state.machine instruction.parsed instruction.block))) (reply_is state old.folder instruction.parsed is)
+  pub fits_by : (after : Session) (new : Disk) (outcome : Outcome) (at : ℕ) (b : Bool) → (((is_write instruction.parsed && true) && not lacks) && took_effect outcome) ≡ b
+      → Fits after new (cond b (written_state (after_sync state true)) (carried (after_sync state true) instruction (mark outcome at))) all → Fits after new (state_after state instruction (ended outcome at)) all
+  fits_by after new outcome at b which now =
+      subst (λ (o : Option History). Fits after new (cond (((is_write instruction.parsed && true) && not lacks) && took_effect outcome) (written_state (after_sync state (begins_sync state instruction && true)))
+      (with_history o (carried (after_sync state (begins_sync state instruction && true)) instruction (mark outcome at)))) all) (sym (no_history instruction (ended outcome at) (no_read instruction.parsed is)))
+      (subst (λ (c : Bool). Fits after new (cond (((is_write instruction.parsed && true) && not lacks) && took_effect outcome) (written_state (after_sync state (c && true))) (carried (after_sync state (c && true)) instruction (mark outcome at))) all) (sym begins)
+      (subst (λ (c : Bool). Fits after new (cond c (written_state (after_sync state true)) (carried (after_sync state true) instruction (mark outcome at))) all) (sym which) now))
 
-  failed_then : is_fault outcome ≡ true → HasRisen old.folder_faults new.folder_faults
-  failed_then failed = risen_since old.folder_faults mid.folder_faults new.folder_faults later (cause.risen (failed_is outcome failed))
+  -- where the file was not written
+  stays : (after : Session) (new : Disk) (outcome : Outcome) (at : ℕ) → (((is_write instruction.parsed && true) && not lacks) && took_effect outcome) ≡ false → Fits after new (after_sync state true) all
+      → Fits after new (state_after state instruction (ended outcome at)) all
+  stays after new outcome at which now = fits_by after new outcome at false which (carried_on after new (after_sync state true) all instruction (mark outcome at) is now)
 
-  -- ---- no backup name is free
-  module _ (taken : lacks ≡ true) where
-    looked : Looks mid new × ((size : ℕ) → wrote.result ≡ Ok size → ⊥)
-    looked = lacks_looks names are options text old.folder mid new same wrote.result did.file old.folder_faults later (lacks_here ∙ taken)
+  pub replied_done : (at : ℕ) → write_reply state Done old.folder ≡ reply_of state instruction (ended Done at)
+  replied_done at = λ i. answered Done (reply_is state Done old.folder instruction.parsed is i) (machine.reply_of state.machine instruction (mark Done at))
 
-    refused_state : (r : Result ℕ WriteErr) → wrote.result ≡ r → Fits after new.folder (state_to (after_sync state true) r) all → Fits after new.folder (after_sync state true) all
-    refused_state (Ok size) r_is now = absurd (looked.1 size r_is)
-    refused_state (Err why) r_is now = now
+  pub replied_none : (at : ℕ) → write_reply state NoUndo old.folder ≡ reply_of state instruction (ended NoUndo at)
+  replied_none at = λ i. answered NoUndo (reply_is state NoUndo old.folder instruction.parsed is i) (machine.reply_of state.machine instruction (mark NoUndo at))
 
-    refused_fits : Fits after new.folder (state_after state instruction ended) all
-    refused_fits = fits_by false (λ i. ((is i && true) && not (taken i)) && is_done outcome)
-        (carried_on after new.folder (after_sync state true) all instruction mark is (refused_state wrote.result refl wrote.fits))
+  -- ---- the moments
 
-    refused_reply : (r : Result ℕ WriteErr) → wrote.result ≡ r → outcome ≡ outcome_to r → reply ≡ reply_to (after_sync state true) r → reply ≡ reply_of state instruction ended
-    refused_reply (Ok size) r_is o_is replied = absurd (looked.1 size r_is)
-    refused_reply (Err (error.Failed p)) r_is o_is replied = reply_by Fault o_is replied
-    refused_reply (Err error.NoBackupName) r_is o_is replied =
-        reply_by Done o_is (replied ∙ ap (λ (b : Bool). cond b (refuses no_backup_name) (says (written_line state.name (length text) (length (file_of text))))) (sym taken))
-    refused_reply (Err (error.NoMemory p)) r_is o_is replied = reply_by NoMemory o_is replied
+  -- what may be recovered after the sync, may be while it is under way
+  pub recovers_on : (d : Disk) → Recovers names (recoverable all) d → Recovers names (recoverable under) d
+  recovers_on d recovers image whole = let given = recovers image whole in (given.0, elim given.1 [ inl here ↦ inl here | inr none ↦ absurd none ], given.2)
 
-    pub refused : Answers state syncs instruction before after mark reply old new
-    refused =
-        assemble state syncs instruction before old goes_on fits after mark true reply new (Some (sync_in state true)) None (no_read instruction.parsed is) (ap (λ (c : Bool). cond c (Some (sync_in state true)) None) begins)
-        ((λ i. cond ((is i && true) && not (taken i)) (Some (EditedFile write)) (undo_work state old.folder instruction.parsed)) ∙ no_undo state old.folder instruction.parsed is) (refused_reply wrote.result refl wrote.outcome_is wrote.reply_is) refused_fits
-        (looked_synced before after state syncs (state_after state instruction ended) (is_done outcome) (is_fault outcome) (reply_of state instruction ended).bytes old mid new fits between names_mid names_after first runs rises synced
-        looked.0.now second looked.0 failed_then refused_fits)
+  in_sync : (d : Disk) → folder.Syncing before.text old.folder d → Moment names write under old.folder d
+  in_sync d syncing =
+      let apart : SameAt (is_apart names) old.folder d = syncing.spared text syncs s.fits.stands.text in
+      record {
+        recovers = syncing.safe text syncs s.fits.stands.text;
+        whole = whole_synced names are options text old.folder d apart;
+        undo = undo_same names are old.folder d apart;
+        keeps = keeps_synced names write old.folder d apart;
+      }
 
-  -- ---- the file is written
-  module _ (free : lacks ≡ false) where
-    never : wrote.result ≡ Err error.NoBackupName → ⊥
-    never none = true≢false (sym (named_lacks names are options text old.folder mid new same wrote.result did.file old.folder_faults later (did.no_name none)) ∙ lacks_here ∙ free)
+  abbrev pub AtMoment : Disk → Disk → Type 0
+  AtMoment a d = Moment names write under old.folder d
 
-    written_fits : (r : Result ℕ WriteErr) → wrote.result ≡ r → outcome ≡ outcome_to r → Fits after new.folder (state_to (after_sync state true) r) all → Fits after new.folder (state_after state instruction ended) all
-    written_fits (Ok size) r_is o_is now = fits_by true (λ i. ((is i && true) && not (free i)) && is_done (o_is i)) now
-    written_fits (Err (error.Failed p)) r_is o_is now =
-        fits_by false (λ i. ((is i && true) && not (free i)) && is_done (o_is i)) (carried_on after new.folder (after_sync state true) all instruction mark is now)
-    written_fits (Err error.NoBackupName) r_is o_is now = absurd (never r_is)
-    written_fits (Err (error.NoMemory p)) r_is o_is now =
-        fits_by false (λ i. ((is i && true) && not (free i)) && is_done (o_is i)) (carried_on after new.folder (after_sync state true) all instruction mark is now)
+  sync_runs : Runs AtMoment old mid
+  sync_runs = runs_as (folder.Syncing before.text) AtMoment old mid in_sync s.runs
 
-    size_is : (size : ℕ) → wrote.result ≡ Ok size → size ≡ length (file_of text)
-    size_is size r_is =
-        (subst (λ (r : Result ℕ WriteErr). IfOk r (λ s. (s ≡ length (file_of text)) × HoldsBytes names.file (file_of text) new.folder)) r_is
-        (facts names are options text old.folder mid new same wrote.result did.file old.folder_faults later).written).0
-
-    written_reply : (r : Result ℕ WriteErr) → wrote.result ≡ r → outcome ≡ outcome_to r → reply ≡ reply_to (after_sync state true) r → reply ≡ reply_of state instruction ended
-    written_reply (Ok size) r_is o_is replied =
-        reply_by Done o_is (replied ∙ ap (λ (n : ℕ). says (written_line state.name (length text) n)) (size_is size r_is)
-        ∙ ap (λ (b : Bool). cond b (refuses no_backup_name) (says (written_line state.name (length text) (length (file_of text))))) (sym free))
-    written_reply (Err (error.Failed p)) r_is o_is replied = reply_by Fault o_is replied
-    written_reply (Err error.NoBackupName) r_is o_is replied = absurd (never r_is)
-    written_reply (Err (error.NoMemory p)) r_is o_is replied = reply_by NoMemory o_is replied
-
-    abbrev P : Disk → Type 0
-    P = IsUnderWay names under (Some (EditedFile write))
-
-    recovers_on : (d : Disk) → Recovers names (recoverable all) d → Recovers names (recoverable under) d
-    recovers_on d recovers image whole = let given = recovers image whole in (given.0, elim given.1 [ inl here ↦ inl here | inr none ↦ absurd none ], given.2)
-
-    in_sync : (d : Disk) → folder.Syncing before.text old.folder d → Spares names (Some (EditedFile write)) P old.folder d
-    in_sync d syncing =
-        let apart : SameAt (is_apart names) old.folder d = syncing.spared text syncs fits.stands.text in
-        record {
-          folder = record { recovers = syncing.safe text syncs fits.stands.text; whole = whole_synced names are options text old.folder d apart };
-          spared = keeps_synced names write old.folder d apart;
-        }
+  module _ (after : Session) (result : Result ℕ WriteErr) (new : Scene) (second : ChangesFolder mid new) (wrote : Wrote (after_sync state true) all between after result mid new) where
+    did : Did names options text all mid new result
+    did = subst (λ (n : Names). Did n options text all mid new result) s.names (record { file = wrote.file; no_name = wrote.no_name; swap = wrote.swap; others = wrote.others; left = wrote.left })
 
     abbrev Base : Snapshot → Type 0
     Base m = Inside mid (KeepsSwap names (recoverable all) mid.folder) m
 
+    undo_left : (d : Disk) → KeepsLeft (WorksOn options names.file mid.folder) mid.folder d → LeavesUndo names old.folder d
+    undo_left d keeps left may = undo_same names are old.folder mid.folder same left (keeps names.undo (undo_unworked names are options mid.folder) left may)
+
     whole_all : GoesOn (λ m. IsWholeIn names write m.folder) mid.trace new.trace × IsWholeIn names write new.folder
-    whole_all = whole_moments names are options text old.folder mid new same wrote.result did.file Base did.swap.moments
+    whole_all = whole_moments names are options text old.folder mid new same result did.file Base did.swap.moments
 
-    in_write : GoesOn (Inside new (Spares names (Some (EditedFile write)) P old.folder)) mid.trace new.trace
-    in_write =
-        goes_weaker (λ m. Base m × (Keeps names (Some (EditedFile write)) old.folder m.folder × IsWholeIn names write m.folder)) (Inside new (Spares names (Some (EditedFile write)) P old.folder))
-        (λ m is_so. inside_new mid new (Spares names (Some (EditedFile write)) P old.folder) second m (record {
-          output = is_so.0.output;
-          answered = is_so.0.answered;
-          script_faults = is_so.0.script_faults;
-          out_faults = is_so.0.out_faults;
-          folder = record { folder = record { recovers = recovers_on m.folder is_so.0.folder.recovers; whole = is_so.1.1 }; spared = is_so.1.0 };
-        })) mid.trace new.trace
-        (goes_both Base (λ m. Keeps names (Some (EditedFile write)) old.folder m.folder × IsWholeIn names write m.folder) mid.trace new.trace did.swap.moments
-        (goes_both (λ m. Keeps names (Some (EditedFile write)) old.folder m.folder) (λ m. IsWholeIn names write m.folder) mid.trace new.trace
-        (keeps_moments names are options text old.folder mid new same Base did.swap.moments did.others) whole_all.0))
+    left_all : GoesOn (λ m. LeavesUndo names old.folder m.folder) mid.trace new.trace
+    left_all = goes_weaker (Inside mid (KeepsLeft (WorksOn options names.file mid.folder) mid.folder)) (λ m. LeavesUndo names old.folder m.folder) (λ m inside. undo_left m.folder inside.folder) mid.trace new.trace did.left.moments
 
-    works : Works names (Some (EditedFile write)) P old new
-    works = record {
-      moments = goes_then (Inside new (Spares names (Some (EditedFile write)) P old.folder)) old.trace mid.trace new.trace
-          (goes_weaker (Inside old (folder.Syncing before.text old.folder)) (Inside new (Spares names (Some (EditedFile write)) P old.folder))
-          (λ m inside. inside_new mid new (Spares names (Some (EditedFile write)) P old.folder) second m (inside_new old mid (Spares names (Some (EditedFile write)) P old.folder) first m (record {
-            output = inside.output;
-            answered = inside.answered;
-            script_faults = inside.script_faults;
-            out_faults = inside.out_faults;
-            folder = in_sync m.folder inside.folder;
-          }))) old.trace mid.trace runs.moments) in_write;
-      output = ap (λ (s : Scene). s.output) second ∙ ap (λ (s : Scene). s.output) first;
-      spared = keeps_now names are options text old.folder mid new same did.others;
+    keeps_all : GoesOn (λ m. Keeps names (Some (EditedFile write)) old.folder m.folder) mid.trace new.trace
+    keeps_all = keeps_moments names are options text old.folder mid new same Base did.swap.moments did.others
+
+    abbrev Parts : Snapshot → Type 0
+    Parts m = Keeps names (Some (EditedFile write)) old.folder m.folder × (IsWholeIn names write m.folder × LeavesUndo names old.folder m.folder)
+
+    parts_all : GoesOn Parts mid.trace new.trace
+    parts_all =
+        goes_both (λ m. Keeps names (Some (EditedFile write)) old.folder m.folder) (λ m. IsWholeIn names write m.folder × LeavesUndo names old.folder m.folder) mid.trace new.trace keeps_all
+        (goes_both (λ m. IsWholeIn names write m.folder) (λ m. LeavesUndo names old.folder m.folder) mid.trace new.trace whole_all.0 left_all)
+
+    write_runs : Runs AtMoment mid new
+    write_runs = record {
+      moments = goes_weaker (λ m. Base m × Parts m) (Inside mid (AtMoment mid.folder))
+          (λ m both. record {
+            output = both.0.output;
+            answered = both.0.answered;
+            script_faults = both.0.script_faults;
+            out_faults = both.0.out_faults;
+            folder = record { recovers = recovers_on m.folder both.0.folder.recovers; whole = both.1.1.0; undo = both.1.1.1; keeps = both.1.0 };
+          }) mid.trace new.trace (goes_both Base Parts mid.trace new.trace did.swap.moments parts_all);
+      now = record {
+        recovers = recovers_on new.folder did.swap.now.recovers;
+        whole = whole_all.1;
+        undo = undo_left new.folder did.left.now;
+        keeps = keeps_now names are options text old.folder mid new same did.others;
+      };
     }
 
-    now : Fits after new.folder (state_after state instruction ended) all
-    now = written_fits wrote.result refl wrote.outcome_is wrote.fits
+    pub written_runs : Runs AtMoment old new
+    written_runs = runs_then AtMoment AtMoment AtMoment old mid new (λ d m. m) (λ d m. m) s.frame sync_runs write_runs
 
-    pub written : Answers state syncs instruction before after mark reply old new
-    written =
-        assemble state syncs instruction before old goes_on fits after mark true reply new (Some (sync_in state true)) (Some (EditedFile write)) (no_read instruction.parsed is) (ap (λ (c : Bool). cond c (Some (sync_in state true)) None) begins)
-        (λ i. cond ((is i && true) && not (free i)) (Some (EditedFile write)) (undo_work state old.folder instruction.parsed)) (written_reply wrote.result refl wrote.outcome_is wrote.reply_is) now
+    pub written_frame : ChangesFolder old new
+    written_frame = frames old mid new s.frame second
+
+    pub written_rises : Rises names old.folder new.folder
+    written_rises = rises_kept names mid.folder new.folder did.swap.now.same old.folder s.rises
+
+    pub has_left : HasWritten names write (is_ok result) (state_now old) (state_now new)
+    has_left = has_written names are options text old.folder mid new same result did.file old.folder_faults s.later
+
+    pub bytes_left : IfOk result (λ size. (size ≡ length (file_of text)) × HoldsBytes names.file (file_of text) new.folder)
+    bytes_left = (facts names are options text old.folder mid new same result did.file old.folder_faults s.later).written
+
+    -- where no backup name is free, nothing is done
+    looked : lacks ≡ true → Looks mid new × ((size : ℕ) → result ≡ Ok size → ⊥)
+    looked taken = lacks_looks names are options text old.folder mid new same result did.file old.folder_faults s.later (lacks_here ∙ taken)
+
+    pub not_lacks : (size : ℕ) → result ≡ Ok size → lacks ≡ false
+    not_lacks size ok = elim (cases_Bool lacks) [ inl taken ↦ absurd ((looked taken).1 size ok) | inr free ↦ free ]
+
+    never : lacks ≡ false → result ≡ Err error.NoBackupName → ⊥
+    never free none = true≢false (sym (named_lacks names are options text old.folder mid new same result did.file old.folder_faults s.later (did.no_name none)) ∙ lacks_here ∙ free)
+
+  -- ---- what it is to the run
+
+  abbrev pub work_by : Bool → FileWork
+  work_by b = cond b (BothFiles write undo) (EditedFile write)
+
+  pub lead : (b : Bool) (d : Disk) → Moment names write under old.folder d → Spares names (Some (work_by b)) (IsUnderWay names under (Some (work_by b))) old.folder d
+  lead true d m = record {
+    folder = record { recovers = m.recovers; whole = (m.whole, (λ left may. inl (m.undo left may), inl m.undo)) };
+    spared = λ inside start foreign avoids settled spared. m.keeps inside start foreign avoids.0 settled spared;
+  }
+  lead false d m = record { folder = record { recovers = m.recovers; whole = (m.whole, m.undo) }; spared = m.keeps }
+
+  whole_by : (b : Bool) (d : Disk) → Moment names write under old.folder d → IsWholeAt names (work_by b) d
+  whole_by true d m = (m.whole, (λ left may. inl (m.undo left may), inl m.undo))
+  whole_by false d m = (m.whole, m.undo)
+
+  left_by : (b : Bool) (done failed : Bool) (new : Scene) → HasWritten names write done (state_now old) (state_now new) → HasStored names undo (done && not failed) (state_now old) (state_now new)
+      → HasLeft names (work_by b) done failed (state_now old) (state_now new)
+  left_by true done failed new wrote stored = (wrote, stored)
+  left_by false done failed new wrote stored = wrote
+
+  -- where the file may be written
+  module _ (free : lacks ≡ false) (b : Bool) (flag : state.options.undofile ≡ b) where
+    pub answers_free : (after : Session) (outcome : Outcome) (at : ℕ) (reply : Answer) (new : Scene) → names_of after ≡ names → (outcome ≡ NoUndo → b ≡ true) → reply ≡ reply_of state instruction (ended outcome at)
+        → Fits after new.folder (state_after state instruction (ended outcome at)) all → Works names (Some (work_by b)) (IsUnderWay names under (Some (work_by b))) old new
+        → HasLeft names (work_by b) (took_effect outcome) (is_fault outcome) (state_now old) (state_now new) → IsWholeAt names (work_by b) new.folder → Rises names old.folder new.folder
+        → (is_fault outcome ≡ true → HasRisen old.folder_faults new.folder_faults) → Answers state syncs instruction before after (mark outcome at) reply old new
+    answers_free after outcome at reply new names_after unstored replied now works wrote whole rises cause =
+        assemble state syncs instruction before old goes_on s.fits after (mark outcome at) true reply new (Some (sync_in state true)) (Some (work_by b)) (no_read instruction.parsed is)
+        (λ none. (λ i. ((is i && true) && not (free i)) && (flag ∙ unstored none) i)) sync_is
+        ((λ i. cond ((is i && true) && not (free i)) (Some (write_work state old.folder)) (undo_work state old.folder instruction.parsed)) ∙ (λ i. Some (work_by (flag i)))) replied now
         (record {
           found = refl;
           works = works;
-          wrote = subst (λ (o : Outcome). HasWritten names write (is_done o) (state_now old) (state_now new)) (sym wrote.outcome_is)
-              (has_written names are options text old.folder mid new same wrote.result did.file old.folder_faults later never);
-          whole = whole_all.1;
-          flag = flag_true names (is_done outcome) old.folder new.folder (rises_kept names mid.folder new.folder did.swap.now.same old.folder rises);
-          cause = failed_then;
-          between = between_synced names after new.folder (state_after state instruction ended) all names_after now;
+          wrote = wrote;
+          whole = whole;
+          flag = flag_true names (took_effect outcome) old.folder new.folder rises;
+          cause = cause;
+          between = between_synced names after new.folder (state_after state instruction (ended outcome at)) all names_after now;
         })
 
-  pub answers_written : Answers state syncs instruction before after mark reply old new
-  answers_written = elim (cases_Bool lacks) [ inl taken ↦ refused taken | inr free ↦ written free ]
+  -- ---- a write that was refused
+
+  module _ (why : WriteErr) (at : ℕ) (after : Session) (new : Scene) (second : ChangesFolder mid new) (names_after : names_of after ≡ names) (wrote : Wrote (after_sync state true) all between after (Err why) mid new) where
+    abbrev IsAnswer : Outcome → Answer → Type 0
+    IsAnswer outcome reply = Answers state syncs instruction before after (mark outcome at) reply old new
+
+    -- no backup name is free
+    refused_taken : lacks ≡ true → (outcome : Outcome) (reply : Answer) → (outcome ≡ NoUndo → ⊥) → reply ≡ reply_of state instruction (ended outcome at) → (is_fault outcome ≡ true → HasRisen old.folder_faults new.folder_faults)
+        → IsAnswer outcome reply
+    refused_taken taken outcome reply stored replied cause =
+        let looks = (looked after (Err why) new second wrote taken).0 in
+        let now : Fits after new.folder (state_after state instruction (ended outcome at)) all = stays after new.folder outcome at (λ i. ((is i && true) && not (taken i)) && took_effect outcome) wrote.fits in
+        assemble state syncs instruction before old goes_on s.fits after (mark outcome at) true reply new (Some (sync_in state true)) None (no_read instruction.parsed is) (λ none. absurd (stored none)) sync_is
+        ((λ i. cond ((is i && true) && not (taken i)) (Some (write_work state old.folder)) (undo_work state old.folder instruction.parsed)) ∙ no_undo state old.folder instruction.parsed is) replied now
+        (looked_synced before after state syncs (state_after state instruction (ended outcome at)) (took_effect outcome) (is_fault outcome) (reply_of state instruction (ended outcome at)).bytes old mid new s.fits between s.names names_after
+        s.frame s.runs s.rises s.synced looks.now second looks cause now)
+
+    refused_free : lacks ≡ false → (outcome : Outcome) (reply : Answer) → (outcome ≡ NoUndo → ⊥) → took_effect outcome ≡ false → reply ≡ reply_of state instruction (ended outcome at)
+        → (is_fault outcome ≡ true → HasRisen old.folder_faults new.folder_faults) → IsAnswer outcome reply
+    refused_free free outcome reply stored none replied cause =
+        let b : Bool = state.options.undofile in
+        let runs = written_runs after (Err why) new second wrote in
+        answers_free free b refl after outcome at reply new names_after (λ unstored. absurd (stored unstored)) replied
+        (stays after new.folder outcome at (λ i. ((is i && true) && not (free i)) && none i) wrote.fits)
+        (works_runs names (Some (work_by b)) (IsUnderWay names under (Some (work_by b))) AtMoment old new (written_frame after (Err why) new second wrote) (lead b) runs)
+        (left_by b (took_effect outcome) (is_fault outcome) new
+        (subst (λ (done : Bool). HasWritten names write done (state_now old) (state_now new)) (sym none) (has_left after (Err why) new second wrote))
+        (record { found = refl; stored = λ done. absurd (true≢false (sym done ∙ ap (λ (c : Bool). c && not (is_fault outcome)) none)) }))
+        (whole_by b new.folder runs.now) (written_rises after (Err why) new second wrote) cause
+
+    refused_by : (outcome : Outcome) (reply : Answer) → (outcome ≡ NoUndo → ⊥) → took_effect outcome ≡ false → reply ≡ reply_of state instruction (ended outcome at) → (is_fault outcome ≡ true → HasRisen old.folder_faults new.folder_faults)
+        → IsAnswer outcome reply
+    refused_by outcome reply stored none replied cause = elim (cases_Bool lacks) [
+      | inl taken ↦ refused_taken taken outcome reply stored replied cause
+      | inr free ↦ refused_free free outcome reply stored none replied cause
+    ]
+
+    as_answer : (o outcome : Outcome) (r reply : Answer) → outcome ≡ o → reply ≡ r → IsAnswer o r → IsAnswer outcome reply
+    as_answer o outcome r reply o_is r_is answer = subst (λ (p : Outcome). IsAnswer p reply) (sym o_is) (subst (λ (a : Answer). IsAnswer o a) (sym r_is) answer)
+
+    refused_fault : HasRisen mid.folder_faults new.folder_faults → IsAnswer Fault (refuses device_fault)
+    refused_fault risen = refused_by Fault (refuses device_fault) (λ e. absurd (cc)) refl refl (λ _. risen_since old.folder_faults mid.folder_faults new.folder_faults s.later risen)
+
+    refused_memory : IsAnswer NoMemory (refuses out_of_memory)
+    refused_memory = refused_by NoMemory (refuses out_of_memory) (λ e. absurd (cc)) refl refl (λ e. absurd (true≢false (sym e)))
+
+    refused_name : why ≡ error.NoBackupName → IsAnswer Done (refuses no_backup_name)
+    refused_name unnamed = elim (cases_Bool lacks) [
+      | inl taken ↦ refused_taken taken Done (refuses no_backup_name) (λ e. absurd (cc))
+          (ap (λ (c : Bool). cond c (refuses no_backup_name) (says (written_line state.name (length text) (length (file_of text))))) (sym taken) ∙ replied_done at) (λ e. absurd (true≢false (sym e)))
+      | inr free ↦ absurd (never after (Err why) new second wrote free (ap err_of unnamed))
+    ]
+
+    by_fault : (outcome : Outcome) (reply : Answer) → HasCause mid.folder_faults new.folder_faults (is_fault outcome ≡ true) → ((outcome ≡ NoMemory) × (reply ≡ refuses out_of_memory)) ⊎ ((outcome ≡ Fault) × (reply ≡ refuses device_fault))
+        → IsAnswer outcome reply
+    by_fault outcome reply cause (inl memory) = as_answer NoMemory outcome (refuses out_of_memory) reply memory.0 memory.1 refused_memory
+    by_fault outcome reply cause (inr fault) = as_answer Fault outcome (refuses device_fault) reply fault.0 fault.1 (refused_fault (cause.risen (ap is_fault fault.0)))
+
+    by_why : (w : WriteErr) → why ≡ w → (outcome : Outcome) (reply : Answer) → HasCause mid.folder_faults new.folder_faults (is_fault outcome ≡ true) → Refuses w outcome reply → IsAnswer outcome reply
+    by_why error.NoBackupName w_is outcome reply cause answer = as_answer Done outcome (refuses no_backup_name) reply answer.0 answer.1 (refused_name w_is)
+    by_why (error.Failed place) w_is outcome reply cause answer = by_fault outcome reply cause answer
+    by_why (error.NoMemory place) w_is outcome reply cause answer = by_fault outcome reply cause answer
+
+    pub answers_refused : (outcome : Outcome) (reply : Answer) → HasCause mid.folder_faults new.folder_faults (is_fault outcome ≡ true) → Refuses why outcome reply → IsAnswer outcome reply
+    answers_refused outcome reply cause answer = by_why why refl outcome reply cause answer
+
+  -- ---- a write that was carried out
+
+  -- the reply to it
+  pub line_is : lacks ≡ false → (outcome : Outcome) (size : ℕ) → size ≡ length (file_of text) → says (line_by outcome state.name (length text) size) ≡ write_reply state outcome old.folder
+  line_is free outcome size size_is =
+      ap (λ (n : ℕ). says (line_by outcome state.name (length text) n)) size_is
+      ∙ ap (λ (c : Bool). cond c (refuses no_backup_name) (says (line_by outcome state.name (length text) (length (file_of text))))) (sym free)
+
+  module _ (size : ℕ) (at : ℕ) (after : Session) (reply : Answer) (new : Scene) (second : ChangesFolder mid new) (names_after : names_of after ≡ names) (wrote : Wrote (after_sync state true) all between after (Ok size) mid new)
+      (off : state.options.undofile ≡ false) (reply_to : reply ≡ says (written_line state.name (length text) size)) where
+    pub answers_alone : Answers state syncs instruction before after (mark Done at) reply old new
+    answers_alone =
+        let free : lacks ≡ false = not_lacks after (Ok size) new second wrote size refl in
+        let runs = written_runs after (Ok size) new second wrote in
+        answers_free free false off after Done at reply new names_after (λ e. absurd (cc))
+        (reply_to ∙ line_is free Done size (bytes_left after (Ok size) new second wrote).0 ∙ replied_done at)
+        (fits_by after new.folder Done at true (λ i. ((is i && true) && not (free i)) && true) wrote.fits)
+        (works_runs names (Some (EditedFile write)) (IsUnderWay names under (Some (EditedFile write))) AtMoment old new (written_frame after (Ok size) new second wrote) (lead false) runs)
+        (has_left after (Ok size) new second wrote) (whole_by false new.folder runs.now) (written_rises after (Ok size) new second wrote) (λ e. absurd (true≢false (sym e)))

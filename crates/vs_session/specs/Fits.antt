@@ -9,7 +9,6 @@ use Rattle.vs_pair.specs.Pair.{is_foreign}
 use Rattle.vs_pair.specs.Steps.{IsAbsent}
 use Rattle.vs_excmd.specs.Request.{Instruction}
 use Rattle.vs_machine.specs.declared.command.Mark.{Mark}
-use Rattle.vs_machine.specs.declared.command.Outcome.TheVariants.{Fault}
 use Rattle.vs_machine.specs.Replies.{Answer}
 use Rattle.vs_safety.specs.Texts.{Sync, RecoversOrNone, recoverable}
 use Rattle.vs_safety.specs.Safety.{Stepped, Works}
@@ -18,7 +17,7 @@ use Rattle.vs_paged.specs.Fits as paged
 use Rattle.vs_session.specs.declared.session.Session.{Session}
 use Rattle.vs_session.specs.declared.session.Step.{Step}
 use Rattle.vs_session.specs.declared.session.Step.TheVariants as step
-use Rattle.vs_session.specs.Session.{SessionState, Ended, HasFound, accepts_quit, reply_of, state_after, syncs_after, turn_of}
+use Rattle.vs_session.specs.Session.{SessionState, Ended, HasFound, accepts_quit, reply_of, state_after, syncs_after, is_fault, turn_of}
 use Rattle.vs_session.specs.Standing.{FitsState}
 use Rattle.vs_session.specs.Summary.{acknowledged_in}
 use Rattle.vs_session.specs.Opened.{Opened, text_in}
@@ -89,7 +88,8 @@ pub record Answers (state : SessionState) (syncs : List Sync) (instruction : Ins
 -- a command was answered, or an accepted `q` or `q!` changed nothing
 abbrev pub IsStep : Step → SessionState → List Sync → Instruction → Session → Session → Scene → Scene → Type 0
 IsStep (step.Answer mark reply) state syncs instruction before after old new = Answers state syncs instruction before after mark reply old new
-IsStep step.Quit state syncs instruction before after old new = (accepts_quit state instruction ≡ true) × (after ≡ before) × (new.trace ≡ old.trace) × (new.folder ≡ old.folder) × (new.folder_faults ≡ old.folder_faults)
+IsStep step.Quit state syncs instruction before after old new =
+    (accepts_quit state instruction ≡ true) × (after ≡ before) × (new.trace ≡ old.trace) × (new.folder ≡ old.folder) × (new.folder_faults ≡ old.folder_faults)
 
 -- nothing but the folder, its faults, the clock's answers and the trace changed
 abbrev pub StepsIn : Scene → Scene → Type 0
@@ -105,9 +105,9 @@ abbrev pub IsMarkedAt : Step → ℕ → Type 0
 IsMarkedAt (step.Answer mark reply) at = mark.at ≡ at
 IsMarkedAt step.Quit at = ⊥
 
--- the step has the mark of a fault
+-- the step says that a call on the folder failed
 abbrev pub IsFault : Step → Type 0
-IsFault (step.Answer mark reply) = mark.outcome ≡ Fault
+IsFault (step.Answer mark reply) = is_fault mark.outcome ≡ true
 IsFault step.Quit = ⊥
 
 -- ---- the end

@@ -15,15 +15,15 @@ use Rattle.vs_excmd.specs.Meaning.{changes_text}
 use Rattle.vs_excmd.specs.Request.{Instruction}
 use Rattle.vs_machine.specs.declared.command.Mark.{Mark}
 use Rattle.vs_machine.specs.declared.command.Outcome.{Outcome}
-use Rattle.vs_machine.specs.declared.command.Outcome.TheVariants.{Done, NoMemory, Fault}
+use Rattle.vs_machine.specs.declared.command.Outcome.TheVariants.{Done, NoMemory, Fault, NoUndo}
 use Rattle.vs_machine.specs.Machine as machine
-use Rattle.vs_machine.specs.Machine.{State, first_state, current_of, is_done}
-use Rattle.vs_machine.specs.Replies.{Answer, says, refuses, file_preserved, no_write, no_backup_name, undo_file_written, written_line}
+use Rattle.vs_machine.specs.Machine.{State, first_state, current_of, is_done, took_effect}
+use Rattle.vs_machine.specs.Replies.{Answer, says, refuses, file_preserved, no_write, no_backup_name, undo_file_written, unstored_line, written_line}
 use Rattle.vs_undo.specs.History.{History, history_marked}
 use Rattle.vs_safety.specs.Texts.{Text, Sync}
 use Rattle.vs_safety.specs.Writes as writes
 use Rattle.vs_safety.specs.Undo.{UndoWrite}
-use Rattle.vs_safety.specs.FileWork.{FileWork, EditedFile, UndoFile}
+use Rattle.vs_safety.specs.FileWork.{BothFiles, EditedFile, FileWork, UndoFile}
 use Rattle.vs_safety.specs.Turns.{Turn, with_sync}
 use Rattle.vs_session.specs.declared.taking.TakeErr.{TakeErr}
 use Rattle.vs_session.specs.Taken.{IsTaken, outcome_by, taken_reply}
@@ -54,10 +54,12 @@ pub record Ended : Type 0 where
   pub found : Disk
   pub read : Result History TakeErr
 
--- whether a command was answered that a call on the folder failed
+-- whether a command was answered that a call on the folder failed: for it, or for its undo file alone
 abbrev pub is_fault : Outcome → Bool
+is_fault Done = false
+is_fault NoMemory = false
 is_fault Fault = true
-is_fault outcome = false
+is_fault NoUndo = true
 
 -- ---- syncs
 
@@ -137,24 +139,37 @@ write_in state found = record { options = state.options.write; text = state.mach
 abbrev pub undo_in : SessionState → Disk → UndoWrite
 undo_in state found = record { text = state.machine.text; history = state.machine.history; found = found }
 
+-- the undo file that `w` stores with `undofile`: of the text and the history as they are after the write
+abbrev pub undo_after : SessionState → Disk → UndoWrite
+undo_after state found = record { text = state.machine.text; history = history_marked state.machine.history; found = found }
+
+-- the files that `w` writes
+abbrev pub write_work : SessionState → Disk → FileWork
+write_work state found = if state.options.undofile then BothFiles (write_in state found) (undo_after state found) else EditedFile (write_in state found)
+
 abbrev pub undo_work : SessionState → Disk → Result Command ExErr → Option FileWork
 undo_work state found (Ok WriteUndo) = Some (UndoFile (undo_in state found))
 undo_work state found parsed = None
 
 -- the files that a command writes beside the swap files
 abbrev pub work_of : SessionState → Instruction → Ended → Option FileWork
-work_of state instruction ended = if begins_write state instruction ended then Some (EditedFile (write_in state ended.found)) else undo_work state ended.found instruction.parsed
+work_of state instruction ended = if begins_write state instruction ended then Some (write_work state ended.found) else undo_work state ended.found instruction.parsed
 
 -- whether the file was written
 abbrev pub has_written : SessionState → Instruction → Ended → Bool
-has_written state instruction ended = begins_write state instruction ended && is_done ended.mark.outcome
+has_written state instruction ended = begins_write state instruction ended && took_effect ended.mark.outcome
+
+-- whether a command writes the file, and then is to store the undo file
+abbrev pub stores_both : SessionState → Instruction → Ended → Bool
+stores_both state instruction ended = begins_write state instruction ended && state.options.undofile
 
 -- ---- the undo file that is read
 
--- What is known of a command that ended so: `rundo` found this in the folder, and its mark says so.
-abbrev pub HasFound : SessionState → Instruction → Ended → Type 0
-HasFound state instruction ended =
-    is_rundo instruction.parsed ≡ true → IsTaken state.machine.text (content_in ended.found (names_of_file state.name).undo) ended.read × (ended.mark.outcome ≡ outcome_by ended.read)
+-- What is known of a command that ended so: `rundo` found this in the folder, and its mark says so; and only a `w` that was to store
+-- the undo file says that it was not stored.
+pub record HasFound (state : SessionState) (instruction : Instruction) (ended : Ended) : Type 0 where
+  pub read : is_rundo instruction.parsed ≡ true → IsTaken state.machine.text (content_in ended.found (names_of_file state.name).undo) ended.read × (ended.mark.outcome ≡ outcome_by ended.read)
+  pub unstored : ended.mark.outcome ≡ NoUndo → stores_both state instruction ended ≡ true
 
 -- the history that `rundo` takes from what it found
 abbrev pub history_in : Result History TakeErr → Option History
@@ -187,25 +202,32 @@ own_reply (Ok (Quit bang)) = Some (refuses no_write)
 own_reply (Ok (Set setting)) = Some (says (full_text setting))
 own_reply parsed = None
 
--- the reply to a write: how many lines and bytes were written, or that no backup name is free
-abbrev pub write_reply : SessionState → Disk → Answer
-write_reply state found =
-    if lacks_name state.options.write state.name found then refuses no_backup_name else says (written_line state.name (length state.machine.text) (length (file_of state.machine.text)))
+-- how many lines and bytes were written, and whether the undo file was not stored
+abbrev pub line_by : Outcome → List ℕ → ℕ → ℕ → List ℕ
+line_by NoUndo name lines bytes = unstored_line name lines bytes
+line_by outcome name lines bytes = written_line name lines bytes
 
--- the session's reply to a command that found the folder so, and there this undo file
-abbrev pub session_reply : SessionState → Disk → Result History TakeErr → Result Command ExErr → Option Answer
-session_reply state found read (Ok (Write bang)) = Some (write_reply state found)
-session_reply state found read (Ok WriteUndo) = Some (says undo_file_written)
-session_reply state found read (Ok ReadUndo) = Some (taken_reply read)
-session_reply state found read parsed = own_reply parsed
+-- the reply to a write that ended so: what was written, or that no backup name is free
+abbrev pub write_reply : SessionState → Outcome → Disk → Answer
+write_reply state outcome found =
+    if lacks_name state.options.write state.name found then refuses no_backup_name else says (line_by outcome state.name (length state.machine.text) (length (file_of state.machine.text)))
+
+-- the session's reply to a command that had its effect, found the folder so, and there this undo file
+abbrev pub session_reply : SessionState → Outcome → Disk → Result History TakeErr → Result Command ExErr → Option Answer
+session_reply state outcome found read (Ok (Write bang)) = Some (write_reply state outcome found)
+session_reply state outcome found read (Ok WriteUndo) = Some (says undo_file_written)
+session_reply state outcome found read (Ok ReadUndo) = Some (taken_reply read)
+session_reply state outcome found read parsed = own_reply parsed
 
 abbrev pub answered : Outcome → Option Answer → Answer → Answer
 answered Done (Some own) reply = own
+answered NoUndo (Some own) reply = own
 answered outcome own reply = reply
 
 -- the reply to a command that ended so
 abbrev pub reply_of : SessionState → Instruction → Ended → Answer
-reply_of state instruction ended = answered ended.mark.outcome (session_reply state ended.found ended.read instruction.parsed) (machine.reply_of state.machine instruction ended.mark)
+reply_of state instruction ended =
+    answered ended.mark.outcome (session_reply state ended.mark.outcome ended.found ended.read instruction.parsed) (machine.reply_of state.machine instruction ended.mark)
 
 -- whether `q` or `q!` is accepted: `q!` always, and `q` where the current state is the one that was opened or last written
 abbrev pub quits : Result Command ExErr → Bool → Bool
@@ -234,6 +256,7 @@ abbrev pub options_after : Outcome → Options → Result Command ExErr → Opti
 options_after Done options parsed = options_set options parsed
 options_after NoMemory options parsed = options
 options_after Fault options parsed = options
+options_after NoUndo options parsed = options_set options parsed
 
 -- the state after a command was carried out, or was not, as its mark says
 abbrev pub carried : SessionState → Instruction → Mark → SessionState
@@ -267,7 +290,7 @@ turn_of state instruction ended = record {
   found = Some ended.found;
   sync = sync_of state instruction ended;
   write = work_of state instruction ended;
-  done = is_done ended.mark.outcome;
+  done = took_effect ended.mark.outcome;
   failed = is_fault ended.mark.outcome;
   reply = (reply_of state instruction ended).bytes;
 }

@@ -4,9 +4,6 @@ use Rattle.vs_host.specs.Disk.{Disk}
 use Rattle.vs_host.specs.declared.names.Names.{Names}
 use Rattle.vs_disk.specs.Images.{HoldsBytes, MayLeave}
 use Rattle.vs_backup.specs.Works.{Spares, two_names}
-use Rattle.vs_machine.specs.Replies.{Answer, says, refuses, device_fault, out_of_memory, undo_file_written}
-use Rattle.vs_machine.specs.declared.command.Outcome.{Outcome}
-use Rattle.vs_machine.specs.declared.command.Outcome.TheVariants.{Done, NoMemory, Fault}
 use Rattle.vs_undo.specs.History.{History}
 use Rattle.vs_safety.specs.Texts.{Text}
 use Rattle.vs_safety.specs.Undo.{IsUndoOf}
@@ -20,9 +17,3 @@ pub record StoresUndo (names : Names) (text : Text) (history : History) (old new
 -- The name has the undo file of this text and this history in each image.
 abbrev pub HasUndo : Names → Text → History → Disk → Type 0
 HasUndo names text history disk = (bytes : List ℕ) × IsUndoOf text history bytes × HoldsBytes names.undo bytes disk
-
--- the reply to `wundo`, by how it ended
-abbrev pub wundo_reply : Outcome → Answer
-wundo_reply Done = says undo_file_written
-wundo_reply NoMemory = refuses out_of_memory
-wundo_reply Fault = refuses device_fault

@@ -43,7 +43,7 @@ fn answer_in<F: Folder>(
     ensures err { OnErr result (IsTrue F.tells.folder → (state : State) → Stands pair.old.pages tree.old history.old state → Stands pair.new.pages tree.new history.new state) }
     ensures bounded { IsBounded tree.new }
     ensures counts { FitsCount history.new (max 1 tree.new.present.lines) }
-    ensures keeps { KeepsFiles F.tells pair.old.files pair.new.files (F.scene host.old) (F.scene host.new) }
+    ensures keeps { KeepsFiles F.tells pair.old pair.new (F.scene host.old) (F.scene host.new) }
     ensures cause { HasCause (F.scene host.old).folder_faults (F.scene host.new).folder_faults (IsErrOf result StoreErr.Failed) }
 {
     let mut store = TreeStore {
@@ -76,7 +76,7 @@ pub(crate) fn answer_text<F: Folder>(
     ensures err { OnErr result (IsTrue F.tells.folder → (state : State) (syncs : List Sync) → FitsState text.old history.old (F.scene host.old).folder state syncs
         → FitsState text.new history.new (F.scene host.new).folder state syncs) }
     ensures counts { FitsCount history.new (max 1 text.new.tree.present.lines) }
-    ensures keeps { KeepsFiles F.tells text.old.pair.files text.new.pair.files (F.scene host.old) (F.scene host.new) }
+    ensures keeps { KeepsFiles F.tells text.old.pair text.new.pair (F.scene host.old) (F.scene host.new) }
     ensures cause { HasCause (F.scene host.old).folder_faults (F.scene host.new).folder_faults (IsErrOf result StoreErr.Failed) }
 {
     answer_in(

@@ -8,7 +8,7 @@ ghost use Rattle.vs_undo.specs.History.{History};
 ghost use Rattle.vs_machine.specs.Replies.{refuses};
 ghost use Rattle.vs_safety.specs.Texts.{Sync};
 ghost use Rattle.vs_session.specs.Fits.{Fits, FitsUndo, IsFault, IsMarkedAt, IsStep, SameFile, generation_of, names_of};
-ghost use Rattle.vs_session.specs.Session.{SessionState, history_in, is_rundo, is_saved, with_history};
+ghost use Rattle.vs_session.specs.Session.{SessionState, history_in, is_fault, is_rundo, is_saved, with_history};
 ghost use Rattle.vs_session.specs.Taken.{IsTaken, outcome_by, taken_reply, unreadable_text};
 
 use crate::taking::{TakeErr, Taken};
@@ -68,7 +68,7 @@ impl Session {
         ensures file { SameFile self.old self.new }
         ensures generation { generation_of self.new ≡ generation_of self.old }
         ensures undo { FitsUndo self.new }
-        ensures cause { HasCause (F.scene host.old).folder_faults (F.scene host.new).folder_faults (result.0 ≡ Outcome.Fault) }
+        ensures cause { HasCause (F.scene host.old).folder_faults (F.scene host.new).folder_faults (is_fault result.0 ≡ true) }
     {
         match self.take_undo(alloc, host) {
             Ok(Taken { tree, changes }) => {

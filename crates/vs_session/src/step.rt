@@ -1,5 +1,5 @@
 // One step of a session.
-ghost use Rattle.std.specs.Prelude.{◌≡◌, ◌+◌, ◌<◌, ◌≤◌, ◌^◌, ◌∷◌, ℕ, List, None, true, false, IsErr, IsTrue, OnErr, OnOk, length};
+ghost use Rattle.std.specs.Prelude.{◌≡◌, ◌≢◌, ◌+◌, ◌<◌, ◌≤◌, ◌^◌, ◌∷◌, ℕ, List, None, true, false, IsErr, IsTrue, OnErr, OnOk, length};
 ghost use Rattle.vs_faults.specs.Faults.{HasCause};
 ghost use Rattle.vs_host.specs.World.{ChangesFolder, ReadsFolder};
 ghost use Rattle.vs_disk.specs.Runs.{Looks};
@@ -12,7 +12,7 @@ ghost use Rattle.vs_machine.specs.declared.command.Mark.{Mark};
 ghost use Rattle.vs_safety.specs.Texts.{Sync};
 ghost use Rattle.vs_paged.specs.Fits.{Syncing};
 ghost use Rattle.vs_session.specs.Fits.{Fits, FitsUndo, IsFault, IsMarkedAt, IsStep, IsTimed, SameFile, StepsIn, generation_of, names_of};
-ghost use Rattle.vs_session.specs.Session.{SessionState, after_sync, answered, begins_after, carried, counted, is_move, is_rundo, is_saved, is_write, is_wundo, options_set, own_reply, quits, sync_in, uses_files};
+ghost use Rattle.vs_session.specs.Session.{SessionState, after_sync, answered, begins_after, carried, counted, is_fault, is_move, is_rundo, is_saved, is_write, is_wundo, options_set, own_reply, quits, sync_in, uses_files};
 
 use crate::answering::answer_text;
 use crate::session::STEPS_BETWEEN_SYNCS;
@@ -169,7 +169,8 @@ impl Session {
         ensures file { SameFile self.old self.new }
         ensures generation { generation_of self.new ≡ generation_of self.old }
         ensures undo { FitsUndo self.new }
-        ensures cause { HasCause (F.scene host.old).folder_faults (F.scene host.new).folder_faults (result.0 ≡ Outcome.Fault) }
+        ensures cause { HasCause (F.scene host.old).folder_faults (F.scene host.new).folder_faults (is_fault result.0 ≡ true) }
+        ensures stored { result.0 ≢ Outcome.NoUndo }
     {
         let before = self.history.current();
         let cursor = self.cursor;
@@ -213,7 +214,8 @@ impl Session {
         ensures file { SameFile self.old self.new }
         ensures generation { generation_of self.new ≡ generation_of self.old }
         ensures undo { FitsUndo self.new }
-        ensures cause { HasCause (F.scene host.old).folder_faults (F.scene host.new).folder_faults (result.0 ≡ Outcome.Fault) }
+        ensures cause { HasCause (F.scene host.old).folder_faults (F.scene host.new).folder_faults (is_fault result.0 ≡ true) }
+        ensures stored { result.0 ≢ Outcome.NoUndo }
     {
         match own_reply(request) {
             Some(reply) => {
@@ -302,8 +304,8 @@ impl Session {
     }
 
     /// Answers one command. The clock is read once, when the command begins. `preserve` and `w`, and a change or a move after 200
-    /// steps that led to another state, sync the text before all else (`:help :preserve`). Where the mark is not Done, the text, the
-    /// history, the cursor and the options have not changed.
+    /// steps that led to another state, sync the text before all else (`:help :preserve`). Where the mark is NoMemory or Fault, the
+    /// text, the history, the cursor and the options have not changed.
     pub fn step<H: Host>(&mut self, alloc: Global, host: &mut H, request: &Request) -> Step
         requires form { IsFormed request.now }
         requires clock { IsTrue (H.tells).clock → length (H.scene host.old).answers < 2 ^ 63 }

@@ -48,7 +48,7 @@ fn digest_in<F: Folder>(
     ensures paged { IsTrue F.tells.folder → (text : Text) → IsPaged pair.old.pages tree.old text → IsPaged pair.new.pages tree.new text }
     ensures bounded { IsBounded tree.new }
     ensures lines { tree.new.present.lines ≡ tree.old.present.lines }
-    ensures keeps { KeepsFiles F.tells pair.old.files pair.new.files (F.scene host.old) (F.scene host.new) }
+    ensures keeps { KeepsFiles F.tells pair.old pair.new (F.scene host.old) (F.scene host.new) }
     ensures cause { HasCause (F.scene host.old).folder_faults (F.scene host.new).folder_faults (IsErrOf result StoreErr.Failed) }
 {
     let mut store = TreeStore {
@@ -70,7 +70,7 @@ fn digest_text<F: Folder>(
     ensures fits { IsTrue F.tells.folder → (lines : Text) (syncs : List Sync) → paged.Fits text.old (F.scene host.old).folder lines syncs
         → paged.Fits text.new (F.scene host.new).folder lines syncs }
     ensures lines { text.new.tree.present.lines ≡ text.old.tree.present.lines }
-    ensures keeps { KeepsFiles F.tells text.old.pair.files text.new.pair.files (F.scene host.old) (F.scene host.new) }
+    ensures keeps { KeepsFiles F.tells text.old.pair text.new.pair (F.scene host.old) (F.scene host.new) }
     ensures cause { HasCause (F.scene host.old).folder_faults (F.scene host.new).folder_faults (IsErrOf result StoreErr.Failed) }
 {
     digest_in(alloc, &mut text.tree, &mut text.pair, host)

@@ -96,7 +96,7 @@ fn bind_undo<F: Folder>(
     ensures fits { IsTrue F.tells.folder → (lines : Text) (syncs : List Sync) → paged.Fits text.old (F.scene host.old).folder lines syncs
         → paged.Fits text.new (F.scene host.new).folder lines syncs }
     ensures lines { text.new.tree.present.lines ≡ text.old.tree.present.lines }
-    ensures keeps { KeepsFiles F.tells text.old.pair.files text.new.pair.files (F.scene host.old) (F.scene host.new) }
+    ensures keeps { KeepsFiles F.tells text.old.pair text.new.pair (F.scene host.old) (F.scene host.new) }
     ensures cause { HasCause (F.scene host.old).folder_faults (F.scene host.new).folder_faults (IsErrOf result TakeErr.Failed) }
 {
     match bind_text(alloc, text, host, contents) {

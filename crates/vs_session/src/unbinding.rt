@@ -46,7 +46,7 @@ fn unbind_in<F: Folder>(
     ensures stands { IsTrue F.tells.folder → (state : State) → Stands pair.old.pages tree.old history.now state → Stands pair.new.pages tree.new history.now state }
     ensures bounded { IsBounded tree.new }
     ensures counts { FitsCount history.now (max 1 tree.new.present.lines) }
-    ensures keeps { KeepsFiles F.tells pair.old.files pair.new.files (F.scene host.old) (F.scene host.new) }
+    ensures keeps { KeepsFiles F.tells pair.old pair.new (F.scene host.old) (F.scene host.new) }
     ensures cause { HasCause (F.scene host.old).folder_faults (F.scene host.new).folder_faults (IsErrOf result StoreErr.Failed) }
 {
     let mut store = TreeStore {
@@ -72,7 +72,7 @@ fn unbind_text<F: Folder>(
     ensures fits { IsTrue F.tells.folder → (state : State) (syncs : List Sync) → FitsState text.old history.now (F.scene host.old).folder state syncs
         → FitsState text.new history.now (F.scene host.new).folder state syncs }
     ensures counts { FitsCount history.now (max 1 text.new.tree.present.lines) }
-    ensures keeps { KeepsFiles F.tells text.old.pair.files text.new.pair.files (F.scene host.old) (F.scene host.new) }
+    ensures keeps { KeepsFiles F.tells text.old.pair text.new.pair (F.scene host.old) (F.scene host.new) }
     ensures cause { HasCause (F.scene host.old).folder_faults (F.scene host.new).folder_faults (IsErrOf result StoreErr.Failed) }
 {
     unbind_in(

@@ -13,6 +13,26 @@ fn put(rt: &impl Abort, view: &mut DataView, block: &mut [u8], at: u32, line: &[
     view.insert(block, at, line);
 }
 
+// The lines of another block, where what `insert_lines` requires holds.
+fn put_all(
+    rt: &impl Abort,
+    view: &mut DataView,
+    block: &mut [u8],
+    at: u32,
+    more: DataView,
+    lines: &[u8],
+) {
+    assert_eq!(rt; DataView::read(block), Ok(*view));
+    assert_eq!(rt; DataView::read(lines), Ok(more));
+    assert!(rt; view.text_end <= 1 << 31);
+    assert!(rt; at <= view.count);
+    assert!(rt; more.text_start <= more.text_end);
+    let index = 24 + 4 * (view.count as u64 + more.count as u64);
+    let text = more.text_end as u64 - more.text_start as u64;
+    assert!(rt; index + text <= view.text_start as u64);
+    view.insert_lines(block, at, more, lines);
+}
+
 fn take_out(rt: &impl Abort, view: &mut DataView, block: &mut [u8], at: u32) {
     assert_eq!(rt; DataView::read(block), Ok(*view));
     assert!(rt; view.text_end <= 1 << 31);
@@ -109,6 +129,27 @@ fn puts_in_and_takes_out(rt: HostRuntime) -> Result<(), Fail> {
     lines_are(&rt, &view, block.as_slice(), &[b"half", b"", b"three"]);
     take_out(&rt, &mut view, block.as_mut_slice(), 2);
     lines_are(&rt, &view, block.as_slice(), &[b"half", b""]);
+    Ok(())
+}
+
+#[test]
+fn puts_in_the_lines_of_another_block(rt: HostRuntime) -> Result<(), Fail> {
+    let (mut block, mut view) = page(&rt, rt.alloc(), &[b"one", b"four"])?;
+    let (lines, more) = page(&rt, rt.alloc(), &[b"two", b"", b"three"])?;
+    put_all(
+        &rt,
+        &mut view,
+        block.as_mut_slice(),
+        1,
+        more,
+        lines.as_slice(),
+    );
+    lines_are(
+        &rt,
+        &view,
+        block.as_slice(),
+        &[b"one", b"two", b"", b"three", b"four"],
+    );
     Ok(())
 }
 

@@ -3,6 +3,8 @@
 
 #[cfg(test)]
 mod bytes;
+#[cfg(test)]
+mod counts;
 pub mod life;
 #[cfg(test)]
 mod stops;

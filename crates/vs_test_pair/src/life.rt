@@ -1,6 +1,7 @@
 // One life of a pair: it is started, synced and ended. The text is the byte that fills page 2.
 ghost use Rattle.std.specs.Prelude.{◌≡◌, ◌+◌, ◌<◌, ◌≤◌, ◌^◌, List, Some, IfOk, IfSome, OnOk, IsSome, IsTrue, codes};
 ghost use Rattle.vs_host.specs.Names.{names_of_file};
+ghost use Rattle.vs_pages.specs.Changes.{KeepsMarks};
 ghost use Rattle.vs_pages.specs.Maps.{first_pages};
 ghost use Rattle.vs_pages.specs.Memory.{present_of};
 ghost use Rattle.vs_pair.specs.Swap.{Synced};
@@ -37,6 +38,7 @@ fn put_text<F: Folder>(
     requires ready { IsTrue F.tells.folder → IsReady pair.old (F.scene host.old).folder }
     requires there { IsTrue F.tells.folder → HasText pair.old }
     ensures files { OnOk result (pair.new.files ≡ pair.old.files) }
+    ensures marks { OnOk result (KeepsMarks pair.old.files.generation pair.old.pages pair.new.pages) }
     ensures there { OnOk result (IsTrue F.tells.folder → HasText pair.new) }
     ensures folder { OnOk result ((F.scene host.new).folder ≡ (F.scene host.old).folder) }
 {
@@ -67,7 +69,7 @@ fn start_text<F: Folder>(alloc: Global, host: &mut F, text: u8) -> Result<Option
 }
 
 // Syncs this text, and says whether that succeeded.
-fn sync_text<F: Folder>(
+pub fn sync_text<F: Folder>(
     alloc: Global,
     pair: &mut SwapPair,
     host: &mut F,

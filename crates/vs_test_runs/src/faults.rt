@@ -5,7 +5,7 @@ use std::test::Fail;
 
 /// The calls of the run below, in order: two that look for swap files, three that read the file, and those that make the swap
 /// files; the opening reply; one read that takes the whole script, one reply for each command, and the read at the script's end;
-/// the last sync, and the last line.
+/// the last sync, which writes page 0 alone, since no other page has changed; and the last line.
 const BEFORE_OPENING: u64 = 2 + 3 + 15;
 
 const OPENING: u64 = BEFORE_OPENING + 1;
@@ -16,7 +16,7 @@ const COMMANDS: u64 = 20;
 
 const LAST_READ: u64 = FIRST_READ + COMMANDS + 1;
 
-const LAST_SYNC: u64 = LAST_READ + 7;
+const LAST_SYNC: u64 = LAST_READ + 6;
 
 const LAST_LINE: u64 = LAST_SYNC + 1;
 

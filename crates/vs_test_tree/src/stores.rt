@@ -182,6 +182,51 @@ fn gives_numbers_again(rt: HostRuntime) -> Result<(), Fail> {
     Ok(())
 }
 
+// Fills a page with a byte, if it is there.
+fn fill_page(store: &mut MemPages, alloc: Global, at: u64, byte: u8) -> Result<(), PageErr> {
+    if store.has(at, 1) {
+        let bytes = filled(alloc, 1, byte)?;
+        store.touch(alloc, at, 1, &bytes)?;
+    }
+    Ok(())
+}
+
+// The marks of the first pages.
+fn marks(store: &MemPages) -> [u64; 5] {
+    [
+        store.mark(0),
+        store.mark(1),
+        store.mark(2),
+        store.mark(3),
+        store.mark(4),
+    ]
+}
+
+// Each commit marks what changed since the one before, and nothing else does.
+#[test]
+fn marks_what_a_commit_changed(rt: HostRuntime) -> Result<(), Fail> {
+    let alloc = rt.alloc();
+    let mut store = MemPages::new(alloc)?;
+    fill_page(&mut store, alloc, 1, 9)?;
+    store.commit_marked(5);
+    assert_eq!(rt; marks(&store), [0, 5, 0, 0, 0]);
+    store.grow(alloc, 2)?;
+    fill_page(&mut store, alloc, 2, 8)?;
+    store.rollback();
+    store.commit_marked(6);
+    assert_eq!(rt; marks(&store), [0, 5, 0, 0, 0]);
+    store.grow(alloc, 1)?;
+    fill_page(&mut store, alloc, 1, 8)?;
+    store.commit_marked(7);
+    assert_eq!(rt; marks(&store), [0, 7, 0, 7, 0]);
+    if store.has(3, 1) {
+        store.free(alloc, 3, 1)?;
+    }
+    store.commit();
+    assert_eq!(rt; marks(&store), [0, 7, 0, u64::MAX, 0]);
+    Ok(())
+}
+
 // Writes pages and reads them back into the buffer.
 fn write_and_load<P: Pages>(
     store: &mut P,

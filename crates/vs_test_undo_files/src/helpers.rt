@@ -5,8 +5,9 @@ ghost use Rattle.vs_memory.specs.Memory.{folder_of};
 use std::alloc::Global;
 use std::test::Fail;
 use vs_host::Host;
+use vs_machine::Outcome;
 use vs_memory::{Keep, MemHost};
-use vs_top::run;
+use vs_top::{Report, run};
 
 /// A stop leaves these bytes where a file was changed and not synced.
 pub const KEEPS: [Keep; 3] = [Keep::Read, Keep::Synced, Keep::Byte(b'?')];
@@ -36,13 +37,34 @@ pub fn host_of(alloc: Global, files: &[(&str, &[u8])], script: &[u8]) -> Result<
     Ok(host)
 }
 
-/// Runs `edit f`, and gives its exit status.
-pub fn edit_f<H: Host>(alloc: Global, host: &mut H) -> Result<u8, Fail>
+// Runs `edit f`.
+fn run_f<H: Host>(alloc: Global, host: &mut H) -> Result<Report, Fail>
     requires clock { IsTrue (H.tells).clock → (H.scene host.old).answers ≡ [] }
     requires settled { IsTrue (H.tells).folder → (H.scene host.old).folder.pending ≡ [] }
 {
     let mut words = Vec::new(alloc);
     words.push(String::from_str(alloc, "edit")?)?;
     words.push(String::from_str(alloc, "f")?)?;
-    Ok(run(alloc, words.as_slice(), host).status)
+    Ok(run(alloc, words.as_slice(), host))
+}
+
+/// Runs `edit f`, and gives its exit status.
+pub fn edit_f<H: Host>(alloc: Global, host: &mut H) -> Result<u8, Fail>
+    requires clock { IsTrue (H.tells).clock → (H.scene host.old).answers ≡ [] }
+    requires settled { IsTrue (H.tells).folder → (H.scene host.old).folder.pending ≡ [] }
+{
+    Ok(run_f(alloc, host)?.status)
+}
+
+/// Runs `edit f`, and gives its exit status and how its commands ended.
+pub fn marks_of<H: Host>(alloc: Global, host: &mut H) -> Result<(u8, Vec<Outcome>), Fail>
+    requires clock { IsTrue (H.tells).clock → (H.scene host.old).answers ≡ [] }
+    requires settled { IsTrue (H.tells).folder → (H.scene host.old).folder.pending ≡ [] }
+{
+    let report = run_f(alloc, host)?;
+    let mut outcomes = Vec::new(alloc);
+    for mark in &report.marks {
+        outcomes.push(mark.outcome)?;
+    }
+    Ok((report.status, outcomes))
 }

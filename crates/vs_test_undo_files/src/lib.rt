@@ -2,6 +2,8 @@
 #![tactic(auto)]
 
 #[cfg(test)]
+mod both_files;
+#[cfg(test)]
 mod helpers;
 #[cfg(test)]
 mod rereads;

@@ -75,13 +75,18 @@ const SECOND: [(&str, &[u8], u8, &[u8]); 4] = [
     ),
 ];
 
+/// Scripts that leave the same history, once by `wundo` and once by `w` itself.
+const FIRST: [&[u8]; 2] = [CHANGES, b"set undofile\n$a\nb\n.\nw\nq\n"];
+
 #[test]
 fn a_second_run_takes_the_history_with_its_text(rt: HostRuntime) -> Result<(), Fail> {
     let alloc = rt.alloc();
-    for (name, script, status, output) in SECOND {
-        let (ended, host) = after_both(alloc, b"a\n", CHANGES, script)?;
-        assert!(rt; host.output() == output, "{name}");
-        assert_eq!(rt; ended, status);
+    for first in FIRST {
+        for (name, script, status, output) in SECOND {
+            let (ended, host) = after_both(alloc, b"a\n", first, script)?;
+            assert!(rt; host.output() == output, "{name}");
+            assert_eq!(rt; ended, status);
+        }
     }
     Ok(())
 }

@@ -18,16 +18,16 @@ const NO_LINES: [u8; 32] = [
     0x78, 0x90, 0x1d, 0x3f, 0xb3, 0x37, 0x38, 0x76, 0x85, 0x11, 0xa3, 0x06, 0x17, 0xaf, 0xa0, 0x1d,
 ];
 
-// What stands under the name of the undo file before, where something does.
-const OLD: &[u8] = b"an older undo file";
+/// What stands under the name of the undo file before, where something does.
+pub const OLD: &[u8] = b"an older undo file";
 
 const STORED: &[u8] = b"$a\nb\n.\n$a\nc\n.\nu\nwundo\nq!\n";
 
 const REPLIES: &[u8] =
     b"\"f\" 1L, 2B\nchange 1, 2 lines\nchange 2, 3 lines\nat 1, 2 lines\nundo file written\nquit\n";
 
-// The undo file, where there is one that decodes.
-fn undo_file(alloc: Global, host: &MemHost) -> Result<Option<FileHistory>, Fail> {
+/// The undo file, where there is one that decodes.
+pub fn undo_file(alloc: Global, host: &MemHost) -> Result<Option<FileHistory>, Fail> {
     let Some(bytes) = host.file(".f.un~") else {
         return Ok(None);
     };
@@ -37,8 +37,8 @@ fn undo_file(alloc: Global, host: &MemHost) -> Result<Option<FileHistory>, Fail>
     }
 }
 
-// Whether an undo file has the two changes of the script, of which the first is current.
-fn has_both(history: &FileHistory) -> bool {
+/// Whether an undo file has the two changes of the script, of which the first is current.
+pub fn has_both(history: &FileHistory) -> bool {
     let changes = history.changes.as_slice();
     if history.digest != TWO_LINES || history.lines != 2 || changes.len() != 2 {
         return false;
@@ -83,8 +83,8 @@ fn the_undo_file_of_the_text_without_lines_has_100_bytes(rt: HostRuntime) -> Res
     Ok(())
 }
 
-// The host after a run in which the call `failing` fails, and each one after `stop`. Calls are counted from 1.
-fn after_run(alloc: Global, script: &[u8], failing: u64, stop: u64) -> Result<MemHost, Fail> {
+/// The host after a run in which the call `failing` fails, and each one after `stop`. Calls are counted from 1.
+pub fn after_run(alloc: Global, script: &[u8], failing: u64, stop: u64) -> Result<MemHost, Fail> {
     let mut host = host_of(alloc, &[("f", b"a\n"), (".f.un~", OLD)], script)?;
     host.fail_call(alloc, failing)?;
     host.stop_after(stop);
@@ -92,7 +92,8 @@ fn after_run(alloc: Global, script: &[u8], failing: u64, stop: u64) -> Result<Me
     Ok(host)
 }
 
-fn calls_of(alloc: Global, script: &[u8]) -> Result<u64, Fail> {
+/// How many calls a run makes.
+pub fn calls_of(alloc: Global, script: &[u8]) -> Result<u64, Fail> {
     let mut host = host_of(alloc, &[("f", b"a\n"), (".f.un~", OLD)], script)?;
     edit_f(alloc, &mut host)?;
     Ok(host.calls())

@@ -1,31 +1,31 @@
 -- The opening of the file, and what comes of a run whose calls succeed.
-use Rattle.std.proofs.Common.{◌≡◌, ◌⊎◌, inl, inr, ℕ, ◌≤◌, ◌<◌, ◌+◌, Bool, true, false, List, [], ◌∷◌, ◌++◌, length, map, get_or, All, Option, Some, None, IfSome, IsSomeAnd, Ok, Err, IsTrue, IsSome, string_bytes, refl, sym, ap, subst, ◌∙◌, append-nil, arith}
+use Rattle.std.proofs.Common.{◌≡◌, ◌⊎◌, inl, inr, ℕ, ◌≤◌, ◌+◌, true, false, List, [], ◌∷◌, length, get_or, All, Option, Some, None, IfSome, IsTrue, IsSome, refl, sym, ap, subst, ◌∙◌, arith}
 use Rattle.std.specs.declared.option.Option.{Option}
 use Rattle.std.proofs.lemmas.Bool.{true≢false}
 use Rattle.std.proofs.lemmas.List.Elements.{All-nil}
 use Rattle.vs_faults.specs.Faults.{HasRisen, IsQuiet}
-use Rattle.vs_host.specs.Disk.{Disk, Name, IsImage, content_in}
-use Rattle.vs_host.specs.Names.{names_of_file}
+use Rattle.vs_host.specs.Disk.{Disk, IsImage, content_in}
+use Rattle.vs_host.specs.Names.{AreNames, names_of_file}
 use Rattle.vs_host.specs.World.{Tells, Scene, content_of}
 use Rattle.vs_host.specs.declared.names.Names.{Names}
 use Rattle.vs_disk.proofs.Contents.{leads_nowhere}
 use Rattle.vs_disk.proofs.Steps.{one_state}
 use Rattle.vs_pair.specs.Acts.{Acts}
 use Rattle.vs_pair.specs.Pair.{Image, NoneThere}
-use Rattle.vs_pair.specs.Steps.{IsAbsent, IsFresh}
 use Rattle.vs_text.specs.Text.{lines_of}
 use Rattle.vs_text.specs.Limits.{IsWithinLimits}
 use Rattle.vs_machine.specs.declared.command.Mark.{Mark}
 use Rattle.vs_machine.specs.declared.command.Outcome.{Outcome}
 use Rattle.vs_machine.specs.declared.command.Outcome.TheVariants as outcome
-use Rattle.vs_safety.specs.Texts.{Sync, RecoversOrNone, IsBetween}
-use Rattle.vs_safety.specs.Turns.{NotBegun, after_turns, opened}
+use Rattle.vs_safety.specs.Texts.{RecoversOrNone, IsBetween}
+use Rattle.vs_safety.specs.Turns.{opened}
 use Rattle.vs_safety.specs.Safety.{Works}
-use Rattle.vs_safety.specs.Causes.{RoseLast, output_count, folder_count}
+use Rattle.vs_safety.specs.Causes.{output_count, folder_count}
 use Rattle.vs_safety.proofs.Works.{works_from}
 use Rattle.vs_safety.proofs.Endings.{halted_safe, not_opened, opening_ends}
 use Rattle.vs_safety.proofs.Causes.{counted_none, rose_last}
 use Rattle.vs_paged.proofs.SyncLemmas.{fits_between}
+use Rattle.vs_session.specs.Session.{is_fault}
 use Rattle.vs_session.specs.declared.session.Session.{Session}
 use Rattle.vs_session.specs.declared.open.OpenErr.{OpenErr}
 use Rattle.vs_session.specs.declared.open.OpenErr.TheVariants as opening
@@ -33,7 +33,7 @@ use Rattle.vs_session.specs.Open.{IsTooLarge, OnlyLooks}
 use Rattle.vs_session.specs.Fits.{Fits, HasOpened, HasSwap, IsSettled, Opens, names_of}
 use Rattle.vs_top.specs.Ending.{open_ending}
 use Rattle.vs_top.specs.Run.{TellsRun, Did, HasRun, RunsEdit, Counts, counts_of, OnlyFolder, HasCause, FileFits, IsBarred, IsThrough, IsThroughMark, IsUnhindered, opened_file, ran_of}
-use Rattle.vs_top.specs.Turns.{text_at, opening_at, ToldOpen, Keeps, IsOpened}
+use Rattle.vs_top.specs.Turns.{text_at, opening_at, IsOpened}
 use Rattle.vs_top.specs.declared.ending.Ending.{Ending}
 use Rattle.vs_top.specs.declared.ending.Ending.TheVariants as ending
 use Rattle.vs_top.proofs.Limits.{within_or_not, passes_no_limit}
@@ -150,7 +150,8 @@ module _ (tells : Tells) (name : List ℕ) (old new : Scene) (pending : IsTrue t
     told = λ told. record {
       file = has told.folder;
       fits = fits told.folder;
-      opened_here = opening_ends (names_of_file name) old (text_at old name) (opening_at old name) (opening_some name (opened_file old name).found) new (pending told.folder) (at_start told (free told.folder)) (works told (free told.folder))
+      opened_here = opening_ends (names_of_file name) old (text_at old name) (opening_at old name) (opening_some name (opened_file old name).found) new
+          (subst AreNames names (fits told.folder).stands.text.fit.named) (pending told.folder) (at_start told (free told.folder)) (works told (free told.folder))
           (subst (λ (n : Names). IsBetween n (opened (text_at old name)) new.folder) names (fits_between session.text new.folder _ _ (fits told.folder).stands.text));
       counted = counted_works (names_of_file name) None _ old old new (ap (λ (s : Scene). s.out_faults) acts.frame) (works told (free told.folder)) (counted_none output_count old);
     };
@@ -182,10 +183,11 @@ through tells name old new ending.NotSwap marks runs free = runs.counts
 through tells name old new (ending.TextLimit size) marks runs free = passes_no_limit (content_of old name) size free.file (runs.file free.told.folder)
 through tells name old new ending.ScriptTooLong marks runs free = omega (arith, free.script, (runs.told free.told).answered.longer)
 
-pub through_outcome : (o : Outcome) → (o ≡ outcome.Fault → ⊥) → (o ≡ outcome.Done) ⊎ (o ≡ outcome.NoMemory)
+pub through_outcome : (o : Outcome) → (is_fault o ≡ true → ⊥) → (o ≡ outcome.Done) ⊎ (o ≡ outcome.NoMemory)
 through_outcome outcome.Done calm = inl refl
 through_outcome outcome.NoMemory calm = inr refl
 through_outcome outcome.Fault calm = absurd (calm refl)
+through_outcome outcome.NoUndo calm = absurd (calm refl)
 
 pub through_marks : (tells : Tells) (name : List ℕ) (old new : Scene) (end : Ending) (marks : List Mark) → RunsEdit tells name old new end marks → IsUnhindered tells name old new → All IsThroughMark marks
 through_marks tells name old new end marks runs free = λ k d within. through_outcome (get_or marks k d).outcome (λ is. free.no_folder_fault (runs.causes k d within is))

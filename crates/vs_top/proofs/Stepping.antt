@@ -1,54 +1,45 @@
 -- A command of a run: the step and its reply, whole or cut short, and an accepted quit.
-use Rattle.std.proofs.Common.{◌≡◌, ◌⊎◌, inl, inr, ℕ, ◌≤◌, ◌<◌, ◌+◌, ◌^◌, Bool, true, false, not, ◌&&◌, ◌||◌, List, [], ◌∷◌, ◌++◌, length, take, map, All, Option, Some, None, IsTrue, string_bytes, refl, sym, ap, subst, ◌∙◌, append_assoc, append-nil, arith}
+use Rattle.std.proofs.Common.{◌≡◌, inl, inr, ℕ, ◌≤◌, ◌<◌, ◌+◌, Bool, true, not, ◌&&◌, ◌||◌, List, [], ◌∷◌, ◌++◌, length, take, map, All, IsTrue, refl, sym, ap, subst, ◌∙◌, append_assoc, append-nil, arith}
 use Rattle.std.proofs.lemmas.Bool.{true≢false}
-use Rattle.std.proofs.lemmas.List.{take_all, length-append, length-map}
+use Rattle.std.proofs.lemmas.List.{take_all, length-append}
 use Rattle.std.proofs.lemmas.List.Elements.{All-nil, All-cons, All-append}
 use Rattle.std.proofs.Math.Seq.{take-append_seam, take-append-add}
 use Rattle.vs_faults.specs.Faults.{HasRisen}
 use Rattle.vs_faults.proofs.Causes.{risen_before, risen_after}
 use Rattle.vs_host.specs.Disk.{Disk}
 use Rattle.vs_host.specs.Names.{names_of_file}
-use Rattle.vs_host.specs.Trace.{WroteOutput, Snapshot, Each, GoesOn}
-use Rattle.vs_host.specs.World.{Tells, Scene, IsRecorded, LeavesTrace, ChangesOutput, ChangesScript, content_of}
+use Rattle.vs_host.specs.Trace.{WroteOutput}
+use Rattle.vs_host.specs.World.{Tells, Scene, ChangesOutput}
 use Rattle.vs_host.specs.declared.names.Names.{Names}
-use Rattle.vs_disk.proofs.Runs.{Each-append, Each-weaker}
 use Rattle.vs_excmd.specs.Request.{Instruction, IsRequest}
 use Rattle.vs_excmd.specs.declared.request.Request.{Request}
-use Rattle.vs_script.specs.Ahead.{Ahead, HasSeen, CountsTaken, Stops, script_limit}
-use Rattle.vs_script.specs.Reads.{IsAsBefore, IsRead, ReadsAll, ReadsOn}
-use Rattle.vs_script.specs.Requests.{TakesRequest, TakesNone, whole_commands}
-use Rattle.vs_script.specs.declared.reader.ScriptErr.{ScriptErr}
-use Rattle.vs_script.specs.declared.reader.ScriptErr.TheVariants as script_error
-use Rattle.vs_script.proofs.ReadLemmas.{reads_on}
+use Rattle.vs_script.specs.Ahead.{Ahead, CountsTaken, script_limit}
+use Rattle.vs_script.specs.Requests.{TakesRequest, TakesNone}
 use Rattle.vs_machine.specs.Machine.{is_done}
 use Rattle.vs_machine.specs.Replies.{Answer}
 use Rattle.vs_machine.specs.declared.command.Mark.{Mark}
-use Rattle.vs_machine.specs.declared.command.Outcome.TheVariants as outcome
 use Rattle.vs_safety.specs.Texts.{Sync}
 use Rattle.vs_safety.specs.Turns.{Turn, NotBegun, with_sync, after_turns, opened, replies}
-use Rattle.vs_safety.specs.Safety.{IsCrashSafe, IsAdded, Looks, Writes, Works, Stepped}
+use Rattle.vs_safety.specs.Safety.{IsAdded, Looks, Writes, Stepped}
 use Rattle.vs_safety.specs.Going.{Going, Stepping, Halted}
-use Rattle.vs_safety.specs.Causes.{newest_count, IsCounted, RoseLast, script_count, output_count, folder_count}
+use Rattle.vs_safety.specs.Causes.{output_count}
 use Rattle.vs_safety.proofs.Splits.{after_push}
-use Rattle.vs_safety.proofs.Going.{going_looks, going_steps, going_halts, reply_written, reply_cut}
+use Rattle.vs_safety.proofs.Going.{going_looks, going_steps, reply_written, reply_cut}
 use Rattle.vs_safety.proofs.Endings.{halted_safe}
 use Rattle.vs_safety.proofs.Causes.{rose_at}
 use Rattle.vs_session.specs.declared.session.Session.{Session}
 use Rattle.vs_session.specs.declared.session.Step.{Step}
 use Rattle.vs_session.specs.declared.session.Step.TheVariants as step
-use Rattle.vs_session.specs.declared.ending.End.{End}
 use Rattle.vs_session.specs.declared.ending.End.TheVariants as end
-use Rattle.vs_session.specs.Session.{SessionState, Ended, accepts_quit, reply_of, state_after, states_after, syncs_after, turn_of, turns_of, replies_of, any_error}
-use Rattle.vs_session.specs.Fits.{Answers, Fits, HasSwap, StepsIn, names_of}
-use Rattle.vs_top.specs.Ending.{script_ending}
-use Rattle.vs_top.specs.Run.{TellsRun, Did, IsKept, IsCutShort, HasRun, RunsEdit, Counts, counts_of, OnlyFolder, HasCause, IsBarred, IsTimed, NoneQuits, IsWithin, commands_in, commands_within, opened_file, ran_of, written, written_before}
-use Rattle.vs_top.specs.Turns.{AreCounted, text_at, opening_at, Told, Keeps, StopsAt, IsAtClose}
-use Rattle.vs_top.specs.declared.ending.Ending.{Ending}
+use Rattle.vs_session.specs.Session.{SessionState, Ended, is_fault, accepts_quit, reply_of, state_after, states_after, syncs_after, turn_of, turns_of, replies_of, any_error}
+use Rattle.vs_session.specs.Fits.{Answers, Fits, StepsIn, names_of}
+use Rattle.vs_top.specs.Run.{TellsRun, Did, IsKept, HasRun, RunsEdit, counts_of, OnlyFolder, HasCause, commands_within, opened_file, ran_of, written, written_before}
+use Rattle.vs_top.specs.Turns.{text_at, opening_at, Told, Keeps, IsAtClose}
 use Rattle.vs_top.specs.declared.ending.Ending.TheVariants as ending
 use Rattle.vs_top.proofs.Pushes.{replies_same, states_push, turns_push, none_push, errors_push, and_not, map_push}
 use Rattle.vs_top.proofs.Counting.{only_then, only_output, only_script, causes_on, counted_works, counted_reads, all_counted}
-use Rattle.vs_top.proofs.Turning.{reads_look, IsTurn, AfterRead, AfterOk}
-use Rattle.vs_top.proofs.Reading.{fresh_reader, HasRead, read_on, read_in, read_within, stops_run, done_is_all, all_ahead, counts_on, few_taken}
+use Rattle.vs_top.proofs.Turning.{reads_look, IsTurn, AfterOk}
+use Rattle.vs_top.proofs.Reading.{fresh_reader, HasRead, read_on, read_in, read_within, done_is_all, all_ahead, counts_on, few_taken}
 
 -- commands that have no end yet have no reply
 replies_extra : (state : SessionState) (commands more : List Instruction) (ends : List Ended) → length ends ≡ length commands → replies_of state (commands ++ more) ends ≡ replies_of state commands ends
@@ -64,7 +55,7 @@ pub record HasStepped (tells : Tells) (read stepped : Scene) (session after : Se
       → Answers state syncs instruction session after mark reply read stepped
   pub frame : StepsIn read stepped
   pub later : read.folder_faults ≤ stepped.folder_faults
-  pub risen : mark.outcome ≡ outcome.Fault → HasRisen read.folder_faults stepped.folder_faults
+  pub risen : is_fault mark.outcome ≡ true → HasRisen read.folder_faults stepped.folder_faults
   pub names : names_of after ≡ names_of session
   pub clock : IsTrue tells.clock → stepped.answers ≡ read.answers ++ mark.at ∷ []
 

@@ -1,5 +1,5 @@
 -- A command of the stress mode: what it leaves of what is known between two of them.
-use Rattle.std.proofs.Common.{◌≡◌, inl, inr, ℕ, ◌+◌, Bool, true, false, not, ◌&&◌, ◌||◌, if◌then◌else◌, List, [], ◌∷◌, ◌++◌, length, map, Option, Some, None, Ok, IfSome, refl, sym, ap, subst, ◌∙◌, append_assoc, arith}
+use Rattle.std.proofs.Common.{◌≡◌, inl, inr, ℕ, ◌+◌, Bool, false, not, ◌&&◌, ◌||◌, if◌then◌else◌, List, [], ◌∷◌, ◌++◌, length, map, Option, Some, None, Ok, IfSome, refl, sym, ap, subst, ◌∙◌, append_assoc, arith}
 use Rattle.std.proofs.lemmas.Bool.{true≢false}
 use Rattle.std.proofs.lemmas.List.{length-append}
 use Rattle.std.proofs.lemmas.List.Elements.{All-nil, All-cons, All-append}
@@ -21,11 +21,11 @@ use Rattle.vs_machine.specs.Replies.{Answer}
 use Rattle.vs_machine.specs.declared.command.Mark.{Mark}
 use Rattle.vs_safety.specs.Texts.{Text, Sync, IsFlag}
 use Rattle.vs_safety.specs.Turns.{Turn, with_begun, with_sync, after_turns, opened}
-use Rattle.vs_safety.specs.FileWork.{FileWork, EditedFile}
+use Rattle.vs_safety.specs.FileWork.{FileWork}
 use Rattle.vs_safety.specs.Safety.{IsUnderWay, Spares, Stepped, Works}
 use Rattle.vs_safety.proofs.Splits.{after_push}
 use Rattle.vs_session.specs.declared.session.Session.{Session}
-use Rattle.vs_session.specs.Session.{SessionState, Ended, is_write, lacks_name, states_after, turn_of, turns_of, any_error, undo_work, write_in, writes_files}
+use Rattle.vs_session.specs.Session.{SessionState, Ended, is_write, lacks_name, states_after, turn_of, turns_of, any_error, undo_work, write_work, writes_files}
 use Rattle.vs_session.specs.Fits.{Answers, Fits}
 use Rattle.vs_top.specs.Run.{counts_of, HasCause, opened_file}
 use Rattle.vs_top.specs.Stress.{TellsStress, HasSteps, IsBeforeRemoval, stress_name, stress_text}
@@ -60,7 +60,7 @@ moment_on names start text turns turn m is = record {
 
 -- a command that writes no other file
 no_work : (state : SessionState) (found : Disk) (acknowledged lacks : Bool) (parsed : _) → writes_files parsed ≡ false
-    → (if (is_write parsed && acknowledged) && not lacks then Some (EditedFile (write_in state found)) else undo_work state found parsed) ≡ None
+    → (if (is_write parsed && acknowledged) && not lacks then Some (write_work state found) else undo_work state found parsed) ≡ None
 no_work state found acknowledged lacks (Ok (WriteFile bang)) plain = absurd (true≢false plain)
 no_work state found acknowledged lacks (Ok WriteUndo) plain = absurd (true≢false plain)
 no_work state found acknowledged lacks parsed plain = refl

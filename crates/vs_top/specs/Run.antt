@@ -16,7 +16,7 @@ use Rattle.vs_machine.specs.declared.command.Outcome.TheVariants as outcome
 use Rattle.vs_safety.specs.Turns.{Closing, NotBegun, LastSync, Quits, Ran, preserved_line, quit_line}
 use Rattle.vs_safety.specs.Safety.{IsCrashSafe}
 use Rattle.vs_safety.specs.Causes.{RoseLast, script_count, output_count, folder_count}
-use Rattle.vs_session.specs.Session.{SessionState, Ended, HasFound, accepts_quit, sync_in, state_after, states_after, turns_of, replies_of, any_error}
+use Rattle.vs_session.specs.Session.{SessionState, Ended, HasFound, is_fault, accepts_quit, sync_in, state_after, states_after, turns_of, replies_of, any_error}
 use Rattle.vs_session.specs.Open.{PassesLimit}
 use Rattle.vs_session.specs.Opened.{Opened, opened, text_in}
 use Rattle.vs_session.specs.Fits.{HasSwap}
@@ -55,7 +55,8 @@ written file commands ends = (opening_of file.name file.found).bytes ++ replies_
 abbrev pub refuses_any : Opened → List Instruction → List Ended → Bool
 refuses_any file commands ends = any_error file.state commands ends
 
--- None of these commands was an accepted `q` or `q!`, and each `rundo` found what stood under the name of the undo file.
+-- None of these commands was an accepted `q` or `q!`, each `rundo` found what stood under the name of the undo file, and only a `w`
+-- that was to store the undo file says that it was not stored.
 abbrev pub NoneQuits : SessionState → List Instruction → List Ended → Type 0
 NoneQuits state [] ends = ⊤
 NoneQuits state (command ∷ commands) [] = ⊤
@@ -225,9 +226,9 @@ CountsBy ending.NotSwap old new = ⊥
 CountsBy (ending.TextLimit size) old new = new ≡ old
 CountsBy ending.ScriptTooLong old new = OnlyFolder old new
 
--- a command was answered that a call on the folder failed, only where its count rose
+-- a mark says that a call on the folder failed, only where its count rose
 abbrev pub HasCause : Counts → Counts → Mark → Type 0
-HasCause old new mark = mark.outcome ≡ outcome.Fault → HasRisen old.folder new.folder
+HasCause old new mark = is_fault mark.outcome ≡ true → HasRisen old.folder new.folder
 
 -- ---- the file
 

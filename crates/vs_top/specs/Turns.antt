@@ -67,7 +67,8 @@ pub record IsOpened (tells : Tells) (name : List ℕ) (old now : Scene) (session
 -- the script was read to its end, or the next command is an accepted quit
 abbrev pub StopsAt : End → Opened → Scene → Scene → List Instruction → List Ended → Type 0
 StopsAt end.Sync file old now commands ends = (commands ≡ commands_in old) × (now.script ≡ [])
-StopsAt end.Quit file old now commands ends = (quit : Instruction) × (rest : List Instruction) × (commands_in old ≡ commands ++ quit ∷ rest) × (accepts_quit (states_after file.state commands ends) quit ≡ true)
+StopsAt end.Quit file old now commands ends =
+    (quit : Instruction) × (rest : List Instruction) × (commands_in old ≡ commands ++ quit ∷ rest) × (accepts_quit (states_after file.state commands ends) quit ≡ true)
 
 -- all commands that are to be answered were, and the session is about to end
 pub record IsAtClose (tells : Tells) (name : List ℕ) (old now : Scene) (session : Session) (marks : List Mark) (how : End) (clean : Bool) : Type 0 where

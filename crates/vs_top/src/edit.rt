@@ -44,7 +44,7 @@ pub(crate) fn is_clean(mark: Mark, reply: &Reply) -> bool
 {
     match mark.outcome {
         Outcome::Done => !reply.is_error(),
-        Outcome::NoMemory | Outcome::Fault => false,
+        Outcome::NoMemory | Outcome::Fault | Outcome::NoUndo => false,
     }
 }
 

@@ -14,7 +14,7 @@ use vs_session::OpenErr;
 pub enum Ending {
     /// The script was read to its end or to an accepted quit, and every command did its work.
     Done,
-    /// The script was read to its end or to an accepted quit, and some reply is an error.
+    /// The script was read to its end or to an accepted quit, and some reply is an error, or a write stored no undo file.
     WithErrors,
     /// The arguments are no form of the program.
     Usage,

@@ -4,5 +4,6 @@ pub mod ChangeLemmas
 pub mod Copies
 pub mod FillLemmas
 pub mod Kept
+pub mod Results
 pub mod Rounds
 pub mod StoredLemmas

@@ -3,6 +3,7 @@
 
 mod change;
 mod copy;
+mod error;
 mod runs;
 mod texts;
 mod tree;
@@ -10,6 +11,7 @@ mod walk;
 
 use change::edit_tree;
 use copy::copy_stored;
+pub use error::store_err;
 use runs::exchange_lines;
 pub use texts::Extent;
 use texts::splice_text;

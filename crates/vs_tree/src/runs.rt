@@ -1,5 +1,5 @@
 // Runs of lines that are put into the tree or taken out, a data block at a time.
-ghost use Rattle.std.specs.Prelude.{◌≡◌, ◌≤◌, ◌<◌, ◌+◌, ◌*◌, ◌^◌, ◌⊎◌, [], All, IsErrOf, IfOk, OnOk, get_or, length, map, take};
+ghost use Rattle.std.specs.Prelude.{◌≡◌, ◌≤◌, ◌<◌, ◌+◌, ◌*◌, ◌^◌, ◌⊎◌, ◌↔◌, IsTrue, [], All, IsErrOf, IfOk, OnOk, get_or, length, map, take};
 ghost use Rattle.vs_faults.specs.Faults.{HasCause};
 ghost use Rattle.vs_pages.specs.Calls.{Continues};
 ghost use Rattle.vs_text.specs.Text.{bytes_of, stored_line};
@@ -153,6 +153,13 @@ pub fn take_lines<P: Pages>(
     Ok(Taken { root: now, bytes })
 }
 
+// Whether all lines go. Only then do the new ones come first.
+fn all_go(root: Root, old: u64) -> bool
+    ensures { IsTrue result ↔ (old ≡ root.lines) }
+{
+    old == root.lines
+}
+
 // Puts lines in place of all others. A tree has one line at least, so the last one goes when the new ones have come.
 fn replace_all<P: Pages>(
     alloc: Global,
@@ -205,7 +212,7 @@ pub fn exchange_lines<P: Pages>(
     ensures kept { Continues P.Pages pages.old pages.new }
     ensures cause { HasCause (P.shows pages.old).faults (P.shows pages.new).faults (IsErrOf result PageErr.Failed) }
 {
-    if old == root.lines {
+    if all_go(root, old) {
         return replace_all(alloc, pages, root, new);
     }
     let taken = take_lines(alloc, pages, root, top, old)?;

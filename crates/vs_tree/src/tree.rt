@@ -10,7 +10,7 @@ ghost use Rattle.vs_edit.specs.Splices.{splice};
 ghost use Rattle.vs_tree_blocks.specs.Blocks.{IsFresh};
 ghost use Rattle.vs_tree.specs.Reads.{AddsLines};
 
-use crate::{Extent, copy_stored, load_stored, splice_text};
+use crate::{Extent, copy_stored, load_stored, splice_text, store_err};
 use std::alloc::Global;
 use vs_edit::{LineStore, StoreErr};
 use vs_pages::{PageErr, Pages};
@@ -224,11 +224,9 @@ impl<'t, P: Pages + Drop> LineStore for TreeStore<'t, P> {
     }
 
     fn line(&mut self, alloc: Global, at: u64, into: &mut Vec<u8>) -> Result<(), StoreErr> {
-        match self.tree.line(alloc, &mut self.pages, at, into) {
-            Ok(()) => Ok(()),
-            Err(PageErr::NoMemory) => Err(StoreErr::NoMemory),
-            Err(PageErr::Failed) => Err(StoreErr::Failed),
-        }
+        self.tree
+            .line(alloc, &mut self.pages, at, into)
+            .map_err(store_err)
     }
 
     fn copy_lines(
@@ -239,22 +237,15 @@ impl<'t, P: Pages + Drop> LineStore for TreeStore<'t, P> {
         into: &mut Vec<u8>,
     ) -> Result<(), StoreErr> {
         into.clear();
-        match self
-            .tree
+        self.tree
             .copy_lines(alloc, &mut self.pages, at, count, into)
-        {
-            Ok(()) => Ok(()),
-            Err(PageErr::NoMemory) => Err(StoreErr::NoMemory),
-            Err(PageErr::Failed) => Err(StoreErr::Failed),
-        }
+            .map_err(store_err)
     }
 
     fn splice(&mut self, alloc: Global, top: u64, old: u64, new: &[Line]) -> Result<(), StoreErr> {
-        match self.tree.splice(alloc, &mut self.pages, top, old, new) {
-            Ok(()) => Ok(()),
-            Err(PageErr::NoMemory) => Err(StoreErr::NoMemory),
-            Err(PageErr::Failed) => Err(StoreErr::Failed),
-        }
+        self.tree
+            .splice(alloc, &mut self.pages, top, old, new)
+            .map_err(store_err)
     }
 
     fn commit(&mut self) {

@@ -1,20 +1,19 @@
 -- A run's bytes are a data block, whose header tells what its lines take.
-use Rattle.std.proofs.Common.{◌≡◌, ℕ, ◌+◌, ◌-◌, ◌*◌, ◌/◌, ◌<◌, ◌≤◌, List, [], ◌∷◌, ◌++◌, length, take, drop, insert, get_or, slice_get, Option, Some, None, Ok, true, IsSomeAnd, refl, sym, ap, ◌∙◌, arith, length-append, append_assoc, length-take, inl, inr}
+use Rattle.std.proofs.Common.{◌≡◌, ℕ, ◌+◌, ◌-◌, ◌*◌, ◌/◌, ◌<◌, ◌≤◌, List, [], ◌∷◌, ◌++◌, length, take, drop, insert, get_or, slice_get, Option, Some, None, Ok, true, IsSomeAnd, refl, sym, ap, ◌∙◌, arith, append_assoc, inl, inr}
 use Rattle.std.specs.Option.{option_map, option_and_then}
 use Rattle.std.proofs.lemmas.Bool.{cases_eq}
 use Rattle.std.proofs.lemmas.Bool.Decides.{nat_tests}
 use Rattle.std.proofs.lemmas.Grind.{common_steps}
 use Rattle.std.proofs.lemmas.List.Sums.{sum_by-cons, sum_by-append}
 use Rattle.vs_data.specs.declared.DataView.{DataView}
-use Rattle.vs_data.specs.Blocks.{lines_in, view_in, free_space, space_of, Measures}
+use Rattle.vs_data.specs.Blocks.{lines_in, put_in, view_in, free_space, space_of, with_lines_in, Measures}
 use Rattle.vs_data.proofs.Lines.{measured}
 use Rattle.vs_data.proofs.Reading.{has_view, view_bounds}
 use Rattle.vs_tree_shape.specs.Changes.{splice}
-use Rattle.vs_tree_shape.proofs.Splices.{splice_mid}
 use Rattle.vs_tree_shape.proofs.Sums.{halves}
 use Rattle.vs_tree_blocks.specs.Blocks.{data_lines, may_lead}
 use Rattle.vs_tree_blocks.specs.Runs.{or_none, lines_within, IsRun}
-use Rattle.vs_tree_blocks.proofs.DataLemmas.{one_page, long_alone, long_one, alone_reads, insert_splice, line_at}
+use Rattle.vs_tree_blocks.proofs.DataLemmas.{one_page, long_alone, long_one, alone_reads, line_at}
 
 -- what the header tells of a block's lines
 pub record Told (bytes : List ℕ) (view : DataView) (lines : List (List ℕ)) : Type 0 where
@@ -98,15 +97,6 @@ space-behind ls line = sum_by-append (λ (l : List ℕ). length l + 5) ls (line 
 pub insert_behind : (ls : List (List ℕ)) (at : ℕ) (line : List ℕ) → at ≡ length ls → insert ls at line ≡ ls ++ line ∷ []
 insert_behind ls at line last = grind (arith, common_steps)
 
--- a run's first lines were put into a block, and there is room for the others
-pub record Half (old now : List ℕ) (view whole : DataView) (run : List (List ℕ)) (at i : ℕ) : Type 0 where
-  pub view_is : view_in now ≡ Ok whole
-  pub size : length now ≡ 4096
-  pub end : whole.text_end ≡ view.text_end
-  pub count : whole.count ≡ view.count + i
-  pub room : space_of (drop i run) ≤ free_space whole
-  pub lines : lines_in now ≡ Some (splice (lines_within old) at 0 (take i run))
-
 abbrev pub IsNext : List (List ℕ) → ℕ → List ℕ → Type 0
 IsNext run i line = (take (i + 1) run ≡ take i run ++ line ∷ []) × (drop i run ≡ line ∷ drop (i + 1) run)
 
@@ -117,24 +107,19 @@ next_in run i line lt is = (rw is (grind (arith, common_steps)), rw is (grind (a
 pub run_line : (o : Option (List (List ℕ))) (run : List (List ℕ)) (i : ℕ) (line : List ℕ) → i < length run → o ≡ Some run → option_and_then (λ ls. slice_get ls i) o ≡ Some line → IsNext run i line
 run_line o run i line lt is found = next_in run i line lt (line_at o run i line is found)
 
-put_more : (ls run : List (List ℕ)) (at i place : ℕ) (line : List ℕ) → at ≤ length ls → i < length run → place ≡ at + i → IsNext run i line → insert (splice ls at 0 (take i run)) place line ≡ splice ls at 0 (take (i + 1) run)
-put_more ls run at i place line le lt place_is next =
-    let front : List (List ℕ) = take at ls ++ take i run in
-    let n : length front ≡ at + i = omega (arith, length-append (take at ls) (take i run), length-take at ls, length-take i run) in
-    insert_splice (splice ls at 0 (take i run)) place line
-    ∙ splice_mid front [] (drop (at + 0) ls) (line ∷ []) place 0 0 (omega arith) (omega arith) ∙ rw next.0 (simp append_assoc)
+put_splice : (lines run : List (List ℕ)) (at : ℕ) → put_in lines at run ≡ splice lines at 0 run
+put_splice lines run at =
+    let none : at + 0 ≡ at = omega arith in
+    rw none (sym (append_assoc (take at lines) run (drop at lines)))
 
-pub half_more : (old now next : List ℕ) (view whole after : DataView) (run : List (List ℕ)) (at i place : ℕ) (line : List ℕ) → Half old now view whole run at i → at ≤ length (lines_within old) → i < length run → place ≡ at + i → IsNext run i line
-    → view_in next ≡ Ok after → length next ≡ length now → after ≡ record whole { count = whole.count + 1; text_start = whole.text_start - (length line + 1) } → lines_in next ≡ option_map (λ ls. insert ls place line) (lines_in now) → Half old next view after run at (i + 1)
-half_more old now next view whole after run at i place line h le lt place_is next_is reads size header lines =
-    record {
-      view_is = reads;
-      size = size ∙ h.size;
-      end = ap (λ (v : DataView). v.text_end) header ∙ h.end;
-      count = omega (arith, h.count, ap (λ (v : DataView). v.count) header);
-      room = omega (arith, h.room, ap space_of next_is.1, sum_by-cons (λ (l : List ℕ). length l + 5) line (drop (i + 1) run), ap free_space header);
-      lines = lines ∙ ap (λ o. option_map (λ ls. insert ls place line) o) h.lines ∙ ap (λ xs. Some xs) (put_more (lines_within old) run at i place line le lt place_is next_is);
-    }
+-- the lines of a block with a run's put in
+pub joined_lines : (old run new : List ℕ) (view more : DataView) (at : ℕ) → view_in old ≡ Ok view → view_in run ≡ Ok more → lines_in new ≡ with_lines_in old at run
+    → lines_within new ≡ splice (lines_within old) at 0 (lines_within run)
+joined_lines old run new view more at is more_is lines =
+    let both : with_lines_in old at run ≡ Some (put_in (lines_within old) at (lines_within run)) =
+    ap (λ o. option_and_then (λ ls. option_map (λ xs. put_in xs at ls) (lines_in old)) o) (told run more more_is).lines_are
+    ∙ ap (λ o. option_map (λ xs. put_in xs at (lines_within run)) o) (told old view is).lines_are in
+    within_is new (put_in (lines_within old) at (lines_within run)) (lines ∙ both) ∙ put_splice (lines_within old) (lines_within run) at
 
 -- what one line more takes
 pub space_more : (run : List (List ℕ)) (i : ℕ) (line : List ℕ) → IsNext run i line → space_of (take (i + 1) run) ≡ space_of (take i run) + (length line + 5)
@@ -142,26 +127,6 @@ space_more run i line next = ap space_of next.0 ∙ space-behind (take i run) li
 
 pub space_part : (i : ℕ) (ls : List (List ℕ)) → space_of (take i ls) ≤ space_of ls
 space_part i ls = omega (arith, sum_by-append (λ (l : List ℕ). length l + 5) (take i ls) (drop i ls), ap space_of (halves i ls))
-
-pub half_none : (old now : List ℕ) (view : DataView) (run : List (List ℕ)) (at : ℕ) → now ≡ old → view_in old ≡ Ok view → length old ≡ 4096 → space_of run ≤ free_space view → Half old now view view run at 0
-half_none old now view run at same is size room =
-    let none : lines_within old ≡ splice (lines_within old) at 0 [] = grind (arith, common_steps) in
-    record {
-      view_is = ap view_in same ∙ is;
-      size = ap length same ∙ size;
-      end = refl;
-      count = omega arith;
-      room = room;
-      lines = ap lines_in same ∙ (told old view is).lines_are ∙ ap (λ ls. Some ls) none;
-    }
-
-pub half_room : (run : List (List ℕ)) (i : ℕ) (line : List ℕ) (free : ℕ) → IsNext run i line → space_of (drop i run) ≤ free → length line + 5 ≤ free
-half_room run i line free next room = omega (arith, room, ap space_of next.1, sum_by-cons (λ (l : List ℕ). length l + 5) line (drop (i + 1) run))
-
-pub half_all : (old now : List ℕ) (view whole : DataView) (run : List (List ℕ)) (at i : ℕ) → i ≡ length run → Half old now view whole run at i → lines_within now ≡ splice (lines_within old) at 0 run
-half_all old now view whole run at i all h =
-    let whole_run : take i run ≡ run = grind (arith, common_steps) in
-    within_is now (splice (lines_within old) at 0 (take i run)) h.lines ∙ ap (λ xs. splice (lines_within old) at 0 xs) whole_run
 
 -- a block's lines and free space fill its room
 pub room_is : (bytes : List ℕ) (view : DataView) → view_in bytes ≡ Ok view → space_of (lines_within bytes) + free_space view ≡ view.text_end - 24

@@ -125,9 +125,7 @@ impl Run {
     {
         let mut now = Vec::from_slice(alloc, bytes)?;
         let mut whole = view;
-        'lines: for line in 0..self.view.count {
-            whole.insert(&mut now, at + line, self.view.line(&self.bytes, line));
-        }
+        whole.insert_lines(&mut now, at, self.view, &self.bytes);
         Ok(Page {
             view: whole,
             bytes: now,

@@ -1,6 +1,7 @@
 -- The chain of a state has its children, each once.
 use Rattle.std.proofs.Common.{◌≡◌, ◌≢◌, inl, inr, ℕ, zero, suc, ◌-◌, ◌<◌, ◌==◌, ◌&&◌, not, if◌then◌else◌, Bool, true, false, List, [], ◌∷◌, length, get_or, map, reverse, Some, option_map, refl, sym, ap, subst, ◌∙◌, arith}
 use Rattle.std.specs.List.{filter}
+use Rattle.std.specs.List.Sorted.{IsStrictlyIncreasing}
 use Rattle.std.proofs.lemmas.Bool.{true≢false}
 use Rattle.std.proofs.lemmas.Bool.Decides.{eqb_tells}
 use Rattle.std.proofs.lemmas.Grind.{get_or_default_zero}
@@ -9,6 +10,7 @@ use Rattle.vs_undo.specs.declared.parts.Node.{Node}
 use Rattle.vs_undo.specs.declared.parts.Parts.{Parts}
 use Rattle.vs_undo.specs.Ways.{node_at, parent_at}
 use Rattle.vs_undo.specs.Sound.{child_of, IsSound}
+use Rattle.vs_undo.specs.Numbers.{numbers}
 use Rattle.vs_undo.proofs.SearchLemmas.{index_found}
 use Rattle.vs_ubind.specs.Unbound.{chain_of, other_children}
 use Rattle.vs_ubind.proofs.Marked.{Rises, rises_from}
@@ -122,9 +124,9 @@ child_index (node ∷ nodes) number parent child = elim (eqb_tells node.number n
     some_same : (a b : ℕ) → Some a ≡ Some b → a ≡ b
     some_same a b e = cc
 
-module _ (parts : Parts) (sound : IsSound parts) where
+module _ (parts : Parts) (rising : IsStrictlyIncreasing (numbers parts.nodes)) where
   rises : Rises 0 parts.nodes
-  rises = rises_from parts.nodes 0 sound.numbers.rising
+  rises = rises_from parts.nodes 0 rising
 
   -- the place of the others in the chain
   turned : (parent k : ℕ) → k < length (other_children parts.nodes parent (child_of parts parent))
@@ -157,18 +159,19 @@ module _ (parts : Parts) (sound : IsSound parts) where
       let up = others_rise parent first parts.nodes 0 rises (length others - 1 - j) (length others - 1 - i) (omega (arith, lt, inside)) (omega (arith, before)) in
       omega (arith, up, one, two, same)
 
+module _ (parts : Parts) (sound : IsSound parts) where
   -- each number of the chain is a child
   pub chain_child : (parent i : ℕ) → child_of parts parent ≢ 0 → i < length (chain_of parts parent) → IsChild parts parent (get_or (chain_of parts parent) i 0)
   chain_child parent zero some within = sound.children.each parent some
   chain_child parent (suc j) some within =
       let first = child_of parts parent in
       let others = other_children parts.nodes parent first in
-      let inside = placed parent j within in
+      let inside = placed parts sound.numbers.rising parent j within in
       let at : length others - 1 - j < length others = omega (arith, inside) in
       let found = other_is parent first parts.nodes (length others - 1 - j) at in
       let node = get_or parts.nodes found.0 none in
       let there : node_at parts.nodes node.number ≡ Some node = index_found parts.nodes found.0 none sound.numbers.rising found.1 in
-      let number : node.number ≡ get_or (reverse others) j 0 = (found.2 none).0 ∙ sym (turned parent j inside) in
+      let number : node.number ≡ get_or (reverse others) j 0 = (found.2 none).0 ∙ sym (turned parts sound.numbers.rising parent j inside) in
       subst (IsChild parts parent) number (ap (λ o. option_map (λ (n : Node). n.parent) o) there ∙ ap Some (found.2 none).1)
 
   -- each child is at a place of the chain
@@ -185,8 +188,8 @@ module _ (parts : Parts) (sound : IsSound parts) where
           suc (length others - 1 - found.0),
           record {
             child = child;
-            within = omega (arith, inside, count parent);
-            is = turned parent (length others - 1 - found.0) inside ∙ (ap (λ k. get_or others k 0) back ∙ (found.2 ∙ at.2));
+            within = omega (arith, inside, count parts sound.numbers.rising parent);
+            is = turned parts sound.numbers.rising parent (length others - 1 - found.0) inside ∙ (ap (λ k. get_or others k 0) back ∙ (found.2 ∙ at.2));
           },
         )
   ]

@@ -89,14 +89,14 @@ module _ (parts : Parts) (sound : IsSound parts) where
       let node = at_child (node_at parts.nodes n) p at.child in
       link_is parts (λ c. c.alt_next) parts.nodes n node.0 node.1
       ∙ (ap (λ q. after_in (chain_of parts q) node.0.number) node.2
-      ∙ (ap (λ m. after_in (chain_of parts p) m) (number_of parts.nodes n node.0 node.1 ∙ sym at.is) ∙ after_at (chain_of parts p) (chain_apart parts sound p) i at.within))
+      ∙ (ap (λ m. after_in (chain_of parts p) m) (number_of parts.nodes n node.0 node.1 ∙ sym at.is) ∙ after_at (chain_of parts p) (chain_apart parts sound.numbers.rising p) i at.within))
 
   before_is : (p i n : ℕ) → IsAt parts p i n → before changes n ≡ get_or (0 ∷ chain_of parts p) i 0
   before_is p i n at =
       let node = at_child (node_at parts.nodes n) p at.child in
       link_is parts (λ c. c.alt_prev) parts.nodes n node.0 node.1
       ∙ (ap (λ q. before_in (chain_of parts q) node.0.number) node.2
-      ∙ (ap (λ m. before_in (chain_of parts p) m) (number_of parts.nodes n node.0 node.1 ∙ sym at.is) ∙ before_at (chain_of parts p) (chain_apart parts sound p) i at.within))
+      ∙ (ap (λ m. before_in (chain_of parts p) m) (number_of parts.nodes n node.0 node.1 ∙ sym at.is) ∙ before_at (chain_of parts p) (chain_apart parts sound.numbers.rising p) i at.within))
 
   pub next_is : (p n : ℕ) → IsChild parts p n → link (λ c. c.next) changes n ≡ p
   next_is p n child = let node = at_child (node_at parts.nodes n) p child in link_is parts (λ c. c.next) parts.nodes n node.0 node.1 ∙ node.2
@@ -156,7 +156,7 @@ module _ (parts : Parts) (sound : IsSound parts) where
       let here : get_or c (i + suc k) 0 ≡ n = sym (walk_after (suc k) p i n at) ∙ cycle in
       elim (leb_tells (length c) (i + suc k)) [
         | inl past ↦ not_zero p n at.child (sym here ∙ get_or_past c (i + suc k) 0 past.1)
-        | inr inside ↦ chain_apart parts sound p i (i + suc k) 0 (omega arith) inside.1 (at.is ∙ sym here)
+        | inr inside ↦ chain_apart parts sound.numbers.rising p i (i + suc k) 0 (omega arith) inside.1 (at.is ∙ sym here)
       ]
 
   chain_holds : (p i n : ℕ) → IsAt parts p i n → FailsInChain changes n → ⊥

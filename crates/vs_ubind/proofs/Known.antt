@@ -116,7 +116,7 @@ module _ (parts : Parts) (sound : IsSound parts) where
   after_known p n child =
       let c = chain_of parts p in
       let at = chain_place parts sound p n child in
-      let is : after_in c n ≡ get_or c (at.0 + 1) 0 = ap (λ m. after_in c m) (sym at.1.is) ∙ after_at c (chain_apart parts sound p) at.0 at.1.within in
+      let is : after_in c n ≡ get_or c (at.0 + 1) 0 = ap (λ m. after_in c m) (sym at.1.is) ∙ after_at c (chain_apart parts sound.numbers.rising p) at.0 at.1.within in
       subst Known (sym is) (in_chain p n (at.0 + 1) child)
 
   behind : (p n i : ℕ) → IsChild parts p n → Known (get_or (0 ∷ chain_of parts p) i 0)
@@ -127,7 +127,7 @@ module _ (parts : Parts) (sound : IsSound parts) where
   before_known p n child =
       let c = chain_of parts p in
       let at = chain_place parts sound p n child in
-      let is : before_in c n ≡ get_or (0 ∷ c) at.0 0 = ap (λ m. before_in c m) (sym at.1.is) ∙ before_at c (chain_apart parts sound p) at.0 at.1.within in
+      let is : before_in c n ≡ get_or (0 ∷ c) at.0 0 = ap (λ m. before_in c m) (sym at.1.is) ∙ before_at c (chain_apart parts sound.numbers.rising p) at.0 at.1.within in
       subst Known (sym is) (behind p n at.0 child)
 
   used_known : (most n : ℕ) → Known n → Known (used_within most parts n)

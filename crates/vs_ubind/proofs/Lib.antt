@@ -5,6 +5,7 @@ pub mod Flags
 pub mod Marked
 pub mod Places
 pub mod Chains
+pub mod Passing
 pub mod Formed
 pub mod Known
 pub mod Meant

@@ -1,6 +1,5 @@
 -- Where the entries of a tree fit a text, each change does.
 use Rattle.std.proofs.Common.{◌≡◌, ℕ, if◌then◌else◌, Bool, true, false, List, [], ◌∷◌, Option, Some, None, option_map, unwrap_or, refl, sym, ap, subst, ◌∙◌}
-use Rattle.vs_entries.specs.declared.entry.Entry.{Entry}
 use Rattle.vs_entries.specs.Entries.{Leads}
 use Rattle.vs_undo.specs.declared.parts.Node.{Node}
 use Rattle.vs_undo.specs.declared.parts.Parts.{Parts}

@@ -1,5 +1,6 @@
 pub mod Digest
 pub mod Unbound
+pub mod Passing
 pub mod Meaning
 pub mod Bound
 pub mod Taken

@@ -7,9 +7,11 @@ ghost use Rattle.vs_undo.specs.History.{next_save};
 ghost use Rattle.vs_ufile.specs.Decode.{IsWellFormed};
 ghost use Rattle.vs_ufile.specs.Values.{change_of, entry_of, history_of};
 ghost use Rattle.vs_ubind.specs.Meaning.{Means};
+ghost use Rattle.vs_ubind.specs.Passing.{alt_next_of, alt_prev_of};
 ghost use Rattle.vs_ubind.specs.Unbound.{filed, filed_entry, flag_of, last_save_of, save_of, saved_change, with_next};
 
-use crate::linking::{after_in, before_in, chain_of, child_of, newest_of, time_of};
+use crate::chaining::{alt_nexts, alt_prevs};
+use crate::linking::{child_of, newest_of, time_of};
 use std::alloc::{AllocError, Global};
 use vs_entries::Entry;
 use vs_text::Line;
@@ -111,14 +113,14 @@ fn file_change(
     parts: &Parts,
     save_next: bool,
     node: &Node,
+    alt_next: u64,
+    alt_prev: u64,
 ) -> Result<FileChange, AllocError>
-    requires rising { IsStrictlyIncreasing (numbers parts.now.nodes) }
     requires saves { parts.now.last_save ≤ MAX_SAVE }
+    requires next { alt_next ≡ alt_next_of parts.now node.now }
+    requires prev { alt_prev ≡ alt_prev_of parts.now node.now }
     ensures { IfOk result (λ filed. change_of filed ≡ saved_change save_next parts.now node.now) }
 {
-    let chain = chain_of(alloc, parts, node.parent)?;
-    let alt_next = after_in(&chain, node.number);
-    let alt_prev = before_in(&chain, node.number);
     Ok(FileChange {
         number: narrow(node.number)?,
         next: narrow(node.parent)?,
@@ -142,9 +144,12 @@ fn file_changes(
     ensures { IfOk result (λ filed. map change_of filed.items ≡ map (saved_change save_next parts.now) parts.now.nodes) }
 {
     let nodes = parts.nodes.nodes();
+    let nexts = alt_nexts(alloc, parts)?;
+    let prevs = alt_prevs(alloc, parts)?;
     let mut filed = Vec::with_capacity(alloc, nodes.len())?;
-    'nodes: for node in nodes {
-        filed.push(file_change(alloc, parts, save_next, node)?)?;
+    'nodes: for i in 0..nodes.len() {
+        let change = file_change(alloc, parts, save_next, &nodes[i], nexts[i], prevs[i])?;
+        filed.push(change)?;
     }
     Ok(filed)
 }

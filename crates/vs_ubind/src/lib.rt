@@ -2,6 +2,7 @@
 #![tactic(auto)]
 
 mod binding;
+mod chaining;
 mod fetching;
 mod filing;
 mod hashing;

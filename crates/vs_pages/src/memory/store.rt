@@ -1,6 +1,7 @@
 // Pages in memory as a store of pages.
 ghost use Rattle.std.specs.Prelude.{◌≡◌, true};
 ghost use Rattle.vs_pages.specs.Memory.{present_of, committed_of};
+ghost use Rattle.vs_pages.specs.Changes.{KeepsAllMarks};
 ghost use Rattle.vs_pages.specs.MemoryLaws.{are_present, are_committed};
 
 use super::MemPages;
@@ -14,15 +15,15 @@ impl Pages for MemPages {
 
     ghost valid = { λ _. Unit {0} };
 
-    ghost stays = { λ _ _. Unit {0} };
+    ghost stays = { KeepsAllMarks };
 
     ghost present_pages = { λ pages _ _. are_present pages };
 
     ghost committed_pages = { λ pages _ _. are_committed pages };
 
-    ghost stays_itself = { λ _. tt };
+    ghost stays_itself = { λ _ _ _ since. since };
 
-    ghost stays_on = { λ _ _ _ _ _. tt };
+    ghost stays_on = { λ _ _ _ first second mark map since. second mark map (first mark map since) };
 
     fn load(
         &mut self,
@@ -59,8 +60,9 @@ impl Pages for MemPages {
         self.table.count
     }
 
+    // The caller gives no number, so what this commits counts as changed since each number.
     fn commit(&mut self) {
-        self.keep_all();
+        self.commit_marked(u64::MAX);
     }
 
     fn rollback(&mut self) {

@@ -2,9 +2,12 @@ use Rattle.std.proofs.Common.{refl}
 use Rattle.vs_host.specs.World.{Scene}
 use Rattle.vs_pair.specs.Pair.{is_swap}
 use Rattle.vs_paged.specs.Fits.{names_of}
-use Rattle.vs_paged.proofs.SyncLemmas.{fits_kept}
+use Rattle.vs_paged.proofs.SyncLemmas.{fits_changed, fits_kept}
+use Rattle.vs_disk.specs.Names.{SameAt}
+use Rattle.vs_text.specs.Text.{file_of}
+use Rattle.vs_desk.proofs.Left.{keeps_left}
 use Rattle.vs_desk.proofs.Stillness.{still_apart, still_fits}
-use Rattle.vs_desk.proofs.Spared.{fits_pages, keeps_swap, paged_same, swap_outside}
+use Rattle.vs_desk.proofs.Spared.{keeps_swap, paged_same, swap_outside}
 use Rattle.vs_desk.proofs.write.write_text.Goals as goal
 
 pub returns-clause-recovers : goal.returns-clause-recovers
@@ -25,9 +28,20 @@ returns-clause-fits g c told lines syncs fits =
     let s1 : Scene = g.F.World.scene c.write_in.new.host in
     let runs = c.write_in.ensures.others told (is_swap names) (swap_outside names paged.pair.files.named c.args.options.now s0.folder)
     (still_apart (is_swap names) s0.folder (g.F.World.is_folder c.args.host.now told) (still_fits paged s0.folder lines syncs fits)) in
-    fits_pages paged _ s1.folder lines syncs refl (paged_same g.F.World.tells.folder _ _ _ _ lines told c.write_in.ensures.same fits.pages) (fits_kept paged s0.folder s1.folder lines syncs runs.now fits)
+    let same = c.write_in.ensures.same in
+    fits_changed paged _ s1.folder lines lines syncs refl (λ mark map le since. same.marks mark map since) (paged_same g.F.World.tells.folder _ _ _ _ lines told same fits.pages) (fits_kept paged s0.folder s1.folder lines syncs runs.now fits)
 
 pub returns-clause-others : goal.returns-clause-others
 returns-clause-others g c told inside out still =
     let s0 : Scene = g.F.World.scene c.args.host.now in
     c.write_in.ensures.others told inside out (still_apart inside s0.folder (g.F.World.is_folder c.args.host.now told) still)
+
+pub returns-clause-left : goal.returns-clause-left
+returns-clause-left g c told lines syncs fits =
+    let paged = c.args.text.now in
+    let names = names_of paged in
+    let s0 : Scene = g.F.World.scene c.args.host.now in
+    let s1 : Scene = g.F.World.scene c.write_in.new.host in
+    keeps_left c.args.options.now names paged.pair.files.named (file_of lines) s0 s1 _ (c.write_in.ensures.written told lines fits.pages) (SameAt (is_swap names))
+    (c.write_in.ensures.others told (is_swap names) (swap_outside names paged.pair.files.named c.args.options.now s0.folder)
+    (still_apart (is_swap names) s0.folder (g.F.World.is_folder c.args.host.now told) (still_fits paged s0.folder lines syncs fits)))

@@ -1,6 +1,10 @@
 -- At the end each state is settled.
-use Rattle.std.proofs.Common.{◌≡◌, ◌-◌, ◌==◌, ℕ, None, Some, false, true, [], length, get_or, sym, ap, subst, ◌∙◌, refl, arith}
-use Rattle.std.proofs.lemmas.Bool.Decides.{nat_tests}
+use Rattle.std.proofs.Common.{◌≡◌, ◌<◌, inl, inr, ℕ, List, None, Some, Option, false, true, [], length, get_or, sym, ap, subst, ◌∙◌, arith}
+use Rattle.std.specs.Prelude.{All, Contains}
+use Rattle.std.proofs.lemmas.Bool.{cases_lt}
+use Rattle.std.proofs.lemmas.Grind.{get_or_default_zero}
+use Rattle.std.proofs.lemmas.List.Elements.{All-get_or}
+use Rattle.vs_undo.specs.declared.parts.Node.{Node}
 use Rattle.vs_edit.proofs.Steps.{Continues-trans}
 use Rattle.vs_edit.specs.declared.store.LineStore.{Ghosts}
 use Rattle.vs_undo.specs.declared.parts.Parts.{Parts}
@@ -25,36 +29,53 @@ visit-requires-clause-search g c =
     let made = c.in_ok-search.ensures in
     (c.args.store.now, begun g.S.LineStore c.args.parts.now c.args.store.now c.in_ok-search.search c.requires.valid made.trail (made.count ∙ ap length c.nodes-nodes.ensures) made.settled made.least)
 
-pub loop-i-init : goal.loop-i-init
-loop-i-init g c =
+-- all places were visited
+all_seen : {S : Type 0} (g : Ghosts S) (parts : Parts) (first : S) (least : Option ℕ) (order : List ℕ) (passed : ℕ) → length order ≡ passed
+    → ((k : ℕ) (node : Node) → k < passed → IsSettledAt g parts first least (get_or parts.nodes (get_or order k 0) node).number)
+    → ((place : ℕ) → place < length parts.nodes → Contains order place) → (k : ℕ) (node : Node) → k < length parts.nodes → IsSettledAt g parts first least (get_or parts.nodes k node).number
+all_seen g parts first least order passed long seen each k node within =
+    let at = each k within in
+    let is : get_or order at.0 0 ≡ k = sym (get_or_default_zero order at.0 k at.1) ∙ at.2 in
+    subst (λ j. IsSettledAt g parts first least (get_or parts.nodes j node).number) is (seen at.0 node (omega (arith, long, at.1)))
+
+pub loop-place-init : goal.loop-place-init
+loop-place-init g c =
     let made = c.in_ok-search.ensures in
     let out = c.in_ok-visit.ensures in
     let at = begun g.S.LineStore c.args.parts.now c.args.store.now c.in_ok-search.search c.requires.valid made.trail (made.count ∙ ap length c.nodes-nodes.ensures) made.settled made.least in
     record {
       search = out.search c.args.store.now at;
       root = out.settled c.args.store.now at;
-      seen = λ k node within far. absurd (omega arith);
+      seen = λ k node far. absurd (omega arith);
       valid = out.valid;
       kept = out.kept;
       faults = omega (arith, out.cause.later);
     }
 
-pub loop-i-preserved : goal.loop-i-preserved
-loop-i-preserved g c =
-    let inv = c.loop-i.invariant in
+pub visit_at-requires-clause-within : goal.visit_at-requires-clause-within
+visit_at-requires-clause-within g c =
+    let order = c.deref-place-items.result.now in
+    let i = c.loop-place.place-index in
+    let within = All-get_or (λ place. place < length c.nodes-nodes.result.now) order i 0 c.loop-place-test.true (subst (All (λ place. place < length c.nodes-nodes.result.now)) (sym c.deref-place-items.ensures.value) c.in_ok-order.ensures.within) in
+    omega (arith, within, ap length c.nodes-nodes.ensures)
+
+pub loop-place-preserved : goal.loop-place-preserved
+loop-place-preserved g c =
+    let inv = c.loop-place.invariant in
     let out = c.in_ok-visit_at.ensures in
     let parts = c.args.parts.now in
     let first = c.args.store.now in
-    let place = length c.nodes-nodes.result.now - 1 - c.loop-i.i in
-    let long = ap length c.nodes-nodes.ensures in
+    let order = c.deref-place-items.result.now in
+    let i = c.loop-place.place-index in
     record {
       search = out.search first inv.search;
       root = out.known first 0 inv.root;
-      seen = λ k node within far. elim (place == k) as (λ b. b ≡ (place == k) → IsSettledAt g.S.LineStore parts first c.visit_at.new.search.least (get_or parts.nodes k node).number) [
-        | true ↦ λ t. let same : place ≡ k = grind (arith, nat_tests) in
-            subst (λ j. IsSettledAt g.S.LineStore parts first c.visit_at.new.search.least (get_or parts.nodes j node).number) same (out.settled first node inv.search)
-        | false ↦ λ t. out.known first (get_or parts.nodes k node).number (inv.seen k node within (grind (arith, nat_tests, long)))
-      ] refl;
+      seen = λ k node within. elim (cases_lt k i) [
+        | inl before ↦ out.known first (get_or parts.nodes (get_or order k 0) node).number (inv.seen k node before)
+        | inr past ↦
+            let same : i ≡ k = omega (arith, past, within) in
+            subst (λ j. IsSettledAt g.S.LineStore parts first c.visit_at.new.search.least (get_or parts.nodes (get_or order j 0) node).number) same (out.settled first node inv.search)
+      ];
       valid = out.valid;
       kept = Continues-trans g.met.S.LineStore.stays_on inv.kept out.kept;
       faults = omega (arith, inv.faults, out.cause.later);
@@ -64,25 +85,34 @@ pub returns-clause-counts : goal.returns-clause-counts
 returns-clause-counts g c =
     let parts = c.args.parts.now in
     let first = c.args.store.now in
-    let inv = c.loop-i.invariant in
-    let long = ap length c.nodes-nodes.ensures in
-    all_counts parts c.requires.sound.tree g.S.LineStore first c.requires.sound.current c.loop-i.search.least
-    (settled_all g.S.LineStore parts first c.loop-i.search.least inv.root (λ k node within. inv.seen k node within (omega (arith, long))))
+    let inv = c.loop-place.invariant in
+    let order = c.deref-place-items.result.now in
+    let long : length c.nodes-nodes.result.now ≡ length parts.nodes = ap length c.nodes-nodes.ensures in
+    let each = λ (k : ℕ) (within : k < length parts.nodes). subst (λ xs. Contains xs k) (sym c.deref-place-items.ensures.value) (c.in_ok-order.ensures.each k (omega (arith, long, within))) in
+    all_counts parts c.requires.sound.tree g.S.LineStore first c.requires.sound.current c.loop-place.search.least
+    (settled_all g.S.LineStore parts first c.loop-place.search.least inv.root (all_seen g.S.LineStore parts first c.loop-place.search.least order c.loop-place.place-index (omega arith) inv.seen each))
 
 pub returns-clause-texts : goal.returns-clause-texts
 returns-clause-texts g c =
     let parts = c.args.parts.now in
     let first = c.args.store.now in
-    let inv = c.loop-i.invariant in
-    let long = ap length c.nodes-nodes.ensures in
-    all_texts parts c.requires.sound.tree g.S.LineStore first c.requires.sound.current c.loop-i.search.least
-    (settled_all g.S.LineStore parts first c.loop-i.search.least inv.root (λ k node within. inv.seen k node within (omega (arith, long))))
+    let inv = c.loop-place.invariant in
+    let order = c.deref-place-items.result.now in
+    let long : length c.nodes-nodes.result.now ≡ length parts.nodes = ap length c.nodes-nodes.ensures in
+    let each = λ (k : ℕ) (within : k < length parts.nodes). subst (λ xs. Contains xs k) (sym c.deref-place-items.ensures.value) (c.in_ok-order.ensures.each k (omega (arith, long, within))) in
+    all_texts parts c.requires.sound.tree g.S.LineStore first c.requires.sound.current c.loop-place.search.least
+    (settled_all g.S.LineStore parts first c.loop-place.search.least inv.root (all_seen g.S.LineStore parts first c.loop-place.search.least order c.loop-place.place-index (omega arith) inv.seen each))
 
 pub returns-clause-misfit : goal.returns-clause-misfit
 returns-clause-misfit g c =
     let parts = c.args.parts.now in
     let first = c.args.store.now in
-    let inv = c.loop-i.invariant in
-    let long = ap length c.nodes-nodes.ensures in
-    all_misfit parts c.requires.sound.tree g.S.LineStore first c.requires.sound.current c.loop-i.search.least
-    (settled_all g.S.LineStore parts first c.loop-i.search.least inv.root (λ k node within. inv.seen k node within (omega (arith, long)))) inv.search.misfit
+    let inv = c.loop-place.invariant in
+    let order = c.deref-place-items.result.now in
+    let long : length c.nodes-nodes.result.now ≡ length parts.nodes = ap length c.nodes-nodes.ensures in
+    let each = λ (k : ℕ) (within : k < length parts.nodes). subst (λ xs. Contains xs k) (sym c.deref-place-items.ensures.value) (c.in_ok-order.ensures.each k (omega (arith, long, within))) in
+    all_misfit parts c.requires.sound.tree g.S.LineStore first c.requires.sound.current c.loop-place.search.least
+    (settled_all g.S.LineStore parts first c.loop-place.search.least inv.root (all_seen g.S.LineStore parts first c.loop-place.search.least order c.loop-place.place-index (omega arith) inv.seen each)) inv.search.misfit
+
+pub returns-in_err-visit_at-clause-kept : goal.returns-in_err-visit_at-clause-kept
+returns-in_err-visit_at-clause-kept g c = Continues-trans g.met.S.LineStore.stays_on c.loop-place.invariant.kept c.in_err-visit_at.ensures.kept

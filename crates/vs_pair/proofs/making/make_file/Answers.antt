@@ -7,7 +7,7 @@ use Rattle.vs_pages.specs.Memory.{committed_of}
 use Rattle.vs_pair.specs.Swap.{KeepsMark}
 use Rattle.vs_pair.proofs.Acts.{none_call, none_then}
 use Rattle.vs_pair.proofs.Calls.{write_acts, either_acts, is_there}
-use Rattle.vs_pair.proofs.MadeFiles.{clearing, creating, writing, renaming, making_begins, making_creates, making_writes, created, created_there, marked_new, long_new, whole_new, renamed_has}
+use Rattle.vs_pair.proofs.MadeFiles.{clearing, creating, writing, renaming, making_begins, making_creates, making_writes, created, created_there, marked_new, new_fresh, whole_new, renamed_has}
 use Rattle.vs_pair.proofs.making.make_file.Goals as goal
 
 pub returns-in_err-clear-clause-acts : goal.returns-in_err-clear-clause-acts
@@ -34,7 +34,7 @@ returns-in_err-write_at-clause-acts g c =
 
 pub write_pages-requires-clause-there : goal.write_pages-requires-clause-there
 write_pages-requires-clause-there g c told =
-    long_new c.args.temporary.now _ (marked_new c.args.temporary.now (g.F.World.scene c.create_private.new.self).folder (g.F.World.scene c.write_at.new.self).folder (c.in_ok-write_at.ensures.ok told) (created c.args.temporary.now (g.F.World.scene c.clear.new.host).folder (g.F.World.scene c.create_private.new.self).folder (c.in_ok-create_private.ensures.ok told)))
+    new_fresh c.args.temporary.now c.args.pages.now _ (marked_new c.args.temporary.now (g.F.World.scene c.create_private.new.self).folder (g.F.World.scene c.write_at.new.self).folder (c.in_ok-write_at.ensures.ok told) (created c.args.temporary.now (g.F.World.scene c.clear.new.host).folder (g.F.World.scene c.create_private.new.self).folder (c.in_ok-create_private.ensures.ok told)))
 
 pub returns-in_err-write_pages-clause-acts : goal.returns-in_err-write_pages-clause-acts
 returns-in_err-write_pages-clause-acts g c =

@@ -10,5 +10,5 @@ loop-next-preserved c =
       size = length-run c.loop-next.run c.page_or_zeros-page.result.now c.put_page.new.run (c.loop-next.next * 4096) c.put_page.ensures (omega (arith, room, c.page_or_zeros-page.ensures.size))
           ∙ c.loop-next.invariant.size;
       pages = run_more (committed_of c.args.pages.now) c.args.at c.loop-next.next (c.loop-next.next * 4096) c.loop-next.run c.page_or_zeros-page.result.now c.put_page.new.run c.put_page.ensures (omega arith)
-          c.page_or_zeros-page.ensures.size room c.page_or_zeros-page.ensures.page c.page_or_zeros-page.ensures.zeros c.loop-next.invariant.pages;
+          c.page_or_zeros-page.ensures.size room c.page_or_zeros-page.ensures.bytes c.loop-next.invariant.pages;
     }

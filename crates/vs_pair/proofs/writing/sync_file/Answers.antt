@@ -6,7 +6,10 @@ use Rattle.vs_pair.specs.declared.gate.Gate.{Gate}
 use Rattle.vs_pair.specs.Swap.{Body, Fits, FailedSync}
 use Rattle.vs_pair.proofs.Acts.{none_then}
 use Rattle.vs_pair.proofs.Calls.{on_err_from, on_err_both}
-use Rattle.vs_pair.proofs.Gates.{ShutsWith, closing_acts, closing_failed, writing_acts, writing_failed, written_file, opening_acts, opening_failed, opened_file, long_enough, still_there}
+use Rattle.vs_pair.proofs.Gates.{ShutsWith, closing_acts, closing_failed, writing_acts, writing_failed, written_file, opening_acts, opening_failed, opened_file, fresh_behind, still_there}
+use Rattle.std.proofs.Common.{◌+◌, arith}
+use Rattle.vs_pair.specs.Stale.{stale_below}
+use Rattle.vs_pair.proofs.Bounds.{calls_then, calls_within}
 use Rattle.vs_pair.proofs.writing.sync_file.Goals as goal
 
 pub close_gate-requires : goal.close_gate-requires
@@ -25,7 +28,8 @@ returns-in_err-close_gate-clause-failed g c =
 pub write_pages-requires-clause-there : goal.write_pages-requires-clause-there
 write_pages-requires-clause-there g c told =
     let was = c.requires.fits told in
-    long_enough c.args.name.now c.args.gate.now (record { first = c.args.first.now; pages = committed_of c.args.pages.now }) was.0 _ _ was.1 (c.in_ok-close_gate.ensures.closes told)
+    fresh_behind c.args.name.now c.args.gate.now (record { first = c.args.first.now; pages = committed_of c.args.pages.now }) c.args.pages.now c.args.written.now was.0 was.2 _ _ was.1 (c.in_ok-close_gate.ensures.closes told)
+    (c.close_gate.ensures.acts.runs told).now
 
 pub returns-in_err-write_pages-clause-acts : goal.returns-in_err-write_pages-clause-acts
 returns-in_err-write_pages-clause-acts g c =
@@ -75,3 +79,15 @@ returns-clause-failed g c =
 
 pub returns-clause-none : goal.returns-clause-none
 returns-clause-none g c = on_ok_weaker c.open_gate.result (λ none. none_then g.F.World.tells _ _ _ (none_then g.F.World.tells _ _ _ c.in_ok-close_gate.ensures.none c.in_ok-write_pages.ensures.none) none) c.open_gate.ensures.none
+
+pub returns-in_err-close_gate-clause-calls : goal.returns-in_err-close_gate-clause-calls
+returns-in_err-close_gate-clause-calls g c end is = calls_within g.F.World.tells _ _ 2 _ (omega arith) c.close_gate.ensures.calls
+
+pub returns-in_err-write_pages-clause-calls : goal.returns-in_err-write_pages-clause-calls
+returns-in_err-write_pages-clause-calls g c end is =
+    calls_then g.F.World.tells _ _ _ 2 (2 + stale_below c.args.pages.now c.args.written.now end) _ (omega arith) c.close_gate.ensures.calls (c.write_pages.ensures.calls end is)
+
+pub returns-clause-calls : goal.returns-clause-calls
+returns-clause-calls g c end is =
+    calls_then g.F.World.tells _ _ _ (4 + stale_below c.args.pages.now c.args.written.now end) 2 _ (omega arith)
+    (calls_then g.F.World.tells _ _ _ 2 (2 + stale_below c.args.pages.now c.args.written.now end) _ (omega arith) c.close_gate.ensures.calls (c.write_pages.ensures.calls end is)) c.open_gate.ensures.calls

@@ -1,4 +1,4 @@
-use Rattle.std.proofs.Common.{◌≤◌, ◌*◌, length, drop, refl, arith, length-drop, length-take}
+use Rattle.std.proofs.Common.{◌≤◌, ◌+◌, ◌*◌, length, drop, refl, arith, length-drop, length-take}
 use Rattle.std.proofs.lemmas.List.{take_all}
 use Rattle.std.proofs.lemmas.Result.{on_ok_weaker}
 use Rattle.vs_host.specs.Trace.{Wrote, Synced}
@@ -6,7 +6,9 @@ use Rattle.vs_pages.specs.Memory.{committed_of}
 use Rattle.vs_pair.specs.Swap.{KeepsMark}
 use Rattle.vs_pair.proofs.Acts.{none_call, none_then}
 use Rattle.vs_pair.proofs.Calls.{write_acts, sync_acts, acts_file, there_and, is_there}
-use Rattle.vs_pair.proofs.PageWrites.{keeps_joins, write_after, sync_after, has_first, has_more, has_all, next_place, run_cut}
+use Rattle.vs_pair.proofs.PageWrites.{keeps_joins, write_after, sync_after, has_first, has_passed, has_more, has_all, next_place, run_cut}
+use Rattle.vs_pair.specs.Stale.{stale_below}
+use Rattle.vs_pair.proofs.Bounds.{one_call, calls_then, calls_within, stale_up_to, one_more, least_end}
 use Rattle.vs_pair.proofs.writing.write_pages.Goals as goal
 
 pub returns-in_err-write_at-clause-acts : goal.returns-in_err-write_at-clause-acts
@@ -15,20 +17,24 @@ returns-in_err-write_at-clause-acts g c =
 
 pub runs-init : goal.runs-init
 runs-init g c = record {
-  some = omega arith;
+  some = c.next_stale-at.ensures.later;
+  within = c.next_stale-at.ensures.within;
+  calls = calls_within g.F.World.tells _ _ 1 _ (omega arith) (one_call g.F.World.tells Wrote _ c.write_at.result _ _ c.write_at.ensures.told);
+  stale = c.next_stale-at.ensures.stale;
   acts = write_acts g.F.World.tells c.args.name.now KeepsMark 2 _ (write_after 2 _ (omega arith)) c.write_at.result _ _ c.write_at.ensures.some c.write_at.ensures.cause c.write_at.ensures.told c.write_at.ensures.frame;
   none = none_call g.F.World.tells Wrote _ c.write_at.result _ _ c.write_at.ensures.frame c.write_at.ensures.told c.in_ok-write_at.ensures.quiet;
   so_far = λ told.
-      has_first c.args.name.now c.args.first.now (committed_of c.args.pages.now) _ c.requires.size (take_all _ (drop 2 c.args.first.now) (omega (arith, length-drop 2 c.args.first.now))) _ _ (c.requires.there told) (c.in_ok-write_at.ensures.ok told);
+      has_passed c.args.name.now c.args.first.now c.args.pages.now c.args.written.now 1 c.next_stale-at.result (omega arith) c.next_stale-at.ensures.later c.next_stale-at.ensures.passed _ _
+      (has_first c.args.name.now c.args.first.now c.args.pages.now c.args.written.now _ c.requires.size (take_all _ (drop 2 c.args.first.now) (omega (arith, length-drop 2 c.args.first.now))) _ _ (c.requires.there told) (c.in_ok-write_at.ensures.ok told));
 }
 
 pub write_at-requires-in-runs : goal.write_at-requires-in-runs
 write_at-requires-in-runs g c told =
-    there_and _ c.args.name.now _ (next_place c.args.name.now c.args.first.now (committed_of c.args.pages.now) _ c.runs.at (omega arith) _ _ (c.requires.there told) (c.runs.invariant.so_far told))
+    there_and _ c.args.name.now _ (next_place c.args.name.now c.args.first.now c.args.pages.now c.args.written.now _ c.runs.at (omega arith) _ _ (c.requires.there told) (c.runs.invariant.so_far told))
 
 pub sync-requires : goal.sync-requires
 sync-requires g c told =
-    is_there _ c.args.name.now _ (next_place c.args.name.now c.args.first.now (committed_of c.args.pages.now) _ c.runs.at refl _ _ (c.requires.there told) (c.runs.invariant.so_far told))
+    is_there _ c.args.name.now _ (next_place c.args.name.now c.args.first.now c.args.pages.now c.args.written.now _ c.runs.at refl _ _ (c.requires.there told) (c.runs.invariant.so_far told))
 
 pub returns-in_err-write_at-2-clause-acts : goal.returns-in_err-write_at-2-clause-acts
 returns-in_err-write_at-2-clause-acts g c =
@@ -38,16 +44,27 @@ returns-in_err-write_at-2-clause-acts g c =
 
 pub runs-preserved : goal.runs-preserved
 runs-preserved g c = record {
-  some = omega arith;
+  some = omega (arith, c.next_stale-at-in-runs.ensures.later, c.runs.invariant.some);
+  within = omega (arith, c.next_stale-at-in-runs.ensures.within, c.stale_run-count.ensures.within);
+  calls = calls_then g.F.World.tells _ _ _ (1 + stale_below c.args.pages.now c.args.written.now c.runs.at) 1 _
+      (omega (
+        arith,
+        one_more c.args.pages.now c.args.written.now c.runs.at c.next_stale-at-in-runs.result (c.runs.invariant.stale c.runs-test.true)
+            (omega (arith, c.next_stale-at-in-runs.ensures.later, c.stale_run-count.ensures.some)),
+      ))
+      c.runs.invariant.calls (one_call g.F.World.tells Wrote _ c.write_at-in-runs.result _ _ c.write_at-in-runs.ensures.told);
+  stale = c.next_stale-at-in-runs.ensures.stale;
   acts = acts_file g.F.World.tells c.args.name.now KeepsMark KeepsMark KeepsMark (λ a b keeps. keeps) keeps_joins _ _ _ c.runs.invariant.none c.runs.invariant.acts
       (write_acts g.F.World.tells c.args.name.now KeepsMark _ _ (write_after _ _ (omega (arith, c.runs.invariant.some))) c.write_at-in-runs.result _ _ c.write_at-in-runs.ensures.some c.write_at-in-runs.ensures.cause
       c.write_at-in-runs.ensures.told c.write_at-in-runs.ensures.frame);
   none = none_then g.F.World.tells _ _ _ c.runs.invariant.none
       (none_call g.F.World.tells Wrote _ c.write_at-in-runs.result _ _ c.write_at-in-runs.ensures.frame c.write_at-in-runs.ensures.told c.in_ok-write_at-2.ensures.quiet);
   so_far = λ told.
-      let room : c.min-count.result * 4096 ≤ length c.fill_run.new.run = omega (arith, c.fill_run.ensures.size, c.min-count.ensures, c.min-count.array_long) in
-      has_more c.args.name.now c.args.first.now (committed_of c.args.pages.now) _ _ c.runs.at c.min-count.result c.runs.invariant.some (omega arith) (omega (arith, room, length-take (c.min-count.result * 4096) c.fill_run.new.run))
-      (run_cut (committed_of c.args.pages.now) c.runs.at c.min-count.result (c.min-count.result * 4096) c.fill_run.new.run (omega arith) room c.fill_run.ensures.pages) _ _ _ (c.runs.invariant.so_far told) (c.in_ok-write_at-2.ensures.ok told);
+      let room : c.stale_run-count.result * 4096 ≤ length c.fill_run.new.run = omega (arith, c.fill_run.ensures.size, c.stale_run-count.ensures.most) in
+      has_passed c.args.name.now c.args.first.now c.args.pages.now c.args.written.now (c.runs.at + c.stale_run-count.result) c.next_stale-at-in-runs.result (omega (arith, c.runs.invariant.some)) c.next_stale-at-in-runs.ensures.later
+      c.next_stale-at-in-runs.ensures.passed _ _
+      (has_more c.args.name.now c.args.first.now c.args.pages.now c.args.written.now _ _ c.runs.at c.stale_run-count.result c.runs.invariant.some (omega arith) (omega (arith, room, length-take (c.stale_run-count.result * 4096) c.fill_run.new.run))
+      (run_cut (committed_of c.args.pages.now) c.runs.at c.stale_run-count.result (c.stale_run-count.result * 4096) c.fill_run.new.run (omega arith) room c.fill_run.ensures.pages) _ _ _ (c.runs.invariant.so_far told) (c.in_ok-write_at-2.ensures.ok told));
 }
 
 pub returns-clause-acts : goal.returns-clause-acts
@@ -58,7 +75,7 @@ returns-clause-acts g c =
 pub returns-clause-written : goal.returns-clause-written
 returns-clause-written g c =
     on_ok_weaker c.sync.result
-    (λ syncs told. has_all c.args.name.now c.args.first.now (committed_of c.args.pages.now) c.runs.at c.committed_end-end.result (omega arith) c.committed_end-end.ensures.past _ _ _ (c.runs.invariant.so_far told) (syncs told))
+    (λ syncs told. has_all c.args.name.now c.args.first.now c.args.pages.now c.args.written.now c.runs.at c.committed_end-end.result (omega arith) c.committed_end-end.ensures.past _ _ _ (c.runs.invariant.so_far told) (syncs told))
     c.sync.ensures.ok
 
 pub returns-clause-none : goal.returns-clause-none
@@ -66,3 +83,20 @@ returns-clause-none g c =
     on_ok_weaker c.sync.result
     (λ quiet. none_then g.F.World.tells _ _ _ c.runs.invariant.none (none_call g.F.World.tells Synced _ c.sync.result _ _ c.sync.ensures.frame c.sync.ensures.told quiet))
     c.sync.ensures.quiet
+
+pub returns-in_err-write_at-clause-calls : goal.returns-in_err-write_at-clause-calls
+returns-in_err-write_at-clause-calls g c end is = calls_within g.F.World.tells _ _ 1 _ (omega arith) (one_call g.F.World.tells Wrote _ c.write_at.result _ _ c.write_at.ensures.told)
+
+pub returns-in_err-write_at-2-clause-calls : goal.returns-in_err-write_at-2-clause-calls
+returns-in_err-write_at-2-clause-calls g c end is =
+    let le = least_end c.args.pages.now c.committed_end-end.result end c.committed_end-end.ensures.last is in
+    calls_then g.F.World.tells _ _ _ (1 + stale_below c.args.pages.now c.args.written.now c.runs.at) 1 _
+    (omega (arith, stale_up_to c.args.pages.now c.args.written.now c.runs.at end (omega (arith, le, is.some, c.runs.invariant.within)))) c.runs.invariant.calls
+    (one_call g.F.World.tells Wrote _ c.write_at-in-runs.result _ _ c.write_at-in-runs.ensures.told)
+
+pub returns-clause-calls : goal.returns-clause-calls
+returns-clause-calls g c end is =
+    let le = least_end c.args.pages.now c.committed_end-end.result end c.committed_end-end.ensures.last is in
+    calls_then g.F.World.tells _ _ _ (1 + stale_below c.args.pages.now c.args.written.now c.runs.at) 1 _
+    (omega (arith, stale_up_to c.args.pages.now c.args.written.now c.runs.at end (omega (arith, le, is.some, c.runs.invariant.within)))) c.runs.invariant.calls
+    (one_call g.F.World.tells Synced _ c.sync.result _ _ c.sync.ensures.told)

@@ -1,7 +1,7 @@
-use Rattle.std.proofs.Common.{◌≤◌, ◌-◌, IsTrue}
+use Rattle.std.proofs.Common.{◌≡◌, ◌<◌, ◌≤◌, ◌+◌, ◌-◌, max, true, IsTrue}
 use Rattle.vs_host.specs.Disk.{ChangesFile}
-use Rattle.vs_pages.specs.Memory.{committed_of}
-use Rattle.vs_pair.specs.Acts.{Acts, NoneFails}
+use Rattle.vs_pair.specs.Acts.{Acts, CallsAtMost, NoneFails}
+use Rattle.vs_pair.specs.Stale.{is_stale, stale_below}
 use Rattle.vs_pair.specs.Swap.{KeepsMark}
 use Rattle.vs_pair.proofs.PageWrites.{SoFar}
 use Rattle.vs_pair.proofs.writing.write_pages.Given as goal
@@ -9,9 +9,12 @@ use Rattle.vs_pair.proofs.writing.write_pages.Given as goal
 abbrev pub invariant-runs : goal.invariant-runs
 invariant-runs g l = record {
   some : 1 ≤ l.at;
+  within : l.at ≤ max 1 l.end;
+  calls : CallsAtMost g.F.World.tells (g.F.World.scene l.fn.host) (g.F.World.scene l.host) (1 + stale_below l.pages l.written l.at);
+  stale : l.at < l.end → is_stale l.pages l.written l.at ≡ true;
   acts : Acts g.F.World.tells (ChangesFile l.name KeepsMark) (g.F.World.scene l.fn.host) (g.F.World.scene l.host);
   none : NoneFails g.F.World.tells (g.F.World.scene l.fn.host) (g.F.World.scene l.host);
-  so_far : IsTrue g.F.World.tells.folder → ChangesFile l.name (SoFar l.first (committed_of l.pages) l.at) (g.F.World.scene l.fn.host).folder (g.F.World.scene l.host).folder;
+  so_far : IsTrue g.F.World.tells.folder → ChangesFile l.name (SoFar l.first l.pages l.written l.at) (g.F.World.scene l.fn.host).folder (g.F.World.scene l.host).folder;
 }
 
 abbrev pub decreases-runs : goal.decreases-runs

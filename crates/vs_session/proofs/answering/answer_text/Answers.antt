@@ -27,7 +27,7 @@ returns-clause-state g c =
     if_ok_as c.answer_in.result _ _
     (λ answered after told state syncs instruction fits cursor is.
     let now = after told state instruction (record { text = fits.text.pages; history = fits.history }) cursor is in
-    (state_left c.args.text.now _ c.args.history.now _ _ _ state _ syncs keeps.files (ap (λ (s : Scene). s.folder) keeps.frame) fits now.0, now.1))
+    (state_left _ c.args.text.now _ c.args.history.now _ _ _ state _ syncs keeps fits now.0, now.1))
     c.answer_in.ensures.state
 
 pub returns-clause-err : goal.returns-clause-err
@@ -35,5 +35,5 @@ returns-clause-err g c =
     let keeps = c.answer_in.ensures.keeps in
     on_err_as c.answer_in.result _ _
     (λ err told state syncs fits.
-    state_left c.args.text.now _ c.args.history.now _ _ _ state state syncs keeps.files (ap (λ (s : Scene). s.folder) keeps.frame) fits (err told state (record { text = fits.text.pages; history = fits.history })))
+    state_left _ c.args.text.now _ c.args.history.now _ _ _ state state syncs keeps fits (err told state (record { text = fits.text.pages; history = fits.history })))
     c.answer_in.ensures.err

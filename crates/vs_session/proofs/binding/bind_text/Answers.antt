@@ -26,4 +26,4 @@ returns-clause-refused g c = if_err_as c.bind_in.result _ _ (λ error refused to
 pub returns-clause-fits : goal.returns-clause-fits
 returns-clause-fits g c = λ told lines syncs fits.
     let keeps = c.bind_in.ensures.keeps in
-    fits_left c.args.text.now _ _ _ lines lines syncs keeps.files (ap (λ (s : Scene). s.folder) keeps.frame) fits (c.bind_in.ensures.paged told lines fits.pages)
+    fits_left _ c.args.text.now _ _ _ lines lines syncs keeps fits (c.bind_in.ensures.paged told lines fits.pages)

@@ -23,4 +23,4 @@ returns-clause-digest g c =
 pub returns-clause-fits : goal.returns-clause-fits
 returns-clause-fits g c = λ told lines syncs fits.
     let keeps = c.digest_in.ensures.keeps in
-    fits_left c.args.text.now _ _ _ lines lines syncs keeps.files (ap (λ (s : Scene). s.folder) keeps.frame) fits (c.digest_in.ensures.paged told lines fits.pages)
+    fits_left _ c.args.text.now _ _ _ lines lines syncs keeps fits (c.digest_in.ensures.paged told lines fits.pages)

@@ -23,4 +23,4 @@ returns-clause-bound g c =
 pub returns-clause-fits : goal.returns-clause-fits
 returns-clause-fits g c told state syncs fits =
     let keeps = c.unbind_in.ensures.keeps in
-    state_left c.args.text.now _ c.args.history.now _ _ _ state state syncs keeps.files (ap (λ (s : Scene). s.folder) keeps.frame) fits (c.unbind_in.ensures.stands told state (record { text = fits.text.pages; history = fits.history }))
+    state_left _ c.args.text.now _ c.args.history.now _ _ _ state state syncs keeps fits (c.unbind_in.ensures.stands told state (record { text = fits.text.pages; history = fits.history }))

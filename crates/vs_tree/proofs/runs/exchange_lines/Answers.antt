@@ -28,26 +28,26 @@ returns-clause-differs g c = λ told lines has small.
     (c.in_ok-taken.ensures.differs told lines has small.few_out small.brief_out)
     (c.in_ok-now.ensures.differs told (without_lines lines c.args.top c.args.old) (c.in_ok-taken.ensures.taken told lines has) small.few_in small.brief_in)
 
-pub returns-then-old-root-clause-exchanged : goal.returns-then-old-root-clause-exchanged
-returns-then-old-root-clause-exchanged g c = IfOk-weaker c.replace_all.result _ _
+pub returns-then-all_go-clause-exchanged : goal.returns-then-all_go-clause-exchanged
+returns-then-all_go-clause-exchanged g c = IfOk-weaker c.replace_all.result _ _
     (λ (after : Taken) done told lines has.
-    let top : 0 ≡ c.args.top = omega (arith, c.requires.within, c.if-old-root.true) in
-    let old : c.args.root.lines ≡ c.args.old = sym c.if-old-root.true in
+    let top : 0 ≡ c.args.top = omega (arith, c.requires.within, (c.all_go.ensures.0 c.if-all_go.true)) in
+    let old : c.args.root.lines ≡ c.args.old = sym (c.all_go.ensures.0 c.if-all_go.true) in
     let xs : List (List ℕ) = map stored_line c.args.new.now in
     subst (λ (ys : List (List ℕ)). HasTree (g.P.Pages.shows c.replace_all.new.pages).present after.root ys) (ap (λ (k : ℕ). splice lines k c.args.root.lines xs) top ∙ ap (λ (k : ℕ). splice lines c.args.top k xs) old) (done told lines has))
     c.replace_all.ensures.exchanged
 
-pub returns-then-old-root-clause-bytes : goal.returns-then-old-root-clause-bytes
-returns-then-old-root-clause-bytes g c = IfOk-weaker c.replace_all.result _ _
+pub returns-then-all_go-clause-bytes : goal.returns-then-all_go-clause-bytes
+returns-then-all_go-clause-bytes g c = IfOk-weaker c.replace_all.result _ _
     (λ (after : Taken) bytes told lines has few.
-    let top : 0 ≡ c.args.top = omega (arith, c.requires.within, c.if-old-root.true) in
-    let old : c.args.root.lines ≡ c.args.old = sym c.if-old-root.true in
+    let top : 0 ≡ c.args.top = omega (arith, c.requires.within, (c.all_go.ensures.0 c.if-all_go.true)) in
+    let old : c.args.root.lines ≡ c.args.old = sym (c.all_go.ensures.0 c.if-all_go.true) in
     bytes told lines has few ∙ ap (λ (k : ℕ). bytes_of (run_of lines k c.args.root.lines)) top ∙ ap (λ (k : ℕ). bytes_of (run_of lines c.args.top k)) old)
     c.replace_all.ensures.bytes
 
-pub returns-then-old-root-clause-differs : goal.returns-then-old-root-clause-differs
-returns-then-old-root-clause-differs g c = on_ok_weaker c.replace_all.result
+pub returns-then-all_go-clause-differs : goal.returns-then-all_go-clause-differs
+returns-then-all_go-clause-differs g c = on_ok_weaker c.replace_all.result
     (λ few told lines has small.
-    let top : c.args.top ≡ 0 = omega (arith, c.requires.within, c.if-old-root.true) in
-    few told lines has (subst (λ (k : ℕ). ExchangesLine lines k c.args.root.lines c.args.new.now) top (subst (λ (k : ℕ). ExchangesLine lines c.args.top k c.args.new.now) c.if-old-root.true small)))
+    let top : c.args.top ≡ 0 = omega (arith, c.requires.within, (c.all_go.ensures.0 c.if-all_go.true)) in
+    few told lines has (subst (λ (k : ℕ). ExchangesLine lines k c.args.root.lines c.args.new.now) top (subst (λ (k : ℕ). ExchangesLine lines c.args.top k c.args.new.now) (c.all_go.ensures.0 c.if-all_go.true) small)))
     c.replace_all.ensures.differs

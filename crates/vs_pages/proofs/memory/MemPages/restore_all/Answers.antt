@@ -12,7 +12,7 @@ loop-at-preserved c =
     let now = c.loop-at.self in
     let some = c.in-Some.ensures in
     let below : c.in-Some.at < now.committed = now.kept_within c.in-Some.at (search rules) in
-    record { committed = restored_one (committed_of c.args.self.now) (present_of now) (map_of c.set.new.self.places.items) now.kept c.pop_first.new.self c.in-Some.at now.committed c.in-Some.was c.loop-at.invariant.committed below some.updates some.value (ap map_of c.set.ensures ∙ map_of-set now.table.places.items c.in-Some.at c.in-Some.was (omega (arith, below, now.within))) }
+    record { marks = c.loop-at.invariant.marks; committed = restored_one (committed_of c.args.self.now) (present_of now) (map_of c.set.new.self.places.items) now.kept c.pop_first.new.self c.in-Some.at now.committed c.in-Some.was c.loop-at.invariant.committed below some.updates some.value (ap map_of c.set.ensures ∙ map_of-set now.table.places.items c.in-Some.at c.in-Some.was (omega (arith, below, now.within))) }
 
 pub returns-clause-present : goal.returns-clause-present
 returns-clause-present c =

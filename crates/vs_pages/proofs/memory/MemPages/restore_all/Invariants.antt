@@ -5,6 +5,7 @@ use Rattle.vs_pages.proofs.memory.MemPages.restore_all.Given as goal
 
 abbrev pub invariant-loop-at : goal.invariant-loop-at
 invariant-loop-at l = record {
+  marks : l.self.marks ≡ l.initial.self.marks;
   committed : committed_of l.self ≡ committed_of l.initial.self;
 }
 

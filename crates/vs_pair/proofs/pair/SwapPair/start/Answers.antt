@@ -32,7 +32,7 @@ returns-clause-acts g c =
 
 pub returns-clause-ok : goal.returns-clause-ok
 returns-clause-ok g c told =
-    both_fit g.F.World.tells c.args.self.now.files.names c.args.self.now.files.named (sync_with c.args.self.now 1 c.args.head.now) (sync_with c.args.self.now 2 c.args.head.now) refl refl (g.F.World.scene c.args.host.now) c.requires.fresh (g.F.World.scene c.make.new.host).folder (g.F.World.scene c.make-2.new.host).folder (g.F.World.scene c.sync_names.new.self).folder (g.F.World.is_folder c.sync_names.new.self told)
+    both_fit g.F.World.tells c.args.self.now.files.names c.args.self.now.files.named (sync_with c.args.self.now 1 c.args.head.now) (sync_with c.args.self.now 2 c.args.head.now) refl refl (g.F.World.scene c.args.host.now) c.requires.fresh c.args.self.now.pages c.committed_end.result refl refl c.committed_end.ensures.last (g.F.World.scene c.make.new.host).folder (g.F.World.scene c.make-2.new.host).folder (g.F.World.scene c.sync_names.new.self).folder (g.F.World.is_folder c.sync_names.new.self told)
     (c.in_ok-make.ensures.made told) (c.make-2.ensures.acts.runs told).now (c.in_ok-make-2.ensures.made told) (c.in_ok-sync_names.ensures.ok told)
 
 pub returns-clause-none : goal.returns-clause-none

@@ -20,6 +20,7 @@ sync_file-requires-clause-fits g c told =
       body_of c.args.self.now.files.names.file fits.3.older_sync,
       moved_has (name_of c.args.self.now.files.names (other_side c.args.self.now.files.newer)) c.swap_name-name.result.now (sym name) _ _ refl (Fits c.args.self.now.files.gate) _
           (there (known_of c.args.self.now) fits.0 fits.1 fits.2 _ fits.3 (sync_of c.args.self.now c.args.head.now) refl c.requires.room),
+      fits.3.older_keeps,
     )
 
 pub returns-in_err-sync_file-clause-acts : goal.returns-in_err-sync_file-clause-acts
@@ -79,13 +80,21 @@ returns-clause-ok g c told newest begun past fit =
     let body : Body = record { first = c.page_zero-first.result; pages = committed_of c.args.self.now.pages } in
     let same : body ≡ body_of files.names.file (sync_of c.args.self.now c.args.head.now) =
     body_is files.names.file (sync_of c.args.self.now c.args.head.now) c.as_str.result.now c.page_zero-first.result c.as_str.ensures c.page_zero-first.ensures.page in
-    let after : IsFit (record { names = files.names; newer = other_side files.newer; gate = Open; generation = files.generation + 1 }) (g.F.World.scene c.sync_file.new.host).folder (sync_of c.args.self.now c.args.head.now) [] (newest ∷ past) =
+    let now : Side → Gate → Known = λ side gate. record files {
+      newer = side;
+      gate = gate;
+      generation = files.generation + 1;
+      newer_has = record { mark = files.generation + 1; end = c.committed_end.result };
+      older_has = files.newer_has;
+    } in
+    let after : IsFit (now (other_side files.newer) Open) (g.F.World.scene c.sync_file.new.host).folder (sync_of c.args.self.now c.args.head.now) [] (newest ∷ past) =
     done files newest begun past _ fit (sync_of c.args.self.now c.args.head.now) refl c.requires.room (SyncStep files.gate (body_of files.names.file (sync_of c.args.self.now c.args.head.now))) _
     (moved c.swap_name-name.result.now (name_of files.names (other_side files.newer)) name body _ same (SyncStep files.gate) _ _ (c.sync_file.ensures.acts.runs told).now)
-    (moved_has c.swap_name-name.result.now (name_of files.names (other_side files.newer)) name body _ same (λ b file. Leaves file (Holds b)) _ (c.in_ok-sync_file.ensures.stands told)) in
-    subst (λ (s : Side). IsFit (record { names = files.names; newer = s; gate = c.sync_file.new.gate; generation = files.generation + 1 }) (g.F.World.scene c.sync_file.new.host).folder (sync_of c.args.self.now c.args.head.now) [] (newest ∷ past))
+    (moved_has c.swap_name-name.result.now (name_of files.names (other_side files.newer)) name body _ same (λ b file. Leaves file (Holds b)) _ (c.in_ok-sync_file.ensures.stands told))
+    c.committed_end.result refl c.committed_end.ensures.last in
+    subst (λ (s : Side). IsFit (now s c.sync_file.new.gate) (g.F.World.scene c.sync_file.new.host).folder (sync_of c.args.self.now c.args.head.now) [] (newest ∷ past))
     (sym c.other-older.ensures)
-    (subst (λ (h : Gate). IsFit (record { names = files.names; newer = other_side files.newer; gate = h; generation = files.generation + 1 }) (g.F.World.scene c.sync_file.new.host).folder (sync_of c.args.self.now c.args.head.now) [] (newest ∷ past))
+    (subst (λ (h : Gate). IsFit (now (other_side files.newer) h) (g.F.World.scene c.sync_file.new.host).folder (sync_of c.args.self.now c.args.head.now) [] (newest ∷ past))
     (sym c.in_ok-sync_file.ensures.opened) after)
 
 pub returns-clause-rises : goal.returns-clause-rises
@@ -99,3 +108,18 @@ returns-clause-rises g c told text is =
     rises files fits.0 fits.1 fits.2 _ fits.3 (sync_of c.args.self.now c.args.head.now) refl c.requires.room (SyncStep files.gate (body_of files.names.file (sync_of c.args.self.now c.args.head.now))) _
     (moved c.swap_name-name.result.now (name_of files.names (other_side files.newer)) name body _ same (SyncStep files.gate) _ _ (c.sync_file.ensures.acts.runs told).now)
     (moved_has c.swap_name-name.result.now (name_of files.names (other_side files.newer)) name body _ same (λ b file. Leaves file (Holds b)) _ (c.in_ok-sync_file.ensures.stands told)) text is
+
+pub returns-in_err-sync_file-clause-calls : goal.returns-in_err-sync_file-clause-calls
+returns-in_err-sync_file-clause-calls g c = c.sync_file.ensures.calls
+
+pub returns-clause-calls : goal.returns-clause-calls
+returns-clause-calls g c = c.sync_file.ensures.calls
+
+pub returns-clause-turned : goal.returns-clause-turned
+returns-clause-turned g c = refl
+
+pub returns-clause-marked : goal.returns-clause-marked
+returns-clause-marked g c = refl
+
+pub returns-clause-ended : goal.returns-clause-ended
+returns-clause-ended g c = c.committed_end.ensures.past

@@ -16,7 +16,7 @@ returns-in-Ok-clause-step g c told state syncs instruction fits is =
     let mid = g.F.World.scene c.sync.new.host in
     let new = g.F.World.scene c.carry_out-outcome.new.host in
     let synced = c.in-Ok.ensures.ok told state syncs fits in
-    answers_synced state syncs instruction c.args.self.now old (quits_is c.args.self.now old.folder state syncs instruction _ false fits is.parsed c.requires.goes_on) fits (sym (ap uses_files is.parsed) ∙ c.requires.plain) c.sync.new.self c.carry_out-outcome.new.self _ _ mid new
+    answers_synced state syncs instruction c.args.self.now old (quits_is c.args.self.now old.folder state syncs instruction _ false fits is.parsed c.requires.goes_on) fits (sym (ap uses_files is.parsed) ∙ c.requires.plain) c.sync.new.self c.carry_out-outcome.new.self _ _ mid new c.carry_out-outcome.ensures.stored
     (begins_is c.args.self.now old.folder state syncs instruction _ true fits is.parsed c.requires.begins) c.in-Ok.ensures.file.names (c.carry_out-outcome.ensures.file.names ∙ c.in-Ok.ensures.file.names) c.in-Ok.ensures.acts.frame
     (c.in-Ok.ensures.acts.runs told) c.in-Ok.ensures.acts.later (c.in-Ok.ensures.rises told) synced c.carry_out-outcome.ensures.frame (c.carry_out-outcome.ensures.looks told) c.carry_out-outcome.ensures.cause
     (c.carry_out-outcome.ensures.reply told (after_sync state true) (sync_in state true ∷ syncs) instruction synced is) (c.carry_out-outcome.ensures.fits told (after_sync state true) (sync_in state true ∷ syncs) instruction synced is)

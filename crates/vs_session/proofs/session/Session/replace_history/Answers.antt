@@ -1,5 +1,5 @@
-use Rattle.std.proofs.Common.{Ok, Err, refl, ◌∙◌}
-use Rattle.vs_session.proofs.Replaced.{fits_replaced, read_line}
+use Rattle.std.proofs.Common.{Ok, Err, refl, ap, ◌∙◌}
+use Rattle.vs_session.proofs.Replaced.{err_taken, failed_taken, fits_replaced, read_line}
 use Rattle.vs_session.proofs.session.Session.replace_history.Goals as goal
 
 pub returns-in-Ok-clause-read : goal.returns-in-Ok-clause-read
@@ -16,3 +16,9 @@ returns-in-Ok-clause-read g c told state syncs fits =
 pub returns-in-Err-clause-read : goal.returns-in-Err-clause-read
 returns-in-Err-clause-read g c told state syncs fits =
     (Err c.in-Err.error, c.in-Err.ensures.refused told state syncs fits, c.refused.ensures.outcome, c.refused.ensures.reply, c.in-Err.ensures.fits told state syncs fits)
+
+pub returns-in-Err-clause-cause : goal.returns-in-Err-clause-cause
+returns-in-Err-clause-cause g c = record {
+  later = c.in-Err.ensures.cause.later;
+  risen = λ fault. c.in-Err.ensures.cause.risen (ap err_taken (failed_taken c.in-Err.error _ c.refused.ensures.outcome fault));
+}

@@ -1,4 +1,5 @@
-use Rattle.std.proofs.Common.{sym, ◌∙◌}
+use Rattle.std.proofs.Common.{refl, sym, ◌∙◌}
+use Rattle.vs_session.proofs.SessionLemmas.{fits_again}
 use Rattle.vs_session.proofs.SummaryLemmas.{fails_still, last_is}
 use Rattle.vs_session.proofs.session.Session.summary.Goals as goal
 
@@ -14,3 +15,11 @@ returns-clause-summary g c = λ told state syncs fits.
     let changes = c.last.ensures ∙ last_is c.args.self.now.history state.machine fits.stands.history in
     let digest = c.in_ok-digest.ensures.digest told state.machine.text syncs fits.stands.text in
     λ i. record { lines = lines i; changes = changes i; syncs = fits.acknowledged i; digest = digest i }
+
+pub returns-in_err-digest-clause-fits : goal.returns-in_err-digest-clause-fits
+returns-in_err-digest-clause-fits g c told state syncs fits =
+    fits_again c.args.self.now _ _ _ state syncs fits (record { text = c.digest_text.ensures.fits told state.machine.text syncs fits.stands.text; history = fits.stands.history }) refl refl refl refl refl refl
+
+pub returns-clause-fits : goal.returns-clause-fits
+returns-clause-fits g c told state syncs fits =
+    fits_again c.args.self.now _ _ _ state syncs fits (record { text = c.digest_text.ensures.fits told state.machine.text syncs fits.stands.text; history = fits.stands.history }) refl refl refl refl refl refl

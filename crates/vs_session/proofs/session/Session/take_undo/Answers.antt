@@ -1,7 +1,8 @@
-use Rattle.std.proofs.Common.{◌≡◌, Ok, Err, Some, List, ℕ, sym, ap, subst, ◌∙◌}
+use Rattle.std.proofs.Common.{◌≡◌, Ok, Err, Some, List, ℕ, refl, sym, ap, subst, ◌∙◌}
 use Rattle.vs_host.specs.Disk.{Disk}
 use Rattle.vs_host.specs.World.{Scene}
 use Rattle.vs_paged.specs.Fits as paged
+use Rattle.vs_session.proofs.SessionLemmas.{fits_again}
 use Rattle.vs_session.proofs.Bindings.{handed, taken_at}
 use Rattle.vs_session.proofs.session.Session.take_undo.Goals as goal
 
@@ -33,3 +34,15 @@ returns-clause-taken g c told state syncs fits =
     let same = ap (λ (s : Scene). s.folder) c.in_ok-bytes.ensures.frame in
     let taken = c.in_ok-tree.ensures.taken told state.machine.text syncs c.deref.result.now (subst (λ (d : Disk). paged.Fits c.args.self.now.text d state.machine.text syncs) (sym same) fits.stands.text) c.in_ok-contents.ensures.found in
     (taken.0, taken_at state.machine.text _ _ (Ok taken.0) (c.in_ok-bytes.ensures.found told ∙ ap Some (sym c.deref.ensures.value)) taken.1, taken.2, c.len.ensures ∙ c.in_ok-contents.contents.changes.ok.0 ∙ taken.3)
+
+pub returns-in_err-tree-clause-fits : goal.returns-in_err-tree-clause-fits
+returns-in_err-tree-clause-fits g c told state syncs fits =
+    let same = ap (λ (s : Scene). s.folder) c.in_ok-bytes.ensures.frame in
+    let text = subst (λ (d : Disk). paged.Fits c.args.self.now.text d state.machine.text syncs) (sym same) fits.stands.text in
+    fits_again c.args.self.now _ _ _ state syncs fits (record { text = c.bind_undo.ensures.fits told state.machine.text syncs text; history = fits.stands.history }) refl refl refl refl refl refl
+
+pub returns-clause-fits : goal.returns-clause-fits
+returns-clause-fits g c told state syncs fits =
+    let same = ap (λ (s : Scene). s.folder) c.in_ok-bytes.ensures.frame in
+    let text = subst (λ (d : Disk). paged.Fits c.args.self.now.text d state.machine.text syncs) (sym same) fits.stands.text in
+    fits_again c.args.self.now _ _ _ state syncs fits (record { text = c.bind_undo.ensures.fits told state.machine.text syncs text; history = fits.stands.history }) refl refl refl refl refl refl

@@ -1,0 +1,248 @@
+-- The answer to `w` with `undofile`: after the write its undo file is stored, which leaves the edited file and its backup.
+use Rattle.std.proofs.Common.{◌≡◌, ◌⊎◌, inl, inr, ℕ, ◌≤◌, Bool, true, false, ◌&&◌, not, length, List, ◌∷◌, Option, Some, None, Result, Ok, Err, refl, sym, ◌∙◌, ap, subst, arith}
+use Rattle.std.specs.Prelude.{IsSomeAnd}
+use Rattle.std.specs.Str.{bytes_eq}
+use Rattle.std.proofs.lemmas.Slice.Eq.{bytes_eq-Decides}
+use Rattle.std.proofs.lemmas.Bool.{true≢false}
+use Rattle.vs_faults.specs.Faults.{HasCause, HasRisen}
+use Rattle.vs_host.specs.File.{File, IsFileImage}
+use Rattle.vs_host.specs.Disk.{Disk, Name, IsImageOf}
+use Rattle.vs_host.specs.Names.{AreNames}
+use Rattle.vs_host.specs.World.{Scene, ChangesFolder, ReadsFolder}
+use Rattle.vs_host.specs.declared.names.Names.{Names}
+use Rattle.vs_text.specs.Text.{file_of}
+use Rattle.vs_disk.specs.Images.{HoldsBytes, MayLeave}
+use Rattle.vs_disk.specs.Names.{SameAt}
+use Rattle.vs_disk.specs.Runs.{Runs, Looks}
+use Rattle.vs_disk.proofs.Others.{same_none, same_then}
+use Rattle.vs_disk.proofs.Runs.{frames, reads_change, runs_as, runs_then}
+use Rattle.vs_disk.proofs.Steps.{itself}
+use Rattle.vs_pair.specs.Pair.{Rises, is_swap}
+use Rattle.vs_pair.proofs.Others.{rises_kept}
+use Rattle.vs_excmd.specs.Request.{Instruction}
+use Rattle.vs_backup.specs.Backups.{IsBackupName, WorksOn}
+use Rattle.vs_backup.specs.Works.{Spares as SparesNames, two_names}
+use Rattle.vs_backup.specs.declared.options.WriteOptions.{WriteOptions}
+use Rattle.vs_backup.specs.declared.errors.WriteErr.{WriteErr}
+use Rattle.vs_backup.specs.declared.errors.WriteErr.TheVariants as error
+use Rattle.vs_backup.specs.declared.errors.Place.TheVariants.{Nowhere}
+use Rattle.vs_backup.specs.Writing.{IsUnseen}
+use Rattle.vs_machine.specs.Machine.{took_effect}
+use Rattle.vs_machine.specs.Replies.{Answer, says}
+use Rattle.vs_machine.specs.declared.command.Outcome.{Outcome}
+use Rattle.vs_machine.specs.declared.command.Outcome.TheVariants.{Done, NoUndo}
+use Rattle.vs_undo.specs.History.{History, history_marked}
+use Rattle.vs_safety.specs.Texts.{Sync, Text, Recovers, recoverable}
+use Rattle.vs_safety.specs.Undo.{HasStored, UndoWrite}
+use Rattle.vs_safety.specs.Writes.{Write, HasWritten, IsWholeIn, backup_for, new_bytes, state_now}
+use Rattle.vs_safety.specs.FileWork.{BothFiles, FileWork}
+use Rattle.vs_safety.specs.Safety.{IsUnderWay, Spares}
+use Rattle.vs_paged.specs.Fits as folder
+use Rattle.vs_paged.proofs.SyncLemmas.{fits_recovers}
+use Rattle.vs_desk.specs.Still.{KeepsLeft}
+use Rattle.vs_desk.specs.Writes.{KeepsSwap}
+use Rattle.vs_session.specs.declared.session.Session.{Session}
+use Rattle.vs_session.specs.Session.{SessionState, after_sync, is_fault, is_write, line_by, reply_of, state_after, sync_in, undo_after, write_in, write_reply, written_state}
+use Rattle.vs_session.specs.Stores.{HasUndo, StoresUndo}
+use Rattle.vs_session.specs.Writes.{HasSynced, Wrote}
+use Rattle.vs_session.specs.Fits.{Answers, Fits, names_of}
+use Rattle.vs_session.proofs.Steps.{recovers_synced, risen_since, risen_until, works_runs}
+use Rattle.vs_session.proofs.FileWrites.{backup_named}
+use Rattle.vs_session.proofs.Stored.{fits_stored, undo_outside}
+use Rattle.vs_session.proofs.UndoNames.{backup_outside, file_outside}
+use Rattle.vs_session.proofs.Written.{Moment, answers_free, are, bytes_left, ended, fits_by, has_left, lacks, lead, line_is, mark, not_lacks, recovers_on, replied_done, replied_none, under, written_frame, written_rises, written_runs}
+
+-- ---- before the write
+
+-- the folder was looked at after the sync
+pub synced_looked : (state : SessionState) (syncs : List Sync) (before between next : Session) (old mid new : Scene) → HasSynced state syncs before between old mid → ReadsFolder mid new → Looks mid new → mid.folder_faults ≤ new.folder_faults
+    → names_of next ≡ names_of between → Fits next new.folder (after_sync state true) (sync_in state true ∷ syncs) → HasSynced state syncs before next old new
+synced_looked state syncs before between next old mid new s reads looks later names fits = record {
+  fits = s.fits;
+  frame = frames old mid new s.frame (reads_change mid new reads);
+  runs = runs_then (folder.Syncing before.text) (λ a b. b ≡ a) (folder.Syncing before.text) old mid new (λ d syncing. syncing)
+      (λ d is. subst (λ (e : Disk). folder.Syncing before.text old.folder e) (sym is) s.runs.now) s.frame s.runs looks;
+  later = omega (arith, s.later, later);
+  rises = subst (λ (d : Disk). Rises (names_of before) old.folder d) (sym looks.now) s.rises;
+  names = names ∙ s.names;
+  synced = fits;
+}
+
+-- nothing but that was done: as where a call failed before it was known whether there is a file
+pub wrote_nothing : (state : SessionState) (syncs : List Sync) (before after : Session) (old new : Scene) → Looks old new → Fits before old.folder state syncs → Fits after new.folder state syncs
+    → Wrote state syncs before after (Err (error.Failed Nowhere)) old new
+wrote_nothing state syncs before after old new looks fits now =
+    let unseen : IsUnseen old new (Err (error.Failed Nowhere)) = record { looks = looks; failed = refl } in
+    record {
+      file = record { backed = λ was there backup made. inl unseen; all_taken = λ there on none. inl unseen; plain = λ was there off. inl unseen; fresh = λ none. inl unseen };
+      no_name = λ e. absurd (cc);
+      swap = runs_as (λ a b. b ≡ a) (KeepsSwap (names_of before) (recoverable syncs)) old new
+          (λ d is. subst (λ (e : Disk). KeepsSwap (names_of before) (recoverable syncs) old.folder e) (sym is)
+          (record { same = same_none (is_swap (names_of before)) old.folder; recovers = fits_recovers before.text old.folder state.machine.text syncs fits.stands.text })) looks;
+      others = λ inside out still. runs_as (λ a b. b ≡ a) (SameAt inside) old new (λ d is. subst (λ (e : Disk). SameAt inside old.folder e) (sym is) (same_none inside old.folder)) looks;
+      left = runs_as (λ a b. b ≡ a) (KeepsLeft (WorksOn state.options.write (names_of before).file old.folder)) old new
+          (λ d is. subst (λ (e : Disk). KeepsLeft (WorksOn state.options.write (names_of before).file old.folder) old.folder e) (sym is) (λ name out left may. may)) looks;
+      fits = now;
+    }
+
+-- ---- what storing leaves
+
+-- a name that has these bytes in each image
+held : (bytes : List ℕ) (disk : Disk) (name : Name) → HoldsBytes name bytes disk → (found : Option (List ℕ)) → MayLeave disk name found → found ≡ Some bytes
+held bytes disk name holds found may =
+    let here = holds may.0 in
+    let image = subst (λ (o : Option ℕ). IsImageOf disk o found) here.leads may.1 in
+    image.1 ∙ ap (λ (b : List ℕ). Some b) (here.leaves image.0 image.2)
+
+holds_whole : (names : Names) (write : Write) (disk : Disk) → HoldsBytes names.file (new_bytes write) disk → IsWholeIn names write disk
+holds_whole names write disk holds = record {
+  backed = λ old backup is made. inr (λ image whole.
+      inl (subst (λ (o : Option (List ℕ)). IsSomeAnd o (λ c. (c ≡ old) ⊎ (c ≡ new_bytes write))) (sym (held (new_bytes write) disk names.file holds (image names.file) (whole.0, whole.1 names.file))) (inr refl)));
+  fresh = λ none found may. inl (held (new_bytes write) disk names.file holds found may);
+}
+
+module _ (names : Names) (old new : Disk) (spares : SparesNames (two_names names.undo_new names.undo) old new) where
+  same_alone : (name : Name) → (two_names names.undo_new names.undo name → ⊥) → SameAt (bytes_eq name) old new
+  same_alone name out = spares (bytes_eq name) (λ other is on. out (subst (two_names names.undo_new names.undo) (sym ((bytes_eq-Decides name other).0 is)) on))
+
+  holds_spared : (name : Name) (bytes : List ℕ) → (two_names names.undo_new names.undo name → ⊥) → HoldsBytes name bytes old → HoldsBytes name bytes new
+  holds_spared name bytes out holds lost =
+      let same = same_alone name out in
+      let at = same.back lost in
+      let here = holds at.0 in
+      let leads = at.1 name (itself name) ∙ here.leads in
+      record {
+        number = here.number;
+        leads = leads;
+        leaves = λ c image. here.leaves c (subst (λ (f : File). IsFileImage f c) (same.files lost name here.number (itself name) leads) image);
+      }
+
+-- ---- the step
+
+module _ (state : SessionState) (syncs : List Sync) (instruction : Instruction) (is : is_write instruction.parsed ≡ true) (before between : Session) (old mid : Scene) (s : HasSynced state syncs before between old mid)
+    (on : state.options.undofile ≡ true) (size at : ℕ) (after : Session) (made new : Scene) (second : ChangesFolder mid made) (names_after : names_of after ≡ names_of before)
+    (wrote : Wrote (after_sync state true) (sync_in state true ∷ syncs) between after (Ok size) mid made) (third : ChangesFolder made new) (later : made.folder_faults ≤ new.folder_faults)
+    (stores : Runs (StoresUndo (names_of before) state.machine.text (history_marked state.machine.history)) made new) where
+  abbrev names : Names
+  names = names_of before
+
+  abbrev text : Text
+  text = state.machine.text
+
+  abbrev write : Write
+  write = write_in state old.folder
+
+  abbrev undo : UndoWrite
+  undo = undo_after state old.folder
+
+  abbrev all : List Sync
+  all = sync_in state true ∷ syncs
+
+  abbrev during : List Sync
+  during = under state syncs instruction is before between old mid s
+
+  abbrev work : FileWork
+  work = BothFiles write undo
+
+  named : AreNames names
+  named = are state syncs instruction is before between old mid s
+
+  free : lacks state syncs instruction is before between old mid s ≡ false
+  free = not_lacks state syncs instruction is before between old mid s after (Ok size) made second wrote size refl
+
+  runs : Runs (λ a d. Moment names write during old.folder d) old made
+  runs = written_runs state syncs instruction is before between old mid s after (Ok size) made second wrote
+
+  frame : ChangesFolder old made
+  frame = written_frame state syncs instruction is before between old mid s after (Ok size) made second wrote
+
+  bytes : (size ≡ length (file_of text)) × HoldsBytes names.file (file_of text) made.folder
+  bytes = bytes_left state syncs instruction is before between old mid s after (Ok size) made second wrote
+
+  wrote_made : HasWritten names write true (state_now old) (state_now made)
+  wrote_made = has_left state syncs instruction is before between old mid s after (Ok size) made second wrote
+
+  holds_on : (d : Disk) → SparesNames (two_names names.undo_new names.undo) made.folder d → HoldsBytes names.file (file_of text) d
+  holds_on d spares = holds_spared names made.folder d spares names.file (file_of text) (file_outside names named) bytes.1
+
+  fits_on : (d : Disk) → SparesNames (two_names names.undo_new names.undo) made.folder d → Fits after d (written_state (after_sync state true)) all
+  fits_on d spares =
+      fits_stored after made.folder d (written_state (after_sync state true)) all (subst AreNames (sym names_after) named)
+      (subst (λ (n : Names). SparesNames (two_names n.undo_new n.undo) made.folder d) (sym names_after) spares) wrote.fits
+
+  abbrev Both : Disk → Disk → Type 0
+  Both a d = Spares names (Some work) (IsUnderWay names during (Some work)) old.folder d
+
+  while_stored : (d : Disk) → StoresUndo names text (history_marked state.machine.history) made.folder d → Spares names (Some work) (IsUnderWay names during (Some work)) old.folder d
+  while_stored d storing = record {
+    folder = record {
+      recovers = recovers_on state syncs instruction is before between old mid s d (recovers_synced names after d (written_state (after_sync state true)) all names_after (fits_on d storing.spares));
+      whole = (
+        holds_whole names write d (holds_on d storing.spares),
+        (
+          λ left may. elim (storing.undo left may) [ inl was ↦ inl (runs.now.undo left was) | inr stored ↦ inr stored ],
+          inr (holds_on d storing.spares),
+        ),
+      );
+    };
+    spared = λ inside start foreign avoids settled spared.
+        same_then inside start made.folder d (runs.now.keeps inside start foreign avoids.0 settled spared) (storing.spares inside avoids.1);
+  }
+
+  both_runs : Runs Both old new
+  both_runs = runs_then (λ a d. Moment names write during old.folder d) (StoresUndo names text (history_marked state.machine.history)) Both old made new
+      (λ d m. lead state syncs instruction is before between old mid s true d m) while_stored frame runs stores
+
+  rises : Rises names old.folder new.folder
+  rises = rises_kept names made.folder new.folder (stores.now.spares (is_swap names) (undo_outside names named)) old.folder (written_rises state syncs instruction is before between old mid s after (Ok size) made second wrote)
+
+  backup_is : (backup : Name) → backup_for names write ≡ Some backup → two_names names.undo_new names.undo backup → ⊥
+  backup_is backup made_as = backup_outside names named backup (backup_named names named state.options.write old.folder backup made_as)
+
+  wrote_new : HasWritten names write true (state_now old) (state_now new)
+  wrote_new = record {
+    found = refl;
+    written = λ done. holds_on new.folder stores.now.spares;
+    kept = λ was backup done keep there made_as. holds_spared names made.folder new.folder stores.now.spares backup was (backup_is backup made_as) (wrote_made.kept was backup refl keep there made_as);
+    gone = λ backup done off there made_as calm lost.
+        let at = (same_alone names made.folder new.folder stores.now.spares backup (backup_is backup made_as)).back lost in
+        at.1 backup (itself backup) ∙ wrote_made.gone backup refl off there made_as (λ risen. calm (risen_until old.folder_faults made.folder_faults new.folder_faults risen later)) at.0;
+    not_written = λ was none there. absurd (true≢false none);
+    absent = λ none gone. absurd (true≢false none);
+  }
+
+  -- however the storing ended
+  answers_by : (outcome : Outcome) (reply : Answer) → took_effect outcome ≡ true → reply ≡ reply_of state instruction (ended state syncs instruction is before between old mid s outcome at)
+      → ((true && not (is_fault outcome)) ≡ true → HasUndo names text (history_marked state.machine.history) new.folder) → (is_fault outcome ≡ true → HasRisen old.folder_faults new.folder_faults)
+      → Answers state syncs instruction before after (mark state syncs instruction is before between old mid s outcome at) reply old new
+  answers_by outcome reply took replied stored cause =
+      answers_free state syncs instruction is before between old mid s free true on after outcome at reply new names_after (λ none. refl) replied
+      (fits_by state syncs instruction is before between old mid s after new.folder outcome at true (λ i. ((is i && true) && not (free i)) && took i) (fits_on new.folder stores.now.spares))
+      (works_runs names (Some work) (IsUnderWay names during (Some work)) Both old new (frames old made new frame third) (λ d both. both) both_runs)
+      (subst (λ (done : Bool). HasWritten names write done (state_now old) (state_now new) × HasStored names undo (done && not (is_fault outcome)) (state_now old) (state_now new)) (sym took)
+      (wrote_new, record { found = refl; stored = stored }))
+      both_runs.now.folder.whole rises cause
+
+  replied_as : (outcome : Outcome) → (outcome ≡ Done) ⊎ (outcome ≡ NoUndo) → write_reply state outcome old.folder ≡ reply_of state instruction (ended state syncs instruction is before between old mid s outcome at)
+  replied_as outcome (inl done) =
+      subst (λ (o : Outcome). write_reply state o old.folder ≡ reply_of state instruction (ended state syncs instruction is before between old mid s o at)) (sym done)
+      (replied_done state syncs instruction is before between old mid s at)
+  replied_as outcome (inr none) =
+      subst (λ (o : Outcome). write_reply state o old.folder ≡ reply_of state instruction (ended state syncs instruction is before between old mid s o at)) (sym none)
+      (replied_none state syncs instruction is before between old mid s at)
+
+  took_as : (outcome : Outcome) → (outcome ≡ Done) ⊎ (outcome ≡ NoUndo) → took_effect outcome ≡ true
+  took_as outcome (inl done) = ap took_effect done
+  took_as outcome (inr none) = ap took_effect none
+
+  done_as : (outcome : Outcome) → (outcome ≡ Done) ⊎ (outcome ≡ NoUndo) → (true && not (is_fault outcome)) ≡ true → outcome ≡ Done
+  done_as outcome (inl done) calm = done
+  done_as outcome (inr none) calm = absurd (true≢false (sym calm ∙ ap (λ (o : Outcome). true && not (is_fault o)) none))
+
+  pub answers_both : (outcome : Outcome) (reply : Answer) → (outcome ≡ Done) ⊎ (outcome ≡ NoUndo) → reply ≡ says (line_by outcome state.name (length text) size)
+      → (outcome ≡ Done → HasUndo names text (history_marked state.machine.history) new.folder) → HasCause made.folder_faults new.folder_faults (is_fault outcome ≡ true) → mid.folder_faults ≤ made.folder_faults
+      → Answers state syncs instruction before after (mark state syncs instruction is before between old mid s outcome at) reply old new
+  answers_both outcome reply ended_as replied stored cause since =
+      answers_by outcome reply (took_as outcome ended_as) (replied ∙ line_is state syncs instruction is before between old mid s free outcome size bytes.0 ∙ replied_as outcome ended_as)
+      (λ calm. stored (done_as outcome ended_as calm))
+      (λ failed. risen_since old.folder_faults made.folder_faults new.folder_faults (omega (arith, s.later, since)) (cause.risen failed))

@@ -1,0 +1,15 @@
+use Rattle.vs_paged.proofs.SyncLemmas.{on_ok_as}
+use Rattle.vs_session.specs.Fits.{names_of}
+use Rattle.vs_session.proofs.Stored.{fits_stored, stores_runs}
+use Rattle.vs_session.proofs.session.Session.store_bytes.Goals as goal
+
+pub returns-clause-runs : goal.returns-clause-runs
+returns-clause-runs g c told text history is =
+    stores_runs (names_of c.args.self.now) text history c.args.bytes.now is _ _ (c.store.ensures.acts.runs told) (c.store.ensures.takes told)
+
+pub returns-clause-fits : goal.returns-clause-fits
+returns-clause-fits g c told state syncs fits =
+    fits_stored c.args.self.now _ _ state syncs c.args.self.now.text.pair.files.named (c.store.ensures.acts.runs told).now fits
+
+pub returns-clause-stored : goal.returns-clause-stored
+returns-clause-stored g c = on_ok_as c.store.result _ _ (λ holds told text history is. (c.args.bytes.now, is, holds told)) c.store.ensures.holds
