@@ -1,10 +1,8 @@
 -- What each element of a list gives, put together one after the other.
-use Rattle.std.proofs.Common.{◌≡◌, ℕ, ◌+◌, ◌<◌, ◌≤◌, List, [], ◌∷◌, ◌++◌, length, get_or, take, drop, slice_get, map, Option, Some, None, Bool, true, false, IsTrue, sym, refl, ap, ◌∙◌, arith, append_assoc, append-nil}
+use Rattle.std.proofs.Common.{◌≡◌, ℕ, ◌+◌, ◌<◌, ◌≤◌, List, [], ◌∷◌, ◌++◌, length, get_or, drop, slice_get, map, Option, Some, None, Bool, true, false, IsTrue, sym, refl, ap, ◌∙◌, arith, append_assoc, append-nil}
 use Rattle.std.specs.Prelude.{nat_le, ◌&&◌}
 use Rattle.std.proofs.lemmas.List.{at_drop_more, at_drop_all}
 use Rattle.std.proofs.lemmas.List.{map-append}
-use Rattle.std.proofs.lemmas.Grind.{common_steps}
-use Rattle.std.proofs.lemmas.List.{take_all}
 use Rattle.vs_text.specs.Text.{plain_line}
 use Rattle.vs_tree_shape.specs.declared.entries.Entry.{Entry}
 use Rattle.vs_tree_shape.proofs.Sums.{total-append}
@@ -104,15 +102,6 @@ pub no_clash : (used : ℕ → ℕ) (o : Option (List Entry)) → o ≡ None →
 no_clash used o none = λ next is. absurd (cc)
 
 -- ---- lines in their plain form
-
-pub plain_more : (found : List (List ℕ)) (i : ℕ) (line : List ℕ) (old now new : List (List ℕ)) → i < length found → line ≡ get_or found i [] → now ≡ old ++ map plain_line (take i found) → new ≡ now ++ plain_line line ∷ [] → new ≡ old ++ map plain_line (take (i + 1) found)
-plain_more found i line old now new lt is so push =
-    let e : take (i + 1) found ≡ take i found ++ get_or found i [] ∷ [] = grind (arith, common_steps) in
-    push ∙ ap (λ ys. ys ++ plain_line line ∷ []) so ∙ append_assoc old (map plain_line (take i found)) (plain_line line ∷ [])
-    ∙ ap (λ ys. old ++ ys) (ap (λ (x : List ℕ). map plain_line (take i found) ++ plain_line x ∷ []) is ∙ sym (map-append plain_line (take i found) (get_or found i [] ∷ [])) ∙ ap (λ ys. map plain_line ys) (sym e))
-
-pub plain_all : (found : List (List ℕ)) (i : ℕ) (old now : List (List ℕ)) → length found ≤ i → now ≡ old ++ map plain_line (take i found) → now ≡ old ++ map plain_line found
-plain_all found i old now le so = so ∙ ap (λ ys. old ++ map plain_line ys) (take_all i found le)
 
 -- a block's lines after others
 pub plain_after : (o : Option (List (List ℕ))) (found old new : List (List ℕ)) → o ≡ Some found → new ≡ old ++ map plain_line found → chained (Some old) (plain o) ≡ Some new

@@ -7,3 +7,4 @@ pub mod Choices
 pub mod Faults
 pub mod Infos
 pub mod Reading
+pub mod Stored

@@ -1,9 +1,8 @@
 // Blocks of a swap file, read through the folder.
-ghost use Rattle.std.specs.Prelude.{◌≡◌, ◌≤◌, ◌<◌, ◌+◌, ◌*◌, ◌/◌, ◌^◌, ◌&&◌, nat_eq, ◌++◌, Some, ℕ, List, Bool, IfOk, OnOk, IfSome, IsTrue, Ok, Err, length, map};
+ghost use Rattle.std.specs.Prelude.{◌≡◌, ◌≤◌, ◌<◌, ◌+◌, ◌*◌, ◌/◌, ◌^◌, ◌&&◌, nat_eq, ◌++◌, Some, ℕ, List, Bool, IfOk, OnOk, IfSome, IsTrue, Err, length};
 ghost use Rattle.vs_faults.specs.Faults.{HasRisen};
 ghost use Rattle.vs_pages.specs.Maps.{pages_at};
-ghost use Rattle.vs_data.specs.Blocks.{lines_in, view_in};
-ghost use Rattle.vs_text.specs.Text.{plain_line};
+ghost use Rattle.vs_data.specs.Blocks.{lines_in};
 ghost use Rattle.vs_tree_shape.specs.Places.{lines_below};
 ghost use Rattle.vs_tree_shape.specs.Trees.{read_by};
 ghost use Rattle.vs_swap.specs.Entries.{pointer_in, swap_points};
@@ -180,17 +179,6 @@ pub fn load_points<F: Folder>(
     Ok(found)
 }
 
-// Adds the lines of a data block in their plain form.
-fn add_lines(view: &DataView, bytes: &[u8], lines: &mut FileText) -> Result<(), AllocError>
-    requires { view_in bytes.now ≡ Ok view.now }
-    ensures { OnOk result ((found : List (List ℕ)) → lines_in bytes.now ≡ Some found → lines.new ≡ lines.old ++ map plain_line found) }
-{
-    for at in 0..view.count {
-        lines.push_stored(view.line(bytes, at))?;
-    }
-    Ok(())
-}
-
 /// Adds the lines of the data block that an entry leads to, from its bytes, in their plain form; false where they are no data
 /// block that fits.
 pub fn read_lines(entry: &Entry, bytes: &[u8], lines: &mut FileText) -> Result<bool, AllocError>
@@ -203,7 +191,7 @@ pub fn read_lines(entry: &Entry, bytes: &[u8], lines: &mut FileText) -> Result<b
     if u64::from(view.count) != entry.lines {
         return Ok(false);
     }
-    add_lines(&view, bytes, lines)?;
+    lines.push_block(&view, bytes)?;
     Ok(true)
 }
 
