@@ -25,25 +25,14 @@ pub(crate) fn is_line(block: &[u8], start: u32, end: u32) -> bool
     block[last] == 0 && has_no_zero(&block[start as usize..last])
 }
 
-// The greatest number of bytes that are moved by way of a copy: those of a page.
-const SPARE: usize = 4096;
-
-// Copies the bytes from `start` up to `end` to `to`, where they may overlap with themselves. In a page they go by way of a copy,
-// since two copies of slices are far faster than one byte after another.
+// Copies the bytes from `start` up to `end` to `to`, where they may overlap with themselves.
 pub(crate) fn move_bytes(block: &mut [u8], start: usize, end: usize, to: usize)
     requires order { start ≤ end }
     requires within { end ≤ length block.old }
     requires room { to + (end - start) ≤ length block.old }
     ensures { block.new ≡ with_field block.old to (field_at block.old start (end - start)) }
 {
-    let len = end - start;
-    if len > SPARE {
-        block.copy_within(start..end, to);
-        return;
-    }
-    let mut spare = [0; SPARE];
-    spare[..len].copy_from_slice(&block[start..end]);
-    put_bytes(block, to, &spare[..len]);
+    block.copy_within(start..end, to);
 }
 
 pub(crate) fn put_bytes(block: &mut [u8], at: usize, bytes: &[u8])
