@@ -35,7 +35,7 @@ fn exchanged(byte: u8) -> u8
     }
 }
 
-// Puts bytes 0 and 10 in each other's place, in place.
+// Exchanges bytes 0 and 10, in place.
 fn exchange(bytes: &mut [u8])
     ensures { bytes.new ≡ map exchanged bytes.old }
 {
