@@ -1,3 +1,4 @@
 pub mod Stillness
 pub mod Spared
 pub mod Left
+pub mod Above

@@ -1,16 +1,18 @@
 -- The text and the folder of a desk go on from call to call.
-use Rattle.std.proofs.Common.{◌≡◌, ℕ, Bool, List, refl, ◌∙◌, sym, ap, subst}
+use Rattle.std.proofs.Common.{◌≡◌, ◌≤◌, ℕ, Bool, List, refl, ◌∙◌, sym, ap, subst, arith}
+use Rattle.vs_host.specs.Trace.{Snapshot}
 use Rattle.vs_host.specs.World.{Tells, Scene, ReadsFolder}
-use Rattle.vs_disk.proofs.Runs.{starts, looks_on, reads_change}
+use Rattle.vs_disk.proofs.Runs.{goes_none, goes_then, goes_weaker, starts, looks_on, reads_change}
 use Rattle.vs_pages.specs.Maps.{Map}
 use Rattle.vs_pages.specs.Memory.{present_of}
 use Rattle.vs_pages.specs.declared.memory.MemPages.{MemPages}
 use Rattle.vs_tree.specs.Texts.{HasText, Tells as TellsText}
 use Rattle.vs_tree.specs.declared.tree.LineTree.{LineTree}
+use Rattle.vs_desk.specs.Counts.{NoneAbove}
 use Rattle.vs_desk.specs.Pages.{OnlyLooks, SamePages}
 
 pub looks_none : (tells : Tells) (scene : Scene) → OnlyLooks tells scene scene
-looks_none tells scene = record { frame = refl; looks = λ told. starts (λ a b. b ≡ a) scene refl }
+looks_none tells scene = record { frame = refl; looks = λ told. starts (λ a b. b ≡ a) scene refl; still = λ told. refl }
 
 reads_then : (old mid new : Scene) → ReadsFolder old mid → ReadsFolder mid new → ReadsFolder old new
 reads_then old mid new first second = second ∙ ap (λ (s : Scene). record s { folder_faults = new.folder_faults; trace = new.trace }) first
@@ -19,6 +21,7 @@ pub looks_then : (tells : Tells) (old mid new : Scene) → OnlyLooks tells old m
 looks_then tells old mid new first second = record {
   frame = reads_then old mid new first.frame second.frame;
   looks = λ told. looks_on old mid new (reads_change old mid first.frame) (first.looks told) (second.looks told);
+  still = λ told. second.still told ∙ first.still told;
 }
 
 pub same_none : (told : Bool) (pages : MemPages) (tree : LineTree) → SamePages told pages pages tree tree
@@ -40,4 +43,14 @@ same_text told p q t u text same is = record {
   has = let H : Map → Type 0 = λ m. HasText m u.present text in
       let T : LineTree → Type 0 = λ x. HasText (present_of p) x.present text in
       subst H (sym (same.present is.told)) (subst T (sym same.tree) is.has);
+}
+
+pub above_none : (scene : Scene) → NoneAbove scene scene
+above_none scene = record { later = omega arith; moments = goes_none (λ m. m.folder_faults ≤ scene.folder_faults) scene.trace }
+
+pub above_then : (old mid new : Scene) → NoneAbove old mid → NoneAbove mid new → NoneAbove old new
+above_then old mid new first second = record {
+  later = omega (arith, first.later, second.later);
+  moments = goes_then (λ m. m.folder_faults ≤ new.folder_faults) old.trace mid.trace new.trace
+      (goes_weaker (λ m. m.folder_faults ≤ mid.folder_faults) (λ m. m.folder_faults ≤ new.folder_faults) (λ (m : Snapshot) le. omega (arith, le, second.later)) old.trace mid.trace first.moments) second.moments;
 }

@@ -7,10 +7,11 @@ use Rattle.vs_pages.specs.Memory.{present_of, committed_of}
 use Rattle.vs_pages.specs.declared.memory.MemPages.{MemPages}
 use Rattle.vs_tree.specs.declared.tree.LineTree.{LineTree}
 
--- The folder was only looked at.
+-- The folder was only looked at. Pages are in memory, so one that is told was not even asked.
 pub record OnlyLooks (tells : Tells) (old new : Scene) : Type 0 where
   pub frame : ReadsFolder old new
   pub looks : IsTrue tells.folder → Looks old new
+  pub still : IsTrue tells.folder → new ≡ old
 
 -- The tree is the same, and so are the pages where they are told. No committed page changed that is not marked.
 pub record SamePages (told : Bool) (pages_old pages_new : MemPages) (tree_old tree_new : LineTree) : Type 0 where

@@ -1,8 +1,9 @@
 // A text in pages, and the folder into which it is written.
-ghost use Rattle.std.specs.Prelude.{◌≡◌};
+ghost use Rattle.std.specs.Prelude.{◌≡◌, IsTrue};
 ghost use Rattle.vs_pages.specs.Memory.{present_of};
 ghost use Rattle.vs_tree.specs.Texts.{Fits, Tells};
 ghost use Rattle.vs_tree.specs.declared.tree.LineTree.{LineTree};
+ghost use Rattle.vs_desk.specs.Counts.{NoneAbove};
 ghost use Rattle.vs_desk.specs.Pages.{SamePages};
 
 use crate::pages::FolderPages;
@@ -35,7 +36,7 @@ impl<'t, 'p, 'h, F: Folder> World for PagedDesk<'t, 'p, 'h, F> {
 impl<'t, 'p, 'h, F: Folder> Desk for PagedDesk<'t, 'p, 'h, F> {
     ghost use Rattle.std.proofs.Common.{◌∙◌, ap, refl};
     ghost use Rattle.vs_tree.specs.Sames.{one_text};
-    ghost use Rattle.vs_desk.specs.PageLaws.{same_none, same_then, same_text};
+    ghost use Rattle.vs_desk.specs.PageLaws.{above_none, above_then, same_none, same_then, same_text};
 
     ghost has_text = { λ desk text. Tells F.tells.folder (present_of desk.pages.pages.now) desk.tree.now.present text };
 
@@ -46,7 +47,8 @@ impl<'t, 'p, 'h, F: Folder> Desk for PagedDesk<'t, 'p, 'h, F> {
     ghost valid = { λ desk. Fits F.tells.folder (present_of desk.pages.pages.now) desk.tree.now.present };
 
     ghost stays = { λ a b. (b.tree.ghost_name ≡ a.tree.ghost_name) × (b.pages.pages.ghost_name ≡ a.pages.pages.ghost_name) × (b.pages.host.ghost_name ≡ a.pages.host.ghost_name)
-        × SamePages F.tells.folder a.pages.pages.now b.pages.pages.now a.tree.now b.tree.now };
+        × SamePages F.tells.folder a.pages.pages.now b.pages.pages.now a.tree.now b.tree.now
+        × (IsTrue F.tells.folder → NoneAbove (F.scene a.pages.host.now) (F.scene b.pages.host.now)) };
 
     ghost tells_one = { λ desk valid told. let r = valid.one told in (r.0, record { told = told; has = r.1 }) };
 
@@ -56,13 +58,14 @@ impl<'t, 'p, 'h, F: Folder> Desk for PagedDesk<'t, 'p, 'h, F> {
 
     ghost few_lines = { λ desk valid. valid.few };
 
-    ghost stays_itself = { λ desk. (refl, refl, refl, same_none F.tells.folder desk.pages.pages.now desk.tree.now) };
+    ghost stays_itself = { λ desk. (refl, refl, refl, same_none F.tells.folder desk.pages.pages.now desk.tree.now, λ told. above_none (F.scene desk.pages.host.now)) };
 
     ghost stays_on = { λ p q r first second. (
       second.0 ∙ first.0,
       second.1 ∙ first.1,
       second.2 ∙ first.2,
       same_then F.tells.folder p.pages.pages.now q.pages.pages.now r.pages.pages.now p.tree.now q.tree.now r.tree.now first.3 second.3,
+      λ told. above_then (F.scene p.pages.host.now) (F.scene q.pages.host.now) (F.scene r.pages.host.now) (first.4 told) (second.4 told),
     ) };
 
     ghost stays_text = { λ p q text stays is. same_text F.tells.folder p.pages.pages.now q.pages.pages.now p.tree.now q.tree.now text stays.3 is };

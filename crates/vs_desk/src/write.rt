@@ -12,6 +12,7 @@ ghost use Rattle.vs_backup.specs.Writing.{IsFailed};
 ghost use Rattle.vs_safety.specs.Texts.{Sync, Text, recoverable};
 ghost use Rattle.vs_paged.specs.Fits.{Fits, names_of};
 ghost use Rattle.vs_paged.specs.Pages.{IsBounded, IsPaged};
+ghost use Rattle.vs_desk.specs.Counts.{NoneAbove};
 ghost use Rattle.vs_desk.specs.Pages.{SamePages};
 ghost use Rattle.vs_desk.specs.Still.{KeepsLeft, SparesStill};
 ghost use Rattle.vs_desk.specs.Writes.{KeepsSwap, WritesFile};
@@ -42,6 +43,7 @@ fn write_in<F: Folder>(
     ensures no_name { IsErrOf result WriteErr.NoBackupName → IsNoName options.now names.now.file F.tells.folder (F.scene host.old).folder }
     ensures others { IsTrue F.tells.folder → SparesOthers (WorksOn options.now names.now.file (F.scene host.old).folder) (F.scene host.old) (F.scene host.new) }
     ensures same { SamePages F.tells.folder pages.old pages.new tree.old tree.new }
+    ensures above { IsTrue F.tells.folder → NoneAbove (F.scene host.old) (F.scene host.new) }
     ensures frame { ChangesFolder (F.scene host.old) (F.scene host.new) }
     ensures cause { HasCause (F.scene host.old).folder_faults (F.scene host.new).folder_faults (IsFailed result) }
 {
@@ -83,8 +85,11 @@ pub fn write_text<F: Folder>(
     ensures names { names_of text.new ≡ names_of text.old }
     ensures generation { text.new.pair.files.generation ≡ text.old.pair.files.generation }
     ensures tree { text.new.tree ≡ text.old.tree }
-    ensures frame { ChangesFolder (F.scene host.old) (F.scene host.new) }
+
+    // The faults of the folder.
+    ensures above { IsTrue F.tells.folder → NoneAbove (F.scene host.old) (F.scene host.new) }
     ensures cause { HasCause (F.scene host.old).folder_faults (F.scene host.new).folder_faults (IsFailed result) }
+    ensures frame { ChangesFolder (F.scene host.old) (F.scene host.new) }
 {
     write_in(
         alloc,

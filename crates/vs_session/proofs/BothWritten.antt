@@ -1,5 +1,5 @@
 -- The answer to `w` with `undofile`: after the write its undo file is stored, which leaves the edited file and its backup.
-use Rattle.std.proofs.Common.{◌≡◌, ◌⊎◌, inl, inr, ℕ, ◌≤◌, Bool, true, false, ◌&&◌, not, length, List, ◌∷◌, Option, Some, None, Result, Ok, Err, refl, sym, ◌∙◌, ap, subst, arith}
+use Rattle.std.proofs.Common.{◌≡◌, ◌⊎◌, inl, inr, ℕ, ◌≤◌, Bool, true, false, ◌&&◌, not, length, List, [], ◌∷◌, Option, Some, None, Result, Ok, Err, refl, sym, ◌∙◌, ap, subst, arith}
 use Rattle.std.specs.Prelude.{IsSomeAnd}
 use Rattle.std.specs.Str.{bytes_eq}
 use Rattle.std.proofs.lemmas.Slice.Eq.{bytes_eq-Decides}
@@ -8,12 +8,13 @@ use Rattle.vs_faults.specs.Faults.{HasCause, HasRisen}
 use Rattle.vs_host.specs.File.{File, IsFileImage}
 use Rattle.vs_host.specs.Disk.{Disk, Name, IsImageOf}
 use Rattle.vs_host.specs.Names.{AreNames}
+use Rattle.vs_host.specs.Trace.{Snapshot, Each, GoesOn}
 use Rattle.vs_host.specs.World.{Scene, ChangesFolder, ReadsFolder}
 use Rattle.vs_host.specs.declared.names.Names.{Names}
 use Rattle.vs_text.specs.Text.{file_of}
 use Rattle.vs_disk.specs.Images.{HoldsBytes, MayLeave}
 use Rattle.vs_disk.specs.Names.{SameAt}
-use Rattle.vs_disk.specs.Runs.{Runs, Looks}
+use Rattle.vs_disk.specs.Runs.{Runs, FailsLast, Looks}
 use Rattle.vs_disk.proofs.Others.{same_none, same_then}
 use Rattle.vs_disk.proofs.Runs.{frames, reads_change, runs_as, runs_then}
 use Rattle.vs_disk.proofs.Steps.{itself}
@@ -32,6 +33,8 @@ use Rattle.vs_machine.specs.Replies.{Answer, says}
 use Rattle.vs_machine.specs.declared.command.Outcome.{Outcome}
 use Rattle.vs_machine.specs.declared.command.Outcome.TheVariants.{Done, NoUndo}
 use Rattle.vs_undo.specs.History.{History, history_marked}
+use Rattle.vs_ubind.specs.Storing.{IsCallOn}
+use Rattle.vs_safety.specs.Causes.{newest_count, folder_count}
 use Rattle.vs_safety.specs.Texts.{Sync, Text, Recovers, recoverable}
 use Rattle.vs_safety.specs.Undo.{HasStored, UndoWrite}
 use Rattle.vs_safety.specs.Writes.{Write, HasWritten, IsWholeIn, backup_for, new_bytes, state_now}
@@ -39,11 +42,13 @@ use Rattle.vs_safety.specs.FileWork.{BothFiles, FileWork}
 use Rattle.vs_safety.specs.Safety.{IsUnderWay, Spares}
 use Rattle.vs_paged.specs.Fits as folder
 use Rattle.vs_paged.proofs.SyncLemmas.{fits_recovers}
+use Rattle.vs_desk.specs.Counts.{NoneAbove}
+use Rattle.vs_desk.specs.PageLaws.{above_none, above_then}
 use Rattle.vs_desk.specs.Still.{KeepsLeft}
 use Rattle.vs_desk.specs.Writes.{KeepsSwap}
 use Rattle.vs_session.specs.declared.session.Session.{Session}
 use Rattle.vs_session.specs.Session.{SessionState, after_sync, is_fault, is_write, line_by, reply_of, state_after, sync_in, undo_after, write_in, write_reply, written_state}
-use Rattle.vs_session.specs.Stores.{HasUndo, StoresUndo}
+use Rattle.vs_session.specs.Stores.{HasFailedStoring, HasUndo, StoresUndo}
 use Rattle.vs_session.specs.Writes.{HasSynced, Wrote}
 use Rattle.vs_session.specs.Fits.{Answers, Fits, names_of}
 use Rattle.vs_session.proofs.Steps.{recovers_synced, risen_since, risen_until, works_runs}
@@ -55,23 +60,23 @@ use Rattle.vs_session.proofs.Written.{Moment, answers_free, are, bytes_left, end
 -- ---- before the write
 
 -- the folder was looked at after the sync
-pub synced_looked : (state : SessionState) (syncs : List Sync) (before between next : Session) (old mid new : Scene) → HasSynced state syncs before between old mid → ReadsFolder mid new → Looks mid new → mid.folder_faults ≤ new.folder_faults
+pub synced_looked : (state : SessionState) (syncs : List Sync) (before between next : Session) (old mid new : Scene) → HasSynced state syncs before between old mid → ReadsFolder mid new → Looks mid new → new ≡ mid
     → names_of next ≡ names_of between → Fits next new.folder (after_sync state true) (sync_in state true ∷ syncs) → HasSynced state syncs before next old new
-synced_looked state syncs before between next old mid new s reads looks later names fits = record {
+synced_looked state syncs before between next old mid new s reads looks still names fits = record {
   fits = s.fits;
   frame = frames old mid new s.frame (reads_change mid new reads);
   runs = runs_then (folder.Syncing before.text) (λ a b. b ≡ a) (folder.Syncing before.text) old mid new (λ d syncing. syncing)
       (λ d is. subst (λ (e : Disk). folder.Syncing before.text old.folder e) (sym is) s.runs.now) s.frame s.runs looks;
-  later = omega (arith, s.later, later);
+  above = subst (λ (scene : Scene). NoneAbove old scene) (sym still) s.above;
   rises = subst (λ (d : Disk). Rises (names_of before) old.folder d) (sym looks.now) s.rises;
   names = names ∙ s.names;
   synced = fits;
 }
 
 -- nothing but that was done: as where a call failed before it was known whether there is a file
-pub wrote_nothing : (state : SessionState) (syncs : List Sync) (before after : Session) (old new : Scene) → Looks old new → Fits before old.folder state syncs → Fits after new.folder state syncs
+pub wrote_nothing : (state : SessionState) (syncs : List Sync) (before after : Session) (old new : Scene) → Looks old new → new ≡ old → Fits before old.folder state syncs → Fits after new.folder state syncs
     → Wrote state syncs before after (Err (error.Failed Nowhere)) old new
-wrote_nothing state syncs before after old new looks fits now =
+wrote_nothing state syncs before after old new looks still fits now =
     let unseen : IsUnseen old new (Err (error.Failed Nowhere)) = record { looks = looks; failed = refl } in
     record {
       file = record { backed = λ was there backup made. inl unseen; all_taken = λ there on none. inl unseen; plain = λ was there off. inl unseen; fresh = λ none. inl unseen };
@@ -82,6 +87,7 @@ wrote_nothing state syncs before after old new looks fits now =
       others = λ inside out still. runs_as (λ a b. b ≡ a) (SameAt inside) old new (λ d is. subst (λ (e : Disk). SameAt inside old.folder e) (sym is) (same_none inside old.folder)) looks;
       left = runs_as (λ a b. b ≡ a) (KeepsLeft (WorksOn state.options.write (names_of before).file old.folder)) old new
           (λ d is. subst (λ (e : Disk). KeepsLeft (WorksOn state.options.write (names_of before).file old.folder) old.folder e) (sym is) (λ name out left may. may)) looks;
+      above = subst (λ (scene : Scene). NoneAbove old scene) (sym still) (above_none old);
       fits = now;
     }
 
@@ -117,6 +123,12 @@ module _ (names : Names) (old new : Disk) (spares : SparesNames (two_names names
         leaves = λ c image. here.leaves c (subst (λ (f : File). IsFileImage f c) (same.files lost name here.number (itself name) leads) image);
       }
 
+-- ---- the count of faults as the storing begins
+
+newest_within : (start : Scene) (n : ℕ) (moments : List Snapshot) → start.folder_faults ≤ n → Each (λ m. m.folder_faults ≤ n) moments → newest_count folder_count start moments ≤ n
+newest_within start n [] later each = later
+newest_within start n (m ∷ moments) later each = each.0
+
 -- ---- the step
 
 module _ (state : SessionState) (syncs : List Sync) (instruction : Instruction) (is : is_write instruction.parsed ≡ true) (before between : Session) (old mid : Scene) (s : HasSynced state syncs before between old mid)
@@ -146,6 +158,9 @@ module _ (state : SessionState) (syncs : List Sync) (instruction : Instruction) 
 
   named : AreNames names
   named = are state syncs instruction is before between old mid s
+
+  above : NoneAbove old made
+  above = above_then old mid made s.above wrote.above
 
   free : lacks state syncs instruction is before between old mid s ≡ false
   free = not_lacks state syncs instruction is before between old mid s after (Ok size) made second wrote size refl
@@ -214,9 +229,9 @@ module _ (state : SessionState) (syncs : List Sync) (instruction : Instruction) 
   -- however the storing ended
   answers_by : (outcome : Outcome) (reply : Answer) → took_effect outcome ≡ true → reply ≡ reply_of state instruction (ended state syncs instruction is before between old mid s outcome at)
       → ((true && not (is_fault outcome)) ≡ true → HasUndo names text (history_marked state.machine.history) new.folder) → (is_fault outcome ≡ true → HasRisen old.folder_faults new.folder_faults)
-      → Answers state syncs instruction before after (mark state syncs instruction is before between old mid s outcome at) reply old new
-  answers_by outcome reply took replied stored cause =
-      answers_free state syncs instruction is before between old mid s free true on after outcome at reply new names_after (λ none. refl) replied
+      → (outcome ≡ NoUndo → HasFailedStoring names old new) → Answers state syncs instruction before after (mark state syncs instruction is before between old mid s outcome at) reply old new
+  answers_by outcome reply took replied stored cause unstored =
+      answers_free state syncs instruction is before between old mid s free true on after outcome at reply new names_after (λ none. refl) unstored replied
       (fits_by state syncs instruction is before between old mid s after new.folder outcome at true (λ i. ((is i && true) && not (free i)) && took i) (fits_on new.folder stores.now.spares))
       (works_runs names (Some work) (IsUnderWay names during (Some work)) Both old new (frames old made new frame third) (λ d both. both) both_runs)
       (subst (λ (done : Bool). HasWritten names write done (state_now old) (state_now new) × HasStored names undo (done && not (is_fault outcome)) (state_now old) (state_now new)) (sym took)
@@ -240,9 +255,18 @@ module _ (state : SessionState) (syncs : List Sync) (instruction : Instruction) 
   done_as outcome (inr none) calm = absurd (true≢false (sym calm ∙ ap (λ (o : Outcome). true && not (is_fault o)) none))
 
   pub answers_both : (outcome : Outcome) (reply : Answer) → (outcome ≡ Done) ⊎ (outcome ≡ NoUndo) → reply ≡ says (line_by outcome state.name (length text) size)
-      → (outcome ≡ Done → HasUndo names text (history_marked state.machine.history) new.folder) → HasCause made.folder_faults new.folder_faults (is_fault outcome ≡ true) → mid.folder_faults ≤ made.folder_faults
-      → Answers state syncs instruction before after (mark state syncs instruction is before between old mid s outcome at) reply old new
-  answers_both outcome reply ended_as replied stored cause since =
+      → (outcome ≡ Done → HasUndo names text (history_marked state.machine.history) new.folder) → HasCause made.folder_faults new.folder_faults (is_fault outcome ≡ true)
+      → GoesOn (IsCallOn (two_names names.undo_new names.undo)) made.trace new.trace → FailsLast made new → Answers state syncs instruction before after (mark state syncs instruction is before between old mid s outcome at) reply old new
+  answers_both outcome reply ended_as replied stored cause calls last =
       answers_by outcome reply (took_as outcome ended_as) (replied ∙ line_is state syncs instruction is before between old mid s free outcome size bytes.0 ∙ replied_as outcome ended_as)
       (λ calm. stored (done_as outcome ended_as calm))
-      (λ failed. risen_since old.folder_faults made.folder_faults new.folder_faults (omega (arith, s.later, since)) (cause.risen failed))
+      (λ failed. risen_since old.folder_faults made.folder_faults new.folder_faults above.later (cause.risen failed))
+      (λ none. record {
+        began = made;
+        before = above.moments.added;
+        since = above.moments.is;
+        counted = newest_within old made.folder_faults above.moments.added above.later above.moments.each;
+        calls = calls;
+        last = last;
+        failed = cause.risen (ap is_fault none);
+      })

@@ -15,6 +15,7 @@ use Rattle.vs_backup.specs.Writing.{IsFailed}
 use Rattle.vs_machine.specs.Replies.{Answer, says}
 use Rattle.vs_machine.specs.declared.command.Outcome.{Outcome}
 use Rattle.vs_safety.specs.Texts.{Sync, recoverable}
+use Rattle.vs_desk.specs.Counts.{NoneAbove}
 use Rattle.vs_desk.specs.Still.{KeepsLeft, SparesStill}
 use Rattle.vs_desk.specs.Writes.{KeepsSwap, WritesFile}
 use Rattle.vs_session.specs.declared.session.Session.{Session}
@@ -27,13 +28,14 @@ use Rattle.vs_session.proofs.Written.{Refuses, err_of}
 pub wrote : (state : SessionState) (syncs : List Sync) (before after : Session) (old new : Scene) (result : Result ℕ WriteErr) → Fits before old.folder state syncs
     → WritesFile before.options.write (names_of before) (file_of state.machine.text) old new result → (result ≡ Err error.NoBackupName → IsNoName before.options.write (names_of before).file true old.folder)
     → Runs (KeepsSwap (names_of before) (recoverable syncs)) old new → SparesStill (WorksOn before.options.write (names_of before).file old.folder) old new
-    → Runs (KeepsLeft (WorksOn before.options.write (names_of before).file old.folder)) old new → Fits after new.folder (state_to state result) syncs → Wrote state syncs before after result old new
-wrote state syncs before after old new result fits file no_name swap others left now = record {
+    → Runs (KeepsLeft (WorksOn before.options.write (names_of before).file old.folder)) old new → NoneAbove old new → Fits after new.folder (state_to state result) syncs → Wrote state syncs before after result old new
+wrote state syncs before after old new result fits file no_name swap others left above now = record {
   file = subst (λ (o : Options). WritesFile o.write (names_of before) (file_of state.machine.text) old new result) fits.options file;
   no_name = λ is. subst (λ (o : Options). IsNoName o.write (names_of before).file true old.folder) fits.options (no_name is);
   swap = swap;
   others = subst (λ (o : Options). SparesStill (WorksOn o.write (names_of before).file old.folder) old new) fits.options others;
   left = subst (λ (o : Options). Runs (KeepsLeft (WorksOn o.write (names_of before).file old.folder)) old new) fits.options left;
+  above = above;
   fits = now;
 }
 

@@ -204,7 +204,7 @@ module _ (state : SessionState) (syncs : List Sync) (instruction : Instruction) 
 
   pub answers_read : Answers state syncs instruction before after mark reply old new
   answers_read =
-      assemble_read state syncs instruction before old (never_quits instruction.parsed _ is) fits after mark false read reply new None None found (ap (λ (c : Bool). cond c (Some (sync_in state false)) None) none_begun) work replied_as now
+      assemble_read state syncs instruction before old (never_quits instruction.parsed _ is) fits after mark false read reply new None None found (λ unstored. absurd (never_unstored read (sym outcome_is ∙ unstored))) (ap (λ (c : Bool). cond c (Some (sync_in state false)) None) none_begun) work replied_as now
       (record {
         works = works_looks names (IsUnderWay names syncs None) old new frame (no_write names syncs old.folder (recovers_synced names before old.folder state syncs refl fits)) looks;
         found = refl;

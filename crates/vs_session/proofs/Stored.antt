@@ -284,7 +284,7 @@ module _ (state : SessionState) (syncs : List Sync) (instruction : Instruction) 
 
   pub answers_stored : Answers state syncs instruction before after mark reply old new
   answers_stored =
-      assemble state syncs instruction before old goes_on fits after mark false reply new None (Some (UndoFile undo)) (no_read instruction.parsed is) (λ unstored. absurd (never unstored)) (ap (λ (c : Bool). cond c (Some (sync_in state false)) None) none_begun) work replied_as now
+      assemble state syncs instruction before old goes_on fits after mark false reply new None (Some (UndoFile undo)) (no_read instruction.parsed is) (λ unstored. absurd (never unstored)) (λ unstored. absurd (never unstored)) (ap (λ (c : Bool). cond c (Some (sync_in state false)) None) none_begun) work replied_as now
       (record {
         found = refl;
         works = works;

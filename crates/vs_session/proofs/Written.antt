@@ -40,6 +40,7 @@ use Rattle.vs_session.specs.declared.session.Session.{Session}
 use Rattle.vs_session.specs.Session.{SessionState, Ended, accepts_quit, after_sync, answered, begins_sync, carried, is_fault, is_write, lacks_name, line_by, reply_of, state_after, stores_both, sync_in, undo_after, undo_work, with_history, write_in, write_reply, write_work, written_state}
 use Rattle.vs_session.specs.Writes.{HasSynced, Wrote, state_to}
 use Rattle.vs_session.specs.Fits.{Answers, Fits, names_of}
+use Rattle.vs_session.specs.Stores.{HasFailedStoring}
 use Rattle.vs_session.proofs.Steps.{assemble, between_synced, flag_true, looked_synced, no_history, risen_since, unread, works_runs}
 use Rattle.vs_session.proofs.FileWrites.{undo_same}
 use Rattle.vs_session.proofs.UndoNames.{undo_unworked}
@@ -219,20 +220,20 @@ module _ (state : SessionState) (syncs : List Sync) (instruction : Instruction) 
     written_rises = rises_kept names mid.folder new.folder did.swap.now.same old.folder s.rises
 
     pub has_left : HasWritten names write (is_ok result) (state_now old) (state_now new)
-    has_left = has_written names are options text old.folder mid new same result did.file old.folder_faults s.later
+    has_left = has_written names are options text old.folder mid new same result did.file old.folder_faults s.above.later
 
     pub bytes_left : IfOk result (λ size. (size ≡ length (file_of text)) × HoldsBytes names.file (file_of text) new.folder)
-    bytes_left = (facts names are options text old.folder mid new same result did.file old.folder_faults s.later).written
+    bytes_left = (facts names are options text old.folder mid new same result did.file old.folder_faults s.above.later).written
 
     -- where no backup name is free, nothing is done
     looked : lacks ≡ true → Looks mid new × ((size : ℕ) → result ≡ Ok size → ⊥)
-    looked taken = lacks_looks names are options text old.folder mid new same result did.file old.folder_faults s.later (lacks_here ∙ taken)
+    looked taken = lacks_looks names are options text old.folder mid new same result did.file old.folder_faults s.above.later (lacks_here ∙ taken)
 
     pub not_lacks : (size : ℕ) → result ≡ Ok size → lacks ≡ false
     not_lacks size ok = elim (cases_Bool lacks) [ inl taken ↦ absurd ((looked taken).1 size ok) | inr free ↦ free ]
 
     never : lacks ≡ false → result ≡ Err error.NoBackupName → ⊥
-    never free none = true≢false (sym (named_lacks names are options text old.folder mid new same result did.file old.folder_faults s.later (did.no_name none)) ∙ lacks_here ∙ free)
+    never free none = true≢false (sym (named_lacks names are options text old.folder mid new same result did.file old.folder_faults s.above.later (did.no_name none)) ∙ lacks_here ∙ free)
 
   -- ---- what it is to the run
 
@@ -257,13 +258,13 @@ module _ (state : SessionState) (syncs : List Sync) (instruction : Instruction) 
 
   -- where the file may be written
   module _ (free : lacks ≡ false) (b : Bool) (flag : state.options.undofile ≡ b) where
-    pub answers_free : (after : Session) (outcome : Outcome) (at : ℕ) (reply : Answer) (new : Scene) → names_of after ≡ names → (outcome ≡ NoUndo → b ≡ true) → reply ≡ reply_of state instruction (ended outcome at)
+    pub answers_free : (after : Session) (outcome : Outcome) (at : ℕ) (reply : Answer) (new : Scene) → names_of after ≡ names → (outcome ≡ NoUndo → b ≡ true) → (outcome ≡ NoUndo → HasFailedStoring names old new) → reply ≡ reply_of state instruction (ended outcome at)
         → Fits after new.folder (state_after state instruction (ended outcome at)) all → Works names (Some (work_by b)) (IsUnderWay names under (Some (work_by b))) old new
         → HasLeft names (work_by b) (took_effect outcome) (is_fault outcome) (state_now old) (state_now new) → IsWholeAt names (work_by b) new.folder → Rises names old.folder new.folder
         → (is_fault outcome ≡ true → HasRisen old.folder_faults new.folder_faults) → Answers state syncs instruction before after (mark outcome at) reply old new
-    answers_free after outcome at reply new names_after unstored replied now works wrote whole rises cause =
+    answers_free after outcome at reply new names_after both unstored replied now works wrote whole rises cause =
         assemble state syncs instruction before old goes_on s.fits after (mark outcome at) true reply new (Some (sync_in state true)) (Some (work_by b)) (no_read instruction.parsed is)
-        (λ none. (λ i. ((is i && true) && not (free i)) && (flag ∙ unstored none) i)) sync_is
+        (λ none. (λ i. ((is i && true) && not (free i)) && (flag ∙ both none) i)) unstored sync_is
         ((λ i. cond ((is i && true) && not (free i)) (Some (write_work state old.folder)) (undo_work state old.folder instruction.parsed)) ∙ (λ i. Some (work_by (flag i)))) replied now
         (record {
           found = refl;
@@ -287,7 +288,7 @@ module _ (state : SessionState) (syncs : List Sync) (instruction : Instruction) 
     refused_taken taken outcome reply stored replied cause =
         let looks = (looked after (Err why) new second wrote taken).0 in
         let now : Fits after new.folder (state_after state instruction (ended outcome at)) all = stays after new.folder outcome at (λ i. ((is i && true) && not (taken i)) && took_effect outcome) wrote.fits in
-        assemble state syncs instruction before old goes_on s.fits after (mark outcome at) true reply new (Some (sync_in state true)) None (no_read instruction.parsed is) (λ none. absurd (stored none)) sync_is
+        assemble state syncs instruction before old goes_on s.fits after (mark outcome at) true reply new (Some (sync_in state true)) None (no_read instruction.parsed is) (λ none. absurd (stored none)) (λ none. absurd (stored none)) sync_is
         ((λ i. cond ((is i && true) && not (taken i)) (Some (write_work state old.folder)) (undo_work state old.folder instruction.parsed)) ∙ no_undo state old.folder instruction.parsed is) replied now
         (looked_synced before after state syncs (state_after state instruction (ended outcome at)) (took_effect outcome) (is_fault outcome) (reply_of state instruction (ended outcome at)).bytes old mid new s.fits between s.names names_after
         s.frame s.runs s.rises s.synced looks.now second looks cause now)
@@ -297,7 +298,7 @@ module _ (state : SessionState) (syncs : List Sync) (instruction : Instruction) 
     refused_free free outcome reply stored none replied cause =
         let b : Bool = state.options.undofile in
         let runs = written_runs after (Err why) new second wrote in
-        answers_free free b refl after outcome at reply new names_after (λ unstored. absurd (stored unstored)) replied
+        answers_free free b refl after outcome at reply new names_after (λ unstored. absurd (stored unstored)) (λ unstored. absurd (stored unstored)) replied
         (stays after new.folder outcome at (λ i. ((is i && true) && not (free i)) && none i) wrote.fits)
         (works_runs names (Some (work_by b)) (IsUnderWay names under (Some (work_by b))) AtMoment old new (written_frame after (Err why) new second wrote) (lead b) runs)
         (left_by b (took_effect outcome) (is_fault outcome) new
@@ -316,7 +317,7 @@ module _ (state : SessionState) (syncs : List Sync) (instruction : Instruction) 
     as_answer o outcome r reply o_is r_is answer = subst (λ (p : Outcome). IsAnswer p reply) (sym o_is) (subst (λ (a : Answer). IsAnswer o a) (sym r_is) answer)
 
     refused_fault : HasRisen mid.folder_faults new.folder_faults → IsAnswer Fault (refuses device_fault)
-    refused_fault risen = refused_by Fault (refuses device_fault) (λ e. absurd (cc)) refl refl (λ _. risen_since old.folder_faults mid.folder_faults new.folder_faults s.later risen)
+    refused_fault risen = refused_by Fault (refuses device_fault) (λ e. absurd (cc)) refl refl (λ _. risen_since old.folder_faults mid.folder_faults new.folder_faults s.above.later risen)
 
     refused_memory : IsAnswer NoMemory (refuses out_of_memory)
     refused_memory = refused_by NoMemory (refuses out_of_memory) (λ e. absurd (cc)) refl refl (λ e. absurd (true≢false (sym e)))
@@ -355,7 +356,7 @@ module _ (state : SessionState) (syncs : List Sync) (instruction : Instruction) 
     answers_alone =
         let free : lacks ≡ false = not_lacks after (Ok size) new second wrote size refl in
         let runs = written_runs after (Ok size) new second wrote in
-        answers_free free false off after Done at reply new names_after (λ e. absurd (cc))
+        answers_free free false off after Done at reply new names_after (λ e. absurd (cc)) (λ e. absurd (cc))
         (reply_to ∙ line_is free Done size (bytes_left after (Ok size) new second wrote).0 ∙ replied_done at)
         (fits_by after new.folder Done at true (λ i. ((is i && true) && not (free i)) && true) wrote.fits)
         (works_runs names (Some (EditedFile write)) (IsUnderWay names under (Some (EditedFile write))) AtMoment old new (written_frame after (Ok size) new second wrote) (lead false) runs)

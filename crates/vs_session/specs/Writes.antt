@@ -1,5 +1,5 @@
 -- The write of a session's file, after the sync that its command begins.
-use Rattle.std.specs.Prelude.{◌≡◌, ◌≤◌, ◌∷◌, ℕ, true, List, Result, Ok, Err}
+use Rattle.std.specs.Prelude.{◌≡◌, ◌∷◌, ℕ, true, List, Result, Ok, Err}
 use Rattle.vs_host.specs.World.{Scene, ChangesFolder}
 use Rattle.vs_text.specs.Text.{file_of}
 use Rattle.vs_disk.specs.Runs.{Runs}
@@ -12,6 +12,7 @@ use Rattle.vs_machine.specs.declared.command.Outcome.TheVariants.{Done, NoMemory
 use Rattle.vs_machine.specs.Replies.{Answer, refuses, device_fault, no_backup_name, out_of_memory}
 use Rattle.vs_safety.specs.Texts.{Sync, recoverable}
 use Rattle.vs_paged.specs.Fits.{Syncing}
+use Rattle.vs_desk.specs.Counts.{NoneAbove}
 use Rattle.vs_desk.specs.Still.{KeepsLeft, SparesStill}
 use Rattle.vs_desk.specs.Writes.{KeepsSwap, WritesFile}
 use Rattle.vs_session.specs.declared.session.Session.{Session}
@@ -41,6 +42,7 @@ pub record Wrote (state : SessionState) (syncs : List Sync) (before after : Sess
   pub swap : Runs (KeepsSwap (names_of before) (recoverable syncs)) old new
   pub others : SparesStill (WorksOn state.options.write (names_of before).file old.folder) old new
   pub left : Runs (KeepsLeft (WorksOn state.options.write (names_of before).file old.folder)) old new
+  pub above : NoneAbove old new
   pub fits : Fits after new.folder (state_to state result) syncs
 
 -- From a state with these syncs the text was synced, and that is acknowledged. After that the folder was at most looked at.
@@ -48,7 +50,7 @@ pub record HasSynced (state : SessionState) (syncs : List Sync) (before after : 
   pub fits : Fits before old.folder state syncs
   pub frame : ChangesFolder old new
   pub runs : Runs (Syncing before.text) old new
-  pub later : old.folder_faults ≤ new.folder_faults
+  pub above : NoneAbove old new
   pub rises : Rises (names_of before) old.folder new.folder
   pub names : names_of after ≡ names_of before
   pub synced : Fits after new.folder (after_sync state true) (sync_in state true ∷ syncs)

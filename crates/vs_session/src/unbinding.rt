@@ -101,6 +101,7 @@ impl Session {
         ensures fits { IsTrue F.tells.folder → (state : SessionState) (syncs : List Sync) → Fits self.old (F.scene host.old).folder state syncs
             → Fits self.new (F.scene host.new).folder state syncs }
         ensures looks { IsTrue F.tells.folder → Looks (F.scene host.old) (F.scene host.new) }
+        ensures still { IsTrue F.tells.folder → F.scene host.new ≡ F.scene host.old }
         ensures frame { ReadsFolder (F.scene host.old) (F.scene host.new) }
         ensures file { SameFile self.old self.new }
         ensures generation { generation_of self.new ≡ generation_of self.old }

@@ -1,5 +1,6 @@
 pub mod Fed
 pub mod Calls
+pub mod Told
 pub mod Used
 pub mod Flags
 pub mod Marked

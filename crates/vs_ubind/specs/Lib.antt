@@ -5,3 +5,4 @@ pub mod Meaning
 pub mod Bound
 pub mod Taken
 pub mod Binding
+pub mod Storing

@@ -10,12 +10,14 @@ ghost use Rattle.vs_disk.specs.Images.{HoldsBytes, IsSynced, Takes};
 ghost use Rattle.vs_disk.specs.Runs.{Runs};
 ghost use Rattle.vs_pair.specs.Acts.{Acts, NoneFails};
 ghost use Rattle.vs_backup.specs.Works.{IsAlone, Spares, one_name, two_names};
+ghost use Rattle.vs_ubind.specs.Storing.{CallsOn};
 
 use vs_host::{Failed, Folder, Names};
 
 // Removes a file that is there from an earlier run.
 fn clear<F: Folder>(host: &mut F, name: &str) -> Result<(), Failed>
     ensures acts { Acts F.tells (Spares (one_name name.now)) (F.scene host.old) (F.scene host.new) }
+    ensures calls { CallsOn F.tells (one_name name.now) (F.scene host.old) (F.scene host.new) }
     ensures free { OnOk result (IsTrue F.tells.folder → content_of (F.scene host.new) name.now ≡ None) }
     ensures none { OnOk result (NoneFails F.tells (F.scene host.old) (F.scene host.new)) }
     ensures cause { HasCause (F.scene host.old).folder_faults (F.scene host.new).folder_faults (IsErr result) }
@@ -29,6 +31,7 @@ fn clear<F: Folder>(host: &mut F, name: &str) -> Result<(), Failed>
 // Makes an empty file under the name, which its owner alone may read, in place of one that may stand there.
 fn make_anew<F: Folder>(host: &mut F, name: &str) -> Result<(), Failed>
     ensures acts { Acts F.tells (Spares (one_name name.now)) (F.scene host.old) (F.scene host.new) }
+    ensures calls { CallsOn F.tells (one_name name.now) (F.scene host.old) (F.scene host.new) }
     ensures empty { OnOk result (IsTrue F.tells.folder → content_of (F.scene host.new) name.now ≡ Some []) }
     ensures alone { OnOk result (IsTrue F.tells.folder → IsAlone name.now (F.scene host.new).folder) }
     ensures none { OnOk result (NoneFails F.tells (F.scene host.old) (F.scene host.new)) }
@@ -57,6 +60,7 @@ fn fill<F: Folder>(host: &mut F, name: &str, model: &str, bytes: &[u8]) -> Resul
     requires empty { IsTrue F.tells.folder → content_of (F.scene host.old) name.now ≡ Some [] }
     requires alone { IsTrue F.tells.folder → IsAlone name.now (F.scene host.old).folder }
     ensures acts { Acts F.tells (Spares (one_name name.now)) (F.scene host.old) (F.scene host.new) }
+    ensures calls { CallsOn F.tells (one_name name.now) (F.scene host.old) (F.scene host.new) }
     ensures synced { OnOk result (IsTrue F.tells.folder → IsSynced name.now bytes.now (F.scene host.new).folder) }
     ensures none { OnOk result (NoneFails F.tells (F.scene host.old) (F.scene host.new)) }
     ensures cause { HasCause (F.scene host.old).folder_faults (F.scene host.new).folder_faults (IsErr result) }
@@ -70,6 +74,7 @@ fn take_name<F: Folder>(host: &mut F, from: &str, to: &str) -> Result<(), Failed
     requires differ { from.now ≢ to.now }
     requires there { IsTrue F.tells.folder → IsSome (content_of (F.scene host.old) from.now) }
     ensures acts { Acts F.tells (Spares (two_names from.now to.now)) (F.scene host.old) (F.scene host.new) }
+    ensures calls { CallsOn F.tells (two_names from.now to.now) (F.scene host.old) (F.scene host.new) }
     ensures takes { IsTrue F.tells.folder → (bytes : List ℕ) → IsSynced from.now bytes (F.scene host.old).folder
         → Runs (Takes to.now bytes) (F.scene host.old) (F.scene host.new) }
     ensures holds { OnOk result (IsTrue F.tells.folder → (bytes : List ℕ) → IsSynced from.now bytes (F.scene host.old).folder
@@ -91,6 +96,7 @@ fn store_as<F: Folder>(
 ) -> Result<(), Failed>
     requires { name.now ≢ temporary.now }
     ensures acts { Acts F.tells (Spares (two_names temporary.now name.now)) (F.scene host.old) (F.scene host.new) }
+    ensures calls { CallsOn F.tells (two_names temporary.now name.now) (F.scene host.old) (F.scene host.new) }
     ensures takes { IsTrue F.tells.folder → Runs (Takes name.now bytes.now) (F.scene host.old) (F.scene host.new) }
     ensures holds { OnOk result (IsTrue F.tells.folder → HoldsBytes name.now bytes.now (F.scene host.new).folder) }
     ensures none { OnOk result (NoneFails F.tells (F.scene host.old) (F.scene host.new)) }
@@ -107,10 +113,12 @@ fn store_as<F: Folder>(
 /// read it.
 ///
 /// At each moment a stop leaves under the name of the undo file these bytes, or what it left before; after an error as well.
-/// All names but that and its temporary name are left alone, and no call but the last one has failed.
+/// All names but that and its temporary name are left alone. No call is made but on these two and the sync of the names, and none
+/// but the last one has failed.
 pub fn store<F: Folder>(host: &mut F, names: &Names, bytes: &[u8]) -> Result<(), Failed>
     requires { AreNames names.now }
     ensures acts { Acts F.tells (Spares (two_names names.now.undo_new names.now.undo)) (F.scene host.old) (F.scene host.new) }
+    ensures calls { CallsOn F.tells (two_names names.now.undo_new names.now.undo) (F.scene host.old) (F.scene host.new) }
     ensures takes { IsTrue F.tells.folder → Runs (Takes names.now.undo bytes.now) (F.scene host.old) (F.scene host.new) }
     ensures holds { OnOk result (IsTrue F.tells.folder → HoldsBytes names.now.undo bytes.now (F.scene host.new).folder) }
     ensures none { OnOk result (NoneFails F.tells (F.scene host.old) (F.scene host.new)) }

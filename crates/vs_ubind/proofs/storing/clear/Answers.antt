@@ -1,4 +1,4 @@
-use Rattle.std.proofs.Common.{◌∙◌, [], ◌∷◌, sym}
+use Rattle.std.proofs.Common.{◌∙◌, [], ◌∷◌, refl, sym}
 use Rattle.std.specs.Prelude.{IsSome}
 use Rattle.std.proofs.lemmas.Result.{on_ok_weaker}
 use Rattle.vs_host.specs.Disk.{ChangesNames, Removes, content_in}
@@ -9,6 +9,7 @@ use Rattle.vs_pair.proofs.Calls.{look_acts, look_none, look_same}
 use Rattle.vs_backup.specs.Works.{Spares, one_name}
 use Rattle.vs_backup.proofs.Frames.{spares_none, spares_removed}
 use Rattle.vs_ubind.proofs.Calls.{spares_acts, spares_call}
+use Rattle.vs_ubind.proofs.Told.{calls_one, calls_then}
 use Rattle.vs_ubind.proofs.storing.clear.Goals as goal
 
 pub returns-in_err-has-clause-acts : goal.returns-in_err-has-clause-acts
@@ -53,3 +54,20 @@ returns-clause-acts g c =
 pub returns-clause-none : goal.returns-clause-none
 returns-clause-none g c =
     look_none g.F.World.tells Looked (c.args.name.now ∷ []) c.has.result (g.F.World.scene c.args.host.now) (g.F.World.scene c.has.new.self) c.has.ensures.frame c.has.ensures.told c.in_ok-has.ensures.quiet
+
+pub returns-in_err-has-clause-calls : goal.returns-in_err-has-clause-calls
+returns-in_err-has-clause-calls g c =
+    calls_one g.F.World.tells (one_name c.args.name.now) Looked (c.args.name.now ∷ []) (refl, tt) (λ none. absurd (cc)) c.has.result (g.F.World.scene c.args.host.now) (g.F.World.scene c.has.new.self) c.has.ensures.told
+
+pub returns-then-branch-clause-calls : goal.returns-then-branch-clause-calls
+returns-then-branch-clause-calls g c =
+    let on = one_name c.args.name.now in
+    let s0 : Scene = g.F.World.scene c.args.host.now in
+    let s1 : Scene = g.F.World.scene c.has.new.self in
+    let s2 : Scene = g.F.World.scene c.remove.new.self in
+    calls_then g.F.World.tells on s0 s1 s2 (calls_one g.F.World.tells on Looked (c.args.name.now ∷ []) (refl, tt) (λ none. absurd (cc)) c.has.result s0 s1 c.has.ensures.told)
+    (calls_one g.F.World.tells on Removed (c.args.name.now ∷ []) (refl, tt) (λ none. absurd (cc)) c.remove.result s1 s2 c.remove.ensures.told)
+
+pub returns-clause-calls : goal.returns-clause-calls
+returns-clause-calls g c =
+    calls_one g.F.World.tells (one_name c.args.name.now) Looked (c.args.name.now ∷ []) (refl, tt) (λ none. absurd (cc)) c.has.result (g.F.World.scene c.args.host.now) (g.F.World.scene c.has.new.self) c.has.ensures.told

@@ -12,6 +12,7 @@ use Rattle.vs_backup.specs.Works.{one_name}
 use Rattle.vs_backup.proofs.Frames.{alone_file}
 use Rattle.vs_backup.proofs.Filling.{written_end}
 use Rattle.vs_ubind.proofs.Calls.{spares_acts, spares_one}
+use Rattle.vs_ubind.proofs.Told.{calls_one, calls_then}
 use Rattle.vs_ubind.proofs.storing.fill.Goals as goal
 
 pub write_at-requires : goal.write_at-requires
@@ -62,3 +63,16 @@ returns-clause-none g c =
     (none_call g.F.World.tells Wrote (c.args.name.now ∷ []) c.write_at.result s0 s1 c.write_at.ensures.frame c.write_at.ensures.told c.in_ok-write_at.ensures.quiet)
     (none_call g.F.World.tells Synced (c.args.name.now ∷ []) c.sync_like.result s1 s2 c.sync_like.ensures.frame c.sync_like.ensures.told quiet))
     c.sync_like.ensures.quiet
+
+pub returns-in_err-write_at-clause-calls : goal.returns-in_err-write_at-clause-calls
+returns-in_err-write_at-clause-calls g c =
+    calls_one g.F.World.tells (one_name c.args.name.now) Wrote (c.args.name.now ∷ []) (refl, tt) (λ none. absurd (cc)) c.write_at.result (g.F.World.scene c.args.host.now) (g.F.World.scene c.write_at.new.self) c.write_at.ensures.told
+
+pub returns-clause-calls : goal.returns-clause-calls
+returns-clause-calls g c =
+    let on = one_name c.args.name.now in
+    let s0 : Scene = g.F.World.scene c.args.host.now in
+    let s1 : Scene = g.F.World.scene c.write_at.new.self in
+    let s2 : Scene = g.F.World.scene c.sync_like.new.host in
+    calls_then g.F.World.tells on s0 s1 s2 (calls_one g.F.World.tells on Wrote (c.args.name.now ∷ []) (refl, tt) (λ none. absurd (cc)) c.write_at.result s0 s1 c.write_at.ensures.told)
+    (calls_one g.F.World.tells on Synced (c.args.name.now ∷ []) (refl, tt) (λ none. absurd (cc)) c.sync_like.result s1 s2 c.sync_like.ensures.told)

@@ -1,4 +1,4 @@
-use Rattle.std.proofs.Common.{[], ◌∷◌}
+use Rattle.std.proofs.Common.{[], ◌∷◌, refl}
 use Rattle.std.proofs.lemmas.Result.{on_ok_weaker}
 use Rattle.vs_host.specs.Disk.{CreatesFile}
 use Rattle.vs_host.specs.Trace.{Created}
@@ -7,6 +7,7 @@ use Rattle.vs_pair.proofs.Acts.{none_call, none_then}
 use Rattle.vs_backup.specs.Works.{one_name}
 use Rattle.vs_backup.proofs.Frames.{spares_created, alone_created}
 use Rattle.vs_ubind.proofs.Calls.{spares_acts, spares_call}
+use Rattle.vs_ubind.proofs.Told.{calls_one, calls_then}
 use Rattle.vs_ubind.proofs.storing.make_anew.Goals as goal
 
 pub returns-clause-acts : goal.returns-clause-acts
@@ -33,3 +34,12 @@ returns-clause-none g c =
     (λ quiet. none_then g.F.World.tells s0 s1 s2 c.in_ok-clear.ensures.none
     (none_call g.F.World.tells Created (c.args.name.now ∷ []) c.create_private.result s1 s2 c.create_private.ensures.frame c.create_private.ensures.told quiet))
     c.create_private.ensures.quiet
+
+pub returns-clause-calls : goal.returns-clause-calls
+returns-clause-calls g c =
+    let on = one_name c.args.name.now in
+    let s0 : Scene = g.F.World.scene c.args.host.now in
+    let s1 : Scene = g.F.World.scene c.clear.new.host in
+    let s2 : Scene = g.F.World.scene c.create_private.new.self in
+    calls_then g.F.World.tells on s0 s1 s2 c.clear.ensures.calls
+    (calls_one g.F.World.tells on Created (c.args.name.now ∷ []) (refl, tt) (λ none. absurd (cc)) c.create_private.result s1 s2 c.create_private.ensures.told)

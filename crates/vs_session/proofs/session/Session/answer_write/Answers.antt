@@ -1,6 +1,6 @@
 use Rattle.std.proofs.Common.{◌∷◌, true, false, refl, ◌∙◌}
 use Rattle.vs_session.specs.Session.{after_sync, sync_in}
-use Rattle.vs_session.proofs.Steps.{answers_failed}
+use Rattle.vs_session.proofs.Steps.{above_quiet, answers_failed}
 use Rattle.vs_session.proofs.WriteCommand.{begins_is, never_quits}
 use Rattle.vs_session.proofs.session.Session.answer_write.Goals as goal
 
@@ -17,7 +17,7 @@ returns-in-Ok-clause-step g c told state syncs instruction fits is =
       fits = fits;
       frame = c.in-Ok.ensures.acts.frame;
       runs = c.in-Ok.ensures.acts.runs told;
-      later = c.in-Ok.ensures.acts.later;
+      above = above_quiet old (g.F.World.scene c.sync.new.host) (c.in-Ok.ensures.none.quiet told);
       rises = c.in-Ok.ensures.rises told;
       names = c.in-Ok.ensures.file.names;
       synced = c.in-Ok.ensures.ok told state syncs fits;

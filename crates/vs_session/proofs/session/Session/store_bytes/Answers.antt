@@ -11,5 +11,8 @@ pub returns-clause-fits : goal.returns-clause-fits
 returns-clause-fits g c told state syncs fits =
     fits_stored c.args.self.now _ _ state syncs c.args.self.now.text.pair.files.named (c.store.ensures.acts.runs told).now fits
 
+pub returns-clause-last : goal.returns-clause-last
+returns-clause-last g c told = c.store.ensures.acts.last told
+
 pub returns-clause-stored : goal.returns-clause-stored
 returns-clause-stored g c = on_ok_as c.store.result _ _ (λ holds told text history is. (c.args.bytes.now, is, holds told)) c.store.ensures.holds

@@ -20,7 +20,7 @@ returns-in-Ok-clause-step g c told state syncs instruction before start at is on
     let mid = g.F.World.scene c.args.host.now in
     let seen = g.F.World.scene c.undo_bytes.new.host in
     c.write_and_store.ensures.step told state syncs instruction before start at is on
-    (synced_looked state syncs before c.args.self.now c.undo_bytes.new.self start mid seen s c.in-Ok.ensures.frame (c.in-Ok.ensures.looks told) c.in-Ok.ensures.cause.later c.in-Ok.ensures.file.names
+    (synced_looked state syncs before c.args.self.now c.undo_bytes.new.self start mid seen s c.in-Ok.ensures.frame (c.in-Ok.ensures.looks told) (c.in-Ok.ensures.still told) c.in-Ok.ensures.file.names
     (c.in-Ok.ensures.fits told (after_sync state true) (sync_in state true ∷ syncs) s.synced))
     (subst (λ (b : List ℕ). IsUndoOf state.machine.text (history_marked state.machine.history) b) (sym c.deref.ensures.value) (c.in-Ok.ensures.bytes told (after_sync state true) (sync_in state true ∷ syncs) s.synced))
 
@@ -30,7 +30,7 @@ returns-in-Err-NoMemory-clause-step g c told state syncs instruction before star
     let seen = g.F.World.scene c.undo_bytes.new.host in
     let why = c.in-Err-NoMemory.ensures in
     answers_refused state syncs instruction is before c.args.self.now start mid s (error.Failed Nowhere) at c.undo_bytes.new.self seen (reads_change mid seen why.frame) (why.file.names ∙ s.names)
-    (wrote_nothing (after_sync state true) (sync_in state true ∷ syncs) c.args.self.now c.undo_bytes.new.self mid seen (why.looks told) s.synced (why.fits told (after_sync state true) (sync_in state true ∷ syncs) s.synced))
+    (wrote_nothing (after_sync state true) (sync_in state true ∷ syncs) c.args.self.now c.undo_bytes.new.self mid seen (why.looks told) (why.still told) s.synced (why.fits told (after_sync state true) (sync_in state true ∷ syncs) s.synced))
     NoMemory _ (record { later = why.cause.later; risen = λ e. absurd (true≢false (sym e)) }) (inl (refl, c.out_of_memory.ensures))
 
 pub returns-in-Err-Failed-clause-step : goal.returns-in-Err-Failed-clause-step
@@ -39,5 +39,5 @@ returns-in-Err-Failed-clause-step g c told state syncs instruction before start 
     let seen = g.F.World.scene c.undo_bytes.new.host in
     let why = c.in-Err-Failed.ensures in
     answers_refused state syncs instruction is before c.args.self.now start mid s (error.Failed Nowhere) at c.undo_bytes.new.self seen (reads_change mid seen why.frame) (why.file.names ∙ s.names)
-    (wrote_nothing (after_sync state true) (sync_in state true ∷ syncs) c.args.self.now c.undo_bytes.new.self mid seen (why.looks told) s.synced (why.fits told (after_sync state true) (sync_in state true ∷ syncs) s.synced))
+    (wrote_nothing (after_sync state true) (sync_in state true ∷ syncs) c.args.self.now c.undo_bytes.new.self mid seen (why.looks told) (why.still told) s.synced (why.fits told (after_sync state true) (sync_in state true ∷ syncs) s.synced))
     Fault _ (record { later = why.cause.later; risen = λ e. why.cause.risen (ap error_is c.in-Err-Failed.field-0-is) }) (inr (refl, c.device_fault.ensures))
