@@ -3,7 +3,7 @@ PREFIX = /usr/local
 DESTDIR =
 PROGRAM = crates/vs_main/out/vs_main
 
-.PHONY: all test install
+.PHONY: all test install uninstall
 
 all:
 	tools/build
@@ -13,3 +13,7 @@ test:
 
 install:
 	DESTDIR='$(DESTDIR)' PREFIX='$(PREFIX)' tools/install '$(PROGRAM)'
+
+uninstall:
+	rm -f '$(DESTDIR)$(PREFIX)/bin/levertaupe' '$(DESTDIR)$(PREFIX)/share/man/man1/levertaupe.1' \
+		'$(DESTDIR)$(PREFIX)/share/bash-completion/completions/levertaupe'

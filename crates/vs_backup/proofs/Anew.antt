@@ -1,4 +1,4 @@
--- Writing a file anew after it was renamed to its backup: in each image the name or the backup name leads to the old file.
+-- A file that is made anew where its name is free: calls on that name alone, which leave what guards the old bytes.
 use Rattle.std.proofs.Common.{◌≡◌, ℕ, Bool, List, [], ◌∷◌, Option, None, OnErr, Result, IsTrue, refl, sym, ◌∙◌, subst}
 use Rattle.vs_host.specs.Disk.{Disk, Name, Creates, names_at, content_in, IsImageOf, CreatesFile, SyncsNames}
 use Rattle.vs_host.specs.Trace.{Created}

@@ -13,7 +13,7 @@ pub enum Place {
     File,
     /// Under the name of the file or of the backup.
     Backup,
-    /// Nowhere: there was no file, or no backup was asked, or it was not found out whether there is a file.
+    /// Nowhere: there was no file, or no backup was asked for, or it was not found out whether there is a file.
     Nowhere,
 }
 

@@ -224,7 +224,7 @@ fn write_there<D: Desk>(
     without_backup(write_unbacked(alloc, desk, name))
 }
 
-/// Writes the text of the desk into the file of these names, by these options (docs/FORMATS.md, Writing). Gives the number of
+/// Writes the text of the desk into the file of these names, by these options (docs/FORMATS.md, "Writing a file"). Gives the number of
 /// bytes.
 ///
 /// After an error `old_in` says where the old bytes stand. A backup that should have gone may still be there after `Ok`.

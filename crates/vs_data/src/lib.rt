@@ -30,8 +30,11 @@ const PLACE_BITS: u32 = 0x7fff_ffff;
 /// docs/FORMATS.md, "Data blocks".
 #[derive(Clone, Copy, Debug, PartialEq, Eq)]
 pub struct DataView {
+    /// The number of lines.
     pub count: u32,
+    /// The place of the text's first byte.
     pub text_start: u32,
+    /// The place past the text's last byte.
     pub text_end: u32,
 }
 

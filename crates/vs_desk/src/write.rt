@@ -54,7 +54,7 @@ fn write_in<F: Folder>(
     write_out(alloc, &mut desk, names, options)
 }
 
-/// Writes the text into its file, by these options (docs/FORMATS.md, Writing). Gives the number of bytes.
+/// Writes the text into its file, by these options (docs/FORMATS.md, "Writing a file"). Gives the number of bytes.
 ///
 /// After an error `old_in` says where the old bytes stand. At each moment what may be recovered from the swap files is
 /// recovered, and text and swap files are as before, whatever was answered. A stop leaves under each name on which the write does

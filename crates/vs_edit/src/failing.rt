@@ -17,12 +17,16 @@ use vs_text::Line;
 #[derive(Drop)]
 pub struct FailingStore<S> {
     pub store: S,
+    /// The calls that were counted.
     pub calls: u64,
+    /// The number of the call that fails, counted from 1, or 0.
     pub fails_at: u64,
+    /// The count of faults.
     pub faults: u64,
 }
 
 impl<S> FailingStore<S> {
+    /// A store of which the call with this number fails; with 0 none does.
     pub fn new(store: S, fails_at: u64) -> Self
         ensures { result ≡ record { store = store; calls = 0; fails_at = fails_at; faults = 0 } }
     {

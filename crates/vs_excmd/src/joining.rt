@@ -79,6 +79,7 @@ fn join_span<S: LineStore>(
     ensures kept { OnlyReads S.LineStore view.old view.new }
     ensures cause { HasCause (S.shows view.old).faults (S.shows view.new).faults (IsErrOf result PlanErr.Failed) }
 {
+    // called for its contract alone: the number of lines fits 64 bits
     let _ = view.len();
     let mut reader = LineReader::new(alloc, first - 1, last - (first - 1));
     let mut left = Vec::new(alloc);

@@ -26,6 +26,7 @@ pub enum LineZero {
 #[derive(Clone, Copy, Debug, PartialEq, Eq)]
 pub struct Span {
     pub first: u64,
+    /// The last line, which is one of them.
     pub last: u64,
 }
 
@@ -49,6 +50,7 @@ impl Span {
 /// Where a command of the text works.
 #[derive(Clone, Copy, Debug, PartialEq, Eq)]
 pub struct Place {
+    /// The lines that the command works on.
     pub lines: Span,
     /// The line below which `:m`, `:co` and `:t` put the lines. It is 0 for other commands.
     pub to: u64,

@@ -112,6 +112,7 @@ fn any_long<S: LineStore>(
     ensures kept { OnlyReads S.LineStore view.old view.new }
     ensures cause { HasCause (S.shows view.old).faults (S.shows view.new).faults (IsErrOf result StoreErr.Failed) }
 {
+    // called for its contract alone: the number of lines fits 64 bits
     let _ = view.len();
     let mut reader = LineReader::new(alloc, top, count);
     let mut line = Vec::new(alloc);
@@ -154,6 +155,7 @@ fn rewrite<S: LineStore>(
         kept: 0,
         bytes: 0,
     };
+    // called for its contract alone: the number of lines fits 64 bits
     let _ = view.len();
     let mut reader = LineReader::new(alloc, top, count);
     let mut line = Vec::new(alloc);

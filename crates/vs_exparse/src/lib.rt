@@ -2,7 +2,7 @@
 //! refused.
 //!
 //! [`parse`] gives a command with its range and arguments as they were written; what they mean on a text is the matter of
-//! other crates. No call takes memory. The grammar is that of docs/COMMANDS.md, "Command lines".
+//! other crates. No call takes memory. The grammar is that of docs/FORMATS.md, "Command lines".
 #![tactic(auto)]
 
 mod argument;

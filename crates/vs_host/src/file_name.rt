@@ -21,6 +21,7 @@ impl Model for FileName {
 }
 
 impl FileName {
+    /// The name as text.
     pub fn as_str(&self) -> &str
         ensures { result.now ≡ self.now }
     {

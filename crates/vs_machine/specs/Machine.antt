@@ -76,7 +76,7 @@ abbrev pub counting : ℕ → Result ℕ ExErr → Meaning
 counting cursor (Err error) = Refused error
 counting cursor (Ok number) = Printed (decimal number ++ 10 ∷ []) cursor
 
--- the meaning of a command with these lines as its block. A command that is not built yet is none of the editor's.
+-- the meaning of a command with these lines as its block. A command that the session answers itself is refused here.
 abbrev pub meaning_in : State → Command → List (List ℕ) → Meaning
 meaning_in state (Append range) lines = changing (planned (Append range) lines state.text state.cursor)
 meaning_in state (Insert range) lines = changing (planned (Insert range) lines state.text state.cursor)

@@ -56,7 +56,7 @@ pub(crate) fn not_made(error: UndoErr, cursor: u64) -> Result<Answered, StoreErr
     }
 }
 
-// Does a command that changes no text. One that is not built is no command of the editor.
+// Does a command that changes no text. One that the session answers itself is refused with E492.
 fn look_or_move<S: LineStore>(
     alloc: Global,
     store: &mut S,

@@ -5,9 +5,9 @@
 pub enum Outcome {
     /// It was carried out, or answered with an error of its own.
     Done,
-    /// There was no memory for it. Nothing has changed.
+    /// There was no memory for it. Text, history, cursor and options have not changed.
     NoMemory,
-    /// A call on the folder failed for it. Text and cursor have not changed.
+    /// A call on the folder failed for it. Text, history, cursor and options have not changed.
     Fault,
     /// The file was written, and a call on the folder failed while its undo file was stored.
     NoUndo,

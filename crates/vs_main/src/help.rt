@@ -73,7 +73,7 @@ Exit status; from 2 on a line on standard error says the same:
       more than 1,048,576 bytes in a line
   13  the script has more than 1,073,741,824 bytes
 
-The manual is docs/COMMANDS.md; tools/manual makes a manual page of it.
+The manual is levertaupe(1), or docs/COMMANDS.md in the repository.
 ";
 
 const VERSION: &str = "levertaupe 0.1.0\n";

@@ -8,7 +8,7 @@ use crate::writing::write_bytes;
 use std::alloc::Global;
 use vs_host::{Host, Names};
 
-/// Writes one line for each swap file of a file that is there: docs/COMMANDS.md, "Recovering".
+/// Writes one line for each swap file of a file that is there: docs/COMMANDS.md, "Swap files".
 pub fn info<H: Host>(alloc: Global, name: &str, host: &mut H) -> Result<(), ModeErr>
     requires { IsTrue (is_allowed name.now) }
     ensures { RunsInfo H.tells (names_of_file name.now) (H.scene host.old) (H.scene host.new) result }

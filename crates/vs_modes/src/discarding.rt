@@ -52,7 +52,7 @@ fn discard_line(found: bool) -> &'static [u8]
     b"no swap file\n"
 }
 
-/// Removes the swap files of a file that are there, and says whether there was one: docs/COMMANDS.md, "Recovering".
+/// Removes the swap files of a file that are there, and says whether there was one: docs/COMMANDS.md, "Swap files".
 pub fn discard<H: Host>(alloc: Global, name: &str, host: &mut H) -> Result<(), ModeErr>
     requires { IsTrue (is_allowed name.now) }
     ensures { RunsDiscard H.tells (names_of_file name.now) (H.scene host.old) (H.scene host.new) result }

@@ -19,6 +19,7 @@ pub enum ModeErr {
     OutputFailed,
     /// A call on the folder failed.
     FolderFailed,
+    /// There was no memory.
     NoMemory,
 }
 

@@ -29,7 +29,7 @@ fn read_text<F: Folder>(alloc: Global, host: &mut F, names: &Names) -> Result<Fi
     }
 }
 
-/// Writes the file form of the text that the swap files of a file stand for: docs/COMMANDS.md, "Recovering". Of two that stand
+/// Writes the file form of the text that the swap files of a file stand for: docs/COMMANDS.md, "Swap files". Of two that stand
 /// it is that of the newer one.
 pub fn recover<H: Host>(alloc: Global, name: &str, host: &mut H) -> Result<(), ModeErr>
     requires { IsTrue (is_allowed name.now) }

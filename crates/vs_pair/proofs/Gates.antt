@@ -1,4 +1,4 @@
--- The gate of a file: what stays while it is closed, written behind and opened.
+-- The gate of a file: what stays while it is closed, while pages are written, and when it is opened.
 use Rattle.std.proofs.Common.{◌≡◌, ◌≢◌, ◌⊎◌, inl, inr, ℕ, ◌+◌, ◌-◌, ◌*◌, ◌≤◌, List, length, false, take, drop, Some, refl, sym, ◌∙◌, ap, subst, arith, IsTrue, length-take, length-drop}
 use Rattle.std.proofs.lemmas.List.{drop-drop}
 use Rattle.vs_host.specs.File.{File, IsFileImage, Leaves, synced_file}
@@ -204,7 +204,7 @@ module _ (name : Name) (gate : Gate) (body : Body) where
   closing_failed not old new changes keeps =
       file_as name (λ a b. CloseStep gate a b × KeepsImages a b) (FailedSync gate Unknown body) (λ a b both. InClosing not refl both.0.1 both.1) old new (both_files name (CloseStep gate) KeepsImages old new changes keeps)
 
-  -- what is not stale stands behind the gate, whatever its identifier
+  -- what is not stale stands after the identifier, whatever that is
   pub fresh_behind : (pages : MemPages) (has : Written) (before : Body) → Keeps gate pages has before.pages → (old mid : Disk) → FileHas old name (Fits gate before) → ChangesFile name (Closes gate) old mid
       → ChangesFile name (CloseStep gate) old mid → FileHas mid name (λ file. HasFresh pages has file.bytes)
   fresh_behind pages has before keeps old mid there closes changes =

@@ -23,8 +23,8 @@ pub record HasFresh (pages : MemPages) (written : Written) (c : List ℕ) : Type
   pub long : 2 ≤ length c
   pub fresh : (k : ℕ) → 1 ≤ k → is_stale pages written k ≡ false → page_in c k ≡ Some (page_or_zeros (committed_of pages k))
 
--- What is known to stand of the pages behind a gate, in the file of a sync of this map: all that was not marked since, up to its
--- last page. Behind a closed gate the pages may be torn, so nothing is known.
+-- What is known to stand of the pages of a file with this gate, that of a sync of this map: all that was not marked since, up to its
+-- last page. While the gate is closed the pages may be torn, so nothing is known.
 pub record Keeps (gate : Gate) (pages : MemPages) (written : Written) (map : Map) : Type 0 where
   pub since : IsSince pages written.mark map
   pub last : 0 < written.end → IsSome (map (written.end - 1))

@@ -15,7 +15,9 @@ use vs_host::{Folder, Names};
 /// One of the two swap files.
 #[derive(Clone, Copy, Debug, PartialEq, Eq)]
 pub enum Swap {
+    /// `.NAME.swp`.
     Swp,
+    /// `.NAME.swo`.
     Swo,
 }
 
@@ -37,7 +39,9 @@ fn choose_root(first: Root, second: Root) -> Result<Swap, RecErr>
 /// What a user gets: the text of a file that stands, or a file to salvage.
 #[derive(Debug, Drop)]
 pub enum Chosen {
+    /// A file stands: its text.
     Text(FileText),
+    /// None stands, and page 0 and block 1 of this one read.
     Salvage(Swap),
 }
 
@@ -91,7 +95,7 @@ fn choose_of<F: Folder>(alloc: Global, host: &mut F, swp: &str, swo: &str) -> Re
     }
 }
 
-/// What a user gets from the two swap files: docs/FORMATS.md, "Standing, choosing, info". The folder is only read,
+/// What a user gets from the two swap files: docs/FORMATS.md, "What a swap file stands for". The folder is only read,
 /// with at most four calls for each of the two names and one for each page that follows page 0 of its file.
 pub fn choose<F: Folder>(alloc: Global, host: &mut F, names: &Names) -> Result<Chosen, RecErr>
     ensures answer { IsTrue F.tells.folder → IsChoice (content_of (F.scene host.old) names.now.swp) (content_of (F.scene host.old) names.now.swo) result }

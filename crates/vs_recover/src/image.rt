@@ -16,7 +16,7 @@ use std::alloc::Global;
 use vs_host::Folder;
 use vs_zero::{Zero, ZeroErr};
 
-/// What a swap file is: docs/FORMATS.md, "Standing, choosing, info".
+/// What a swap file is: docs/FORMATS.md, "What a swap file stands for".
 #[derive(Debug, Drop)]
 pub enum Image {
     /// The file stands for a text.
@@ -159,7 +159,7 @@ pub fn find_image<F: Folder>(alloc: Global, host: &mut F, name: &str) -> Result<
     }
 }
 
-/// What the swap file under a name is, which is there. The folder is only read, with one call for the length and at most one for
+/// What the swap file of this name is; the file must be there. The folder is only read, with one call for the length and at most one for
 /// each page. `Failed` and `NoMemory` are the only errors.
 pub fn read_image<F: Folder>(alloc: Global, host: &mut F, swap: &str) -> Result<Image, RecErr>
     requires there { IsTrue F.tells.folder → IsSome (content_of (F.scene host.old) swap.now) }

@@ -95,8 +95,8 @@ fn info_of<F: Folder>(alloc: Global, host: &mut F, swp: &str, swo: &str) -> Resu
     }
 }
 
-/// One line for each swap file that is there, the first one's before that of the second: docs/FORMATS.md, "Standing, choosing,
-/// info". The folder is only read. The other errors are `Failed` and `NoMemory`.
+/// One line for each swap file that is there, the first one's before that of the second: docs/COMMANDS.md, "Swap files". The
+/// folder is only read. The other errors are `Failed` and `NoMemory`.
 pub fn info<F: Folder>(alloc: Global, host: &mut F, names: &Names) -> Result<Vec<u8>, RecErr>
     ensures answer { IsTrue F.tells.folder → IsInfos (content_of (F.scene host.old) names.now.swp) (content_of (F.scene host.old) names.now.swo) names.now.swp names.now.swo result }
     ensures later { (F.scene host.old).folder_faults ≤ (F.scene host.new).folder_faults }

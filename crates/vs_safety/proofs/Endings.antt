@@ -218,7 +218,7 @@ module _ (names : Names) (start now : Scene) (text : Text) (opening : List ℕ) 
           });
         }
 
-    -- the run stops in the removal, or behind it
+    -- the run stops in the removal, or after it
     pub quit_stops : IsCrashSafe names start mid ran
     quit_stops = leaves mid works.moments.added works.moments.is 0 (works.output ∙ sym (append-nil now.output))
         (Each-weaker (Inside mid (Spares names None left now.folder)) (IsSafe names start mid ran) (removing mid (part_same mid.output)) works.moments.added works.moments.each)

@@ -154,7 +154,7 @@ with_closing turns Quits = turns
 abbrev pub all_turns : Ran → List Turn
 all_turns ran = with_closing ran.turns ran.closing
 
--- what a run writes behind the replies
+-- what a run writes after the replies
 abbrev pub behind : Closing → List ℕ
 behind NotBegun = []
 behind (LastSync sync) = []

@@ -24,7 +24,8 @@ pub enum End {
 }
 
 impl Session {
-    /// Ends the session. It takes no memory.
+    /// Ends the session as `how` says. After an error the swap files that are left stay, and the session is gone all the same. It
+    /// takes no memory.
     pub fn finish<H: Host>(self, host: &mut H, how: End) -> Result<(), Failed>
         requires room { generation_of self < 2 ^ 63 }
         requires fits { IsTrue (H.tells).folder → (state : SessionState) × (syncs : List Sync) × Fits self (H.scene host.old).folder state syncs }

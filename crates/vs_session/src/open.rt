@@ -16,6 +16,7 @@ pub enum OpenErr {
     TextLimit(u64),
     /// A call on the folder failed.
     Failed,
+    /// There was no memory.
     NoMemory,
 }
 

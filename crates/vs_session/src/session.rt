@@ -7,7 +7,7 @@ use vs_machine::{Mark, Reply, UndoTree};
 use vs_options::Options;
 use vs_paged::PagedText;
 
-/// The number of steps that changed the text after which it is synced.
+/// After so many steps that led to another state, a change or a move syncs the text first.
 pub(crate) const STEPS_BETWEEN_SYNCS: u64 = 200;
 
 /// A file that was opened, with its swap files: the text, the line of the cursor, and the undo tree.
@@ -35,6 +35,7 @@ pub struct Session {
 /// The answer to one command.
 #[derive(Drop)]
 pub enum Step {
+    /// How the command ended, and the reply to write.
     Answer { mark: Mark, reply: Reply },
     /// `q` or `q!` was accepted. Nothing has changed.
     Quit,

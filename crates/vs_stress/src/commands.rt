@@ -82,7 +82,7 @@ fn parsed(line: &[u8]) -> Result<Command<'_>, ExErr>
     }
 }
 
-/// The command with a number.
+/// The command with this number, counted from 1: docs/COMMANDS.md, "Stress".
 pub fn generated(alloc: Global, number: u64) -> Result<Request<'static>, AllocError>
     ensures form { IfOk result IsFormed }
     ensures request { IfOk result (λ request. IsRequest request (generated number)) }
@@ -94,7 +94,7 @@ pub fn generated(alloc: Global, number: u64) -> Result<Request<'static>, AllocEr
     })
 }
 
-/// The command after all others.
+/// `preserve`, which follows the numbered commands.
 pub fn preserve() -> Request<'static>
     ensures form { IsFormed result }
     ensures request { IsRequest result preserves }

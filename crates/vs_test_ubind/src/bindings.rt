@@ -74,7 +74,7 @@ fn a_history_of_no_lines_is_taken_with_one_empty_line(rt: HostRuntime) -> Result
     Ok(())
 }
 
-// Where the header has the end of the digest and the number of lines, and an entry behind its change the line above it.
+// Where the header has the end of the digest and the number of lines, and an entry after its change's start the line above it.
 const DIGEST_END: usize = 39;
 
 const LINES: usize = 43;

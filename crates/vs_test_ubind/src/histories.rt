@@ -31,7 +31,7 @@ pub fn begin<S: LineStore + Drop>(alloc: Global, text: S) -> Result<Editor<S>, A
     Ok(Editor { tree, text })
 }
 
-// Puts a line behind the last one, at a time.
+// Puts a line after the last one, at a time.
 pub fn append<S: LineStore>(
     alloc: Global,
     editor: &mut Editor<S>,

@@ -51,6 +51,7 @@ impl Line {
         Line { bytes }
     }
 
+    /// The bytes, without the line end.
     pub fn bytes(&self) -> &[u8]
         ensures bytes { result.now ≡ self.now }
         ensures line { IsLine self.now }

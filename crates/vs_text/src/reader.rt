@@ -10,7 +10,7 @@ use std::alloc::{AllocError, Global};
 use std::marker::Model;
 use std::mem;
 
-/// Reads a text in pieces (docs/FORMATS.md, The file form of a text).
+/// Reads a text in pieces (docs/FORMATS.md, "The file form of a text").
 ///
 /// The pieces may be cut anywhere. The answer of [`TextReader::end`] is that of [`read_text`](crate::read_text) on the whole.
 /// The reader holds no more than a text within the limits and one last line: what is certain to be refused is counted only.

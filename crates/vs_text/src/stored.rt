@@ -13,7 +13,7 @@ fn plain_byte(byte: u8) -> u8
     if byte == b'\n' { 0 } else { byte }
 }
 
-/// Turns a line into its stored form, in place: byte 0 becomes byte 10 (docs/FORMATS.md, The stored form).
+/// Turns a line into its stored form, in place: byte 0 becomes byte 10 (docs/FORMATS.md, "The stored form").
 pub fn to_stored(line: &mut [u8])
     ensures stored { line.new ≡ stored_line line.old }
     ensures no_zero { All (λ byte. byte ≢ 0) line.new }
@@ -24,7 +24,7 @@ pub fn to_stored(line: &mut [u8])
     }
 }
 
-/// Turns the stored form of a line into the line, in place: byte 10 becomes byte 0 (docs/FORMATS.md, The stored form).
+/// Turns the stored form of a line into the line, in place: byte 10 becomes byte 0 (docs/FORMATS.md, "The stored form").
 pub fn from_stored(line: &mut [u8])
     ensures plain { line.new ≡ plain_line line.old }
     ensures is_line { IsLine line.new }

@@ -24,6 +24,7 @@ impl Text {
         Text { lines }
     }
 
+    /// The lines, in order.
     pub fn lines(&self) -> &[Line]
         ensures { result.now ≡ self.now }
     {

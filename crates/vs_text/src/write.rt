@@ -4,7 +4,7 @@ ghost use Rattle.vs_text.specs.Text.{lines_of, file_of, IsText};
 use crate::{Line, Text};
 use std::alloc::{AllocError, Global};
 
-/// Adds the file form of lines at the end of a vector: each line followed by byte 10 (docs/FORMATS.md, The file form of a
+/// Adds the file form of lines at the end of a vector: each line followed by byte 10 (docs/FORMATS.md, "The file form of a
 /// text).
 pub fn append_lines(lines: &[Line], into: &mut Vec<u8>) -> Result<(), AllocError>
     ensures bytes { OnOk result (into.new.items ≡ into.old.items ++ file_of lines.now) }

@@ -9,7 +9,7 @@ use vs_modes::ModeErr;
 use vs_script::ScriptErr;
 use vs_session::OpenErr;
 
-/// How a run ended: docs/COMMANDS.md, "Statuses".
+/// How a run ended: docs/COMMANDS.md, "Exit status".
 #[derive(Clone, Copy, Debug, PartialEq, Eq, Drop)]
 pub enum Ending {
     /// The script was read to its end or to an accepted quit, and every command did its work.
@@ -28,6 +28,7 @@ pub enum Ending {
     OutputFault,
     /// A call on the folder failed.
     FolderFault,
+    /// There was no memory.
     NoMemory,
     /// A swap file is encrypted, and none gives a text.
     Encrypted,

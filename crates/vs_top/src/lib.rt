@@ -1,4 +1,4 @@
-//! The top call: what the arguments say, with one file.
+//! A whole run: what the arguments ask for is done over one file, and the ending says how.
 #![tactic(auto)]
 
 mod edit;

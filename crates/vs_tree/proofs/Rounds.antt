@@ -34,7 +34,7 @@ put_next lines new run at i place n le within place_is run_is =
 pub length_without : (lines : List (List ℕ)) (at i : ℕ) → at + i ≤ length lines → length (without_lines lines at i) + i ≡ length lines
 length_without lines at i le = omega (arith, length_splice lines [] at i le)
 
--- what is left behind the lines taken out
+-- what is left after the lines taken out
 behind : (lines : List (List ℕ)) (at i : ℕ) → at + i ≤ length lines → drop (at + 0) (without_lines lines at i) ≡ drop (at + i) lines
 behind lines at i le = drop_past (take at lines ++ []) (drop (at + i) lines) (at + 0) 0 (omega (arith, length-append (take at lines) [], length-take at lines))
 

@@ -21,7 +21,7 @@ use vs_tree_blocks::write_first;
 /// text was last committed.
 ///
 /// Block 1 is the root and a pointer block. All data blocks lie as many levels below it as the tree's own height says, so no
-/// walk goes deeper than that, whatever a page holds. docs/FORMATS.md, Pointer blocks and Data blocks.
+/// walk goes deeper than that, whatever a page holds. docs/FORMATS.md, "Pointer blocks" and "Data blocks".
 #[derive(Clone, Copy, Debug, PartialEq, Eq)]
 pub struct LineTree {
     pub present: Extent,

@@ -17,7 +17,7 @@ use vs_pages::{PageErr, Pages};
 use vs_ptr::PtrView;
 use vs_tree_shape::{Entry, count_lines};
 
-/// The greatest number of entries of a pointer block of one page. docs/FORMATS.md, Pointer blocks.
+/// The greatest number of entries of a pointer block of one page. docs/FORMATS.md, "Pointer blocks".
 const MOST_ENTRIES: usize = 127;
 
 // The entries of a pointer block; None where the bytes are no such block, or a number in it is negative.

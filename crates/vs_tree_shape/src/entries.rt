@@ -5,7 +5,7 @@ ghost use Rattle.vs_tree_shape.specs.Places.{IsPlace, lines_below};
 use std::alloc::{AllocError, Global};
 
 /// An entry of a pointer block, as the tree keeps it: the first page of a block, the number of its pages and the
-/// number of lines below it. docs/FORMATS.md, Pointer blocks.
+/// number of lines below it. docs/FORMATS.md, "Pointer blocks".
 #[derive(Clone, Copy, Debug, PartialEq, Eq)]
 pub struct Entry {
     pub block: u64,

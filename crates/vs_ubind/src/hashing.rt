@@ -12,10 +12,10 @@ use vs_edit::{LineStore, StoreErr};
 use vs_reads::LineReader;
 use vs_text::to_stored;
 
-/// What stands behind each line.
+/// What stands after each line.
 const LINE_END: [u8; 1] = [0];
 
-// Feeds the stored form of a line, and the zero byte behind it. The line is then in its stored form.
+// Feeds the stored form of a line, and the zero byte after it. The line is then in its stored form.
 fn feed(hasher: &mut Sha256, line: &mut [u8])
     ensures { (fed : List ℕ) → Holds256 hasher.old fed → Holds256 hasher.new (fed ++ (stored_line line.old ++ 0 ∷ [])) }
 {

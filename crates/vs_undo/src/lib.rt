@@ -27,10 +27,10 @@ pub use way::{find, path_between, way_of};
 /// The greatest number that a new change gets.
 pub const MAX_NUMBER: u64 = 2_000_000_000;
 
-/// The greatest number of a change that was read from a file.
+/// The greatest number of a change in an undo file.
 pub const MAX_READ_NUMBER: u64 = 2_147_483_647;
 
-/// The greatest last number that was read from a file.
+/// The greatest last number in an undo file.
 pub const MAX_LAST: u64 = 4_294_967_295;
 
 /// The greatest save number.
