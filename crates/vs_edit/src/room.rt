@@ -9,7 +9,8 @@ ghost use Rattle.vs_edit.specs.State.{AllowsSplice};
 use crate::LineStore;
 use vs_text::{Line, MAX_LINE_BYTES, MAX_LINES, MAX_TEXT_BYTES};
 
-fn are_short(lines: &[Line]) -> bool
+/// Whether each of the lines has at most 1,048,576 bytes.
+pub fn are_short(lines: &[Line]) -> bool
     ensures { IsTrue result ↔ All IsShort lines.now }
 {
     for line in lines {
@@ -20,8 +21,8 @@ fn are_short(lines: &[Line]) -> bool
     true
 }
 
-// Whether a text of `bytes` bytes has room for new lines as well.
-pub(crate) fn has_room(bytes: u64, new: &[Line]) -> bool
+/// Whether a text of `bytes` bytes, with one for each line end, has room for new lines as well.
+pub fn has_room(bytes: u64, new: &[Line]) -> bool
     ensures { IsTrue result ↔ (bytes + bytes_of new.now ≤ MAX_TEXT_BYTES) }
 {
     let mut sum = bytes;

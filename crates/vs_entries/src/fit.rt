@@ -1,9 +1,7 @@
 // Whether an entry may be applied to the text of a store.
-ghost use Rattle.std.specs.Prelude.{◌≡◌, ◌≢◌, ◌+◌, ◌≤◌, ◌↔◌, ℕ, List, All, IfNone, IfOk, IfSome, IsErrOf, IsTrue, OnOk, max};
+ghost use Rattle.std.specs.Prelude.{◌≡◌, ◌≢◌, ◌+◌, ◌≤◌, ℕ, List, IfNone, IfOk, IfSome, IsErrOf, IsTrue, OnOk, max};
 ghost use Rattle.vs_faults.specs.Faults.{HasCause};
 ghost use Rattle.vs_text.specs.Text.{bytes_of};
-ghost use Rattle.vs_text.specs.Limits.{IsShort};
-ghost use Rattle.vs_text.specs.declared.TheConstants.{MAX_TEXT_BYTES};
 ghost use Rattle.vs_edit.specs.Calls.{CanGoBack, OnlyReads};
 ghost use Rattle.vs_edit.specs.Splices.{cut_out};
 ghost use Rattle.vs_entries.specs.Entries.{applied, filled, led_back, AllowsEntry, Fits, Leads, LeadsCount};
@@ -11,31 +9,9 @@ ghost use Rattle.vs_entries.specs.Entries.{applied, filled, led_back, AllowsEntr
 use crate::exchange::{apply, range_in};
 use crate::{EditErr, Entry};
 use std::alloc::Global;
-use vs_edit::{LineStore, StoreErr};
+use vs_edit::{LineStore, StoreErr, are_short, has_room};
 use vs_reads::bytes_in;
-use vs_text::{Line, MAX_LINE_BYTES, MAX_LINES, MAX_TEXT_BYTES};
-
-fn are_short(lines: &[Line]) -> bool
-    ensures { IsTrue result ↔ All IsShort lines.now }
-{
-    for line in lines {
-        if line.bytes().len() as u64 > MAX_LINE_BYTES {
-            return false;
-        }
-    }
-    true
-}
-
-// Whether lines have room beside so many bytes.
-fn has_room(bytes: u64, lines: &[Line]) -> bool
-    ensures { IsTrue result ↔ (bytes + bytes_of lines.now ≤ MAX_TEXT_BYTES) }
-{
-    let mut sum = bytes;
-    for line in lines {
-        sum = sum.saturating_add(line.bytes().len() as u64 + 1);
-    }
-    sum <= MAX_TEXT_BYTES
-}
+use vs_text::MAX_LINES;
 
 // The number of bytes of `old` lines from line `top` on of the stored form.
 fn bytes_at<S: LineStore>(alloc: Global, store: &mut S, top: u64, old: u64) -> Result<u64, StoreErr>

@@ -1,7 +1,7 @@
 // The files of the current folder, standard input, standard output and the clock of the system.
 ghost use Rattle.std.specs.Prelude.{◌≡◌, [], false, Ok, IfOk, OnOk, IsErr};
 ghost use Rattle.vs_faults.specs.Faults.{HasCause};
-ghost use Rattle.vs_main.specs.Untold.{no_folder, never};
+ghost use Rattle.vs_host.specs.Untold.{no_folder, never};
 
 use std::fs::{self, File, OpenOptions};
 use std::io::{self, ErrorKind, Read, Write};

@@ -10,3 +10,4 @@ pub mod Lefts
 pub mod Hosts
 pub mod Fills
 pub mod KeptImages
+pub mod Settled

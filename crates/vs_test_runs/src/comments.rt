@@ -1,7 +1,7 @@
 // A host whose script is one comment, again and again. It tells nothing, has no file, and takes what is written.
 ghost use Rattle.std.specs.Prelude.{◌≡◌, ◌≤◌, [], false, length};
 ghost use Rattle.vs_faults.specs.Faults.{HasRisen};
-ghost use Rattle.vs_test_runs.specs.Untold.{never, no_folder};
+ghost use Rattle.vs_host.specs.Untold.{never, no_folder};
 
 use std::alloc::Global;
 use std::test::Fail;

@@ -1,5 +1,5 @@
 // A script that is made as it is read.
-ghost use Rattle.vs_test_script.specs.Untold.{never, no_folder};
+ghost use Rattle.vs_host.specs.Untold.{never, no_folder};
 ghost use Rattle.std.specs.Prelude.{[], false};
 
 use std::alloc::Global;

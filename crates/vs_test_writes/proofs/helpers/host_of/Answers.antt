@@ -1,4 +1,4 @@
-use Rattle.vs_test_writes.proofs.Settled.{settled}
+use Rattle.vs_memory.proofs.Settled.{settled}
 use Rattle.vs_test_writes.proofs.helpers.host_of.Goals as goal
 
 pub returns-clause-settled : goal.returns-clause-settled
