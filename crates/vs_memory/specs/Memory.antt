@@ -1,5 +1,5 @@
 -- A host in memory, as its users see it.
-use Rattle.std.specs.Prelude.{◌≡◌, ◌⊎◌, ◌<◌, ℕ, ◌+◌, ◌-◌, ◌^◌, min, Bool, false, Contains, List, [], ◌∷◌, length}
+use Rattle.std.specs.Prelude.{◌≡◌, ◌⊎◌, ◌<◌, ℕ, ◌+◌, ◌-◌, ◌^◌, min, Bool, false, Contains, List, [], ◌∷◌, ◌++◌, length}
 use Rattle.vs_host.specs.Disk.{Disk}
 use Rattle.vs_host.specs.World.{Scene}
 use Rattle.vs_memory.specs.declared.log.Call.{Call}
@@ -57,6 +57,10 @@ fresh_memory script = record {
   failing = [];
   stop = 2 ^ 64 - 1;
 }
+
+-- the clock was asked once more
+abbrev pub answered : Memory → Memory
+answered host = record host { answers = host.answers ++ host.clock ∷ [] }
 
 -- one call more was counted
 abbrev pub counted : Memory → Memory

@@ -1,6 +1,6 @@
 // The traits of a host.
-ghost use Rattle.std.specs.Prelude.{◌≡◌, true, IfOk, string_bytes};
-ghost use Rattle.vs_memory.specs.Memory.{faulted};
+ghost use Rattle.std.specs.Prelude.{◌≡◌, ◌<◌, ◌^◌, true, IfOk, length, string_bytes};
+ghost use Rattle.vs_memory.specs.Memory.{answered, faulted};
 
 use crate::host::MemHost;
 use crate::log::{Call, Part};
@@ -30,7 +30,11 @@ impl Out for MemHost {
 }
 
 impl Clock for MemHost {
-    fn now(&mut self) -> u64 {
+    fn now(&mut self) -> u64
+        requires { length self.old.answers < 2 ^ 63 }
+        ensures time { result ≡ self.old.clock }
+        ensures host { self.new ≡ answered self.old }
+    {
         self.answers += 1;
         self.clock
     }
@@ -63,7 +67,9 @@ impl Folder for MemHost {
         self.create(name)
     }
 
-    fn take_mode(&mut self, _from: &str, _to: &str) {}
+    fn take_mode(&mut self, _from: &str, _to: &str)
+        ensures { self.new ≡ self.old }
+    {}
 
     fn len(&mut self, name: &str) -> Result<u64, Failed> {
         let call = String::from_str(self.alloc, name).map(Call::Len);
