@@ -1,5 +1,5 @@
 -- What was committed does not depend on the pages of now at places that are kept, and goes back place by place.
-use Rattle.std.proofs.Common.{◌≡◌, ◌≢◌, ℕ, ◌<◌, ◌≤◌, ◌⊎◌, inl, inr, length, List, [], ◌∷◌, take, Option, Some, None, IsSome, true, false, refl, sym, ap, ◌∙◌, arith}
+use Rattle.std.proofs.Common.{◌≡◌, ◌≢◌, ℕ, ◌<◌, ◌≤◌, ◌⊎◌, inl, inr, length, List, [], ◌∷◌, take, Option, Some, None, IsSome, is_some, true, false, refl, sym, ap, ◌∙◌, arith}
 use Rattle.std.specs.Ordering.{nat_cmp}
 use Rattle.std.specs.BTreeMap.{BTreeMap, get, Updates, btree_map_len}
 use Rattle.std.proofs.lemmas.Bool.{cases_eq, cases_lt, false≢true}
@@ -52,6 +52,9 @@ empty_of (x ∷ xs) is = absurd (omega arith)
 
 kept_none : (m : BTreeMap ℕ (Option Page)) → btree_map_len m ≡ 0 → (k : ℕ) → get nat_cmp m k ≡ None
 kept_none m is k = let empty : m.entries ≡ [] = empty_of m.entries is in rw empty refl
+
+pub not_kept : (m : BTreeMap ℕ (Option Page)) (k : ℕ) → btree_map_len m ≡ 0 → IsSome (get nat_cmp m k) → ⊥
+not_kept m k empty some = false≢true (sym (ap (λ o. is_some o) (kept_none m empty k)) ∙ some)
 
 -- nothing is left to go back, and the places that came since go
 pub restored_all : (first : Map) (places rest : List (Option Page)) (m : BTreeMap ℕ (Option Page)) (bound : ℕ) → before (map_of places) (get nat_cmp m) bound ≡ first

@@ -51,8 +51,8 @@ fn zero_pages(alloc: Global, pages: u32) -> Result<Vec<Page>, AllocError>
 }
 
 impl MemPages {
-    ghost use Rattle.vs_pages.specs.Memory.{present_of, committed_of, kept_at, mark_of, IsKept, AreKept, IsStep};
-    ghost use Rattle.vs_pages.specs.Changes.{KeepsMarks};
+    ghost use Rattle.vs_pages.specs.Memory.{present_of, committed_of, kept_at, mark_of, IsKept, AreKept, HasKept, IsStep};
+    ghost use Rattle.vs_pages.specs.Changes.{KeepsMarks, MarksOnly};
 
     /// A store with the pages 0, 1 and 2, as zeros, which are committed.
     pub fn new(alloc: Global) -> Result<MemPages, AllocError>
@@ -104,6 +104,7 @@ impl MemPages {
         ensures committed { committed_of self.new ≡ present_of self.old }
         ensures marks { KeepsMarks mark self.old self.new }
         ensures others { (k : ℕ) → (mark_of self.new k ≡ mark_of self.old k) ⊎ IsKept self.old k }
+        ensures unkept { (k : ℕ) → IsKept self.new k → present_of self.new k ≡ None }
     {
         self.mark_fresh(mark);
         self.mark_kept(mark);
@@ -123,7 +124,7 @@ impl MemPages {
     fn restore_all(&mut self)
         ensures present { present_of self.new ≡ committed_of self.old }
         ensures committed { committed_of self.new ≡ committed_of self.old }
-        ensures marks { mark_of self.new ≡ mark_of self.old }
+        ensures marks { MarksOnly 0 0 self.old self.new }
     {
         while let Some((at, was)) = self.kept.pop_first() {
             self.table.set(at, was);
@@ -133,7 +134,7 @@ impl MemPages {
     }
 
     fn keep_page(&mut self, alloc: Global, at: u64) -> Result<(), AllocError>
-        ensures step { IsStep self.old self.new (present_of self.old) }
+        ensures step { HasKept self.old self.new at 1 }
         ensures kept { OnOk result (IsKept self.new at) }
         ensures same { self.new.committed ≡ self.old.committed }
     {
@@ -146,7 +147,7 @@ impl MemPages {
     }
 
     fn keep_pages(&mut self, alloc: Global, at: u64, pages: u32) -> Result<(), AllocError>
-        ensures step { IsStep self.old self.new (present_of self.old) }
+        ensures step { HasKept self.old self.new at pages }
         ensures kept { OnOk result (AreKept self.new at pages) }
     {
         let end = at.saturating_add(pages as u64).min(self.committed);
@@ -248,6 +249,7 @@ impl MemPages {
         ensures present { present_of self.new ≡ present_of self.old }
         ensures committed { committed_of self.new ≡ committed_of self.old }
         ensures kept { (k : ℕ) → IsKept self.old k → IsKept self.new k }
+        ensures only { (k : ℕ) → IsKept self.new k → IsKept self.old k }
         ensures marks { mark_of self.new ≡ mark_of self.old }
         ensures len { OnOk result (len ≤ length self.new.table.places.items) }
     {
@@ -260,7 +262,7 @@ impl MemPages {
         ensures ok { OnOk result (present_of self.new ≡ put_pages (present_of self.old) at pages (zeros pages)) }
         ensures err { OnErr result (present_of self.new ≡ present_of self.old) }
         ensures committed { committed_of self.new ≡ committed_of self.old }
-        ensures marks { mark_of self.new ≡ mark_of self.old }
+        ensures marks { MarksOnly at pages self.old self.new }
     {
         let fresh = zero_pages(alloc, pages)?;
         self.keep_pages(alloc, at, pages)?;

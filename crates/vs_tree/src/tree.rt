@@ -39,6 +39,7 @@ impl LineTree {
         ensures fits { IfOk result (λ tree. Fits P.tells (P.shows pages.new).present tree.present × Fits P.tells (P.shows pages.new).committed tree.committed) }
         ensures text { IfOk result (λ tree. IsTrue P.tells → HasText (P.shows pages.new).present tree.present []) }
         ensures empty { IfOk result (λ tree. (tree.present.lines ≡ 0) × (tree.present.bytes ≡ 0)) }
+        ensures committed { IfOk result (λ tree. tree.committed ≡ tree.present) }
         ensures valid { P.valid pages.new }
         ensures stays { P.stays pages.old pages.new }
         ensures cause { HasCause (P.shows pages.old).faults (P.shows pages.new).faults (IsErrOf result PageErr.Failed) }

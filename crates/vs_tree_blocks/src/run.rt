@@ -9,7 +9,7 @@ ghost use Rattle.vs_tree_shape.specs.Changes.{Replaces, splice};
 ghost use Rattle.vs_tree_blocks.specs.Blocks.{tree_format, FitsFields};
 ghost use Rattle.vs_tree_blocks.specs.Edits.{IsStored};
 ghost use Rattle.vs_tree_blocks.specs.Parts.{IsPage};
-ghost use Rattle.vs_tree_blocks.specs.Runs.{lines_within};
+ghost use Rattle.vs_tree_blocks.specs.Runs.{lines_within, pages_of};
 ghost use Rattle.vs_tree_blocks.specs.Writes.{Touches};
 
 use crate::add_block;
@@ -87,7 +87,7 @@ impl Run {
     /// The lines as a data block.
     pub fn bytes(&self) -> &[u8]
         ensures lines { lines_in result.now ≡ Some self.now }
-        ensures page { space_of self.now ≤ 4072 → length result.now ≡ 4096 }
+        ensures size { length result.now ≡ 4096 * pages_of self.now }
     {
         &self.bytes
     }
@@ -137,6 +137,7 @@ impl Run {
         requires valid { P.valid pages.old }
         ensures added { IfOk result (λ new. IsTrue P.tells → Replaces tree_format (P.shows pages.old).present (P.shows pages.new).present (λ k. 0) 0 (leaf new.block new.pages self.now ∷ [])) }
         ensures lines { IfOk result (λ new. new.lines ≡ length self.now) }
+        ensures pages { IfOk result (λ new. new.pages ≡ pages_of self.now) }
         ensures fields { IfOk result FitsFields }
         ensures differs { OnOk result (space_of self.now ≤ 4072 → Touches P.Pages pages.old pages.new 1) }
         ensures kept { Continues P.Pages pages.old pages.new }

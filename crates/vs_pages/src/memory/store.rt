@@ -1,7 +1,9 @@
 // Pages in memory as a store of pages.
-ghost use Rattle.std.specs.Prelude.{◌≡◌, true};
+ghost use Rattle.std.specs.Prelude.{◌≡◌, ◌+◌, ◌*◌, ◌^◌, ◌≤◌, ℕ, true, Some, IfOk, OnOk, OnErr, IsErrOf, IsSome, length};
+ghost use Rattle.vs_faults.specs.Faults.{HasCause};
+ghost use Rattle.vs_pages.specs.Maps.{pages_at, put_pages, without, zeros, IsVacant};
 ghost use Rattle.vs_pages.specs.Memory.{present_of, committed_of};
-ghost use Rattle.vs_pages.specs.Changes.{KeepsAllMarks};
+ghost use Rattle.vs_pages.specs.Changes.{state_of, GoesOn, KeepsAllMarks, MarksOnly, OnlyRead};
 ghost use Rattle.vs_pages.specs.MemoryLaws.{are_present, are_committed};
 
 use super::MemPages;
@@ -11,7 +13,7 @@ use std::alloc::Global;
 impl Pages for MemPages {
     ghost tells = { true };
 
-    ghost shows = { λ pages. record { present = present_of pages; committed = committed_of pages; faults = 0 } };
+    ghost shows = { state_of };
 
     ghost valid = { λ _. Unit {0} };
 
@@ -25,31 +27,62 @@ impl Pages for MemPages {
 
     ghost stays_on = { λ _ _ _ first second mark map since. second mark map (first mark map since) };
 
+    // The clauses are the trait's, at this store, and one more: which pages the next commit may mark.
     fn load(
         &mut self,
         _alloc: Global,
         at: u64,
         pages: u32,
         into: &mut Vec<u8>,
-    ) -> Result<(), PageErr> {
+    ) -> Result<(), PageErr>
+        requires { IsSome (pages_at (present_of self.old) at pages) }
+        ensures size { OnOk result (length into.new.items ≡ 4096 * pages) }
+        ensures loaded { OnOk result (pages_at (present_of self.old) at pages ≡ Some into.new.items) }
+        ensures kept { OnlyRead self.old self.new }
+        ensures cause { HasCause 0 0 (IsErrOf result PageErr.Failed) }
+        ensures same { self.new ≡ self.old }
+    {
         self.copy_pages(at, pages, into)?;
         Ok(())
     }
 
-    fn touch(&mut self, alloc: Global, at: u64, pages: u32, bytes: &[u8]) -> Result<(), PageErr> {
+    fn touch(&mut self, alloc: Global, at: u64, pages: u32, bytes: &[u8]) -> Result<(), PageErr>
+        requires there { IsSome (pages_at (present_of self.old) at pages) }
+        requires size { length bytes.now ≡ 4096 * pages }
+        ensures ok { OnOk result (present_of self.new ≡ put_pages (present_of self.old) at pages bytes.now) }
+        ensures err { OnErr result (present_of self.new ≡ present_of self.old) }
+        ensures kept { GoesOn self.old self.new }
+        ensures cause { HasCause 0 0 (IsErrOf result PageErr.Failed) }
+        ensures marks { MarksOnly at pages self.old self.new }
+    {
         self.keep_pages(alloc, at, pages)?;
         self.write_pages(at, pages, bytes);
         Ok(())
     }
 
-    fn grow(&mut self, alloc: Global, pages: u32) -> Result<u64, PageErr> {
+    fn grow(&mut self, alloc: Global, pages: u32) -> Result<u64, PageErr>
+        ensures bound { IfOk result (λ at. at + pages ≤ 2 ^ 40) }
+        ensures vacant { IfOk result (λ at. IsVacant (present_of self.old) at pages) }
+        ensures ok { IfOk result (λ at. present_of self.new ≡ put_pages (present_of self.old) at pages (zeros pages)) }
+        ensures err { OnErr result (present_of self.new ≡ present_of self.old) }
+        ensures kept { GoesOn self.old self.new }
+        ensures cause { HasCause 0 0 (IsErrOf result PageErr.Failed) }
+        ensures marks { (first : ℕ) × (IfOk result (λ at. first ≡ at) × MarksOnly first pages self.old self.new) }
+    {
         let at = self.vacant_run(pages).ok_or(PageErr::NoMemory)?;
         self.add_pages(alloc, at, pages)?;
         self.vacant.take(at, pages);
         Ok(at)
     }
 
-    fn free(&mut self, alloc: Global, at: u64, pages: u32) -> Result<(), PageErr> {
+    fn free(&mut self, alloc: Global, at: u64, pages: u32) -> Result<(), PageErr>
+        requires { IsSome (pages_at (present_of self.old) at pages) }
+        ensures ok { OnOk result (present_of self.new ≡ without (present_of self.old) at pages) }
+        ensures err { OnErr result (present_of self.new ≡ present_of self.old) }
+        ensures kept { GoesOn self.old self.new }
+        ensures cause { HasCause 0 0 (IsErrOf result PageErr.Failed) }
+        ensures marks { MarksOnly at pages self.old self.new }
+    {
         self.keep_pages(alloc, at, pages)?;
         self.vacant.put(at, pages)?;
         self.remove_pages(at, pages);
@@ -65,7 +98,12 @@ impl Pages for MemPages {
         self.commit_marked(u64::MAX);
     }
 
-    fn rollback(&mut self) {
+    fn rollback(&mut self)
+        ensures present { present_of self.new ≡ committed_of self.old }
+        ensures committed { committed_of self.new ≡ committed_of self.old }
+        ensures stays { KeepsAllMarks self.old self.new }
+        ensures marks { MarksOnly 0 0 self.old self.new }
+    {
         self.restore_all();
     }
 

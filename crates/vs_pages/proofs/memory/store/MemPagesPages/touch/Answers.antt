@@ -13,3 +13,9 @@ returns-clause-kept c =
     let second = c.write_pages.ensures in
     let committed = second.committed ∙ first.committed in
     record { valid = tt; stays = keeps_marks c.args.self.now c.write_pages.new.self committed (second.marks ∙ first.marks); committed = λ told. committed }
+
+pub returns-clause-marks : goal.returns-clause-marks
+returns-clause-marks c =
+    let first = c.keep_pages.ensures.step in
+    let second = c.write_pages.ensures in
+    record { marks = second.marks ∙ first.marks; kept = λ k is. first.only k (second.only k is) }
