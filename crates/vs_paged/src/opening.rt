@@ -5,7 +5,9 @@ ghost use Rattle.vs_host.specs.Names.{is_allowed, names_of_file};
 ghost use Rattle.vs_pages.specs.Maps.{first_pages};
 ghost use Rattle.vs_pages.specs.Memory.{committed_of, present_of};
 ghost use Rattle.vs_pair.specs.Acts.{Acts, NoneFails};
-ghost use Rattle.vs_pair.specs.Steps.{IsFresh};
+ghost use Rattle.vs_pair.specs.Steps.{BothEnd, BothMoved, IsFresh};
+ghost use Rattle.vs_pair.specs.declared.gate.Gate.TheVariants.{Open};
+ghost use Rattle.vs_pair.specs.declared.side.Side.TheVariants.{Swo};
 ghost use Rattle.vs_text.specs.Limits.{IsWithinLimits};
 ghost use Rattle.vs_tree.specs.TextIn.{text_in};
 ghost use Rattle.vs_tree.specs.Texts.{Fits as FitsPages};
@@ -151,6 +153,9 @@ impl OpeningText {
         ensures acts { Acts F.tells (Starting (names_of_file self.name) self.text) (F.scene host.old) (F.scene host.new) }
         ensures fits { IfOk result (λ paged. IsTrue F.tells.folder → Fits paged (F.scene host.new).folder self.text (acknowledged_sync self.text false ∷ [])) }
         ensures names { IfOk result (λ paged. names_of paged ≡ names_of_file self.name) }
+        ensures ends { IfOk result (λ paged. IsTrue F.tells.folder → BothEnd (names_of_file self.name) (committed_of paged.pair.pages) (F.scene host.new).folder) }
+        ensures moved { OnOk result (IsTrue F.tells.folder → BothMoved (names_of_file self.name) (F.scene host.new).folder) }
+        ensures sides { IfOk result (λ paged. (paged.pair.files.newer ≡ Swo) × (paged.pair.files.gate ≡ Open)) }
         ensures generation { IfOk result (λ paged. paged.pair.files.generation ≡ 2) }
         ensures lines { IfOk result (λ paged. paged.tree.present.lines ≡ length self.text) }
         ensures none { OnOk result (NoneFails F.tells (F.scene host.old) (F.scene host.new)) }

@@ -4,8 +4,8 @@ use Rattle.vs_faults.specs.Faults.{HasCause}
 use Rattle.vs_host.specs.Disk.{Disk, Name}
 use Rattle.vs_host.specs.Trace.{Kind, Snapshot}
 use Rattle.vs_host.specs.World.{Tells, Scene, IsTold, ChangesFolder}
-use Rattle.vs_disk.specs.Runs.{HasNoFault, FailsLast}
-use Rattle.vs_disk.proofs.Runs.{Quiet, starts, one_call, runs_as, runs_then, frames, fails_none, fails_call, quiet_none, quiet_call, goes_then, goes_weaker, Each-append, Each-weaker}
+use Rattle.vs_disk.specs.Runs.{HasNoFault, FailsLast, Quiet}
+use Rattle.vs_disk.proofs.Runs.{starts, one_call, runs_as, runs_then, frames, fails_none, fails_call, quiet_none, quiet_call, goes_then, goes_weaker, Each-append, Each-weaker}
 use Rattle.vs_pair.specs.Acts.{Acts, NoneFails}
 
 -- ---- no call failed

@@ -14,7 +14,7 @@ use Rattle.vs_pages.specs.Memory.{committed_of}
 use Rattle.vs_pages.specs.declared.memory.MemPages.{MemPages}
 use Rattle.vs_pair.specs.declared.written.Written.{Written}
 use Rattle.vs_pair.specs.Acts.{Acts, NoneFails}
-use Rattle.vs_pair.specs.Swap.{Body, HasBody, Holds, IsOpen, HasMark, ChangesMark, KeepsMark, WritesBody, Fits, CloseStep, Closes, SyncStep, FailedSync, open_mark, closed_mark, zeros_page}
+use Rattle.vs_pair.specs.Swap.{Body, HasBody, Holds, IsOpen, HasMark, ChangesMark, KeepsMark, KeepsLength, Lengthens, WritesBody, Fits, CloseStep, Closes, SyncStep, FailedSync, open_mark, closed_mark, zeros_page}
 use Rattle.vs_pair.specs.Swap.FailedSync.{InClosing, InWriting, InOpening}
 use Rattle.vs_pair.specs.Stale.{HasFresh, Keeps, is_stale}
 use Rattle.vs_pair.specs.Writes.{page_or_zeros}
@@ -34,6 +34,9 @@ close_same gate a = (λ is. refl, mark_same a)
 
 pub closes_same : (gate : Gate) → gate ≡ Closed → (a : File) → Closes gate a a
 closes_same gate is a before = before is
+
+pub length_same : (a : File) → KeepsLength a a
+length_same a = record { no_shorter = omega arith; no_longer = omega arith }
 
 -- another is closed by a write of the identifier
 pub close_mark : (gate : Gate) → gate ≢ Closed → (a b : File) → ChangesMark a b → CloseStep gate a b
@@ -199,6 +202,14 @@ module _ (name : Name) (gate : Gate) (body : Body) where
         leads = marked.leads;
         has = λ c image. record { opened = marked.has c image; whole = has_at name (λ file. Leaves file (HasBody body)) new body_there marked.number marked.leads c image };
       }
+
+  pub grown_file : (old one two new : Disk) → ChangesFile name KeepsLength old one → ChangesFile name (WritesBody body) one two → ChangesFile name KeepsLength two new → ChangesFile name (Lengthens body.pages) old new
+  grown_file old one two new closes writes opens =
+      file_then name (Lengthens body.pages) KeepsLength (Lengthens body.pages)
+      (λ a b c grown keeps. record { end = grown.end; some = grown.some; past = grown.past; last = grown.last; is = omega (arith, grown.is, grown.some, keeps.no_shorter, keeps.no_longer) }) old two new
+      (file_then name KeepsLength (WritesBody body) (Lengthens body.pages)
+      (λ a b c keeps writes. let grown = writes.size in record { end = grown.end; some = grown.some; past = grown.past; last = grown.last; is = omega (arith, grown.is, grown.some, keeps.no_shorter, keeps.no_longer) })
+      old one two closes writes) opens
 
   pub closing_failed : gate ≢ Closed → (old new : Disk) → ChangesFile name (CloseStep gate) old new → ChangesFile name KeepsImages old new → ChangesFile name (FailedSync gate Unknown body) old new
   closing_failed not old new changes keeps =

@@ -1,17 +1,16 @@
 -- A name that leads to no file until a synced file is renamed to it.
-use Rattle.std.proofs.Common.{◌≡◌, ◌≢◌, ◌⊎◌, inl, inr, ℕ, zero, suc, ◌+◌, ◌≤◌, Bool, true, false, not, ◌||◌, cond, List, [], length, take, drop, Some, None, IsTrue, refl, sym, ◌∙◌, ap, subst, arith, length-take}
+use Rattle.std.proofs.Common.{◌≡◌, ◌≢◌, ◌⊎◌, inl, inr, ℕ, zero, suc, ◌≤◌, Bool, true, false, not, ◌||◌, cond, List, [], length, take, Some, None, IsTrue, refl, sym, ◌∙◌, ap, subst, arith}
 use Rattle.std.specs.Str.{bytes_eq}
 use Rattle.std.proofs.lemmas.Slice.Eq.{bytes_eq-Decides}
-use Rattle.std.proofs.lemmas.Bool.{cond-true, true≢false, or_parts}
-use Rattle.std.proofs.lemmas.List.{take_at}
-use Rattle.vs_host.specs.File.{File, IsFileImage, Leaves, Writes, synced_file}
+use Rattle.std.proofs.lemmas.Bool.{cond-true, cond-false, true≢false, or_parts}
+use Rattle.vs_host.specs.File.{File, IsFileImage, Leaves, Writes, put, synced_file}
 use Rattle.vs_host.specs.Disk.{Disk, Name, Directory, Change, Renames, Removes, Creates, ChangesFile, ChangesNames, CreatesFile, SyncsNames, changed_names, names_of, names_at, content_in}
 use Rattle.vs_disk.specs.Images.{FileHas}
 use Rattle.vs_disk.specs.Names.{SameAt, IsApart}
 use Rattle.vs_disk.proofs.Images.{synced_image}
 use Rattle.vs_disk.proofs.Steps.{at_name, differ, itself, newest_names, older_names, settled, file_after}
 use Rattle.vs_disk.proofs.Others.{same_none, same_then, file_outside, create_outside, rename_outside, remove_outside}
-use Rattle.vs_pair.specs.Swap.{Body, HasMark, Holds, WritesBody, open_mark}
+use Rattle.vs_pair.specs.Swap.{Body, Holds, IsMade, WritesBody, open_mark}
 use Rattle.vs_host.specs.World.{Tells, Scene}
 use Rattle.vs_pair.specs.Acts.{Acts, NoneFails}
 use Rattle.std.specs.Prelude.{IsSomeAnd}
@@ -114,6 +113,23 @@ pub gone_now : (name : Name) (old new : Disk) → ChangesNames (Removes name) ol
 gone_now name old new removes =
     at_name (names_of new) (changed_names (Removes name) (names_of old)) name (newest_names (Removes name) old new removes.synced removes.pending) ∙ cond-true (bytes_eq name name) None (names_of old name) (itself name)
 
+-- ---- a file under its new name
+
+pub renamed_has : (from to : Name) (P : File → Type 0) (old new : Disk) → FileHas old from P → ChangesNames (Renames from to) old new → FileHas new to P
+renamed_has from to P old new has renames = record {
+  number = has.number;
+  leads = at_name (names_of new) (changed_names (Renames from to) (names_of old)) to (newest_names (Renames from to) old new renames.synced renames.pending)
+      ∙ cond-true (bytes_eq to to) (names_of old from) (cond (bytes_eq from to) None (names_of old to)) (itself to) ∙ has.leads;
+  has = subst P (sym (ap (λ (files : ℕ → File). files has.number) renames.files)) has.has;
+}
+
+-- the old name leads nowhere
+pub renamed_gone : (from to : Name) (old new : Disk) → from ≢ to → ChangesNames (Renames from to) old new → names_of new from ≡ None
+renamed_gone from to old new apart renames =
+    at_name (names_of new) (changed_names (Renames from to) (names_of old)) from (newest_names (Renames from to) old new renames.synced renames.pending)
+    ∙ cond-false (bytes_eq to from) (names_of old from) (cond (bytes_eq from from) None (names_of old from)) (differ to from (λ is. apart (sym is)))
+    ∙ cond-true (bytes_eq from from) None (names_of old from) (itself from)
+
 -- ---- a file under its other name
 
 -- No other name leads to the file that is made.
@@ -155,16 +171,8 @@ module _ (temporary name : Name) (apart : temporary ≢ name) (body : Body) (old
 
   -- ---- the rename
   module _ (mid new : Disk) (making : Making temporary old mid) (has : FileHas mid temporary (λ file. Leaves file (Holds body))) (renames : ChangesNames (Renames temporary name) mid new) where
-    leads_now : names_of new name ≡ Some has.number
-    leads_now =
-        at_name (names_of new) (changed_names (Renames temporary name) (names_of mid)) name (newest_names (Renames temporary name) mid new renames.synced renames.pending)
-        ∙ cond-true (bytes_eq name name) (names_of mid temporary) (cond (bytes_eq temporary name) None (names_of mid name)) (itself name) ∙ has.leads
-
-    leaves_now : Leaves (new.files has.number) (Holds body)
-    leaves_now = subst (λ (f : File). Leaves f (Holds body)) (sym (ap (λ (files : ℕ → File). files has.number) renames.files)) has.has
-
     made_at : MayHold name body new
-    made_at zero = inr (record { number = has.number; leads = leads_now; leaves = leaves_now })
+    made_at zero = let now = renamed_has temporary name (λ file. Leaves file (Holds body)) mid new has renames in inr (record { number = now.number; leads = now.leads; leaves = now.has })
     made_at (suc l) = inl (
         at_name (names_at new (suc l)) (names_at mid l) name (older_names (Renames temporary name) mid new renames.synced renames.pending l)
         ∙ absent_stays (is_not temporary) name old mid (not_other temporary name apart) making.same absent l
@@ -176,9 +184,6 @@ module _ (temporary name : Name) (apart : temporary ≢ name) (body : Body) (old
           (renamed_same (is_neither temporary name) temporary name mid new (first_out temporary name) (second_out temporary name) renames);
       made = made_at;
     }
-
-    pub renamed_has : FileHas new name (λ file. Leaves file (Holds body))
-    renamed_has = record { number = has.number; leads = leads_now; has = leaves_now }
 
 -- ---- its bytes
 
@@ -196,26 +201,33 @@ created_there temporary old new creates =
     let has = created temporary old new creates in
     there_and new temporary (λ bytes. 0 ≤ length bytes) (record { number = has.number; leads = has.leads; has = omega arith })
 
-pub marked_new : (temporary : Name) (old new : Disk) → ChangesFile temporary (Writes 0 open_mark) old new → FileHas old temporary (λ file. file ≡ synced_file []) → FileHas new temporary (λ file. HasMark open_mark file.bytes)
+pub marked_new : (temporary : Name) (old new : Disk) → ChangesFile temporary (Writes 0 open_mark) old new → FileHas old temporary (λ file. file ≡ synced_file []) → FileHas new temporary (λ file. file.bytes ≡ open_mark)
 marked_new temporary old new writes has =
-    file_after temporary (Writes 0 open_mark) (λ file. file ≡ synced_file []) (λ file. HasMark open_mark file.bytes)
-    (λ a b empty is. ap (λ (f : File). take 2 f.bytes) is ∙ take_at open_mark (drop (0 + length open_mark) a.bytes) 2 refl) old new has writes
+    file_after temporary (Writes 0 open_mark) (λ file. file ≡ synced_file []) (λ file. file.bytes ≡ open_mark)
+    (λ a b empty is. ap (λ (f : File). f.bytes) is ∙ ap (λ (f : File). put f.bytes 0 open_mark) empty) old new has writes
 
 -- nothing is known of its pages
-pub new_fresh : (temporary : Name) (pages : MemPages) (disk : Disk) → FileHas disk temporary (λ file. HasMark open_mark file.bytes) → FileHas disk temporary (λ file. HasFresh pages nothing file.bytes)
+pub new_fresh : (temporary : Name) (pages : MemPages) (disk : Disk) → FileHas disk temporary (λ file. file.bytes ≡ open_mark) → FileHas disk temporary (λ file. HasFresh pages nothing file.bytes)
 new_fresh temporary pages disk has = record {
   number = has.number;
   leads = has.leads;
-  has = record { long = omega (arith, ap length has.has, length-take 2 (disk.files has.number).bytes); fresh = λ k least is. absurd (none_fresh pages k is) };
+  has = record { long = let two : length (disk.files has.number).bytes ≡ 2 = ap length has.has in omega (arith, two); fresh = λ k least is. absurd (none_fresh pages k is) };
 }
 
-pub whole_new : (temporary : Name) (body : Body) (old new : Disk) → ChangesFile temporary (WritesBody body) old new → FileHas old temporary (λ file. HasMark open_mark file.bytes) → FileHas new temporary (λ file. Leaves file (Holds body))
+pub whole_new : (temporary : Name) (body : Body) (old new : Disk) → ChangesFile temporary (WritesBody body) old new → FileHas old temporary (λ file. file.bytes ≡ open_mark) → FileHas new temporary (λ file. Leaves file (IsMade body))
 whole_new temporary body old new writes has =
-    file_after temporary (WritesBody body) (λ file. HasMark open_mark file.bytes) (λ file. Leaves file (Holds body))
+    file_after temporary (WritesBody body) (λ file. file.bytes ≡ open_mark) (λ file. Leaves file (IsMade body))
     (λ a b marked step c image.
     let is : c ≡ b.bytes = synced_image b.bytes c (subst (λ (f : File). IsFileImage f c) step.synced image) in
-    subst (λ (bytes : List ℕ). Holds body bytes) (sym is) (record { opened = step.mark ∙ marked; whole = step.has }))
+    let two : length a.bytes ≡ 2 = ap length marked in
+    subst (λ (bytes : List ℕ). IsMade body bytes) (sym is) (record {
+      holds = record { opened = step.mark ∙ ap (λ (bytes : List ℕ). take 2 bytes) marked; whole = step.has };
+      ends = record { end = step.size.end; some = step.size.some; past = step.size.past; last = step.size.last; is = omega (arith, step.size.is, step.size.some, two) };
+    }))
     old new has writes
+
+pub made_holds : (name : Name) (body : Body) (disk : Disk) → FileHas disk name (λ file. Leaves file (IsMade body)) → FileHas disk name (λ file. Leaves file (Holds body))
+made_holds name body disk has = record { number = has.number; leads = has.leads; has = λ c image. (has.has c image).holds }
 
 -- ---- each moment
 

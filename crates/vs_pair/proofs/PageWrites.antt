@@ -93,9 +93,9 @@ page_after bytes piece page at k le past there =
 -- ---- the pages so far
 
 -- Page 0 is written after its identifier. Each number below this one, and each that is not stale, is as it is committed.
-pub record IsSoFar (first : List ℕ) (pages : MemPages) (has : Written) (mark : List ℕ) (n : ℕ) (bytes : List ℕ) : Type 0 where
-  pub marked : take 2 bytes ≡ mark
-  pub long : 4096 * n ≤ length bytes
+pub record IsSoFar (first : List ℕ) (pages : MemPages) (has : Written) (old : List ℕ) (n : ℕ) (bytes : List ℕ) : Type 0 where
+  pub marked : take 2 bytes ≡ take 2 old
+  pub size : length bytes ≡ max (length old) (4096 * n)
   pub rest : take 4094 (drop 2 bytes) ≡ drop 2 first
   pub placed : (k : ℕ) → 1 ≤ k → (k < n) ⊎ (is_stale pages has k ≡ false) → page_in bytes k ≡ Some (page_or_zeros (committed_of pages k))
 
@@ -180,33 +180,32 @@ page_cut run page size n k is room less there =
 pub run_cut : (map : Map) (at n size : ℕ) (run : List ℕ) → size ≡ 4096 * n → size ≤ length run → HasRun map at n run → HasRun map at n (take size run)
 run_cut map at n size run is room has k less = page_cut run (page_or_zeros (map (at + k))) size n k is room less (has k less)
 
-begins : (first : List ℕ) (pages : MemPages) (has : Written) (piece mark : List ℕ) → piece ≡ drop 2 first → length piece ≡ 4094 → (a b : File) → HasFresh pages has a.bytes → take 2 a.bytes ≡ mark → Writes 2 piece a b
-    → IsSoFar first pages has mark 1 b.bytes
-begins first pages has piece mark is size a b fresh marked writes =
+begins : (first : List ℕ) (pages : MemPages) (has : Written) (piece : List ℕ) → piece ≡ drop 2 first → length piece ≡ 4094 → (a b : File) → HasFresh pages has a.bytes → Writes 2 piece a b → IsSoFar first pages has a.bytes 1 b.bytes
+begins first pages has piece is whole a b fresh writes =
     let now : b.bytes ≡ put a.bytes 2 piece = ap (λ (f : File). f.bytes) writes in
-    subst (λ (bytes : List ℕ). IsSoFar first pages has mark 1 bytes) (sym now) (record {
-      marked = front a.bytes piece 2 fresh.long ∙ marked;
-      long = omega (arith, length-put a.bytes piece 2 fresh.long, size);
-      rest = written a.bytes piece 2 4094 fresh.long size ∙ is;
-      placed = λ k least either. page_after a.bytes piece (page_or_zeros (committed_of pages k)) 2 k fresh.long (omega (arith, size, least)) (fresh.fresh k least (not_zero k least either));
+    subst (λ (bytes : List ℕ). IsSoFar first pages has a.bytes 1 bytes) (sym now) (record {
+      marked = front a.bytes piece 2 fresh.long;
+      size = omega (arith, length-put a.bytes piece 2 fresh.long, whole);
+      rest = written a.bytes piece 2 4094 fresh.long whole ∙ is;
+      placed = λ k least either. page_after a.bytes piece (page_or_zeros (committed_of pages k)) 2 k fresh.long (omega (arith, whole, least)) (fresh.fresh k least (not_zero k least either));
     })
   where
     not_zero : (k : ℕ) → 1 ≤ k → (k < 1) ⊎ (is_stale pages has k ≡ false) → is_stale pages has k ≡ false
     not_zero k least (inl less) = absurd (omega (arith, least, less))
     not_zero k least (inr is) = is
 
-more : (first : List ℕ) (pages : MemPages) (has : Written) (piece mark : List ℕ) (at n m : ℕ) → 1 ≤ n → at ≡ 4096 * n → length piece ≡ 4096 * m → HasRun (committed_of pages) n m piece → (a b : File)
-    → IsSoFar first pages has mark n a.bytes → Writes at piece a b → IsSoFar first pages has mark (n + m) b.bytes
-more first pages has piece mark at n m some place size run a b so_far writes =
+more : (first : List ℕ) (pages : MemPages) (has : Written) (piece old : List ℕ) (at n m : ℕ) → 1 ≤ n → at ≡ 4096 * n → length piece ≡ 4096 * m → HasRun (committed_of pages) n m piece → (a b : File)
+    → IsSoFar first pages has old n a.bytes → Writes at piece a b → IsSoFar first pages has old (n + m) b.bytes
+more first pages has piece old at n m some place whole run a b so_far writes =
     let now : b.bytes ≡ put a.bytes at piece = ap (λ (f : File). f.bytes) writes in
-    let le : at ≤ length a.bytes = omega (arith, place, so_far.long) in
+    let le : at ≤ length a.bytes = omega (arith, place, so_far.size) in
     let grown : length (put a.bytes at piece) ≡ max (length a.bytes) (at + length piece) = length-put a.bytes piece at le in
-    subst (λ (bytes : List ℕ). IsSoFar first pages has mark (n + m) bytes) (sym now) (record {
+    subst (λ (bytes : List ℕ). IsSoFar first pages has old (n + m) bytes) (sym now) (record {
       marked = sym (take-take 2 at (put a.bytes at piece) (omega (arith, place, some))) ∙ ap (λ (l : List ℕ). take 2 l) (front a.bytes piece at le) ∙ take-take 2 at a.bytes (omega (arith, place, some)) ∙ so_far.marked;
-      long = omega (arith, grown, place, size);
+      size = omega (arith, grown, place, whole, so_far.size);
       rest = part a.bytes piece at 2 4094 le (omega (arith, place, some)) ∙ so_far.rest;
       placed = λ k least either.
-          pages_then a.bytes piece (page_or_zeros (committed_of pages k)) at n m k place size so_far.long (λ around. so_far.placed k least (outside k either around))
+          pages_then a.bytes piece (page_or_zeros (committed_of pages k)) at n m k place whole (omega (arith, so_far.size)) (λ around. so_far.placed k least (outside k either around))
           (λ i same less. run i less ∙ ap (λ (j : ℕ). Some (page_or_zeros (committed_of pages j))) (sym same));
     })
   where
@@ -216,25 +215,26 @@ more first pages has piece mark at n m some place size run a b so_far writes =
     outside k (inr is) (inr after) = inr is
 
 -- numbers that are not stale are passed over
-passes : (first : List ℕ) (pages : MemPages) (has : Written) (mark : List ℕ) (n to : ℕ) (bytes : List ℕ) → 1 ≤ n → n ≤ to → ((k : ℕ) → n ≤ k → k < to → is_stale pages has k ≡ false) → IsSoFar first pages has mark n bytes
-    → IsSoFar first pages has mark to bytes
-passes first pages has mark n to bytes some le passed so_far = record { marked = so_far.marked; long = long; rest = so_far.rest; placed = λ k least either. so_far.placed k least (all k either) }
+passes : (first : List ℕ) (pages : MemPages) (has : Written) (old : List ℕ) (n to : ℕ) (bytes : List ℕ) → 1 ≤ n → n ≤ to → ((k : ℕ) → n ≤ k → k < to → is_stale pages has k ≡ false) → IsSoFar first pages has old n bytes
+    → IsSoFar first pages has old to bytes
+passes first pages has old n to bytes some le passed so_far = record { marked = so_far.marked; size = as_long; rest = so_far.rest; placed = λ k least either. so_far.placed k least (all k either) }
   where
     all : (k : ℕ) → (k < to) ⊎ (is_stale pages has k ≡ false) → (k < n) ⊎ (is_stale pages has k ≡ false)
     all k (inl less) = elim (cases_lt k n) [ inl below ↦ inl below | inr past ↦ inr (passed k past less) ]
     all k (inr is) = inr is
 
-    long : 4096 * to ≤ length bytes
-    long = elim (cases_lt n to) [
-      | inl less ↦ omega (arith, less, (page_found bytes (to - 1) _ (so_far.placed (to - 1) (omega (arith, some, less)) (inr (passed (to - 1) (omega (arith, less)) (omega (arith, less)))))).0)
-      | inr past ↦ omega (arith, past, so_far.long)
+    -- a number that is not stale lies in the file, so nothing is added
+    as_long : length bytes ≡ max (length old) (4096 * to)
+    as_long = elim (cases_lt n to) [
+      | inl less ↦ omega (arith, less, so_far.size, (page_found bytes (to - 1) _ (so_far.placed (to - 1) (omega (arith, some, less)) (inr (passed (to - 1) (omega (arith, less)) (omega (arith, less)))))).0)
+      | inr past ↦ omega (arith, past, le, so_far.size)
     ]
 
 -- ---- in the folder
 
 -- the file so far
 abbrev pub SoFar : List ℕ → MemPages → Written → ℕ → File → File → Type 0
-SoFar first pages has n old new = IsSoFar first pages has (take 2 old.bytes) n new.bytes
+SoFar first pages has n old new = IsSoFar first pages has old.bytes n new.bytes
 
 module _ (name : Name) (first : List ℕ) (pages : MemPages) (has : Written) where
   abbrev Fresh : File → Type 0
@@ -245,7 +245,7 @@ module _ (name : Name) (first : List ℕ) (pages : MemPages) (has : Written) whe
     synced = writes.synced;
     pending = writes.pending;
     others = writes.others;
-    this = λ number leads. begins first pages has piece (take 2 (old.files number).bytes) is size (old.files number) (new.files number) (fresh number leads) refl (writes.this number leads);
+    this = λ number leads. begins first pages has piece is size (old.files number) (new.files number) (fresh number leads) (writes.this number leads);
   }
     where
       size : length piece ≡ 4094
@@ -259,22 +259,22 @@ module _ (name : Name) (first : List ℕ) (pages : MemPages) (has : Written) whe
 
   pub has_passed : (n to : ℕ) → 1 ≤ n → n ≤ to → ((k : ℕ) → n ≤ k → k < to → is_stale pages has k ≡ false) → (old new : Disk) → ChangesFile name (SoFar first pages has n) old new → ChangesFile name (SoFar first pages has to) old new
   has_passed n to some le passed old new so_far =
-      file_as name (SoFar first pages has n) (SoFar first pages has to) (λ a b here. passes first pages has (take 2 a.bytes) n to b.bytes some le passed here) old new so_far
+      file_as name (SoFar first pages has n) (SoFar first pages has to) (λ a b here. passes first pages has a.bytes n to b.bytes some le passed here) old new so_far
 
   pub has_more : (piece : List ℕ) (at n m : ℕ) → 1 ≤ n → at ≡ 4096 * n → length piece ≡ 4096 * m → HasRun (committed_of pages) n m piece → (old mid new : Disk) → ChangesFile name (SoFar first pages has n) old mid
       → ChangesFile name (Writes at piece) mid new → ChangesFile name (SoFar first pages has (n + m)) old new
   has_more piece at n m some place size run old mid new so_far writes =
-      file_then name (SoFar first pages has n) (Writes at piece) (SoFar first pages has (n + m)) (λ a b c one two. more first pages has piece (take 2 a.bytes) at n m some place size run b c one two) old mid new so_far writes
+      file_then name (SoFar first pages has n) (Writes at piece) (SoFar first pages has (n + m)) (λ a b c one two. more first pages has piece a.bytes at n m some place size run b c one two) old mid new so_far writes
 
   -- the file is there, and long enough for the next page
   pub next_place : (at n : ℕ) → at ≡ 4096 * n → (old new : Disk) → FileHas old name Fresh → ChangesFile name (SoFar first pages has n) old new → FileHas new name (λ file. at ≤ length file.bytes)
   next_place at n place old new there so_far =
-      file_after name (SoFar first pages has n) Fresh (λ file. at ≤ length file.bytes) (λ a b fresh here. omega (arith, place, here.long)) old new there so_far
+      file_after name (SoFar first pages has n) Fresh (λ file. at ≤ length file.bytes) (λ a b fresh here. omega (arith, place, here.size)) old new there so_far
 
   -- all pages are written, and the file is synced
-  pub has_all : (n end : ℕ) → end ≤ n → ((k : ℕ) → end ≤ k → committed_of pages k ≡ None) → (old mid new : Disk) → ChangesFile name (SoFar first pages has n) old mid → ChangesFile name Syncs mid new
-      → ChangesFile name (WritesBody (record { first = first; pages = committed_of pages })) old new
-  has_all n end all none old mid new so_far syncs =
+  pub has_all : (n end : ℕ) → 1 ≤ n → end ≤ n → n ≤ max 1 end → ((k : ℕ) → end ≤ k → committed_of pages k ≡ None) → (0 < end → IsSome (committed_of pages (end - 1))) → (old mid new : Disk)
+      → ChangesFile name (SoFar first pages has n) old mid → ChangesFile name Syncs mid new → ChangesFile name (WritesBody (record { first = first; pages = committed_of pages })) old new
+  has_all n end some all most none last old mid new so_far syncs =
       file_then name (SoFar first pages has n) Syncs (WritesBody (record { first = first; pages = committed_of pages }))
       (λ a b c here sync.
       let now : c.bytes ≡ b.bytes = ap (λ (f : File). f.bytes) sync in
@@ -285,6 +285,13 @@ module _ (name : Name) (first : List ℕ) (pages : MemPages) (has : Written) whe
           pages = λ k page least there. here.placed k least (inl (below k page there)) ∙ ap (λ (o : Option (List ℕ)). Some (page_or_zeros o)) there;
           gaps = λ k above least less free some. here.placed k least (inl (omega (arith, less, below_some above some))) ∙ ap (λ (o : Option (List ℕ)). Some (page_or_zeros o)) free;
         });
+        size = record {
+          end = n;
+          some = some;
+          past = λ k past. none k (omega (arith, past, all));
+          last = λ more. subst (λ (k : ℕ). IsSome (committed_of pages (k - 1))) (omega (arith, more, most, all)) (last (omega (arith, more, most)));
+          is = ap length now ∙ here.size;
+        };
         synced = sync ∙ ap (λ (bytes : List ℕ). synced_file bytes) (sym now);
       }) old mid new so_far syncs
     where

@@ -3,12 +3,14 @@ use Rattle.std.proofs.Common.{◌≡◌, ◌≢◌, ◌⊎◌, inl, inr, ℕ, �
 use Rattle.std.specs.Str.{bytes_eq}
 use Rattle.std.proofs.lemmas.Bool.{true≢false, or_parts}
 use Rattle.vs_host.specs.File.{File, Leaves}
-use Rattle.vs_host.specs.Disk.{Disk, Name, SyncsNames, IsImage, IsImageOf, IsFolder}
+use Rattle.vs_host.specs.Disk.{Disk, Name, SyncsNames, IsImage, IsImageOf, IsFolder, names_of}
 use Rattle.vs_host.specs.Names.{AreNames}
 use Rattle.vs_host.specs.declared.names.Names.{Names}
 use Rattle.vs_host.specs.World.{Tells, Scene}
 use Rattle.vs_host.proofs.Apart.{names_apart}
 use Rattle.vs_disk.specs.Images.{FileHas, FileAlways}
+use Rattle.vs_disk.specs.Images as images
+use Rattle.vs_disk.specs.Names.{SameAt}
 use Rattle.vs_disk.proofs.Steps.{settled}
 use Rattle.vs_disk.proofs.Others.{same_then}
 use Rattle.vs_pages.specs.Maps.{Map}
@@ -18,9 +20,9 @@ use Rattle.vs_pair.specs.declared.gate.Gate.TheVariants.{Open}
 use Rattle.vs_pair.specs.declared.side.Side.{Side}
 use Rattle.vs_pair.specs.declared.side.Side.TheVariants.{Swp, Swo}
 use Rattle.vs_pair.specs.Acts.{Acts, NoneFails}
-use Rattle.vs_pair.specs.Swap.{Synced, Body, body_of, Holds}
+use Rattle.vs_pair.specs.Swap.{Synced, Body, body_of, Holds, HasLength, IsMade}
 use Rattle.vs_pair.specs.Pair.{Image, Known, name_of, temporary_of, is_foreign, is_swap, is_pair_name, RecoversOrNone, IsFit}
-use Rattle.vs_pair.specs.Steps.{IsAbsent, MayHold, is_neither, Makes, IsFresh, Starting}
+use Rattle.vs_pair.specs.Steps.{IsAbsent, MayHold, is_neither, Makes, IsFresh, Starting, BothMoved}
 use Rattle.vs_pair.proofs.Acts.{acts_as, acts_then}
 use Rattle.vs_pair.proofs.MadeFiles.{neither_apart, same_weaker, synced_same, absent_stays, may_stays, has_stays}
 use Rattle.vs_pair.proofs.FreshPages.{keeps_all}
@@ -44,6 +46,10 @@ module _ (names : Names) (are : AreNames names) where
 
   swo_apart : is_neither names.swp_new names.swp names.swo ≡ true
   swo_apart = neither_apart names.swp_new names.swp names.swo (λ is. (names_apart names are).1.1.0.1.1.0 (sym is)) both_differ
+
+  -- nor is the name under which it was made
+  swp_new_apart : is_neither names.swo_new names.swo names.swp_new ≡ true
+  swp_new_apart = neither_apart names.swo_new names.swo names.swp_new (λ is. (names_apart names are).1.1.1.1.1.0.0 (sym is)) (names_apart names are).1.1.0.1.1.0
 
 not_true : (b : Bool) → not b ≡ true → b ≡ false
 not_true true is = absurd (true≢false (sym is))
@@ -119,6 +125,27 @@ always_synced name P old new syncs has = record {
   leads = λ lost. settled old new syncs lost name ∙ has.leads;
   has = subst P (sym (ap (λ (files : ℕ → File). files has.number) syncs.files)) has.has;
 }
+
+-- ---- what a start leaves, once the names were synced
+
+ends_synced : (name : Name) (body : Body) (old new : Disk) → SyncsNames old new → FileHas old name (λ file. Leaves file (IsMade body)) → images.Holds name (HasLength body.pages 0) new
+ends_synced name body old new syncs has lost =
+    let always = always_synced name (λ file. Leaves file (IsMade body)) old new syncs has in
+    record { number = has.number; leads = always.leads lost; leaves = λ c image. (always.has c image).ends }
+
+module _ (names : Names) (are : AreNames names) (first second new : Disk) (same : SameAt (is_neither names.swo_new names.swo) first second) (syncs : SyncsNames second new) where
+  pub both_end : (one two : Body) → FileHas first names.swp (λ file. Leaves file (IsMade one)) → FileHas second names.swo (λ file. Leaves file (IsMade two))
+      → images.Holds names.swp (HasLength one.pages 0) new × images.Holds names.swo (HasLength two.pages 0) new
+  both_end one two has_one has_two = (
+    ends_synced names.swp one second new syncs (has_stays (is_neither names.swo_new names.swo) names.swp (λ file. Leaves file (IsMade one)) first second (swp_apart names are) same has_one),
+    ends_synced names.swo two second new syncs has_two,
+  )
+
+  pub both_moved : names_of first names.swp_new ≡ None → names_of second names.swo_new ≡ None → BothMoved names new
+  both_moved one two = (
+    λ lost. settled second new syncs lost names.swp_new ∙ same.now names.swp_new (swp_new_apart names are) ∙ one,
+    λ lost. settled second new syncs lost names.swo_new ∙ two,
+  )
 
 -- ---- each moment
 
@@ -213,8 +240,8 @@ pub made_as : (tells : Tells) (t u n m : Name) (b d : Body) → t ≡ u → n �
 made_as tells t u n m b d temporary name body old new acts =
     subst (λ (x : Name). Acts tells (Makes x m d) old new) temporary (subst (λ (x : Name). Acts tells (Makes t x d) old new) name (subst (λ (x : Body). Acts tells (Makes t n x) old new) body acts))
 
-pub has_as : (n m : Name) (b d : Body) → n ≡ m → b ≡ d → (disk : Disk) → FileHas disk n (λ file. Leaves file (Holds b)) → FileHas disk m (λ file. Leaves file (Holds d))
-has_as n m b d name body disk has = subst (λ (x : Name). FileHas disk x (λ file. Leaves file (Holds d))) name (subst (λ (x : Body). FileHas disk n (λ file. Leaves file (Holds x))) body has)
+pub has_as : (n m : Name) (b d : Body) → n ≡ m → b ≡ d → (disk : Disk) → FileHas disk n (λ file. Leaves file (IsMade b)) → FileHas disk m (λ file. Leaves file (IsMade d))
+has_as n m b d name body disk has = subst (λ (x : Name). FileHas disk x (λ file. Leaves file (IsMade d))) name (subst (λ (x : Body). FileHas disk n (λ file. Leaves file (IsMade x))) body has)
 
 pub side_differs : (names : Names) → AreNames names → (side : Side) → temporary_of names side ≢ name_of names side
 side_differs names are Swp = swp_differs names are

@@ -2,8 +2,7 @@
 use Rattle.std.specs.Prelude.{◌≡◌, ℕ, ◌+◌, ◌≤◌, IsTrue, length}
 use Rattle.vs_host.specs.Disk.{Disk}
 use Rattle.vs_host.specs.World.{Tells, Scene, ChangesFolder}
-use Rattle.vs_disk.specs.Runs.{Runs, FailsLast}
-use Rattle.vs_disk.proofs.Runs.{Quiet}
+use Rattle.vs_disk.specs.Runs.{Runs, FailsLast, Quiet}
 
 -- Only the folder, its faults and the trace changed. Where the folder is told, the step leads from the folder at the start to
 -- that of each snapshot since and to that now, and no call but the last one failed.

@@ -7,7 +7,7 @@ ghost use Rattle.vs_disk.specs.Images.{FileHas};
 ghost use Rattle.vs_disk.specs.Names.{SameAt};
 ghost use Rattle.vs_pages.specs.Memory.{committed_of};
 ghost use Rattle.vs_pair.specs.Acts.{Acts, NoneFails};
-ghost use Rattle.vs_pair.specs.Swap.{Holds};
+ghost use Rattle.vs_pair.specs.Swap.{IsMade};
 ghost use Rattle.vs_pair.specs.Steps.{IsAbsent, Makes, is_not};
 
 use crate::writing::{OPEN, write_pages};
@@ -41,7 +41,8 @@ pub(crate) fn make_file<F: Folder>(
     requires absent { IsTrue F.tells.folder → IsAbsent name.now (F.scene host.old).folder }
     ensures acts { Acts F.tells (Makes temporary.now name.now (record { first = first.now; pages = committed_of pages.now })) (F.scene host.old) (F.scene host.new) }
     ensures made { OnOk result (IsTrue F.tells.folder
-        → FileHas (F.scene host.new).folder name.now (λ file. Leaves file (Holds (record { first = first.now; pages = committed_of pages.now })))) }
+        → FileHas (F.scene host.new).folder name.now (λ file. Leaves file (IsMade (record { first = first.now; pages = committed_of pages.now })))) }
+    ensures moved { OnOk result (IsTrue F.tells.folder → names_of (F.scene host.new).folder temporary.now ≡ None) }
     ensures none { OnOk result (NoneFails F.tells (F.scene host.old) (F.scene host.new)) }
     ensures cause { HasCause (F.scene host.old).folder_faults (F.scene host.new).folder_faults (IsErr result) }
 {

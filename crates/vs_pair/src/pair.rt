@@ -1,12 +1,13 @@
 // The swap pair of a session.
 ghost use Rattle.std.specs.Prelude.{◌≡◌, ◌+◌, ◌<◌, ◌≤◌, ◌^◌, ◌∷◌, [], ℕ, List, None, OnOk, OnErr, IfOk, IsErr, IsTrue};
 ghost use Rattle.vs_faults.specs.Faults.{HasCause};
+ghost use Rattle.vs_host.specs.Disk.{ChangesFile};
 ghost use Rattle.vs_host.specs.Names.{AreNames, is_allowed, names_of_file};
 ghost use Rattle.vs_pages.specs.Maps.{first_pages};
 ghost use Rattle.vs_pages.specs.Memory.{committed_of, present_of};
 ghost use Rattle.vs_pair.specs.Acts.{Acts, CallsAtMost, NoneFails};
-ghost use Rattle.vs_pair.specs.Swap.{Synced, page_zero};
-ghost use Rattle.vs_pair.specs.Pair.{IsFit, Syncing, IsTextOf, Rises};
+ghost use Rattle.vs_pair.specs.Swap.{Lengthens, Synced, page_zero};
+ghost use Rattle.vs_pair.specs.Pair.{IsFit, Syncing, IsTextOf, Rises, name_of, other_side};
 ghost use Rattle.vs_pair.specs.Stale.{IsEnd, stale_below};
 
 use crate::head::page_zero;
@@ -69,6 +70,10 @@ impl SwapPair {
             → IsFit (known_of self.new) (F.scene host.new).folder (sync_of self.old head.now) [] (newest ∷ past)) }
         ensures err { OnErr result (IsTrue F.tells.folder → (newest : Synced) (begun past : List Synced) → IsFit (known_of self.old) (F.scene host.old).folder newest begun past
             → IsFit (known_of self.new) (F.scene host.new).folder newest (sync_of self.old head.now ∷ begun) past) }
+
+        // The file comes to go up to its last page, or goes as far as before.
+        ensures grown { OnOk result (IsTrue F.tells.folder → ChangesFile (name_of self.old.files.names (other_side self.old.files.newer))
+            (Lengthens (committed_of self.old.pages)) (F.scene host.old).folder (F.scene host.new).folder) }
 
         // Some file stands in every image with a generation above all before, exactly where the sync is acknowledged.
         ensures rises { OnOk result (IsTrue F.tells.folder → (text : List (List ℕ)) → IsTextOf (sync_of self.old head.now) text

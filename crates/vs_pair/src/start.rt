@@ -1,10 +1,12 @@
 // The start of a pair.
-ghost use Rattle.std.specs.Prelude.{◌≡◌, ◌∷◌, [], OnOk, OnErr, IsErr, IsTrue};
+ghost use Rattle.std.specs.Prelude.{◌≡◌, ◌∷◌, [], None, OnOk, OnErr, IsErr, IsTrue};
 ghost use Rattle.vs_faults.specs.Faults.{HasCause};
 ghost use Rattle.vs_pair.specs.Acts.{Acts, NoneFails};
 ghost use Rattle.vs_pair.specs.Pair.{IsFit, known_of, name_of, temporary_of, sync_with};
-ghost use Rattle.vs_pair.specs.Steps.{IsAbsent, IsFresh, Makes, Starting};
-ghost use Rattle.vs_pair.specs.Swap.{Holds, body_of};
+ghost use Rattle.vs_pair.specs.Steps.{BothEnd, BothMoved, IsAbsent, IsFresh, Makes, Starting};
+ghost use Rattle.vs_pair.specs.Swap.{IsMade, body_of};
+ghost use Rattle.vs_pages.specs.Memory.{committed_of};
+ghost use Rattle.vs_host.specs.Disk.{names_of};
 ghost use Rattle.vs_host.specs.File.{Leaves};
 ghost use Rattle.vs_disk.specs.Images.{FileHas};
 
@@ -28,7 +30,8 @@ impl SwapPair {
         ensures acts { Acts F.tells (Makes (temporary_of self.now.files.names side) (name_of self.now.files.names side) (body_of self.now.files.names.file (sync_with self.now generation head.now)))
             (F.scene host.old) (F.scene host.new) }
         ensures made { OnOk result (IsTrue F.tells.folder → FileHas (F.scene host.new).folder (name_of self.now.files.names side)
-            (λ file. Leaves file (Holds (body_of self.now.files.names.file (sync_with self.now generation head.now))))) }
+            (λ file. Leaves file (IsMade (body_of self.now.files.names.file (sync_with self.now generation head.now))))) }
+        ensures moved { OnOk result (IsTrue F.tells.folder → names_of (F.scene host.new).folder (temporary_of self.now.files.names side) ≡ None) }
         ensures none { OnOk result (NoneFails F.tells (F.scene host.old) (F.scene host.new)) }
         ensures cause { HasCause (F.scene host.old).folder_faults (F.scene host.new).folder_faults (IsErr result) }
     {
@@ -43,13 +46,17 @@ impl SwapPair {
         )
     }
 
-    /// Makes both files, with the generations 1 and 2. After an error the pair is as before, and is of no more use.
+    /// Makes both files, the first with the generation 1 and the second with 2, and leaves both open. After an error the pair is
+    /// as before, and is of no more use.
     pub fn start<F: Folder>(&mut self, host: &mut F, head: &Head) -> Result<(), Failed>
         requires new { self.old.files.generation ≡ 0 }
         requires fresh { IsTrue F.tells.folder → IsFresh self.old.files.names (F.scene host.old).folder }
         ensures acts { Acts F.tells (Starting self.old.files.names (sync_with self.old 1 head.now) (sync_with self.old 2 head.now)) (F.scene host.old) (F.scene host.new) }
         ensures ok { OnOk result (IsTrue F.tells.folder
             → IsFit (known_of self.new) (F.scene host.new).folder (sync_with self.old 2 head.now) [] (sync_with self.old 1 head.now ∷ [])) }
+        ensures ends { OnOk result (IsTrue F.tells.folder → BothEnd self.old.files.names (committed_of self.old.pages) (F.scene host.new).folder) }
+        ensures moved { OnOk result (IsTrue F.tells.folder → BothMoved self.old.files.names (F.scene host.new).folder) }
+        ensures sides { OnOk result ((self.new.files.newer ≡ Side.Swo) × (self.new.files.gate ≡ Gate.Open)) }
         ensures generation { OnOk result (self.new.files.generation ≡ 2) }
         ensures stays { OnErr result (self.new.files ≡ self.old.files) }
         ensures pages { self.new.pages ≡ self.old.pages }

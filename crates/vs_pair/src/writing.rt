@@ -8,7 +8,7 @@ ghost use Rattle.vs_pages.specs.Memory.{committed_of};
 ghost use Rattle.vs_pair.specs.Acts.{Acts, CallsAtMost, NoneFails};
 ghost use Rattle.vs_pair.specs.Stale.{HasFresh, IsEnd, Keeps, stale_below};
 ghost use Rattle.vs_pair.specs.Writes.{HasRun, page_or_zeros};
-ghost use Rattle.vs_pair.specs.Swap.{Body, Holds, HasMark, ChangesMark, KeepsMark, WritesBody, Fits, CloseStep, Closes, SyncStep, FailedSync, open_mark};
+ghost use Rattle.vs_pair.specs.Swap.{Body, Holds, HasMark, ChangesMark, KeepsMark, KeepsLength, Lengthens, WritesBody, Fits, CloseStep, Closes, SyncStep, FailedSync, open_mark};
 
 use crate::Gate;
 use crate::stale::{next_stale, stale_run};
@@ -35,6 +35,7 @@ fn mark<F: Folder>(host: &mut F, name: &str, identifier: &[u8]) -> Result<(), Fa
     // At each moment each image is one from before, but for its identifier.
     ensures acts { Acts F.tells (ChangesFile name.now ChangesMark) (F.scene host.old) (F.scene host.new) }
     ensures marked { OnOk result (IsTrue F.tells.folder → FileHas (F.scene host.new).folder name.now (λ file. Leaves file (HasMark identifier.now))) }
+    ensures grown { OnOk result (IsTrue F.tells.folder → ChangesFile name.now KeepsLength (F.scene host.old).folder (F.scene host.new).folder) }
     ensures failed { OnErr result (IsTrue F.tells.folder → ChangesFile name.now KeepsImages (F.scene host.old).folder (F.scene host.new).folder) }
     ensures none { OnOk result (NoneFails F.tells (F.scene host.old) (F.scene host.new)) }
     ensures cause { HasCause (F.scene host.old).folder_faults (F.scene host.new).folder_faults (IsErr result) }
@@ -114,6 +115,7 @@ fn close_gate<F: Folder>(host: &mut F, name: &str, gate: &mut Gate) -> Result<()
     ensures acts { Acts F.tells (ChangesFile name.now (CloseStep gate.old)) (F.scene host.old) (F.scene host.new) }
     ensures closed { OnOk result (gate.new ≡ Gate.Closed) }
     ensures closes { OnOk result (IsTrue F.tells.folder → ChangesFile name.now (Closes gate.old) (F.scene host.old).folder (F.scene host.new).folder) }
+    ensures grown { OnOk result (IsTrue F.tells.folder → ChangesFile name.now KeepsLength (F.scene host.old).folder (F.scene host.new).folder) }
     ensures was { OnErr result (gate.old ≢ Gate.Closed) }
     ensures unknown { OnErr result (gate.new ≡ Gate.Unknown) }
     ensures failed { OnErr result (IsTrue F.tells.folder → ChangesFile name.now KeepsImages (F.scene host.old).folder (F.scene host.new).folder) }
@@ -138,6 +140,7 @@ fn open_gate<F: Folder>(host: &mut F, name: &str, gate: &mut Gate) -> Result<(),
     ensures acts { Acts F.tells (ChangesFile name.now ChangesMark) (F.scene host.old) (F.scene host.new) }
     ensures opened { OnOk result (gate.new ≡ Gate.Open) }
     ensures marked { OnOk result (IsTrue F.tells.folder → FileHas (F.scene host.new).folder name.now (λ file. Leaves file (HasMark open_mark))) }
+    ensures grown { OnOk result (IsTrue F.tells.folder → ChangesFile name.now KeepsLength (F.scene host.old).folder (F.scene host.new).folder) }
     ensures unknown { OnErr result (gate.new ≡ Gate.Unknown) }
     ensures failed { OnErr result (IsTrue F.tells.folder → ChangesFile name.now KeepsImages (F.scene host.old).folder (F.scene host.new).folder) }
     ensures none { OnOk result (NoneFails F.tells (F.scene host.old) (F.scene host.new)) }
@@ -167,6 +170,7 @@ pub(crate) fn sync_file<F: Folder>(
     ensures opened { OnOk result (gate.new ≡ Gate.Open) }
     ensures stands { OnOk result (IsTrue F.tells.folder
         → FileHas (F.scene host.new).folder name.now (λ file. Leaves file (Holds (record { first = first.now; pages = committed_of pages.now })))) }
+    ensures grown { OnOk result (IsTrue F.tells.folder → ChangesFile name.now (Lengthens (committed_of pages.now)) (F.scene host.old).folder (F.scene host.new).folder) }
     ensures failed { OnErr result (IsTrue F.tells.folder
         → ChangesFile name.now (FailedSync gate.old gate.new (record { first = first.now; pages = committed_of pages.now })) (F.scene host.old).folder (F.scene host.new).folder) }
     ensures none { OnOk result (NoneFails F.tells (F.scene host.old) (F.scene host.new)) }

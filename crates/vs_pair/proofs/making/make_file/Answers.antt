@@ -1,13 +1,13 @@
 use Rattle.std.proofs.lemmas.Result.{on_ok_weaker}
 use Rattle.vs_host.specs.Disk.{ChangesNames, CreatesFile, Renames}
-use Rattle.vs_host.specs.File.{WritesSome}
+use Rattle.vs_host.specs.File.{Leaves, WritesSome}
 use Rattle.vs_host.specs.Trace.{Created, Wrote, Renamed}
 use Rattle.vs_disk.proofs.Contents.{not_there}
 use Rattle.vs_pages.specs.Memory.{committed_of}
-use Rattle.vs_pair.specs.Swap.{KeepsMark}
+use Rattle.vs_pair.specs.Swap.{IsMade, KeepsMark}
 use Rattle.vs_pair.proofs.Acts.{none_call, none_then}
 use Rattle.vs_pair.proofs.Calls.{write_acts, either_acts, is_there}
-use Rattle.vs_pair.proofs.MadeFiles.{clearing, creating, writing, renaming, making_begins, making_creates, making_writes, created, created_there, marked_new, new_fresh, whole_new, renamed_has}
+use Rattle.vs_pair.proofs.MadeFiles.{clearing, creating, writing, renaming, making_begins, making_creates, making_writes, created, created_there, marked_new, new_fresh, whole_new, made_holds, renamed_has, renamed_gone}
 use Rattle.vs_pair.proofs.making.make_file.Goals as goal
 
 pub returns-in_err-clear-clause-acts : goal.returns-in_err-clear-clause-acts
@@ -68,18 +68,23 @@ returns-clause-acts g c =
     (λ told. (making_writes c.args.temporary.now (WritesSome 0 2) _ (g.F.World.scene c.create_private.new.self).folder (g.F.World.scene c.write_at.new.self).folder (making_creates c.args.temporary.now _ (g.F.World.scene c.clear.new.host).folder (g.F.World.scene c.create_private.new.self).folder (making_begins c.args.temporary.now _ _ (c.clear.ensures.acts.runs told).now (c.in_ok-clear.ensures.free told)) (c.in_ok-create_private.ensures.ok told)) (c.write_at.ensures.some told)))
     c.write_pages.ensures.acts)
     (λ told. (making_writes c.args.temporary.now KeepsMark _ (g.F.World.scene c.write_at.new.self).folder (g.F.World.scene c.write_pages.new.host).folder (making_writes c.args.temporary.now (WritesSome 0 2) _ (g.F.World.scene c.create_private.new.self).folder (g.F.World.scene c.write_at.new.self).folder (making_creates c.args.temporary.now _ (g.F.World.scene c.clear.new.host).folder (g.F.World.scene c.create_private.new.self).folder (making_begins c.args.temporary.now _ _ (c.clear.ensures.acts.runs told).now (c.in_ok-clear.ensures.free told)) (c.in_ok-create_private.ensures.ok told)) (c.write_at.ensures.some told)) (c.write_pages.ensures.acts.runs told).now))
-    (λ told. (whole_new c.args.temporary.now (record { first = c.args.first.now; pages = committed_of c.args.pages.now }) (g.F.World.scene c.write_at.new.self).folder (g.F.World.scene c.write_pages.new.host).folder (c.in_ok-write_pages.ensures.written told)
+    (λ told. made_holds c.args.temporary.now (record { first = c.args.first.now; pages = committed_of c.args.pages.now }) _ (whole_new c.args.temporary.now (record { first = c.args.first.now; pages = committed_of c.args.pages.now }) (g.F.World.scene c.write_at.new.self).folder (g.F.World.scene c.write_pages.new.host).folder (c.in_ok-write_pages.ensures.written told)
     (marked_new c.args.temporary.now (g.F.World.scene c.create_private.new.self).folder (g.F.World.scene c.write_at.new.self).folder (c.in_ok-write_at.ensures.ok told) (created c.args.temporary.now (g.F.World.scene c.clear.new.host).folder (g.F.World.scene c.create_private.new.self).folder (c.in_ok-create_private.ensures.ok told)))))
     (either_acts g.F.World.tells (ChangesNames (Renames c.args.temporary.now c.args.name.now)) Renamed _ c.rename.result _ _ c.rename.ensures.ok c.rename.ensures.err c.rename.ensures.cause c.rename.ensures.told c.rename.ensures.frame)
 
 pub returns-clause-made : goal.returns-clause-made
 returns-clause-made g c =
     on_ok_weaker c.rename.result
-    (λ renames told. renamed_has c.args.temporary.now c.args.name.now c.requires.differ (record { first = c.args.first.now; pages = committed_of c.args.pages.now }) (g.F.World.scene c.args.host.now).folder (c.requires.absent told) (g.F.World.scene c.write_pages.new.host).folder (g.F.World.scene c.rename.new.self).folder
-    (making_writes c.args.temporary.now KeepsMark _ (g.F.World.scene c.write_at.new.self).folder (g.F.World.scene c.write_pages.new.host).folder (making_writes c.args.temporary.now (WritesSome 0 2) _ (g.F.World.scene c.create_private.new.self).folder (g.F.World.scene c.write_at.new.self).folder (making_creates c.args.temporary.now _ (g.F.World.scene c.clear.new.host).folder (g.F.World.scene c.create_private.new.self).folder (making_begins c.args.temporary.now _ _ (c.clear.ensures.acts.runs told).now (c.in_ok-clear.ensures.free told)) (c.in_ok-create_private.ensures.ok told)) (c.write_at.ensures.some told)) (c.write_pages.ensures.acts.runs told).now)
+    (λ renames told. renamed_has c.args.temporary.now c.args.name.now (λ file. Leaves file (IsMade (record { first = c.args.first.now; pages = committed_of c.args.pages.now }))) (g.F.World.scene c.write_pages.new.host).folder (g.F.World.scene c.rename.new.self).folder
     (whole_new c.args.temporary.now (record { first = c.args.first.now; pages = committed_of c.args.pages.now }) (g.F.World.scene c.write_at.new.self).folder (g.F.World.scene c.write_pages.new.host).folder (c.in_ok-write_pages.ensures.written told)
     (marked_new c.args.temporary.now (g.F.World.scene c.create_private.new.self).folder (g.F.World.scene c.write_at.new.self).folder (c.in_ok-write_at.ensures.ok told) (created c.args.temporary.now (g.F.World.scene c.clear.new.host).folder (g.F.World.scene c.create_private.new.self).folder (c.in_ok-create_private.ensures.ok told))))
     (renames told))
+    c.rename.ensures.ok
+
+pub returns-clause-moved : goal.returns-clause-moved
+returns-clause-moved g c =
+    on_ok_weaker c.rename.result
+    (λ renames told. renamed_gone c.args.temporary.now c.args.name.now (g.F.World.scene c.write_pages.new.host).folder (g.F.World.scene c.rename.new.self).folder c.requires.differ (renames told))
     c.rename.ensures.ok
 
 pub returns-clause-none : goal.returns-clause-none

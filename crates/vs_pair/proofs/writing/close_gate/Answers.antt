@@ -1,9 +1,9 @@
 use Rattle.vs_host.specs.Disk.{ChangesFile}
 use Rattle.vs_disk.proofs.Steps.{same_file}
-use Rattle.vs_pair.specs.Swap.{CloseStep, Closes}
+use Rattle.vs_pair.specs.Swap.{CloseStep, Closes, KeepsLength}
 use Rattle.vs_pair.proofs.Acts.{acts_none, none_fails}
 use Rattle.vs_pair.proofs.Calls.{on_err_from}
-use Rattle.vs_pair.proofs.Gates.{not_closed, close_same, closes_same, close_acts, mark_closes}
+use Rattle.vs_pair.proofs.Gates.{not_closed, close_same, closes_same, length_same, close_acts, mark_closes}
 use Rattle.vs_pair.proofs.Bounds.{no_calls}
 use Rattle.vs_pair.proofs.writing.close_gate.Goals as goal
 
@@ -13,6 +13,9 @@ returns-in-Closed-clause-acts g c =
 
 pub returns-in-Closed-clause-closes : goal.returns-in-Closed-clause-closes
 returns-in-Closed-clause-closes g c told = same_file c.args.name.now (Closes c.args.gate.now) (closes_same c.args.gate.now c.in-Closed.is) _
+
+pub returns-in-Closed-clause-grown : goal.returns-in-Closed-clause-grown
+returns-in-Closed-clause-grown g c told = same_file c.args.name.now KeepsLength length_same _
 
 pub returns-in-Closed-clause-none : goal.returns-in-Closed-clause-none
 returns-in-Closed-clause-none g c = none_fails g.F.World.tells _

@@ -3,7 +3,7 @@ use Rattle.vs_host.specs.Trace.{Wrote, Synced}
 use Rattle.vs_pair.specs.Swap.{ChangesMark}
 use Rattle.vs_pair.proofs.Acts.{none_call, none_then}
 use Rattle.vs_pair.proofs.Calls.{write_acts, sync_acts, acts_file, on_err_from}
-use Rattle.vs_pair.proofs.Marks.{mark_joins, write_mark, sync_mark, marked, failed_write, failed_sync}
+use Rattle.vs_pair.proofs.Marks.{mark_joins, write_mark, sync_mark, marked, mark_length, failed_write, failed_sync}
 use Rattle.std.proofs.Common.{arith}
 use Rattle.vs_pair.proofs.Bounds.{one_call, calls_then, calls_within}
 use Rattle.vs_pair.proofs.writing.mark.Goals as goal
@@ -25,6 +25,10 @@ returns-clause-acts g c =
 pub returns-clause-marked : goal.returns-clause-marked
 returns-clause-marked g c =
     on_ok_weaker c.sync.result (λ syncs told. marked c.args.name.now c.args.identifier.now c.requires.two _ _ _ (c.requires.there told) (c.in_ok-write_at.ensures.ok told) (syncs told)) c.sync.ensures.ok
+
+pub returns-clause-grown : goal.returns-clause-grown
+returns-clause-grown g c =
+    on_ok_weaker c.sync.result (λ syncs told. mark_length c.args.name.now c.args.identifier.now c.requires.two _ _ _ (c.in_ok-write_at.ensures.ok told) (syncs told)) c.sync.ensures.ok
 
 pub returns-clause-failed : goal.returns-clause-failed
 returns-clause-failed g c =

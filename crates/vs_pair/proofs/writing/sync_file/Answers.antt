@@ -6,7 +6,7 @@ use Rattle.vs_pair.specs.declared.gate.Gate.{Gate}
 use Rattle.vs_pair.specs.Swap.{Body, Fits, FailedSync}
 use Rattle.vs_pair.proofs.Acts.{none_then}
 use Rattle.vs_pair.proofs.Calls.{on_err_from, on_err_both}
-use Rattle.vs_pair.proofs.Gates.{ShutsWith, closing_acts, closing_failed, writing_acts, writing_failed, written_file, opening_acts, opening_failed, opened_file, fresh_behind, still_there}
+use Rattle.vs_pair.proofs.Gates.{ShutsWith, closing_acts, closing_failed, writing_acts, writing_failed, written_file, opening_acts, opening_failed, opened_file, grown_file, fresh_behind, still_there}
 use Rattle.std.proofs.Common.{◌+◌, arith}
 use Rattle.vs_pair.specs.Stale.{stale_below}
 use Rattle.vs_pair.proofs.Bounds.{calls_then, calls_within}
@@ -67,6 +67,12 @@ returns-clause-stands g c =
     (written_file c.args.name.now c.args.gate.now (record { first = c.args.first.now; pages = committed_of c.args.pages.now }) _ _ _ (c.in_ok-close_gate.ensures.closes told) (c.in_ok-write_pages.ensures.written told))
     (c.open_gate.ensures.acts.runs told).now (marked told))
     c.open_gate.ensures.marked
+
+pub returns-clause-grown : goal.returns-clause-grown
+returns-clause-grown g c =
+    on_ok_weaker c.open_gate.result
+    (λ opens told. grown_file c.args.name.now c.args.gate.now (record { first = c.args.first.now; pages = committed_of c.args.pages.now }) _ _ _ _ (c.in_ok-close_gate.ensures.grown told) (c.in_ok-write_pages.ensures.written told) (opens told))
+    c.open_gate.ensures.grown
 
 pub returns-clause-failed : goal.returns-clause-failed
 returns-clause-failed g c =

@@ -75,7 +75,8 @@ returns-clause-acts g c =
 pub returns-clause-written : goal.returns-clause-written
 returns-clause-written g c =
     on_ok_weaker c.sync.result
-    (λ syncs told. has_all c.args.name.now c.args.first.now c.args.pages.now c.args.written.now c.runs.at c.committed_end-end.result (omega arith) c.committed_end-end.ensures.past _ _ _ (c.runs.invariant.so_far told) (syncs told))
+    (λ syncs told. has_all c.args.name.now c.args.first.now c.args.pages.now c.args.written.now c.runs.at c.committed_end-end.result c.runs.invariant.some (omega arith) c.runs.invariant.within
+    c.committed_end-end.ensures.past c.committed_end-end.ensures.last _ _ _ (c.runs.invariant.so_far told) (syncs told))
     c.sync.ensures.ok
 
 pub returns-clause-none : goal.returns-clause-none

@@ -1,11 +1,14 @@
-use Rattle.std.proofs.Common.{false, refl, arith}
+use Rattle.std.proofs.Common.{false, refl, sym, subst, arith}
 use Rattle.vs_pair.specs.Pair.{sync_with}
 use Rattle.vs_pair.specs.Steps as steps
 use Rattle.vs_pair.proofs.Acts.{acts_as}
 use Rattle.vs_host.specs.Names.{names_of_file}
+use Rattle.vs_host.specs.declared.names.Names.{Names}
+use Rattle.vs_pages.specs.Memory.{committed_of}
+use Rattle.vs_pages.specs.declared.memory.MemPages.{MemPages}
 use Rattle.vs_paged.specs.Fits.{Starting}
 use Rattle.vs_paged.proofs.PageLemmas.{is_paged, is_bounded}
-use Rattle.vs_paged.proofs.SyncLemmas.{opened_starting, opened_fits, lines_opened}
+use Rattle.vs_paged.proofs.SyncLemmas.{names_opened, opened_starting, opened_fits, lines_opened}
 use Rattle.vs_paged.proofs.opening.OpeningText.start.Goals as goal
 
 pub returns-in_err-start-clause-acts : goal.returns-in_err-start-clause-acts
@@ -26,6 +29,17 @@ invariant_of-result g c = record { bounded = is_bounded c.self.inside.pair.pages
 pub returns-clause-fits : goal.returns-clause-fits
 returns-clause-fits g c told =
     opened_fits c.self.inside.pair c.self.inside.tree _ c.args.self c.self.invariant.0 refl c.self.view_is _ _ c.start.ensures.pages refl refl (c.in_ok-start.ensures.ok told)
+
+pub returns-clause-ends : goal.returns-clause-ends
+returns-clause-ends g c told =
+    subst (λ (pages : MemPages). steps.BothEnd (names_of_file c.args.self.name) (committed_of pages) (g.F.World.scene c.start.new.host).folder) (sym c.start.ensures.pages)
+    (subst (λ (names : Names). steps.BothEnd names (committed_of c.self.inside.pair.pages) (g.F.World.scene c.start.new.host).folder)
+    (names_opened c.self.inside.pair c.self.inside.tree (record { dirty = false; empty = _ }) c.args.self c.self.invariant.0 refl c.self.view_is) (c.in_ok-start.ensures.ends told))
+
+pub returns-clause-moved : goal.returns-clause-moved
+returns-clause-moved g c told =
+    subst (λ (names : Names). steps.BothMoved names (g.F.World.scene c.start.new.host).folder)
+    (names_opened c.self.inside.pair c.self.inside.tree (record { dirty = false; empty = _ }) c.args.self c.self.invariant.0 refl c.self.view_is) (c.in_ok-start.ensures.moved told)
 
 pub returns-clause-lines : goal.returns-clause-lines
 returns-clause-lines g c = lines_opened c.self.inside.pair c.self.inside.tree (record { dirty = false; empty = _ }) c.args.self c.self.invariant.0 refl c.self.view_is

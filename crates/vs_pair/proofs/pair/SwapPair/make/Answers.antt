@@ -1,6 +1,6 @@
-use Rattle.std.proofs.Common.{sym, subst, ◌∙◌}
+use Rattle.std.proofs.Common.{◌≡◌, None, sym, subst, ◌∙◌}
 use Rattle.std.proofs.lemmas.Result.{on_ok_weaker}
-use Rattle.vs_host.specs.Disk.{Name}
+use Rattle.vs_host.specs.Disk.{Name, names_of}
 use Rattle.vs_pair.specs.Pair.{sync_with}
 use Rattle.vs_pair.specs.Steps.{IsAbsent}
 use Rattle.vs_pair.proofs.FitLemmas.{body_is}
@@ -27,3 +27,7 @@ returns-clause-made g c =
     (body_is c.args.self.now.files.names.file (sync_with c.args.self.now c.args.generation c.args.head.now) c.as_str.result.now c.page_zero-first.result c.as_str.ensures c.page_zero-first.ensures.page)
     (g.F.World.scene c.make_file.new.host).folder (has told))
     c.make_file.ensures.made
+
+pub returns-clause-moved : goal.returns-clause-moved
+returns-clause-moved g c =
+    on_ok_weaker c.make_file.result (λ gone told. subst (λ (n : Name). names_of (g.F.World.scene c.make_file.new.host).folder n ≡ None) c.temporary_name.ensures (gone told)) c.make_file.ensures.moved

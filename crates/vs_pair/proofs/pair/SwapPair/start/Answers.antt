@@ -2,9 +2,11 @@ use Rattle.std.proofs.Common.{refl}
 use Rattle.vs_host.specs.Disk.{SyncsNames}
 use Rattle.vs_host.specs.Trace.{SyncedNames}
 use Rattle.vs_pair.specs.Pair.{sync_with}
+use Rattle.vs_pair.specs.Swap.{body_of}
+use Rattle.vs_pair.proofs.MadeFiles.{made_holds}
 use Rattle.vs_pair.proofs.Acts.{none_call, none_then}
 use Rattle.vs_pair.proofs.Calls.{either_acts}
-use Rattle.vs_pair.proofs.Starts.{making_first, making_second, second_absent, syncing_names, both_fit}
+use Rattle.vs_pair.proofs.Starts.{making_first, making_second, second_absent, syncing_names, both_fit, both_end, both_moved}
 use Rattle.vs_pair.proofs.pair.SwapPair.start.Goals as goal
 
 pub returns-in_err-make-clause-acts : goal.returns-in_err-make-clause-acts
@@ -33,7 +35,17 @@ returns-clause-acts g c =
 pub returns-clause-ok : goal.returns-clause-ok
 returns-clause-ok g c told =
     both_fit g.F.World.tells c.args.self.now.files.names c.args.self.now.files.named (sync_with c.args.self.now 1 c.args.head.now) (sync_with c.args.self.now 2 c.args.head.now) refl refl (g.F.World.scene c.args.host.now) c.requires.fresh c.args.self.now.pages c.committed_end.result refl refl c.committed_end.ensures.last (g.F.World.scene c.make.new.host).folder (g.F.World.scene c.make-2.new.host).folder (g.F.World.scene c.sync_names.new.self).folder (g.F.World.is_folder c.sync_names.new.self told)
-    (c.in_ok-make.ensures.made told) (c.make-2.ensures.acts.runs told).now (c.in_ok-make-2.ensures.made told) (c.in_ok-sync_names.ensures.ok told)
+    (made_holds _ _ _ (c.in_ok-make.ensures.made told)) (c.make-2.ensures.acts.runs told).now (made_holds _ _ _ (c.in_ok-make-2.ensures.made told)) (c.in_ok-sync_names.ensures.ok told)
+
+pub returns-clause-ends : goal.returns-clause-ends
+returns-clause-ends g c told =
+    both_end c.args.self.now.files.names c.args.self.now.files.named (g.F.World.scene c.make.new.host).folder (g.F.World.scene c.make-2.new.host).folder (g.F.World.scene c.sync_names.new.self).folder (c.make-2.ensures.acts.runs told).now.spared (c.in_ok-sync_names.ensures.ok told)
+    (body_of c.args.self.now.files.names.file (sync_with c.args.self.now 1 c.args.head.now)) (body_of c.args.self.now.files.names.file (sync_with c.args.self.now 2 c.args.head.now)) (c.in_ok-make.ensures.made told) (c.in_ok-make-2.ensures.made told)
+
+pub returns-clause-moved : goal.returns-clause-moved
+returns-clause-moved g c told =
+    both_moved c.args.self.now.files.names c.args.self.now.files.named (g.F.World.scene c.make.new.host).folder (g.F.World.scene c.make-2.new.host).folder (g.F.World.scene c.sync_names.new.self).folder (c.make-2.ensures.acts.runs told).now.spared (c.in_ok-sync_names.ensures.ok told)
+    (c.in_ok-make.ensures.moved told) (c.in_ok-make-2.ensures.moved told)
 
 pub returns-clause-none : goal.returns-clause-none
 returns-clause-none g c =

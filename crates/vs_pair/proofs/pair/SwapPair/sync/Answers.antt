@@ -1,12 +1,12 @@
 use Rattle.std.proofs.Common.{◌≡◌, ◌+◌, ◌∙◌, refl, sym, subst, ap}
 use Rattle.std.specs.Prelude.{[], ◌∷◌}
 use Rattle.vs_host.specs.File.{Leaves}
-use Rattle.vs_host.specs.Disk.{ChangesFile}
+use Rattle.vs_host.specs.Disk.{ChangesFile, Name}
 use Rattle.vs_pages.specs.Memory.{committed_of}
 use Rattle.vs_pair.specs.declared.gate.Gate.{Gate}
 use Rattle.vs_pair.specs.declared.gate.Gate.TheVariants.{Open}
 use Rattle.vs_pair.specs.declared.side.Side.{Side}
-use Rattle.vs_pair.specs.Swap.{Body, body_of, Fits, Holds, SyncStep, FailedSync}
+use Rattle.vs_pair.specs.Swap.{Body, body_of, Fits, Holds, Lengthens, SyncStep, FailedSync}
 use Rattle.vs_pair.specs.Pair.{Known, known_of, sync_of, name_of, other_side, IsFit, Syncing}
 use Rattle.vs_pair.proofs.Acts.{acts_as}
 use Rattle.vs_pair.proofs.Calls.{on_err_from}
@@ -96,6 +96,11 @@ returns-clause-ok g c told newest begun past fit =
     (sym c.other-older.ensures)
     (subst (λ (h : Gate). IsFit (now (other_side files.newer) h) (g.F.World.scene c.sync_file.new.host).folder (sync_of c.args.self.now c.args.head.now) [] (newest ∷ past))
     (sym c.in_ok-sync_file.ensures.opened) after)
+
+pub returns-clause-grown : goal.returns-clause-grown
+returns-clause-grown g c told =
+    subst (λ (n : Name). ChangesFile n (Lengthens (committed_of c.args.self.now.pages)) (g.F.World.scene c.args.host.now).folder (g.F.World.scene c.sync_file.new.host).folder)
+    (c.swap_name-name.ensures ∙ ap (λ (s : Side). name_of c.args.self.now.files.names s) c.other-older.ensures) (c.in_ok-sync_file.ensures.grown told)
 
 pub returns-clause-rises : goal.returns-clause-rises
 returns-clause-rises g c told text is =
