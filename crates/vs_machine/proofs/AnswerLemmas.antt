@@ -1,7 +1,6 @@
 -- What an answer leaves of a store, its undo tree and a cursor.
-use Rattle.std.proofs.Common.{◌≡◌, ◌≢◌, ◌+◌, ◌<◌, ◌≤◌, if◌then◌else◌, ℕ, List, length, max, true, false, Result, Ok, Err, IfOk, OnOk, ap, sym, subst, ◌∙◌, arith, refl}
+use Rattle.std.proofs.Common.{◌≡◌, ◌≢◌, ◌+◌, ◌<◌, ◌≤◌, if◌then◌else◌, ℕ, List, length, true, false, Result, Ok, Err, IfOk, OnOk, ap, sym, subst, ◌∙◌, arith, refl}
 use Rattle.std.proofs.lemmas.Bool.Decides.{nat_tests}
-use Rattle.vs_edit.specs.Calls.{OnlyReads}
 use Rattle.vs_edit.specs.declared.store.LineStore.{Ghosts}
 use Rattle.vs_edit.specs.declared.store.StoreErr.{StoreErr}
 use Rattle.vs_exparse.specs.Command.{Command}
@@ -9,8 +8,8 @@ use Rattle.vs_excmd.specs.Change.{Change, spliced}
 use Rattle.vs_excmd.specs.Meaning.{changes_text, planned}
 use Rattle.vs_excmd.specs.Request.{StandsFor}
 use Rattle.vs_excmd.specs.declared.request.Block.{Block}
-use Rattle.vs_undo.specs.History.{FitsCount, IsHistory, history_pushed}
-use Rattle.vs_undo.specs.Moves.{HasStayed, IsReady}
+use Rattle.vs_undo.specs.History.{IsHistory, history_pushed}
+use Rattle.vs_undo.specs.Moves.{HasStayed}
 use Rattle.vs_undo.specs.declared.error.UndoErr.{UndoErr}
 use Rattle.vs_undo.specs.declared.error.UndoErr.TheVariants.{NoMemory, NumbersFull, Failed}
 use Rattle.vs_undo.specs.declared.TheConstants.{MAX_NUMBER}
@@ -33,23 +32,6 @@ same_in {S} {g} {old} {new} {tree} {tree'} {cursor} {state} stayed is = record {
   text = stayed.text.text state.text is.text;
   history = subst (λ (p : Parts). IsHistory p state.text state.history) (sym stayed.tree) is.history;
   cursor = is.cursor;
-}
-
--- a call that only reads
-pub stayed_read : {S : Type 0} {g : Ghosts S} {old new : S} (tree : Parts) → OnlyReads g old new → HasStayed g tree tree old new
-stayed_read tree kept = record { tree = refl; text = kept.present }
-
-pub ready_read : {S : Type 0} (g : Ghosts S) (tree : Parts) (old new : S) → ((text : List (List ℕ)) → (g.shows new).present.Is text → (g.shows old).present.Is text)
-    → IsReady g tree old → OnlyReads g old new → IsReady g tree new
-ready_read g tree old new was ready kept = record {
-  valid = kept.valid;
-  committed = record {
-    text = λ text has. kept.committed.text text (ready.committed.text text (was text has));
-    lines = kept.committed.lines ∙ (ready.committed.lines ∙ sym kept.present.lines);
-    bytes = kept.committed.bytes ∙ (ready.committed.bytes ∙ sym kept.present.bytes);
-  };
-  counts = subst (λ n. FitsCount tree (max 1 n)) (sym kept.present.lines) ready.counts;
-  texts = λ text has. ready.texts text (was text has);
 }
 
 -- what comes of a change or a move that was not made

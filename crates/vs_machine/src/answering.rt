@@ -1,10 +1,9 @@
 // The answer to one request, over the text of any store and its undo tree.
-ghost use Rattle.std.specs.Prelude.{◌≡◌, ◌≢◌, ℕ, List, IfErr, IfOk, IsErrOf, OnErr, OnOk, false, not};
-ghost use Rattle.vs_faults.specs.Faults.{HasCause};
+ghost use Rattle.std.specs.Prelude.{◌≡◌, ◌≢◌, ℕ, List, IfErr, IfOk, OnOk, false, not};
 ghost use Rattle.vs_exparse.specs.Command.{HasForm, command_of, wants_block};
 ghost use Rattle.vs_excmd.specs.Meaning.{changes_text};
 ghost use Rattle.vs_excmd.specs.Request.{Instruction, IsFormed, IsRequest, StandsFor, is_absent};
-ghost use Rattle.vs_undo.specs.Moves.{HasStayed, IsReady};
+ghost use Rattle.vs_undo.specs.Moves.{IsAtomic, IsReady};
 ghost use Rattle.vs_undo.specs.Errors.{undo_err};
 ghost use Rattle.vs_machine.specs.Answers.{AnswersAs, IsIn, meaning_at};
 ghost use Rattle.vs_machine.specs.Machine.{State, meaning_in};
@@ -69,10 +68,7 @@ fn look_or_move<S: LineStore>(
     requires form { HasForm (command_of command.now) }
     ensures answers { IfOk result (λ answered. (state : State) (at : ℕ) (lines : List (List ℕ)) → IsIn S.LineStore store.old history.old cursor state →
         AnswersAs S.LineStore state at (meaning_in state (command_of command.now) lines) answered store.new history.new) }
-    ensures stayed { OnErr result (HasStayed S.LineStore history.old history.new store.old store.new) }
-    ensures ready { IsReady S.LineStore history.new store.new }
-    ensures stays { S.stays store.old store.new }
-    ensures cause { HasCause (S.shows store.old).faults (S.shows store.new).faults (IsErrOf result StoreErr.Failed) }
+    ensures atomic { IsAtomic S.LineStore history.old history.new store.old store.new StoreErr.Failed result }
 {
     match *command {
         Command::Print { range, count } => print(alloc, store, cursor, range, count, false),
@@ -120,10 +116,7 @@ fn carry_out<S: LineStore>(
     requires block { is_absent block.now ≡ not (wants_block (command_of command.now)) }
     ensures answers { IfOk result (λ answered. (state : State) (lines : List (List ℕ)) → IsIn S.LineStore store.old history.old cursor state
         → StandsFor block.now lines → AnswersAs S.LineStore state at (meaning_in state (command_of command.now) lines) answered store.new history.new) }
-    ensures stayed { OnErr result (HasStayed S.LineStore history.old history.new store.old store.new) }
-    ensures ready { IsReady S.LineStore history.new store.new }
-    ensures stays { S.stays store.old store.new }
-    ensures cause { HasCause (S.shows store.old).faults (S.shows store.new).faults (IsErrOf result StoreErr.Failed) }
+    ensures atomic { IsAtomic S.LineStore history.old history.new store.old store.new StoreErr.Failed result }
 {
     if changes_text(command) {
         return change_text(alloc, store, history, cursor, command, block, at);
@@ -145,10 +138,7 @@ pub fn answer<S: LineStore>(
     requires form { IsFormed request.now }
     ensures answers { IfOk result (λ answered. (state : State) (instruction : Instruction) → IsIn S.LineStore store.old history.old cursor state
         → IsRequest request.now instruction → AnswersAs S.LineStore state at (meaning_at state instruction) answered store.new history.new) }
-    ensures stayed { OnErr result (HasStayed S.LineStore history.old history.new store.old store.new) }
-    ensures ready { IsReady S.LineStore history.new store.new }
-    ensures stays { S.stays store.old store.new }
-    ensures cause { HasCause (S.shows store.old).faults (S.shows store.new).faults (IsErrOf result StoreErr.Failed) }
+    ensures atomic { IsAtomic S.LineStore history.old history.new store.old store.new StoreErr.Failed result }
 {
     match &request.parsed {
         Ok(command) => carry_out(alloc, store, history, cursor, command, &request.block, at),

@@ -1,10 +1,9 @@
 // Changes of the text, each of which goes into the history.
-ghost use Rattle.std.specs.Prelude.{◌≡◌, ℕ, List, IfOk, IsErrOf, IsTrue, OnErr, not};
-ghost use Rattle.vs_faults.specs.Faults.{HasCause};
+ghost use Rattle.std.specs.Prelude.{◌≡◌, ℕ, List, IfOk, IsTrue, not};
 ghost use Rattle.vs_exparse.specs.Command.{HasForm, command_of, wants_block};
 ghost use Rattle.vs_excmd.specs.Meaning.{changes_text, planned};
 ghost use Rattle.vs_excmd.specs.Request.{StandsFor, is_absent};
-ghost use Rattle.vs_undo.specs.Moves.{HasStayed, IsReady};
+ghost use Rattle.vs_undo.specs.Moves.{IsAtomic, IsReady};
 ghost use Rattle.vs_machine.specs.Answers.{AnswersAs, IsIn};
 ghost use Rattle.vs_machine.specs.Machine.{State, changing};
 
@@ -33,10 +32,7 @@ pub(crate) fn change_text<S: LineStore>(
     ensures answers { IfOk result (λ answered. (state : State) (lines : List (List ℕ)) → IsIn S.LineStore store.old history.old cursor state
         → StandsFor block.now lines
         → AnswersAs S.LineStore state at (changing (planned (command_of command.now) lines state.text state.cursor)) answered store.new history.new) }
-    ensures stayed { OnErr result (HasStayed S.LineStore history.old history.new store.old store.new) }
-    ensures ready { IsReady S.LineStore history.new store.new }
-    ensures stays { S.stays store.old store.new }
-    ensures cause { HasCause (S.shows store.old).faults (S.shows store.new).faults (IsErrOf result StoreErr.Failed) }
+    ensures atomic { IsAtomic S.LineStore history.old history.new store.old store.new StoreErr.Failed result }
 {
     match plan(alloc, command, block, store, cursor) {
         Ok(Plan::NoChange) => Ok(Answered {

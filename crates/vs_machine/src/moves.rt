@@ -1,7 +1,6 @@
 // Moves over the history of a text.
-ghost use Rattle.std.specs.Prelude.{◌≡◌, ◌≤◌, ℕ, Ok, IfErr, IfOk, IsErrOf, OnErr};
-ghost use Rattle.vs_faults.specs.Faults.{HasCause};
-ghost use Rattle.vs_undo.specs.Moves.{HasStayed, IsReady};
+ghost use Rattle.std.specs.Prelude.{◌≡◌, ◌≤◌, ℕ, Ok, IfErr, IfOk};
+ghost use Rattle.vs_undo.specs.Moves.{IsAtomic, IsReady};
 ghost use Rattle.vs_machine.specs.Answers.{AnswersAs, HasGone, IsIn, IsWhy};
 ghost use Rattle.vs_machine.specs.Machine.{State, moving};
 ghost use Rattle.vs_machine.specs.Moves.{HasSteps, earlier_move, goal_of, kept_within, later_move, undo_move};
@@ -80,10 +79,7 @@ fn go<S: LineStore>(
     ensures goal { IfOk result (λ number. goal_of step history.old ≡ Ok number) }
     ensures gone { IfOk result (HasGone S.LineStore history.old history.new store.old store.new) }
     ensures err { IfErr result (IsWhy (goal_of step history.old)) }
-    ensures stayed { OnErr result (HasStayed S.LineStore history.old history.new store.old store.new) }
-    ensures ready { IsReady S.LineStore history.new store.new }
-    ensures stays { S.stays store.old store.new }
-    ensures cause { HasCause (S.shows store.old).faults (S.shows store.new).faults (IsErrOf result UndoErr.Failed) }
+    ensures atomic { IsAtomic S.LineStore history.old history.new store.old store.new UndoErr.Failed result }
 {
     // its contract says that the tree is sound
     let _ = history.parts();
@@ -117,10 +113,7 @@ pub(crate) fn travel<S: LineStore>(
     requires steps { HasSteps step }
     ensures answers { IfOk result (λ answered. (state : State) (at : ℕ) → IsIn S.LineStore store.old history.old cursor state →
         AnswersAs S.LineStore state at (moving (goal_of step state.history.links)) answered store.new history.new) }
-    ensures stayed { OnErr result (HasStayed S.LineStore history.old history.new store.old store.new) }
-    ensures ready { IsReady S.LineStore history.new store.new }
-    ensures stays { S.stays store.old store.new }
-    ensures cause { HasCause (S.shows store.old).faults (S.shows store.new).faults (IsErrOf result StoreErr.Failed) }
+    ensures atomic { IsAtomic S.LineStore history.old history.new store.old store.new StoreErr.Failed result }
 {
     match go(alloc, store, history, step) {
         Ok(number) => {

@@ -8,6 +8,7 @@ pub mod MoveLemmas
 pub mod NodeLemmas
 pub mod NumberLemmas
 pub mod PushLemmas
+pub mod ReadyLemmas
 pub mod SaveLemmas
 pub mod SearchLemmas
 pub mod SettledLemmas

@@ -1,9 +1,12 @@
--- What a move asks of a tree and a store with its current text, and what it leaves of them.
-use Rattle.std.specs.Prelude.{ℕ, ◌≡◌, List, [], ◌∷◌, length, max, Some}
+-- What a call asks of a tree and a store with its current text, and what it leaves of them.
+use Rattle.std.specs.Prelude.{ℕ, ◌≡◌, List, [], ◌∷◌, length, max, Some, Result, IfOk, IsErrOf, OnErr}
+use Rattle.vs_faults.specs.Faults.{HasCause}
 use Rattle.vs_edit.specs.Splices.{splice}
 use Rattle.vs_edit.specs.State.{SameText, IsSpliced}
 use Rattle.vs_edit.specs.declared.store.LineStore.{Ghosts}
 use Rattle.vs_entries.specs.Entries.{splice_back}
+use Rattle.vs_undo.specs.declared.error.UndoErr.{UndoErr}
+use Rattle.vs_undo.specs.declared.error.UndoErr.TheVariants.{Failed}
 use Rattle.vs_undo.specs.declared.parts.Parts.{Parts}
 use Rattle.vs_undo.specs.declared.parts.Node.{Node}
 use Rattle.vs_undo.specs.Ways.{node_at, IsWayOf}
@@ -41,3 +44,15 @@ pub record HasChanged {S : Type 0} (g : Ghosts S) (old new : Parts) (before afte
 pub record HasStayed {S : Type 0} (g : Ghosts S) (old new : Parts) (before after : S) : Type 0 where
   pub tree : new ≡ old
   pub text : SameText (g.shows before).present (g.shows after).present
+
+-- Tree and store are ready for the next call, over the same borrows. After an error both are as before, and this one comes only from the store.
+pub record IsAtomic {S X E : Type 0} (g : Ghosts S) (old new : Parts) (before after : S) (failed : E) (result : Result X E) : Type 0 where
+  pub stayed : OnErr result (HasStayed g old new before after)
+  pub ready : IsReady g new after
+  pub stays : g.stays before after
+  pub cause : HasCause (g.shows before).faults (g.shows after).faults (IsErrOf result failed)
+
+-- The tree has moved to the state whose number was given, or nothing has changed.
+pub record IsMove {S : Type 0} (g : Ghosts S) (old new : Parts) (before after : S) (result : Result ℕ UndoErr) : Type 0 where
+  pub moved : IfOk result (HasMoved g old new before after)
+  pub atomic : IsAtomic g old new before after Failed result

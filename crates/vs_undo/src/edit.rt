@@ -1,9 +1,8 @@
 // A change of the text that goes into the history.
-ghost use Rattle.std.specs.Prelude.{◌≡◌, ◌+◌, ◌<◌, ◌≤◌, IfErr, IfOk, IsErrOf, OnErr, OnOk};
-ghost use Rattle.vs_faults.specs.Faults.{HasCause};
+ghost use Rattle.std.specs.Prelude.{◌≡◌, ◌+◌, ◌<◌, ◌≤◌, IfErr, IfOk, OnOk};
 ghost use Rattle.vs_edit.specs.State.{AllowsSplice};
 ghost use Rattle.vs_undo.specs.Errors.{IsMoveErr};
-ghost use Rattle.vs_undo.specs.Moves.{HasChanged, HasStayed, IsReady};
+ghost use Rattle.vs_undo.specs.Moves.{HasChanged, IsAtomic, IsReady};
 
 use crate::{MAX_NUMBER, UndoErr, UndoTree};
 use std::alloc::Global;
@@ -30,10 +29,7 @@ pub fn change<S: LineStore>(
     ensures room { OnOk result (tree.old.last < MAX_NUMBER) }
     ensures changed { OnOk result (HasChanged S.LineStore tree.old tree.new text.old text.new top old new.now time) }
     ensures err { IfErr result (IsMoveErr UndoErr.NumbersFull (MAX_NUMBER ≤ tree.old.last)) }
-    ensures stayed { OnErr result (HasStayed S.LineStore tree.old tree.new text.old text.new) }
-    ensures ready { IsReady S.LineStore tree.new text.new }
-    ensures stays { S.stays text.old text.new }
-    ensures cause { HasCause (S.shows text.old).faults (S.shows text.new).faults (IsErrOf result UndoErr.Failed) }
+    ensures atomic { IsAtomic S.LineStore tree.old tree.new text.old text.new UndoErr.Failed result }
 {
     let back = match entry_of_splice(alloc, text, top, old, new.len() as u64) {
         Ok(back) => back,

@@ -1,13 +1,12 @@
 // A move to another state.
-ghost use Rattle.std.specs.Prelude.{◌≡◌, ◌⊎◌, ◌++◌, IfErr, IsErrOf, IsTrue, OnOk, OnErr, length};
+ghost use Rattle.std.specs.Prelude.{◌≡◌, ◌⊎◌, ◌++◌, IfErr, IsTrue, OnOk, length};
 ghost use Rattle.std.specs.List.Sorted.{IsStrictlyIncreasing};
-ghost use Rattle.vs_faults.specs.Faults.{HasCause};
 ghost use Rattle.vs_undo.specs.Ways.{IsKept};
 ghost use Rattle.vs_undo.specs.Meetings.{IsMeeting, IsSettled};
 ghost use Rattle.vs_undo.specs.Numbers.{numbers};
 ghost use Rattle.vs_undo.specs.Sound.{IsSound};
 ghost use Rattle.vs_undo.specs.History.{arrived, installed};
-ghost use Rattle.vs_undo.specs.Moves.{HasMoved, HasStayed, IsReady};
+ghost use Rattle.vs_undo.specs.Moves.{HasMoved, IsAtomic, IsReady};
 
 use crate::cross::cross;
 use crate::install::{install, use_below};
@@ -52,12 +51,9 @@ pub(crate) fn move_to<S: LineStore>(
     requires settled { IsTrue settled → IsSettled parts.old }
     requires ready { IsReady S.LineStore parts.old store.old }
     ensures moved { OnOk result (HasMoved S.LineStore parts.old parts.new store.old store.new number) }
-    ensures err { OnErr result (HasStayed S.LineStore parts.old parts.new store.old store.new) }
+    ensures atomic { IsAtomic S.LineStore parts.old parts.new store.old store.new StoreErr.Failed result }
     ensures settled { OnOk result (IsSettled parts.new) }
     ensures sound { IsSound parts.new }
-    ensures ready { IsReady S.LineStore parts.new store.new }
-    ensures stays { S.stays store.old store.new }
-    ensures cause { HasCause (S.shows store.old).faults (S.shows store.new).faults (IsErrOf result StoreErr.Failed) }
 {
     let meeting = meeting_with(alloc, parts, number, settled)?;
     let path = path_between(alloc, &meeting.from, &meeting.to)?;
@@ -88,12 +84,9 @@ pub(crate) fn go_to<S: LineStore>(
     requires ready { IsReady S.LineStore parts.old store.old }
     ensures err { IfErr result (λ error. (error ≡ UndoErr.NoMemory) ⊎ (error ≡ UndoErr.Failed)) }
     ensures moved { OnOk result (HasMoved S.LineStore parts.old parts.new store.old store.new number) }
-    ensures stayed { OnErr result (HasStayed S.LineStore parts.old parts.new store.old store.new) }
+    ensures atomic { IsAtomic S.LineStore parts.old parts.new store.old store.new UndoErr.Failed result }
     ensures settled { IsTrue settled.new → IsSettled parts.new }
     ensures sound { IsSound parts.new }
-    ensures ready { IsReady S.LineStore parts.new store.new }
-    ensures stays { S.stays store.old store.new }
-    ensures cause { HasCause (S.shows store.old).faults (S.shows store.new).faults (IsErrOf result UndoErr.Failed) }
 {
     match move_to(alloc, parts, store, number, *settled) {
         Ok(()) => {

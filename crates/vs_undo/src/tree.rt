@@ -1,12 +1,11 @@
 // The undo tree, with its calls.
-ghost use Rattle.std.specs.Prelude.{◌≡◌, ◌≢◌, ◌+◌, ◌<◌, ◌≤◌, ◌↔◌, ◌⊎◌, [], ◌∷◌, ℕ, List, IsTrue, IfOk, IfErr, IsErrOf, OnOk, OnErr, Some, length};
-ghost use Rattle.vs_faults.specs.Faults.{HasCause};
+ghost use Rattle.std.specs.Prelude.{◌≡◌, ◌≢◌, ◌+◌, ◌<◌, ◌≤◌, ◌↔◌, ◌⊎◌, [], ◌∷◌, ℕ, List, IsTrue, IfOk, IfErr, OnOk, OnErr, Some, length};
 ghost use Rattle.vs_entries.specs.Entries.{Leads, LeadsCount};
 ghost use Rattle.vs_undo.specs.Ways.{parent_at, IsKept};
 ghost use Rattle.vs_undo.specs.Numbers.{above, below, nth_above, nth_below};
 ghost use Rattle.vs_undo.specs.Writes.{IsAtNewestWrite, IsAtOldestWrite, IsEarlierWrite, IsLaterWrite};
 ghost use Rattle.vs_undo.specs.History.{first_history, first_parts, history_marked, history_pushed, marked, next_save, pushed, History, IsHistory, FitsCount, FitsText};
-ghost use Rattle.vs_undo.specs.Moves.{HasMoved, HasStayed, IsReady};
+ghost use Rattle.vs_undo.specs.Moves.{IsMove, IsReady};
 ghost use Rattle.vs_undo.specs.Sound.{IsSound, child_of};
 ghost use Rattle.vs_undo.specs.Leaves.{AreLeaves, leaves_of};
 ghost use Rattle.vs_undo.specs.Errors.{IsMoveErr};
@@ -173,11 +172,7 @@ impl UndoTree {
         requires ready { IsReady S.LineStore self.old text.old }
         ensures goal { IfOk result (λ goal. (goal ≡ number) × IsKept self.old.nodes number) }
         ensures err { IfErr result (IsMoveErr (UndoErr.NotKept number) (¬ (IsKept self.old.nodes number))) }
-        ensures moved { IfOk result (HasMoved S.LineStore self.old self.new text.old text.new) }
-        ensures stayed { OnErr result (HasStayed S.LineStore self.old self.new text.old text.new) }
-        ensures ready { IsReady S.LineStore self.new text.new }
-        ensures stays { S.stays text.old text.new }
-        ensures cause { HasCause (S.shows text.old).faults (S.shows text.new).faults (IsErrOf result UndoErr.Failed) }
+        ensures moves { IsMove S.LineStore self.old self.new text.old text.new result }
     {
         let parts = &mut self.parts;
         if !is_kept(parts.nodes.nodes(), number) {
@@ -194,11 +189,7 @@ impl UndoTree {
         requires ready { IsReady S.LineStore self.old text.old }
         ensures goal { IfOk result (λ goal. parent_at self.old.nodes self.old.current ≡ Some goal) }
         ensures err { IfErr result (IsMoveErr UndoErr.AtOldest (self.old.current ≡ 0)) }
-        ensures moved { IfOk result (HasMoved S.LineStore self.old self.new text.old text.new) }
-        ensures stayed { OnErr result (HasStayed S.LineStore self.old self.new text.old text.new) }
-        ensures ready { IsReady S.LineStore self.new text.new }
-        ensures stays { S.stays text.old text.new }
-        ensures cause { HasCause (S.shows text.old).faults (S.shows text.new).faults (IsErrOf result UndoErr.Failed) }
+        ensures moves { IsMove S.LineStore self.old self.new text.old text.new result }
     {
         let parts = &mut self.parts;
         let Some(number) = parent(parts.nodes.nodes(), parts.current) else {
@@ -215,11 +206,7 @@ impl UndoTree {
         requires ready { IsReady S.LineStore self.old text.old }
         ensures goal { IfOk result (λ goal. (goal ≡ child_of self.old self.old.current) × (goal ≢ 0)) }
         ensures err { IfErr result (IsMoveErr UndoErr.AtNewest (child_of self.old self.old.current ≡ 0)) }
-        ensures moved { IfOk result (HasMoved S.LineStore self.old self.new text.old text.new) }
-        ensures stayed { OnErr result (HasStayed S.LineStore self.old self.new text.old text.new) }
-        ensures ready { IsReady S.LineStore self.new text.new }
-        ensures stays { S.stays text.old text.new }
-        ensures cause { HasCause (S.shows text.old).faults (S.shows text.new).faults (IsErrOf result UndoErr.Failed) }
+        ensures moves { IsMove S.LineStore self.old self.new text.old text.new result }
     {
         let parts = &mut self.parts;
         let number = last_child(parts, parts.current);
@@ -244,11 +231,7 @@ impl UndoTree {
         requires ready { IsReady S.LineStore self.old text.old }
         ensures goal { IfOk result (λ goal. (0 < length (below self.old.nodes self.old.current)) × (goal ≡ nth_below self.old.nodes self.old.current by)) }
         ensures err { IfErr result (IsMoveErr UndoErr.AtOldest (length (below self.old.nodes self.old.current) ≡ 0)) }
-        ensures moved { IfOk result (HasMoved S.LineStore self.old self.new text.old text.new) }
-        ensures stayed { OnErr result (HasStayed S.LineStore self.old self.new text.old text.new) }
-        ensures ready { IsReady S.LineStore self.new text.new }
-        ensures stays { S.stays text.old text.new }
-        ensures cause { HasCause (S.shows text.old).faults (S.shows text.new).faults (IsErrOf result UndoErr.Failed) }
+        ensures moves { IsMove S.LineStore self.old self.new text.old text.new result }
     {
         let parts = &mut self.parts;
         let Some(number) = earlier_goal(parts.nodes.nodes(), parts.current, by) else {
@@ -272,11 +255,7 @@ impl UndoTree {
         requires ready { IsReady S.LineStore self.old text.old }
         ensures goal { IfOk result (λ goal. (0 < length (above self.old.nodes self.old.current)) × (goal ≡ nth_above self.old.nodes self.old.current by)) }
         ensures err { IfErr result (IsMoveErr UndoErr.AtNewest (length (above self.old.nodes self.old.current) ≡ 0)) }
-        ensures moved { IfOk result (HasMoved S.LineStore self.old self.new text.old text.new) }
-        ensures stayed { OnErr result (HasStayed S.LineStore self.old self.new text.old text.new) }
-        ensures ready { IsReady S.LineStore self.new text.new }
-        ensures stays { S.stays text.old text.new }
-        ensures cause { HasCause (S.shows text.old).faults (S.shows text.new).faults (IsErrOf result UndoErr.Failed) }
+        ensures moves { IsMove S.LineStore self.old self.new text.old text.new result }
     {
         let parts = &mut self.parts;
         let Some(number) = later_goal(parts.nodes.nodes(), parts.current, by) else {
@@ -300,11 +279,7 @@ impl UndoTree {
         requires ready { IsReady S.LineStore self.old text.old }
         ensures goal { IfOk result (IsEarlierWrite self.old by) }
         ensures err { IfErr result (IsMoveErr UndoErr.AtOldest (IsAtOldestWrite self.old by)) }
-        ensures moved { IfOk result (HasMoved S.LineStore self.old self.new text.old text.new) }
-        ensures stayed { OnErr result (HasStayed S.LineStore self.old self.new text.old text.new) }
-        ensures ready { IsReady S.LineStore self.new text.new }
-        ensures stays { S.stays text.old text.new }
-        ensures cause { HasCause (S.shows text.old).faults (S.shows text.new).faults (IsErrOf result UndoErr.Failed) }
+        ensures moves { IsMove S.LineStore self.old self.new text.old text.new result }
     {
         let parts = &mut self.parts;
         let way = way_of(alloc, parts.nodes.nodes(), parts.current)?;
@@ -330,11 +305,7 @@ impl UndoTree {
         requires ready { IsReady S.LineStore self.old text.old }
         ensures goal { IfOk result (IsLaterWrite self.old by) }
         ensures err { IfErr result (IsMoveErr UndoErr.AtNewest (IsAtNewestWrite self.old by)) }
-        ensures moved { IfOk result (HasMoved S.LineStore self.old self.new text.old text.new) }
-        ensures stayed { OnErr result (HasStayed S.LineStore self.old self.new text.old text.new) }
-        ensures ready { IsReady S.LineStore self.new text.new }
-        ensures stays { S.stays text.old text.new }
-        ensures cause { HasCause (S.shows text.old).faults (S.shows text.new).faults (IsErrOf result UndoErr.Failed) }
+        ensures moves { IsMove S.LineStore self.old self.new text.old text.new result }
     {
         let parts = &mut self.parts;
         let way = way_of(alloc, parts.nodes.nodes(), parts.current)?;

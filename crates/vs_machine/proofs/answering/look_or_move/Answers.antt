@@ -61,8 +61,10 @@ returns-in-Append g c =
       answers = λ state at lines is.
           let after : IsIn g.S.LineStore c.args.store.now c.args.history.now c.refused.result.cursor state = record { text = is.text; history = is.history; cursor = ap (λ (a : Answered). a.cursor) c.refused.ensures ∙ is.cursor } in
           as_meant (record { reply = ap (λ (a : Answered). a.reply) c.refused.ensures; after = after }) (meant state lines);
-      stayed = tt;
-      ready = c.requires.ready;
-      stays = g.met.S.LineStore.stays_itself c.args.store.now;
-      cause = search rules;
+      atomic = record {
+        stayed = tt;
+        ready = c.requires.ready;
+        stays = g.met.S.LineStore.stays_itself c.args.store.now;
+        cause = search rules;
+      };
     }

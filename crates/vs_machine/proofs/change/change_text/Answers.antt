@@ -40,7 +40,7 @@ returns-in-Ok-Splice-clause-answers g c =
           let read : IsIn g.S.LineStore c.plan.new.view c.args.history.now c.args.cursor state =
           record { text = c.in-Ok-Splice.ensures.kept.present.text state.text is.text; history = is.history; cursor = is.cursor } in
           let answers = not_numbered g.S.LineStore state c.args.at c.args.cursor change c.args.history.now c.change.new.tree c.change.new.text is.history full.1
-          (same_in c.in-Err.ensures.stayed read) in
+          (same_in c.in-Err.ensures.atomic.stayed read) in
           as_meant (subst (λ (e : UndoErr). AnswersAs g.S.LineStore state c.args.at (Changed change) (record { reply = refuses (undo_error_text e); cursor = c.args.cursor }) c.change.new.text c.change.new.tree)
           (sym full.0) answers) (meaning_of_plan (planned (command_of c.args.command.now) lines state.text) c.in-Ok-Splice.field-0 change c.args.cursor state.cursor (c.in-Ok-Splice.ensures.answers state.text lines is.text stands) is_change is.cursor)
       | inr other ↦ elim other [ inl no_memory ↦ absurd (done no_memory) | inr failed ↦ absurd (held failed) ]

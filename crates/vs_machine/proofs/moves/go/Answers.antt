@@ -5,25 +5,25 @@ use Rattle.vs_machine.proofs.GoalLemmas.{all_gone, reached, why, at_earlier_writ
 use Rattle.vs_machine.proofs.moves.go.Goals as goal
 
 pub returns-in-Back-clause-gone : goal.returns-in-Back-clause-gone
-returns-in-Back-clause-gone g c = all_gone g.S.LineStore _ _ _ _ c.back.result c.parts.ensures.sound c.back.ensures.moved
+returns-in-Back-clause-gone g c = all_gone g.S.LineStore _ _ _ _ c.back.result c.parts.ensures.sound c.back.ensures.moves.moved
 
 pub returns-in-To-clause-gone : goal.returns-in-To-clause-gone
-returns-in-To-clause-gone g c = all_gone g.S.LineStore _ _ _ _ c.goto.result c.parts.ensures.sound c.goto.ensures.moved
+returns-in-To-clause-gone g c = all_gone g.S.LineStore _ _ _ _ c.goto.result c.parts.ensures.sound c.goto.ensures.moves.moved
 
 pub returns-in-Forward-clause-gone : goal.returns-in-Forward-clause-gone
-returns-in-Forward-clause-gone g c = all_gone g.S.LineStore _ _ _ _ c.forward.result c.parts.ensures.sound c.forward.ensures.moved
+returns-in-Forward-clause-gone g c = all_gone g.S.LineStore _ _ _ _ c.forward.result c.parts.ensures.sound c.forward.ensures.moves.moved
 
 pub returns-in-Earlier-clause-gone : goal.returns-in-Earlier-clause-gone
-returns-in-Earlier-clause-gone g c = all_gone g.S.LineStore _ _ _ _ c.earlier.result c.parts.ensures.sound c.earlier.ensures.moved
+returns-in-Earlier-clause-gone g c = all_gone g.S.LineStore _ _ _ _ c.earlier.result c.parts.ensures.sound c.earlier.ensures.moves.moved
 
 pub returns-in-Later-clause-gone : goal.returns-in-Later-clause-gone
-returns-in-Later-clause-gone g c = all_gone g.S.LineStore _ _ _ _ c.later.result c.parts.ensures.sound c.later.ensures.moved
+returns-in-Later-clause-gone g c = all_gone g.S.LineStore _ _ _ _ c.later.result c.parts.ensures.sound c.later.ensures.moves.moved
 
 pub returns-in-EarlierWrites-clause-gone : goal.returns-in-EarlierWrites-clause-gone
-returns-in-EarlierWrites-clause-gone g c = all_gone g.S.LineStore _ _ _ _ c.earlier_writes.result c.parts.ensures.sound c.earlier_writes.ensures.moved
+returns-in-EarlierWrites-clause-gone g c = all_gone g.S.LineStore _ _ _ _ c.earlier_writes.result c.parts.ensures.sound c.earlier_writes.ensures.moves.moved
 
 pub returns-in-LaterWrites-clause-gone : goal.returns-in-LaterWrites-clause-gone
-returns-in-LaterWrites-clause-gone g c = all_gone g.S.LineStore _ _ _ _ c.later_writes.result c.parts.ensures.sound c.later_writes.ensures.moved
+returns-in-LaterWrites-clause-gone g c = all_gone g.S.LineStore _ _ _ _ c.later_writes.result c.parts.ensures.sound c.later_writes.ensures.moves.moved
 
 pub returns-in-EarlierWrites-clause-goal : goal.returns-in-EarlierWrites-clause-goal
 returns-in-EarlierWrites-clause-goal g c =

@@ -35,6 +35,6 @@ returns-in-Err-clause-answers g c =
       | inl here ↦ λ state at is.
           let meant : goal_of c.args.step state.history.links ≡ Err c.in-Err.error =
           ap (goal_of c.args.step) (sym is.history.links) ∙ (goal-links_of c.args.step c.args.history.now ∙ here) in
-          as_meant (record { reply = refl; after = same_in c.in-Err.ensures.stayed is }) (sym (ap moving meant))
+          as_meant (record { reply = refl; after = same_in c.in-Err.ensures.atomic.stayed is }) (sym (ap moving meant))
       | inr other ↦ elim other [ inl no_memory ↦ absurd (done no_memory) | inr failed ↦ absurd (held failed) ]
     ])

@@ -1,12 +1,14 @@
 -- The entry of the splice leads back over it, so the push keeps the history.
-use Rattle.std.proofs.Common.{◌≡◌, ◌+◌, ◌-◌, ◌∷◌, [], ℕ, List, length, max, sym, ap, subst, ◌∙◌, arith}
+use Rattle.std.proofs.Common.{◌≡◌, ◌+◌, ◌-◌, ◌∷◌, [], ℕ, List, length, max, rules, sym, ap, subst, ◌∙◌, arith}
 use Rattle.vs_edit.specs.Splices.{splice}
 use Rattle.vs_edit.proofs.Steps.{SameText-trans, IsSpliced-after}
 use Rattle.vs_entries.specs.Entries.{Leads, LeadsCount, splice_back}
 use Rattle.vs_entries.proofs.EntryLemmas.{leads_splice_back}
 use Rattle.vs_undo.specs.declared.parts.Parts.{Parts}
 use Rattle.vs_undo.specs.History.{links_of, pushed, FitsCount, FitsText}
+use Rattle.vs_undo.specs.Moves.{IsReady}
 use Rattle.vs_undo.proofs.PushLemmas.{links_of-pushed}
+use Rattle.vs_undo.proofs.ReadyLemmas.{gone_back, settled}
 use Rattle.vs_undo.proofs.edit.change.Goals as goal
 use Rattle.vs_undo.proofs.edit.change.Goals.{After-commit}
 
@@ -39,48 +41,39 @@ returns-in-Ok-push-clause-changed g c = record {
   history = λ text history has is. c.in-Ok-push.ensures.history text (splice text c.args.top c.args.old c.args.new.now) history is (leads g c text has);
 }
 
-pub returns-in-Ok-push-clause-ready : goal.returns-in-Ok-push-clause-ready
-returns-in-Ok-push-clause-ready g c = record {
-  valid = c.commit.ensures.valid;
-  committed = record {
-    text = λ text has.
-        let tells = g.met.S.LineStore.has_told c.commit.new.self text has in
-        let was = g.met.S.LineStore.tells_one c.splice.new.self c.in_default.ensures.valid tells in
-        let same = g.met.S.LineStore.has_one c.commit.new.self was.0 text (c.commit.ensures.present.text was.0 was.1) has in
-        subst (λ t. (g.S.LineStore.shows c.commit.new.self).committed.Is t) same (c.commit.ensures.committed.text was.0 was.1);
-    lines = c.commit.ensures.committed.lines ∙ sym c.commit.ensures.present.lines;
-    bytes = c.commit.ensures.committed.bytes ∙ sym c.commit.ensures.present.bytes;
-  };
-  counts = subst (λ n. FitsCount c.push.new.self (max 1 n)) (sym c.commit.ensures.present.lines) (c.in-Ok-push.ensures.counts _ _ c.requires.ready.counts (counted g c));
-  texts = λ text has.
-      let tells = g.met.S.LineStore.has_told c.commit.new.self text has in
-      let was = g.met.S.LineStore.tells_one c.args.text.now c.requires.ready.valid tells in
-      let after = splice was.0 c.args.top c.args.old c.args.new.now in
-      let same = g.met.S.LineStore.has_one c.commit.new.self after text (c.commit.ensures.present.text after (spliced_text g c was.0 was.1)) has in
-      subst (λ t. FitsText c.push.new.self t) same (c.in-Ok-push.ensures.texts was.0 after (c.requires.ready.texts was.0 was.1) (leads g c was.0 was.1));
-}
-
-pub returns-in-Err-push-clause-ready : goal.returns-in-Err-push-clause-ready
-returns-in-Err-push-clause-ready g c =
+pub returns-in-Ok-push-clause-atomic : goal.returns-in-Ok-push-clause-atomic
+returns-in-Ok-push-clause-atomic g c =
+    let laws = g.met.S.LineStore in
     let ready = c.requires.ready in
-    let after = c.rollback-in-Err-push.ensures in
-    let same = SameText-trans ready.committed (SameText-trans c.in-Ok.ensures.kept.committed (SameText-trans c.splice.ensures.kept.committed after.present)) in
+    let one = laws.has_one c.commit.new.self in
+    record {
+      stayed = tt;
+      ready = record {
+        valid = c.commit.ensures.valid;
+        committed = settled c.commit.ensures.present c.commit.ensures.committed (λ text has. laws.tells_one c.splice.new.self c.in_default.ensures.valid (laws.has_told c.commit.new.self text has)) one;
+        counts = subst (λ n. FitsCount c.push.new.self (max 1 n)) (sym c.commit.ensures.present.lines) (c.in-Ok-push.ensures.counts _ _ ready.counts (counted g c));
+        texts = λ text has.
+            let was = laws.tells_one c.args.text.now ready.valid (laws.has_told c.commit.new.self text has) in
+            let after = splice was.0 c.args.top c.args.old c.args.new.now in
+            let same = one after text (c.commit.ensures.present.text after (spliced_text g c was.0 was.1)) has in
+            subst (λ t. FitsText c.push.new.self t) same (c.in-Ok-push.ensures.texts was.0 after (ready.texts was.0 was.1) (leads g c was.0 was.1));
+      };
+      stays = laws.stays_on _ _ _ c.in-Ok.ensures.kept.stays (laws.stays_on _ _ _ c.splice.ensures.kept.stays c.commit.ensures.stays);
+      cause = search rules;
+    }
+
+pub returns-in-Err-push-clause-atomic : goal.returns-in-Err-push-clause-atomic
+returns-in-Err-push-clause-atomic g c =
+    let laws = g.met.S.LineStore in
+    let ready = c.requires.ready in
+    let back = c.rollback-in-Err-push.ensures in
+    let kept = SameText-trans c.in-Ok.ensures.kept.committed c.splice.ensures.kept.committed in
     let tree = sym c.in-Err-push.ensures.err_tree in
     record {
-      valid = after.valid;
-      committed = record {
-        text = λ text has.
-            let tells = g.met.S.LineStore.has_told c.rollback-in-Err-push.new.self text has in
-            let was = g.met.S.LineStore.told_one c.splice.new.self c.splice.ensures.kept.valid tells in
-            let is = g.met.S.LineStore.has_one c.rollback-in-Err-push.new.self was.0 text (after.present.text was.0 was.1) has in
-            subst (λ t. (g.S.LineStore.shows c.rollback-in-Err-push.new.self).committed.Is t) is (after.committed.text was.0 was.1);
-        lines = after.committed.lines ∙ sym after.present.lines;
-        bytes = after.committed.bytes ∙ sym after.present.bytes;
-      };
-      counts = subst (λ (p : Parts). FitsCount p (max 1 (g.S.LineStore.shows c.rollback-in-Err-push.new.self).present.lines)) tree (subst (λ n. FitsCount c.args.tree.now (max 1 n)) (sym same.lines) ready.counts);
-      texts = λ text has.
-          let tells = g.met.S.LineStore.has_told c.rollback-in-Err-push.new.self text has in
-          let was = g.met.S.LineStore.tells_one c.args.text.now ready.valid tells in
-          let is = g.met.S.LineStore.has_one c.rollback-in-Err-push.new.self was.0 text (same.text was.0 was.1) has in
-          subst (λ t. FitsText c.push.new.self t) is (subst (λ (p : Parts). FitsText p was.0) tree (ready.texts was.0 was.1));
+      stayed = record { tree = c.in-Err-push.ensures.err_tree; text = SameText-trans ready.committed (SameText-trans kept back.present) };
+      ready = subst (λ (p : Parts). IsReady g.S.LineStore p c.rollback-in-Err-push.new.self) tree
+          (gone_back g.S.LineStore c.args.tree.now c.args.text.now c.splice.new.self c.rollback-in-Err-push.new.self ready kept back.present back.committed back.valid
+          (λ text has. laws.tells_one c.args.text.now ready.valid (laws.has_told c.rollback-in-Err-push.new.self text has)) (laws.has_one c.rollback-in-Err-push.new.self));
+      stays = laws.stays_on _ _ _ c.in-Ok.ensures.kept.stays (laws.stays_on _ _ _ c.splice.ensures.kept.stays back.stays);
+      cause = search rules;
     }

@@ -1,5 +1,5 @@
 -- The walk, and what it leaves, by the lemmas on moves: once for the numbers of lines and once for the texts.
-use Rattle.std.proofs.Common.{◌≡◌, ◌<◌, ◌++◌, ℕ, List, [], Some, length, get_or, max, sym, ap, subst, ◌∙◌, refl}
+use Rattle.std.proofs.Common.{◌≡◌, ◌<◌, ◌++◌, ℕ, List, [], Some, length, get_or, max, rules, sym, ap, subst, ◌∙◌, refl}
 use Rattle.vs_edit.proofs.Steps.{SameText-trans}
 use Rattle.vs_entries.specs.Entries.{Leads, LeadsCount}
 use Rattle.vs_undo.specs.declared.parts.Node.{Node}
@@ -9,9 +9,10 @@ use Rattle.vs_undo.specs.Sound.{IsSound}
 use Rattle.vs_undo.specs.Meetings.{IsSettled}
 use Rattle.vs_undo.specs.Edges.{AreStates}
 use Rattle.vs_undo.specs.Turns.{exchanged}
-use Rattle.vs_undo.specs.History.{arrived, links_of, moved, FitsCount, FitsText}
+use Rattle.vs_undo.specs.History.{arrived, links_of, moved}
 use Rattle.vs_undo.proofs.MeetingLemmas.{arrived_settled, met_between}
 use Rattle.vs_undo.proofs.MoveLemmas.{crosses_path, crossed, exchanged_after, links_of-arrived, same_way}
+use Rattle.vs_undo.proofs.ReadyLemmas.{gone_back, settled}
 use Rattle.vs_undo.proofs.SoundLemmas.{arrived_sound}
 use Rattle.vs_undo.proofs.moves.move_to.Goals as goal
 use Rattle.vs_undo.proofs.moves.move_to.Goals.{After-drop-meeting-in-Ok-2}
@@ -121,52 +122,38 @@ returns-in-Ok-clause-sound g c =
     let some = subst (λ xs. (i : ℕ) → i < length xs → 0 < length (get_or turned i [])) c.deref-3.ensures.value c.in-Ok.ensures.some in
     subst (λ (p : Parts). IsSound p) (sym (after g c)) (arrived_sound path turned (whole_to g c) parts c.args.number (c.in-Ok.ensures.count ∙ ap length c.deref-3.ensures.value) some c.requires.sound (way_to g c))
 
-pub returns-in-Ok-clause-ready : goal.returns-in-Ok-clause-ready
-returns-in-Ok-clause-ready g c =
+pub returns-in-Ok-clause-atomic : goal.returns-in-Ok-clause-atomic
+returns-in-Ok-clause-atomic g c =
+    let laws = g.met.S.LineStore in
     let sees = c.requires.ready.counts in
     let lines = counted g c sees.counts sees.are_states sees.current in
+    let one = laws.has_one c.commit.new.self in
     record {
-      valid = c.commit.ensures.valid;
-      committed = record {
-        text = λ text has.
-            let tells = g.met.S.LineStore.has_told c.commit.new.self text has in
-            let was = g.met.S.LineStore.tells_one c.cross.new.store c.in-Ok.ensures.valid tells in
-            let same = g.met.S.LineStore.has_one c.commit.new.self was.0 text (c.commit.ensures.present.text was.0 was.1) has in
-            subst (λ t. (g.S.LineStore.shows c.commit.new.self).committed.Is t) same (c.commit.ensures.committed.text was.0 was.1);
-        lines = c.commit.ensures.committed.lines ∙ sym c.commit.ensures.present.lines;
-        bytes = c.commit.ensures.committed.bytes ∙ sym c.commit.ensures.present.bytes;
+      stayed = tt;
+      ready = record {
+        valid = c.commit.ensures.valid;
+        committed = settled c.commit.ensures.present c.commit.ensures.committed (λ text has. laws.tells_one c.cross.new.store c.in-Ok.ensures.valid (laws.has_told c.commit.new.self text has)) one;
+        counts = record { counts = sees.counts; are_states = lines.0; current = ap (max 1) c.commit.ensures.present.lines ∙ (lines.1 ∙ sym (ap sees.counts (current g c))) };
+        texts = λ text has.
+            let was = laws.tells_one c.args.store.now c.requires.ready.valid (laws.has_told c.commit.new.self text has) in
+            let fits = c.requires.ready.texts was.0 was.1 in
+            let done = told g c fits.texts fits.are_states was.0 was.1 (sym fits.current) in
+            record { texts = fits.texts; are_states = done.0; current = one text (fits.texts c.args.number) has done.1 ∙ sym (ap fits.texts (current g c)) };
       };
-      counts = record { counts = sees.counts; are_states = lines.0; current = ap (max 1) c.commit.ensures.present.lines ∙ (lines.1 ∙ sym (ap sees.counts (current g c))) };
-      texts = λ text has.
-          let tells = g.met.S.LineStore.has_told c.commit.new.self text has in
-          let was = g.met.S.LineStore.tells_one c.args.store.now c.requires.ready.valid tells in
-          let fits = c.requires.ready.texts was.0 was.1 in
-          let done = told g c fits.texts fits.are_states was.0 was.1 (sym fits.current) in
-          let same = g.met.S.LineStore.has_one c.commit.new.self text (fits.texts c.args.number) has done.1 in
-          record { texts = fits.texts; are_states = done.0; current = same ∙ sym (ap fits.texts (current g c)) };
+      stays = laws.stays_on _ _ _ c.in-Ok.ensures.kept.stays c.commit.ensures.stays;
+      cause = search rules;
     }
 
-pub returns-clause-err : goal.returns-clause-err
-returns-clause-err g c = record { tree = refl; text = SameText-trans c.requires.ready.committed (SameText-trans c.in-Err.ensures.kept.committed c.rollback.ensures.present) }
-
-pub returns-clause-ready : goal.returns-clause-ready
-returns-clause-ready g c =
-    let same = SameText-trans c.requires.ready.committed (SameText-trans c.in-Err.ensures.kept.committed c.rollback.ensures.present) in
+pub returns-clause-atomic : goal.returns-clause-atomic
+returns-clause-atomic g c =
+    let laws = g.met.S.LineStore in
+    let ready = c.requires.ready in
+    let kept = c.in-Err.ensures.kept in
+    let back = c.rollback.ensures in
     record {
-      valid = c.rollback.ensures.valid;
-      committed = record {
-        text = λ text has.
-            let tells = g.met.S.LineStore.has_told c.rollback.new.self text has in
-            let was = g.met.S.LineStore.told_one c.cross.new.store c.in-Err.ensures.kept.valid tells in
-            let is = g.met.S.LineStore.has_one c.rollback.new.self was.0 text (c.rollback.ensures.present.text was.0 was.1) has in
-            subst (λ t. (g.S.LineStore.shows c.rollback.new.self).committed.Is t) is (c.rollback.ensures.committed.text was.0 was.1);
-        lines = c.rollback.ensures.committed.lines ∙ sym c.rollback.ensures.present.lines;
-        bytes = c.rollback.ensures.committed.bytes ∙ sym c.rollback.ensures.present.bytes;
-      };
-      counts = subst (λ n. FitsCount c.args.parts.now (max 1 n)) (sym same.lines) c.requires.ready.counts;
-      texts = λ text has.
-          let tells = g.met.S.LineStore.has_told c.rollback.new.self text has in
-          let was = g.met.S.LineStore.tells_one c.args.store.now c.requires.ready.valid tells in
-          let is = g.met.S.LineStore.has_one c.rollback.new.self was.0 text (same.text was.0 was.1) has in
-          subst (λ t. FitsText c.args.parts.now t) is (c.requires.ready.texts was.0 was.1);
+      stayed = record { tree = refl; text = SameText-trans ready.committed (SameText-trans kept.committed back.present) };
+      ready = gone_back g.S.LineStore c.args.parts.now c.args.store.now c.cross.new.store c.rollback.new.self ready kept.committed back.present back.committed back.valid
+          (λ text has. laws.tells_one c.args.store.now ready.valid (laws.has_told c.rollback.new.self text has)) (laws.has_one c.rollback.new.self);
+      stays = laws.stays_on _ _ _ kept.stays back.stays;
+      cause = search rules;
     }

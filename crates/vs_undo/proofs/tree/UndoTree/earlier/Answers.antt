@@ -1,0 +1,8 @@
+use Rattle.vs_undo.proofs.ReadyLemmas.{moved, not_moved}
+use Rattle.vs_undo.proofs.tree.UndoTree.earlier.Goals as goal
+
+pub returns-clause-moves : goal.returns-clause-moves
+returns-clause-moves g c = moved c.self.view_is c.in_ok-go_to.ensures.moved c.in_ok-go_to.ensures.atomic
+
+pub returns-in_err-go_to-clause-moves : goal.returns-in_err-go_to-clause-moves
+returns-in_err-go_to-clause-moves g c = not_moved c.self.view_is c.from_residual.result c.from_residual.ensures.1 c.in_err-go_to.ensures.atomic
