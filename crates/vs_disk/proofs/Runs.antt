@@ -4,7 +4,7 @@ use Rattle.std.specs.declared.result.Result.{Result}
 use Rattle.vs_host.specs.Disk.{Disk, Name}
 use Rattle.vs_host.specs.Trace.{Kind, Snapshot, Each, GoesOn}
 use Rattle.vs_host.specs.World.{Scene, snapshot_of, IsTold, ChangesFolder, ReadsFolder}
-use Rattle.vs_disk.specs.Runs.{Inside, Runs, Looks, HasNoFault, FailsLast}
+use Rattle.vs_disk.specs.Runs.{Inside, Runs, Looks, HasNoFault, FailsLast, Quiet}
 
 pub Each-append : (P : Snapshot → Type 0) (ms ns : List Snapshot) → Each P ms → Each P ns → Each P (ms ++ ns)
 Each-append P [] ns first second = second
@@ -113,13 +113,6 @@ fails_none old = record { last = []; earlier = []; one = omega arith; is = refl;
 pub fails_call : (kind : Kind) (names : List Name) {T E : Type 0} (result : Result T E) (old new : Scene) → IsTold kind names result old new → FailsLast old new
 fails_call kind names result old new (inl is) = record { last = snapshot_of new kind names ∷ []; earlier = []; one = omega arith; is = is; quiet = tt }
 fails_call kind names result old new (inr missed) = record { last = []; earlier = []; one = omega arith; is = missed.1.trace; quiet = tt }
-
--- all snapshots since the scene have its counts
-pub record Quiet (old new : Scene) : Type 0 where
-  pub moments : GoesOn (HasNoFault old) old.trace new.trace
-  pub script : new.script_faults ≡ old.script_faults
-  pub out : new.out_faults ≡ old.out_faults
-  pub folder : new.folder_faults ≡ old.folder_faults
 
 pub quiet_none : (old : Scene) → Quiet old old
 quiet_none old = record { moments = goes_none (HasNoFault old) old.trace; script = refl; out = refl; folder = refl }

@@ -35,3 +35,10 @@ pub record FailsLast (old new : Scene) : Type 0 where
   pub one : length last ≤ 1
   pub is : new.trace ≡ last ++ (earlier ++ old.trace)
   pub quiet : Each (HasNoFault old) earlier
+
+-- No call failed since the scene: all snapshots since then have its counts, and so has the scene now.
+pub record Quiet (old new : Scene) : Type 0 where
+  pub moments : GoesOn (HasNoFault old) old.trace new.trace
+  pub script : new.script_faults ≡ old.script_faults
+  pub out : new.out_faults ≡ old.out_faults
+  pub folder : new.folder_faults ≡ old.folder_faults

@@ -4,8 +4,8 @@ use Rattle.std.specs.Result.{IsErrAnd}
 use Rattle.vs_faults.specs.Faults.{HasCause, HasRisen}
 use Rattle.vs_host.specs.Disk.{Disk}
 use Rattle.vs_host.specs.World.{Tells, Scene, ChangesFolder, ChangesOutput}
-use Rattle.vs_disk.specs.Runs.{Inside, Runs, FailsLast}
-use Rattle.vs_disk.proofs.Runs.{Quiet, goes_weaker}
+use Rattle.vs_disk.specs.Runs.{Inside, Runs, FailsLast, Quiet}
+use Rattle.vs_disk.proofs.Runs.{goes_weaker}
 use Rattle.vs_pair.specs.Acts.{Acts}
 use Rattle.vs_recover.specs.Reading.{Reads}
 use Rattle.vs_modes.specs.declared.error.ModeErr.{ModeErr}

@@ -1,7 +1,7 @@
 -- What was written of some bytes, and what a function says of an output that it is lent.
 use Rattle.std.specs.Prelude.{◌≡◌, ◌≤◌, ℕ, List, ◌++◌, IsTrue}
 use Rattle.vs_host.specs.World.{Tells, Scene, ChangesOutput}
-use Rattle.vs_disk.proofs.Runs.{Quiet}
+use Rattle.vs_disk.specs.Runs.{Quiet}
 use Rattle.vs_modes.specs.Moments.{Proceeds, IsSame}
 
 -- All of the bytes were written but for the rest.

@@ -4,8 +4,8 @@ use Rattle.std.specs.Prelude.{IsErrAnd, IsSomeAnd, IfSome}
 use Rattle.vs_host.specs.Disk.{Name}
 use Rattle.vs_host.specs.Trace.{Kind, Snapshot}
 use Rattle.vs_host.specs.World.{Tells, Scene, IsTold, ReadsFolder, content_of}
-use Rattle.vs_disk.specs.Runs.{HasNoFault, FailsLast}
-use Rattle.vs_disk.proofs.Runs.{Quiet, reads_change, starts, one_look, looks_on, fails_none, fails_call, quiet_none, quiet_call, goes_then, goes_weaker, Each-append, Each-weaker}
+use Rattle.vs_disk.specs.Runs.{HasNoFault, FailsLast, Quiet}
+use Rattle.vs_disk.proofs.Runs.{reads_change, starts, one_look, looks_on, fails_none, fails_call, quiet_none, quiet_call, goes_then, goes_weaker, Each-append, Each-weaker}
 use Rattle.vs_recover.specs.declared.error.Fault.{Fault}
 use Rattle.vs_recover.specs.declared.error.Fault.TheVariants as fault
 use Rattle.vs_recover.specs.declared.error.RecErr.{RecErr}

@@ -2,8 +2,7 @@
 use Rattle.std.specs.Prelude.{◌≡◌, ℕ, ◌+◌, ◌-◌, ◌/◌, ◌≤◌, length, List, Option, Some, None, IsTrue, IsSomeAnd}
 use Rattle.vs_host.specs.Disk.{Name}
 use Rattle.vs_host.specs.World.{Tells, Scene, ReadsFolder, content_of}
-use Rattle.vs_disk.specs.Runs.{Looks, FailsLast}
-use Rattle.vs_disk.proofs.Runs.{Quiet}
+use Rattle.vs_disk.specs.Runs.{Looks, FailsLast, Quiet}
 
 -- The folder was only read: where it is told, it is the same at each moment, and no call on the host but the last one failed.
 pub record Reads (tells : Tells) (old new : Scene) : Type 0 where
