@@ -4,14 +4,14 @@ use Rattle.std.specs.Prelude.{IsErr, IsErrOf, IsSome, IsSomeAnd}
 use Rattle.std.proofs.lemmas.Bool.{true≢false}
 use Rattle.std.proofs.lemmas.Result.{on_ok_weaker}
 use Rattle.vs_faults.specs.Faults.{HasCause, HasRisen}
-use Rattle.vs_host.specs.Disk.{Disk, Name, names_of, names_at, read_under, content_in}
+use Rattle.vs_host.specs.Disk.{Disk, Name, names_of, read_under, content_in}
 use Rattle.vs_host.specs.World.{Scene, ChangesFolder}
 use Rattle.vs_host.specs.declared.traits.Failed.{Failed}
 use Rattle.vs_disk.specs.Images.{HoldsBytes, MayLeave}
 use Rattle.vs_disk.specs.Runs.{Runs, Looks}
 use Rattle.vs_disk.proofs.Runs.{runs_as, runs_on, starts}
 use Rattle.vs_disk.proofs.Contents.{image_holds}
-use Rattle.vs_backup.specs.Works.{Narrowed, Spares, SparesOthers, one_name}
+use Rattle.vs_backup.specs.Works.{Drops, IsGone, Narrowed, Spares, SparesOthers, one_name}
 use Rattle.vs_backup.specs.Writing.{IsKept, IsWhole, IsSettled, OldIn, WritesOver, WritesBacked, BeginsWhole, backed_names, stopped}
 use Rattle.vs_backup.specs.declared.errors.Place.{Place}
 use Rattle.vs_backup.specs.declared.errors.Place.TheVariants as place
@@ -25,6 +25,7 @@ use Rattle.vs_backup.proofs.Kept.{may_leave_now}
 use Rattle.vs_backup.proofs.Copying.{kept_on, never_refused}
 use Rattle.vs_backup.proofs.Others.{others_spared, others_looks, others_on, others_starts}
 use Rattle.vs_backup.proofs.Places.{places_keep, places_dropped}
+use Rattle.vs_backup.proofs.Replacing.{takes_dropped, gone_spared}
 
 some_and : (at : Option (List ℕ)) (bytes : List ℕ) (P : List ℕ → Type 0) → at ≡ Some bytes → P bytes → IsSomeAnd at P
 some_and at bytes P is holds = subst (λ (o : Option (List ℕ)). IsSomeAnd o P) (sym is) holds
@@ -74,6 +75,7 @@ module _ (copying keep : Bool) (name temporary backup : Name) (old new : List �
     looked = narrowed_starts s0;
     settled = is;
     whole = runs_as (λ a b. IsKept name backup old b) (λ a b. IsWhole name backup old new b) s0 s1 (λ d kept. whole_kept name backup old new d kept) over.kept;
+    replaced = over.replaced;
     places = places_keep copying keep name backup s0 s1 result over.places;
     spares = over.spares;
   }
@@ -89,6 +91,7 @@ module _ (copying keep : Bool) (name temporary backup : Name) (old new : List �
     written = tt;
     kept = λ keeps. tt;
     gone = λ goes. tt;
+    aside = λ copies. tt;
     not_written = over.not_written;
     in_file = λ refused. inr (over.in_file refused);
     in_backup = λ refused. (over.kept.now, over.in_backup refused);
@@ -103,6 +106,7 @@ module _ (copying keep : Bool) (name temporary backup : Name) (old new : List �
     written = (over.written.0, over.written.1);
     kept = λ keeps. over.written.2;
     gone = λ goes. absurd (true≢false (sym keeps ∙ goes));
+    aside = λ copies. over.aside copies;
     not_written = tt;
     in_file = λ refused. absurd (never_refused size place.File refused);
     in_backup = λ refused. absurd (never_refused size place.Backup refused);
@@ -110,10 +114,10 @@ module _ (copying keep : Bool) (name temporary backup : Name) (old new : List �
   }
 
   -- the backup is removed, or a call failed
-  pub backed_removed : (size : ℕ) (s2 : Scene) → keep ≡ false → ChangesFolder s0 s1 → (name ≡ backup → ⊥) → WritesOver copying name temporary backup old new s0 s1 (Ok size)
-      → Runs (Spares (one_name backup)) s1 s2 → ((HasRisen s0.folder_faults s2.folder_faults → ⊥) → (lost : ℕ) → names_at s2.folder lost backup ≡ None)
-      → WritesBacked copying keep name temporary backup old new s0 s2 (Ok size)
-  backed_removed size s2 goes frame differ over drops gone =
+  pub backed_removed : (size : ℕ) (s2 : Scene) → keep ≡ false → ChangesFolder s0 s1 → (name ≡ backup → ⊥) → (temporary ≡ backup → ⊥) → content_in s0.folder backup ≡ None
+      → WritesOver copying name temporary backup old new s0 s1 (Ok size) → Runs (Spares (one_name backup)) s1 s2 → Runs (Drops backup) s1 s2
+      → ((HasRisen s0.folder_faults s2.folder_faults → ⊥) → IsGone backup s2.folder) → WritesBacked copying keep name temporary backup old new s0 s2 (Ok size)
+  backed_removed size s2 goes frame differ differ_backup free over drops dropped gone =
       let on = backed_names copying name temporary backup in
       let holds = over.written.1 in
       let before = begins (Ok size) over in
@@ -126,6 +130,7 @@ module _ (copying keep : Bool) (name temporary backup : Name) (old new : List �
           whole = kept_on (IsWhole name backup old new) s0 s1 s2 frame before.whole
               (runs_as (Spares (one_name backup)) (λ a b. IsWhole name backup old new b) s1 s2
               (λ d spares. whole_new name backup old new d (holds_spared (one_name backup) name (λ c. c ≡ new) s1.folder d differ spares holds)) drops);
+          replaced = takes_dropped backup old s0 s1 s2 frame free over.replaced dropped;
           places = places_dropped copying keep name backup s0 s1 s2 size goes frame differ over.places drops;
           spares = spares;
         });
@@ -133,6 +138,7 @@ module _ (copying keep : Bool) (name temporary backup : Name) (old new : List �
         written = (over.written.0, holds_spared (one_name backup) name (λ c. c ≡ new) s1.folder s2.folder differ drops.now holds);
         kept = λ keeps. absurd (true≢false (sym keeps ∙ goes));
         gone = λ goes none. gone none;
+        aside = λ copies. gone_spared (one_name backup) temporary s1.folder s2.folder differ_backup drops.now (over.aside copies);
         not_written = tt;
         in_file = λ refused. absurd (never_refused size place.File refused);
         in_backup = λ refused. absurd (never_refused size place.Backup refused);
@@ -154,6 +160,7 @@ module _ (copying keep : Bool) (name temporary backup : Name) (old new : List �
     written = tt;
     kept = λ keeps. tt;
     gone = λ goes. tt;
+    aside = λ copies. tt;
     not_written = inl may_leave_narrowed;
     in_file = λ refused. inl looked;
     in_backup = λ refused. absurd (not_backup refused);
@@ -170,6 +177,7 @@ module _ (copying keep : Bool) (name temporary backup : Name) (old new : List �
         looked = runs_on Narrowed narrowed_then s0 s1 whole.begun frame looked whole.looked;
         settled = whole.settled;
         whole = whole.whole;
+        replaced = whole.replaced;
         places = whole.places;
         spares = whole.spares;
       })
@@ -179,6 +187,7 @@ module _ (copying keep : Bool) (name temporary backup : Name) (old new : List �
     written = backed.written;
     kept = backed.kept;
     gone = λ goes. gone_after result goes;
+    aside = backed.aside;
     not_written = backed.not_written;
     in_file = λ refused. elim (backed.in_file refused) [
       | inl none ↦ inl (runs_on Narrowed narrowed_then s0 s1 s2 frame looked none)
@@ -188,7 +197,7 @@ module _ (copying keep : Bool) (name temporary backup : Name) (old new : List �
     somewhere = backed.somewhere;
   }
     where
-      gone_after : (r : Result ℕ WriteErr) → keep ≡ false → OnOk result ((HasRisen s0.folder_faults s2.folder_faults → ⊥) → (lost : ℕ) → names_at s2.folder lost backup ≡ None)
+      gone_after : (r : Result ℕ WriteErr) → keep ≡ false → OnOk result ((HasRisen s0.folder_faults s2.folder_faults → ⊥) → IsGone backup s2.folder)
       gone_after r goes = on_ok_weaker result (λ gone none. gone (λ rose. none (risen_before s0.folder_faults s1.folder_faults s2.folder_faults later rose))) (backed.gone goes)
 
 -- a removal that failed raised the count

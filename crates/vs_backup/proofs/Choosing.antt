@@ -4,7 +4,6 @@ use Rattle.std.specs.Prelude.{is_some}
 use Rattle.std.specs.Prelude.{IsTrue}
 use Rattle.std.proofs.lemmas.Bool.{cond-true, cond-false, true≢false}
 use Rattle.vs_host.specs.Names.{is_allowed}
-use Rattle.vs_host.specs.World.{Scene, ReadsFolder}
 use Rattle.vs_host.specs.Disk.{Disk, Name, content_in}
 use Rattle.vs_backup.specs.Backups.{IsBackupName, backup_name, candidates, first_free, lettered, letters}
 
@@ -48,6 +47,3 @@ IsBackupName-lettered name letter some = record {
 pub some_name : (name : Name) → IsTrue (is_allowed name) → 0 < length name
 some_name [] is = absurd (true≢false (sym is))
 some_name (byte ∷ name) is = omega arith
-
-pub reads_then : (s0 s1 s2 : Scene) → ReadsFolder s0 s1 → ReadsFolder s1 s2 → ReadsFolder s0 s2
-reads_then s0 s1 s2 first second = second ∙ ap (λ (s : Scene). record s { folder_faults = s2.folder_faults; trace = s2.trace }) first

@@ -4,13 +4,13 @@ use Rattle.std.specs.Prelude.{IsErrOf}
 use Rattle.vs_host.specs.File.{File, Cuts}
 use Rattle.vs_host.specs.Disk.{Disk, Name, content_in, ChangesFile, IsFolder}
 use Rattle.vs_host.specs.World.{Scene, ChangesFolder}
-use Rattle.vs_disk.specs.Images.{HoldsBytes, IsSynced, MayLeave}
+use Rattle.vs_disk.specs.Images.{Changes, HoldsBytes, IsSynced, MayLeave, Takes}
 use Rattle.vs_disk.specs.Runs.{Runs}
 use Rattle.vs_disk.proofs.Steps.{same_at}
 use Rattle.vs_disk.proofs.Images.{read_image}
 use Rattle.vs_disk.proofs.Runs.{runs_as, runs_then}
 use Rattle.vs_disk.proofs.Contents.{file_of_content, content_of_file, holds_synced}
-use Rattle.vs_backup.specs.Works.{ChangesOne, Fills, IsAlone, LeadsTo, Spares, one_name, two_names, three_names}
+use Rattle.vs_backup.specs.Works.{ChangesOne, Fills, IsAlone, IsGone, LeadsTo, Spares, one_name, two_names, three_names}
 use Rattle.vs_backup.specs.Writing.{IsKept, IsSettled, Places, StartsOver, IsStartedOver, WritesOver, OldIn, backed_names, stopped}
 use Rattle.vs_backup.specs.declared.errors.Place.{Place}
 use Rattle.vs_backup.specs.declared.errors.Place.TheVariants as place
@@ -20,6 +20,7 @@ use Rattle.vs_backup.specs.declared.errors.WriteErr.TheVariants as error
 use Rattle.vs_backup.proofs.Calls.{runs_wider, runs_file, spares_on, synced_bytes}
 use Rattle.vs_backup.proofs.Frames.{alone_settled, holds_spared, synced_spared}
 use Rattle.vs_backup.proofs.Places.{in_place_spared, in_place_on}
+use Rattle.vs_backup.proofs.Replacing.{takes_on, takes_others, gone_changed}
 use Rattle.vs_backup.proofs.Kept.{kept_by_name, kept_by_backup, settled_holds, may_leave_now, may_leave_filled}
 
 -- a predicate that holds at each moment of two runs
@@ -50,6 +51,9 @@ module _ (name backup temporary : Name) (old : List ℕ) (s1 s2 : Scene) (differ
   pub over_kept : Runs (λ a b. IsKept name backup old b) s1 s2
   over_kept = runs_as (Spares (one_name name)) (λ a b. IsKept name backup old b) s1 s2
       (λ d spares. kept_by_backup name backup old d (holds_spared (one_name name) backup (λ c. c ≡ old) s1.folder d differ spares (settled_holds backup old s1.folder settled))) over_one
+
+  pub over_replaced : Runs (Takes backup old) s1 s2
+  over_replaced = takes_others (one_name name) backup old s1 s2 differ over_one
 
   pub over_backed : IsSettled backup old s2.folder
   over_backed = record {
@@ -120,14 +124,19 @@ module _ (name backup temporary : Name) (old new : List ℕ) (s0 s1 s2 : Scene) 
   all_kept : Runs (λ a b. IsKept name backup old b) s0 s2
   all_kept = kept_on (IsKept name backup old) s0 s1 s2 frame over.kept (over_kept name backup temporary old s1 s2 differ started.backed folder [] started.empty runs)
 
+  all_replaced : Runs (Takes backup old) s0 s2
+  all_replaced = takes_on backup old s0 s1 s2 frame over.replaced (over_replaced name backup temporary old s1 s2 differ started.backed folder [] started.empty runs)
+
   backed : IsSettled backup old s2.folder
   backed = over_backed name backup temporary old s1 s2 differ started.backed folder [] started.empty runs
 
-  pub copying_done : (size : ℕ) → size ≡ length new → IsSynced name new s2.folder → WritesOver true name temporary backup old new s0 s2 (Ok size)
-  copying_done size is synced = record {
+  pub copying_done : (size : ℕ) → size ≡ length new → IsSynced name new s2.folder → IsGone temporary s1.folder → WritesOver true name temporary backup old new s0 s2 (Ok size)
+  copying_done size is synced aside = record {
     spares = all_spares;
     kept = all_kept;
     places = in_place_on name s0 s1 s2 frame over.in_place runs;
+    replaced = all_replaced;
+    aside = λ copies. gone_changed temporary name Changes s1.folder s2.folder runs.now aside;
     written = (is, holds_synced name new s2.folder backed.pending synced, settled_holds backup old s2.folder backed);
     not_written = tt;
     in_file = λ refused. absurd (never_refused size place.File refused);
@@ -140,6 +149,8 @@ module _ (name backup temporary : Name) (old new : List ℕ) (s0 s1 s2 : Scene) 
     spares = all_spares;
     kept = all_kept;
     places = in_place_on name s0 s1 s2 frame over.in_place runs;
+    replaced = all_replaced;
+    aside = λ copies. tt;
     written = tt;
     not_written = inl (may_leave_filled name old s1.folder s2.folder fills started.may_leave);
     in_file = λ refused. absurd (never_file why refused);
@@ -149,12 +160,14 @@ module _ (name backup temporary : Name) (old new : List ℕ) (s0 s1 s2 : Scene) 
 
 -- the file is as it was
 pub over_not_begun : (copying : Bool) (name temporary backup : Name) (old new : List ℕ) (s0 s1 : Scene) → Runs (Spares (backed_names copying name temporary backup)) s0 s1
-    → Runs (λ a b. IsKept name backup old b) s0 s1 → Places copying true name backup s0 s1 (Err (error.Failed place.File)) → HoldsBytes name old s1.folder
+    → Runs (λ a b. IsKept name backup old b) s0 s1 → Runs (Takes backup old) s0 s1 → Places copying true name backup s0 s1 (Err (error.Failed place.File)) → HoldsBytes name old s1.folder
     → WritesOver copying name temporary backup old new s0 s1 (Err (error.Failed place.File))
-over_not_begun copying name temporary backup old new s0 s1 spares kept places holds = record {
+over_not_begun copying name temporary backup old new s0 s1 spares kept replaced places holds = record {
   spares = spares;
   kept = kept;
   places = places;
+  replaced = replaced;
+  aside = λ copies. tt;
   written = tt;
   not_written = inl (may_leave_held name old s1.folder holds);
   in_file = λ refused. holds;

@@ -5,11 +5,14 @@ pub mod Choosing
 pub mod Copying
 pub mod Filling
 pub mod Frames
+pub mod Free
+pub mod Going
 pub mod Kept
 pub mod Moving
 pub mod NamesApart
 pub mod Others
 pub mod Places
+pub mod Replacing
 pub mod Settling
 pub mod Starting
 pub mod Unbacked

@@ -1,13 +1,15 @@
 -- Writing a file anew after it was renamed to its backup: in each image the name or the backup name leads to the old file.
 use Rattle.std.proofs.Common.{◌≡◌, inl, inr, ℕ, false, List, [], ◌∷◌, None, length, Result, Ok, Err, sym, ◌∙◌}
+use Rattle.std.proofs.lemmas.Bool.{true≢false}
 use Rattle.vs_host.specs.Disk.{Disk, Name, Renames, ChangesNames, IsFolder}
 use Rattle.vs_host.specs.Trace.{Renamed}
 use Rattle.vs_host.specs.World.{Scene, ChangesFolder, IsTold}
 use Rattle.vs_host.specs.declared.traits.Failed.{Failed}
-use Rattle.vs_disk.specs.Images.{MayLeave}
+use Rattle.vs_disk.specs.Images.{MayLeave, Takes}
 use Rattle.vs_disk.specs.Runs.{Runs}
 use Rattle.vs_disk.proofs.Steps.{one_state}
 use Rattle.vs_disk.proofs.Runs.{one_call, runs_as, runs_then}
+use Rattle.vs_disk.proofs.Contents.{takes_renamed}
 use Rattle.vs_backup.specs.Works.{LeadsTo, Spares, StandsUnder, one_name, two_names}
 use Rattle.vs_backup.specs.Writing.{IsKept, IsSettled, IsGuarded, MakesAnew, WritesAnew, WritesOver, stopped}
 use Rattle.vs_backup.specs.declared.errors.Place.TheVariants as place
@@ -16,6 +18,7 @@ use Rattle.vs_backup.proofs.Calls.{runs_wider, spares_on}
 use Rattle.vs_backup.proofs.Frames.{spares_renamed}
 use Rattle.vs_backup.proofs.Kept.{guard_kept, guard_moved, guard_bytes, settled_holds}
 use Rattle.vs_backup.proofs.Places.{leads_away}
+use Rattle.vs_backup.proofs.Replacing.{takes_on, takes_others}
 use Rattle.vs_backup.proofs.Copying.{kept_on, never_file, never_nowhere, never_no_name, never_refused}
 
 -- ---- the name was made anew
@@ -46,6 +49,11 @@ module _ (name backup : Name) (old new : List ℕ) (s0 s1 s2 : Scene) (is : IsSe
   moved_kept result anew = kept_on (IsKept name backup old) s0 s1 s2 frame renamed_kept
       (runs_as (λ a b. IsGuarded name backup is.synced.number old b) (λ a b. IsKept name backup old b) s1 s2 (λ d here. guard_kept name backup is.synced.number old d here) anew.guarded)
 
+  moved_replaced : (result : Result ℕ Stop) → (name ≡ backup → ⊥) → WritesAnew name backup is.synced.number old new s1 s2 result → Runs (Takes backup old) s0 s2
+  moved_replaced result differ anew = takes_on backup old s0 s1 s2 frame
+      (one_call (Takes backup old) Renamed (name ∷ backup ∷ []) answer s0 s1 frame told (takes_renamed name backup old s0.folder s1.folder is.synced renames))
+      (takes_others (one_name name) backup old s1 s2 (λ e. differ (sym e)) anew.spares)
+
   guard_under : (d : Disk) → IsGuarded name backup is.synced.number old d → StandsUnder name backup s0.folder d
   guard_under d guard lost = elim (guard.each lost) [
     | inl by_name ↦ inl (by_name ∙ sym is.synced.leads)
@@ -71,6 +79,8 @@ module _ (name backup : Name) (old new : List ℕ) (s0 s1 s2 : Scene) (is : IsSe
       kept = λ keeps. backup_leads size anew;
       in_backup = λ refused. absurd (never_refused size place.Backup refused);
     };
+    replaced = moved_replaced (Ok size) differ anew;
+    aside = λ copies. absurd (true≢false (sym copies));
     written = (anew.written.0, settled_holds name new s2.folder anew.written.1, guard_bytes name backup is.synced.number old s2.folder anew.written.1.pending anew.guarded.now);
     not_written = tt;
     in_file = λ refused. absurd (never_refused size place.File refused);
@@ -78,12 +88,14 @@ module _ (name backup : Name) (old new : List ℕ) (s0 s1 s2 : Scene) (is : IsSe
     somewhere = (λ refused. never_refused size place.Nowhere refused, λ is. cc);
   }
 
-  pub moving_stopped : (why : Stop) (temporary : Name) → WritesAnew name backup is.synced.number old new s1 s2 (Err why)
+  pub moving_stopped : (why : Stop) (temporary : Name) → (name ≡ backup → ⊥) → WritesAnew name backup is.synced.number old new s1 s2 (Err why)
       → WritesOver false name temporary backup old new s0 s2 (Err (stopped why place.Backup))
-  moving_stopped why temporary anew = record {
+  moving_stopped why temporary differ anew = record {
     spares = moved_spares (Err why) anew;
     kept = moved_kept (Err why) anew;
     places = record { under = moved_under (Err why) anew; another = tt; kept = λ keeps. tt; in_backup = λ refused. anew.guarded.now.now ∙ sym is.synced.leads };
+    replaced = moved_replaced (Err why) differ anew;
+    aside = λ copies. tt;
     written = tt;
     not_written = inr anew.absent;
     in_file = λ refused. absurd (never_file why refused);

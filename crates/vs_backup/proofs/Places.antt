@@ -7,7 +7,7 @@ use Rattle.vs_host.specs.World.{Scene, ChangesFolder}
 use Rattle.vs_disk.specs.Images.{Changes}
 use Rattle.vs_disk.specs.Runs.{Runs}
 use Rattle.vs_disk.proofs.Steps.{itself, same_at, one_state}
-use Rattle.vs_disk.proofs.Runs.{runs_as, runs_then, starts}
+use Rattle.vs_disk.proofs.Runs.{runs_as, runs_then}
 use Rattle.vs_backup.specs.Works.{ChangesOne, LeadsAway, LeadsTo, Spares, StandsUnder, one_name}
 use Rattle.vs_backup.specs.Writing.{Places, StandsUntil}
 use Rattle.vs_backup.specs.declared.errors.WriteErr.{WriteErr}
@@ -28,9 +28,6 @@ away_spared : (on : Name → Type 0) (name : Name) (base old new : Disk) → (on
 away_spared on name base old new not spares away lost leads =
     let at = (spared on name old new not spares).back lost in
     away at.0 (sym (at.1 name (itself name)) ∙ leads)
-
-pub in_place_starts : (name : Name) (s0 : Scene) → s0.folder.pending ≡ [] → Runs (LeadsTo name name) s0 s0
-in_place_starts name s0 none = starts (LeadsTo name name) s0 (leads_settled name s0.folder none)
 
 -- calls that leave the name alone
 pub in_place_spared : (on : Name → Type 0) (name : Name) (s0 s1 : Scene) → (on name → ⊥) → s0.folder.pending ≡ [] → Runs (Spares on) s0 s1 → Runs (LeadsTo name name) s0 s1

@@ -1,31 +1,34 @@
 -- A write that copies, until the file is empty: it has the old bytes until a settled copy of it stands, and then the copy has.
 use Rattle.std.proofs.Common.{◌≡◌, ℕ, Bool, List, Option, Some, OnErr, Result, IsTrue, sym, ap, subst, arith}
 use Rattle.std.specs.Prelude.{is_some, IsSome}
+use Rattle.vs_host.specs.File.{Cuts}
 use Rattle.vs_host.specs.Disk.{Disk, Name, content_in}
 use Rattle.vs_host.specs.World.{Scene, ChangesFolder, content_of}
 use Rattle.vs_host.specs.declared.traits.Failed.{Failed}
 use Rattle.vs_disk.specs.Images.{HoldsBytes}
 use Rattle.vs_disk.proofs.Images.{cut_keeps_images}
 use Rattle.vs_disk.proofs.Runs.{runs_as}
-use Rattle.vs_backup.specs.Works.{ChangesOne, Empties, Fills, Spares, SparesTwo, Unchanged, three_names}
-use Rattle.vs_backup.specs.Writing.{CopiesBytes, IsKept, IsSettled, StartsOverFrom, StartedOverFrom, StillHolds}
+use Rattle.vs_backup.specs.Works.{ChangesOne, Empties, Fills, LeavesNone, Spares, SparesTwo, Unchanged, three_names}
+use Rattle.vs_backup.specs.Writing.{CopiesBytes, IsKept, IsSettled, ReplacesByCopy, StartsOverFrom, StartedOverFrom, StillHolds}
 use Rattle.vs_backup.proofs.Calls.{spares_on, synced_bytes, synced_there}
-use Rattle.vs_backup.proofs.Copying.{kept_on, cut_content, over_spares, over_kept, over_backed, copy_spares, copy_kept, copy_in_place, copy_holds, copy_content}
+use Rattle.vs_backup.proofs.Copying.{kept_on, cut_content, over_spares, over_kept, over_backed, over_replaced, copy_spares, copy_kept, copy_in_place, copy_holds, copy_content}
 use Rattle.vs_backup.proofs.Filling.{changes_same}
 use Rattle.vs_backup.proofs.Frames.{spares_same, err_is}
 use Rattle.vs_backup.proofs.Kept.{kept_by_name, settled_holds, may_leave_now, may_leave_filled}
 use Rattle.vs_backup.proofs.Places.{in_place_on, in_place_changed}
+use Rattle.vs_backup.proofs.Replacing.{takes_on, takes_looks, gone_changed}
 
 -- ---- at each moment
 pub over_copied : (told : Bool) (name temporary backup : Name) (s0 s1 : Scene) → (name ≡ temporary → ⊥) → (name ≡ backup → ⊥) → SparesTwo told temporary backup s0 s1
-    → StartsOverFrom told name temporary backup s0 s1
-over_copied told name temporary backup s0 s1 differ differ_name aside = record {
+    → ReplacesByCopy told name backup s0 s1 → StartsOverFrom told name temporary backup s0 s1
+over_copied told name temporary backup s0 s1 differ differ_name aside replaces = record {
   each = λ is old settled.
       let runs = aside.spares is in
       record {
         spares = copy_spares name backup temporary old s0 s1 differ differ_name settled runs;
         kept = copy_kept name backup temporary old s0 s1 differ differ_name settled runs;
         in_place = copy_in_place name backup temporary old s0 s1 differ differ_name settled runs;
+        replaced = replaces.takes is old (synced_bytes name old s0.folder settled.synced);
       };
 }
 
@@ -39,25 +42,27 @@ over_unchanged told name temporary backup s0 s1 none = record {
         kept = runs_as (λ a b. b ≡ a) (λ a b. IsKept name backup old b) s0 s1
             (λ d same. kept_by_name name backup old d (subst (λ (e : Disk). HoldsBytes name old e) (sym same) holds)) (none.looks is);
         in_place = in_place_changed name s0 s1 settled.pending (runs_as (λ a b. b ≡ a) (ChangesOne name) s0 s1 (λ d same. changes_same name s0.folder d same) (none.looks is));
+        replaced = takes_looks backup old s0 s1 (none.looks is);
       };
 }
 
 pub over_not_emptied : (told : Bool) (name temporary backup : Name) (s0 s1 s2 : Scene) → (name ≡ temporary → ⊥) → (name ≡ backup → ⊥) → ChangesFolder s0 s1 → SparesTwo told temporary backup s0 s1
-    → Unchanged told s1 s2 → StartsOverFrom told name temporary backup s0 s2
-over_not_emptied told name temporary backup s0 s1 s2 differ differ_name frame aside none = record {
+    → ReplacesByCopy told name backup s0 s1 → Unchanged told s1 s2 → StartsOverFrom told name temporary backup s0 s2
+over_not_emptied told name temporary backup s0 s1 s2 differ differ_name frame aside replaces none = record {
   each = λ is old settled.
       let on = three_names name temporary backup in
-      let over = (over_copied told name temporary backup s0 s1 differ differ_name aside).each is old settled in
+      let over = (over_copied told name temporary backup s0 s1 differ differ_name aside replaces).each is old settled in
       record {
         spares = spares_on on s0 s1 s2 frame over.spares (runs_as (λ a b. b ≡ a) (Spares on) s1 s2 (λ d same. spares_same on s1.folder d same) (none.looks is));
         kept = kept_on (IsKept name backup old) s0 s1 s2 frame over.kept
             (runs_as (λ a b. b ≡ a) (λ a b. IsKept name backup old b) s1 s2 (λ d same. subst (λ (e : Disk). IsKept name backup old e) (sym same) over.kept.now) (none.looks is));
         in_place = in_place_on name s0 s1 s2 frame over.in_place (runs_as (λ a b. b ≡ a) (ChangesOne name) s1 s2 (λ d same. changes_same name s1.folder d same) (none.looks is));
+        replaced = takes_on backup old s0 s1 s2 frame over.replaced (takes_looks backup old s1 s2 (none.looks is));
       };
 }
 
 module _ (told : Bool) (name temporary backup : Name) (s0 s1 s2 : Scene) (differ : name ≡ temporary → ⊥) (differ_name : name ≡ backup → ⊥) (frame : ChangesFolder s0 s1)
-    (aside : SparesTwo told temporary backup s0 s1) (copies : CopiesBytes told name backup s0 s1) (empties : Empties told name s1 s2) where
+    (aside : SparesTwo told temporary backup s0 s1) (replaces : ReplacesByCopy told name backup s0 s1) (copies : CopiesBytes told name backup s0 s1) (empties : Empties told name s1 s2) where
   copied : IsTrue told → (old : List ℕ) → IsSettled name old s0.folder → IsSettled backup old s1.folder
   copied is old settled = copies.settled is old (synced_bytes name old s0.folder settled.synced)
 
@@ -78,6 +83,8 @@ module _ (told : Bool) (name temporary backup : Name) (s0 s1 s2 : Scene) (differ
           kept = kept_on (IsKept name backup old) s0 s1 s2 frame (copy_kept name backup temporary old s0 s1 differ differ_name settled first)
               (over_kept name backup temporary old s1 s2 apart standing (empties.folder is) old content (empties.runs is));
           in_place = in_place_on name s0 s1 s2 frame (copy_in_place name backup temporary old s0 s1 differ differ_name settled first) (empties.runs is);
+          replaced = takes_on backup old s0 s1 s2 frame (replaces.takes is old (synced_bytes name old s0.folder settled.synced))
+              (over_replaced name backup temporary old s1 s2 apart standing (empties.folder is) old content (empties.runs is));
         };
   }
 
@@ -99,6 +106,10 @@ module _ (told : Bool) (name temporary backup : Name) (s0 s1 s2 : Scene) (differ
           may_leave = may_leave_filled name old s1.folder s2.folder keeps (may_leave_now name old s1.folder content);
         };
   }
+
+-- the name under which the copy was made still leads to no file
+pub aside_emptied : (told : Bool) (name temporary : Name) (s1 s2 : Scene) → LeavesNone told temporary s1 → Empties told name s1 s2 → LeavesNone told temporary s2
+aside_emptied told name temporary s1 s2 none empties = record { gone = λ is. gone_changed temporary name (Cuts 0) s1.folder s2.folder (empties.cuts is) (none.gone is) }
 
 -- ---- after an error
 pub still_copied : (told : Bool) (name temporary backup : Name) (s0 s1 : Scene) → (name ≡ temporary → ⊥) → (name ≡ backup → ⊥) → SparesTwo told temporary backup s0 s1 → StillHolds told name s0 s1
@@ -138,4 +149,4 @@ there_emptied told name s0 s1 settled empties is =
     ap (λ (o : Option (List ℕ)). is_some o) (cut_content name had.0 s0.folder s1.folder (empties.cuts is) (synced_bytes name had.0 s0.folder had.1.synced))
 
 -- what copying and emptying come to, in whatever order they stand
-pub ruleset start_steps = (over_copied, over_not_emptied, over_unchanged, over_emptied, started_over, still_copied, still_not_emptied, still_unchanged, still_err, there_settled, there_copied, there_emptied)
+pub ruleset start_steps = (over_copied, over_not_emptied, over_unchanged, over_emptied, started_over, aside_emptied, still_copied, still_not_emptied, still_unchanged, still_err, there_settled, there_copied, there_emptied)

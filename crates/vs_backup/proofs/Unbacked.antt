@@ -1,5 +1,5 @@
 -- Writing without a backup: the file alone changes, or its temporary name until the file takes its own.
-use Rattle.std.proofs.Common.{◌≡◌, inl, ℕ, List, [], ◌∷◌, Some, None, length, OnOk, OnErr, IfOk, Result, Ok, Err, sym, ◌∙◌, subst, arith}
+use Rattle.std.proofs.Common.{◌≡◌, inl, inr, ℕ, List, [], ◌∷◌, Some, None, length, OnOk, OnErr, IfOk, Result, Ok, Err, refl, sym, ◌∙◌, subst, arith}
 use Rattle.vs_host.specs.File.{Cuts}
 use Rattle.vs_host.specs.Disk.{Disk, Name, content_in, ChangesFile, IsFolder}
 use Rattle.vs_host.specs.Trace.{Cut}
@@ -8,18 +8,19 @@ use Rattle.vs_host.specs.declared.traits.Failed.{Failed}
 use Rattle.vs_disk.specs.Images.{IsSynced, MayLeave, Takes}
 use Rattle.vs_disk.specs.Runs.{Runs}
 use Rattle.vs_disk.proofs.Images.{cut_keeps_images}
-use Rattle.vs_disk.proofs.Runs.{one_call, runs_as, runs_on, starts}
-use Rattle.vs_disk.proofs.Contents.{holds_synced, takes_then}
-use Rattle.vs_backup.specs.Works.{ChangesOne, Fills, IsAlone, Narrowed, Spares, SparesOthers, one_name, two_names}
-use Rattle.vs_backup.specs.Writing.{IsSettled, WritesFresh, WritesPlain}
+use Rattle.vs_disk.proofs.Runs.{one_call, runs_on}
+use Rattle.vs_disk.proofs.Contents.{holds_synced}
+use Rattle.vs_backup.specs.Works.{ChangesOne, Fills, IsAlone, IsGone, Narrowed, Spares, SparesOthers, one_name, two_names}
+use Rattle.vs_backup.specs.Writing.{BeginsPlain, IsSettled, WritesFresh, WritesPlain}
 use Rattle.vs_backup.specs.declared.errors.Stop.{Stop}
 use Rattle.vs_backup.proofs.Calls.{runs_wider, runs_file, spares_on, synced_bytes}
-use Rattle.vs_backup.proofs.Frames.{spares_none, spares_same, takes_spared, content_spared, absent_now}
+use Rattle.vs_backup.proofs.Frames.{spares_same, content_spared, absent_now}
 use Rattle.vs_backup.proofs.Filling.{changes_by, changes_same, changes_then}
 use Rattle.vs_backup.proofs.Kept.{may_leave_now, may_leave_filled, settled_holds}
 use Rattle.vs_backup.proofs.Copying.{alone_now}
 use Rattle.vs_backup.proofs.Others.{others_spared, others_on}
-use Rattle.vs_backup.proofs.Places.{in_place_starts, in_place_changed}
+use Rattle.vs_backup.proofs.Places.{in_place_changed}
+use Rattle.vs_backup.proofs.Replacing.{takes_on, takes_others}
 use Rattle.vs_backup.proofs.Backed.{narrowed_content}
 
 -- ---- over a file that is there
@@ -27,26 +28,23 @@ module _ (name : Name) (old new : List ℕ) (s0 s1 : Scene) (content : content_i
   pub plain_not_begun : (result : Result ℕ Stop) → OnOk result ⊥ → WritesPlain name old new s0 s1 result
   plain_not_begun (Ok size) none = absurd none
   plain_not_begun (Err why) none = record {
-    begun = s1;
-    looked = looked;
-    in_place = λ none_pending. in_place_starts name s1 none_pending;
-    spares = starts (Spares (one_name name)) s1 (spares_none (one_name name) s1.folder);
+    moments = inr (looked, refl);
     others = spared;
     written = tt;
     not_written = inl (may_leave_now name old s1.folder (narrowed_content name s0.folder s1.folder looked.now ∙ content));
   }
 
   module _ (frame : ChangesFolder s0 s1) (settled : IsSettled name old s1.folder) (folder : IsFolder s1.folder) (s2 : Scene) (framed : ChangesFolder s1 s2) (answer : Result (Unit {0}) Failed) (told : IsTold Cut (name ∷ []) answer s1 s2) where
+    begins : (s : Scene) → Runs (ChangesOne name) s1 s → Runs (Spares (one_name name)) s1 s → BeginsPlain name old s0 s
+    begins s changes spares = record { begun = s1; looked = looked; settled = settled; in_place = in_place_changed name s1 s settled.pending changes; spares = spares }
+
     cut_spares : s2.folder ≡ s1.folder → Runs (Spares (one_name name)) s1 s2
     cut_spares same = one_call (Spares (one_name name)) Cut (name ∷ []) answer s1 s2 framed told (spares_same (one_name name) s1.folder s2.folder same)
 
     pub plain_not_cut : (result : Result ℕ Stop) → OnOk result ⊥ → s2.folder ≡ s1.folder → WritesPlain name old new s0 s2 result
     plain_not_cut (Ok size) none same = absurd none
     plain_not_cut (Err why) none same = record {
-      begun = s1;
-      looked = looked;
-      in_place = λ none_pending. in_place_changed name s1 s2 none_pending (one_call (ChangesOne name) Cut (name ∷ []) answer s1 s2 framed told (changes_same name s1.folder s2.folder same));
-      spares = cut_spares same;
+      moments = inl (begins s2 (one_call (ChangesOne name) Cut (name ∷ []) answer s1 s2 framed told (changes_same name s1.folder s2.folder same)) (cut_spares same));
       others = others_on (one_name name) s0 s1 s2 frame looked spared (others_spared (one_name name) s1 s2 (cut_spares same));
       written = tt;
       not_written = inl (subst (λ (d : Disk). MayLeave d name (Some old)) (sym same) (may_leave_now name old s1.folder (synced_bytes name old s1.folder settled.synced)));
@@ -79,19 +77,13 @@ module _ (name : Name) (old new : List ℕ) (s0 s1 : Scene) (content : content_i
 
       pub plain_filled : (result : Result ℕ Stop) → IfOk result (λ size. (size ≡ length new) × IsSynced name new s3.folder) → OnErr result (Fills name s2.folder s3.folder) → WritesPlain name old new s0 s3 result
       plain_filled (Ok size) done fills = record {
-        begun = s1;
-        looked = looked;
-        in_place = λ none_pending. in_place_changed name s1 s3 none_pending plain_changes;
-        spares = plain_spares;
+        moments = inl (begins s3 plain_changes plain_spares);
         others = plain_others;
         written = (done.0, holds_synced name new s3.folder (runs.now.pending ∙ cuts.pending ∙ settled.pending) done.1);
         not_written = tt;
       }
       plain_filled (Err why) done fills = record {
-        begun = s1;
-        looked = looked;
-        in_place = λ none_pending. in_place_changed name s1 s3 none_pending plain_changes;
-        spares = plain_spares;
+        moments = inl (begins s3 plain_changes plain_spares);
         others = plain_others;
         written = tt;
         not_written = inl (may_leave_filled name old s2.folder s3.folder fills (may_leave_filled name old s1.folder s2.folder keeps (may_leave_now name old s1.folder there)));
@@ -100,7 +92,7 @@ module _ (name : Name) (old new : List ℕ) (s0 s1 : Scene) (content : content_i
 -- ---- a file that was not there
 module _ (name temporary : Name) (new : List ℕ) (s0 s1 : Scene) (differ : name ≡ temporary → ⊥) (free : content_in s0.folder name ≡ None) (spares : Runs (Spares (one_name temporary)) s0 s1) where
   fresh_takes : Runs (Takes name new) s0 s1
-  fresh_takes = runs_as (Spares (one_name temporary)) (Takes name new) s0 s1 (λ d here. takes_spared (one_name temporary) name new s0.folder d differ here) spares
+  fresh_takes = takes_others (one_name temporary) name new s0 s1 differ spares
 
   fresh_spares : Runs (Spares (two_names temporary name)) s0 s1
   fresh_spares = runs_wider (one_name temporary) (two_names temporary name) s0 s1 (λ n is. inl is) spares
@@ -110,22 +102,27 @@ module _ (name temporary : Name) (new : List ℕ) (s0 s1 : Scene) (differ : name
 
   pub fresh_not_taken : (result : Result ℕ Stop) → OnOk result ⊥ → WritesFresh (two_names temporary name) name new s0 s1 result
   fresh_not_taken (Ok size) none = absurd none
-  fresh_not_taken (Err why) none = record { takes = fresh_takes; spares = fresh_spares; written = tt; not_written = absent_now name s1.folder fresh_free }
+  fresh_not_taken (Err why) none = record { takes = fresh_takes; spares = fresh_spares; written = tt; not_written = absent_now name s1.folder fresh_free; aside = tt }
 
   module _ (s2 : Scene) (frame : ChangesFolder s0 s1) (takes : Runs (Takes name new) s1 s2) (moved : Runs (Spares (two_names temporary name)) s1 s2) where
     pub fresh_refused : (result : Result ℕ Stop) → OnOk result ⊥ → MayLeave s2.folder name None → WritesFresh (two_names temporary name) name new s0 s2 result
     fresh_refused (Ok size) none absent = absurd none
     fresh_refused (Err why) none absent = record {
-      takes = runs_on (Takes name new) (takes_then name new) s0 s1 s2 frame fresh_takes takes;
+      takes = takes_on name new s0 s1 s2 frame fresh_takes takes;
       spares = spares_on (two_names temporary name) s0 s1 s2 frame fresh_spares moved;
       written = tt;
       not_written = absent;
+      aside = tt;
     }
 
-    pub fresh_done : (size : ℕ) → size ≡ length new → IsSettled name new s2.folder → WritesFresh (two_names temporary name) name new s0 s2 (Ok size)
-    fresh_done size is settled = record {
-      takes = runs_on (Takes name new) (takes_then name new) s0 s1 s2 frame fresh_takes takes;
+    pub fresh_done : (size : ℕ) → size ≡ length new → IsSettled name new s2.folder → IsGone temporary s2.folder → WritesFresh (two_names temporary name) name new s0 s2 (Ok size)
+    fresh_done size is settled gone = record {
+      takes = takes_on name new s0 s1 s2 frame fresh_takes takes;
       spares = spares_on (two_names temporary name) s0 s1 s2 frame fresh_spares moved;
       written = (is, settled_holds name new s2.folder settled);
       not_written = tt;
+      aside = λ other works not_name. elim works [
+        | inl same ↦ subst (λ (n : Name). IsGone n s2.folder) (sym same) gone
+        | inr same ↦ absurd (not_name same)
+      ];
     }

@@ -1,29 +1,46 @@
 -- The whole of a write after the first look at the folder, which has left it as it was.
-use Rattle.std.proofs.Common.{◌≡◌, inl, inr, ℕ, Bool, true, false, List, Option, Some, None, Result, Err, refl, sym, ◌∙◌, subst}
+use Rattle.std.proofs.Common.{◌≡◌, ◌⊎◌, inl, inr, ℕ, Bool, true, false, List, [], ◌∷◌, Option, Some, None, Result, Ok, Err, refl, sym, ◌∙◌, subst}
 use Rattle.std.specs.Prelude.{is_some, IsSome}
 use Rattle.vs_host.specs.Disk.{Disk, Name, content_in}
 use Rattle.vs_host.specs.Names.{temporary}
-use Rattle.vs_host.specs.World.{Scene, ChangesFolder, ReadsFolder}
-use Rattle.vs_disk.specs.Images.{Takes}
+use Rattle.vs_host.specs.Trace.{Looked}
+use Rattle.vs_host.specs.World.{Scene, ChangesFolder, IsTold, ReadsFolder}
+use Rattle.vs_host.specs.declared.traits.Failed.{Failed}
 use Rattle.vs_disk.specs.Runs.{Looks}
 use Rattle.vs_disk.proofs.Runs.{runs_as, runs_on, looks_on, reads_change}
-use Rattle.vs_disk.proofs.Contents.{takes_then}
 use Rattle.vs_backup.specs.Backups.{WorksOn, backup_of, copies}
 use Rattle.vs_backup.specs.Backups.WorksOn.{TheFile, TheNewFile, TheBackup, TheCopy}
 use Rattle.vs_backup.specs.declared.options.WriteOptions.{WriteOptions}
 use Rattle.vs_backup.specs.Works.{Narrowed, Spares, SparesOthers, one_name, two_names}
-use Rattle.vs_backup.specs.Writing.{FindsNoName, IsUnseen, WritesFresh, WritesInPlace, WritesPlain, WritesWith, backed_names}
+use Rattle.vs_backup.specs.Writing.{FindsNoName, IsUnseen, OldIn, WritesFresh, WritesInPlace, WritesPlain, WritesWith, backed_names}
 use Rattle.vs_backup.specs.declared.errors.Place.TheVariants as place
 use Rattle.vs_backup.specs.declared.errors.Stop.{Stop}
 use Rattle.vs_backup.specs.declared.errors.WriteErr.{WriteErr}
 use Rattle.vs_backup.specs.declared.errors.WriteErr.TheVariants as error
 use Rattle.vs_backup.proofs.Calls.{spares_on}
-use Rattle.vs_backup.proofs.Frames.{narrowed_then, spares_same, takes_same}
+use Rattle.vs_backup.proofs.Frames.{narrowed_then, spares_same}
+use Rattle.vs_backup.proofs.Replacing.{takes_on, takes_looks}
+use Rattle.vs_backup.proofs.Copying.{never_refused}
 use Rattle.vs_backup.proofs.Backed.{looks_narrowed}
 use Rattle.vs_backup.proofs.Others.{others_spared, others_looks, others_wider, others_on}
 
 pub unseen : (s0 s1 : Scene) → Looks s0 s1 → IsUnseen s0 s1 (Err (error.Failed place.Nowhere))
 unseen s0 s1 looks = record { looks = looks; failed = refl }
+
+-- the look that failed is the call of the whole
+pub told_alone : {T : Type 0} (name : Name) (answer : Result T Failed) (s0 s1 : Scene) (why : WriteErr) → IsTold Looked (name ∷ []) answer s0 s1 → IsTold {T = ℕ} Looked (name ∷ []) (Err why) s0 s1
+told_alone name answer s0 s1 why (inl recorded) = inl recorded
+told_alone name answer s0 s1 why (inr silent) = inr (refl, silent.1)
+
+-- one place is no other
+one_place : (result : Result ℕ WriteErr) → (result ≡ Err error.NoBackupName) ⊎ OldIn place.File result → OldIn place.Nowhere result → ⊥
+one_place (Ok size) refused nowhere = never_refused size place.Nowhere nowhere
+one_place (Err why) (inl is) (inl failed) = cc
+one_place (Err why) (inl is) (inr memory) = cc
+one_place (Err why) (inr (inl is)) (inl failed) = cc
+one_place (Err why) (inr (inl is)) (inr memory) = cc
+one_place (Err why) (inr (inr is)) (inl failed) = cc
+one_place (Err why) (inr (inr is)) (inr memory) = cc
 
 module _ (s0 s1 s2 : Scene) (frame : ReadsFolder s0 s1) (looks : Looks s0 s1) (result : Result ℕ WriteErr) where
   changed : ChangesFolder s0 s1
@@ -37,10 +54,16 @@ module _ (s0 s1 s2 : Scene) (frame : ReadsFolder s0 s1) (looks : Looks s0 s1) (r
     answer = here.answer;
     is = here.is;
     plain = record {
-      begun = here.plain.begun;
-      looked = runs_on Narrowed narrowed_then s0 s1 here.plain.begun changed (looks_narrowed s0 s1 looks) here.plain.looked;
-      in_place = here.plain.in_place;
-      spares = here.plain.spares;
+      moments = elim here.plain.moments [
+        | inl begins ↦ inl (record {
+          begun = begins.begun;
+          looked = runs_on Narrowed narrowed_then s0 s1 begins.begun changed (looks_narrowed s0 s1 looks) begins.looked;
+          settled = begins.settled;
+          in_place = begins.in_place;
+          spares = begins.spares;
+        })
+        | inr none ↦ inr (runs_on Narrowed narrowed_then s0 s1 s2 changed (looks_narrowed s0 s1 looks) none.0, none.1)
+      ];
       others = others_on (one_name name) s0 s1 s2 changed (looks_narrowed s0 s1 looks) (others_looks (one_name name) s0 s1 looks) here.plain.others;
       written = here.plain.written;
       not_written = here.plain.not_written;
@@ -51,11 +74,11 @@ module _ (s0 s1 s2 : Scene) (frame : ReadsFolder s0 s1) (looks : Looks s0 s1) (r
   fresh_after temporary name new answer here =
       let on = two_names temporary name in
       record {
-        takes = runs_on (Takes name new) (takes_then name new) s0 s1 s2 changed
-            (runs_as (λ a b. b ≡ a) (Takes name new) s0 s1 (λ d same. takes_same name new s0.folder d same) looks) here.takes;
+        takes = takes_on name new s0 s1 s2 changed (takes_looks name new s0 s1 looks) here.takes;
         spares = spares_on on s0 s1 s2 changed (runs_as (λ a b. b ≡ a) (Spares on) s0 s1 (λ d same. spares_same on s0.folder d same) looks) here.spares;
         written = here.written;
         not_written = here.not_written;
+        aside = here.aside;
       }
 
 -- ---- the names on which a write works
@@ -85,6 +108,17 @@ module _ (options : WriteOptions) (name : Name) (s0 s1 : Scene) where
       → ((backup : Name) → backup_of options name s0.folder ≡ Some backup → WritesWith options name backup old new s0 s1 result)
       → (backup_of options name s0.folder ≡ None → FindsNoName s0 s1 result) → SparesOthers (WorksOn options name s0.folder) s0 s1
   chosen_others old new result there backed none = chosen_as old new result there (backup_of options name s0.folder) refl backed none
+
+  somewhere_as : (old new : List ℕ) (result : Result ℕ WriteErr) (chosen : Option Name) → backup_of options name s0.folder ≡ chosen
+      → ((backup : Name) → backup_of options name s0.folder ≡ Some backup → WritesWith options name backup old new s0 s1 result)
+      → (backup_of options name s0.folder ≡ None → FindsNoName s0 s1 result) → OldIn place.Nowhere result → ⊥
+  somewhere_as old new result None is backed none = one_place result (none is).refused
+  somewhere_as old new result (Some backup) is backed none = (backed backup is).somewhere.0
+
+  pub chosen_somewhere : (old new : List ℕ) (result : Result ℕ WriteErr)
+      → ((backup : Name) → backup_of options name s0.folder ≡ Some backup → WritesWith options name backup old new s0 s1 result)
+      → (backup_of options name s0.folder ≡ None → FindsNoName s0 s1 result) → OldIn place.Nowhere result → ⊥
+  chosen_somewhere old new result backed none = somewhere_as old new result (backup_of options name s0.folder) refl backed none
 
   pub plain_others : (old new : List ℕ) (answer : Result ℕ Stop) → WritesPlain name old new s0 s1 answer → SparesOthers (WorksOn options name s0.folder) s0 s1
   plain_others old new answer plain = others_wider (one_name name) (WorksOn options name s0.folder) s0 s1 (λ n is. TheFile is) plain.others

@@ -1,3 +1,4 @@
 pub mod Backups
+pub mod Desks
 pub mod Works
 pub mod Writing

@@ -1,9 +1,9 @@
 -- What calls on some names leave of all others.
-use Rattle.std.specs.Prelude.{◌≡◌, ◌⊎◌, ℕ, Bool, true, false, List, Some, IsTrue}
+use Rattle.std.specs.Prelude.{◌≡◌, ◌⊎◌, ℕ, Bool, true, false, List, Option, Some, None, IsTrue}
 use Rattle.vs_host.specs.File.{Cuts}
 use Rattle.vs_host.specs.Disk.{Disk, Name, names_of, names_at, ChangesFile, IsFolder, SyncsNames}
 use Rattle.vs_host.specs.World.{Scene, content_of}
-use Rattle.vs_disk.specs.Images.{Changes, IsSynced, KeepsImages, Narrows}
+use Rattle.vs_disk.specs.Images.{Changes, IsSynced, KeepsImages, MayLeave, Narrows}
 use Rattle.vs_disk.specs.Names.{IsApart, SameAt}
 use Rattle.vs_disk.specs.Runs.{Runs, Looks}
 
@@ -41,6 +41,14 @@ StandsUnder name that old new = (lost : ℕ) → (names_at new lost name ≡ nam
 -- in no state of the names that a stop may leave does the name lead to the file to which it led
 abbrev pub LeadsAway : Name → Disk → Disk → Type 0
 LeadsAway name old new = (lost : ℕ) → names_at new lost name ≡ names_of old name → ⊥
+
+-- in no state of the names that a stop may leave does the name lead to a file
+abbrev pub IsGone : Name → Disk → Type 0
+IsGone name disk = (lost : ℕ) → names_at disk lost name ≡ None
+
+-- A stop leaves no file under the name, or what it left before.
+abbrev pub Drops : Name → Disk → Disk → Type 0
+Drops name old new = (found : Option (List ℕ)) → MayLeave new name found → (found ≡ None) ⊎ MayLeave old name found
 
 -- No other name leads to the file of this name, or led there in a state that a stop may leave.
 pub record IsAlone (name : Name) (disk : Disk) : Type 0 where
@@ -90,6 +98,10 @@ pub record Empties (told : Bool) (name : Name) (before after : Scene) : Type 0 w
   pub folder : IsTrue told → IsFolder before.folder
   pub runs : IsTrue told → Runs (ChangesOne name) before after
   pub cuts : IsTrue told → ChangesFile name (Cuts 0) before.folder after.folder
+
+-- The name leads to no file, whatever a stop leaves.
+pub record LeavesNone (told : Bool) (name : Name) (after : Scene) : Type 0 where
+  pub gone : IsTrue told → IsGone name after.folder
 
 -- All names but these two are left alone.
 pub record SparesTwo (told : Bool) (a b : Name) (before after : Scene) : Type 0 where

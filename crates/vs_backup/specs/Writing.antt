@@ -8,7 +8,7 @@ use Rattle.vs_host.specs.Names.{temporary}
 use Rattle.vs_host.specs.World.{Scene, content_of}
 use Rattle.vs_disk.specs.Images.{HoldsBytes, IsSynced, MayLeave, Takes}
 use Rattle.vs_disk.specs.Runs.{Runs, Looks}
-use Rattle.vs_backup.specs.Works.{LeadsAway, LeadsTo, Narrowed, Spares, SparesOthers, StandsUnder, one_name, two_names, three_names}
+use Rattle.vs_backup.specs.Works.{IsGone, LeadsAway, LeadsTo, Narrowed, Spares, SparesOthers, StandsUnder, one_name, two_names, three_names}
 use Rattle.vs_backup.specs.Backups.{copies}
 use Rattle.vs_backup.specs.declared.options.WriteOptions.{WriteOptions}
 use Rattle.vs_backup.specs.declared.errors.Place.{Place}
@@ -104,11 +104,12 @@ pub record IsGuarded (name backup : Name) (number : ℕ) (old : List ℕ) (disk 
   pub leaves : Leaves (disk.files number) (λ c. c ≡ old)
 
 -- From a file that is settled, until it is empty and a copy of it stands under the backup name: other names are left alone, and at
--- each moment, in each image, the file or the backup has the old bytes.
+-- each moment, in each image, the file or the backup has the old bytes. An older backup stays whole until the copy takes its name.
 pub record StartsOver (name temporary backup : Name) (old : List ℕ) (before after : Scene) : Type 0 where
   pub spares : Runs (Spares (three_names name temporary backup)) before after
   pub kept : Runs (λ a b. IsKept name backup old b) before after
   pub in_place : Runs (LeadsTo name name) before after
+  pub replaced : Runs (Takes backup old) before after
 
 -- The file is empty, and the copy stands.
 pub record IsStartedOver (name backup : Name) (old : List ℕ) (disk : Disk) : Type 0 where
@@ -131,13 +132,19 @@ pub record StillHolds (told : Bool) (name : Name) (before after : Scene) : Type 
 pub record CopiesBytes (told : Bool) (name backup : Name) (before after : Scene) : Type 0 where
   pub settled : IsTrue told → (old : List ℕ) → content_of before name ≡ Some old → IsSettled backup old after.folder
 
+-- At each moment a stop leaves under the backup name the bytes of the file, or what it left before.
+pub record ReplacesByCopy (told : Bool) (name backup : Name) (before after : Scene) : Type 0 where
+  pub takes : IsTrue told → (old : List ℕ) → content_of before name ≡ Some old → Runs (Takes backup old) before after
+
 -- From a file that is settled, a write with this backup, which stays. Other names are left alone; at each moment, in each image,
--- the name or the backup has the old bytes.
+-- the name or the backup has the old bytes, and the backup name has these or what it had before.
 pub record WritesOver (copying : Bool) (name temporary backup : Name) (old new : List ℕ) (before after : Scene) (result : Result ℕ WriteErr) : Type 0 where
   pub spares : Runs (Spares (backed_names copying name temporary backup)) before after
   pub kept : Runs (λ a b. IsKept name backup old b) before after
   pub places : Places copying true name backup before after result
+  pub replaced : Runs (Takes backup old) before after
   pub written : IfOk result (λ size. (size ≡ length new) × HoldsBytes name new after.folder × HoldsBytes backup old after.folder)
+  pub aside : copying ≡ true → OnOk result (IsGone temporary after.folder)
   pub not_written : OnErr result (MayLackNew name old after.folder)
   pub in_file : OldIn File result → HoldsBytes name old after.folder
   pub in_backup : OldIn Backup result → (old ≡ [] → ⊥) → MayLackOld name old after.folder
@@ -173,12 +180,13 @@ pub record IsFilledFirm (told : Bool) (name : Name) (has : List (List ℕ) → T
   pub each : IsTrue told → (text : List (List ℕ)) → has text → (size ≡ length (file_of text)) × IsSettled name (file_of text) after.folder
 
 -- Before the two syncs at the beginning nothing has changed. After them, at each moment, in each image, the file or its backup is
--- whole, and other names are left alone.
+-- whole, the backup name has the old bytes whole or what it might have before, and other names are left alone.
 pub record BeginsWhole (copying keep : Bool) (name temporary backup : Name) (old new : List ℕ) (before after : Scene) (result : Result ℕ WriteErr) : Type 0 where
   pub begun : Scene
   pub looked : Runs Narrowed before begun
   pub settled : IsSettled name old begun.folder
   pub whole : Runs (λ a b. IsWhole name backup old new b) begun after
+  pub replaced : Runs (Takes backup old) begun after
   pub places : Places copying keep name backup begun after result
   pub spares : Runs (Spares (backed_names copying name temporary backup)) begun after
 
@@ -188,7 +196,9 @@ pub record WritesBacked (copying keep : Bool) (name temporary backup : Name) (ol
   pub others : SparesOthers (backed_names copying name temporary backup) before after
   pub written : IfOk result (λ size. (size ≡ length new) × HoldsBytes name new after.folder)
   pub kept : keep ≡ true → OnOk result (HoldsBytes backup old after.folder)
-  pub gone : keep ≡ false → OnOk result ((HasRisen before.folder_faults after.folder_faults → ⊥) → (lost : ℕ) → names_at after.folder lost backup ≡ None)
+  pub gone : keep ≡ false → OnOk result ((HasRisen before.folder_faults after.folder_faults → ⊥) → IsGone backup after.folder)
+  -- the name under which the copy was made
+  pub aside : copying ≡ true → OnOk result (IsGone temporary after.folder)
   pub not_written : OnErr result (MayLackNew name old after.folder)
   -- where the old bytes are said to stand
   pub in_file : OldIn File result → Runs Narrowed before after ⊎ HoldsBytes name old after.folder
@@ -199,13 +209,17 @@ pub record WritesBacked (copying keep : Bool) (name temporary backup : Name) (ol
 abbrev pub WritesWith : WriteOptions → Name → Name → List ℕ → List ℕ → Scene → Scene → Result ℕ WriteErr → Type 0
 WritesWith options name backup old new before after result = WritesBacked (copies options.copy) options.backup name (temporary backup) backup old new before after result
 
--- A write over a file that is there, without a backup: before the two syncs nothing changes, and after them only the file, which
--- stays where it is.
-pub record WritesPlain (name : Name) (old new : List ℕ) (before after : Scene) (result : Result ℕ Stop) : Type 0 where
+-- Before the two syncs at the beginning nothing has changed. After them only the file does, which stays where it is.
+pub record BeginsPlain (name : Name) (old : List ℕ) (before after : Scene) : Type 0 where
   pub begun : Scene
   pub looked : Runs Narrowed before begun
-  pub in_place : begun.folder.pending ≡ [] → Runs (LeadsTo name name) begun after
+  pub settled : IsSettled name old begun.folder
+  pub in_place : Runs (LeadsTo name name) begun after
   pub spares : Runs (Spares (one_name name)) begun after
+
+-- A write over a file that is there, without a backup.
+pub record WritesPlain (name : Name) (old new : List ℕ) (before after : Scene) (result : Result ℕ Stop) : Type 0 where
+  pub moments : BeginsPlain name old before after ⊎ (Runs Narrowed before after × IsErr result)
   pub others : SparesOthers (one_name name) before after
   pub written : IfOk result (λ size. (size ≡ length new) × HoldsBytes name new after.folder)
   pub not_written : OnErr result (MayLackNew name old after.folder)
@@ -216,6 +230,8 @@ pub record WritesFresh (on : Name → Type 0) (name : Name) (new : List ℕ) (be
   pub spares : Runs (Spares on) before after
   pub written : IfOk result (λ size. (size ≡ length new) × HoldsBytes name new after.folder)
   pub not_written : OnErr result (MayLeave after.folder name None)
+  -- the other names on which it worked
+  pub aside : OnOk result ((other : Name) → on other → (other ≡ name → ⊥) → IsGone other after.folder)
 
 -- It was not found out whether there is a file, and nothing has changed.
 pub record IsUnseen (before after : Scene) (result : Result ℕ WriteErr) : Type 0 where

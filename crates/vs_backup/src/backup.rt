@@ -1,16 +1,16 @@
 // Writing over a file that is there, with a backup.
 ghost use Rattle.std.specs.Prelude.{◌≡◌, ◌≢◌, true, false, ℕ, List, length, IfOk, IsErr, OnErr, OnOk, IsErrOf, IsTrue, Some, None, IsSome};
-ghost use Rattle.vs_faults.specs.Faults.{HasCause, HasRisen};
 ghost use Rattle.vs_text.specs.Text.{file_of};
 ghost use Rattle.vs_host.specs.Disk.{Name};
-ghost use Rattle.vs_host.specs.World.{content_of, ChangesFolder};
-ghost use Rattle.vs_backup.specs.Works.{SparesTwo};
-ghost use Rattle.vs_backup.specs.Writing.{CopiesBytes, IsFailed, IsFilled, IsFilledFirm, IsSettled, MakesAnewFrom, MayBeAbsent, StartedOverFrom, StartsOverFrom, StillHolds, WritesBacked, WritesOver};
+ghost use Rattle.vs_host.specs.World.{content_of};
+ghost use Rattle.vs_backup.specs.Desks.{AreApart, GoesOn};
+ghost use Rattle.vs_backup.specs.Works.{LeavesNone, SparesTwo};
+ghost use Rattle.vs_backup.specs.Writing.{CopiesBytes, IsFailed, IsFilled, IsFilledFirm, IsSettled, MakesAnewFrom, MayBeAbsent, ReplacesByCopy, StartedOverFrom, StartsOverFrom, StillHolds, WritesBacked, WritesOver};
 
 use crate::Desk;
 use crate::errors::{Place, Stop, WriteErr};
 use crate::files::{Readers, drop_name, empty_file, make_anew, settle, sync_directory, take_name};
-use crate::fill::{PIECE, fill_copy, fill_like, fill_text};
+use crate::fill::{PIECE, fill_copy, fill_text};
 use std::alloc::Global;
 use vs_host::Failed;
 
@@ -23,19 +23,14 @@ fn copy_to_backup<D: Desk>(
     buffer: &mut [u8],
 ) -> Result<(), Failed>
     requires valid { D.valid desk.old }
-    requires apart { D.reads desk.old name.now → ⊥ }
-    requires apart_backup { D.reads desk.old backup.now → ⊥ }
-    requires apart_temporary { D.reads desk.old temporary.now → ⊥ }
-    requires differ { name.now ≢ temporary.now }
-    requires differ_backup { temporary.now ≢ backup.now }
+    requires names { AreApart (D.reads desk.old) name.now backup.now temporary.now }
     requires buffer { length buffer.old ≡ PIECE }
     requires there { IsTrue (D.tells).folder → IsSome (content_of (D.scene desk.old) name.now) }
     ensures spares { SparesTwo (D.tells).folder temporary.now backup.now (D.scene desk.old) (D.scene desk.new) }
+    ensures takes { ReplacesByCopy (D.tells).folder name.now backup.now (D.scene desk.old) (D.scene desk.new) }
     ensures ok { OnOk result (CopiesBytes (D.tells).folder name.now backup.now (D.scene desk.old) (D.scene desk.new)) }
-    ensures cause { HasCause (D.scene desk.old).folder_faults (D.scene desk.new).folder_faults (IsErr result) }
-    ensures frame { ChangesFolder (D.scene desk.old) (D.scene desk.new) }
-    ensures valid { D.valid desk.new }
-    ensures stays { D.stays desk.old desk.new }
+    ensures aside { OnOk result (LeavesNone (D.tells).folder temporary.now (D.scene desk.new)) }
+    ensures kept { GoesOn D.scene D.valid D.stays (IsErr result) desk.old desk.new }
 {
     make_anew(desk, temporary, Readers::Owner)?;
     fill_copy(desk, name, temporary, buffer)?;
@@ -52,21 +47,14 @@ fn start_over<D: Desk>(
     buffer: &mut [u8],
 ) -> Result<(), Failed>
     requires valid { D.valid desk.old }
-    requires apart { D.reads desk.old name.now → ⊥ }
-    requires apart_backup { D.reads desk.old backup.now → ⊥ }
-    requires apart_temporary { D.reads desk.old temporary.now → ⊥ }
-    requires differ { name.now ≢ temporary.now }
-    requires differ_backup { temporary.now ≢ backup.now }
-    requires differ_name { name.now ≢ backup.now }
+    requires names { AreApart (D.reads desk.old) name.now backup.now temporary.now }
     requires buffer { length buffer.old ≡ PIECE }
     requires settled { IsTrue (D.tells).folder → (old : List ℕ) × IsSettled name.now old (D.scene desk.old).folder }
     ensures over { StartsOverFrom (D.tells).folder name.now temporary.now backup.now (D.scene desk.old) (D.scene desk.new) }
     ensures ok { OnOk result (StartedOverFrom (D.tells).folder name.now backup.now (D.scene desk.old) (D.scene desk.new)) }
+    ensures aside { OnOk result (LeavesNone (D.tells).folder temporary.now (D.scene desk.new)) }
     ensures err { OnErr result (StillHolds (D.tells).folder name.now (D.scene desk.old) (D.scene desk.new)) }
-    ensures cause { HasCause (D.scene desk.old).folder_faults (D.scene desk.new).folder_faults (IsErr result) }
-    ensures frame { ChangesFolder (D.scene desk.old) (D.scene desk.new) }
-    ensures valid { D.valid desk.new }
-    ensures stays { D.stays desk.old desk.new }
+    ensures kept { GoesOn D.scene D.valid D.stays (IsErr result) desk.old desk.new }
 {
     copy_to_backup(desk, name, backup, temporary, buffer)?;
     empty_file(desk, name)?;
@@ -83,24 +71,16 @@ fn write_copying<D: Desk>(
     piece: &mut Vec<u8>,
 ) -> Result<u64, WriteErr>
     requires valid { D.valid desk.old }
-    requires apart { D.reads desk.old name.now → ⊥ }
-    requires apart_backup { D.reads desk.old backup.now → ⊥ }
-    requires apart_temporary { D.reads desk.old temporary.now → ⊥ }
-    requires differ { name.now ≢ temporary.now }
-    requires differ_backup { temporary.now ≢ backup.now }
-    requires differ_name { name.now ≢ backup.now }
+    requires names { AreApart (D.reads desk.old) name.now backup.now temporary.now }
     requires buffer { length piece.old.items ≡ PIECE }
     requires settled { IsTrue (D.tells).folder → (old : List ℕ) × IsSettled name.now old (D.scene desk.old).folder }
     ensures over { IsTrue (D.tells).folder → (old : List ℕ) → IsSettled name.now old (D.scene desk.old).folder → (text : List (List ℕ)) → D.has_text desk.old text
         → WritesOver true name.now temporary.now backup.now old (file_of text) (D.scene desk.old) (D.scene desk.new) result }
     ensures no_name { IsErrOf result WriteErr.NoBackupName → ⊥ }
-    ensures cause { HasCause (D.scene desk.old).folder_faults (D.scene desk.new).folder_faults (IsFailed result) }
-    ensures frame { ChangesFolder (D.scene desk.old) (D.scene desk.new) }
-    ensures valid { D.valid desk.new }
-    ensures stays { D.stays desk.old desk.new }
+    ensures kept { GoesOn D.scene D.valid D.stays (IsFailed result) desk.old desk.new }
 {
     match start_over(desk, name, backup, temporary, piece) {
-        Ok(()) => match fill_text(alloc, desk, name, piece) {
+        Ok(()) => match fill_text(alloc, desk, name, None, piece) {
             Ok(size) => Ok(size),
             Err(stop) => Err(stop.with(Place::Backup)),
         },
@@ -125,13 +105,10 @@ fn fill_anew<D: Desk>(
     ensures anew { MakesAnewFrom (D.tells).folder name.now backup.now (D.scene desk.old) (D.scene desk.new) }
     ensures absent { MayBeAbsent (D.tells).folder name.now (D.scene desk.new) }
     ensures ok { IfOk result (λ size. IsFilled (D.tells).folder name.now (D.has_text desk.old) size (D.scene desk.new)) }
-    ensures cause { HasCause (D.scene desk.old).folder_faults (D.scene desk.new).folder_faults (IsErrOf result Stop.Failed) }
-    ensures frame { ChangesFolder (D.scene desk.old) (D.scene desk.new) }
-    ensures valid { D.valid desk.new }
-    ensures stays { D.stays desk.old desk.new }
+    ensures kept { GoesOn D.scene D.valid D.stays (IsErrOf result Stop.Failed) desk.old desk.new }
 {
     desk.create_private(name)?;
-    fill_like(alloc, desk, name, backup, piece)
+    fill_text(alloc, desk, name, Some(backup), piece)
 }
 
 /// Makes the file with the text, and syncs it and the names. Gives the number of bytes.
@@ -150,10 +127,7 @@ fn write_anew<D: Desk>(
     ensures anew { MakesAnewFrom (D.tells).folder name.now backup.now (D.scene desk.old) (D.scene desk.new) }
     ensures ok { IfOk result (λ size. IsFilledFirm (D.tells).folder name.now (D.has_text desk.old) size (D.scene desk.new)) }
     ensures err { OnErr result (MayBeAbsent (D.tells).folder name.now (D.scene desk.new)) }
-    ensures cause { HasCause (D.scene desk.old).folder_faults (D.scene desk.new).folder_faults (IsErrOf result Stop.Failed) }
-    ensures frame { ChangesFolder (D.scene desk.old) (D.scene desk.new) }
-    ensures valid { D.valid desk.new }
-    ensures stays { D.stays desk.old desk.new }
+    ensures kept { GoesOn D.scene D.valid D.stays (IsErrOf result Stop.Failed) desk.old desk.new }
 {
     let size = fill_anew(alloc, desk, name, backup, piece)?;
     sync_directory(desk)?;
@@ -176,10 +150,7 @@ fn write_moving<D: Desk>(
     ensures over { IsTrue (D.tells).folder → (old : List ℕ) → IsSettled name.now old (D.scene desk.old).folder → (text : List (List ℕ)) → D.has_text desk.old text
         → (temporary : Name) → WritesOver false name.now temporary backup.now old (file_of text) (D.scene desk.old) (D.scene desk.new) result }
     ensures no_name { IsErrOf result WriteErr.NoBackupName → ⊥ }
-    ensures cause { HasCause (D.scene desk.old).folder_faults (D.scene desk.new).folder_faults (IsFailed result) }
-    ensures frame { ChangesFolder (D.scene desk.old) (D.scene desk.new) }
-    ensures valid { D.valid desk.new }
-    ensures stays { D.stays desk.old desk.new }
+    ensures kept { GoesOn D.scene D.valid D.stays (IsFailed result) desk.old desk.new }
 {
     match desk.rename(name, backup) {
         Ok(()) => match write_anew(alloc, desk, name, backup, piece) {
@@ -203,21 +174,13 @@ fn write_over<D: Desk>(
     piece: &mut Vec<u8>,
 ) -> Result<u64, WriteErr>
     requires valid { D.valid desk.old }
-    requires apart { D.reads desk.old name.now → ⊥ }
-    requires apart_backup { D.reads desk.old backup.now → ⊥ }
-    requires apart_temporary { D.reads desk.old temporary.now → ⊥ }
-    requires differ { name.now ≢ temporary.now }
-    requires differ_backup { temporary.now ≢ backup.now }
-    requires differ_name { name.now ≢ backup.now }
+    requires names { AreApart (D.reads desk.old) name.now backup.now temporary.now }
     requires buffer { length piece.old.items ≡ PIECE }
     requires settled { IsTrue (D.tells).folder → (old : List ℕ) × IsSettled name.now old (D.scene desk.old).folder }
     ensures over { IsTrue (D.tells).folder → (old : List ℕ) → IsSettled name.now old (D.scene desk.old).folder → (text : List (List ℕ)) → D.has_text desk.old text
         → WritesOver copying name.now temporary.now backup.now old (file_of text) (D.scene desk.old) (D.scene desk.new) result }
     ensures no_name { IsErrOf result WriteErr.NoBackupName → ⊥ }
-    ensures cause { HasCause (D.scene desk.old).folder_faults (D.scene desk.new).folder_faults (IsFailed result) }
-    ensures frame { ChangesFolder (D.scene desk.old) (D.scene desk.new) }
-    ensures valid { D.valid desk.new }
-    ensures stays { D.stays desk.old desk.new }
+    ensures kept { GoesOn D.scene D.valid D.stays (IsFailed result) desk.old desk.new }
 {
     if copying {
         return write_copying(alloc, desk, name, backup, temporary, piece);
@@ -237,21 +200,14 @@ fn write_backed<D: Desk>(
     piece: &mut Vec<u8>,
 ) -> Result<u64, WriteErr>
     requires valid { D.valid desk.old }
-    requires apart { D.reads desk.old name.now → ⊥ }
-    requires apart_backup { D.reads desk.old backup.now → ⊥ }
-    requires apart_temporary { D.reads desk.old temporary.now → ⊥ }
-    requires differ { name.now ≢ temporary.now }
-    requires differ_backup { temporary.now ≢ backup.now }
-    requires differ_name { name.now ≢ backup.now }
+    requires names { AreApart (D.reads desk.old) name.now backup.now temporary.now }
     requires buffer { length piece.old.items ≡ PIECE }
     requires settled { IsTrue (D.tells).folder → (old : List ℕ) × IsSettled name.now old (D.scene desk.old).folder }
+    requires free { keep ≡ false → IsTrue (D.tells).folder → content_of (D.scene desk.old) backup.now ≡ None }
     ensures backed { IsTrue (D.tells).folder → (old : List ℕ) → IsSettled name.now old (D.scene desk.old).folder → (text : List (List ℕ)) → D.has_text desk.old text
         → WritesBacked copying keep name.now temporary.now backup.now old (file_of text) (D.scene desk.old) (D.scene desk.new) result }
     ensures no_name { IsErrOf result WriteErr.NoBackupName → ⊥ }
-    ensures cause { HasCause (D.scene desk.old).folder_faults (D.scene desk.new).folder_faults (IsFailed result) }
-    ensures frame { ChangesFolder (D.scene desk.old) (D.scene desk.new) }
-    ensures valid { D.valid desk.new }
-    ensures stays { D.stays desk.old desk.new }
+    ensures kept { GoesOn D.scene D.valid D.stays (IsFailed result) desk.old desk.new }
 {
     let size = write_over(alloc, desk, name, backup, temporary, copying, piece)?;
     if keep {
@@ -274,21 +230,14 @@ pub(crate) fn write_with_backup<D: Desk>(
     piece: &mut Vec<u8>,
 ) -> Result<u64, WriteErr>
     requires valid { D.valid desk.old }
-    requires apart { D.reads desk.old name.now → ⊥ }
-    requires apart_backup { D.reads desk.old backup.now → ⊥ }
-    requires apart_temporary { D.reads desk.old temporary.now → ⊥ }
-    requires differ { name.now ≢ temporary.now }
-    requires differ_backup { temporary.now ≢ backup.now }
-    requires differ_name { name.now ≢ backup.now }
+    requires names { AreApart (D.reads desk.old) name.now backup.now temporary.now }
     requires buffer { length piece.old.items ≡ PIECE }
     requires there { IsTrue (D.tells).folder → IsSome (content_of (D.scene desk.old) name.now) }
+    requires free { keep ≡ false → IsTrue (D.tells).folder → content_of (D.scene desk.old) backup.now ≡ None }
     ensures backed { IsTrue (D.tells).folder → (old : List ℕ) → content_of (D.scene desk.old) name.now ≡ Some old → (text : List (List ℕ)) → D.has_text desk.old text
         → WritesBacked copying keep name.now temporary.now backup.now old (file_of text) (D.scene desk.old) (D.scene desk.new) result }
     ensures no_name { IsErrOf result WriteErr.NoBackupName → ⊥ }
-    ensures cause { HasCause (D.scene desk.old).folder_faults (D.scene desk.new).folder_faults (IsFailed result) }
-    ensures frame { ChangesFolder (D.scene desk.old) (D.scene desk.new) }
-    ensures valid { D.valid desk.new }
-    ensures stays { D.stays desk.old desk.new }
+    ensures kept { GoesOn D.scene D.valid D.stays (IsFailed result) desk.old desk.new }
 {
     match settle(desk, name) {
         Ok(()) => write_backed(alloc, desk, name, backup, temporary, copying, keep, piece),

@@ -1,11 +1,10 @@
 // The name of a backup.
 ghost use Rattle.std.specs.Prelude.{◌≡◌, ◌<◌, ◌+◌, ℕ, List, ◌∷◌, Contains, IfOk, IfSome, MatchOption, IsErrOf, IsTrue, Option, Some, None, map, string_bytes};
-ghost use Rattle.vs_faults.specs.Faults.{HasCause};
 ghost use Rattle.vs_host.specs.Disk.{Disk, Name};
 ghost use Rattle.vs_host.specs.Names.{is_allowed, temporary};
-ghost use Rattle.vs_host.specs.World.{ReadsFolder};
 ghost use Rattle.vs_disk.specs.Runs.{Looks};
 ghost use Rattle.vs_backup.specs.Backups.{IsBackupName, backup_name, candidates, first_free, lettered, letters};
+ghost use Rattle.vs_backup.specs.Desks.{OnlyReads};
 
 use crate::Desk;
 use crate::errors::Stop;
@@ -49,10 +48,7 @@ pub(crate) fn first_free<D: Desk>(
     ensures found { IfOk result (λ found. IsTrue (D.tells).folder → let free = first_free (D.scene desk.old).folder (candidates name.now) in
         MatchOption found (free ≡ None) (λ backup. free ≡ Some (string_bytes backup))) }
     ensures named { IfOk result (λ found. IfSome found (λ backup. IsBackupName name.now (string_bytes backup))) }
-    ensures cause { HasCause (D.scene desk.old).folder_faults (D.scene desk.new).folder_faults (IsErrOf result Stop.Failed) }
-    ensures frame { ReadsFolder (D.scene desk.old) (D.scene desk.new) }
-    ensures valid { D.valid desk.new }
-    ensures stays { D.stays desk.old desk.new }
+    ensures kept { OnlyReads D.scene D.valid D.stays (IsErrOf result Stop.Failed) desk.old desk.new }
 {
     let plain = backup_name(alloc, name)?;
     if !desk.has(&plain)? {

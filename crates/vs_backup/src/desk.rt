@@ -1,14 +1,15 @@
 // A folder and a text in one object.
 ghost use Rattle.std.specs.Prelude.{◌≡◌, ◌≢◌, ◌<◌, ◌≤◌, ◌+◌, ◌∷◌, [], ℕ, List, length, take, drop, IfSome, IfOk, OnOk, OnErr, IsErr, IsErrOf, IsTrue, is_some, IsSome, IsSomeAnd, None};
-ghost use Rattle.vs_faults.specs.Faults.{HasCause, HasRisen};
+ghost use Rattle.vs_faults.specs.Faults.{HasRisen};
 ghost use Rattle.vs_text.specs.Text.{file_of};
 ghost use Rattle.vs_text.specs.declared.TheConstants.{MAX_LINES};
 ghost use Rattle.vs_host.specs.File.{Writes, WritesSome, Cuts, Syncs};
 ghost use Rattle.vs_host.specs.Disk.{Name, ChangesFile, ChangesNames, CreatesFile, SyncsNames, Renames, Removes};
 ghost use Rattle.vs_host.specs.Trace.{Looked, Created, Measured, Read, Wrote, Cut, Synced, Renamed, Removed, SyncedNames};
-ghost use Rattle.vs_host.specs.World.{content_of, IsTold, ReadsFolder, ChangesFolder, CountsFault};
+ghost use Rattle.vs_host.specs.World.{content_of, IsTold, CountsFault};
 ghost use Rattle.vs_disk.specs.Runs.{Looks};
 ghost use Rattle.vs_edit.specs.Splices.{HoldsLines, cut_out};
+ghost use Rattle.vs_backup.specs.Desks.{GoesOn, OnlyReads};
 
 use std::alloc::Global;
 use vs_edit::StoreErr;
@@ -33,12 +34,9 @@ pub trait Desk: World {
         requires valid { valid self.old }
         requires apart { reads self.old name.now → ⊥ }
         ensures value { IfOk result (λ there. IsTrue (Self.tells).folder → there ≡ is_some (content_of (Self.scene self.old) name.now)) }
-        ensures cause { HasCause (Self.scene self.old).folder_faults (Self.scene self.new).folder_faults (IsErr result) }
         ensures quiet { OnOk result ((Self.scene self.new).folder_faults ≡ (Self.scene self.old).folder_faults) }
         ensures told { IsTrue (Self.tells).folder → IsTold Looked (name.now ∷ []) result (Self.scene self.old) (Self.scene self.new) }
-        ensures frame { ReadsFolder (Self.scene self.old) (Self.scene self.new) }
-        ensures valid { valid self.new }
-        ensures stays { stays self.old self.new };
+        ensures kept { OnlyReads Self.scene valid stays (IsErr result) self.old self.new };
 
     /// Makes an empty file under a name that is not there. Who may read it is the system's default.
     fn create(&mut self, name: &str) -> Result<(), Failed>
@@ -47,12 +45,9 @@ pub trait Desk: World {
         requires there { IsTrue (Self.tells).folder → content_of (Self.scene self.old) name.now ≡ None }
         ensures ok { OnOk result (IsTrue (Self.tells).folder → CreatesFile name.now (Self.scene self.old).folder (Self.scene self.new).folder) }
         ensures err { OnErr result ((Self.scene self.new).folder ≡ (Self.scene self.old).folder) }
-        ensures cause { HasCause (Self.scene self.old).folder_faults (Self.scene self.new).folder_faults (IsErr result) }
         ensures quiet { OnOk result ((Self.scene self.new).folder_faults ≡ (Self.scene self.old).folder_faults) }
         ensures told { IsTrue (Self.tells).folder → IsTold Created (name.now ∷ []) result (Self.scene self.old) (Self.scene self.new) }
-        ensures frame { ChangesFolder (Self.scene self.old) (Self.scene self.new) }
-        ensures valid { valid self.new }
-        ensures stays { stays self.old self.new };
+        ensures kept { GoesOn Self.scene valid stays (IsErr result) self.old self.new };
 
     /// Makes an empty file under a name that is not there, which nobody but its owner may read.
     fn create_private(&mut self, name: &str) -> Result<(), Failed>
@@ -61,12 +56,9 @@ pub trait Desk: World {
         requires there { IsTrue (Self.tells).folder → content_of (Self.scene self.old) name.now ≡ None }
         ensures ok { OnOk result (IsTrue (Self.tells).folder → CreatesFile name.now (Self.scene self.old).folder (Self.scene self.new).folder) }
         ensures err { OnErr result ((Self.scene self.new).folder ≡ (Self.scene self.old).folder) }
-        ensures cause { HasCause (Self.scene self.old).folder_faults (Self.scene self.new).folder_faults (IsErr result) }
         ensures quiet { OnOk result ((Self.scene self.new).folder_faults ≡ (Self.scene self.old).folder_faults) }
         ensures told { IsTrue (Self.tells).folder → IsTold Created (name.now ∷ []) result (Self.scene self.old) (Self.scene self.new) }
-        ensures frame { ChangesFolder (Self.scene self.old) (Self.scene self.new) }
-        ensures valid { valid self.new }
-        ensures stays { stays self.old self.new };
+        ensures kept { GoesOn Self.scene valid stays (IsErr result) self.old self.new };
 
     /// Gives the file `to` the mode bits of the file `from`, where the system has them and allows it. Nothing that is told has
     /// them, so it counts as no call.
@@ -84,12 +76,9 @@ pub trait Desk: World {
         requires apart { reads self.old name.now → ⊥ }
         requires there { IsTrue (Self.tells).folder → IsSome (content_of (Self.scene self.old) name.now) }
         ensures value { IfOk result (λ size. IsTrue (Self.tells).folder → IfSome (content_of (Self.scene self.old) name.now) (λ bytes. size ≡ length bytes)) }
-        ensures cause { HasCause (Self.scene self.old).folder_faults (Self.scene self.new).folder_faults (IsErr result) }
         ensures quiet { OnOk result ((Self.scene self.new).folder_faults ≡ (Self.scene self.old).folder_faults) }
         ensures told { IsTrue (Self.tells).folder → IsTold Measured (name.now ∷ []) result (Self.scene self.old) (Self.scene self.new) }
-        ensures frame { ReadsFolder (Self.scene self.old) (Self.scene self.new) }
-        ensures valid { valid self.new }
-        ensures stays { stays self.old self.new };
+        ensures kept { OnlyReads Self.scene valid stays (IsErr result) self.old self.new };
 
     /// Fills `into` with the bytes of the file from the place `at` on, counted from 0.
     fn read_at(&mut self, name: &str, at: u64, into: &mut [u8]) -> Result<(), Failed>
@@ -98,12 +87,9 @@ pub trait Desk: World {
         requires there { IsTrue (Self.tells).folder → IsSomeAnd (content_of (Self.scene self.old) name.now) (λ bytes. at + length into.old ≤ length bytes) }
         ensures value { OnOk result (IsTrue (Self.tells).folder → IfSome (content_of (Self.scene self.old) name.now) (λ bytes.
             into.new ≡ take (length into.old) (drop at bytes))) }
-        ensures cause { HasCause (Self.scene self.old).folder_faults (Self.scene self.new).folder_faults (IsErr result) }
         ensures quiet { OnOk result ((Self.scene self.new).folder_faults ≡ (Self.scene self.old).folder_faults) }
         ensures told { IsTrue (Self.tells).folder → IsTold Read (name.now ∷ []) result (Self.scene self.old) (Self.scene self.new) }
-        ensures frame { ReadsFolder (Self.scene self.old) (Self.scene self.new) }
-        ensures valid { valid self.new }
-        ensures stays { stays self.old self.new };
+        ensures kept { OnlyReads Self.scene valid stays (IsErr result) self.old self.new };
 
     /// Writes the piece into the file from the place `at` on, counted from 0. Where that fails, its range may have any bytes,
     /// and the file any length from the old one to the one asked for.
@@ -113,12 +99,9 @@ pub trait Desk: World {
         requires there { IsTrue (Self.tells).folder → IsSomeAnd (content_of (Self.scene self.old) name.now) (λ bytes. at ≤ length bytes) }
         ensures ok { OnOk result (IsTrue (Self.tells).folder → ChangesFile name.now (Writes at piece.now) (Self.scene self.old).folder (Self.scene self.new).folder) }
         ensures some { IsTrue (Self.tells).folder → ChangesFile name.now (WritesSome at (length piece.now)) (Self.scene self.old).folder (Self.scene self.new).folder }
-        ensures cause { HasCause (Self.scene self.old).folder_faults (Self.scene self.new).folder_faults (IsErr result) }
         ensures quiet { OnOk result ((Self.scene self.new).folder_faults ≡ (Self.scene self.old).folder_faults) }
         ensures told { IsTrue (Self.tells).folder → IsTold Wrote (name.now ∷ []) result (Self.scene self.old) (Self.scene self.new) }
-        ensures frame { ChangesFolder (Self.scene self.old) (Self.scene self.new) }
-        ensures valid { valid self.new }
-        ensures stays { stays self.old self.new };
+        ensures kept { GoesOn Self.scene valid stays (IsErr result) self.old self.new };
 
     /// Takes away the bytes of the file from the place `len` on.
     fn cut(&mut self, name: &str, len: u64) -> Result<(), Failed>
@@ -127,12 +110,9 @@ pub trait Desk: World {
         requires there { IsTrue (Self.tells).folder → IsSomeAnd (content_of (Self.scene self.old) name.now) (λ bytes. len ≤ length bytes) }
         ensures ok { OnOk result (IsTrue (Self.tells).folder → ChangesFile name.now (Cuts len) (Self.scene self.old).folder (Self.scene self.new).folder) }
         ensures err { OnErr result ((Self.scene self.new).folder ≡ (Self.scene self.old).folder) }
-        ensures cause { HasCause (Self.scene self.old).folder_faults (Self.scene self.new).folder_faults (IsErr result) }
         ensures quiet { OnOk result ((Self.scene self.new).folder_faults ≡ (Self.scene self.old).folder_faults) }
         ensures told { IsTrue (Self.tells).folder → IsTold Cut (name.now ∷ []) result (Self.scene self.old) (Self.scene self.new) }
-        ensures frame { ChangesFolder (Self.scene self.old) (Self.scene self.new) }
-        ensures valid { valid self.new }
-        ensures stays { stays self.old self.new };
+        ensures kept { GoesOn Self.scene valid stays (IsErr result) self.old self.new };
 
     /// Syncs the file: a stop leaves its bytes as they are now.
     fn sync(&mut self, name: &str) -> Result<(), Failed>
@@ -141,12 +121,9 @@ pub trait Desk: World {
         requires there { IsTrue (Self.tells).folder → IsSome (content_of (Self.scene self.old) name.now) }
         ensures ok { OnOk result (IsTrue (Self.tells).folder → ChangesFile name.now Syncs (Self.scene self.old).folder (Self.scene self.new).folder) }
         ensures err { OnErr result ((Self.scene self.new).folder ≡ (Self.scene self.old).folder) }
-        ensures cause { HasCause (Self.scene self.old).folder_faults (Self.scene self.new).folder_faults (IsErr result) }
         ensures quiet { OnOk result ((Self.scene self.new).folder_faults ≡ (Self.scene self.old).folder_faults) }
         ensures told { IsTrue (Self.tells).folder → IsTold Synced (name.now ∷ []) result (Self.scene self.old) (Self.scene self.new) }
-        ensures frame { ChangesFolder (Self.scene self.old) (Self.scene self.new) }
-        ensures valid { valid self.new }
-        ensures stays { stays self.old self.new };
+        ensures kept { GoesOn Self.scene valid stays (IsErr result) self.old self.new };
 
     /// Gives the file `from` the name `to`, which it takes from a file that has it.
     fn rename(&mut self, from: &str, to: &str) -> Result<(), Failed>
@@ -157,12 +134,9 @@ pub trait Desk: World {
         requires differ { IsTrue (Self.tells).folder → from.now ≢ to.now }
         ensures ok { OnOk result (IsTrue (Self.tells).folder → ChangesNames (Renames from.now to.now) (Self.scene self.old).folder (Self.scene self.new).folder) }
         ensures err { OnErr result ((Self.scene self.new).folder ≡ (Self.scene self.old).folder) }
-        ensures cause { HasCause (Self.scene self.old).folder_faults (Self.scene self.new).folder_faults (IsErr result) }
         ensures quiet { OnOk result ((Self.scene self.new).folder_faults ≡ (Self.scene self.old).folder_faults) }
         ensures told { IsTrue (Self.tells).folder → IsTold Renamed (from.now ∷ to.now ∷ []) result (Self.scene self.old) (Self.scene self.new) }
-        ensures frame { ChangesFolder (Self.scene self.old) (Self.scene self.new) }
-        ensures valid { valid self.new }
-        ensures stays { stays self.old self.new };
+        ensures kept { GoesOn Self.scene valid stays (IsErr result) self.old self.new };
 
     /// Takes the name away.
     fn remove(&mut self, name: &str) -> Result<(), Failed>
@@ -171,24 +145,18 @@ pub trait Desk: World {
         requires there { IsTrue (Self.tells).folder → IsSome (content_of (Self.scene self.old) name.now) }
         ensures ok { OnOk result (IsTrue (Self.tells).folder → ChangesNames (Removes name.now) (Self.scene self.old).folder (Self.scene self.new).folder) }
         ensures err { OnErr result ((Self.scene self.new).folder ≡ (Self.scene self.old).folder) }
-        ensures cause { HasCause (Self.scene self.old).folder_faults (Self.scene self.new).folder_faults (IsErr result) }
         ensures quiet { OnOk result ((Self.scene self.new).folder_faults ≡ (Self.scene self.old).folder_faults) }
         ensures told { IsTrue (Self.tells).folder → IsTold Removed (name.now ∷ []) result (Self.scene self.old) (Self.scene self.new) }
-        ensures frame { ChangesFolder (Self.scene self.old) (Self.scene self.new) }
-        ensures valid { valid self.new }
-        ensures stays { stays self.old self.new };
+        ensures kept { GoesOn Self.scene valid stays (IsErr result) self.old self.new };
 
     /// Syncs the names: a stop leaves them as they are now.
     fn sync_names(&mut self) -> Result<(), Failed>
         requires valid { valid self.old }
         ensures ok { OnOk result (IsTrue (Self.tells).folder → SyncsNames (Self.scene self.old).folder (Self.scene self.new).folder) }
         ensures err { OnErr result ((Self.scene self.new).folder ≡ (Self.scene self.old).folder) }
-        ensures cause { HasCause (Self.scene self.old).folder_faults (Self.scene self.new).folder_faults (IsErr result) }
         ensures quiet { OnOk result ((Self.scene self.new).folder_faults ≡ (Self.scene self.old).folder_faults) }
         ensures told { IsTrue (Self.tells).folder → IsTold SyncedNames [] result (Self.scene self.old) (Self.scene self.new) }
-        ensures frame { ChangesFolder (Self.scene self.old) (Self.scene self.new) }
-        ensures valid { valid self.new }
-        ensures stays { stays self.old self.new };
+        ensures kept { GoesOn Self.scene valid stays (IsErr result) self.old self.new };
 
     /// Reports that bytes which were read back are not those that were written.
     fn damaged(&mut self)
@@ -218,11 +186,8 @@ pub trait Desk: World {
         requires within { at + count ≤ lines self.old }
         ensures lines { OnOk result ((text : List (List ℕ)) → has_text self.old text → into.new.items ≡ file_of (cut_out text at count)) }
         ensures are_lines { OnOk result (HoldsLines count into.new.items) }
-        ensures cause { HasCause (Self.scene self.old).folder_faults (Self.scene self.new).folder_faults (IsErrOf result StoreErr.Failed) }
         ensures looks { IsTrue (Self.tells).folder → Looks (Self.scene self.old) (Self.scene self.new) }
-        ensures frame { ReadsFolder (Self.scene self.old) (Self.scene self.new) }
-        ensures valid { valid self.new }
-        ensures stays { stays self.old self.new };
+        ensures kept { OnlyReads Self.scene valid stays (IsErrOf result StoreErr.Failed) self.old self.new };
 
     /// A desk that tells has a text.
     ghost tells_one: { (desk : Self) → valid desk → IsTrue (Self.tells).folder → (text : List (List ℕ)) × has_text desk text };

@@ -1,13 +1,13 @@
 // Calls on one file and its name.
-ghost use Rattle.std.specs.Prelude.{◌≡◌, ◌≢◌, ◌≤◌, ◌<◌, ◌+◌, ◌^◌, ◌++◌, ◌∷◌, [], Bool, false, ℕ, List, length, IfOk, OnOk, OnErr, IsErr, IsTrue, Some, None, IsSome};
-ghost use Rattle.vs_faults.specs.Faults.{HasCause};
+ghost use Rattle.std.specs.Prelude.{◌≡◌, ◌≢◌, ◌≤◌, ◌<◌, ◌+◌, ◌^◌, ◌++◌, ◌∷◌, [], Bool, false, ℕ, List, length, IfOk, IfSome, OnOk, OnErr, IsErr, IsTrue, Some, None, IsSome};
 ghost use Rattle.vs_host.specs.File.{Syncs};
-ghost use Rattle.vs_host.specs.Disk.{Name, names_at, ChangesFile, CreatesFile};
+ghost use Rattle.vs_host.specs.Disk.{Name, ChangesFile, CreatesFile};
 ghost use Rattle.vs_host.specs.Trace.{Created, Synced};
-ghost use Rattle.vs_host.specs.World.{content_of, ChangesFolder, IsTold};
+ghost use Rattle.vs_host.specs.World.{content_of, IsTold};
 ghost use Rattle.vs_disk.specs.Images.{IsSynced, MayLeave, Takes};
 ghost use Rattle.vs_disk.specs.Runs.{Runs};
-ghost use Rattle.vs_backup.specs.Works.{Empties, IsAlone, Settles, SettlesAny, Spares, SyncsAll, SyncsBytes, Unchanged, one_name, two_names};
+ghost use Rattle.vs_backup.specs.Desks.{GoesOn};
+ghost use Rattle.vs_backup.specs.Works.{Drops, Empties, IsAlone, IsGone, Settles, SettlesAny, Spares, SyncsAll, SyncsBytes, Unchanged, one_name, two_names};
 ghost use Rattle.vs_backup.specs.Writing.{IsSettled, SettlesBytes, SettlesSynced};
 
 use crate::Desk;
@@ -20,10 +20,7 @@ fn sync_file<D: Desk>(desk: &mut D, name: &str) -> Result<(), Failed>
     requires there { IsTrue (D.tells).folder → IsSome (content_of (D.scene desk.old) name.now) }
     ensures settles { Settles (D.tells).folder name.now (D.scene desk.old) (D.scene desk.new) }
     ensures ok { OnOk result (SyncsBytes (D.tells).folder name.now (D.scene desk.old) (D.scene desk.new)) }
-    ensures cause { HasCause (D.scene desk.old).folder_faults (D.scene desk.new).folder_faults (IsErr result) }
-    ensures frame { ChangesFolder (D.scene desk.old) (D.scene desk.new) }
-    ensures valid { D.valid desk.new }
-    ensures stays { D.stays desk.old desk.new }
+    ensures kept { GoesOn D.scene D.valid D.stays (IsErr result) desk.old desk.new }
 {
     desk.sync(name)
 }
@@ -35,10 +32,7 @@ pub(crate) fn sync_directory<D: Desk>(desk: &mut D) -> Result<(), Failed>
     ensures ok { OnOk result (SettlesSynced (D.tells).folder (D.scene desk.old) (D.scene desk.new)) }
     ensures all { OnOk result (SyncsAll (D.tells).folder (D.scene desk.old) (D.scene desk.new)) }
     ensures err { OnErr result (Unchanged (D.tells).folder (D.scene desk.old) (D.scene desk.new)) }
-    ensures cause { HasCause (D.scene desk.old).folder_faults (D.scene desk.new).folder_faults (IsErr result) }
-    ensures frame { ChangesFolder (D.scene desk.old) (D.scene desk.new) }
-    ensures valid { D.valid desk.new }
-    ensures stays { D.stays desk.old desk.new }
+    ensures kept { GoesOn D.scene D.valid D.stays (IsErr result) desk.old desk.new }
 {
     desk.sync_names()
 }
@@ -51,10 +45,7 @@ pub(crate) fn settle<D: Desk>(desk: &mut D, name: &str) -> Result<(), Failed>
     requires there { IsTrue (D.tells).folder → IsSome (content_of (D.scene desk.old) name.now) }
     ensures settles { Settles (D.tells).folder name.now (D.scene desk.old) (D.scene desk.new) }
     ensures ok { OnOk result (SettlesBytes (D.tells).folder name.now (D.scene desk.old) (D.scene desk.new)) }
-    ensures cause { HasCause (D.scene desk.old).folder_faults (D.scene desk.new).folder_faults (IsErr result) }
-    ensures frame { ChangesFolder (D.scene desk.old) (D.scene desk.new) }
-    ensures valid { D.valid desk.new }
-    ensures stays { D.stays desk.old desk.new }
+    ensures kept { GoesOn D.scene D.valid D.stays (IsErr result) desk.old desk.new }
 {
     sync_file(desk, name)?;
     sync_directory(desk)?;
@@ -68,10 +59,7 @@ pub(crate) fn empty_file<D: Desk>(desk: &mut D, name: &str) -> Result<(), Failed
     requires there { IsTrue (D.tells).folder → IsSome (content_of (D.scene desk.old) name.now) }
     ensures ok { OnOk result (Empties (D.tells).folder name.now (D.scene desk.old) (D.scene desk.new)) }
     ensures err { OnErr result (Unchanged (D.tells).folder (D.scene desk.old) (D.scene desk.new)) }
-    ensures cause { HasCause (D.scene desk.old).folder_faults (D.scene desk.new).folder_faults (IsErr result) }
-    ensures frame { ChangesFolder (D.scene desk.old) (D.scene desk.new) }
-    ensures valid { D.valid desk.new }
-    ensures stays { D.stays desk.old desk.new }
+    ensures kept { GoesOn D.scene D.valid D.stays (IsErr result) desk.old desk.new }
 {
     desk.cut(name, 0)
 }
@@ -82,10 +70,7 @@ pub(crate) fn clear_name<D: Desk>(desk: &mut D, name: &str) -> Result<(), Failed
     requires apart { D.reads desk.old name.now → ⊥ }
     ensures spares { IsTrue (D.tells).folder → Runs (Spares (one_name name.now)) (D.scene desk.old) (D.scene desk.new) }
     ensures ok { OnOk result (IsTrue (D.tells).folder → content_of (D.scene desk.new) name.now ≡ None) }
-    ensures cause { HasCause (D.scene desk.old).folder_faults (D.scene desk.new).folder_faults (IsErr result) }
-    ensures frame { ChangesFolder (D.scene desk.old) (D.scene desk.new) }
-    ensures valid { D.valid desk.new }
-    ensures stays { D.stays desk.old desk.new }
+    ensures kept { GoesOn D.scene D.valid D.stays (IsErr result) desk.old desk.new }
 {
     if desk.has(name)? {
         return desk.remove(name);
@@ -109,11 +94,8 @@ fn create_for<D: Desk>(desk: &mut D, name: &str, readers: Readers) -> Result<(),
     requires there { IsTrue (D.tells).folder → content_of (D.scene desk.old) name.now ≡ None }
     ensures ok { OnOk result (IsTrue (D.tells).folder → CreatesFile name.now (D.scene desk.old).folder (D.scene desk.new).folder) }
     ensures err { OnErr result ((D.scene desk.new).folder ≡ (D.scene desk.old).folder) }
-    ensures cause { HasCause (D.scene desk.old).folder_faults (D.scene desk.new).folder_faults (IsErr result) }
     ensures told { IsTrue (D.tells).folder → IsTold Created (name.now ∷ []) result (D.scene desk.old) (D.scene desk.new) }
-    ensures frame { ChangesFolder (D.scene desk.old) (D.scene desk.new) }
-    ensures valid { D.valid desk.new }
-    ensures stays { D.stays desk.old desk.new }
+    ensures kept { GoesOn D.scene D.valid D.stays (IsErr result) desk.old desk.new }
 {
     match readers {
         Readers::Usual => desk.create(name),
@@ -128,32 +110,32 @@ pub(crate) fn make_anew<D: Desk>(desk: &mut D, name: &str, readers: Readers) -> 
     ensures spares { IsTrue (D.tells).folder → Runs (Spares (one_name name.now)) (D.scene desk.old) (D.scene desk.new) }
     ensures empty { OnOk result (IsTrue (D.tells).folder → content_of (D.scene desk.new) name.now ≡ Some []) }
     ensures alone { OnOk result (IsTrue (D.tells).folder → IsAlone name.now (D.scene desk.new).folder) }
-    ensures cause { HasCause (D.scene desk.old).folder_faults (D.scene desk.new).folder_faults (IsErr result) }
-    ensures frame { ChangesFolder (D.scene desk.old) (D.scene desk.new) }
-    ensures valid { D.valid desk.new }
-    ensures stays { D.stays desk.old desk.new }
+    ensures kept { GoesOn D.scene D.valid D.stays (IsErr result) desk.old desk.new }
 {
     clear_name(desk, name)?;
     create_for(desk, name, readers)
 }
 
-/// Gives a file the mode bits of another one, and syncs it.
+/// Syncs a file, which gets the mode bits of the model before, if there is one.
 ///
 /// The mode comes after the bytes, since a mode without the right to write keeps bytes out, and before the sync, which keeps it.
-pub(crate) fn sync_like<D: Desk>(desk: &mut D, model: &str, name: &str) -> Result<(), Failed>
+pub(crate) fn sync_like<D: Desk>(
+    desk: &mut D,
+    model: Option<&str>,
+    name: &str,
+) -> Result<(), Failed>
     requires valid { D.valid desk.old }
-    requires apart_model { D.reads desk.old model.now → ⊥ }
+    requires apart_model { IfSome model (λ model. D.reads desk.old model.now → ⊥) }
     requires apart { D.reads desk.old name.now → ⊥ }
     requires there { IsTrue (D.tells).folder → IsSome (content_of (D.scene desk.old) name.now) }
     ensures ok { OnOk result (IsTrue (D.tells).folder → ChangesFile name.now Syncs (D.scene desk.old).folder (D.scene desk.new).folder) }
     ensures err { OnErr result ((D.scene desk.new).folder ≡ (D.scene desk.old).folder) }
-    ensures cause { HasCause (D.scene desk.old).folder_faults (D.scene desk.new).folder_faults (IsErr result) }
     ensures told { IsTrue (D.tells).folder → IsTold Synced (name.now ∷ []) result (D.scene desk.old) (D.scene desk.new) }
-    ensures frame { ChangesFolder (D.scene desk.old) (D.scene desk.new) }
-    ensures valid { D.valid desk.new }
-    ensures stays { D.stays desk.old desk.new }
+    ensures kept { GoesOn D.scene D.valid D.stays (IsErr result) desk.old desk.new }
 {
-    desk.take_mode(model, name);
+    if let Some(model) = model {
+        desk.take_mode(model, name);
+    }
     desk.sync(name)
 }
 
@@ -169,11 +151,9 @@ pub(crate) fn take_name<D: Desk>(desk: &mut D, from: &str, to: &str) -> Result<(
         → Runs (Takes to.now bytes) (D.scene desk.old) (D.scene desk.new) }
     ensures ok { OnOk result (IsTrue (D.tells).folder → (bytes : List ℕ) → IsSynced from.now bytes (D.scene desk.old).folder
         → IsSettled to.now bytes (D.scene desk.new).folder) }
+    ensures gone { OnOk result (IsTrue (D.tells).folder → IsGone from.now (D.scene desk.new).folder) }
     ensures err { OnErr result (IsTrue (D.tells).folder → content_of (D.scene desk.old) to.now ≡ None → MayLeave (D.scene desk.new).folder to.now None) }
-    ensures cause { HasCause (D.scene desk.old).folder_faults (D.scene desk.new).folder_faults (IsErr result) }
-    ensures frame { ChangesFolder (D.scene desk.old) (D.scene desk.new) }
-    ensures valid { D.valid desk.new }
-    ensures stays { D.stays desk.old desk.new }
+    ensures kept { GoesOn D.scene D.valid D.stays (IsErr result) desk.old desk.new }
 {
     desk.rename(from, to)?;
     desk.sync_names()
@@ -185,11 +165,9 @@ pub(crate) fn drop_name<D: Desk>(desk: &mut D, name: &str) -> Result<(), Failed>
     requires apart { D.reads desk.old name.now → ⊥ }
     requires there { IsTrue (D.tells).folder → IsSome (content_of (D.scene desk.old) name.now) }
     ensures spares { IsTrue (D.tells).folder → Runs (Spares (one_name name.now)) (D.scene desk.old) (D.scene desk.new) }
-    ensures gone { OnOk result (IsTrue (D.tells).folder → (lost : ℕ) → names_at (D.scene desk.new).folder lost name.now ≡ None) }
-    ensures cause { HasCause (D.scene desk.old).folder_faults (D.scene desk.new).folder_faults (IsErr result) }
-    ensures frame { ChangesFolder (D.scene desk.old) (D.scene desk.new) }
-    ensures valid { D.valid desk.new }
-    ensures stays { D.stays desk.old desk.new }
+    ensures drops { IsTrue (D.tells).folder → Runs (Drops name.now) (D.scene desk.old) (D.scene desk.new) }
+    ensures gone { OnOk result (IsTrue (D.tells).folder → IsGone name.now (D.scene desk.new).folder) }
+    ensures kept { GoesOn D.scene D.valid D.stays (IsErr result) desk.old desk.new }
 {
     desk.remove(name)?;
     desk.sync_names()

@@ -1,10 +1,10 @@
 // Filling a file, with the text or with the bytes of another file, in pieces.
-ghost use Rattle.std.specs.Prelude.{◌≡◌, ◌≢◌, ◌≤◌, ◌<◌, ◌+◌, ◌*◌, ◌^◌, ◌++◌, [], ℕ, List, length, take, IfOk, OnOk, OnErr, IsErr, IsErrOf, IsTrue, Some, IsSome, IsSomeAnd};
-ghost use Rattle.vs_faults.specs.Faults.{HasCause};
+ghost use Rattle.std.specs.Prelude.{◌≡◌, ◌≢◌, ◌≤◌, ◌<◌, ◌+◌, ◌*◌, ◌^◌, ◌++◌, [], ℕ, List, length, take, IfOk, IfSome, OnOk, OnErr, IsErr, IsErrOf, IsTrue, Some, IsSome, IsSomeAnd};
 ghost use Rattle.vs_text.specs.Text.{file_of};
-ghost use Rattle.vs_host.specs.World.{content_of, ChangesFolder};
+ghost use Rattle.vs_host.specs.World.{content_of};
 ghost use Rattle.vs_disk.specs.Images.{IsSynced};
 ghost use Rattle.vs_disk.specs.Runs.{Runs};
+ghost use Rattle.vs_backup.specs.Desks.{GoesOn};
 ghost use Rattle.vs_backup.specs.Works.{ChangesOne, Fills, IsAlone};
 
 use crate::Desk;
@@ -26,10 +26,7 @@ fn put_piece<D: Desk>(desk: &mut D, name: &str, at: u64, piece: &[u8]) -> Result
     ensures runs { IsTrue (D.tells).folder → Runs (Fills name.now) (D.scene desk.old) (D.scene desk.new) }
     ensures ok { OnOk result (IsTrue (D.tells).folder → (bytes : List ℕ) → content_of (D.scene desk.old) name.now ≡ Some bytes
         → content_of (D.scene desk.new) name.now ≡ Some (bytes ++ piece.now)) }
-    ensures cause { HasCause (D.scene desk.old).folder_faults (D.scene desk.new).folder_faults (IsErr result) }
-    ensures frame { ChangesFolder (D.scene desk.old) (D.scene desk.new) }
-    ensures valid { D.valid desk.new }
-    ensures stays { D.stays desk.old desk.new }
+    ensures kept { GoesOn D.scene D.valid D.stays (IsErr result) desk.old desk.new }
 {
     desk.write_at(name, at, piece)
 }
@@ -46,10 +43,7 @@ fn flush<D: Desk>(desk: &mut D, name: &str, size: u64, piece: &mut Vec<u8>) -> R
         → content_of (D.scene desk.new) name.now ≡ Some (bytes ++ piece.old.items)) }
     ensures size { IfOk result (λ now. now ≡ size + length piece.old.items) }
     ensures empty { OnOk result (piece.new.items ≡ []) }
-    ensures cause { HasCause (D.scene desk.old).folder_faults (D.scene desk.new).folder_faults (IsErr result) }
-    ensures frame { ChangesFolder (D.scene desk.old) (D.scene desk.new) }
-    ensures valid { D.valid desk.new }
-    ensures stays { D.stays desk.old desk.new }
+    ensures kept { GoesOn D.scene D.valid D.stays (IsErr result) desk.old desk.new }
 {
     if piece.is_empty() {
         return Ok(size);
@@ -79,10 +73,7 @@ fn put_bytes<D: Desk>(
         × (after ++ piece.new.items ≡ before ++ piece.old.items ++ bytes.now)) }
     ensures size { IfOk result (λ now. now + length piece.new.items ≡ size + length piece.old.items + length bytes.now) }
     ensures few { OnOk result (length piece.new.items ≤ PIECE) }
-    ensures cause { HasCause (D.scene desk.old).folder_faults (D.scene desk.new).folder_faults (IsErrOf result Stop.Failed) }
-    ensures frame { ChangesFolder (D.scene desk.old) (D.scene desk.new) }
-    ensures valid { D.valid desk.new }
-    ensures stays { D.stays desk.old desk.new }
+    ensures kept { GoesOn D.scene D.valid D.stays (IsErrOf result Stop.Failed) desk.old desk.new }
 {
     let mut now = size;
     let mut rest = bytes;
@@ -109,10 +100,7 @@ fn write_text<D: Desk>(
     ensures runs { IsTrue (D.tells).folder → Runs (Fills name.now) (D.scene desk.old) (D.scene desk.new) }
     ensures ok { IfOk result (λ size. IsTrue (D.tells).folder → (text : List (List ℕ)) → D.has_text desk.old text
         → (size ≡ length (file_of text)) × (content_of (D.scene desk.new) name.now ≡ Some (file_of text))) }
-    ensures cause { HasCause (D.scene desk.old).folder_faults (D.scene desk.new).folder_faults (IsErrOf result Stop.Failed) }
-    ensures frame { ChangesFolder (D.scene desk.old) (D.scene desk.new) }
-    ensures valid { D.valid desk.new }
-    ensures stays { D.stays desk.old desk.new }
+    ensures kept { GoesOn D.scene D.valid D.stays (IsErrOf result Stop.Failed) desk.old desk.new }
 {
     piece.clear();
     let mut lines = Vec::new(alloc);
@@ -129,50 +117,24 @@ fn write_text<D: Desk>(
     Ok(size)
 }
 
-/// Writes the text into an empty file, and syncs the file. Gives the number of bytes.
+/// Writes the text into an empty file, gives it the mode bits of the model, if there is one, and syncs it. Gives the number of
+/// bytes.
 pub(crate) fn fill_text<D: Desk>(
     alloc: Global,
     desk: &mut D,
     name: &str,
+    model: Option<&str>,
     piece: &mut Vec<u8>,
 ) -> Result<u64, Stop>
     requires valid { D.valid desk.old }
     requires apart { D.reads desk.old name.now → ⊥ }
+    requires apart_model { IfSome model (λ model. D.reads desk.old model.now → ⊥) }
     requires empty { IsTrue (D.tells).folder → content_of (D.scene desk.old) name.now ≡ Some [] }
     ensures runs { IsTrue (D.tells).folder → Runs (ChangesOne name.now) (D.scene desk.old) (D.scene desk.new) }
     ensures ok { IfOk result (λ size. IsTrue (D.tells).folder → (text : List (List ℕ)) → D.has_text desk.old text
         → (size ≡ length (file_of text)) × IsSynced name.now (file_of text) (D.scene desk.new).folder) }
     ensures err { OnErr result (IsTrue (D.tells).folder → Fills name.now (D.scene desk.old).folder (D.scene desk.new).folder) }
-    ensures cause { HasCause (D.scene desk.old).folder_faults (D.scene desk.new).folder_faults (IsErrOf result Stop.Failed) }
-    ensures frame { ChangesFolder (D.scene desk.old) (D.scene desk.new) }
-    ensures valid { D.valid desk.new }
-    ensures stays { D.stays desk.old desk.new }
-{
-    let size = write_text(alloc, desk, name, piece)?;
-    desk.sync(name)?;
-    Ok(size)
-}
-
-/// Writes the text into an empty file, gives it the mode bits of another file, and syncs it. Gives the number of bytes.
-pub(crate) fn fill_like<D: Desk>(
-    alloc: Global,
-    desk: &mut D,
-    name: &str,
-    model: &str,
-    piece: &mut Vec<u8>,
-) -> Result<u64, Stop>
-    requires valid { D.valid desk.old }
-    requires apart { D.reads desk.old name.now → ⊥ }
-    requires apart_model { D.reads desk.old model.now → ⊥ }
-    requires empty { IsTrue (D.tells).folder → content_of (D.scene desk.old) name.now ≡ Some [] }
-    ensures runs { IsTrue (D.tells).folder → Runs (ChangesOne name.now) (D.scene desk.old) (D.scene desk.new) }
-    ensures ok { IfOk result (λ size. IsTrue (D.tells).folder → (text : List (List ℕ)) → D.has_text desk.old text
-        → (size ≡ length (file_of text)) × IsSynced name.now (file_of text) (D.scene desk.new).folder) }
-    ensures err { OnErr result (IsTrue (D.tells).folder → Fills name.now (D.scene desk.old).folder (D.scene desk.new).folder) }
-    ensures cause { HasCause (D.scene desk.old).folder_faults (D.scene desk.new).folder_faults (IsErrOf result Stop.Failed) }
-    ensures frame { ChangesFolder (D.scene desk.old) (D.scene desk.new) }
-    ensures valid { D.valid desk.new }
-    ensures stays { D.stays desk.old desk.new }
+    ensures kept { GoesOn D.scene D.valid D.stays (IsErrOf result Stop.Failed) desk.old desk.new }
 {
     let size = write_text(alloc, desk, name, piece)?;
     sync_like(desk, model, name)?;
@@ -196,10 +158,7 @@ fn copy_piece<D: Desk>(
     ensures runs { IsTrue (D.tells).folder → Runs (ChangesOne to.now) (D.scene desk.old) (D.scene desk.new) }
     ensures ok { OnOk result (IsTrue (D.tells).folder → (bytes : List ℕ) → content_of (D.scene desk.old) from.now ≡ Some bytes
         → content_of (D.scene desk.new) to.now ≡ Some (take (at + length buffer.old) bytes)) }
-    ensures cause { HasCause (D.scene desk.old).folder_faults (D.scene desk.new).folder_faults (IsErr result) }
-    ensures frame { ChangesFolder (D.scene desk.old) (D.scene desk.new) }
-    ensures valid { D.valid desk.new }
-    ensures stays { D.stays desk.old desk.new }
+    ensures kept { GoesOn D.scene D.valid D.stays (IsErr result) desk.old desk.new }
 {
     desk.read_at(from, at, buffer)?;
     put_piece(desk, to, at, buffer)
@@ -223,10 +182,7 @@ pub(crate) fn fill_copy<D: Desk>(
     ensures runs { IsTrue (D.tells).folder → Runs (ChangesOne to.now) (D.scene desk.old) (D.scene desk.new) }
     ensures ok { OnOk result (IsTrue (D.tells).folder → (bytes : List ℕ) → content_of (D.scene desk.old) from.now ≡ Some bytes
         → IsSynced to.now bytes (D.scene desk.new).folder) }
-    ensures cause { HasCause (D.scene desk.old).folder_faults (D.scene desk.new).folder_faults (IsErr result) }
-    ensures frame { ChangesFolder (D.scene desk.old) (D.scene desk.new) }
-    ensures valid { D.valid desk.new }
-    ensures stays { D.stays desk.old desk.new }
+    ensures kept { GoesOn D.scene D.valid D.stays (IsErr result) desk.old desk.new }
 {
     let size = desk.len(from)?;
     let mut at = 0;
@@ -235,5 +191,5 @@ pub(crate) fn fill_copy<D: Desk>(
         copy_piece(desk, from, to, at, &mut buffer[..count])?;
         at += count as u64;
     }
-    sync_like(desk, from, to)
+    sync_like(desk, Some(from), to)
 }

@@ -1,8 +1,8 @@
 // Writing without a backup: over a file that is there, and a file that was not there.
 ghost use Rattle.std.specs.Prelude.{◌≡◌, ◌≢◌, ℕ, List, IsErrOf, IsTrue, Some, None, IsSome};
-ghost use Rattle.vs_faults.specs.Faults.{HasCause};
 ghost use Rattle.vs_text.specs.Text.{file_of};
-ghost use Rattle.vs_host.specs.World.{content_of, ChangesFolder};
+ghost use Rattle.vs_host.specs.World.{content_of};
+ghost use Rattle.vs_backup.specs.Desks.{GoesOn};
 ghost use Rattle.vs_backup.specs.Works.{two_names};
 ghost use Rattle.vs_backup.specs.Writing.{WritesFresh, WritesPlain};
 
@@ -24,14 +24,11 @@ pub(crate) fn write_plain<D: Desk>(
     requires there { IsTrue (D.tells).folder → IsSome (content_of (D.scene desk.old) name.now) }
     ensures plain { IsTrue (D.tells).folder → (old : List ℕ) → content_of (D.scene desk.old) name.now ≡ Some old → (text : List (List ℕ)) → D.has_text desk.old text
         → WritesPlain name.now old (file_of text) (D.scene desk.old) (D.scene desk.new) result }
-    ensures cause { HasCause (D.scene desk.old).folder_faults (D.scene desk.new).folder_faults (IsErrOf result Stop.Failed) }
-    ensures frame { ChangesFolder (D.scene desk.old) (D.scene desk.new) }
-    ensures valid { D.valid desk.new }
-    ensures stays { D.stays desk.old desk.new }
+    ensures kept { GoesOn D.scene D.valid D.stays (IsErrOf result Stop.Failed) desk.old desk.new }
 {
     settle(desk, name)?;
     desk.cut(name, 0)?;
-    fill_text(alloc, desk, name, piece)
+    fill_text(alloc, desk, name, None, piece)
 }
 
 /// Writes a file that is not there under a temporary name, which it changes when it is synced. Gives the number of bytes.
@@ -48,13 +45,10 @@ pub(crate) fn write_fresh<D: Desk>(
     requires differ { name.now ≢ temporary.now }
     ensures fresh { IsTrue (D.tells).folder → content_of (D.scene desk.old) name.now ≡ None → (text : List (List ℕ)) → D.has_text desk.old text
         → WritesFresh (two_names temporary.now name.now) name.now (file_of text) (D.scene desk.old) (D.scene desk.new) result }
-    ensures cause { HasCause (D.scene desk.old).folder_faults (D.scene desk.new).folder_faults (IsErrOf result Stop.Failed) }
-    ensures frame { ChangesFolder (D.scene desk.old) (D.scene desk.new) }
-    ensures valid { D.valid desk.new }
-    ensures stays { D.stays desk.old desk.new }
+    ensures kept { GoesOn D.scene D.valid D.stays (IsErrOf result Stop.Failed) desk.old desk.new }
 {
     make_anew(desk, temporary, Readers::Usual)?;
-    let size = fill_text(alloc, desk, temporary, piece)?;
+    let size = fill_text(alloc, desk, temporary, None, piece)?;
     take_name(desk, temporary, name)?;
     Ok(size)
 }

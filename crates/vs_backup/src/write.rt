@@ -1,14 +1,15 @@
 // The whole of a write, by its options.
-ghost use Rattle.std.specs.Prelude.{◌≡◌, ◌≢◌, ◌⊎◌, true, false, ℕ, List, length, IfOk, IfSome, MatchOption, IsErrOf, IsTrue, Some, None, IsSome, string_bytes};
-ghost use Rattle.vs_faults.specs.Faults.{HasCause};
+ghost use Rattle.std.specs.Prelude.{◌≡◌, ◌≢◌, ◌⊎◌, true, false, ℕ, List, [], ◌∷◌, length, IfOk, IfSome, MatchOption, IsErrOf, IsTrue, Some, None, IsSome, string_bytes};
 ghost use Rattle.vs_text.specs.Text.{file_of};
 ghost use Rattle.vs_host.specs.Disk.{Name};
 ghost use Rattle.vs_host.specs.Names.{AreNames, is_allowed, temporary};
-ghost use Rattle.vs_host.specs.World.{content_of, ChangesFolder, ReadsFolder};
+ghost use Rattle.vs_host.specs.Trace.{Looked};
+ghost use Rattle.vs_host.specs.World.{IsTold, content_of};
 ghost use Rattle.vs_backup.specs.Backups.{IsBackupName, IsNoName, WorksOn, backs_up, backup_of, copies};
 ghost use Rattle.vs_disk.specs.Runs.{Looks};
+ghost use Rattle.vs_backup.specs.Desks.{GoesOn, OnlyReads};
 ghost use Rattle.vs_backup.specs.Works.{SparesOthers, two_names};
-ghost use Rattle.vs_backup.specs.Writing.{FindsNoName, IsFailed, IsUnseen, WritesFresh, WritesInPlace, WritesNew, WritesPlain, WritesWith, nowhere};
+ghost use Rattle.vs_backup.specs.Writing.{FindsNoName, IsFailed, IsUnseen, OldIn, WritesFresh, WritesInPlace, WritesNew, WritesPlain, WritesWith, nowhere};
 
 use crate::backup::write_with_backup;
 use crate::choose::{backup_name, first_free, temporary_of};
@@ -68,13 +69,11 @@ fn write_named<D: Desk>(
     requires apart_backup { D.reads desk.old backup.now → ⊥ }
     requires apart_temporary { D.reads desk.old (temporary backup.now) → ⊥ }
     requires there { IsTrue (D.tells).folder → IsSome (content_of (D.scene desk.old) name.now) }
+    requires free { options.now.backup ≡ false → IsTrue (D.tells).folder → content_of (D.scene desk.old) backup.now ≡ None }
     ensures backed { IsTrue (D.tells).folder → (old : List ℕ) → content_of (D.scene desk.old) name.now ≡ Some old → (text : List (List ℕ)) → D.has_text desk.old text
         → WritesWith options.now name.now backup.now old (file_of text) (D.scene desk.old) (D.scene desk.new) result }
     ensures no_name { IsErrOf result WriteErr.NoBackupName → ⊥ }
-    ensures cause { HasCause (D.scene desk.old).folder_faults (D.scene desk.new).folder_faults (IsFailed result) }
-    ensures frame { ChangesFolder (D.scene desk.old) (D.scene desk.new) }
-    ensures valid { D.valid desk.new }
-    ensures stays { D.stays desk.old desk.new }
+    ensures kept { GoesOn D.scene D.valid D.stays (IsFailed result) desk.old desk.new }
 {
     let Ok(temporary) = temporary_of(alloc, backup) else {
         return Err(WriteErr::NoMemory {
@@ -114,10 +113,7 @@ fn choose<D: Desk>(
         MatchOption found (chosen ≡ None) (λ backup. chosen ≡ Some (string_bytes backup))) }
     ensures named { IfOk result (λ found. IfSome found (λ backup. IsBackupName name.now (string_bytes backup))) }
     ensures none { IfOk result (λ found. found ≡ None → options.now.backup ≡ false) }
-    ensures cause { HasCause (D.scene desk.old).folder_faults (D.scene desk.new).folder_faults (IsErrOf result Stop.Failed) }
-    ensures frame { ReadsFolder (D.scene desk.old) (D.scene desk.new) }
-    ensures valid { D.valid desk.new }
-    ensures stays { D.stays desk.old desk.new }
+    ensures kept { OnlyReads D.scene D.valid D.stays (IsErrOf result Stop.Failed) desk.old desk.new }
 {
     if options.backup {
         return Ok(Some(backup_name(alloc, name)?));
@@ -132,10 +128,7 @@ fn write_unbacked<D: Desk>(alloc: Global, desk: &mut D, name: &str) -> Result<u6
     requires there { IsTrue (D.tells).folder → IsSome (content_of (D.scene desk.old) name.now) }
     ensures plain { IsTrue (D.tells).folder → (old : List ℕ) → content_of (D.scene desk.old) name.now ≡ Some old → (text : List (List ℕ)) → D.has_text desk.old text
         → WritesPlain name.now old (file_of text) (D.scene desk.old) (D.scene desk.new) result }
-    ensures cause { HasCause (D.scene desk.old).folder_faults (D.scene desk.new).folder_faults (IsErrOf result Stop.Failed) }
-    ensures frame { ChangesFolder (D.scene desk.old) (D.scene desk.new) }
-    ensures valid { D.valid desk.new }
-    ensures stays { D.stays desk.old desk.new }
+    ensures kept { GoesOn D.scene D.valid D.stays (IsErrOf result Stop.Failed) desk.old desk.new }
 {
     let mut piece = buffer(alloc)?;
     write_plain(alloc, desk, name, &mut piece)
@@ -149,10 +142,7 @@ fn write_new<D: Desk>(alloc: Global, desk: &mut D, name: &str, temporary: &str) 
     requires differ { name.now ≢ temporary.now }
     ensures fresh { IsTrue (D.tells).folder → content_of (D.scene desk.old) name.now ≡ None → (text : List (List ℕ)) → D.has_text desk.old text
         → WritesFresh (two_names temporary.now name.now) name.now (file_of text) (D.scene desk.old) (D.scene desk.new) result }
-    ensures cause { HasCause (D.scene desk.old).folder_faults (D.scene desk.new).folder_faults (IsErrOf result Stop.Failed) }
-    ensures frame { ChangesFolder (D.scene desk.old) (D.scene desk.new) }
-    ensures valid { D.valid desk.new }
-    ensures stays { D.stays desk.old desk.new }
+    ensures kept { GoesOn D.scene D.valid D.stays (IsErrOf result Stop.Failed) desk.old desk.new }
 {
     let mut piece = buffer(alloc)?;
     write_fresh(alloc, desk, name, temporary, &mut piece)
@@ -177,10 +167,7 @@ fn write_chosen<D: Desk>(
         → WritesWith options.now name.now backup old (file_of text) (D.scene desk.old) (D.scene desk.new) result }
     ensures all_taken { IsTrue (D.tells).folder → backup_of options.now name.now (D.scene desk.old).folder ≡ None → FindsNoName (D.scene desk.old) (D.scene desk.new) result }
     ensures no_name { IsErrOf result WriteErr.NoBackupName → (options.now.backup ≡ false) × (IsTrue (D.tells).folder → backup_of options.now name.now (D.scene desk.old).folder ≡ None) }
-    ensures cause { HasCause (D.scene desk.old).folder_faults (D.scene desk.new).folder_faults (IsFailed result) }
-    ensures frame { ChangesFolder (D.scene desk.old) (D.scene desk.new) }
-    ensures valid { D.valid desk.new }
-    ensures stays { D.stays desk.old desk.new }
+    ensures kept { GoesOn D.scene D.valid D.stays (IsFailed result) desk.old desk.new }
 {
     match choose(alloc, desk, name, options) {
         Ok(Some(backup)) => write_named(alloc, desk, name, &backup, options),
@@ -209,14 +196,12 @@ fn write_there<D: Desk>(
         → FindsNoName (D.scene desk.old) (D.scene desk.new) result }
     ensures no_name { IsErrOf result WriteErr.NoBackupName → (backs_up options.now ≡ true) × (options.now.backup ≡ false)
         × (IsTrue (D.tells).folder → backup_of options.now name.now (D.scene desk.old).folder ≡ None) }
+    ensures somewhere { IsTrue (D.tells).folder → backs_up options.now ≡ true → OldIn Place.Nowhere result → ⊥ }
     ensures plain { IsTrue (D.tells).folder → (old : List ℕ) → content_of (D.scene desk.old) name.now ≡ Some old
         → backs_up options.now ≡ false → (text : List (List ℕ)) → D.has_text desk.old text
         → WritesInPlace name.now old (file_of text) (D.scene desk.old) (D.scene desk.new) result }
     ensures others { IsTrue (D.tells).folder → SparesOthers (WorksOn options.now name.now (D.scene desk.old).folder) (D.scene desk.old) (D.scene desk.new) }
-    ensures cause { HasCause (D.scene desk.old).folder_faults (D.scene desk.new).folder_faults (IsFailed result) }
-    ensures frame { ChangesFolder (D.scene desk.old) (D.scene desk.new) }
-    ensures valid { D.valid desk.new }
-    ensures stays { D.stays desk.old desk.new }
+    ensures kept { GoesOn D.scene D.valid D.stays (IsFailed result) desk.old desk.new }
 {
     if backs_up(options) {
         return write_chosen(alloc, desk, name, options);
@@ -250,6 +235,11 @@ pub fn write_out<D: Desk>(
         → IsUnseen (D.scene desk.old) (D.scene desk.new) result ⊎ FindsNoName (D.scene desk.old) (D.scene desk.new) result }
     ensures no_name { IsErrOf result WriteErr.NoBackupName → IsNoName options.now names.now.file (D.tells).folder (D.scene desk.old).folder }
 
+    // A file that is there, with a backup, whose old bytes are said to stand nowhere: the look whether it is there is the only call,
+    // and failed.
+    ensures unseen { IsTrue (D.tells).folder → IsSome (content_of (D.scene desk.old) names.now.file) → backs_up options.now ≡ true → OldIn Place.Nowhere result
+        → IsTold Looked (names.now.file ∷ []) result (D.scene desk.old) (D.scene desk.new) }
+
     // A file that is there, without a backup.
     ensures plain { IsTrue (D.tells).folder → (old : List ℕ) → content_of (D.scene desk.old) names.now.file ≡ Some old
         → backs_up options.now ≡ false → (text : List (List ℕ)) → D.has_text desk.old text
@@ -261,10 +251,7 @@ pub fn write_out<D: Desk>(
 
     // The other names, whatever is there.
     ensures others { IsTrue (D.tells).folder → SparesOthers (WorksOn options.now names.now.file (D.scene desk.old).folder) (D.scene desk.old) (D.scene desk.new) }
-    ensures cause { HasCause (D.scene desk.old).folder_faults (D.scene desk.new).folder_faults (IsFailed result) }
-    ensures frame { ChangesFolder (D.scene desk.old) (D.scene desk.new) }
-    ensures valid { D.valid desk.new }
-    ensures stays { D.stays desk.old desk.new }
+    ensures kept { GoesOn D.scene D.valid D.stays (IsFailed result) desk.old desk.new }
 {
     let name = names.file.as_str();
     match desk.has(name) {

@@ -113,7 +113,10 @@ module _ (options : WriteOptions) (names : Names) (are : AreNames names) (bytes 
     ]
 
   without_backup : (was : List ℕ) (answer : _) → WritesPlain names.file was bytes before after answer → Moments
-  without_backup was answer plain = from_begun (one_name names.file) (λ name same. TheFile same) plain.begun plain.looked plain.spares
+  without_backup was answer plain = elim plain.moments [
+    | inl begins ↦ from_begun (one_name names.file) (λ name same. TheFile same) begins.begun begins.looked begins.spares
+    | inr narrowed ↦ from_narrowed narrowed.0
+  ]
 
   made_new : content_in before.folder names.file ≡ None → (answer : _) → WritesFresh (two_names names.file_new names.file) names.file bytes before after answer → Moments
   made_new none answer fresh =

@@ -1,14 +1,16 @@
 // Writing a text of a swap pair into its file.
-ghost use Rattle.std.specs.Prelude.{◌≡◌, IsErrOf, IsTrue, List};
+ghost use Rattle.std.specs.Prelude.{◌≡◌, IsErrOf, IsSome, IsTrue, List, [], ◌∷◌, true};
 ghost use Rattle.vs_faults.specs.Faults.{HasCause};
 ghost use Rattle.vs_host.specs.Names.{AreNames};
-ghost use Rattle.vs_host.specs.World.{ChangesFolder};
+ghost use Rattle.vs_host.specs.Trace.{Looked};
+ghost use Rattle.vs_host.specs.World.{ChangesFolder, IsTold, content_of};
 ghost use Rattle.vs_disk.specs.Runs.{Runs};
 ghost use Rattle.vs_pages.specs.declared.memory.MemPages.{MemPages};
 ghost use Rattle.vs_text.specs.Text.{file_of};
-ghost use Rattle.vs_backup.specs.Backups.{IsNoName, WorksOn};
+ghost use Rattle.vs_backup.specs.Backups.{IsNoName, WorksOn, backs_up};
 ghost use Rattle.vs_backup.specs.Works.{SparesOthers};
-ghost use Rattle.vs_backup.specs.Writing.{IsFailed};
+ghost use Rattle.vs_backup.specs.Writing.{IsFailed, OldIn};
+ghost use Rattle.vs_backup.specs.declared.errors.Place.TheVariants.{Nowhere};
 ghost use Rattle.vs_safety.specs.Texts.{Sync, Text, recoverable};
 ghost use Rattle.vs_paged.specs.Fits.{Fits, names_of};
 ghost use Rattle.vs_paged.specs.Pages.{IsBounded, IsPaged};
@@ -41,6 +43,8 @@ fn write_in<F: Folder>(
     ensures written { IsTrue F.tells.folder → (text : Text) → IsPaged pages.old tree.old text
         → WritesFile options.now names.now (file_of text) (F.scene host.old) (F.scene host.new) result }
     ensures no_name { IsErrOf result WriteErr.NoBackupName → IsNoName options.now names.now.file F.tells.folder (F.scene host.old).folder }
+    ensures unseen { IsTrue F.tells.folder → IsSome (content_of (F.scene host.old) names.now.file) → backs_up options.now ≡ true → OldIn Nowhere result
+        → IsTold Looked (names.now.file ∷ []) result (F.scene host.old) (F.scene host.new) }
     ensures others { IsTrue F.tells.folder → SparesOthers (WorksOn options.now names.now.file (F.scene host.old).folder) (F.scene host.old) (F.scene host.new) }
     ensures same { SamePages F.tells.folder pages.old pages.new tree.old tree.new }
     ensures above { IsTrue F.tells.folder → NoneAbove (F.scene host.old) (F.scene host.new) }
@@ -71,6 +75,8 @@ pub fn write_text<F: Folder>(
     ensures written { IsTrue F.tells.folder → (lines : Text) (syncs : List Sync) → Fits text.old (F.scene host.old).folder lines syncs
         → WritesFile options.now (names_of text.old) (file_of lines) (F.scene host.old) (F.scene host.new) result }
     ensures no_name { IsErrOf result WriteErr.NoBackupName → IsNoName options.now (names_of text.old).file F.tells.folder (F.scene host.old).folder }
+    ensures unseen { IsTrue F.tells.folder → IsSome (content_of (F.scene host.old) (names_of text.old).file) → backs_up options.now ≡ true → OldIn Nowhere result
+        → IsTold Looked ((names_of text.old).file ∷ []) result (F.scene host.old) (F.scene host.new) }
 
     // The swap files, at each moment and at the end.
     ensures recovers { IsTrue F.tells.folder → (lines : Text) (syncs : List Sync) → Fits text.old (F.scene host.old).folder lines syncs

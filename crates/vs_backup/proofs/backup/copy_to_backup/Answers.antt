@@ -1,13 +1,14 @@
-use Rattle.std.proofs.Common.{◌∙◌, inl, ℕ, List, Option, IsTrue, ap}
+use Rattle.std.proofs.Common.{◌∙◌, inl, ℕ, List, Option, IsTrue, sym, ap}
 use Rattle.std.specs.Prelude.{is_some}
 use Rattle.vs_host.specs.World.{Scene}
 use Rattle.vs_disk.specs.Images.{IsSynced}
 use Rattle.vs_disk.proofs.Runs.{frames}
 use Rattle.vs_disk.proofs.Contents.{some_content}
-use Rattle.vs_backup.specs.Works.{one_name, two_names}
+use Rattle.vs_backup.specs.Works.{IsGone, LeavesNone, one_name, two_names}
 use Rattle.vs_backup.specs.Writing.{CopiesBytes, IsSettled}
 use Rattle.vs_backup.proofs.Calls.{spares_on, runs_wider, runs_file, synced_there}
 use Rattle.vs_backup.proofs.Frames.{ok_leads, content_spared}
+use Rattle.vs_backup.proofs.Replacing.{takes_on, takes_others}
 use Rattle.vs_backup.proofs.backup.copy_to_backup.Goals as goal
 
 pub returns-in_err-make_anew-clause-spares : goal.returns-in_err-make_anew-clause-spares
@@ -26,7 +27,7 @@ returns-in_err-fill_copy-clause-spares g c =
     record {
       spares = λ told.
           let filled = runs_file c.args.temporary.now s1 s2 (c.in_ok-make_anew.ensures.alone told) (c.fill_copy.ensures.runs told) in
-          runs_wider tmp both s0 s2 (λ n is. inl is) (spares_on tmp s0 s1 s2 c.make_anew.ensures.frame (c.make_anew.ensures.spares told) filled);
+          runs_wider tmp both s0 s2 (λ n is. inl is) (spares_on tmp s0 s1 s2 c.make_anew.ensures.kept.frame (c.make_anew.ensures.spares told) filled);
     }
 
 pub returns-clause-spares : goal.returns-clause-spares
@@ -40,15 +41,15 @@ returns-clause-spares g c =
     record {
       spares = λ told.
           let filled = runs_file c.args.temporary.now s1 s2 (c.in_ok-make_anew.ensures.alone told) (c.fill_copy.ensures.runs told) in
-          let copied = runs_wider tmp both s0 s2 (λ n is. inl is) (spares_on tmp s0 s1 s2 c.make_anew.ensures.frame (c.make_anew.ensures.spares told) filled) in
-          spares_on both s0 s2 s3 (frames s0 s1 s2 c.make_anew.ensures.frame c.fill_copy.ensures.frame) copied (c.take_name.ensures.spares told);
+          let copied = runs_wider tmp both s0 s2 (λ n is. inl is) (spares_on tmp s0 s1 s2 c.make_anew.ensures.kept.frame (c.make_anew.ensures.spares told) filled) in
+          spares_on both s0 s2 s3 (frames s0 s1 s2 c.make_anew.ensures.kept.frame c.fill_copy.ensures.kept.frame) copied (c.take_name.ensures.spares told);
     }
 
 pub fill_copy-requires-clause-there : goal.fill_copy-requires-clause-there
 fill_copy-requires-clause-there g c told =
     let s0 : Scene = g.D.World.scene c.args.desk.now in
     let s1 : Scene = g.D.World.scene c.make_anew.new.desk in
-    ap (λ (o : Option (List ℕ)). is_some o) (content_spared (one_name c.args.temporary.now) c.args.name.now s0.folder s1.folder c.requires.differ (c.make_anew.ensures.spares told).now) ∙ c.requires.there told
+    ap (λ (o : Option (List ℕ)). is_some o) (content_spared (one_name c.args.temporary.now) c.args.name.now s0.folder s1.folder c.requires.names.differ (c.make_anew.ensures.spares told).now) ∙ c.requires.there told
 
 pub take_name-requires-clause-there : goal.take_name-requires-clause-there
 take_name-requires-clause-there g c told =
@@ -56,7 +57,7 @@ take_name-requires-clause-there g c told =
     let s1 : Scene = g.D.World.scene c.make_anew.new.desk in
     let s2 : Scene = g.D.World.scene c.fill_copy.new.desk in
     let had = some_content s0.folder c.args.name.now (c.requires.there told) in
-    let same = content_spared (one_name c.args.temporary.now) c.args.name.now s0.folder s1.folder c.requires.differ (c.make_anew.ensures.spares told).now in
+    let same = content_spared (one_name c.args.temporary.now) c.args.name.now s0.folder s1.folder c.requires.names.differ (c.make_anew.ensures.spares told).now in
     synced_there c.args.temporary.now had.0 s2.folder (c.in_ok-fill_copy.ensures.ok told had.0 (same ∙ had.1))
 
 pub returns-clause-ok : goal.returns-clause-ok
@@ -69,7 +70,47 @@ returns-clause-ok g c =
     (CopiesBytes g.D.World.tells.folder c.args.name.now c.args.backup.now s0 s3) c.take_name.result
     (λ takes. record {
       settled = λ told old is.
-          let same = content_spared (one_name c.args.temporary.now) c.args.name.now s0.folder s1.folder c.requires.differ (c.make_anew.ensures.spares told).now in
+          let same = content_spared (one_name c.args.temporary.now) c.args.name.now s0.folder s1.folder c.requires.names.differ (c.make_anew.ensures.spares told).now in
           takes told old (c.in_ok-fill_copy.ensures.ok told old (same ∙ is));
     })
     c.take_name.ensures.ok
+
+pub returns-in_err-make_anew-clause-takes : goal.returns-in_err-make_anew-clause-takes
+returns-in_err-make_anew-clause-takes g c =
+    let s0 : Scene = g.D.World.scene c.args.desk.now in
+    let s1 : Scene = g.D.World.scene c.make_anew.new.desk in
+    record { takes = λ told old is. takes_others (one_name c.args.temporary.now) c.args.backup.now old s0 s1 (λ e. c.requires.names.differ_backup (sym e)) (c.make_anew.ensures.spares told) }
+
+pub returns-in_err-fill_copy-clause-takes : goal.returns-in_err-fill_copy-clause-takes
+returns-in_err-fill_copy-clause-takes g c =
+    let tmp = one_name c.args.temporary.now in
+    let s0 : Scene = g.D.World.scene c.args.desk.now in
+    let s1 : Scene = g.D.World.scene c.make_anew.new.desk in
+    let s2 : Scene = g.D.World.scene c.fill_copy.new.desk in
+    record {
+      takes = λ told old is.
+          let filled = runs_file c.args.temporary.now s1 s2 (c.in_ok-make_anew.ensures.alone told) (c.fill_copy.ensures.runs told) in
+          takes_others tmp c.args.backup.now old s0 s2 (λ e. c.requires.names.differ_backup (sym e)) (spares_on tmp s0 s1 s2 c.make_anew.ensures.kept.frame (c.make_anew.ensures.spares told) filled);
+    }
+
+pub returns-clause-takes : goal.returns-clause-takes
+returns-clause-takes g c =
+    let tmp = one_name c.args.temporary.now in
+    let s0 : Scene = g.D.World.scene c.args.desk.now in
+    let s1 : Scene = g.D.World.scene c.make_anew.new.desk in
+    let s2 : Scene = g.D.World.scene c.fill_copy.new.desk in
+    let s3 : Scene = g.D.World.scene c.take_name.new.desk in
+    record {
+      takes = λ told old is.
+          let filled = runs_file c.args.temporary.now s1 s2 (c.in_ok-make_anew.ensures.alone told) (c.fill_copy.ensures.runs told) in
+          let same = content_spared (one_name c.args.temporary.now) c.args.name.now s0.folder s1.folder c.requires.names.differ (c.make_anew.ensures.spares told).now in
+          takes_on c.args.backup.now old s0 s2 s3 (frames s0 s1 s2 c.make_anew.ensures.kept.frame c.fill_copy.ensures.kept.frame)
+          (takes_others tmp c.args.backup.now old s0 s2 (λ e. c.requires.names.differ_backup (sym e)) (spares_on tmp s0 s1 s2 c.make_anew.ensures.kept.frame (c.make_anew.ensures.spares told) filled))
+          (c.take_name.ensures.takes told old (c.in_ok-fill_copy.ensures.ok told old (same ∙ is)));
+    }
+
+pub returns-clause-aside : goal.returns-clause-aside
+returns-clause-aside g c =
+    let s3 : Scene = g.D.World.scene c.take_name.new.desk in
+    ok_leads (IsTrue g.D.World.tells.folder → IsGone c.args.temporary.now s3.folder) (LeavesNone g.D.World.tells.folder c.args.temporary.now s3) c.take_name.result
+    (λ gone. record { gone = gone }) c.take_name.ensures.gone

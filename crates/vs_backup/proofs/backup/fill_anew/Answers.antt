@@ -11,7 +11,7 @@ pub returns-in_err-create_private-clause-anew : goal.returns-in_err-create_priva
 returns-in_err-create_private-clause-anew g c = record {
   each = λ told number old differ guard.
       anew_not_made c.args.name.now c.args.backup.now number old differ (g.D.World.scene c.args.desk.now) (g.D.World.scene c.create_private.new.self) guard
-      c.create_private.ensures.frame c.create_private.result (c.create_private.ensures.told told) c.in_err-create_private.ensures.err;
+      c.create_private.ensures.kept.frame c.create_private.result (c.create_private.ensures.told told) c.in_err-create_private.ensures.err;
 }
 
 pub returns-in_err-create_private-clause-absent : goal.returns-in_err-create_private-clause-absent
@@ -23,20 +23,20 @@ pub returns-clause-anew : goal.returns-clause-anew
 returns-clause-anew g c = record {
   each = λ told number old differ guard.
       anew_filled c.args.name.now c.args.backup.now number old differ (g.D.World.scene c.args.desk.now) (g.D.World.scene c.create_private.new.self) guard
-      c.create_private.ensures.frame c.create_private.result (c.create_private.ensures.told told) (c.in_ok-create_private.ensures.ok told) (g.D.World.scene c.fill_like.new.desk) (c.fill_like.ensures.runs told);
+      c.create_private.ensures.kept.frame c.create_private.result (c.create_private.ensures.told told) (c.in_ok-create_private.ensures.ok told) (g.D.World.scene c.fill_text.new.desk) (c.fill_text.ensures.runs told);
 }
 
 pub returns-clause-absent : goal.returns-clause-absent
 returns-clause-absent g c = record {
-  leaves = λ told. absent_filled c.args.name.now (g.D.World.scene c.args.desk.now).folder (g.D.World.scene c.create_private.new.self).folder (g.D.World.scene c.fill_like.new.desk).folder
-      (c.requires.free told) (c.in_ok-create_private.ensures.ok told) (c.fill_like.ensures.runs told).now;
+  leaves = λ told. absent_filled c.args.name.now (g.D.World.scene c.args.desk.now).folder (g.D.World.scene c.create_private.new.self).folder (g.D.World.scene c.fill_text.new.desk).folder
+      (c.requires.free told) (c.in_ok-create_private.ensures.ok told) (c.fill_text.ensures.runs told).now;
 }
 
 pub returns-clause-ok : goal.returns-clause-ok
 returns-clause-ok g c =
-    let s2 : Scene = g.D.World.scene c.fill_like.new.desk in
-    ok_with c.fill_like.result
+    let s2 : Scene = g.D.World.scene c.fill_text.new.desk in
+    ok_with c.fill_text.result
     (λ size. IsTrue g.D.World.tells.folder → (t : List (List ℕ)) → g.D.Desk.has_text c.create_private.new.self t → (size ≡ length (file_of t)) × IsSynced c.args.name.now (file_of t) s2.folder)
     (λ size. IsFilled g.D.World.tells.folder c.args.name.now (g.D.Desk.has_text c.args.desk.now) size s2)
-    (λ size filled. record { each = λ told text has. filled told text (g.met.D.Desk.stays_text c.args.desk.now c.create_private.new.self text c.create_private.ensures.stays has) })
-    c.fill_like.ensures.ok
+    (λ size filled. record { each = λ told text has. filled told text (g.met.D.Desk.stays_text c.args.desk.now c.create_private.new.self text c.create_private.ensures.kept.stays has) })
+    c.fill_text.ensures.ok

@@ -1,8 +1,8 @@
-use Rattle.std.proofs.Common.{◌≡◌, ◌∙◌, ℕ, None, IsTrue, Result, Err, sym, ap, subst}
+use Rattle.std.proofs.Common.{◌≡◌, ◌∙◌, ℕ, IsTrue, Result, Err, sym, ap, subst}
 use Rattle.std.proofs.lemmas.Result.{err_from_is_err_and}
 use Rattle.vs_text.specs.Text.{file_of}
-use Rattle.vs_host.specs.Disk.{names_at}
 use Rattle.vs_host.specs.World.{Scene}
+use Rattle.vs_backup.specs.Works.{IsGone}
 use Rattle.vs_backup.specs.Writing.{WritesBacked}
 use Rattle.vs_backup.specs.declared.errors.WriteErr.{WriteErr}
 use Rattle.vs_backup.proofs.Backed.{backed_refused, backed_kept, backed_removed, gone_unless_risen, holds_there}
@@ -29,10 +29,11 @@ returns-clause-backed g c told old is text has =
     let s0 : Scene = g.D.World.scene c.args.desk.now in
     let s1 : Scene = g.D.World.scene c.write_over.new.desk in
     let s2 : Scene = g.D.World.scene c.drop_name.new.desk in
-    let gone = gone_unless_risen c.drop_name.result s0.folder_faults s1.folder_faults s2.folder_faults ((lost : ℕ) → names_at s2.folder lost c.args.backup.now ≡ None)
-    (IsTrue g.D.World.tells.folder) told c.write_over.ensures.cause.later c.drop_name.ensures.cause c.drop_name.ensures.gone in
+    let gone = gone_unless_risen c.drop_name.result s0.folder_faults s1.folder_faults s2.folder_faults (IsGone c.args.backup.now s2.folder)
+    (IsTrue g.D.World.tells.folder) told c.write_over.ensures.kept.cause.later c.drop_name.ensures.kept.cause c.drop_name.ensures.gone in
     backed_removed c.args.copying c.args.keep c.args.name.now c.args.temporary.now c.args.backup.now old (file_of text) s0 s1 is c.in_ok-size.size s2 c.if-keep.false
-    c.write_over.ensures.frame c.requires.differ_name (c.in_ok-size.ensures.over told old is text has) (c.drop_name.ensures.spares told) gone
+    c.write_over.ensures.kept.frame c.requires.names.differ_name c.requires.names.differ_backup (c.requires.free c.if-keep.false told) (c.in_ok-size.ensures.over told old is text has)
+    (c.drop_name.ensures.spares told) (c.drop_name.ensures.drops told) gone
 
 pub drop_name-requires-clause-there : goal.drop_name-requires-clause-there
 drop_name-requires-clause-there g c told =

@@ -1,10 +1,11 @@
+use Rattle.std.proofs.Common.{◌∙◌}
 use Rattle.vs_text.specs.Text.{file_of}
 use Rattle.vs_host.specs.World.{Scene}
 use Rattle.vs_disk.proofs.Contents.{some_content}
 use Rattle.vs_backup.specs.Writing.{backed_names}
 use Rattle.vs_backup.specs.declared.errors.Place.TheVariants as place
 use Rattle.vs_backup.specs.declared.errors.WriteErr.TheVariants as error
-use Rattle.vs_backup.proofs.Backed.{backed_not_begun, backed_after, file_named}
+use Rattle.vs_backup.proofs.Backed.{backed_not_begun, backed_after, file_named, narrowed_content}
 use Rattle.vs_backup.proofs.Copying.{only_file}
 use Rattle.vs_backup.proofs.Others.{others_settled}
 use Rattle.vs_backup.proofs.backup.write_with_backup.Goals as goal
@@ -15,9 +16,9 @@ returns-in-Ok-clause-backed g c told old content text has =
     let s0 : Scene = g.D.World.scene c.args.desk.now in
     let s1 : Scene = g.D.World.scene c.settle.new.desk in
     let s2 : Scene = g.D.World.scene c.write_backed.new.desk in
-    let kept = g.met.D.Desk.stays_text c.args.desk.now c.settle.new.desk text c.settle.ensures.stays has in
+    let kept = g.met.D.Desk.stays_text c.args.desk.now c.settle.new.desk text c.settle.ensures.kept.stays has in
     backed_after c.args.copying c.args.keep c.args.name.now c.args.temporary.now c.args.backup.now old (file_of text) s0 s1 content (c.settle.ensures.settles.narrowed told)
-    (others_settled on c.args.name.now s0 s1 (file_named c.args.copying c.args.name.now c.args.temporary.now c.args.backup.now) (c.settle.ensures.settles.same told)) c.write_backed.result s2 c.settle.ensures.frame c.settle.ensures.cause.later
+    (others_settled on c.args.name.now s0 s1 (file_named c.args.copying c.args.name.now c.args.temporary.now c.args.backup.now) (c.settle.ensures.settles.same told)) c.write_backed.result s2 c.settle.ensures.kept.frame c.settle.ensures.kept.cause.later
     (c.write_backed.ensures.backed told old (c.in-Ok.ensures.ok.settled told old content) text kept)
 
 pub returns-in-Err-clause-backed : goal.returns-in-Err-clause-backed
@@ -33,3 +34,9 @@ pub write_backed-requires-clause-settled : goal.write_backed-requires-clause-set
 write_backed-requires-clause-settled g c told =
     let has = some_content (g.D.World.scene c.args.desk.now).folder c.args.name.now (c.requires.there told) in
     (has.0, c.in-Ok.ensures.ok.settled told has.0 has.1)
+
+pub write_backed-requires-clause-free : goal.write_backed-requires-clause-free
+write_backed-requires-clause-free g c off told =
+    let s0 : Scene = g.D.World.scene c.args.desk.now in
+    let s1 : Scene = g.D.World.scene c.settle.new.desk in
+    narrowed_content c.args.backup.now s0.folder s1.folder (c.settle.ensures.settles.narrowed told).now ∙ c.requires.free off told

@@ -5,7 +5,8 @@ use Rattle.vs_host.specs.Trace.{Looked}
 use Rattle.vs_host.specs.World.{Scene}
 use Rattle.vs_disk.proofs.Runs.{one_look, looks_on, reads_change}
 use Rattle.vs_backup.specs.Backups.{IsBackupName, backup_name, first_free, lettered, letters}
-use Rattle.vs_backup.proofs.Choosing.{free_here, free_later, candidates_are, letters_next, none_left, IsBackupName-plain, IsBackupName-lettered, some_name, reads_then}
+use Rattle.vs_backup.proofs.Choosing.{free_here, free_later, candidates_are, letters_next, none_left, IsBackupName-plain, IsBackupName-lettered, some_name}
+use Rattle.vs_backup.proofs.Going.{OnlyReads-once, OnlyReads-then}
 use Rattle.vs_backup.proofs.choose.first_free.Goals as goal
 
 pub has-requires-clause-apart : goal.has-requires-clause-apart
@@ -15,11 +16,11 @@ has-requires-clause-apart g c =
 
 pub returns-in_err-has-clause-looks : goal.returns-in_err-has-clause-looks
 returns-in_err-has-clause-looks g c told =
-    one_look Looked (c.deref.result.now ∷ []) c.has.result (g.D.World.scene c.args.desk.now) (g.D.World.scene c.has.new.self) c.has.ensures.frame (c.has.ensures.told told)
+    one_look Looked (c.deref.result.now ∷ []) c.has.result (g.D.World.scene c.args.desk.now) (g.D.World.scene c.has.new.self) c.has.ensures.kept.frame (c.has.ensures.told told)
 
 pub returns-then-not-branch-clause-looks : goal.returns-then-not-branch-clause-looks
 returns-then-not-branch-clause-looks g c told =
-    one_look Looked (c.deref.result.now ∷ []) c.has.result (g.D.World.scene c.args.desk.now) (g.D.World.scene c.has.new.self) c.has.ensures.frame (c.has.ensures.told told)
+    one_look Looked (c.deref.result.now ∷ []) c.has.result (g.D.World.scene c.args.desk.now) (g.D.World.scene c.has.new.self) c.has.ensures.kept.frame (c.has.ensures.told told)
 
 pub returns-then-not-branch-clause-found : goal.returns-then-not-branch-clause-found
 returns-then-not-branch-clause-found g c told =
@@ -42,16 +43,13 @@ letters-init g c =
     let s1 : Scene = g.D.World.scene c.has.new.self in
     let bytes : c.deref.result.now ≡ backup_name name = c.deref.ensures ∙ c.in_ok-plain.ensures in
     record {
-      valid = c.has.ensures.valid;
-      stays = c.has.ensures.stays;
+      kept = OnlyReads-once c.has.ensures.kept;
       within = omega arith;
-      looks = λ told. one_look Looked (c.deref.result.now ∷ []) c.has.result s0 s1 c.has.ensures.frame (c.has.ensures.told told);
+      looks = λ told. one_look Looked (c.deref.result.now ∷ []) c.has.result s0 s1 c.has.ensures.kept.frame (c.has.ensures.told told);
       rest = λ told.
           let taken : is_some (content_in s0.folder (backup_name name)) ≡ true =
           ap (λ (b : Name). is_some (content_in s0.folder b)) (sym bytes) ∙ sym (c.in_ok-has.ensures.value told) ∙ c.if-not-branch.false in
           ap (λ (ns : List Name). first_free s0.folder ns) (candidates_are name) ∙ free_later s0.folder (backup_name name) (map (lettered name) (letters 26)) taken;
-      later = c.has.ensures.cause.later;
-      frame = c.has.ensures.frame;
     }
 
 pub has-requires-in-letters-clause-apart : goal.has-requires-in-letters-clause-apart
@@ -59,21 +57,21 @@ has-requires-in-letters-clause-apart g c reads =
     let name = c.args.name.now in
     let bytes = c.deref-in-letters.ensures ∙ c.in_ok-backup.ensures in
     let named = subst (λ (b : Name). IsBackupName name b) (sym bytes) (IsBackupName-lettered name (97 + (c.letters.left - 1)) (some_name name c.requires.allowed)) in
-    c.requires.apart c.deref-in-letters.result.now named (g.met.D.Desk.stays_reads c.args.desk.now c.letters.desk c.deref-in-letters.result.now c.letters.invariant.stays reads)
+    c.requires.apart c.deref-in-letters.result.now named (g.met.D.Desk.stays_reads c.args.desk.now c.letters.desk c.deref-in-letters.result.now c.letters.invariant.kept.stays reads)
 
 pub returns-in_err-has-2-clause-looks : goal.returns-in_err-has-2-clause-looks
 returns-in_err-has-2-clause-looks g c told =
     let s0 : Scene = g.D.World.scene c.args.desk.now in
     let s1 : Scene = g.D.World.scene c.letters.desk in
     let s2 : Scene = g.D.World.scene c.has-in-letters.new.self in
-    looks_on s0 s1 s2 (reads_change s0 s1 c.letters.invariant.frame) (c.letters.invariant.looks told) (one_look Looked (c.deref-in-letters.result.now ∷ []) c.has-in-letters.result s1 s2 c.has-in-letters.ensures.frame (c.has-in-letters.ensures.told told))
+    looks_on s0 s1 s2 (reads_change s0 s1 c.letters.invariant.kept.frame) (c.letters.invariant.looks told) (one_look Looked (c.deref-in-letters.result.now ∷ []) c.has-in-letters.result s1 s2 c.has-in-letters.ensures.kept.frame (c.has-in-letters.ensures.told told))
 
 pub returns-then-not-branch-2-clause-looks : goal.returns-then-not-branch-2-clause-looks
 returns-then-not-branch-2-clause-looks g c told =
     let s0 : Scene = g.D.World.scene c.args.desk.now in
     let s1 : Scene = g.D.World.scene c.letters.desk in
     let s2 : Scene = g.D.World.scene c.has-in-letters.new.self in
-    looks_on s0 s1 s2 (reads_change s0 s1 c.letters.invariant.frame) (c.letters.invariant.looks told) (one_look Looked (c.deref-in-letters.result.now ∷ []) c.has-in-letters.result s1 s2 c.has-in-letters.ensures.frame (c.has-in-letters.ensures.told told))
+    looks_on s0 s1 s2 (reads_change s0 s1 c.letters.invariant.kept.frame) (c.letters.invariant.looks told) (one_look Looked (c.deref-in-letters.result.now ∷ []) c.has-in-letters.result s1 s2 c.has-in-letters.ensures.kept.frame (c.has-in-letters.ensures.told told))
 
 pub returns-then-not-branch-2-clause-found : goal.returns-then-not-branch-2-clause-found
 returns-then-not-branch-2-clause-found g c told =
@@ -104,19 +102,16 @@ letters-preserved g c =
     let this = lettered name (97 + left) in
     let bytes : c.deref-in-letters.result.now ≡ this = c.deref-in-letters.ensures ∙ c.in_ok-backup.ensures in
     record {
-      valid = c.has-in-letters.ensures.valid;
-      stays = g.met.D.Desk.stays_on c.args.desk.now c.letters.desk c.has-in-letters.new.self c.letters.invariant.stays c.has-in-letters.ensures.stays;
+      kept = OnlyReads-then g.met.D.Desk.stays_on c.letters.invariant.kept c.has-in-letters.ensures.kept;
       within = omega (arith, c.letters.invariant.within);
-      looks = λ told. looks_on s0 s1 s2 (reads_change s0 s1 c.letters.invariant.frame) (c.letters.invariant.looks told)
-          (one_look Looked (c.deref-in-letters.result.now ∷ []) c.has-in-letters.result s1 s2 c.has-in-letters.ensures.frame (c.has-in-letters.ensures.told told));
+      looks = λ told. looks_on s0 s1 s2 (reads_change s0 s1 c.letters.invariant.kept.frame) (c.letters.invariant.looks told)
+          (one_look Looked (c.deref-in-letters.result.now ∷ []) c.has-in-letters.result s1 s2 c.has-in-letters.ensures.kept.frame (c.has-in-letters.ensures.told told));
       rest = λ told.
           let same = (c.letters.invariant.looks told).now in
           let taken : is_some (content_in s0.folder this) ≡ true =
           ap (λ (b : Name). is_some (content_in s0.folder b)) (sym bytes) ∙ ap (λ (d : Disk). is_some (content_in d c.deref-in-letters.result.now)) (sym same) ∙ sym (c.in_ok-has-2.ensures.value told) ∙ c.if-not-branch-2.false in
           let next : c.letters.left ≡ suc left = omega (arith, c.letters-test.true) in
           c.letters.invariant.rest told ∙ ap (λ (ns : List Name). first_free s0.folder ns) (letters_next name c.letters.left left next) ∙ free_later s0.folder this (map (lettered name) (letters left)) taken;
-      later = omega (arith, c.letters.invariant.later, c.has-in-letters.ensures.cause.later);
-      frame = reads_then s0 s1 s2 c.letters.invariant.frame c.has-in-letters.ensures.frame;
     }
 
 pub returns-clause-found : goal.returns-clause-found

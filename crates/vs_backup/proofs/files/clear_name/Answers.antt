@@ -12,7 +12,7 @@ pub returns-in_err-has-clause-spares : goal.returns-in_err-has-clause-spares
 returns-in_err-has-clause-spares g c told =
     let s0 : Scene = g.D.World.scene c.args.desk.now in
     let s1 : Scene = g.D.World.scene c.has.new.self in
-    looked_at (one_name c.args.name.now) c.args.name.now c.has.result s0 s1 c.has.ensures.frame (c.has.ensures.told told)
+    looked_at (one_name c.args.name.now) c.args.name.now c.has.result s0 s1 c.has.ensures.kept.frame (c.has.ensures.told told)
 
 pub returns-then-branch-clause-spares : goal.returns-then-branch-clause-spares
 returns-then-branch-clause-spares g c told =
@@ -23,11 +23,11 @@ returns-then-branch-clause-spares g c told =
     let here : Spares on s1.folder s2.folder =
     either (IsTrue g.D.World.tells.folder → ChangesNames (Removes c.args.name.now) s1.folder s2.folder) (s2.folder ≡ s1.folder) (Spares on s1.folder s2.folder) c.remove.result
     c.remove.ensures.ok c.remove.ensures.err (λ changes. spares_removed c.args.name.now s1.folder s2.folder (changes told)) (λ same. spares_same on s1.folder s2.folder same) in
-    call_on (Spares on) (spares_then on) Removed (c.args.name.now ∷ []) c.remove.result s0 s1 s2 (reads_change s0 s1 c.has.ensures.frame)
-    (looked_at on c.args.name.now c.has.result s0 s1 c.has.ensures.frame (c.has.ensures.told told)) c.remove.ensures.frame here (c.remove.ensures.told told)
+    call_on (Spares on) (spares_then on) Removed (c.args.name.now ∷ []) c.remove.result s0 s1 s2 (reads_change s0 s1 c.has.ensures.kept.frame)
+    (looked_at on c.args.name.now c.has.result s0 s1 c.has.ensures.kept.frame (c.has.ensures.told told)) c.remove.ensures.kept.frame here (c.remove.ensures.told told)
 
 pub returns-clause-spares : goal.returns-clause-spares
 returns-clause-spares g c told =
     let s0 : Scene = g.D.World.scene c.args.desk.now in
     let s1 : Scene = g.D.World.scene c.has.new.self in
-    looked_at (one_name c.args.name.now) c.args.name.now c.has.result s0 s1 c.has.ensures.frame (c.has.ensures.told told)
+    looked_at (one_name c.args.name.now) c.args.name.now c.has.result s0 s1 c.has.ensures.kept.frame (c.has.ensures.told told)

@@ -1,11 +1,12 @@
-use Rattle.std.proofs.Common.{◌≡◌, [], ◌∷◌, ℕ, None, IsTrue}
-use Rattle.vs_host.specs.Disk.{names_at, SyncsNames}
+use Rattle.std.proofs.Common.{◌≡◌, [], ◌∷◌, IsTrue}
+use Rattle.vs_host.specs.Disk.{SyncsNames}
 use Rattle.vs_host.specs.Trace.{Removed, SyncedNames}
 use Rattle.vs_host.specs.World.{Scene}
 use Rattle.vs_disk.proofs.Runs.{one_call, call_on}
 use Rattle.vs_disk.proofs.Steps.{gone_for_good}
-use Rattle.vs_backup.specs.Works.{Spares, one_name}
+use Rattle.vs_backup.specs.Works.{Drops, IsGone, Spares, one_name}
 use Rattle.vs_backup.proofs.Frames.{either, spares_same, spares_then, spares_removed, spares_synced, ok_leads}
+use Rattle.vs_backup.proofs.Replacing.{drops_removed, drops_same, drops_synced, drops_then}
 use Rattle.vs_backup.proofs.files.drop_name.Goals as goal
 
 pub returns-in_err-remove-clause-spares : goal.returns-in_err-remove-clause-spares
@@ -13,7 +14,7 @@ returns-in_err-remove-clause-spares g c told =
     let on = one_name c.args.name.now in
     let s0 : Scene = g.D.World.scene c.args.desk.now in
     let s1 : Scene = g.D.World.scene c.remove.new.self in
-    one_call (Spares on) Removed (c.args.name.now ∷ []) c.remove.result s0 s1 c.remove.ensures.frame (c.remove.ensures.told told) (spares_same on s0.folder s1.folder c.in_err-remove.ensures.err)
+    one_call (Spares on) Removed (c.args.name.now ∷ []) c.remove.result s0 s1 c.remove.ensures.kept.frame (c.remove.ensures.told told) (spares_same on s0.folder s1.folder c.in_err-remove.ensures.err)
 
 pub returns-clause-spares : goal.returns-clause-spares
 returns-clause-spares g c told =
@@ -21,16 +22,34 @@ returns-clause-spares g c told =
     let s0 : Scene = g.D.World.scene c.args.desk.now in
     let s1 : Scene = g.D.World.scene c.remove.new.self in
     let s2 : Scene = g.D.World.scene c.sync_names.new.self in
-    let first = one_call (Spares on) Removed (c.args.name.now ∷ []) c.remove.result s0 s1 c.remove.ensures.frame (c.remove.ensures.told told) (spares_removed c.args.name.now s0.folder s1.folder (c.in_ok-remove.ensures.ok told)) in
+    let first = one_call (Spares on) Removed (c.args.name.now ∷ []) c.remove.result s0 s1 c.remove.ensures.kept.frame (c.remove.ensures.told told) (spares_removed c.args.name.now s0.folder s1.folder (c.in_ok-remove.ensures.ok told)) in
     let here : Spares on s1.folder s2.folder =
     either (IsTrue g.D.World.tells.folder → SyncsNames s1.folder s2.folder) (s2.folder ≡ s1.folder) (Spares on s1.folder s2.folder) c.sync_names.result
     c.sync_names.ensures.ok c.sync_names.ensures.err (λ syncs. spares_synced on s1.folder s2.folder (syncs told)) (λ same. spares_same on s1.folder s2.folder same) in
-    call_on (Spares on) (spares_then on) SyncedNames [] c.sync_names.result s0 s1 s2 c.remove.ensures.frame first c.sync_names.ensures.frame here (c.sync_names.ensures.told told)
+    call_on (Spares on) (spares_then on) SyncedNames [] c.sync_names.result s0 s1 s2 c.remove.ensures.kept.frame first c.sync_names.ensures.kept.frame here (c.sync_names.ensures.told told)
+
+pub returns-in_err-remove-clause-drops : goal.returns-in_err-remove-clause-drops
+returns-in_err-remove-clause-drops g c told =
+    let s0 : Scene = g.D.World.scene c.args.desk.now in
+    let s1 : Scene = g.D.World.scene c.remove.new.self in
+    one_call (Drops c.args.name.now) Removed (c.args.name.now ∷ []) c.remove.result s0 s1 c.remove.ensures.kept.frame (c.remove.ensures.told told) (drops_same c.args.name.now s0.folder s1.folder c.in_err-remove.ensures.err)
+
+pub returns-clause-drops : goal.returns-clause-drops
+returns-clause-drops g c told =
+    let name = c.args.name.now in
+    let s0 : Scene = g.D.World.scene c.args.desk.now in
+    let s1 : Scene = g.D.World.scene c.remove.new.self in
+    let s2 : Scene = g.D.World.scene c.sync_names.new.self in
+    let first = one_call (Drops name) Removed (name ∷ []) c.remove.result s0 s1 c.remove.ensures.kept.frame (c.remove.ensures.told told) (drops_removed name s0.folder s1.folder (c.in_ok-remove.ensures.ok told)) in
+    let here : Drops name s1.folder s2.folder =
+    either (IsTrue g.D.World.tells.folder → SyncsNames s1.folder s2.folder) (s2.folder ≡ s1.folder) (Drops name s1.folder s2.folder) c.sync_names.result
+    c.sync_names.ensures.ok c.sync_names.ensures.err (λ syncs. drops_synced name s1.folder s2.folder (syncs told)) (λ same. drops_same name s1.folder s2.folder same) in
+    call_on (Drops name) (drops_then name) SyncedNames [] c.sync_names.result s0 s1 s2 c.remove.ensures.kept.frame first c.sync_names.ensures.kept.frame here (c.sync_names.ensures.told told)
 
 pub returns-clause-gone : goal.returns-clause-gone
 returns-clause-gone g c =
     let s0 : Scene = g.D.World.scene c.args.desk.now in
     let s1 : Scene = g.D.World.scene c.remove.new.self in
     let s2 : Scene = g.D.World.scene c.sync_names.new.self in
-    ok_leads (IsTrue g.D.World.tells.folder → SyncsNames s1.folder s2.folder) (IsTrue g.D.World.tells.folder → (lost : ℕ) → names_at s2.folder lost c.args.name.now ≡ None) c.sync_names.result
+    ok_leads (IsTrue g.D.World.tells.folder → SyncsNames s1.folder s2.folder) (IsTrue g.D.World.tells.folder → IsGone c.args.name.now s2.folder) c.sync_names.result
     (λ syncs told. gone_for_good c.args.name.now s0.folder s1.folder s2.folder (c.in_ok-remove.ensures.ok told) (syncs told)) c.sync_names.ensures.ok

@@ -19,7 +19,7 @@ returns-clause-ok g c =
     ok_leads (IsTrue g.D.World.tells.folder → ChangesFile name (Cuts 0) s0.folder s1.folder) (Empties g.D.World.tells.folder name s0 s1) c.cut.result
     (λ ok. record {
       folder = λ told. g.D.World.is_folder c.args.desk.now told;
-      runs = λ told. one_call (ChangesOne name) Cut (name ∷ []) c.cut.result s0 s1 c.cut.ensures.frame (c.cut.ensures.told told) (changes_by name (Cuts 0) s0.folder s1.folder (ok told));
+      runs = λ told. one_call (ChangesOne name) Cut (name ∷ []) c.cut.result s0 s1 c.cut.ensures.kept.frame (c.cut.ensures.told told) (changes_by name (Cuts 0) s0.folder s1.folder (ok told));
       cuts = ok;
     })
     c.cut.ensures.ok
@@ -29,7 +29,7 @@ returns-clause-err g c =
     let s0 : Scene = g.D.World.scene c.args.desk.now in
     let s1 : Scene = g.D.World.scene c.cut.new.self in
     err_leads (s1.folder ≡ s0.folder) (Unchanged g.D.World.tells.folder s0 s1) c.cut.result
-    (λ same. record { looks = λ told. one_call (λ a b. b ≡ a) Cut (c.args.name.now ∷ []) c.cut.result s0 s1 c.cut.ensures.frame (c.cut.ensures.told told) same }) c.cut.ensures.err
+    (λ same. record { looks = λ told. one_call (λ a b. b ≡ a) Cut (c.args.name.now ∷ []) c.cut.result s0 s1 c.cut.ensures.kept.frame (c.cut.ensures.told told) same }) c.cut.ensures.err
 
 pub cut-requires-clause-there : goal.cut-requires-clause-there
 cut-requires-clause-there g c told =

@@ -16,7 +16,7 @@ returns-clause-spares g c told =
     let here : Spares on s1.folder s2.folder =
     either (IsTrue g.D.World.tells.folder → CreatesFile c.args.name.now s1.folder s2.folder) (s2.folder ≡ s1.folder) (Spares on s1.folder s2.folder) c.create_for.result
     c.create_for.ensures.ok c.create_for.ensures.err (λ creates. spares_created c.args.name.now s1.folder s2.folder (creates told)) (λ same. spares_same on s1.folder s2.folder same) in
-    call_on (Spares on) (spares_then on) Created (c.args.name.now ∷ []) c.create_for.result s0 s1 s2 c.clear_name.ensures.frame (c.clear_name.ensures.spares told) c.create_for.ensures.frame here (c.create_for.ensures.told told)
+    call_on (Spares on) (spares_then on) Created (c.args.name.now ∷ []) c.create_for.result s0 s1 s2 c.clear_name.ensures.kept.frame (c.clear_name.ensures.spares told) c.create_for.ensures.kept.frame here (c.create_for.ensures.told told)
 
 pub returns-clause-alone : goal.returns-clause-alone
 returns-clause-alone g c =

@@ -14,7 +14,7 @@ returns-clause-settles g c =
     let s0 : Scene = g.D.World.scene c.args.desk.now in
     let s1 : Scene = g.D.World.scene c.sync_names.new.self in
     record {
-      each = λ name. settles_names g.D.World.tells.folder name SyncedNames [] c.sync_names.result s0 s1 c.sync_names.ensures.frame c.sync_names.ensures.told
+      each = λ name. settles_names g.D.World.tells.folder name SyncedNames [] c.sync_names.result s0 s1 c.sync_names.ensures.kept.frame c.sync_names.ensures.told
           c.sync_names.ensures.ok c.sync_names.ensures.err;
     }
 
@@ -30,11 +30,11 @@ returns-clause-all g c =
     let s0 : Scene = g.D.World.scene c.args.desk.now in
     let s1 : Scene = g.D.World.scene c.sync_names.new.self in
     ok_leads (IsTrue g.D.World.tells.folder → SyncsNames s0.folder s1.folder) (SyncsAll g.D.World.tells.folder s0 s1) c.sync_names.result
-    (λ ok. record { runs = λ told. one_call SyncsNames SyncedNames [] c.sync_names.result s0 s1 c.sync_names.ensures.frame (c.sync_names.ensures.told told) (ok told) }) c.sync_names.ensures.ok
+    (λ ok. record { runs = λ told. one_call SyncsNames SyncedNames [] c.sync_names.result s0 s1 c.sync_names.ensures.kept.frame (c.sync_names.ensures.told told) (ok told) }) c.sync_names.ensures.ok
 
 pub returns-clause-err : goal.returns-clause-err
 returns-clause-err g c =
     let s0 : Scene = g.D.World.scene c.args.desk.now in
     let s1 : Scene = g.D.World.scene c.sync_names.new.self in
     err_leads (s1.folder ≡ s0.folder) (Unchanged g.D.World.tells.folder s0 s1) c.sync_names.result
-    (λ same. record { looks = λ told. one_call (λ a b. b ≡ a) SyncedNames [] c.sync_names.result s0 s1 c.sync_names.ensures.frame (c.sync_names.ensures.told told) same }) c.sync_names.ensures.err
+    (λ same. record { looks = λ told. one_call (λ a b. b ≡ a) SyncedNames [] c.sync_names.result s0 s1 c.sync_names.ensures.kept.frame (c.sync_names.ensures.told told) same }) c.sync_names.ensures.err

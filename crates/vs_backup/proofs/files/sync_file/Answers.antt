@@ -13,7 +13,7 @@ pub returns-clause-settles : goal.returns-clause-settles
 returns-clause-settles g c =
     let s0 : Scene = g.D.World.scene c.args.desk.now in
     let s1 : Scene = g.D.World.scene c.sync.new.self in
-    settles_file g.D.World.tells.folder c.args.name.now Synced (c.args.name.now ∷ []) c.sync.result s0 s1 c.sync.ensures.frame c.sync.ensures.told c.sync.ensures.ok c.sync.ensures.err
+    settles_file g.D.World.tells.folder c.args.name.now Synced (c.args.name.now ∷ []) c.sync.result s0 s1 c.sync.ensures.kept.frame c.sync.ensures.told c.sync.ensures.ok c.sync.ensures.err
 
 pub returns-clause-ok : goal.returns-clause-ok
 returns-clause-ok g c =

@@ -6,8 +6,9 @@ use Rattle.vs_disk.specs.Images.{IsSynced, MayLeave, Takes}
 use Rattle.vs_disk.proofs.Runs.{one_call, call_on}
 use Rattle.vs_disk.proofs.Contents.{takes_renamed, takes_then}
 use Rattle.vs_backup.specs.Writing.{IsSettled}
-use Rattle.vs_backup.specs.Works.{Spares, two_names}
+use Rattle.vs_backup.specs.Works.{IsGone, Spares, two_names}
 use Rattle.vs_backup.proofs.Frames.{either, spares_same, spares_then, spares_renamed, spares_synced, takes_spared, takes_same, ok_leads, err_leads, err_is, settled_now, synced_renamed, absent_now, absent_before}
+use Rattle.vs_backup.proofs.Replacing.{gone_renamed}
 use Rattle.vs_backup.proofs.files.take_name.Goals as goal
 
 pub returns-in_err-rename-clause-spares : goal.returns-in_err-rename-clause-spares
@@ -15,13 +16,13 @@ returns-in_err-rename-clause-spares g c told =
     let on = two_names c.args.from.now c.args.to.now in
     let s0 : Scene = g.D.World.scene c.args.desk.now in
     let s1 : Scene = g.D.World.scene c.rename.new.self in
-    one_call (Spares on) Renamed (c.args.from.now ∷ c.args.to.now ∷ []) c.rename.result s0 s1 c.rename.ensures.frame (c.rename.ensures.told told) (spares_same on s0.folder s1.folder c.in_err-rename.ensures.err)
+    one_call (Spares on) Renamed (c.args.from.now ∷ c.args.to.now ∷ []) c.rename.result s0 s1 c.rename.ensures.kept.frame (c.rename.ensures.told told) (spares_same on s0.folder s1.folder c.in_err-rename.ensures.err)
 
 pub returns-in_err-rename-clause-takes : goal.returns-in_err-rename-clause-takes
 returns-in_err-rename-clause-takes g c told bytes synced =
     let s0 : Scene = g.D.World.scene c.args.desk.now in
     let s1 : Scene = g.D.World.scene c.rename.new.self in
-    one_call (Takes c.args.to.now bytes) Renamed (c.args.from.now ∷ c.args.to.now ∷ []) c.rename.result s0 s1 c.rename.ensures.frame (c.rename.ensures.told told)
+    one_call (Takes c.args.to.now bytes) Renamed (c.args.from.now ∷ c.args.to.now ∷ []) c.rename.result s0 s1 c.rename.ensures.kept.frame (c.rename.ensures.told told)
     (takes_same c.args.to.now bytes s0.folder s1.folder c.in_err-rename.ensures.err)
 
 pub returns-clause-spares : goal.returns-clause-spares
@@ -30,11 +31,11 @@ returns-clause-spares g c told =
     let s0 : Scene = g.D.World.scene c.args.desk.now in
     let s1 : Scene = g.D.World.scene c.rename.new.self in
     let s2 : Scene = g.D.World.scene c.sync_names.new.self in
-    let first = one_call (Spares on) Renamed (c.args.from.now ∷ c.args.to.now ∷ []) c.rename.result s0 s1 c.rename.ensures.frame (c.rename.ensures.told told) (spares_renamed c.args.from.now c.args.to.now s0.folder s1.folder (c.in_ok-rename.ensures.ok told)) in
+    let first = one_call (Spares on) Renamed (c.args.from.now ∷ c.args.to.now ∷ []) c.rename.result s0 s1 c.rename.ensures.kept.frame (c.rename.ensures.told told) (spares_renamed c.args.from.now c.args.to.now s0.folder s1.folder (c.in_ok-rename.ensures.ok told)) in
     let here : Spares on s1.folder s2.folder =
     either (IsTrue g.D.World.tells.folder → SyncsNames s1.folder s2.folder) (s2.folder ≡ s1.folder) (Spares on s1.folder s2.folder) c.sync_names.result
     c.sync_names.ensures.ok c.sync_names.ensures.err (λ syncs. spares_synced on s1.folder s2.folder (syncs told)) (λ same. spares_same on s1.folder s2.folder same) in
-    call_on (Spares on) (spares_then on) SyncedNames [] c.sync_names.result s0 s1 s2 c.rename.ensures.frame first c.sync_names.ensures.frame here (c.sync_names.ensures.told told)
+    call_on (Spares on) (spares_then on) SyncedNames [] c.sync_names.result s0 s1 s2 c.rename.ensures.kept.frame first c.sync_names.ensures.kept.frame here (c.sync_names.ensures.told told)
 
 pub returns-clause-takes : goal.returns-clause-takes
 returns-clause-takes g c told bytes synced =
@@ -42,12 +43,12 @@ returns-clause-takes g c told bytes synced =
     let s0 : Scene = g.D.World.scene c.args.desk.now in
     let s1 : Scene = g.D.World.scene c.rename.new.self in
     let s2 : Scene = g.D.World.scene c.sync_names.new.self in
-    let first = one_call (Takes to bytes) Renamed (c.args.from.now ∷ to ∷ []) c.rename.result s0 s1 c.rename.ensures.frame (c.rename.ensures.told told) (takes_renamed c.args.from.now to bytes s0.folder s1.folder synced (c.in_ok-rename.ensures.ok told)) in
+    let first = one_call (Takes to bytes) Renamed (c.args.from.now ∷ to ∷ []) c.rename.result s0 s1 c.rename.ensures.kept.frame (c.rename.ensures.told told) (takes_renamed c.args.from.now to bytes s0.folder s1.folder synced (c.in_ok-rename.ensures.ok told)) in
     let here : Takes to bytes s1.folder s2.folder =
     either (IsTrue g.D.World.tells.folder → SyncsNames s1.folder s2.folder) (s2.folder ≡ s1.folder) (Takes to bytes s1.folder s2.folder) c.sync_names.result
     c.sync_names.ensures.ok c.sync_names.ensures.err (λ syncs. takes_spared (λ n. ⊥) to bytes s1.folder s2.folder (λ x. x) (spares_synced (λ n. ⊥) s1.folder s2.folder (syncs told)))
     (λ same. takes_same to bytes s1.folder s2.folder same) in
-    call_on (Takes to bytes) (takes_then to bytes) SyncedNames [] c.sync_names.result s0 s1 s2 c.rename.ensures.frame first c.sync_names.ensures.frame here (c.sync_names.ensures.told told)
+    call_on (Takes to bytes) (takes_then to bytes) SyncedNames [] c.sync_names.result s0 s1 s2 c.rename.ensures.kept.frame first c.sync_names.ensures.kept.frame here (c.sync_names.ensures.told told)
 
 pub returns-in_err-rename-clause-err : goal.returns-in_err-rename-clause-err
 returns-in_err-rename-clause-err g c =
@@ -74,3 +75,11 @@ returns-clause-ok g c =
     ok_leads (IsTrue g.D.World.tells.folder → SyncsNames s1.folder s2.folder)
     (IsTrue g.D.World.tells.folder → (bytes : List ℕ) → IsSynced from bytes s0.folder → IsSettled to bytes s2.folder) c.sync_names.result
     (λ syncs told bytes synced. settled_now to bytes s1.folder s2.folder (synced_renamed from to bytes s0.folder s1.folder synced (c.in_ok-rename.ensures.ok told)) (syncs told)) c.sync_names.ensures.ok
+
+pub returns-clause-gone : goal.returns-clause-gone
+returns-clause-gone g c =
+    let s0 : Scene = g.D.World.scene c.args.desk.now in
+    let s1 : Scene = g.D.World.scene c.rename.new.self in
+    let s2 : Scene = g.D.World.scene c.sync_names.new.self in
+    ok_leads (IsTrue g.D.World.tells.folder → SyncsNames s1.folder s2.folder) (IsTrue g.D.World.tells.folder → IsGone c.args.from.now s2.folder) c.sync_names.result
+    (λ syncs told. gone_renamed c.args.from.now c.args.to.now s0.folder s1.folder s2.folder c.requires.differ (c.in_ok-rename.ensures.ok told) (syncs told)) c.sync_names.ensures.ok

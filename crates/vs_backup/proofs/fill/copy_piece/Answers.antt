@@ -12,22 +12,22 @@ pub returns-in_err-read_at-clause-runs : goal.returns-in_err-read_at-clause-runs
 returns-in_err-read_at-clause-runs g c told =
     let s0 : Scene = g.D.World.scene c.args.desk.now in
     let s1 : Scene = g.D.World.scene c.read_at.new.self in
-    looks_changes c.args.to.now s0 s1 (one_look Read (c.args.from.now ∷ []) c.read_at.result s0 s1 c.read_at.ensures.frame (c.read_at.ensures.told told))
+    looks_changes c.args.to.now s0 s1 (one_look Read (c.args.from.now ∷ []) c.read_at.result s0 s1 c.read_at.ensures.kept.frame (c.read_at.ensures.told told))
 
 pub returns-clause-runs : goal.returns-clause-runs
 returns-clause-runs g c told =
     let s0 : Scene = g.D.World.scene c.args.desk.now in
     let s1 : Scene = g.D.World.scene c.read_at.new.self in
     let s2 : Scene = g.D.World.scene c.put_piece.new.desk in
-    let looks = one_look Read (c.args.from.now ∷ []) c.read_at.result s0 s1 c.read_at.ensures.frame (c.read_at.ensures.told told) in
-    changes_on c.args.to.now s0 s1 s2 (reads_change s0 s1 c.read_at.ensures.frame) (looks_changes c.args.to.now s0 s1 looks) (fills_changes c.args.to.now s1 s2 (c.put_piece.ensures.runs told))
+    let looks = one_look Read (c.args.from.now ∷ []) c.read_at.result s0 s1 c.read_at.ensures.kept.frame (c.read_at.ensures.told told) in
+    changes_on c.args.to.now s0 s1 s2 (reads_change s0 s1 c.read_at.ensures.kept.frame) (looks_changes c.args.to.now s0 s1 looks) (fills_changes c.args.to.now s1 s2 (c.put_piece.ensures.runs told))
 
 pub returns-clause-ok : goal.returns-clause-ok
 returns-clause-ok g c =
     let s0 : Scene = g.D.World.scene c.args.desk.now in
     let s1 : Scene = g.D.World.scene c.read_at.new.self in
     let s2 : Scene = g.D.World.scene c.put_piece.new.desk in
-    let same : s1.folder ≡ s0.folder = ap (λ (s : Scene). s.folder) c.read_at.ensures.frame in
+    let same : s1.folder ≡ s0.folder = ap (λ (s : Scene). s.folder) c.read_at.ensures.kept.frame in
     ok_leads (IsTrue g.D.World.tells.folder → (bytes : List ℕ) → content_of s1 c.args.to.now ≡ Some bytes → content_of s2 c.args.to.now ≡ Some (bytes ++ c.read_at.new.into))
     (IsTrue g.D.World.tells.folder → (bytes : List ℕ) → content_of s0 c.args.from.now ≡ Some bytes → content_of s2 c.args.to.now ≡ Some (take (c.args.at + length c.args.buffer.now) bytes))
     c.put_piece.result
@@ -43,7 +43,7 @@ pub put_piece-requires-clause-there : goal.put_piece-requires-clause-there
 put_piece-requires-clause-there g c told =
     let s0 : Scene = g.D.World.scene c.args.desk.now in
     let s1 : Scene = g.D.World.scene c.read_at.new.self in
-    let same : s1.folder ≡ s0.folder = ap (λ (s : Scene). s.folder) c.read_at.ensures.frame in
+    let same : s1.folder ≡ s0.folder = ap (λ (s : Scene). s.folder) c.read_at.ensures.kept.frame in
     let had = c.requires.there told in
     let so_far : content_of s1 c.args.to.now ≡ Some (take c.args.at had.0) = ap (λ (d : Disk). content_in d c.args.to.now) same ∙ had.3 in
     size_is s1.folder c.args.to.now c.args.at (take c.args.at had.0) so_far (omega (arith, length-take c.args.at had.0, had.2))

@@ -6,29 +6,29 @@ use Rattle.vs_host.specs.Trace.{Measured}
 use Rattle.vs_host.specs.World.{Scene, content_of}
 use Rattle.std.proofs.lemmas.List.{take_all}
 use Rattle.vs_disk.specs.Images.{IsSynced, Changes}
-use Rattle.vs_disk.proofs.Runs.{one_look, frames, reads_change}
+use Rattle.vs_disk.proofs.Runs.{one_look}
 use Rattle.vs_disk.proofs.Contents.{synced_content, of_bytes, some_bytes, some_content}
 use Rattle.vs_backup.specs.Works.{IsAlone, one_name}
 use Rattle.vs_backup.proofs.Frames.{ok_leads, spares_file, alone_file, content_spared}
 use Rattle.vs_backup.proofs.Filling.{changes_on, looks_changes, sync_changes}
+use Rattle.vs_backup.proofs.Going.{GoesOn-reads, GoesOn-then}
 use Rattle.vs_backup.proofs.fill.fill_copy.Goals as goal
 
 pub returns-in_err-size-clause-runs : goal.returns-in_err-size-clause-runs
 returns-in_err-size-clause-runs g c told =
     let s0 : Scene = g.D.World.scene c.args.desk.now in
     let s1 : Scene = g.D.World.scene c.len.new.self in
-    looks_changes c.args.to.now s0 s1 (one_look Measured (c.args.from.now ∷ []) c.len.result s0 s1 c.len.ensures.frame (c.len.ensures.told told))
+    looks_changes c.args.to.now s0 s1 (one_look Measured (c.args.from.now ∷ []) c.len.result s0 s1 c.len.ensures.kept.frame (c.len.ensures.told told))
 
 pub pieces-init : goal.pieces-init
 pieces-init g c =
     let s0 : Scene = g.D.World.scene c.args.desk.now in
     let s1 : Scene = g.D.World.scene c.len.new.self in
-    let same : s1.folder ≡ s0.folder = ap (λ (s : Scene). s.folder) c.len.ensures.frame in
+    let same : s1.folder ≡ s0.folder = ap (λ (s : Scene). s.folder) c.len.ensures.kept.frame in
     record {
-      valid = c.len.ensures.valid;
-      stays = c.len.ensures.stays;
+      kept = GoesOn-reads c.len.ensures.kept;
       within = omega arith;
-      runs = λ told. looks_changes c.args.to.now s0 s1 (one_look Measured (c.args.from.now ∷ []) c.len.result s0 s1 c.len.ensures.frame (c.len.ensures.told told));
+      runs = λ told. looks_changes c.args.to.now s0 s1 (one_look Measured (c.args.from.now ∷ []) c.len.result s0 s1 c.len.ensures.kept.frame (c.len.ensures.told told));
       alone = λ told. subst (λ (d : Disk). IsAlone c.args.to.now d) (sym same) (c.requires.alone told);
       from = λ told. ap (λ (d : Disk). content_in d c.args.from.now) same;
       copied = λ told.
@@ -38,8 +38,6 @@ pieces-init g c =
             of_bytes s0.folder c.args.from.now has.0 (λ b. c.in_ok-size.size ≡ length b) has.1 (c.in_ok-size.ensures.value told),
             ap (λ (d : Disk). content_in d c.args.to.now) same ∙ c.requires.empty told,
           );
-      later = c.len.ensures.cause.later;
-      frame = reads_change s0 s1 c.len.ensures.frame;
     }
 
 pub returns-in_err-copy_piece-clause-runs : goal.returns-in_err-copy_piece-clause-runs
@@ -47,7 +45,7 @@ returns-in_err-copy_piece-clause-runs g c told =
     let s0 : Scene = g.D.World.scene c.args.desk.now in
     let s1 : Scene = g.D.World.scene c.pieces.desk in
     let s2 : Scene = g.D.World.scene c.copy_piece.new.desk in
-    changes_on c.args.to.now s0 s1 s2 c.pieces.invariant.frame (c.pieces.invariant.runs told) (c.copy_piece.ensures.runs told)
+    changes_on c.args.to.now s0 s1 s2 c.pieces.invariant.kept.frame (c.pieces.invariant.runs told) (c.copy_piece.ensures.runs told)
 
 pub pieces-preserved : goal.pieces-preserved
 pieces-preserved g c =
@@ -55,10 +53,9 @@ pieces-preserved g c =
     let s1 : Scene = g.D.World.scene c.pieces.desk in
     let s2 : Scene = g.D.World.scene c.copy_piece.new.desk in
     record {
-      valid = c.copy_piece.ensures.valid;
-      stays = g.met.D.Desk.stays_on c.args.desk.now c.pieces.desk c.copy_piece.new.desk c.pieces.invariant.stays c.copy_piece.ensures.stays;
+      kept = GoesOn-then g.met.D.Desk.stays_on c.pieces.invariant.kept c.copy_piece.ensures.kept;
       within = omega (arith, c.min-count.ensures);
-      runs = λ told. changes_on c.args.to.now s0 s1 s2 c.pieces.invariant.frame (c.pieces.invariant.runs told) (c.copy_piece.ensures.runs told);
+      runs = λ told. changes_on c.args.to.now s0 s1 s2 c.pieces.invariant.kept.frame (c.pieces.invariant.runs told) (c.copy_piece.ensures.runs told);
       alone = λ told. alone_file c.args.to.now Changes s1.folder s2.folder (c.copy_piece.ensures.runs told).now (c.pieces.invariant.alone told);
       from = λ told. content_spared (one_name c.args.to.now) c.args.from.now s1.folder s2.folder c.requires.differ
           (spares_file c.args.to.now Changes s1.folder s2.folder (c.pieces.invariant.alone told) (c.copy_piece.ensures.runs told).now)
@@ -68,8 +65,6 @@ pieces-preserved g c =
           let more = c.in_ok-copy_piece.ensures.ok told had.0 (c.pieces.invariant.from told ∙ had.1) in
           let long : length (take c.min-count.result c.pieces.buffer) ≡ c.min-count.result = grind (arith, common_steps) in
           (had.0, had.1, had.2, more ∙ ap (λ (k : ℕ). Some (take (c.pieces.at + k) had.0)) long);
-      later = omega (arith, c.pieces.invariant.later, c.copy_piece.ensures.cause.later);
-      frame = frames s0 s1 s2 c.pieces.invariant.frame c.copy_piece.ensures.frame;
     }
 
 pub returns-clause-runs : goal.returns-clause-runs
@@ -77,7 +72,7 @@ returns-clause-runs g c told =
     let s0 : Scene = g.D.World.scene c.args.desk.now in
     let s1 : Scene = g.D.World.scene c.pieces.desk in
     let s2 : Scene = g.D.World.scene c.sync_like.new.desk in
-    sync_changes c.args.to.now (IsTrue g.D.World.tells.folder) c.sync_like.result s0 s1 s2 told c.pieces.invariant.frame (c.pieces.invariant.runs told) c.sync_like.ensures.ok c.sync_like.ensures.err c.sync_like.ensures.frame (c.sync_like.ensures.told told)
+    sync_changes c.args.to.now (IsTrue g.D.World.tells.folder) c.sync_like.result s0 s1 s2 told c.pieces.invariant.kept.frame (c.pieces.invariant.runs told) c.sync_like.ensures.ok c.sync_like.ensures.err c.sync_like.ensures.kept.frame (c.sync_like.ensures.told told)
 
 pub returns-clause-ok : goal.returns-clause-ok
 returns-clause-ok g c =

@@ -1,7 +1,7 @@
 use Rattle.std.proofs.Common.{◌≡◌, ◌∙◌, ◌+◌, ◌++◌, [], length, ap, arith, append_assoc, length-append}
 use Rattle.vs_host.specs.World.{Scene}
-use Rattle.vs_disk.proofs.Runs.{frames}
 use Rattle.vs_backup.proofs.Filling.{fills_on}
+use Rattle.vs_backup.proofs.Going.{GoesOn-then}
 use Rattle.vs_backup.proofs.fill.put_bytes.Goals as goal
 
 pub returns-in_err-now-clause-runs : goal.returns-in_err-now-clause-runs
@@ -9,7 +9,7 @@ returns-in_err-now-clause-runs g c told =
     let s0 : Scene = g.D.World.scene c.args.desk.now in
     let s1 : Scene = g.D.World.scene c.pieces.desk in
     let s2 : Scene = g.D.World.scene c.flush.new.desk in
-    fills_on c.args.name.now s0 s1 s2 c.pieces.invariant.frame (c.pieces.invariant.runs told) (c.flush.ensures.runs told)
+    fills_on c.args.name.now s0 s1 s2 c.pieces.invariant.kept.frame (c.pieces.invariant.runs told) (c.flush.ensures.runs told)
 
 pub pieces-preserved : goal.pieces-preserved
 pieces-preserved g c =
@@ -23,11 +23,10 @@ pieces-preserved g c =
     let empty : length c.flush.new.piece.items ≡ 0 = ap length none in
     let long : length c.extend_from_slice.new.self.items ≡ length c.pieces.piece.items + length first = ap length held ∙ length-append c.pieces.piece.items first in
     record {
-      valid = c.flush.ensures.valid;
-      stays = g.met.D.Desk.stays_on c.args.desk.now c.pieces.desk c.flush.new.desk c.pieces.invariant.stays c.flush.ensures.stays;
+      kept = GoesOn-then g.met.D.Desk.stays_on c.pieces.invariant.kept c.flush.ensures.kept;
       few = omega arith;
       size = omega (arith, c.pieces.invariant.size, c.in_ok-now.ensures.size, c.split_at.ensures.front_len, c.split_at.ensures.back_len);
-      runs = λ told. fills_on c.args.name.now s0 s1 s2 c.pieces.invariant.frame (c.pieces.invariant.runs told) (c.flush.ensures.runs told);
+      runs = λ told. fills_on c.args.name.now s0 s1 s2 c.pieces.invariant.kept.frame (c.pieces.invariant.runs told) (c.flush.ensures.runs told);
       there = λ told.
           let had = c.pieces.invariant.there told in
           let piece = c.extend_from_slice.new.self.items in
@@ -40,6 +39,4 @@ pieces-preserved g c =
             omega (arith, c.in_ok-now.ensures.size, had.4, length-append had.1 piece),
             parts ∙ had.5,
           );
-      later = omega (arith, c.pieces.invariant.later, c.flush.ensures.cause.later);
-      frame = frames s0 s1 s2 c.pieces.invariant.frame c.flush.ensures.frame;
     }

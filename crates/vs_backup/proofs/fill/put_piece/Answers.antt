@@ -14,7 +14,7 @@ pub returns-clause-runs : goal.returns-clause-runs
 returns-clause-runs g c told =
     let s0 : Scene = g.D.World.scene c.args.desk.now in
     let s1 : Scene = g.D.World.scene c.write_at.new.self in
-    one_call (Fills c.args.name.now) Wrote (c.args.name.now ∷ []) c.write_at.result s0 s1 c.write_at.ensures.frame (c.write_at.ensures.told told)
+    one_call (Fills c.args.name.now) Wrote (c.args.name.now ∷ []) c.write_at.result s0 s1 c.write_at.ensures.kept.frame (c.write_at.ensures.told told)
     (fills_write c.args.name.now c.args.at (length c.args.piece.now) s0.folder s1.folder (c.write_at.ensures.some told))
 
 pub returns-clause-ok : goal.returns-clause-ok

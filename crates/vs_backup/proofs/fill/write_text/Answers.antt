@@ -2,10 +2,10 @@ use Rattle.std.proofs.Common.{◌≡◌, ◌∙◌, ◌+◌, ◌*◌, ◌≤◌,
 use Rattle.vs_text.specs.Text.{file_of}
 use Rattle.vs_text.specs.declared.TheConstants.{MAX_LINE_BYTES}
 use Rattle.vs_edit.specs.Splices.{cut_out}
-use Rattle.vs_host.specs.World.{Scene, ChangesFolder, content_of}
-use Rattle.vs_disk.proofs.Runs.{frames, reads_change}
+use Rattle.vs_host.specs.World.{Scene, content_of}
 use Rattle.vs_backup.specs.Works.{Fills}
 use Rattle.vs_backup.proofs.Filling.{fills_on, then_looks, few_held, file_more}
+use Rattle.vs_backup.proofs.Going.{GoesOn-reads, GoesOn-then}
 use Rattle.vs_backup.proofs.fill.write_text.Goals as goal
 
 pub returns-in_err-text_lines-clause-runs : goal.returns-in_err-text_lines-clause-runs
@@ -13,7 +13,7 @@ returns-in_err-text_lines-clause-runs g c told =
     let s0 : Scene = g.D.World.scene c.args.desk.now in
     let s1 : Scene = g.D.World.scene c.runs.desk in
     let s2 : Scene = g.D.World.scene c.text_lines.new.self in
-    then_looks (Fills c.args.name.now) s0 s1 s2 c.runs.invariant.frame (c.runs.invariant.runs told) (c.text_lines.ensures.looks told)
+    then_looks (Fills c.args.name.now) s0 s1 s2 c.runs.invariant.kept.frame (c.runs.invariant.runs told) (c.text_lines.ensures.looks told)
 
 pub put_bytes-requires-clause-small : goal.put_bytes-requires-clause-small
 put_bytes-requires-clause-small g c =
@@ -26,8 +26,9 @@ returns-in_err-size-clause-runs g c told =
     let s1 : Scene = g.D.World.scene c.runs.desk in
     let s2 : Scene = g.D.World.scene c.text_lines.new.self in
     let s3 : Scene = g.D.World.scene c.put_bytes.new.desk in
-    fills_on c.args.name.now s0 s2 s3 (frames s0 s1 s2 c.runs.invariant.frame (reads_change s1 s2 c.text_lines.ensures.frame))
-    (then_looks (Fills c.args.name.now) s0 s1 s2 c.runs.invariant.frame (c.runs.invariant.runs told) (c.text_lines.ensures.looks told)) (c.put_bytes.ensures.runs told)
+    let looked = GoesOn-then g.met.D.Desk.stays_on c.runs.invariant.kept (GoesOn-reads c.text_lines.ensures.kept) in
+    fills_on c.args.name.now s0 s2 s3 looked.frame
+    (then_looks (Fills c.args.name.now) s0 s1 s2 c.runs.invariant.kept.frame (c.runs.invariant.runs told) (c.text_lines.ensures.looks told)) (c.put_bytes.ensures.runs told)
 
 pub runs-preserved : goal.runs-preserved
 runs-preserved g c =
@@ -39,33 +40,29 @@ runs-preserved g c =
     let lines = c.text_lines.new.into.items in
     let bytes = c.deref.result.now in
     let few : length lines ≤ count * (MAX_LINE_BYTES + 1) = few_held count lines c.in_ok-text_lines.ensures.are_lines in
-    let looked : ChangesFolder s0 s2 = frames s0 s1 s2 c.runs.invariant.frame (reads_change s1 s2 c.text_lines.ensures.frame) in
+    let looked = GoesOn-then g.met.D.Desk.stays_on c.runs.invariant.kept (GoesOn-reads c.text_lines.ensures.kept) in
     record {
-      valid = c.put_bytes.ensures.valid;
-      stays = g.met.D.Desk.stays_on c.args.desk.now c.text_lines.new.self c.put_bytes.new.desk
-          (g.met.D.Desk.stays_on c.args.desk.now c.runs.desk c.text_lines.new.self c.runs.invariant.stays c.text_lines.ensures.stays) c.put_bytes.ensures.stays;
+      kept = GoesOn-then g.met.D.Desk.stays_on looked c.put_bytes.ensures.kept;
       few = c.in_ok-size.ensures.few;
       within = omega arith;
       bound = omega (arith, few, c.runs.invariant.bound, c.in_ok-size.ensures.size);
-      runs = λ told. fills_on c.args.name.now s0 s2 s3 looked
-          (then_looks (Fills c.args.name.now) s0 s1 s2 c.runs.invariant.frame (c.runs.invariant.runs told) (c.text_lines.ensures.looks told)) (c.put_bytes.ensures.runs told);
+      runs = λ told. fills_on c.args.name.now s0 s2 s3 looked.frame
+          (then_looks (Fills c.args.name.now) s0 s1 s2 c.runs.invariant.kept.frame (c.runs.invariant.runs told) (c.text_lines.ensures.looks told)) (c.put_bytes.ensures.runs told);
       there = λ told.
           let had = c.runs.invariant.there told in
-          let before : content_of s2 c.args.name.now ≡ Some had.0 = ap (λ (s : Scene). content_of s c.args.name.now) c.text_lines.ensures.frame ∙ had.1 in
+          let before : content_of s2 c.args.name.now ≡ Some had.0 = ap (λ (s : Scene). content_of s c.args.name.now) c.text_lines.ensures.kept.frame ∙ had.1 in
           let now = c.in_ok-size.ensures.ok told had.0 before in (
             now.0,
             now.1,
             now.2,
             λ text has.
-                let kept = g.met.D.Desk.stays_text c.args.desk.now c.runs.desk text c.runs.invariant.stays has in
+                let kept = g.met.D.Desk.stays_text c.args.desk.now c.runs.desk text c.runs.invariant.kept.stays has in
                 let these : lines ≡ file_of (cut_out text c.runs.at count) = c.in_ok-text_lines.ensures.lines text kept in
                 now.3
                 ∙ ap (λ (b : List ℕ). b ++ bytes) (had.3 text has)
                 ∙ ap (λ (b : List ℕ). file_of (take c.runs.at text) ++ b) (c.deref.ensures.value ∙ these)
                 ∙ sym (file_more text c.runs.at count),
           );
-      later = omega (arith, c.runs.invariant.later, c.text_lines.ensures.cause.later, c.put_bytes.ensures.cause.later);
-      frame = frames s0 s2 s3 looked c.put_bytes.ensures.frame;
     }
 
 pub returns-in_err-size-2-clause-runs : goal.returns-in_err-size-2-clause-runs
@@ -73,11 +70,11 @@ returns-in_err-size-2-clause-runs g c told =
     let s0 : Scene = g.D.World.scene c.args.desk.now in
     let s1 : Scene = g.D.World.scene c.runs.desk in
     let s2 : Scene = g.D.World.scene c.flush.new.desk in
-    fills_on c.args.name.now s0 s1 s2 c.runs.invariant.frame (c.runs.invariant.runs told) (c.flush.ensures.runs told)
+    fills_on c.args.name.now s0 s1 s2 c.runs.invariant.kept.frame (c.runs.invariant.runs told) (c.flush.ensures.runs told)
 
 pub returns-clause-runs : goal.returns-clause-runs
 returns-clause-runs g c told =
     let s0 : Scene = g.D.World.scene c.args.desk.now in
     let s1 : Scene = g.D.World.scene c.runs.desk in
     let s2 : Scene = g.D.World.scene c.flush.new.desk in
-    fills_on c.args.name.now s0 s1 s2 c.runs.invariant.frame (c.runs.invariant.runs told) (c.flush.ensures.runs told)
+    fills_on c.args.name.now s0 s1 s2 c.runs.invariant.kept.frame (c.runs.invariant.runs told) (c.flush.ensures.runs told)

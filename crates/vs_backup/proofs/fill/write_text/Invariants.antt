@@ -2,23 +2,21 @@ use Rattle.std.proofs.Common.{◌≡◌, ◌+◌, ◌*◌, ◌-◌, ◌≤◌, �
 use Rattle.vs_text.specs.Text.{file_of}
 use Rattle.vs_text.specs.declared.TheConstants.{MAX_LINE_BYTES}
 use Rattle.vs_backup.specs.declared.fill.TheConstants.{PIECE}
-use Rattle.vs_host.specs.World.{ChangesFolder, content_of}
+use Rattle.vs_host.specs.World.{content_of}
 use Rattle.vs_disk.specs.Runs.{Runs}
+use Rattle.vs_backup.specs.Desks.{GoesOn}
 use Rattle.vs_backup.specs.Works.{Fills}
 use Rattle.vs_backup.proofs.fill.write_text.Given as goal
 
 abbrev pub invariant-runs : goal.invariant-runs
 invariant-runs g l = record {
-  valid : g.D.Desk.valid l.desk;
-  stays : g.D.Desk.stays l.fn.desk l.desk;
+  kept : GoesOn g.D.World.scene g.D.Desk.valid g.D.Desk.stays ⊥ l.fn.desk l.desk;
   few : length l.piece.items ≤ PIECE;
   within : l.at ≤ l.end;
   bound : l.size + length l.piece.items ≤ l.at * (MAX_LINE_BYTES + 1);
   runs : IsTrue g.D.World.tells.folder → Runs (Fills l.name) (g.D.World.scene l.fn.desk) (g.D.World.scene l.desk);
   there : IsTrue g.D.World.tells.folder → (bytes : List ℕ) × (content_of (g.D.World.scene l.desk) l.name ≡ Some bytes) × (l.size ≡ length bytes)
       × ((text : List (List ℕ)) → g.D.Desk.has_text l.fn.desk text → bytes ++ l.piece.items ≡ file_of (take l.at text));
-  later : (g.D.World.scene l.fn.desk).folder_faults ≤ (g.D.World.scene l.desk).folder_faults;
-  frame : ChangesFolder (g.D.World.scene l.fn.desk) (g.D.World.scene l.desk);
 }
 
 abbrev pub decreases-runs : goal.decreases-runs

@@ -20,7 +20,7 @@ returns-in_err-size-clause-fresh g c told free text has =
     let s0 : Scene = g.D.World.scene c.args.desk.now in
     let s1 : Scene = g.D.World.scene c.make_anew.new.desk in
     let s2 : Scene = g.D.World.scene c.fill_text.new.desk in
-    let filled = spares_on tmp s0 s1 s2 c.make_anew.ensures.frame (c.make_anew.ensures.spares told) (runs_file c.args.temporary.now s1 s2 (c.in_ok-make_anew.ensures.alone told) (c.fill_text.ensures.runs told)) in
+    let filled = spares_on tmp s0 s1 s2 c.make_anew.ensures.kept.frame (c.make_anew.ensures.spares told) (runs_file c.args.temporary.now s1 s2 (c.in_ok-make_anew.ensures.alone told) (c.fill_text.ensures.runs told)) in
     let p = err_from_is_err_and c.from_residual-in_err-size.result c.from_residual-in_err-size.ensures.1 in
     fresh_not_taken c.args.name.now c.args.temporary.now (file_of text) s0 s2 c.requires.differ free filled c.from_residual-in_err-size.result (rw p.1 tt)
 
@@ -31,11 +31,11 @@ returns-in_err-take_name-clause-fresh g c told free text has =
     let s1 : Scene = g.D.World.scene c.make_anew.new.desk in
     let s2 : Scene = g.D.World.scene c.fill_text.new.desk in
     let s3 : Scene = g.D.World.scene c.take_name.new.desk in
-    let filled = spares_on tmp s0 s1 s2 c.make_anew.ensures.frame (c.make_anew.ensures.spares told) (runs_file c.args.temporary.now s1 s2 (c.in_ok-make_anew.ensures.alone told) (c.fill_text.ensures.runs told)) in
-    let kept = g.met.D.Desk.stays_text c.args.desk.now c.make_anew.new.desk text c.make_anew.ensures.stays has in
+    let filled = spares_on tmp s0 s1 s2 c.make_anew.ensures.kept.frame (c.make_anew.ensures.spares told) (runs_file c.args.temporary.now s1 s2 (c.in_ok-make_anew.ensures.alone told) (c.fill_text.ensures.runs told)) in
+    let kept = g.met.D.Desk.stays_text c.args.desk.now c.make_anew.new.desk text c.make_anew.ensures.kept.stays has in
     let done = c.in_ok-size.ensures.ok told text kept in
     let p = err_from_is_err_and c.from_residual-in_err-take_name.result c.from_residual-in_err-take_name.ensures.1 in
-    fresh_refused c.args.name.now c.args.temporary.now (file_of text) s0 s2 c.requires.differ free filled s3 (frames s0 s1 s2 c.make_anew.ensures.frame c.fill_text.ensures.frame)
+    fresh_refused c.args.name.now c.args.temporary.now (file_of text) s0 s2 c.requires.differ free filled s3 (frames s0 s1 s2 c.make_anew.ensures.kept.frame c.fill_text.ensures.kept.frame)
     (c.take_name.ensures.takes told (file_of text) done.1) (c.take_name.ensures.spares told) c.from_residual-in_err-take_name.result (rw p.1 tt)
     (c.in_err-take_name.ensures.err told (fresh_free c.args.name.now c.args.temporary.now (file_of text) s0 s2 c.requires.differ free filled))
 
@@ -46,13 +46,13 @@ returns-clause-fresh g c told free text has =
     let s1 : Scene = g.D.World.scene c.make_anew.new.desk in
     let s2 : Scene = g.D.World.scene c.fill_text.new.desk in
     let s3 : Scene = g.D.World.scene c.take_name.new.desk in
-    let filled = spares_on tmp s0 s1 s2 c.make_anew.ensures.frame (c.make_anew.ensures.spares told) (runs_file c.args.temporary.now s1 s2 (c.in_ok-make_anew.ensures.alone told) (c.fill_text.ensures.runs told)) in
-    let kept = g.met.D.Desk.stays_text c.args.desk.now c.make_anew.new.desk text c.make_anew.ensures.stays has in
+    let filled = spares_on tmp s0 s1 s2 c.make_anew.ensures.kept.frame (c.make_anew.ensures.spares told) (runs_file c.args.temporary.now s1 s2 (c.in_ok-make_anew.ensures.alone told) (c.fill_text.ensures.runs told)) in
+    let kept = g.met.D.Desk.stays_text c.args.desk.now c.make_anew.new.desk text c.make_anew.ensures.kept.stays has in
     let done = c.in_ok-size.ensures.ok told text kept in
-    fresh_done c.args.name.now c.args.temporary.now (file_of text) s0 s2 c.requires.differ free filled s3 (frames s0 s1 s2 c.make_anew.ensures.frame c.fill_text.ensures.frame)
-    (c.take_name.ensures.takes told (file_of text) done.1) (c.take_name.ensures.spares told) c.in_ok-size.size done.0 (c.in_ok-take_name.ensures.ok told (file_of text) done.1)
+    fresh_done c.args.name.now c.args.temporary.now (file_of text) s0 s2 c.requires.differ free filled s3 (frames s0 s1 s2 c.make_anew.ensures.kept.frame c.fill_text.ensures.kept.frame)
+    (c.take_name.ensures.takes told (file_of text) done.1) (c.take_name.ensures.spares told) c.in_ok-size.size done.0 (c.in_ok-take_name.ensures.ok told (file_of text) done.1) (c.in_ok-take_name.ensures.gone told)
 
 pub take_name-requires-clause-there : goal.take_name-requires-clause-there
 take_name-requires-clause-there g c told =
-    let text = g.met.D.Desk.tells_one c.make_anew.new.desk c.make_anew.ensures.valid told in
+    let text = g.met.D.Desk.tells_one c.make_anew.new.desk c.make_anew.ensures.kept.valid told in
     synced_there c.args.temporary.now (file_of text.0) (g.D.World.scene c.fill_text.new.desk).folder (c.in_ok-size.ensures.ok told text.0 text.1).1

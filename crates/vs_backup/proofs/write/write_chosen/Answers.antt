@@ -1,4 +1,4 @@
-use Rattle.std.proofs.Common.{◌≡◌, ◌∙◌, Some, Err, sym, ap, subst}
+use Rattle.std.proofs.Common.{◌≡◌, ◌∙◌, Some, None, Err, sym, ap, subst}
 use Rattle.std.specs.String.{string_bytes}
 use Rattle.vs_text.specs.Text.{file_of}
 use Rattle.vs_host.specs.Disk.{Disk, Name, content_in}
@@ -9,6 +9,7 @@ use Rattle.vs_backup.specs.Backups.{copies}
 use Rattle.vs_backup.specs.Writing.{WritesBacked, backed_names}
 use Rattle.vs_backup.specs.declared.errors.WriteErr.{WriteErr}
 use Rattle.vs_backup.proofs.Others.{others_looks}
+use Rattle.vs_backup.proofs.Free.{backup_is_free}
 use Rattle.vs_backup.proofs.Backed.{backed_after, backed_stopped, looks_narrowed}
 use Rattle.vs_backup.proofs.write.write_chosen.Goals as goal
 
@@ -27,12 +28,12 @@ returns-in-Ok-Some-clause-backed g c told old content backup chosen text has =
     let found = rw c.in-Ok-Some.field-0-is at (c.in-Ok-Some.ensures.found told) in
     let bytes : c.deref.result.now ≡ backup = c.deref.ensures ∙ some_name (string_bytes c.in-Ok-Some.backup) backup (sym found ∙ chosen) in
     let there : content_of s1 name ≡ Some old = ap (λ (d : Disk). content_in d name) looks.now ∙ content in
-    let kept = g.met.D.Desk.stays_text c.args.desk.now c.choose.new.desk text c.choose.ensures.stays has in
+    let kept = g.met.D.Desk.stays_text c.args.desk.now c.choose.new.desk text c.choose.ensures.kept.stays has in
     let written = subst (λ (b : Name). WritesBacked mode keep name (temporary b) b old (file_of text) s1 s2 c.write_named.result) bytes
     (c.write_named.ensures.backed told old there text kept) in
     backed_after mode keep name (temporary backup) backup old (file_of text) s0 s1 content (looks_narrowed s0 s1 looks)
     (others_looks (backed_names mode name (temporary backup) backup) s0 s1 looks) c.write_named.result s2
-    (reads_change s0 s1 c.choose.ensures.frame) c.choose.ensures.cause.later written
+    (reads_change s0 s1 c.choose.ensures.kept.frame) c.choose.ensures.kept.cause.later written
 
 pub returns-in-Err-clause-backed : goal.returns-in-Err-clause-backed
 returns-in-Err-clause-backed g c told old content backup chosen text has =
@@ -43,3 +44,11 @@ returns-in-Err-clause-backed g c told old content backup chosen text has =
     let s1 : Scene = g.D.World.scene c.choose.new.desk in
     subst (λ (why : WriteErr). WritesBacked mode keep name (temporary backup) backup old (file_of text) s0 s1 (Err why)) (sym c.with.ensures)
     (backed_stopped mode keep name (temporary backup) backup old (file_of text) s0 s1 content (c.choose.ensures.looks told) c.in-Err.stop)
+
+pub write_named-requires-clause-free : goal.write_named-requires-clause-free
+write_named-requires-clause-free g c off told =
+    let s0 : Scene = g.D.World.scene c.args.desk.now in
+    let looks = c.choose.ensures.looks told in
+    let found = rw c.in-Ok-Some.field-0-is at (c.in-Ok-Some.ensures.found told) in
+    let free = backup_is_free c.args.options.now c.args.name.now (string_bytes c.in-Ok-Some.backup) s0.folder c.requires.backs_up off found in
+    subst (λ (n : Name). content_in (g.D.World.scene c.choose.new.desk).folder n ≡ None) (sym c.deref.ensures) (ap (λ (d : Disk). content_in d (string_bytes c.in-Ok-Some.backup)) looks.now ∙ free)

@@ -1,9 +1,10 @@
 use Rattle.std.proofs.Common.{◌≡◌, ◌∙◌, Some, None, sym}
+use Rattle.std.proofs.lemmas.Bool.{true≢false}
 use Rattle.vs_text.specs.Text.{file_of}
 use Rattle.vs_host.specs.World.{Scene}
 use Rattle.vs_disk.proofs.Contents.{some_content}
 use Rattle.vs_backup.proofs.NamesApart.{no_backup}
-use Rattle.vs_backup.proofs.Whole.{chosen_others, plain_others}
+use Rattle.vs_backup.proofs.Whole.{chosen_others, chosen_somewhere, plain_others}
 use Rattle.vs_backup.proofs.write.write_there.Goals as goal
 
 pub returns-clause-backed : goal.returns-clause-backed
@@ -34,3 +35,15 @@ returns-clause-others g c told =
     let had = some_content s0.folder c.args.name.now (c.requires.there told) in
     let text = g.met.D.Desk.tells_one c.args.desk.now c.requires.valid told in
     plain_others c.args.options.now c.args.name.now s0 s1 had.0 (file_of text.0) c.write_unbacked.result (c.write_unbacked.ensures.plain told had.0 had.1 text.0 text.1)
+
+pub returns-then-backs_up-clause-somewhere : goal.returns-then-backs_up-clause-somewhere
+returns-then-backs_up-clause-somewhere g c told on refused =
+    let s0 : Scene = g.D.World.scene c.args.desk.now in
+    let s1 : Scene = g.D.World.scene c.write_chosen.new.desk in
+    let had = some_content s0.folder c.args.name.now (c.requires.there told) in
+    let text = g.met.D.Desk.tells_one c.args.desk.now c.requires.valid told in
+    chosen_somewhere c.args.options.now c.args.name.now s0 s1 had.0 (file_of text.0) c.write_chosen.result
+    (λ backup chosen. c.write_chosen.ensures.backed told had.0 had.1 backup chosen text.0 text.1) (λ none. c.write_chosen.ensures.all_taken told none) refused
+
+pub returns-clause-somewhere : goal.returns-clause-somewhere
+returns-clause-somewhere g c told on refused = true≢false (sym on ∙ sym c.backs_up.ensures ∙ c.if-backs_up.false)

@@ -1,8 +1,10 @@
 use Rattle.std.proofs.Common.{[], ◌∷◌, refl}
 use Rattle.vs_host.specs.Trace.{Read}
 use Rattle.vs_desk.specs.PageLaws.{same_none}
-use Rattle.vs_desk.proofs.Above.{above_call}
+use Rattle.vs_desk.proofs.Above.{reads}
 use Rattle.vs_desk.proofs.desk.PagedDeskDesk.read_at.Goals as goal
 
-pub returns-clause-stays : goal.returns-clause-stays
-returns-clause-stays g c = (refl, refl, refl, same_none _ _ _, λ told. above_call Read (c.args.name.now ∷ []) c.read_at.result _ _ c.read_at.ensures.cause.later (c.read_at.ensures.told told))
+pub returns-clause-kept : goal.returns-clause-kept
+returns-clause-kept g c =
+    let on = c.read_at.ensures in
+    reads Read (c.args.name.now ∷ []) c.read_at.result c.requires.valid (λ above. (refl, refl, refl, same_none _ _ _, above)) on.cause on.told on.frame

@@ -1,8 +1,10 @@
 use Rattle.std.proofs.Common.{[], ◌∷◌, refl}
 use Rattle.vs_host.specs.Trace.{Renamed}
 use Rattle.vs_desk.specs.PageLaws.{same_none}
-use Rattle.vs_desk.proofs.Above.{above_call}
+use Rattle.vs_desk.proofs.Above.{changes}
 use Rattle.vs_desk.proofs.desk.PagedDeskDesk.rename.Goals as goal
 
-pub returns-clause-stays : goal.returns-clause-stays
-returns-clause-stays g c = (refl, refl, refl, same_none _ _ _, λ told. above_call Renamed (c.args.from.now ∷ c.args.to.now ∷ []) c.rename.result _ _ c.rename.ensures.cause.later (c.rename.ensures.told told))
+pub returns-clause-kept : goal.returns-clause-kept
+returns-clause-kept g c =
+    let on = c.rename.ensures in
+    changes Renamed (c.args.from.now ∷ c.args.to.now ∷ []) c.rename.result c.requires.valid (λ above. (refl, refl, refl, same_none _ _ _, above)) on.cause on.told on.frame

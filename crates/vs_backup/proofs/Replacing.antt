@@ -1,0 +1,79 @@
+-- What a stop leaves under the backup name: what it left before until a synced file is renamed to it, and then the bytes of that file.
+use Rattle.std.proofs.Common.{◌≡◌, ◌⊎◌, inl, inr, ℕ, zero, suc, List, Option, None, sym, ◌∙◌, ap, subst}
+use Rattle.std.specs.Str.{bytes_eq}
+use Rattle.std.proofs.lemmas.Bool.{cond-true}
+use Rattle.vs_host.specs.File.{File}
+use Rattle.vs_host.specs.Disk.{Disk, Name, Removes, Renames, changed_names, names_of, names_at, content_in, IsImageOf, ChangesFile, ChangesNames, SyncsNames}
+use Rattle.vs_host.specs.World.{Scene, ChangesFolder}
+use Rattle.vs_disk.specs.Images.{MayLeave, Takes}
+use Rattle.vs_disk.specs.Runs.{Runs}
+use Rattle.vs_disk.proofs.Steps.{at_name, itself, same_at, newest_names, older_names, settled}
+use Rattle.vs_disk.proofs.Others.{image_same}
+use Rattle.vs_disk.proofs.Runs.{runs_as, runs_on, runs_then}
+use Rattle.vs_disk.proofs.Contents.{takes_then}
+use Rattle.vs_backup.specs.Works.{Drops, IsGone, Spares}
+use Rattle.vs_backup.proofs.Frames.{absent_now, leaves_spared, spared, spares_synced, takes_same, takes_spared}
+use Rattle.vs_backup.proofs.Kept.{moved_away}
+
+-- ---- at each moment
+pub takes_on : (name : Name) (bytes : List ℕ) (s0 s1 s2 : Scene) → ChangesFolder s0 s1 → Runs (Takes name bytes) s0 s1 → Runs (Takes name bytes) s1 s2 → Runs (Takes name bytes) s0 s2
+takes_on name bytes s0 s1 s2 frame first second = runs_on (Takes name bytes) (takes_then name bytes) s0 s1 s2 frame first second
+
+pub takes_others : (on : Name → Type 0) (name : Name) (bytes : List ℕ) (s0 s1 : Scene) → (on name → ⊥) → Runs (Spares on) s0 s1 → Runs (Takes name bytes) s0 s1
+takes_others on name bytes s0 s1 differ runs = runs_as (Spares on) (Takes name bytes) s0 s1 (λ d here. takes_spared on name bytes s0.folder d differ here) runs
+
+pub takes_looks : (name : Name) (bytes : List ℕ) (s0 s1 : Scene) → Runs (λ a b. b ≡ a) s0 s1 → Runs (Takes name bytes) s0 s1
+takes_looks name bytes s0 s1 looks = runs_as (λ a b. b ≡ a) (Takes name bytes) s0 s1 (λ d same. takes_same name bytes s0.folder d same) looks
+
+-- ---- a name that is taken away
+pub drops_same : (name : Name) (old new : Disk) → new ≡ old → Drops name old new
+drops_same name old new is found leaves = inr (subst (λ (d : Disk). MayLeave d name found) is leaves)
+
+pub drops_then : (name : Name) (a b c : Disk) → Drops name a b → Drops name b c → Drops name a c
+drops_then name a b c first second found leaves = elim (second found leaves) [
+  | inl none ↦ inl none
+  | inr left ↦ first found left
+]
+
+pub drops_synced : (name : Name) (old new : Disk) → SyncsNames old new → Drops name old new
+drops_synced name old new syncs found leaves = inr (leaves_spared (λ n. ⊥) name found old new (λ x. x) (spares_synced (λ n. ⊥) old new syncs) leaves)
+
+removed_at : (name : Name) (old new : Disk) → ChangesNames (Removes name) old new → (found : Option (List ℕ)) (lost : ℕ) → IsImageOf new (names_at new lost name) found
+    → (found ≡ None) ⊎ MayLeave old name found
+removed_at name old new removes found zero image =
+    let gone : names_of new name ≡ None =
+    at_name (names_of new) (changed_names (Removes name) (names_of old)) name (newest_names (Removes name) old new removes.synced removes.pending)
+    ∙ cond-true (bytes_eq name name) None (names_of old name) (itself name) in
+    inl (subst (λ (at : Option ℕ). IsImageOf new at found) gone image)
+removed_at name old new removes found (suc lost) image =
+    inr (
+      lost,
+      image_same old new (names_at old lost name) (names_at new (suc lost) name) found
+          (at_name (names_at new (suc lost)) (names_at old lost) name (older_names (Removes name) old new removes.synced removes.pending lost))
+          (λ number is. ap (λ (f : ℕ → File). f number) removes.files) image,
+    )
+
+pub drops_removed : (name : Name) (old new : Disk) → ChangesNames (Removes name) old new → Drops name old new
+drops_removed name old new removes found leaves = removed_at name old new removes found leaves.0 leaves.1
+
+-- a backup that is taken away under a name that was free
+pub takes_dropped : (name : Name) (bytes : List ℕ) (s0 s1 s2 : Scene) → ChangesFolder s0 s1 → content_in s0.folder name ≡ None → Runs (Takes name bytes) s0 s1 → Runs (Drops name) s1 s2
+    → Runs (Takes name bytes) s0 s2
+takes_dropped name bytes s0 s1 s2 frame free takes drops =
+    runs_then (Takes name bytes) (Drops name) (Takes name bytes) s0 s1 s2 (λ d is. is)
+    (λ d dropped found leaves. elim (dropped found leaves) [
+      | inl none ↦ inr (subst (λ (o : Option (List ℕ)). MayLeave s0.folder name o) (sym none) (absent_now name s0.folder free))
+      | inr left ↦ takes.now found left
+    ]) frame takes drops
+
+-- ---- a name that leads to no file
+pub gone_renamed : (from to : Name) (old mid new : Disk) → (from ≡ to → ⊥) → ChangesNames (Renames from to) old mid → SyncsNames mid new → IsGone from new
+gone_renamed from to old mid new differ renames syncs lost = settled mid new syncs lost from ∙ moved_away from to old mid (λ e. differ (sym e)) renames
+
+pub gone_changed : (name other : Name) (step : File → File → Type 0) (old new : Disk) → ChangesFile other step old new → IsGone name old → IsGone name new
+gone_changed name other step old new changes gone lost = same_at other step old new changes lost name ∙ gone lost
+
+pub gone_spared : (on : Name → Type 0) (name : Name) (old new : Disk) → (on name → ⊥) → Spares on old new → IsGone name old → IsGone name new
+gone_spared on name old new not spares gone lost =
+    let at = (spared on name old new not spares).back lost in
+    at.1 name (itself name) ∙ gone at.0
