@@ -6,3 +6,4 @@ pub mod Going
 pub mod Endings
 pub mod Causes
 pub mod Works
+pub mod Holding

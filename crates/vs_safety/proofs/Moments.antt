@@ -9,7 +9,7 @@ use Rattle.vs_host.specs.declared.names.Names.{Names}
 use Rattle.vs_disk.specs.Names.{SameAt}
 use Rattle.vs_disk.specs.Runs.{Inside}
 use Rattle.vs_disk.proofs.Runs.{Each-append, Each-weaker}
-use Rattle.vs_disk.proofs.Others.{same_then}
+use Rattle.vs_disk.proofs.Others.{same_none, same_then}
 use Rattle.vs_pair.specs.Pair.{is_foreign}
 use Rattle.vs_pair.proofs.MadeFiles.{same_weaker}
 use Rattle.vs_safety.specs.Texts.{Text, recoverable, Recovers, RecoversOrNone}
@@ -17,8 +17,8 @@ use Rattle.vs_safety.specs.Writes.{AreForeign, IsWholeIn, State, Write, state_in
 use Rattle.vs_safety.specs.Undo.{IsUndoIn, LeavesUndo, UndoWrite}
 use Rattle.vs_safety.specs.FileWork.{FileWork, EditedFile, UndoFile, BothFiles, Keeps, AvoidsFiles, IsFoundIn, IsWholeAt, HasLeft}
 use Rattle.vs_safety.specs.Turns.{Turn, after_turns, with_begun, opened, replies, SparesOthers, KeepsUndo}
-use Rattle.vs_safety.specs.Stretches.{IsShorter, IsFirst, HasStretch}
-use Rattle.vs_safety.specs.Safety.{IsFirstPart, opened_at, IsKept, Spares, Works, IsUnderWay}
+use Rattle.vs_safety.specs.Stretches.{IsShorter, IsFirst, KeepsSince, BeginsAsAtStart, HasStretch}
+use Rattle.vs_safety.specs.Safety.{IsFirstPart, opened_at, IsAllowed, IsKept, Spares, Works, IsUnderWay}
 use Rattle.vs_safety.specs.Going.{Sound, Course, HasEnded, IsStill}
 use Rattle.vs_safety.proofs.Splits.{allowed_push, allowed_whole, allowed_part, avoid_front, avoid_back, spared_front}
 
@@ -47,6 +47,28 @@ first_stays n moments newer m first = record {
   not_before = first.not_before;
 }
 
+pub opens_stays : (names : Names) (start : Disk) (moments newer : List Snapshot) (n : ℕ) → BeginsAsAtStart names start moments n → BeginsAsAtStart names start (newer ++ moments) n
+opens_stays names start moments newer n opens = record { first = opens.first; begins = first_stays n moments newer opens.first opens.begins; same = opens.same }
+
+-- what was so since the first snapshot with n bytes, which is known by another number
+pub keeps_since : (names : Names) (moments newer : List Snapshot) (n m : ℕ) (write : Option FileWork) (here : Snapshot) (folder : Disk) → n ≡ m → IsFirst n moments here → Keeps names write here.folder folder
+    → KeepsSince names (newer ++ moments) m write folder
+keeps_since names moments newer n m write here folder same begins keeps = record {
+  since = here;
+  begins = subst (λ (k : ℕ). IsFirst k (newer ++ moments) here) same (first_stays n moments newer here begins);
+  keeps = keeps;
+}
+
+-- a folder that is the same
+pub keeps_same : (names : Names) (write : Option FileWork) (old new : Disk) → new ≡ old → Keeps names write old new
+keeps_same names write old new same = subst (λ (d : Disk). Keeps names write old d) (sym same) (unchanged write)
+  where
+    unchanged : (write : Option FileWork) → Keeps names write old old
+    unchanged None = same_none (is_foreign names) old
+    unchanged (Some (EditedFile write)) = λ inside start foreign avoids settled was. was
+    unchanged (Some (UndoFile undo)) = λ inside foreign avoids. same_none inside old
+    unchanged (Some (BothFiles write undo)) = λ inside start foreign avoids settled was. was
+
 module _ (names : Names) (moments newer : List Snapshot) (from to : ℕ) (turn : Turn) (ended : HasEnded names moments from to turn) where
   pub ended_stays : HasEnded names (newer ++ moments) from to turn
   ended_stays = record {
@@ -57,6 +79,7 @@ module _ (names : Names) (moments newer : List Snapshot) (from to : ℕ) (turn :
     found = ended.found;
     flag = ended.flag;
     wrote = ended.wrote;
+    keeps = ended.keeps;
     cause = ended.cause;
   }
 
@@ -69,6 +92,7 @@ module _ (names : Names) (moments newer : List Snapshot) (from to : ℕ) (turn :
     found = ended.found;
     flag = ended.flag;
     wrote = ended.wrote;
+    keeps = ended.keeps;
     cause = ended.cause;
   }
 
@@ -78,7 +102,9 @@ module _ (names : Names) (moments newer : List Snapshot) (from to : ℕ) (turn :
 keeps_on : (names : Names) (write : Option FileWork) (start old new : Disk) (inside : Name → Bool) → start.pending ≡ [] → AreForeign names inside → IfSome write (λ w. AvoidsFiles names w inside)
     → Keeps names write old new → SameAt inside start old → SameAt inside start new
 keeps_on names None start old new inside settled foreign avoids keeps same = same_then inside start old new same (same_weaker (is_foreign names) inside old new foreign keeps)
-keeps_on names (Some write) start old new inside settled foreign avoids keeps same = keeps inside start foreign avoids settled same
+keeps_on names (Some (EditedFile write)) start old new inside settled foreign avoids keeps same = keeps inside start foreign avoids settled same
+keeps_on names (Some (UndoFile undo)) start old new inside settled foreign avoids keeps same = same_then inside start old new same (keeps inside foreign avoids)
+keeps_on names (Some (BothFiles write undo)) start old new inside settled foreign avoids keeps same = keeps inside start foreign avoids settled same
 
 pub spared_step : (names : Names) (turn : Turn) (turns : List Turn) (start old new : Disk) → start.pending ≡ [] → SparesOthers names turns start old → Keeps names turn.write old new
     → SparesOthers names (turns ++ turn ∷ []) start new
@@ -115,73 +141,98 @@ module _ (names : Names) (start : Scene) (text : Text) (opening : List ℕ) wher
   abbrev pub total : List Turn → ℕ
   total turns = opened_at start opening + length (replies turns)
 
-  pub kept_before : (turns : List Turn) (m : Snapshot) → length m.output < opened_at start opening → RecoversOrNone names (text ∷ []) m.folder → SameAt (is_foreign names) start.folder m.folder → IsKept names start text opening turns m
-  kept_before turns m lt all spared = record { before = λ below. all; spared = λ below. spared; running = λ le. absurd (omega (arith, lt, le)) }
+  pub kept_before : (moments : List Snapshot) (turns : List Turn) (m : Snapshot) → length m.output < opened_at start opening → RecoversOrNone names (text ∷ []) m.folder → SameAt (is_foreign names) start.folder m.folder
+      → IsKept names start moments text opening turns m
+  kept_before moments turns m lt all spared = record { before = λ below. all; spared = λ below. spared; running = λ le. absurd (omega (arith, lt, le)) }
 
-  pub kept_push : (turn : Turn) (turns : List Turn) (m : Snapshot) → length m.output < total (turns ++ turn ∷ []) → (total turns ≤ length m.output → IfSome turn.write (λ work. IsWholeAt names work m.folder)) → IsKept names start text opening turns m
-      → IsKept names start text opening (turns ++ turn ∷ []) m
-  kept_push turn turns m lt idle kept = record {
+  -- as the moments go on
+  pub kept_stays : (moments newer : List Snapshot) (turns : List Turn) (m : Snapshot) → IsKept names start moments text opening turns m → IsKept names start (newer ++ moments) text opening turns m
+  kept_stays moments newer turns m kept = record { before = kept.before; spared = kept.spared; running = λ le. allowed (kept.running le) }
+    where
+      allowed : IsAllowed names start.folder moments text turns (opened_at start opening) (length m.output) m.folder → IsAllowed names start.folder (newer ++ moments) text turns (opened_at start opening) (length m.output) m.folder
+      allowed was = record {
+        first = was.first;
+        rest = was.rest;
+        split = was.split;
+        recovers = was.recovers;
+        spared = was.spared;
+        keeps = keeps_since names moments newer _ _ _ was.keeps.since m.folder refl was.keeps.begins was.keeps.keeps;
+        undo = was.undo;
+        whole = was.whole;
+      }
+
+  pub kept_push : (moments : List Snapshot) (turn : Turn) (turns : List Turn) (m : Snapshot) → length m.output < total (turns ++ turn ∷ [])
+      → (total turns ≤ length m.output → IfSome turn.write (λ work. IsWholeAt names work m.folder) × KeepsSince names moments (total turns) turn.write m.folder)
+      → IsKept names start moments text opening turns m → IsKept names start moments text opening (turns ++ turn ∷ []) m
+  kept_push moments turn turns m lt idle kept = record {
     before = kept.before;
     spared = kept.spared;
-    running = λ le. allowed_push names start.folder text (opened_at start opening) (length m.output) m.folder turn turns lt idle (kept.running le);
+    running = λ le. allowed_push names start.folder moments text (opened_at start opening) (length m.output) m.folder turn turns lt idle (kept.running le);
   }
 
-  pub kept_whole : (turns : List Turn) (m : Snapshot) → total turns ≤ length m.output → Recovers names (recoverable (after_turns (opened text) turns)) m.folder → SparesOthers names turns start.folder m.folder
-      → KeepsUndo names start.folder turns [] m.folder → IsKept names start text opening turns m
-  kept_whole turns m le all spared undo = record {
+  pub kept_whole : (moments : List Snapshot) (turns : List Turn) (m : Snapshot) → total turns ≤ length m.output → Recovers names (recoverable (after_turns (opened text) turns)) m.folder
+      → SparesOthers names turns start.folder m.folder → KeepsSince names moments (total turns) None m.folder → KeepsUndo names start.folder turns [] m.folder → IsKept names start moments text opening turns m
+  kept_whole moments turns m le all spared keeps undo = record {
     before = λ lt. absurd (omega (arith, lt, le));
     spared = λ lt. absurd (omega (arith, lt, le));
-    running = λ at. allowed_whole names start.folder text (opened_at start opening) (length m.output) m.folder turns le all spared undo;
+    running = λ at. allowed_whole names start.folder moments text (opened_at start opening) (length m.output) m.folder turns le all spared keeps undo;
   }
 
-  pub kept_part : (turn : Turn) (turns : List Turn) (m : Snapshot) → total turns ≤ length m.output → length m.output < total (turns ++ turn ∷ [])
+  pub kept_part : (moments : List Snapshot) (turn : Turn) (turns : List Turn) (m : Snapshot) → total turns ≤ length m.output → length m.output < total (turns ++ turn ∷ [])
       → IsUnderWay names (with_begun turn.sync (after_turns (opened text) turns)) turn.write m.folder → SparesOthers names (turns ++ turn ∷ []) start.folder m.folder
-      → KeepsUndo names start.folder turns (turn ∷ []) m.folder → IsKept names start text opening (turns ++ turn ∷ []) m
-  kept_part turn turns m le lt all spared undo = record {
+      → KeepsSince names moments (total turns) turn.write m.folder → KeepsUndo names start.folder turns (turn ∷ []) m.folder → IsKept names start moments text opening (turns ++ turn ∷ []) m
+  kept_part moments turn turns m le lt all spared keeps undo = record {
     before = λ below. absurd (omega (arith, below, le));
     spared = λ below. absurd (omega (arith, below, le));
-    running = λ at. allowed_part names start.folder text (opened_at start opening) (length m.output) m.folder turn turns le lt all.recovers spared undo all.whole;
+    running = λ at. allowed_part names start.folder moments text (opened_at start opening) (length m.output) m.folder turn turns le lt all.recovers spared keeps undo all.whole;
   }
 
-  sound_on : (now new : Scene) (turns : List Turn) → IsFirstPart now.output new.output → (m : Snapshot) → Sound names start now text opening turns m → Sound names start new text opening turns m
-  sound_on now new turns part m sound = record { output = part_then m.output now.output new.output sound.output part; kept = sound.kept }
+  sound_on : (now new : Scene) (moments newer : List Snapshot) (turns : List Turn) → IsFirstPart now.output new.output → (m : Snapshot) → Sound names start now moments text opening turns m
+      → Sound names start new (newer ++ moments) text opening turns m
+  sound_on now new moments newer turns part m sound = record { output = part_then m.output now.output new.output sound.output part; kept = kept_stays moments newer turns m sound.kept }
 
-  pub course_more : (now new : Scene) (turns : List Turn) (moments newer : List Snapshot) → new.trace ≡ newer ++ now.trace → IsFirstPart now.output new.output → Each (Sound names start new text opening turns) newer
+  pub course_more : (now new : Scene) (turns : List Turn) (moments newer : List Snapshot) → new.trace ≡ newer ++ now.trace → IsFirstPart now.output new.output → Each (Sound names start new (newer ++ moments) text opening turns) newer
       → SparesOthers names turns start.folder new.folder → Course names start now text opening turns moments → Course names start new text opening turns (newer ++ moments)
   course_more now new turns moments newer is part sound spared course = record {
     added = is ∙ ap (λ (ms : List Snapshot). newer ++ ms) course.added ∙ sym (append_assoc newer moments start.trace);
     at_start = course.at_start;
     settled = course.settled;
-    sound = Each-append (Sound names start new text opening turns) newer moments sound
-        (Each-weaker (Sound names start now text opening turns) (Sound names start new text opening turns) (sound_on now new turns part) moments course.sound);
+    sound = Each-append (Sound names start new (newer ++ moments) text opening turns) newer moments sound
+        (Each-weaker (Sound names start now moments text opening turns) (Sound names start new (newer ++ moments) text opening turns) (sound_on now new moments newer turns part) moments course.sound);
     spared = spared;
   }
 
-  pub course_push : (now : Scene) (turn : Turn) (turns : List Turn) (moments : List Snapshot) → length now.output ≡ total turns → length now.output < total (turns ++ turn ∷ []) → Each (IsStill now) moments → IfSome turn.write (λ w. IsFoundIn w now.folder)
+  -- `here` is where the stretch of the command begins
+  pub course_push : (now : Scene) (turn : Turn) (turns : List Turn) (moments : List Snapshot) (here : Snapshot) → length now.output ≡ total turns → length now.output < total (turns ++ turn ∷ []) → Each (IsStill now) moments
+      → IsFirst (length now.output) moments here → here.folder ≡ now.folder → IfSome turn.write (λ w. IsFoundIn w now.folder)
       → Course names start now text opening turns moments → Course names start now text opening (turns ++ turn ∷ []) moments
-  course_push now turn turns moments long lt still found course = record {
+  course_push now turn turns moments here long lt still begins same found course = record {
     added = course.added;
     at_start = course.at_start;
     settled = course.settled;
-    sound = Each-weaker (λ m. Sound names start now text opening turns m × IsStill now m) (Sound names start now text opening (turns ++ turn ∷ [])) pushed moments
-        (each_both (Sound names start now text opening turns) (IsStill now) moments course.sound still);
+    sound = Each-weaker (λ m. Sound names start now moments text opening turns m × IsStill now m) (Sound names start now moments text opening (turns ++ turn ∷ [])) pushed moments
+        (each_both (Sound names start now moments text opening turns) (IsStill now) moments course.sound still);
     spared = spared_front names turns (turn ∷ []) start.folder now.folder course.spared;
   }
     where
-      pushed : (m : Snapshot) → Sound names start now text opening turns m × IsStill now m → Sound names start now text opening (turns ++ turn ∷ []) m
+      pushed : (m : Snapshot) → Sound names start now moments text opening turns m × IsStill now m → Sound names start now moments text opening (turns ++ turn ∷ []) m
       pushed m both = record {
         output = both.0.output;
-        kept = kept_push turn turns m (omega (arith, lt, part_long m.output now.output both.0.output))
-            (λ le. whole_found names turn.write m.folder (subst (λ (d : Disk). IfSome turn.write (λ w. IsFoundIn w d)) (sym (both.1 (omega (arith, le, long)))) found)) both.0.kept;
+        kept = kept_push moments turn turns m (omega (arith, lt, part_long m.output now.output both.0.output))
+            (λ le. let still_here : m.folder ≡ now.folder = both.1 (omega (arith, le, long)) in (
+              whole_found names turn.write m.folder (subst (λ (d : Disk). IfSome turn.write (λ w. IsFoundIn w d)) (sym still_here) found),
+              keeps_since names moments [] _ _ turn.write here m.folder long begins (keeps_same names turn.write here.folder m.folder (still_here ∙ sym same)),
+            ))
+            both.0.kept;
       }
 
   -- work on the folder
-  pub works_sound : (write : Option FileWork) (P : Disk → Type 0) (now new : Scene) (turns : List Turn)
-      → ((m : Snapshot) → length m.output ≡ length now.output → Spares names write P now.folder m.folder → IsKept names start text opening turns m) → (works : Works names write P now new)
-      → Each (Sound names start new text opening turns) works.moments.added
-  works_sound write P now new turns keeps works = Each-weaker (Inside new (Spares names write P now.folder)) (Sound names start new text opening turns) one works.moments.added works.moments.each
+  pub works_sound : (write : Option FileWork) (P : Disk → Type 0) (now new : Scene) (moments : List Snapshot) (turns : List Turn)
+      → ((m : Snapshot) → length m.output ≡ length now.output → Spares names write P now.folder m.folder → IsKept names start moments text opening turns m) → (works : Works names write P now new)
+      → Each (Sound names start new moments text opening turns) works.moments.added
+  works_sound write P now new moments turns keeps works = Each-weaker (Inside new (Spares names write P now.folder)) (Sound names start new moments text opening turns) one works.moments.added works.moments.each
     where
-      one : (m : Snapshot) → Inside new (Spares names write P now.folder) m → Sound names start new text opening turns m
+      one : (m : Snapshot) → Inside new (Spares names write P now.folder) m → Sound names start new moments text opening turns m
       one m inside = record {
         output = part_of m.output new.output (sym inside.output);
         kept = keeps m (ap (λ (l : List ℕ). length l) (inside.output ∙ works.output)) inside.folder;
@@ -190,4 +241,4 @@ module _ (names : Names) (start : Scene) (text : Text) (opening : List ℕ) wher
   -- all outputs so far are shorter
   pub shorter : (n : ℕ) (now : Scene) (turns : List Turn) (moments : List Snapshot) → length now.output < n → Course names start now text opening turns moments → Each (IsShorter n) moments
   shorter n now turns moments lt course =
-      Each-weaker (Sound names start now text opening turns) (IsShorter n) (λ m sound. omega (arith, lt, part_long m.output now.output sound.output)) moments course.sound
+      Each-weaker (Sound names start now moments text opening turns) (IsShorter n) (λ m sound. omega (arith, lt, part_long m.output now.output sound.output)) moments course.sound

@@ -1,13 +1,14 @@
 -- The replies to one command more: where the output stood before its end, nothing changes but that it may be the next one.
 use Rattle.std.proofs.Common.{◌≡◌, ℕ, ◌+◌, ◌<◌, ◌≤◌, List, [], ◌∷◌, ◌++◌, length, length-append, refl, sym, ◌∙◌, ap, subst, arith, append_assoc}
 use Rattle.std.proofs.lemmas.List.{append-nil}
-use Rattle.std.specs.Prelude.{Bool, IfSome}
+use Rattle.std.specs.Prelude.{Bool, None, IfSome}
 use Rattle.vs_host.specs.Disk.{Disk, Name}
+use Rattle.vs_host.specs.Trace.{Snapshot}
 use Rattle.vs_host.specs.declared.names.Names.{Names}
 use Rattle.vs_safety.specs.Texts.{Text, Sync, recoverable, Recovers}
-use Rattle.vs_safety.specs.Turns.{Turn, with_sync, with_begun, after_turns, with_next, opened, replies, EndsAfter, IsSplit, AllAvoid, SparesOthers, KeepsUndo, next_of, IsWholeNext}
+use Rattle.vs_safety.specs.Turns.{Turn, with_sync, with_begun, after_turns, with_next, opened, replies, EndsAfter, IsSplit, AllAvoid, SparesOthers, KeepsUndo, next_of, next_write, IsWholeNext}
 use Rattle.vs_safety.specs.FileWork.{IsWholeAt}
-use Rattle.vs_safety.specs.Stretches.{EachTurn}
+use Rattle.vs_safety.specs.Stretches.{EachTurn, KeepsSince}
 use Rattle.vs_safety.specs.Safety.{IsAllowed}
 use Rattle.vs_safety.proofs.UndoFiles.{undo_next}
 use Rattle.vs_safety.proofs.Texts.{Within, begun_within, recovers_more}
@@ -79,24 +80,32 @@ module _ (names : Names) (inside : Name → Bool) where
 pub spared_front : (names : Names) (turns more : List Turn) (old new : Disk) → SparesOthers names turns old new → SparesOthers names (turns ++ more) old new
 spared_front names turns more old new spared inside foreign all = spared inside foreign (avoid_front names inside turns more all)
 
-module _ (names : Names) (start : Disk) (text : Text) (from n : ℕ) (folder : Disk) where
-  pub allowed_push : (turn : Turn) (turns : List Turn) → n < from + length (replies (turns ++ turn ∷ [])) → (from + length (replies turns) ≤ n → IfSome turn.write (λ work. IsWholeAt names work folder))
-      → IsAllowed names start text turns from n folder → IsAllowed names start text (turns ++ turn ∷ []) from n folder
+module _ (names : Names) (start : Disk) (moments : List Snapshot) (text : Text) (from n : ℕ) (folder : Disk) where
+  pub allowed_push : (turn : Turn) (turns : List Turn) → n < from + length (replies (turns ++ turn ∷ []))
+      → (from + length (replies turns) ≤ n → IfSome turn.write (λ work. IsWholeAt names work folder) × KeepsSince names moments (from + length (replies turns)) turn.write folder)
+      → IsAllowed names start moments text turns from n folder → IsAllowed names start moments text (turns ++ turn ∷ []) from n folder
   allowed_push turn turns lt idle allowed = record {
     first = allowed.first;
     rest = allowed.rest ++ turn ∷ [];
     split = split_push from n turn turns allowed.first allowed.rest lt allowed.split;
     recovers = recovers_more names _ _ folder (next_more turn allowed.rest (after_turns (opened text) allowed.first)) allowed.recovers;
     spared = λ inside foreign all. allowed.spared inside foreign (avoid_next names inside turn allowed.first allowed.rest all);
+    keeps = since allowed.rest allowed.split.turns_are allowed.keeps;
     undo = undo allowed.rest allowed.undo;
     whole = next allowed.rest allowed.split.turns_are allowed.whole;
   }
     where
+      all_whole : turns ≡ allowed.first ++ [] → length (replies turns) ≡ length (replies allowed.first)
+      all_whole is = ap (λ (ts : List Turn). length (replies ts)) (is ∙ append-nil allowed.first)
+
       next : (rest : List Turn) → turns ≡ allowed.first ++ rest → IsWholeNext names rest folder → IsWholeNext names (rest ++ turn ∷ []) folder
-      next [] is whole =
-          let same : length (replies turns) ≡ length (replies allowed.first) = ap (λ (ts : List Turn). length (replies ts)) (is ∙ append-nil allowed.first) in
-          idle (omega (arith, same, allowed.split.whole))
+      next [] is whole = (idle (omega (arith, all_whole is, allowed.split.whole))).0
       next (one ∷ rest) is whole = whole
+
+      since : (rest : List Turn) → turns ≡ allowed.first ++ rest → KeepsSince names moments (from + length (replies allowed.first)) (next_write rest) folder
+          → KeepsSince names moments (from + length (replies allowed.first)) (next_write (rest ++ turn ∷ [])) folder
+      since [] is keeps = subst (λ (k : ℕ). KeepsSince names moments (from + k) turn.write folder) (all_whole is) (idle (omega (arith, all_whole is, allowed.split.whole))).1
+      since (one ∷ rest) is keeps = keeps
 
       undo : (rest : List Turn) → KeepsUndo names start allowed.first rest folder → KeepsUndo names start allowed.first (rest ++ turn ∷ []) folder
       undo [] keeps = undo_next names start turn allowed.first folder keeps
@@ -104,13 +113,14 @@ module _ (names : Names) (start : Disk) (text : Text) (from n : ℕ) (folder : D
 
   -- all replies are whole
   pub allowed_whole : (turns : List Turn) → from + length (replies turns) ≤ n → Recovers names (recoverable (after_turns (opened text) turns)) folder → SparesOthers names turns start folder
-      → KeepsUndo names start turns [] folder → IsAllowed names start text turns from n folder
-  allowed_whole turns le all spared undo = record {
+      → KeepsSince names moments (from + length (replies turns)) None folder → KeepsUndo names start turns [] folder → IsAllowed names start moments text turns from n folder
+  allowed_whole turns le all spared keeps undo = record {
     first = turns;
     rest = [];
     split = record { turns_are = sym (append-nil turns); whole = le; next = tt };
     recovers = all;
     spared = spared_front names turns [] start folder spared;
+    keeps = keeps;
     undo = undo;
     whole = tt;
   }
@@ -118,13 +128,15 @@ module _ (names : Names) (start : Disk) (text : Text) (from n : ℕ) (folder : D
   -- all but the last one are
   pub allowed_part : (turn : Turn) (turns : List Turn) → from + length (replies turns) ≤ n → n < from + length (replies (turns ++ turn ∷ []))
       → Recovers names (recoverable (with_begun turn.sync (after_turns (opened text) turns))) folder → SparesOthers names (turns ++ turn ∷ []) start folder
-      → KeepsUndo names start turns (turn ∷ []) folder → IfSome turn.write (λ work. IsWholeAt names work folder) → IsAllowed names start text (turns ++ turn ∷ []) from n folder
-  allowed_part turn turns le lt all spared undo whole = record {
+      → KeepsSince names moments (from + length (replies turns)) turn.write folder → KeepsUndo names start turns (turn ∷ []) folder → IfSome turn.write (λ work. IsWholeAt names work folder)
+      → IsAllowed names start moments text (turns ++ turn ∷ []) from n folder
+  allowed_part turn turns le lt all spared keeps undo whole = record {
     first = turns;
     rest = turn ∷ [];
     split = record { turns_are = refl; whole = le; next = omega (arith, lt, long_push turn turns) };
     recovers = all;
     spared = spared;
+    keeps = keeps;
     undo = undo;
     whole = whole;
   }

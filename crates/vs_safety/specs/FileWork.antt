@@ -29,12 +29,19 @@ AvoidsFiles names (EditedFile write) inside = Avoids names write inside
 AvoidsFiles names (UndoFile undo) inside = IsOutside (two_names names.undo_new names.undo) inside
 AvoidsFiles names (BothFiles write undo) inside = Avoids names write inside × IsOutside (two_names names.undo_new names.undo) inside
 
--- What a command leaves of the names that are not of the pair: all, where it writes no other file. Else it leaves those on which it
--- does not work: what was spared since a folder in which no change of a name was pending, goes on to be spared.
+-- The names that are not of the pair and on which the command does not work are left, but for changes that were pending: what was
+-- spared since a folder in which no change of a name was pending, goes on to be spared.
+abbrev pub KeepsSettled : Names → FileWork → Disk → Disk → Type 0
+KeepsSettled names work old new =
+    (inside : Name → Bool) (start : Disk) → AreForeign names inside → AvoidsFiles names work inside → start.pending ≡ [] → SameAt inside start old → SameAt inside start new
+
+-- What a command leaves of the names that are not of the pair: all, where it writes no other file; all on which it does not work,
+-- where it stores the undo file alone; and where it writes the edited file, those of them of which no change was pending.
 abbrev pub Keeps : Names → Option FileWork → Disk → Disk → Type 0
 Keeps names None old new = SameAt (is_foreign names) old new
-Keeps names (Some work) old new =
-    (inside : Name → Bool) (start : Disk) → AreForeign names inside → AvoidsFiles names work inside → start.pending ≡ [] → SameAt inside start old → SameAt inside start new
+Keeps names (Some (UndoFile undo)) old new = (inside : Name → Bool) → AreForeign names inside → AvoidsFiles names (UndoFile undo) inside → SameAt inside old new
+Keeps names (Some (EditedFile write)) old new = KeepsSettled names (EditedFile write) old new
+Keeps names (Some (BothFiles write undo)) old new = KeepsSettled names (BothFiles write undo) old new
 
 -- ---- the files
 

@@ -8,22 +8,22 @@ use Rattle.vs_host.specs.declared.names.Names.{Names}
 use Rattle.vs_pair.specs.Pair.{is_foreign}
 use Rattle.vs_safety.specs.Texts.{Text, RecoversOrNone, IsFlag, IsBetween}
 use Rattle.vs_safety.specs.Writes.{state_in, state_now}
-use Rattle.vs_safety.specs.FileWork.{HasLeft, IsWholeAt}
+use Rattle.vs_safety.specs.FileWork.{Keeps, HasLeft, IsWholeAt}
 use Rattle.vs_safety.specs.Turns.{Turn, with_sync, after_turns, opened, replies, KeepsUndo, SparesOthers}
-use Rattle.vs_safety.specs.Stretches.{IsFirst, EachTurn, HasStretch}
+use Rattle.vs_safety.specs.Stretches.{IsFirst, BeginsAsAtStart, EachTurn, HasStretch}
 use Rattle.vs_safety.specs.Safety.{IsFirstPart, opened_at, IsKept}
 
--- a moment so far
-pub record Sound (names : Names) (start now : Scene) (text : Text) (opening : List ℕ) (turns : List Turn) (moment : Snapshot) : Type 0 where
+-- a moment of these so far
+pub record Sound (names : Names) (start now : Scene) (moments : List Snapshot) (text : Text) (opening : List ℕ) (turns : List Turn) (moment : Snapshot) : Type 0 where
   pub output : IsFirstPart moment.output now.output
-  pub kept : IsKept names start text opening turns moment
+  pub kept : IsKept names start moments text opening turns moment
 
 -- the moments so far
 pub record Course (names : Names) (start now : Scene) (text : Text) (opening : List ℕ) (turns : List Turn) (moments : List Snapshot) : Type 0 where
   pub added : now.trace ≡ moments ++ start.trace
   pub at_start : RecoversOrNone names (text ∷ []) start.folder
   pub settled : start.folder.pending ≡ []
-  pub sound : Each (Sound names start now text opening turns) moments
+  pub sound : Each (Sound names start now moments text opening turns) moments
   pub spared : SparesOthers names turns start.folder now.folder
 
 -- The stretch of a command whose reply is whole.
@@ -35,6 +35,7 @@ pub record HasEnded (names : Names) (moments : List Snapshot) (from to : ℕ) (t
   pub found : IfSome turn.found (λ found. found ≡ first.folder)
   pub flag : IfSome turn.sync (λ sync. IsFlag names turn.done first.folder last.folder sync.acknowledged)
   pub wrote : IfSome turn.write (λ work. HasLeft names work turn.done turn.failed (state_in first) (state_in last))
+  pub keeps : Keeps names turn.write first.folder last.folder
   pub cause : turn.failed ≡ true → HasRisen first.folder_faults last.folder_faults
 
 -- What stands of the undo file after these commands. Its name is none of the pair.
@@ -59,6 +60,7 @@ pub record Going (names : Names) (start now : Scene) (text : Text) (opening : Li
   pub moments : List Snapshot
   pub course : Course names start now text opening turns moments
   pub output : now.output ≡ (start.output ++ opening) ++ replies turns
+  pub opens : BeginsAsAtStart names start.folder moments (opened_at start opening)
   pub ended : EachTurn (HasEnded names moments) (opened_at start opening) turns
   -- where the stretch of the next one begins
   pub here : Snapshot
@@ -74,12 +76,14 @@ pub record Stepping (names : Names) (start now : Scene) (text : Text) (opening :
   pub moments : List Snapshot
   pub course : Course names start now text opening (turns ++ turn ∷ []) moments
   pub output : now.output ≡ (start.output ++ opening) ++ replies turns
+  pub opens : BeginsAsAtStart names start.folder moments (opened_at start opening)
   pub ended : EachTurn (HasEnded names moments) (opened_at start opening) turns
   pub here : Snapshot
   pub begins : IsFirst (length now.output) moments here
   pub found : IfSome turn.found (λ found. found ≡ here.folder)
   pub flag : IfSome turn.sync (λ sync. IsFlag names turn.done here.folder now.folder sync.acknowledged)
   pub wrote : IfSome turn.write (λ work. HasLeft names work turn.done turn.failed (state_in here) (state_now now))
+  pub keeps : Keeps names turn.write here.folder now.folder
   pub cause : turn.failed ≡ true → HasRisen here.folder_faults now.folder_faults
   pub whole : IfSome turn.write (λ work. IsWholeAt names work now.folder)
   pub between : IsBetween names (with_sync turn.sync (after_turns (opened text) turns)) now.folder
@@ -90,4 +94,5 @@ pub record Halted (names : Names) (start now : Scene) (text : Text) (opening : L
   pub moments : List Snapshot
   pub course : Course names start now text opening turns moments
   pub output : IsFirstPart now.output ((start.output ++ opening) ++ replies turns)
+  pub opens : opened_at start opening ≤ length now.output → BeginsAsAtStart names start.folder moments (opened_at start opening)
   pub stretches : EachTurn (HasStretch names moments now) (opened_at start opening) turns

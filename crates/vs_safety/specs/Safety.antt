@@ -1,18 +1,18 @@
 -- The promise of a run, and what each of its steps owes to it.
-use Rattle.std.specs.Prelude.{◌≡◌, ◌⊎◌, ℕ, ◌+◌, ◌<◌, ◌≤◌, true, List, [], ◌∷◌, ◌++◌, length, take, Option, IfSome}
+use Rattle.std.specs.Prelude.{◌≡◌, ◌⊎◌, ℕ, ◌+◌, ◌<◌, ◌≤◌, true, List, [], ◌∷◌, ◌++◌, length, take, Option, None, IfSome}
 use Rattle.vs_faults.specs.Faults.{HasRisen}
-use Rattle.vs_host.specs.Disk.{Disk, Name, IsImage}
+use Rattle.vs_host.specs.Disk.{Disk, Name}
 use Rattle.vs_host.specs.Trace.{Kind, WroteOutput, Snapshot, Each, GoesOn}
 use Rattle.vs_host.specs.World.{Scene, IsRecorded, LeavesTrace}
 use Rattle.vs_host.specs.declared.names.Names.{Names}
 use Rattle.vs_disk.specs.Names.{SameAt}
 use Rattle.vs_disk.specs.Runs.{Inside}
-use Rattle.vs_pair.specs.Pair.{Image, NoneThere, is_foreign}
-use Rattle.vs_safety.specs.Texts.{Text, Sync, recoverable, Recovers, RecoversOrNone, IsFlag, IsBetween}
+use Rattle.vs_pair.specs.Pair.{is_foreign}
+use Rattle.vs_safety.specs.Texts.{Text, Sync, recoverable, Recovers, RecoversOrNone, NoneLeft, IsFlag, IsBetween}
 use Rattle.vs_safety.specs.Writes.{state_now}
 use Rattle.vs_safety.specs.FileWork.{FileWork, Keeps, IsWholeAt, HasLeft}
-use Rattle.vs_safety.specs.Turns.{Turn, Ran, Quits, with_sync, with_begun, after_turns, with_next, opened, replies, IsSplit, all_turns, all_written, SparesOthers, KeepsUndo, next_of, IsWholeNext}
-use Rattle.vs_safety.specs.Stretches.{EachTurn, HasStretch}
+use Rattle.vs_safety.specs.Turns.{Turn, Ran, Quits, with_sync, with_begun, after_turns, with_next, opened, replies, IsSplit, all_turns, all_written, SparesOthers, KeepsUndo, next_of, next_write, IsWholeNext}
+use Rattle.vs_safety.specs.Stretches.{EachTurn, HasStretch, KeepsSince, BeginsAsAtStart}
 
 -- these bytes are the first of those
 abbrev pub IsFirstPart : List ℕ → List ℕ → Type 0
@@ -22,50 +22,59 @@ IsFirstPart first whole = (rest : List ℕ) × (whole ≡ first ++ rest)
 abbrev pub opened_at : Scene → List ℕ → ℕ
 opened_at start opening = length start.output + length opening
 
+-- how long it is where the replies to all commands are whole in it too
+abbrev pub answered_at : Scene → Ran → ℕ
+answered_at start ran = opened_at start ran.opening + length (replies ran.turns)
+
 -- The output has n bytes. Over the commands whose replies are whole in it, recovery gives the text of the last acknowledged
 -- sync or of one that was begun after it, or of the one that the next command begins. All names are spared but those of the pair
--- and those on which these commands or the next one write, and the file that the next one writes is whole, or its backup. The undo
--- file is that of the last command that stored one, or of one that began to after that.
-pub record IsAllowed (names : Names) (start : Disk) (text : Text) (turns : List Turn) (from n : ℕ) (folder : Disk) : Type 0 where
+-- and those on which these commands or the next one write; and since the last of these replies was whole, all but those of the pair
+-- and those on which the next one writes, if there is one. The file that the next one writes is whole, or its backup. The undo file is
+-- that of the last command that stored one, or of one that began to after that.
+pub record IsAllowed (names : Names) (start : Disk) (moments : List Snapshot) (text : Text) (turns : List Turn) (from n : ℕ) (folder : Disk) : Type 0 where
   pub first : List Turn
   pub rest : List Turn
   pub split : IsSplit from n turns first rest
   pub recovers : Recovers names (recoverable (with_next (after_turns (opened text) first) rest)) folder
   pub spared : SparesOthers names (first ++ next_of rest) start folder
+  pub keeps : KeepsSince names moments (from + length (replies first)) (next_write rest) folder
   pub undo : KeepsUndo names start first rest folder
   pub whole : IsWholeNext names rest folder
 
--- A moment before an accepted quit has begun.
-pub record IsKept (names : Names) (start : Scene) (text : Text) (opening : List ℕ) (turns : List Turn) (moment : Snapshot) : Type 0 where
+-- A moment of these before an accepted quit has begun.
+pub record IsKept (names : Names) (start : Scene) (moments : List Snapshot) (text : Text) (opening : List ℕ) (turns : List Turn) (moment : Snapshot) : Type 0 where
   -- before the opening reply is whole: neither swap file is there, or the text that was opened is recovered
   pub before : length moment.output < opened_at start opening → RecoversOrNone names (text ∷ []) moment.folder
   pub spared : length moment.output < opened_at start opening → SameAt (is_foreign names) start.folder moment.folder
   -- and from then on, an allowed text
-  pub running : opened_at start opening ≤ length moment.output → IsAllowed names start.folder text turns (opened_at start opening) (length moment.output) moment.folder
+  pub running : opened_at start opening ≤ length moment.output → IsAllowed names start.folder moments text turns (opened_at start opening) (length moment.output) moment.folder
 
--- A moment after an accepted quit has begun: all replies are whole.
-pub record IsLeft (names : Names) (start : Scene) (ran : Ran) (moment : Snapshot) : Type 0 where
+-- A moment of these after an accepted quit has begun: all replies are whole.
+pub record IsLeft (names : Names) (start : Scene) (moments : List Snapshot) (ran : Ran) (moment : Snapshot) : Type 0 where
   pub quits : ran.closing ≡ Quits
-  pub whole : opened_at start ran.opening + length (replies ran.turns) ≤ length moment.output
+  pub whole : answered_at start ran ≤ length moment.output
   -- neither swap file is there, or an allowed text is recovered
   pub recovers : RecoversOrNone names (recoverable (after_turns (opened ran.text) ran.turns)) moment.folder
-  -- and neither is there from the first byte of the last line on
-  pub gone : opened_at start ran.opening + length (replies ran.turns) < length moment.output → (image : Image) → IsImage moment.folder image → NoneThere names image
+  -- and all other names stay
   pub spared : SparesOthers names ran.turns start.folder moment.folder
+  pub keeps : KeepsSince names moments (answered_at start ran) None moment.folder
   pub undo : KeepsUndo names start.folder ran.turns [] moment.folder
 
 -- What is promised of each moment: what recovery gives whatever a stop leaves, what a write leaves of the file and its backup, which
--- undo file stands, and that no name changes but those of the pair and those on which a command writes.
-pub record IsSafe (names : Names) (start now : Scene) (ran : Ran) (moment : Snapshot) : Type 0 where
+-- undo file stands, that no name changes but those of the pair and, while a command that writes is under way, those on which it works,
+-- and that after an accepted quit the swap files are gone before the last line begins.
+pub record IsSafe (names : Names) (start now : Scene) (moments : List Snapshot) (ran : Ran) (moment : Snapshot) : Type 0 where
   pub output : IsFirstPart moment.output now.output
-  pub kept : IsKept names start ran.text ran.opening (all_turns ran) moment ⊎ IsLeft names start ran moment
+  pub kept : IsKept names start moments ran.text ran.opening (all_turns ran) moment ⊎ IsLeft names start moments ran moment
+  pub gone : ran.closing ≡ Quits → answered_at start ran < length moment.output → NoneLeft names moment.folder
 
 -- The promise, over a run from one scene to another: at each moment between them, and at both.
 pub record IsCrashSafe (names : Names) (start now : Scene) (ran : Ran) : Type 0 where
   pub moments : List Snapshot
   pub added : now.trace ≡ moments ++ start.trace
   pub at_start : RecoversOrNone names (ran.text ∷ []) start.folder
-  pub safe : Each (IsSafe names start now ran) moments
+  pub opens : opened_at start ran.opening ≤ length now.output → BeginsAsAtStart names start.folder moments (opened_at start ran.opening)
+  pub safe : Each (IsSafe names start now moments ran) moments
   pub output : IsFirstPart now.output (start.output ++ all_written ran)
   pub stretches : EachTurn (HasStretch names moments now) (opened_at start ran.opening) (all_turns ran)
 

@@ -32,6 +32,10 @@ Recovers names texts disk = (image : Image) → IsImage disk image → GivesOneO
 abbrev pub RecoversOrNone : Names → List Text → Disk → Type 0
 RecoversOrNone names texts disk = (image : Image) → IsImage disk image → NoneThere names image ⊎ GivesOneOf names texts image
 
+-- whatever a stop leaves, neither swap file is there
+abbrev pub NoneLeft : Names → Disk → Type 0
+NoneLeft names disk = (image : Image) → IsImage disk image → NoneThere names image
+
 -- ---- the syncs of a session, the newest first
 
 -- A sync of the swap files: the text that it writes, whether that text has changes that the edited file has not, and whether the

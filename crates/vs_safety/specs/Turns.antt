@@ -62,6 +62,11 @@ abbrev pub next_of : List Turn → List Turn
 next_of [] = []
 next_of (turn ∷ turns) = turn ∷ []
 
+-- what it writes
+abbrev pub next_write : List Turn → Option FileWork
+next_write [] = None
+next_write (turn ∷ turns) = turn.write
+
 -- a moment of the write of the first of these commands
 abbrev pub IsWholeNext : Names → List Turn → Disk → Type 0
 IsWholeNext names [] folder = Unit {0}

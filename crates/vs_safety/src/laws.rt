@@ -1,14 +1,17 @@
 // Laws of a run that may stop at any moment. They do nothing: their contracts are the laws.
-ghost use Rattle.std.specs.Prelude.{◌≡◌, ◌⊎◌, ◌↔◌, ◌+◌, ◌<◌, ◌≤◌, ◌∷◌, [], ◌++◌, ℕ, List, None, length};
+ghost use Rattle.std.specs.Prelude.{◌≡◌, ◌⊎◌, ◌↔◌, ◌+◌, ◌<◌, ◌≤◌, ◌∷◌, [], ◌++◌, ℕ, List, None, length, true};
 ghost use Rattle.vs_faults.specs.Faults.{HasRisen};
-ghost use Rattle.vs_host.specs.Disk.{Disk, IsImage};
+ghost use Rattle.vs_host.specs.Disk.{Disk, Name};
 ghost use Rattle.vs_host.specs.Names.{AreNames};
+ghost use Rattle.vs_host.specs.Trace.{Snapshot};
 ghost use Rattle.vs_host.specs.World.{Scene};
 ghost use Rattle.vs_host.specs.declared.names.Names.{Names};
+ghost use Rattle.vs_disk.specs.Images.{HoldsBytes};
 ghost use Rattle.vs_disk.specs.Runs.{FailsLast};
-ghost use Rattle.vs_pair.specs.Pair.{Image, NoneThere};
-ghost use Rattle.vs_safety.specs.Texts.{Text, Sync, IsOneOf, IsTextOfOne, IsNewestOf, IsBetween, Recovers, RecoversOrNone, recoverable};
+ghost use Rattle.vs_pair.specs.Pair.{is_foreign};
+ghost use Rattle.vs_safety.specs.Texts.{Text, Sync, IsOneOf, IsTextOfOne, IsNewestOf, IsBetween, NoneLeft, Recovers, RecoversOrNone, recoverable};
 ghost use Rattle.vs_safety.specs.Turns.{Turn, Ran, IsSplit, after_turns, all_turns, behind, opened, quit_line, quit_run, replies};
+ghost use Rattle.vs_safety.specs.Stretches.{IsFirst, KeepsSince};
 ghost use Rattle.vs_safety.specs.Safety.{IsCrashSafe, Looks, Stepped, Works, Writes};
 ghost use Rattle.vs_safety.specs.Going.{Going, Halted, Opened, Stepping};
 ghost use Rattle.vs_safety.specs.Causes.{IsCounted, RoseLast, folder_count};
@@ -63,7 +66,14 @@ pub fn ending()
         → Works names None (RecoversOrNone names (recoverable (after_turns (opened text) turns))) now new → IsCrashSafe names start new (quit_run text line turns) }
     ensures quits { (names : Names) (start now mid new : Scene) (text : Text) (line : List ℕ) (turns : List Turn) (n : ℕ) → Going names start now text line turns
         → Works names None (RecoversOrNone names (recoverable (after_turns (opened text) turns))) now mid → Writes n quit_line mid new
-        → ((image : Image) → IsImage mid.folder image → NoneThere names image) → IsCrashSafe names start new (quit_run text line turns) }
+        → NoneLeft names mid.folder → IsCrashSafe names start new (quit_run text line turns) }
+{}
+
+/// While no command works on files, each name but those of the pair has in every image what it had there when the last reply was
+/// whole: after a write, the bytes that it wrote.
+pub fn lasting()
+    ensures { (names : Names) (moments : List Snapshot) (n : ℕ) (folder : Disk) (first : Snapshot) (name : Name) (bytes : List ℕ) → is_foreign names name ≡ true
+        → KeepsSince names moments n None folder → IsFirst n moments first → HoldsBytes name bytes first.folder → HoldsBytes name bytes folder }
 {}
 
 /// Where no call but the last one failed since the newest snapshot had the count as it was, the count rose at the last call.

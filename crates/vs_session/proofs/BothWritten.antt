@@ -8,7 +8,7 @@ use Rattle.vs_faults.specs.Faults.{HasCause, HasRisen}
 use Rattle.vs_host.specs.File.{File, IsFileImage}
 use Rattle.vs_host.specs.Disk.{Disk, Name, IsImageOf}
 use Rattle.vs_host.specs.Names.{AreNames}
-use Rattle.vs_host.specs.Trace.{Snapshot, Each, GoesOn}
+use Rattle.vs_host.specs.Trace.{Snapshot, Each}
 use Rattle.vs_host.specs.World.{Scene, ChangesFolder, ReadsFolder}
 use Rattle.vs_host.specs.declared.names.Names.{Names}
 use Rattle.vs_text.specs.Text.{file_of}
@@ -33,7 +33,7 @@ use Rattle.vs_machine.specs.Replies.{Answer, says}
 use Rattle.vs_machine.specs.declared.command.Outcome.{Outcome}
 use Rattle.vs_machine.specs.declared.command.Outcome.TheVariants.{Done, NoUndo}
 use Rattle.vs_undo.specs.History.{History, history_marked}
-use Rattle.vs_ubind.specs.Storing.{IsCallOn}
+use Rattle.vs_ubind.specs.Storing.{StoresBy}
 use Rattle.vs_safety.specs.Causes.{newest_count, folder_count}
 use Rattle.vs_safety.specs.Texts.{Sync, Text, Recovers, recoverable}
 use Rattle.vs_safety.specs.Undo.{HasStored, UndoWrite}
@@ -256,7 +256,7 @@ module _ (state : SessionState) (syncs : List Sync) (instruction : Instruction) 
 
   pub answers_both : (outcome : Outcome) (reply : Answer) → (outcome ≡ Done) ⊎ (outcome ≡ NoUndo) → reply ≡ says (line_by outcome state.name (length text) size)
       → (outcome ≡ Done → HasUndo names text (history_marked state.machine.history) new.folder) → HasCause made.folder_faults new.folder_faults (is_fault outcome ≡ true)
-      → GoesOn (IsCallOn (two_names names.undo_new names.undo)) made.trace new.trace → FailsLast made new → Answers state syncs instruction before after (mark state syncs instruction is before between old mid s outcome at) reply old new
+      → StoresBy names.undo_new names.undo made new → FailsLast made new → Answers state syncs instruction before after (mark state syncs instruction is before between old mid s outcome at) reply old new
   answers_both outcome reply ended_as replied stored cause calls last =
       answers_by outcome reply (took_as outcome ended_as) (replied ∙ line_is state syncs instruction is before between old mid s free outcome size bytes.0 ∙ replied_as outcome ended_as)
       (λ calm. stored (done_as outcome ended_as calm))

@@ -8,8 +8,8 @@ use Rattle.vs_host.specs.Trace.{Snapshot}
 use Rattle.vs_host.specs.World.{Scene, ChangesFolder, ChangesClock, ReadsFolder}
 use Rattle.vs_host.specs.declared.names.Names.{Names}
 use Rattle.vs_disk.specs.Names.{SameAt}
-use Rattle.vs_disk.specs.Runs.{Inside, Runs, HasNoFault, Looks}
-use Rattle.vs_disk.proofs.Runs.{Quiet, goes_then, goes_weaker, reads_change}
+use Rattle.vs_disk.specs.Runs.{Inside, Runs, HasNoFault, Looks, Quiet}
+use Rattle.vs_disk.proofs.Runs.{goes_then, goes_weaker, reads_change}
 use Rattle.vs_disk.proofs.Others.{same_none, same_then}
 use Rattle.vs_pair.specs.Pair.{Rises, is_swap, is_apart, is_foreign}
 use Rattle.vs_pair.proofs.MadeFiles.{same_weaker}

@@ -9,9 +9,7 @@ use Rattle.vs_host.specs.Names.{AreNames, temporary}
 use Rattle.vs_host.specs.World.{Scene, ChangesFolder, ReadsFolder}
 use Rattle.vs_host.specs.declared.names.Names.{Names}
 use Rattle.vs_disk.specs.Images.{HoldsBytes, MayLeave, Takes}
-use Rattle.vs_disk.specs.Names.{SameAt}
 use Rattle.vs_disk.specs.Runs.{Inside, Runs, Looks}
-use Rattle.vs_disk.proofs.Others.{same_then}
 use Rattle.vs_disk.proofs.Runs.{goes_weaker, reads_change, runs_as, runs_then}
 use Rattle.vs_pair.specs.Pair.{is_swap, is_foreign}
 use Rattle.vs_pair.specs.declared.side.Side.{Side}
@@ -270,7 +268,7 @@ module _ (state : SessionState) (syncs : List Sync) (instruction : Instruction) 
   spared : (d : Disk) → StoresUndo names state.machine.text state.machine.history old.folder d → Spares names (Some (UndoFile undo)) P old.folder d
   spared d stores = record {
     folder = record { recovers = recovers d stores.spares; whole = stores.undo };
-    spared = λ inside start foreign avoids settled same. same_then inside start old.folder d same (stores.spares inside avoids);
+    spared = λ inside foreign avoids. stores.spares inside avoids;
   }
 
   works : Works names (Some (UndoFile undo)) P old new

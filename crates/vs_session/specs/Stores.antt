@@ -2,7 +2,7 @@
 use Rattle.std.specs.Prelude.{◌≡◌, ◌⊎◌, ◌≤◌, ◌++◌, ℕ, List, Option, IsSomeAnd}
 use Rattle.vs_faults.specs.Faults.{HasRisen}
 use Rattle.vs_host.specs.Disk.{Disk}
-use Rattle.vs_host.specs.Trace.{Snapshot, GoesOn}
+use Rattle.vs_host.specs.Trace.{Snapshot}
 use Rattle.vs_host.specs.World.{Scene}
 use Rattle.vs_host.specs.declared.names.Names.{Names}
 use Rattle.vs_disk.specs.Images.{HoldsBytes, MayLeave}
@@ -12,7 +12,7 @@ use Rattle.vs_undo.specs.History.{History}
 use Rattle.vs_safety.specs.Causes.{newest_count, folder_count}
 use Rattle.vs_safety.specs.Texts.{Text}
 use Rattle.vs_safety.specs.Undo.{IsUndoOf}
-use Rattle.vs_ubind.specs.Storing.{IsCallOn}
+use Rattle.vs_ubind.specs.Storing.{StoresBy}
 
 -- While the undo file of this text and this history is stored: all names but its own and its temporary one are spared, and a stop
 -- leaves under its name what it might leave before, or the whole undo file.
@@ -25,13 +25,13 @@ abbrev pub HasUndo : Names → Text → History → Disk → Type 0
 HasUndo names text history disk = (bytes : List ℕ) × IsUndoOf text history bytes × HoldsBytes names.undo bytes disk
 
 -- The last calls between two scenes were those of a storing of the undo file that failed. From the scene on at which it began, no
--- call was made but on its two names and the sync of the names, none but the last one failed, and that one did. The count of faults
--- at that scene is no lower than that of the newest snapshot before it.
+-- call was made but on its two names, and the sync of the names directly after their rename; none but the last one failed, and that
+-- one did. The count of faults at that scene is no lower than that of the newest snapshot before it.
 pub record HasFailedStoring (names : Names) (old new : Scene) : Type 0 where
   pub began : Scene
   pub before : List Snapshot
   pub since : began.trace ≡ before ++ old.trace
   pub counted : newest_count folder_count old before ≤ began.folder_faults
-  pub calls : GoesOn (IsCallOn (two_names names.undo_new names.undo)) began.trace new.trace
+  pub calls : StoresBy names.undo_new names.undo began new
   pub last : FailsLast began new
   pub failed : HasRisen began.folder_faults new.folder_faults

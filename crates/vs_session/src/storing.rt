@@ -3,12 +3,11 @@ ghost use Rattle.std.specs.Prelude.{◌≡◌, ◌<◌, ◌≤◌, ◌+◌, ◌^
 ghost use Rattle.vs_faults.specs.Faults.{HasCause};
 ghost use Rattle.vs_host.specs.World.{ChangesFolder};
 ghost use Rattle.vs_disk.specs.Runs.{FailsLast, Runs};
-ghost use Rattle.vs_backup.specs.Works.{two_names};
 ghost use Rattle.vs_excmd.specs.Request.{Instruction};
 ghost use Rattle.vs_undo.specs.History.{History};
 ghost use Rattle.vs_safety.specs.Texts.{Sync, Text};
 ghost use Rattle.vs_safety.specs.Undo.{IsUndoOf};
-ghost use Rattle.vs_ubind.specs.Storing.{CallsOn};
+ghost use Rattle.vs_ubind.specs.Storing.{StoresBy};
 ghost use Rattle.vs_session.specs.Fits.{Fits, FitsUndo, IsFault, IsMarkedAt, IsStep, SameFile, generation_of, names_of};
 ghost use Rattle.vs_session.specs.Session.{SessionState, is_wundo};
 ghost use Rattle.vs_session.specs.Stores.{HasUndo, StoresUndo};
@@ -29,7 +28,7 @@ impl Session {
             → HasUndo (names_of self.now) text history (F.scene host.new).folder) }
         ensures fits { IsTrue F.tells.folder → (state : SessionState) (syncs : List Sync) → Fits self.now (F.scene host.old).folder state syncs
             → Fits self.now (F.scene host.new).folder state syncs }
-        ensures calls { CallsOn F.tells (two_names (names_of self.now).undo_new (names_of self.now).undo) (F.scene host.old) (F.scene host.new) }
+        ensures calls { IsTrue F.tells.folder → StoresBy (names_of self.now).undo_new (names_of self.now).undo (F.scene host.old) (F.scene host.new) }
         ensures last { IsTrue F.tells.folder → FailsLast (F.scene host.old) (F.scene host.new) }
         ensures frame { ChangesFolder (F.scene host.old) (F.scene host.new) }
         ensures cause { HasCause (F.scene host.old).folder_faults (F.scene host.new).folder_faults (IsErr result) }

@@ -3,14 +3,13 @@ ghost use Rattle.std.specs.Prelude.{◌≡◌, ◌⊎◌, ◌+◌, ◌<◌, ◌�
 ghost use Rattle.vs_faults.specs.Faults.{HasCause};
 ghost use Rattle.vs_host.specs.World.{ChangesFolder, Scene};
 ghost use Rattle.vs_disk.specs.Runs.{FailsLast, Runs};
-ghost use Rattle.vs_backup.specs.Works.{two_names};
 ghost use Rattle.vs_backup.specs.Writing.{IsFailed};
 ghost use Rattle.vs_excmd.specs.Request.{Instruction};
 ghost use Rattle.vs_undo.specs.History.{History, history_marked};
 ghost use Rattle.vs_machine.specs.Replies.{says};
 ghost use Rattle.vs_safety.specs.Texts.{Sync, Text};
 ghost use Rattle.vs_safety.specs.Undo.{IsUndoOf};
-ghost use Rattle.vs_ubind.specs.Storing.{CallsOn};
+ghost use Rattle.vs_ubind.specs.Storing.{StoresBy};
 ghost use Rattle.vs_session.specs.Fits.{Answers, Fits, FitsUndo, IsFault, IsMarkedAt, IsStep, SameFile, generation_of, names_of};
 ghost use Rattle.vs_session.specs.Session.{SessionState, is_fault, is_write, line_by};
 ghost use Rattle.vs_session.specs.Stores.{HasUndo, StoresUndo};
@@ -96,7 +95,7 @@ impl Session {
     fn store_written<F: Folder>(&self, host: &mut F, undo: &[u8], bytes: u64) -> (Outcome, Reply)
         ensures runs { IsTrue F.tells.folder → (text : Text) (history : History) → IsUndoOf text history undo.now
             → Runs (StoresUndo (names_of self.now) text history) (F.scene host.old) (F.scene host.new) }
-        ensures calls { CallsOn F.tells (two_names (names_of self.now).undo_new (names_of self.now).undo) (F.scene host.old) (F.scene host.new) }
+        ensures calls { IsTrue F.tells.folder → StoresBy (names_of self.now).undo_new (names_of self.now).undo (F.scene host.old) (F.scene host.new) }
         ensures last { IsTrue F.tells.folder → FailsLast (F.scene host.old) (F.scene host.new) }
         ensures ended { (result.0 ≡ Outcome.Done) ⊎ (result.0 ≡ Outcome.NoUndo) }
         ensures stored { result.0 ≡ Outcome.Done → IsTrue F.tells.folder → (text : Text) (history : History) → IsUndoOf text history undo.now

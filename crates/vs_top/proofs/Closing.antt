@@ -28,8 +28,8 @@ use Rattle.vs_session.specs.declared.ending.End.{End}
 use Rattle.vs_session.specs.declared.ending.End.TheVariants as end
 use Rattle.vs_session.specs.Session.{SessionState, Ended, sync_in, states_after, turns_of}
 use Rattle.vs_session.specs.Fits.{Fits, Leaves, HasSwap, names_of}
-use Rattle.vs_top.specs.Run.{TellsRun, Did, IsKept, Closes, AnswersAll, IsCutLast, FailsLast as FailsAtLast, HasRun, RunsEdit, Counts, counts_of, OnlyFolder, HasCause, IsBarred, IsTimed, opened_file, ran_of, written, closing_line}
-use Rattle.vs_top.specs.Turns.{text_at, opening_at, Told, Keeps, StopsAt, IsAtClose}
+use Rattle.vs_top.specs.Run.{TellsRun, Did, KeepsMarks, Closes, AnswersAll, IsCutLast, HasRun, RunsEdit, Counts, counts_of, OnlyFolder, FaultHasCause, IsTimed, opened_file, ran_of, written, closing_line}
+use Rattle.vs_top.specs.Turns.{text_at, opening_at, Told, KeepsOpenFile, StopsAt, IsAtClose}
 use Rattle.vs_top.specs.declared.ending.Ending.{Ending}
 use Rattle.vs_top.specs.Ending.{ending_in}
 use Rattle.std.specs.declared.result.Result.{Result}
@@ -69,12 +69,12 @@ line_is : (how : End) (ok : Bool) (state : SessionState) → line_of how ≡ clo
 line_is end.Sync ok state = refl
 line_is end.Quit ok state = refl
 
-by_clean : (clean : Bool) (name : List ℕ) (old new : Scene) (marks : List Mark) (did : Did) → IsKept (opened_file old name) marks did → AnswersAll (not clean) (opened_file old name) old new did
+by_clean : (clean : Bool) (name : List ℕ) (old new : Scene) (marks : List Mark) (did : Did) → KeepsMarks (opened_file old name) marks did → AnswersAll (not clean) (opened_file old name) old new did
     → ((HasSwap (names_of_file name) old.folder → ⊥) → IsCrashSafe (names_of_file name) old new (ran_of name old did)) → HasRun name old new (if clean then ending.Done else ending.WithErrors) marks
-by_clean true name old new marks did kept answered safe = record { did = did; kept = kept; answered = answered; safe = safe; failed = tt; same = λ early. absurd (true≢false (sym early)) }
-by_clean false name old new marks did kept answered safe = record { did = did; kept = kept; answered = answered; safe = safe; failed = tt; same = λ early. absurd (true≢false (sym early)) }
+by_clean true name old new marks did kept answered safe = record { did = did; kept = kept; answered = answered; safe = safe; failed = tt; looks = λ early. absurd (true≢false (sym early)) }
+by_clean false name old new marks did kept answered safe = record { did = did; kept = kept; answered = answered; safe = safe; failed = tt; looks = λ early. absurd (true≢false (sym early)) }
 
-module _ (tells : Tells) (name : List ℕ) (old now mid : Scene) (session : Session) (marks : List Mark) (clean : Bool) (told : TellsRun tells) (keeps : Keeps tells name old now session marks)
+module _ (tells : Tells) (name : List ℕ) (old now mid : Scene) (session : Session) (marks : List Mark) (clean : Bool) (told : TellsRun tells) (keeps : KeepsOpenFile tells name old now session marks)
     (commands : List Instruction) (ends : List Ended) (here : Told name old now session marks clean commands ends) where
   abbrev names : Names
   names = names_of_file name
@@ -91,8 +91,8 @@ module _ (tells : Tells) (name : List ℕ) (old now mid : Scene) (session : Sess
   abbrev did : End → Bool → Did
   did how ok = record { commands = commands; ends = ends; closing = closing_of how ok state }
 
-  kept : (how : End) (ok : Bool) → IsKept (opened_file old name) marks (did how ok)
-  kept how ok = record { one_each = here.one_each; marks_are = here.marks_are; none_quits = here.none_quits }
+  kept : (how : End) (ok : Bool) → KeepsMarks (opened_file old name) marks (did how ok)
+  kept how ok = record { one_each = here.one_each; marks_are = here.marks_are; are_answered = here.are_answered }
 
   closes : (how : End) (ok : Bool) → StopsAt how (opened_file old name) old now commands ends → (new : Scene) → new.script ≡ now.script → Closes ok (opened_file old name) old new (did how ok)
   closes end.Sync ok stops new script = inl (record { all = stops.0; ended = script ∙ stops.1; closing = refl })
@@ -141,7 +141,7 @@ module _ (tells : Tells) (name : List ℕ) (old now mid : Scene) (session : Sess
     answered = inr (record { closes = closes how false stops mid (ap (λ (s : Scene). s.script) finishes.frame); output = mid_output how false finishes });
     safe = λ free. failed_safe how finishes;
     failed = rose_last folder_count old now mid (λ m none. none.folder) (finishes.last told.folder) rose here.counted.folder;
-    same = λ early. absurd (true≢false (sym early));
+    looks = λ early. absurd (true≢false (sym early));
   }
 
   pub run_cut : (how : End) (new : Scene) (n : ℕ) → StopsAt how (opened_file old name) old now commands ends → Finishes tells session now mid how true → (how ≡ end.Quit → IsFresh (names_of session) mid.folder)
@@ -156,7 +156,7 @@ module _ (tells : Tells) (name : List ℕ) (old now mid : Scene) (session : Sess
     });
     safe = λ free. cut_safe how new n finishes gone writes;
     failed = rose_at output_count old mid new WroteOutput [] writes.added rose (counted how finishes);
-    same = λ early. absurd (true≢false (sym early));
+    looks = λ early. absurd (true≢false (sym early));
   }
 
   all_answered : (how : End) (new : Scene) → StopsAt how (opened_file old name) old now commands ends → Finishes tells session now mid how true → new.output ≡ mid.output ++ closing_line (closing_of how true state) → new.script ≡ mid.script
@@ -178,9 +178,6 @@ module _ (tells : Tells) (name : List ℕ) (old now mid : Scene) (session : Sess
 -- ---- over any host
 
 module _ (tells : Tells) (name : List ℕ) (old now mid : Scene) (session : Session) (marks : List Mark) (how : End) (clean : Bool) (at : IsAtClose tells name old now session marks how clean) where
-  free_barred : (end : Ending) → IsTrue tells.folder → HasSwap (names_of_file name) old.folder → IsBarred end
-  free_barred end told has = absurd (at.keeps.free told has)
-
   times_on : (new : Scene) → new.answers ≡ now.answers → IsTrue tells.clock → IsTimed old new marks
   times_on new same told = let was = at.times told in record { more = was.more; one = was.one; is = same ∙ was.is }
 
@@ -191,7 +188,7 @@ module _ (tells : Tells) (name : List ℕ) (old now mid : Scene) (session : Sess
       record {
         told = λ told. let here = at.told told in run_fails tells name old now mid session marks clean told at.keeps here.0 here.1 here.2 how here.3 finishes rose;
         swap = λ told is. absurd (cc);
-        barred = free_barred ending.FolderFault;
+        barred = λ told has. absurd (at.keeps.free told has);
         file = λ told. tt;
         taken = λ told. omega (arith, at.taken told, ap (λ (s : Scene). length s.script) finishes.frame);
         counts = (risen_after at.keeps.counts.later rose, only_then (counts_of old) (counts_of now) (counts_of mid) at.keeps.counts only);
@@ -215,7 +212,7 @@ module _ (tells : Tells) (name : List ℕ) (old now mid : Scene) (session : Sess
             (record { output = cut.1 ∙ ap (λ (l : List ℕ). mid.output ++ take cut.0 l) (line_is how true _); folder = ap (λ (s : Scene). s.folder) frame; faults = faults; added = added told.folder })
             (ap (λ (s : Scene). s.script) frame) rose;
         swap = λ told is. absurd (cc);
-        barred = free_barred ending.OutputFault;
+        barred = λ told has. absurd (at.keeps.free told has);
         file = at.keeps.file;
         taken = λ told. omega (arith, at.taken told, ap (λ (s : Scene). length s.script) finishes.frame, ap (λ (s : Scene). length s.script) frame);
         counts = (
@@ -251,12 +248,12 @@ module _ (tells : Tells) (name : List ℕ) (old now mid : Scene) (session : Sess
       (times_on new (ap (λ (s : Scene). s.answers) frame ∙ ap (λ (s : Scene). s.answers) finishes.frame))
     where
       by_ending : (clean : Bool) → OnlyFolder (counts_of old) (counts_of new) → (TellsRun tells → HasRun name old new (if clean then ending.Done else ending.WithErrors) marks)
-          → (IsTrue tells.script → length old.script ≤ length new.script + script_limit) → All (HasCause (counts_of old) (counts_of new)) marks → (IsTrue tells.clock → IsTimed old new marks)
+          → (IsTrue tells.script → length old.script ≤ length new.script + script_limit) → All (FaultHasCause (counts_of old) (counts_of new)) marks → (IsTrue tells.clock → IsTimed old new marks)
           → RunsEdit tells name old new (if clean then ending.Done else ending.WithErrors) marks
       by_ending true counts told taken causes times =
-          record { told = told; swap = λ folder is. absurd (cc); barred = free_barred ending.Done; file = at.keeps.file; taken = taken; counts = counts; causes = causes; times = times }
+          record { told = told; swap = λ folder is. absurd (cc); barred = λ told has. absurd (at.keeps.free told has); file = at.keeps.file; taken = taken; counts = counts; causes = causes; times = times }
       by_ending false counts told taken causes times =
-          record { told = told; swap = λ folder is. absurd (cc); barred = free_barred ending.WithErrors; file = at.keeps.file; taken = taken; counts = counts; causes = causes; times = times }
+          record { told = told; swap = λ folder is. absurd (cc); barred = λ told has. absurd (at.keeps.free told has); file = at.keeps.file; taken = taken; counts = counts; causes = causes; times = times }
 
 -- the ending that `?` hands on
 pub at_ending : (tells : Tells) (name : List ℕ) (old new : Scene) (marks : List Mark) (r : Result Ending Ending) (one end : Ending) → IsErrAnd r (λ e. e ≡ one) → one ≡ end → RunsEdit tells name old new end marks

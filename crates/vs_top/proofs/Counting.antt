@@ -15,7 +15,7 @@ use Rattle.vs_safety.specs.Safety.{Spares, Works}
 use Rattle.vs_safety.specs.Causes.{IsCounted, script_count, output_count, folder_count}
 use Rattle.vs_safety.proofs.Causes.{counted_on, counted_told}
 use Rattle.vs_machine.specs.declared.command.Mark.{Mark}
-use Rattle.vs_top.specs.Run.{Counts, counts_of, OnlyFolder, HasCause}
+use Rattle.vs_top.specs.Run.{Counts, counts_of, OnlyFolder, FaultHasCause}
 use Rattle.vs_top.specs.Turns.{AreCounted}
 
 pub only_none : (a : Counts) → OnlyFolder a a
@@ -34,10 +34,10 @@ only_output old new frame = record { script = ap (λ (s : Scene). s.script_fault
 pub only_script : (old new : Scene) → ChangesScript old new → OnlyFolder (counts_of old) (record (counts_of new) { script = old.script_faults })
 only_script old new frame = record { script = refl; output = ap (λ (s : Scene). s.out_faults) frame; later = omega (arith, ap (λ (s : Scene). s.folder_faults) frame) }
 
-pub causes_on : (a b c : Counts) (marks : List Mark) → b.folder ≤ c.folder → All (HasCause a b) marks → All (HasCause a c) marks
-causes_on a b c [] later all = All-nil (HasCause a c)
+pub causes_on : (a b c : Counts) (marks : List Mark) → b.folder ≤ c.folder → All (FaultHasCause a b) marks → All (FaultHasCause a c) marks
+causes_on a b c [] later all = All-nil (FaultHasCause a c)
 causes_on a b c (m ∷ marks) later all =
-    All-cons (HasCause a c) m marks (λ is. risen_before (All-head (HasCause a b) m marks all is) later) (causes_on a b c marks later (All-tail (HasCause a b) m marks all))
+    All-cons (FaultHasCause a c) m marks (λ is. risen_before (All-head (FaultHasCause a b) m marks all is) later) (causes_on a b c marks later (All-tail (FaultHasCause a b) m marks all))
 
 -- the output's count is kept by work on the folder
 pub counted_works : (names : Names) (write : Option FileWork) (P : Disk → Type 0) (old now mid : Scene) → mid.out_faults ≡ now.out_faults → Works names write P now mid → IsCounted output_count old now → IsCounted output_count old mid

@@ -8,6 +8,7 @@ use Rattle.vs_host.specs.Disk.{Disk, IsImage, content_in}
 use Rattle.vs_host.specs.Names.{AreNames, names_of_file}
 use Rattle.vs_host.specs.World.{Tells, Scene, content_of}
 use Rattle.vs_host.specs.declared.names.Names.{Names}
+use Rattle.vs_disk.specs.Runs.{Looks}
 use Rattle.vs_disk.proofs.Contents.{leads_nowhere}
 use Rattle.vs_disk.proofs.Steps.{one_state}
 use Rattle.vs_pair.specs.Acts.{Acts}
@@ -32,7 +33,7 @@ use Rattle.vs_session.specs.declared.open.OpenErr.TheVariants as opening
 use Rattle.vs_session.specs.Open.{IsTooLarge, OnlyLooks}
 use Rattle.vs_session.specs.Fits.{Fits, HasOpened, HasSwap, IsSettled, Opens, names_of}
 use Rattle.vs_top.specs.Ending.{open_ending}
-use Rattle.vs_top.specs.Run.{TellsRun, Did, HasRun, RunsEdit, Counts, counts_of, OnlyFolder, HasCause, FileFits, IsBarred, IsThrough, IsThroughMark, IsUnhindered, opened_file, ran_of}
+use Rattle.vs_top.specs.Run.{TellsRun, Did, HasRun, RunsEdit, Counts, counts_of, OnlyFolder, FaultHasCause, FileFits, EndsBarred, IsBarred, IsThrough, IsThroughMark, IsUnhindered, opened_file, ran_of}
 use Rattle.vs_top.specs.Turns.{text_at, opening_at, IsOpened}
 use Rattle.vs_top.specs.declared.ending.Ending.{Ending}
 use Rattle.vs_top.specs.declared.ending.Ending.TheVariants as ending
@@ -66,6 +67,11 @@ file_fits (Some bytes) over = elim (within_or_not (lines_of bytes)) [
   | inr not_within ↦ absurd (true≢false (sym (over not_within)))
 ]
 
+-- the folder was only looked at
+pub only_looked : (tells : Tells) (old new : Scene) (end : Ending) (marks : List Mark) → EndsBarred end → marks ≡ [] → OnlyLooks tells old new → IsTrue tells.folder → IsBarred old new end marks
+only_looked tells old new end marks ended none looks told =
+    record { ended = ended; answered = record { none = none; output = ap (λ (s : Scene). s.output) looks.frame }; looks = looks.runs told }
+
 module _ (tells : Tells) (name : List ℕ) (old new : Scene) (pending : IsTrue tells.folder → old.folder.pending ≡ []) (acts : Acts tells (Opens name) old new) where
   at_start : TellsRun tells → (HasSwap (names_of_file name) old.folder → ⊥) → RecoversOrNone (names_of_file name) (text_at old name ∷ []) old.folder
   at_start told free image whole = inl (none_there (names_of_file name) old.folder (settled (names_of_file name) old.folder (pending told.folder)) free image whole)
@@ -77,15 +83,15 @@ module _ (tells : Tells) (name : List ℕ) (old new : Scene) (pending : IsTrue t
   -- the file was not opened
   module _ (marks : List Mark) (none : marks ≡ []) where
     run_none : (end : Ending) → TellsRun tells → Rattle.vs_top.specs.Run.AnsweredBy end (opened_file old name) old new marks did_none → Rattle.vs_top.specs.Run.FailedBy end old new
-        → (IsTrue (Rattle.vs_top.specs.Run.is_early end) → new.folder ≡ old.folder) → HasRun name old new end marks
-    run_none end told answered failed same = record {
+        → (IsTrue (Rattle.vs_top.specs.Run.is_early end) → Looks old new) → HasRun name old new end marks
+    run_none end told answered failed looks = record {
       did = did_none;
       kept = kept_none name old marks none;
       answered = answered;
       safe = λ free. halted_safe (names_of_file name) old new (ran_of name old did_none) refl
           (not_opened (names_of_file name) old (text_at old name) (opening_at old name) (opening_some name (opened_file old name).found) new (pending told.folder) (at_start told free) (works told free));
       failed = failed;
-      same = same;
+      looks = looks;
     }
 
     output_same : new.output ≡ old.output
@@ -100,40 +106,40 @@ module _ (tells : Tells) (name : List ℕ) (old new : Scene) (pending : IsTrue t
     pub open_fails : (error : OpenErr) → (error ≡ opening.Failed → HasRisen old.folder_faults new.folder_faults) → IsQuiet old.folder_faults new.folder_faults (error ≡ opening.Failed)
         → ((size : ℕ) → error ≡ opening.TextLimit size → IsTooLarge tells size (content_of old name)) → (error ≡ opening.SwapFound → IsTrue tells.folder → HasSwap (names_of_file name) old.folder)
         → (IsTrue tells.folder → HasSwap (names_of_file name) old.folder → (error ≡ opening.SwapFound) ⊎ (error ≡ opening.Failed) ⊎ (error ≡ opening.NoMemory))
-        → ((error ≡ opening.Failed → ⊥) → OnlyLooks tells old new) → RunsEdit tells name old new (open_ending error) marks
-    open_fails opening.SwapFound failed quiet limit swap barred looks = record {
-      told = λ told. run_none ending.SwapFound told (record { none = none; output = output_same }) tt (λ early. ((looks (λ is. absurd (cc))).runs told.folder).now);
+        → (IsTrue tells.folder → HasSwap (names_of_file name) old.folder → OnlyLooks tells old new) → ((error ≡ opening.Failed → ⊥) → OnlyLooks tells old new) → RunsEdit tells name old new (open_ending error) marks
+    open_fails opening.SwapFound failed quiet limit swap barred barred_looks looks = record {
+      told = λ told. run_none ending.SwapFound told (record { none = none; output = output_same }) tt (λ early. (looks (λ is. absurd (cc))).runs told.folder);
       swap = λ told is. swap refl told;
-      barred = λ told has. tt;
+      barred = λ told has. only_looked tells old new ending.SwapFound marks tt none (barred_looks told has) told;
       file = λ told. tt;
       taken = λ told. script_long 0;
       counts = all_quiet (quiet (λ is. absurd (cc)));
       causes = no_causes (counts_of old) (counts_of new) marks none;
       times = λ told. no_times old new marks none (ap (λ (s : Scene). s.answers) acts.frame);
     }
-    open_fails opening.Failed failed quiet limit swap barred looks = record {
+    open_fails opening.Failed failed quiet limit swap barred barred_looks looks = record {
       told = λ told. run_none ending.FolderFault told (inl (record { none = none; output = output_same })) (rose_last folder_count old old new (λ m calm. calm.folder) (acts.last told.folder) (failed refl) (counted_none folder_count old))
           (λ early. absurd (true≢false (sym early)));
       swap = λ told is. absurd (cc);
-      barred = λ told has. tt;
+      barred = λ told has. only_looked tells old new ending.FolderFault marks tt none (barred_looks told has) told;
       file = λ told. tt;
       taken = λ told. script_long _;
       counts = (failed refl, only_folder old new acts.frame acts.later);
       causes = no_causes (counts_of old) (counts_of new) marks none;
       times = λ told. no_times old new marks none (ap (λ (s : Scene). s.answers) acts.frame);
     }
-    open_fails opening.NoMemory failed quiet limit swap barred looks = record {
+    open_fails opening.NoMemory failed quiet limit swap barred barred_looks looks = record {
       told = λ told. run_none ending.NoMemory told (inl (record { none = none; output = output_same })) tt (λ early. absurd (true≢false (sym early)));
       swap = λ told is. absurd (cc);
-      barred = λ told has. tt;
+      barred = λ told has. only_looked tells old new ending.NoMemory marks tt none (barred_looks told has) told;
       file = λ told. tt;
       taken = λ told. script_long _;
       counts = only_folder old new acts.frame acts.later;
       causes = no_causes (counts_of old) (counts_of new) marks none;
       times = λ told. no_times old new marks none (ap (λ (s : Scene). s.answers) acts.frame);
     }
-    open_fails (opening.TextLimit size) failed quiet limit swap barred looks = record {
-      told = λ told. run_none (ending.TextLimit size) told (record { none = none; output = output_same }) tt (λ early. ((looks (λ is. absurd (cc))).runs told.folder).now);
+    open_fails (opening.TextLimit size) failed quiet limit swap barred barred_looks looks = record {
+      told = λ told. run_none (ending.TextLimit size) told (record { none = none; output = output_same }) tt (λ early. (looks (λ is. absurd (cc))).runs told.folder);
       swap = λ told is. absurd (cc);
       barred = λ told has. elim (barred told has) [ inl is ↦ absurd (cc) | inr more ↦ elim more [ inl is ↦ absurd (cc) | inr is ↦ absurd (cc) ] ];
       file = λ told. (limit size refl).passes told;
@@ -155,7 +161,7 @@ module _ (tells : Tells) (name : List ℕ) (old new : Scene) (pending : IsTrue t
           (subst (λ (n : Names). IsBetween n (opened (text_at old name)) new.folder) names (fits_between session.text new.folder _ _ (fits told.folder).stands.text));
       counted = counted_works (names_of_file name) None _ old old new (ap (λ (s : Scene). s.out_faults) acts.frame) (works told (free told.folder)) (counted_none output_count old);
     };
-    keeps = record { free = free; file = file; names = names; counts = only_folder old new acts.frame acts.later; causes = All-nil (HasCause (counts_of old) (counts_of new)) };
+    keeps = record { free = free; file = file; names = names; counts = only_folder old new acts.frame acts.later; causes = All-nil (FaultHasCause (counts_of old) (counts_of new)) };
     script = ap (λ (s : Scene). s.script) acts.frame;
     answers = ap (λ (s : Scene). s.answers) acts.frame;
   }

@@ -48,16 +48,13 @@ one_mode mode.Discard mode.Info is = absurd (omega (arith, is))
 one_mode mode.Discard mode.Discard is = refl
 
 -- what was done in the mode of the arguments, said of the mode and the name that they have
-pub performed : (tells : Tells) (words : List (List ℕ)) (a b : Mode) (x y : List ℕ) (old new : Scene) (end other : Ending) (marks others : List Mark) → IsForm words a x → IsForm words b y → other ≡ end → others ≡ marks
-    → Performs a tells x old new end marks → Performs b tells y old new other others
-performed tells words a b x y old new end other marks others form given same_end same_marks performs =
+pub performed : (tells : Tells) (words : List (List ℕ)) (a b : Mode) (x y : List ℕ) (old new : Scene) (end : Ending) (marks : List Mark) → IsForm words a x → IsForm words b y
+    → Performs a tells x old new end marks → Performs b tells y old new end marks
+performed tells words a b x y old new end marks form given performs =
     let words_are : word_of a ∷ x ∷ [] ≡ word_of b ∷ y ∷ [] = sym form.0 ∙ given.0 in
     let same_mode : a ≡ b = one_mode a b (letters a b (same_first (word_of a) x (word_of b) y words_are)) in
     let same_name : x ≡ y = same_second (word_of a) x (word_of b) y words_are in
-    subst (λ (m : Mode). Performs m tells y old new other others) same_mode
-    (subst (λ (n : List ℕ). Performs a tells n old new other others) same_name
-    (subst (λ (e : Ending). Performs a tells x old new e others) (sym same_end)
-    (subst (λ (ms : List Mark). Performs a tells x old new end ms) (sym same_marks) performs)))
+    subst (λ (m : Mode). Performs m tells y old new end marks) same_mode (subst (λ (n : List ℕ). Performs a tells n old new end marks) same_name performs)
 
 -- ---- no form ends as other arguments do
 

@@ -10,9 +10,11 @@ mod Stepping
 mod Opening
 mod Edits
 mod Forms
+mod StressFolders
 pub mod StressSteps
 pub mod StressEnds
 pub mod StressClosing
 pub mod StressOpening
 pub mod StressForms
 pub mod StressCommands
+mod Does

@@ -21,8 +21,8 @@ use Rattle.vs_safety.proofs.Causes.{rose_at}
 use Rattle.vs_session.specs.declared.session.Session.{Session}
 use Rattle.vs_session.specs.Session.{SessionState}
 use Rattle.vs_session.specs.Fits.{Fits, HasOpened}
-use Rattle.vs_top.specs.Run.{TellsRun, Did, IsKept, HasRun, RunsEdit, Counts, counts_of, OnlyFolder, HasCause, IsTimed, commands_within, opened_file, ran_of}
-use Rattle.vs_top.specs.Turns.{text_at, opening_at, Told, ToldOpen, Keeps, IsOpened}
+use Rattle.vs_top.specs.Run.{TellsRun, Did, KeepsMarks, HasRun, RunsEdit, Counts, counts_of, OnlyFolder, FaultHasCause, IsTimed, commands_within, opened_file, ran_of}
+use Rattle.vs_top.specs.Turns.{text_at, opening_at, Told, ToldOpen, KeepsOpenFile, IsOpened}
 use Rattle.vs_top.specs.declared.ending.Ending.{Ending}
 use Rattle.vs_top.specs.declared.ending.Ending.TheVariants as ending
 use Rattle.vs_top.proofs.Counting.{only_output, only_then, all_counted}
@@ -41,8 +41,8 @@ opening_some name (Some (lines, bytes)) = ends_some (codes "\"" ++ name ++ codes
 abbrev pub did_none : Did
 did_none = record { commands = []; ends = []; closing = NotBegun }
 
-pub kept_none : (name : List ℕ) (old : Scene) (marks : List Mark) → marks ≡ [] → IsKept (opened_file old name) marks did_none
-kept_none name old marks none = record { one_each = refl; marks_are = none; none_quits = tt }
+pub kept_none : (name : List ℕ) (old : Scene) (marks : List Mark) → marks ≡ [] → KeepsMarks (opened_file old name) marks did_none
+kept_none name old marks none = record { one_each = refl; marks_are = none; are_answered = tt }
 
 pub no_times : (old now : Scene) (marks : List Mark) → marks ≡ [] → now.answers ≡ old.answers → IsTimed old now marks
 no_times old now marks none same = record {
@@ -51,8 +51,8 @@ no_times old now marks none same = record {
   is = same ∙ sym (append-nil old.answers) ∙ ap (λ (l : List Mark). old.answers ++ map (λ mark. mark.at) l) (sym none) ∙ sym (append-nil (old.answers ++ map (λ mark. mark.at) marks));
 }
 
-pub no_causes : (a b : Counts) (marks : List Mark) → marks ≡ [] → All (HasCause a b) marks
-no_causes a b marks none = subst (λ (l : List Mark). All (HasCause a b) l) (sym none) (All-nil (HasCause a b))
+pub no_causes : (a b : Counts) (marks : List Mark) → marks ≡ [] → All (FaultHasCause a b) marks
+no_causes a b marks none = subst (λ (l : List Mark). All (FaultHasCause a b) l) (sym none) (All-nil (FaultHasCause a b))
 
 module _ (tells : Tells) (name : List ℕ) (old now : Scene) (session : Session) (at : IsOpened tells name old now session) (marks : List Mark) (none : marks ≡ []) where
   -- there was no memory before the opening reply
@@ -66,7 +66,7 @@ module _ (tells : Tells) (name : List ℕ) (old now : Scene) (session : Session)
           answered = inl (record { none = none; output = here.opened_here.output });
           safe = λ free. halted_safe (names_of_file name) old now (ran_of name old did_none) refl (opened_halts (names_of_file name) old (text_at old name) (opening_at old name) (opening_some name (opened_file old name).found) now here.opened_here);
           failed = tt;
-          same = λ early. absurd (true≢false (sym early));
+          looks = λ early. absurd (true≢false (sym early));
         };
     swap = λ told is. absurd (cc);
     barred = λ told has. absurd (at.keeps.free told has);
@@ -114,7 +114,7 @@ module _ (tells : Tells) (name : List ℕ) (old now : Scene) (session : Session)
                 safe = λ free. halted_safe (names_of_file name) old new (ran_of name old did_none) refl
                     (opening_cut (names_of_file name) old (text_at old name) (opening_at old name) (opening_some name (opened_file old name).found) now new here.opened_here cut.0 writes);
                 failed = rose_at output_count old now new WroteOutput [] writes.added rose here.counted;
-                same = λ early. absurd (true≢false (sym early));
+                looks = λ early. absurd (true≢false (sym early));
               };
           swap = λ told is. absurd (cc);
           barred = λ told has. absurd (at.keeps.free told has);
@@ -143,7 +143,7 @@ module _ (tells : Tells) (name : List ℕ) (old now : Scene) (session : Session)
                 record {
                   one_each = refl;
                   marks_are = none;
-                  none_quits = tt;
+                  are_answered = tt;
                   errors = refl;
                   fits = subst (λ (d : Disk). Fits session d (opened_file old name).state (opened (text_at old name))) (sym writes.folder) here.fits;
                   going = going;

@@ -4,7 +4,7 @@ use Rattle.vs_excmd.specs.Request.{Instruction}
 use Rattle.vs_machine.specs.Machine.{is_done}
 use Rattle.vs_safety.specs.Turns.{Turn, replies}
 use Rattle.vs_session.specs.Session.{SessionState, Ended, HasFound, accepts_quit, reply_of, state_after, states_after, turn_of, turns_of, replies_of, any_error}
-use Rattle.vs_top.specs.Run.{NoneQuits}
+use Rattle.vs_top.specs.Run.{AreAnswered}
 
 -- the replies are those of the turns
 pub replies_same : (state : SessionState) (commands : List Instruction) (ends : List Ended) → replies (turns_of state commands ends) ≡ replies_of state commands ends
@@ -25,8 +25,8 @@ module _ (c : Instruction) (e : Ended) where
   turns_push state (d ∷ cs) [] same = absurd (omega (arith, same))
   turns_push state (d ∷ cs) (x ∷ es) same = ap (λ (ts : List Turn). turn_of state d x ∷ ts) (turns_push (state_after state d x) cs es (omega (arith, same)))
 
-  pub none_push : (state : SessionState) (cs : List Instruction) (es : List Ended) → length es ≡ length cs → NoneQuits state cs es → accepts_quit (states_after state cs es) c ≡ false → HasFound (states_after state cs es) c e
-      → NoneQuits state (cs ++ c ∷ []) (es ++ e ∷ [])
+  pub none_push : (state : SessionState) (cs : List Instruction) (es : List Ended) → length es ≡ length cs → AreAnswered state cs es → accepts_quit (states_after state cs es) c ≡ false → HasFound (states_after state cs es) c e
+      → AreAnswered state (cs ++ c ∷ []) (es ++ e ∷ [])
   none_push state [] [] same none last found = (last, found, tt)
   none_push state [] (x ∷ es) same none last found = absurd (omega (arith, same))
   none_push state (d ∷ cs) [] same none last found = absurd (omega (arith, same))

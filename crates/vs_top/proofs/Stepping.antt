@@ -33,8 +33,8 @@ use Rattle.vs_session.specs.declared.session.Step.TheVariants as step
 use Rattle.vs_session.specs.declared.ending.End.TheVariants as end
 use Rattle.vs_session.specs.Session.{SessionState, Ended, is_fault, accepts_quit, reply_of, state_after, states_after, syncs_after, turn_of, turns_of, replies_of, any_error}
 use Rattle.vs_session.specs.Fits.{Answers, Fits, StepsIn, names_of}
-use Rattle.vs_top.specs.Run.{TellsRun, Did, IsKept, HasRun, RunsEdit, counts_of, OnlyFolder, HasCause, commands_within, opened_file, ran_of, written, written_before}
-use Rattle.vs_top.specs.Turns.{text_at, opening_at, Told, Keeps, IsAtClose}
+use Rattle.vs_top.specs.Run.{TellsRun, Did, KeepsMarks, HasRun, RunsEdit, counts_of, OnlyFolder, FaultHasCause, commands_within, opened_file, ran_of, written, written_before}
+use Rattle.vs_top.specs.Turns.{text_at, opening_at, Told, KeepsOpenFile, IsAtClose}
 use Rattle.vs_top.specs.declared.ending.Ending.TheVariants as ending
 use Rattle.vs_top.proofs.Pushes.{replies_same, states_push, turns_push, none_push, errors_push, and_not, map_push}
 use Rattle.vs_top.proofs.Counting.{only_then, only_output, only_script, causes_on, counted_works, counted_reads, all_counted}
@@ -114,11 +114,11 @@ module _ (tells : Tells) (name : List ℕ) (old now read stepped : Scene) (sessi
     abbrev did : Did
     did = record { commands = commands'; ends = ends'; closing = NotBegun }
 
-    kept_did : (marks' : List Mark) → marks' ≡ marks ++ mark ∷ [] → IsKept (opened_file old name) marks' did
+    kept_did : (marks' : List Mark) → marks' ≡ marks ++ mark ∷ [] → KeepsMarks (opened_file old name) marks' did
     kept_did marks' kept = record {
       one_each = one_more commands ends taken.first ended here.one_each;
       marks_are = kept ∙ ap (λ (l : List Mark). l ++ mark ∷ []) here.marks_are ∙ ap (λ (m : Mark). map (λ (e : Ended). e.mark) ends ++ m ∷ []) (sym answers.mark_is) ∙ sym (map_push (λ (e : Ended). e.mark) ends ended);
-      none_quits = none_push taken.first ended first commands ends here.one_each here.none_quits answers.not_quit answers.found;
+      are_answered = none_push taken.first ended first commands ends here.one_each here.are_answered answers.not_quit answers.found;
     }
 
     written_are : old.output ++ (opening_at old name ++ replies (turns ++ turn ∷ [])) ≡ old.output ++ written (opened_file old name) commands' ends'
@@ -153,7 +153,7 @@ module _ (tells : Tells) (name : List ℕ) (old now read stepped : Scene) (sessi
           failed = rose_at output_count old stepped new WroteOutput [] writes.added rose
               (counted_works names turn.write _ old read stepped (ap (λ (s : Scene). s.out_faults) step.frame) (subst (λ (k : Names). Stepped k syncs (turn_of state taken.first ended) read stepped) keeps answers.stepped).works
               (counted_reads old now read ok.after.frame ok.quiet (ok.all told.folder) here.counted).output);
-          same = λ early. absurd (true≢false (sym early));
+          looks = λ early. absurd (true≢false (sym early));
         }
       where
         before_last : (es : List Ended) → written_before (opened_file old name) commands' (es ++ ended ∷ []) ≡ written (opened_file old name) commands' (take (length es) (es ++ ended ∷ []))
@@ -181,7 +181,7 @@ module _ (tells : Tells) (name : List ℕ) (old now read stepped : Scene) (sessi
         record {
           one_each = was.one_each;
           marks_are = was.marks_are;
-          none_quits = was.none_quits;
+          are_answered = was.are_answered;
           errors = ap (λ (b : Bool). clean && b) (cleans ∙ ap (λ (m : Mark). is_done m.outcome && not reply.is_error) (sym answers.mark_is)) ∙ ap (λ (b : Bool). b && (is_done ended.mark.outcome && not reply.is_error)) here.errors ∙ and_not (any_error first commands ends) (is_done ended.mark.outcome) reply.is_error
               ∙ ap (λ (a : Answer). not (any_error first commands ends || (not (is_done ended.mark.outcome) || a.is_error))) answers.reply_is
               ∙ ap not (sym (errors_push taken.first ended first commands ends here.one_each));
@@ -223,14 +223,14 @@ module _ (tells : Tells) (name : List ℕ) (old now read stepped : Scene) (sessi
           later = omega (arith, step.later, reads.later, before.later);
         }
 
-    causes_now : All (HasCause (counts_of old) (counts_of new)) marks'
+    causes_now : All (FaultHasCause (counts_of old) (counts_of new)) marks'
     causes_now =
         let before = turn.keeps.counts in
         let reads = only_script now read ok.after.frame in
-        subst (λ (l : List Mark). All (HasCause (counts_of old) (counts_of new)) l) (sym kept)
-        (All-append (HasCause (counts_of old) (counts_of new)) marks (mark ∷ [])
+        subst (λ (l : List Mark). All (FaultHasCause (counts_of old) (counts_of new)) l) (sym kept)
+        (All-append (FaultHasCause (counts_of old) (counts_of new)) marks (mark ∷ [])
         (causes_on (counts_of old) (counts_of now) (counts_of new) marks (omega (arith, reads.later, step.later, faults)) turn.keeps.causes)
-        (All-cons (HasCause (counts_of old) (counts_of new)) mark [] (λ is. risen_after (omega (arith, before.later, reads.later)) (risen_before (step.risen is) (omega (arith, faults)))) (All-nil (HasCause (counts_of old) (counts_of new)))))
+        (All-cons (FaultHasCause (counts_of old) (counts_of new)) mark [] (λ is. risen_after (omega (arith, before.later, reads.later)) (risen_before (step.risen is) (omega (arith, faults)))) (All-nil (FaultHasCause (counts_of old) (counts_of new)))))
 
     times_now : IsTrue tells.clock → new.answers ≡ old.answers ++ map (λ mark. mark.at) marks'
     times_now told =
@@ -305,14 +305,14 @@ told_read : (tells : Tells) (name : List ℕ) (old now read : Scene) (session : 
 told_read tells name old now read session reader reader' marks clean ok told commands ends here = record {
   one_each = here.one_each;
   marks_are = here.marks_are;
-  none_quits = here.none_quits;
+  are_answered = here.are_answered;
   errors = here.errors;
   fits = subst (λ (d : Disk). Fits session d (states_after (opened_file old name).state commands ends) (after_turns (opened (text_at old name)) (turns_of (opened_file old name).state commands ends))) (sym (ap (λ (s : Scene). s.folder) ok.after.frame)) here.fits;
   going = going_looks (names_of_file name) old (text_at old name) (opening_at old name) now read (turns_of (opened_file old name).state commands ends) (reads_look now read ok.after.frame (ok.after.reads told.folder)) here.going;
   counted = counted_reads old now read ok.after.frame ok.quiet (ok.all told.folder) here.counted;
 }
 
-keeps_read : (tells : Tells) (name : List ℕ) (old now read : Scene) (session : Session) (reader reader' : Ahead) (marks : List Mark) → AfterOk tells reader reader' now read → Keeps tells name old now session marks → Keeps tells name old read session marks
+keeps_read : (tells : Tells) (name : List ℕ) (old now read : Scene) (session : Session) (reader reader' : Ahead) (marks : List Mark) → AfterOk tells reader reader' now read → KeepsOpenFile tells name old now session marks → KeepsOpenFile tells name old read session marks
 keeps_read tells name old now read session reader reader' marks ok keeps =
     let only = only_script now read ok.after.frame in
     record {
@@ -338,7 +338,7 @@ told_same name old read stepped session session' marks clean commands ends here 
     record {
       one_each = here.one_each;
       marks_are = here.marks_are;
-      none_quits = here.none_quits;
+      are_answered = here.are_answered;
       errors = here.errors;
       fits = subst (λ (x : Session). Fits x stepped.folder first syncs) (sym same) (subst (λ (d : Disk). Fits session d first syncs) (sym folder) here.fits);
       going = going_looks (names_of_file name) old (text_at old name) (opening_at old name) read stepped (turns_of (opened_file old name).state commands ends) looks here.going;

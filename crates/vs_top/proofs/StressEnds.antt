@@ -1,14 +1,15 @@
 -- The opening and the end of the stress mode, and what it answered where it stops.
-use Rattle.std.proofs.Common.{◌≡◌, inl, inr, ℕ, ◌≤◌, ◌<◌, ◌+◌, Bool, true, false, not, if◌then◌else◌, List, [], ◌∷◌, ◌++◌, length, take, map, All, None, IsTrue, Ok, Err, IsErrAnd, refl, sym, ap, subst, ◌∙◌, append_assoc, append-nil, arith}
+use Rattle.std.proofs.Common.{◌≡◌, ◌⊎◌, inl, inr, ℕ, ◌≤◌, ◌<◌, ◌+◌, Bool, true, false, not, if◌then◌else◌, List, [], ◌∷◌, ◌++◌, length, take, map, All, None, IsTrue, Ok, Err, IsErrAnd, refl, sym, ap, subst, ◌∙◌, append_assoc, append-nil, arith}
 use Rattle.std.specs.declared.result.Result.{Result}
 use Rattle.std.proofs.lemmas.Bool.{true≢false}
-use Rattle.std.proofs.lemmas.List.{length-append}
+use Rattle.std.proofs.lemmas.Bool.Decides.{leb_tells}
+use Rattle.std.proofs.lemmas.List.{length-append, take_all}
 use Rattle.vs_faults.specs.Faults.{HasRisen}
 use Rattle.vs_faults.proofs.Causes.{risen_after}
 use Rattle.vs_host.specs.Disk.{Disk}
 use Rattle.vs_host.specs.Names.{names_of_file}
-use Rattle.vs_host.specs.Trace.{WroteOutput, Snapshot}
-use Rattle.vs_host.specs.World.{Tells, Scene, ChangesOutput, ReadsFolder, snapshot_of}
+use Rattle.vs_host.specs.Trace.{WroteOutput, Snapshot, Each}
+use Rattle.vs_host.specs.World.{Tells, Scene, HasNewest, ChangesOutput, ReadsFolder, snapshot_of}
 use Rattle.vs_host.specs.declared.names.Names.{Names}
 use Rattle.vs_disk.specs.Runs.{Inside}
 use Rattle.vs_disk.proofs.Runs.{Each-append, Each-weaker}
@@ -17,12 +18,12 @@ use Rattle.vs_pair.specs.Pair.{is_foreign}
 use Rattle.vs_pair.specs.Steps.{IsFresh}
 use Rattle.vs_excmd.specs.Request.{Instruction}
 use Rattle.vs_machine.specs.declared.command.Mark.{Mark}
-use Rattle.vs_safety.specs.Texts.{Text, Sync, IsBetween, RecoversOrNone, recoverable}
+use Rattle.vs_safety.specs.Texts.{Text, Sync, IsBetween, Recovers, RecoversOrNone, recoverable}
 use Rattle.vs_safety.specs.Turns.{NotBegun, Turn, after_turns, opened}
 use Rattle.vs_safety.specs.Safety.{IsAdded, Spares, Works}
 use Rattle.vs_safety.specs.Causes.{IsCounted, RoseLast, folder_count, output_count}
 use Rattle.vs_safety.proofs.Causes.{rose_at, rose_last}
-use Rattle.vs_safety.proofs.Texts.{between_recovers, or_none}
+use Rattle.vs_safety.proofs.Texts.{between_recovers}
 use Rattle.vs_paged.proofs.SyncLemmas.{fits_between}
 use Rattle.vs_session.specs.declared.session.Session.{Session}
 use Rattle.vs_session.specs.declared.ending.End.TheVariants as end
@@ -31,14 +32,15 @@ use Rattle.vs_session.specs.Session.{SessionState, Ended, states_after, turns_of
 use Rattle.vs_session.specs.Fits.{Fits, names_of}
 use Rattle.vs_stress.specs.Commands.{stress_commands}
 use Rattle.vs_top.specs.Ending.{ending_in}
-use Rattle.vs_top.specs.Run.{Did, HasCause, IsKept, IsTimed, OnlyFolder, counts_of, opened_file}
-use Rattle.vs_top.specs.Stress.{TellsStress, HasStress, HasStressed, HasSteps, IsBeforeRemoval, IsStressMoment, IsStressSafe, RunsStress, StressEnds, StressedBy, stress_line, stress_name, stress_text}
+use Rattle.vs_top.specs.Run.{Did, FaultHasCause, KeepsMarks, IsTimed, OnlyFolder, counts_of, opened_file}
+use Rattle.vs_top.specs.Stress.{TellsStress, HasStress, HasStressed, HasSteps, IsBeforeLine, IsStressMoment, IsStressSafe, RunsStress, StressEnds, StressedBy, folder_after, is_up_to, stress_line, stress_name, stress_text}
 use Rattle.vs_top.specs.StressTurns.{IsStressTurn}
 use Rattle.vs_top.specs.declared.ending.Ending.{Ending}
 use Rattle.vs_top.specs.declared.ending.Ending.TheVariants as ending
 use Rattle.vs_top.proofs.Closing.{Finishes}
 use Rattle.vs_top.proofs.Counting.{all_counted, causes_on, only_folder, only_output, only_then}
 use Rattle.vs_top.proofs.Pushes.{flip_clean}
+use Rattle.vs_top.proofs.StressFolders.{folders_on, later_read, later_written, steps_as, steps_later, told_folder}
 
 -- ---- what is known, as the end of it
 
@@ -48,8 +50,8 @@ names = names_of_file stress_name
 abbrev pub did_of : List Instruction → List Ended → Did
 did_of commands ends = record { commands = commands; ends = ends; closing = NotBegun }
 
-pub at_moment : (start : Scene) (text : Text) (turns : List Turn) (m : Snapshot) → IsBeforeRemoval names start text turns m → IsStressMoment names start text turns m
-at_moment start text turns m is = record { spared = is.spared; recovers = elim is.recovers [ inl opening ↦ inl opening | inr command ↦ inr (inl command) ] }
+pub at_moment : (start : Scene) (text : Text) (turns : List Turn) (line : List ℕ) (m : Snapshot) → IsBeforeLine names start text turns m → IsStressMoment names start text turns line m
+at_moment start text turns line m is = record { spared = is.spared; recovers = elim is.recovers [ inl opening ↦ inl opening | inr command ↦ inr (inl command) ] }
 
 all_times : (old new : Scene) (marks : List Mark) → new.answers ≡ old.answers ++ map (λ mark. mark.at) marks → IsTimed old new marks
 all_times old new marks is = record { more = []; one = omega arith; is = is ∙ sym (append-nil (old.answers ++ map (λ mark. mark.at) marks)) }
@@ -60,19 +62,15 @@ full_last start now moments added (inl less) = absurd (omega (arith, less))
 full_last start now moments added (inr full) = record { last = []; earlier = moments; one = omega arith; is = added; rose = inr full }
 
 module _ (tells : Tells) (old now : Scene) (session : Session) (marks : List Mark) (clean : Bool) (commands : List Instruction) (turn : IsStressTurn tells old now session marks clean commands) where
-  safe_now : (told : TellsStress tells) → let here = turn.told told in IsStressSafe names old now (stress_text old) (turns_of (opened_file old stress_name).state commands here.0)
-  safe_now told =
+  moments_now : (told : TellsStress tells) (line : List ℕ) → let here = turn.told told in Each (IsStressMoment names old (stress_text old) (turns_of (opened_file old stress_name).state commands here.0) line) here.1.moments
+  moments_now told line =
       let here = turn.told told in
       let turns = turns_of (opened_file old stress_name).state commands here.0 in
-      record {
-        moments = here.1.moments;
-        added = here.1.added;
-        safe = Each-weaker (IsBeforeRemoval names old (stress_text old) turns) (IsStressMoment names old (stress_text old) turns) (λ m is. at_moment old (stress_text old) turns m is) here.1.moments here.1.safe;
-        spared = here.1.spared;
-        first = here.1.first;
-        last = now.folder;
-        steps = here.1.steps;
-      }
+      Each-weaker (IsBeforeLine names old (stress_text old) turns) (IsStressMoment names old (stress_text old) turns line) (λ m is. at_moment old (stress_text old) turns line m is) here.1.moments here.1.safe
+
+  safe_now : (told : TellsStress tells) (line : List ℕ) → let here = turn.told told in IsStressSafe names old now (stress_text old) (turns_of (opened_file old stress_name).state commands here.0) line
+  safe_now told line =
+      let here = turn.told told in record { moments = here.1.moments; added = here.1.added; safe = moments_now told line; spared = here.1.spared; steps = here.1.steps }
 
   -- the run stops before it writes the line
   pub stops : (count : ℕ) (end : Ending) → (told : TellsStress tells) → StressedBy end count old now marks (did_of commands (turn.told told).0) → Rattle.vs_top.specs.Run.FailedBy end old now → Rattle.vs_top.specs.Run.is_early end ≡ false
@@ -81,11 +79,11 @@ module _ (tells : Tells) (old now : Scene) (session : Session) (marks : List Mar
       let here = turn.told told in
       record {
         did = did_of commands here.0;
-        kept = record { one_each = here.1.one_each; marks_are = here.1.marks_are; none_quits = here.1.none_quits };
+        kept = record { one_each = here.1.one_each; marks_are = here.1.marks_are; are_answered = here.1.are_answered };
         answered = answered;
-        safe = λ free. safe_now told;
+        safe = λ free. safe_now told (stress_line count old (did_of commands here.0));
         failed = failed;
-        same = λ early. absurd (true≢false (sym early ∙ late));
+        looks = λ early. absurd (true≢false (sym early ∙ late));
       }
 
   -- there is no memory
@@ -127,15 +125,16 @@ module _ (tells : Tells) (old now : Scene) (session : Session) (marks : List Mar
           record {
             one_each = here.1.one_each;
             marks_are = here.1.marks_are;
-            none_quits = here.1.none_quits;
+            are_answered = here.1.are_answered;
             errors = here.1.errors;
             fits = fits told.folder _ _ here.1.fits;
             moments = here.1.moments;
             added = ap (λ (s : Scene). s.trace) is ∙ here.1.added;
             safe = here.1.safe;
             spared = subst (λ (s : Scene). Rattle.vs_disk.specs.Names.SameAt (is_foreign names) old.folder s.folder) (sym is) here.1.spared;
-            first = here.1.first;
-            steps = subst (λ (s : Scene). HasSteps names here.1.first (turns_of (opened_file old stress_name).state commands here.0) s.folder) (sym is) here.1.steps;
+            steps = subst (λ (s : Scene). HasSteps names (folder_after old here.1.moments) 0 old.folder_faults (turns_of (opened_file old stress_name).state commands here.0) s.folder_faults) (sym is) here.1.steps;
+            newest_at_start = here.1.newest_at_start;
+            newest = subst HasNewest (sym is) here.1.newest;
             output = ap (λ (s : Scene). s.output) is ∙ here.1.output;
             answers = ap (λ (s : Scene). length s.answers) is ∙ here.1.answers;
             counted = subst (λ (s : Scene). IsCounted output_count old s) (sym is) here.1.counted;
@@ -163,44 +162,56 @@ module _ (tells : Tells) (old now : Scene) (session : Session) (marks : List Mar
 
   module _ (count : ℕ) (all : commands ≡ stress_commands count) (line : List ℕ) (some : 0 < length line)
       (line_is : (told : TellsStress tells) → line ≡ stress_line count old (did_of commands (turn.told told).0)) where
-    -- what is known of the folder after the write, or a part of it
-    put_safe : (new : Scene) → ChangesOutput now new → (IsTrue tells.folder → IsAdded WroteOutput [] now new) → (told : TellsStress tells)
-        → IsStressSafe names old new (stress_text old) (turns_of (opened_file old stress_name).state commands (turn.told told).0)
-    put_safe new frame added told =
-        let was = safe_now told in
-        let here = turn.told told in
-        let turns : List Turn = turns_of (opened_file old stress_name).state commands here.0 in
+    abbrev ends : TellsStress tells → List Ended
+    ends told = (turn.told told).0
+
+    abbrev turns : TellsStress tells → List Turn
+    turns told = turns_of (opened_file old stress_name).state commands (ends told)
+
+    -- the line as the commands have it
+    abbrev told_line : TellsStress tells → List ℕ
+    told_line told = stress_line count old (did_of commands (ends told))
+
+    -- what is known of the folder after the write of the line, or of a part of it
+    put_safe : (new : Scene) → ChangesOutput now new → (IsTrue tells.folder → IsAdded WroteOutput [] now new) → (told : TellsStress tells) → (n : ℕ) → new.output ≡ old.output ++ take n (told_line told)
+        → IsStressSafe names old new (stress_text old) (turns told) (told_line told)
+    put_safe new frame added told n output =
+        let here = (turn.told told).1 in
+        let syncs : List Sync = after_turns (opened (stress_text old)) (turns told) in
         let folder : new.folder ≡ now.folder = ap (λ (s : Scene). s.folder) frame in
-        let between : IsBetween names (after_turns (opened (stress_text old)) turns) now.folder =
-        subst (λ (n : Names). IsBetween n (after_turns (opened (stress_text old)) turns) now.folder) turn.keeps.names (fits_between session.text now.folder _ _ here.1.fits.stands.text) in
-        let spared = subst (λ (d : Disk). Rattle.vs_disk.specs.Names.SameAt (is_foreign names) old.folder d) (sym folder) was.spared in
-        let moment : IsStressMoment names old (stress_text old) turns (snapshot_of new WroteOutput []) = record {
+        let answers : length new.answers ≡ length old.answers + length (turns told) = ap (λ (s : Scene). length s.answers) frame ∙ here.answers in
+        let between : IsBetween names syncs now.folder = subst (λ (n : Names). IsBetween n syncs now.folder) turn.keeps.names (fits_between session.text now.folder _ _ here.fits.stands.text) in
+        let spared = subst (λ (d : Disk). Rattle.vs_disk.specs.Names.SameAt (is_foreign names) old.folder d) (sym folder) here.spared in
+        let steps : HasSteps names (folder_after old here.moments) 0 old.folder_faults (turns told) new.folder_faults =
+        subst (λ (n : ℕ). HasSteps names (folder_after old here.moments) 0 old.folder_faults (turns told) n) (sym (ap (λ (s : Scene). s.folder_faults) frame)) here.steps in
+        let last : Snapshot = snapshot_of new WroteOutput [] in
+        let moment : IsStressMoment names old (stress_text old) (turns told) (told_line told) last = record {
           spared = spared;
-          recovers = inr (inr (record {
-            answered = ap (λ (s : Scene). length s.answers) frame ∙ here.1.answers;
-            recovers = subst (λ (d : Disk). RecoversOrNone names (recoverable (after_turns (opened (stress_text old)) turns)) d) (sym folder)
-                (or_none names _ now.folder (between_recovers names (after_turns (opened (stress_text old)) turns) now.folder between));
-          }));
+          recovers = inr (inr (inl (record {
+            answered = answers;
+            written = (n, output);
+            recovers = subst (λ (d : Disk). Recovers names (recoverable syncs) d) (sym folder) (between_recovers names syncs now.folder between);
+          })));
         } in
+        let same : (k : ℕ) → 0 ≤ k → k ≤ 0 + length (turns told) → folder_after old here.moments k ≡ folder_after old (last ∷ here.moments) k = λ k least most.
+        sym (folders_on old here.moments k (last ∷ []) (
+          elim (leb_tells (length (turns told)) k) [
+            | inl end ↦
+                let is : k ≡ length (turns told) = omega (arith, most, end.1) in
+                inr (folder ∙ sym (told_folder old now session marks clean commands (ends told) here) ∙ ap (λ (k : ℕ). folder_after old here.moments k) (sym is))
+            | inr earlier ↦ inl (later_read old k last (omega (arith, answers, earlier.1)))
+          ],
+          tt,
+        )) in
         elim (added told.folder) [
           | inl told_here ↦ record {
-            moments = snapshot_of new WroteOutput [] ∷ was.moments;
-            added = told_here ∙ ap (λ (ms : List Snapshot). snapshot_of new WroteOutput [] ∷ ms) was.added;
-            safe = (moment, was.safe);
+            moments = last ∷ here.moments;
+            added = told_here ∙ ap (λ (ms : List Snapshot). last ∷ ms) here.added;
+            safe = (moment, moments_now told (told_line told));
             spared = spared;
-            first = was.first;
-            last = was.last;
-            steps = was.steps;
+            steps = steps_as names (folder_after old here.moments) (folder_after old (last ∷ here.moments)) 0 old.folder_faults new.folder_faults (turns told) same steps;
           }
-          | inr left ↦ record {
-            moments = was.moments;
-            added = left.trace ∙ was.added;
-            safe = was.safe;
-            spared = spared;
-            first = was.first;
-            last = was.last;
-            steps = was.steps;
-          }
+          | inr left ↦ record { moments = here.moments; added = left.trace ∙ here.added; safe = moments_now told (told_line told); spared = spared; steps = steps }
         ]
 
     -- a part of it was written
@@ -213,13 +224,14 @@ module _ (tells : Tells) (old now : Scene) (session : Session) (marks : List Mar
           told = λ told.
               let here = turn.told told in
               let cut = wrote told.output in
+              let output : new.output ≡ old.output ++ take cut.0 (told_line told) = cut.1 ∙ ap (λ (l : List ℕ). l ++ take cut.0 line) here.1.output ∙ ap (λ (l : List ℕ). old.output ++ take cut.0 l) (line_is told) in
               record {
                 did = did_of commands here.0;
-                kept = record { one_each = here.1.one_each; marks_are = here.1.marks_are; none_quits = here.1.none_quits };
-                answered = (cut.0, record { all = all; output = cut.1 ∙ ap (λ (l : List ℕ). l ++ take cut.0 line) here.1.output ∙ ap (λ (l : List ℕ). old.output ++ take cut.0 l) (line_is told) });
-                safe = λ free. put_safe new frame added told;
+                kept = record { one_each = here.1.one_each; marks_are = here.1.marks_are; are_answered = here.1.are_answered };
+                answered = (cut.0, record { all = all; output = output });
+                safe = λ free. put_safe new frame added told cut.0 output;
                 failed = rose_at output_count old now new WroteOutput [] (added told.folder) rose here.1.counted;
-                same = λ early. absurd (true≢false (sym early));
+                looks = λ early. absurd (true≢false (sym early));
               };
           swap = λ told same. absurd (cc);
           barred = λ told has. absurd (turn.keeps.free told has);
@@ -242,7 +254,7 @@ module _ (tells : Tells) (old now : Scene) (session : Session) (marks : List Mar
           let first : OnlyFolder (counts_of now) (counts_of mid) = record { script = ap (λ (s : Scene). s.script_faults) frame; output = quiet; later = omega (arith, ap (λ (s : Scene). s.folder_faults) frame) } in
           only_then (counts_of old) (counts_of mid) (counts_of new) (only_then (counts_of old) (counts_of now) (counts_of mid) before first) (only_folder mid new finishes.frame finishes.later)
 
-      causes_new : All (HasCause (counts_of old) (counts_of new)) marks
+      causes_new : All (FaultHasCause (counts_of old) (counts_of new)) marks
       causes_new = causes_on (counts_of old) (counts_of now) (counts_of new) marks (omega (arith, ap (λ (s : Scene). s.folder_faults) frame, finishes.later)) turn.keeps.causes
 
       times_new : IsTrue tells.clock → IsTimed old new marks
@@ -252,51 +264,62 @@ module _ (tells : Tells) (old now : Scene) (session : Session) (marks : List Mar
       script_new = ap (λ (s : Scene). s.script) finishes.frame ∙ ap (λ (s : Scene). s.script) frame ∙ turn.script
 
       module _ (told : TellsStress tells) where
-        abbrev ends : List Ended
-        ends = (turn.told told).0
-
-        abbrev turns : List Turn
-        turns = turns_of (opened_file old stress_name).state commands ends
-
         abbrev syncs : List Sync
-        syncs = after_turns (opened (stress_text old)) turns
+        syncs = after_turns (opened (stress_text old)) (turns told)
+
+        mid_output : mid.output ≡ old.output ++ told_line told
+        mid_output = wrote told.output ∙ ap (λ (l : List ℕ). l ++ line) (turn.told told).1.output ∙ ap (λ (l : List ℕ). old.output ++ l) (line_is told)
+
+        long_line : length old.output < length (old.output ++ told_line told)
+        long_line = omega (arith, some, ap (λ (l : List ℕ). length l) (line_is told), length-append old.output (told_line told))
+
+        mid_safe : IsStressSafe names old mid (stress_text old) (turns told) (told_line told)
+        mid_safe = put_safe mid frame added told (length (told_line told)) (mid_output ∙ ap (λ (l : List ℕ). old.output ++ l) (sym (take_all (length (told_line told)) (told_line told) (omega arith))))
 
         works : Works names None (RecoversOrNone names (recoverable syncs)) mid new
         works =
             subst (λ (n : Names). Works n None (RecoversOrNone n (recoverable syncs)) mid new) turn.keeps.names
-            (finishes.quit refl told.folder _ syncs (subst (λ (d : Disk). Fits session d (states_after (opened_file old stress_name).state commands ends) syncs) (sym (ap (λ (s : Scene). s.folder) frame)) (turn.told told).1.fits)).works
+            (finishes.quit refl told.folder _ syncs (subst (λ (d : Disk). Fits session d (states_after (opened_file old stress_name).state commands (ends told)) syncs) (sym (ap (λ (s : Scene). s.folder) frame)) (turn.told told).1.fits)).works
 
-        removal : (m : Snapshot) → Inside new (Spares names None (RecoversOrNone names (recoverable syncs)) mid.folder) m → IsStressMoment names old (stress_text old) turns m
+        -- a moment of the removal
+        abbrev OfRemoval : Snapshot → Type 0
+        OfRemoval m = Inside new (Spares names None (RecoversOrNone names (recoverable syncs)) mid.folder) m
+
+        removal : (m : Snapshot) → OfRemoval m → IsStressMoment names old (stress_text old) (turns told) (told_line told) m
         removal m inside = record {
-          spared = same_then (is_foreign names) old.folder mid.folder m.folder (put_safe mid frame added told).spared inside.folder.spared;
-          recovers = inr (inr (record {
+          spared = same_then (is_foreign names) old.folder mid.folder m.folder mid_safe.spared inside.folder.spared;
+          recovers = inr (inr (inr (record {
             answered = inside.answered ∙ ap (λ (s : Scene). length s.answers) finishes.frame ∙ ap (λ (s : Scene). length s.answers) frame ∙ (turn.told told).1.answers;
+            written = inside.output ∙ works.output ∙ mid_output;
             recovers = inside.folder.folder;
-          }));
+          })));
         }
 
-        end_safe : IsStressSafe names old new (stress_text old) turns
+        -- it is behind all commands
+        same_folders : (k : ℕ) → 0 ≤ k → k ≤ 0 + length (turns told) → folder_after old mid_safe.moments k ≡ folder_after old (works.moments.added ++ mid_safe.moments) k
+        same_folders k least most =
+            sym (folders_on old mid_safe.moments k works.moments.added
+            (Each-weaker OfRemoval (λ m. (is_up_to old k m ≡ false) ⊎ (m.folder ≡ folder_after old mid_safe.moments k))
+            (λ m inside. inl (later_written old k m (omega (arith, long_line, ap (λ (l : List ℕ). length l) (inside.output ∙ works.output ∙ mid_output))))) works.moments.added works.moments.each))
+
+        end_safe : IsStressSafe names old new (stress_text old) (turns told) (told_line told)
         end_safe =
-            let was = put_safe mid frame added told in
+            let was = mid_safe in
             record {
               moments = works.moments.added ++ was.moments;
               added = works.moments.is ∙ ap (λ (ms : List Snapshot). works.moments.added ++ ms) was.added ∙ sym (append_assoc works.moments.added was.moments old.trace);
-              safe = Each-append (IsStressMoment names old (stress_text old) turns) works.moments.added was.moments
-                  (Each-weaker (Inside new (Spares names None (RecoversOrNone names (recoverable syncs)) mid.folder)) (IsStressMoment names old (stress_text old) turns) removal works.moments.added works.moments.each) was.safe;
+              safe = Each-append (IsStressMoment names old (stress_text old) (turns told) (told_line told)) works.moments.added was.moments
+                  (Each-weaker OfRemoval (IsStressMoment names old (stress_text old) (turns told) (told_line told)) removal works.moments.added works.moments.each) was.safe;
               spared = same_then (is_foreign names) old.folder mid.folder new.folder was.spared works.spared;
-              first = was.first;
-              last = was.last;
-              steps = was.steps;
+              steps = steps_later names (folder_after old (works.moments.added ++ was.moments)) 0 old.folder_faults mid.folder_faults new.folder_faults (turns told) finishes.later
+                  (steps_as names (folder_after old was.moments) (folder_after old (works.moments.added ++ was.moments)) 0 old.folder_faults mid.folder_faults (turns told) same_folders was.steps);
             }
 
-        stressed : HasStressed count old new (did_of commands ends) (stress_line count old (did_of commands ends))
-        stressed = record {
-          all = all;
-          output = works.output ∙ wrote told.output ∙ ap (λ (l : List ℕ). l ++ line) (turn.told told).1.output ∙ ap (λ (l : List ℕ). old.output ++ l) (line_is told);
-        }
+        stressed : HasStressed count old new (did_of commands (ends told)) (told_line told)
+        stressed = record { all = all; output = works.output ∙ mid_output }
 
-        kept : IsKept (opened_file old stress_name) marks (did_of commands ends)
-        kept = let here = (turn.told told).1 in record { one_each = here.one_each; marks_are = here.marks_are; none_quits = here.none_quits }
+        kept : KeepsMarks (opened_file old stress_name) marks (did_of commands (ends told))
+        kept = let here = (turn.told told).1 in record { one_each = here.one_each; marks_are = here.marks_are; are_answered = here.are_answered }
 
         counted : IsCounted folder_count old mid
         counted = elim (added told.folder) [
@@ -313,7 +336,7 @@ module _ (tells : Tells) (old now : Scene) (session : Session) (marks : List Mar
           answered = inr (inr (stressed told));
           safe = λ free. end_safe told;
           failed = rose_last folder_count old mid new (λ m calm. calm.folder) (finishes.last told.folder) rose (counted told);
-          same = λ early. absurd (true≢false (sym early));
+          looks = λ early. absurd (true≢false (sym early));
         };
         swap = λ told same. absurd (cc);
         barred = λ told has. absurd (turn.keeps.free told has);
@@ -339,7 +362,7 @@ module _ (tells : Tells) (old now : Scene) (session : Session) (marks : List Mar
           by_clean : (b : Bool) → ((told : TellsStress tells) → b ≡ not (Rattle.vs_session.specs.Session.any_error (opened_file old stress_name).state commands (ends told)))
               → RunsStress tells count old new (if b then ending.Done else ending.WithErrors) marks
           by_clean true errors = record {
-            told = λ told. record { did = did_of commands (ends told); kept = kept told; answered = ends_as true errors told; safe = λ free. end_safe told; failed = tt; same = λ early. absurd (true≢false (sym early)) };
+            told = λ told. record { did = did_of commands (ends told); kept = kept told; answered = ends_as true errors told; safe = λ free. end_safe told; failed = tt; looks = λ early. absurd (true≢false (sym early)) };
             swap = λ told same. absurd (cc);
             barred = λ told has. absurd (turn.keeps.free told has);
             file = turn.keeps.file;
@@ -349,7 +372,7 @@ module _ (tells : Tells) (old now : Scene) (session : Session) (marks : List Mar
             times = times_new;
           }
           by_clean false errors = record {
-            told = λ told. record { did = did_of commands (ends told); kept = kept told; answered = ends_as false errors told; safe = λ free. end_safe told; failed = tt; same = λ early. absurd (true≢false (sym early)) };
+            told = λ told. record { did = did_of commands (ends told); kept = kept told; answered = ends_as false errors told; safe = λ free. end_safe told; failed = tt; looks = λ early. absurd (true≢false (sym early)) };
             swap = λ told same. absurd (cc);
             barred = λ told has. absurd (turn.keeps.free told has);
             file = turn.keeps.file;

@@ -58,7 +58,3 @@ stress_through tells count old new ending.ScriptTooLong marks runs free = (runs.
 
 pub stress_marks : (tells : Tells) (count : ℕ) (old new : Scene) (end : Ending) (marks : List Mark) → RunsStress tells count old new end marks → IsStressUnhindered tells old new → All IsThroughMark marks
 stress_marks tells count old new end marks runs free = λ k d within. through_outcome (get_or marks k d).outcome (λ is. free.no_folder_fault (runs.causes k d within is))
-
--- the same run of a number that is the same
-pub stress_same : (tells : Tells) (a b : ℕ) (old new : Scene) (end : Ending) (marks : List Mark) → a ≡ b → RunsStress tells a old new end marks → RunsStress tells b old new end marks
-stress_same tells a b old new end marks is runs = subst (λ (n : ℕ). RunsStress tells n old new end marks) is runs

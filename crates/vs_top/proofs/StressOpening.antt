@@ -5,9 +5,9 @@ use Rattle.std.proofs.lemmas.List.Elements.{All-nil}
 use Rattle.vs_faults.specs.Faults.{HasRisen, IsQuiet}
 use Rattle.vs_host.specs.Names.{names_of_file}
 use Rattle.vs_host.specs.Trace.{Snapshot}
-use Rattle.vs_host.specs.World.{Tells, Scene, content_of}
+use Rattle.vs_host.specs.World.{Tells, Scene, HasNewest, content_of}
 use Rattle.vs_host.specs.declared.names.Names.{Names}
-use Rattle.vs_disk.specs.Runs.{Inside}
+use Rattle.vs_disk.specs.Runs.{Inside, Looks}
 use Rattle.vs_disk.proofs.Runs.{Each-weaker}
 use Rattle.vs_pair.specs.Acts.{Acts}
 use Rattle.vs_machine.specs.declared.command.Mark.{Mark}
@@ -21,12 +21,13 @@ use Rattle.vs_session.specs.Open.{IsTooLarge, OnlyLooks}
 use Rattle.vs_session.specs.Fits.{Fits, HasSwap, Opens, names_of}
 use Rattle.vs_stress.specs.Commands.{stress_commands}
 use Rattle.vs_top.specs.Ending.{open_ending}
-use Rattle.vs_top.specs.Run.{FailedBy, FileFits, HasCause, counts_of, is_early, opened_file}
-use Rattle.vs_top.specs.Stress.{TellsStress, HasStress, IsBeforeRemoval, IsStressMoment, RunsStress, StressedBy, stress_name, stress_text}
+use Rattle.vs_top.specs.Run.{FailedBy, FileFits, FaultHasCause, counts_of, is_early, opened_file}
+use Rattle.vs_top.specs.Stress.{TellsStress, HasStress, IsBeforeLine, IsStressMoment, RunsStress, StressedBy, stress_line, stress_name, stress_text}
 use Rattle.vs_top.specs.StressTurns.{IsStressTurn}
 use Rattle.vs_top.specs.declared.ending.Ending.{Ending}
 use Rattle.vs_top.specs.declared.ending.Ending.TheVariants as ending
 use Rattle.vs_top.proofs.Counting.{only_folder}
+use Rattle.vs_top.proofs.Edits.{only_looked}
 use Rattle.vs_top.proofs.Opening.{did_none, kept_none, no_causes, no_times}
 use Rattle.vs_top.proofs.StressEnds.{at_moment}
 
@@ -34,13 +35,13 @@ abbrev names : Names
 names = names_of_file stress_name
 
 module _ (tells : Tells) (old new : Scene) (acts : Acts tells (Opens stress_name) old new) where
-  before : (free : HasSwap names old.folder → ⊥) → (m : Snapshot) → Inside old (Opens stress_name old.folder) m → IsBeforeRemoval names old (stress_text old) [] m
-  before free m inside = record { spared = inside.folder.spared; recovers = inl (record { answered = inside.answered; recovers = inside.folder.safe free }) }
+  before : (free : HasSwap names old.folder → ⊥) → (m : Snapshot) → Inside old (Opens stress_name old.folder) m → IsBeforeLine names old (stress_text old) [] m
+  before free m inside = record { spared = inside.folder.spared; recovers = inl (record { answered = inside.answered; written = inside.output; recovers = inside.folder.safe free }) }
 
   -- it was not opened
   module _ (count : ℕ) (marks : List Mark) (none : marks ≡ []) where
-    stress_none : (end : Ending) → TellsStress tells → StressedBy end count old new marks did_none → FailedBy end old new → (IsTrue (is_early end) → new.folder ≡ old.folder) → HasStress count old new end marks
-    stress_none end told answered failed same = record {
+    stress_none : (end : Ending) → TellsStress tells → StressedBy end count old new marks did_none → FailedBy end old new → (IsTrue (is_early end) → Looks old new) → HasStress count old new end marks
+    stress_none end told answered failed looks = record {
       did = did_none;
       kept = kept_none stress_name old marks none;
       answered = answered;
@@ -49,14 +50,12 @@ module _ (tells : Tells) (old new : Scene) (acts : Acts tells (Opens stress_name
           record {
             moments = runs.moments.added;
             added = runs.moments.is;
-            safe = Each-weaker (Inside old (Opens stress_name old.folder)) (IsStressMoment names old (stress_text old) []) (λ m inside. at_moment old (stress_text old) [] m (before free m inside)) runs.moments.added runs.moments.each;
+            safe = Each-weaker (Inside old (Opens stress_name old.folder)) (IsStressMoment names old (stress_text old) [] (stress_line count old did_none)) (λ m inside. at_moment old (stress_text old) [] (stress_line count old did_none) m (before free m inside)) runs.moments.added runs.moments.each;
             spared = runs.now.spared;
-            first = new.folder;
-            last = new.folder;
-            steps = refl;
+            steps = acts.later;
           };
       failed = failed;
-      same = same;
+      looks = looks;
     }
 
     output_same : new.output ≡ old.output
@@ -68,40 +67,40 @@ module _ (tells : Tells) (old new : Scene) (acts : Acts tells (Opens stress_name
     pub stress_open_fails : (error : OpenErr) → (error ≡ opening.Failed → HasRisen old.folder_faults new.folder_faults) → IsQuiet old.folder_faults new.folder_faults (error ≡ opening.Failed)
         → ((size : ℕ) → error ≡ opening.TextLimit size → IsTooLarge tells size (content_of old stress_name)) → (error ≡ opening.SwapFound → IsTrue tells.folder → HasSwap names old.folder)
         → (IsTrue tells.folder → HasSwap names old.folder → (error ≡ opening.SwapFound) ⊎ (error ≡ opening.Failed) ⊎ (error ≡ opening.NoMemory))
-        → ((error ≡ opening.Failed → ⊥) → OnlyLooks tells old new) → RunsStress tells count old new (open_ending error) marks
-    stress_open_fails opening.SwapFound failed quiet limit swap barred looks = record {
-      told = λ told. stress_none ending.SwapFound told (record { none = none; output = output_same }) tt (λ early. ((looks (λ is. absurd (cc))).runs told.folder).now);
+        → (IsTrue tells.folder → HasSwap names old.folder → OnlyLooks tells old new) → ((error ≡ opening.Failed → ⊥) → OnlyLooks tells old new) → RunsStress tells count old new (open_ending error) marks
+    stress_open_fails opening.SwapFound failed quiet limit swap barred barred_looks looks = record {
+      told = λ told. stress_none ending.SwapFound told (record { none = none; output = output_same }) tt (λ early. (looks (λ is. absurd (cc))).runs told.folder);
       swap = λ told is. swap refl told;
-      barred = λ told has. tt;
+      barred = λ told has. only_looked tells old new ending.SwapFound marks tt none (barred_looks told has) told;
       file = λ told. tt;
       script = ap (λ (s : Scene). s.script) acts.frame;
       counts = all_quiet (quiet (λ is. absurd (cc)));
       causes = no_causes (counts_of old) (counts_of new) marks none;
       times = λ told. no_times old new marks none (ap (λ (s : Scene). s.answers) acts.frame);
     }
-    stress_open_fails opening.Failed failed quiet limit swap barred looks = record {
+    stress_open_fails opening.Failed failed quiet limit swap barred barred_looks looks = record {
       told = λ told. stress_none ending.FolderFault told (inl (record { none = none; output = output_same }))
           (rose_last folder_count old old new (λ m calm. calm.folder) (acts.last told.folder) (failed refl) (counted_none folder_count old)) (λ early. absurd (true≢false (sym early)));
       swap = λ told is. absurd (cc);
-      barred = λ told has. tt;
+      barred = λ told has. only_looked tells old new ending.FolderFault marks tt none (barred_looks told has) told;
       file = λ told. tt;
       script = ap (λ (s : Scene). s.script) acts.frame;
       counts = (failed refl, only_folder old new acts.frame acts.later);
       causes = no_causes (counts_of old) (counts_of new) marks none;
       times = λ told. no_times old new marks none (ap (λ (s : Scene). s.answers) acts.frame);
     }
-    stress_open_fails opening.NoMemory failed quiet limit swap barred looks = record {
+    stress_open_fails opening.NoMemory failed quiet limit swap barred barred_looks looks = record {
       told = λ told. stress_none ending.NoMemory told (record { rest = stress_commands count; first = refl; output = output_same }) tt (λ early. absurd (true≢false (sym early)));
       swap = λ told is. absurd (cc);
-      barred = λ told has. tt;
+      barred = λ told has. only_looked tells old new ending.NoMemory marks tt none (barred_looks told has) told;
       file = λ told. tt;
       script = ap (λ (s : Scene). s.script) acts.frame;
       counts = only_folder old new acts.frame acts.later;
       causes = no_causes (counts_of old) (counts_of new) marks none;
       times = λ told. no_times old new marks none (ap (λ (s : Scene). s.answers) acts.frame);
     }
-    stress_open_fails (opening.TextLimit size) failed quiet limit swap barred looks = record {
-      told = λ told. stress_none (ending.TextLimit size) told (record { none = none; output = output_same }) tt (λ early. ((looks (λ is. absurd (cc))).runs told.folder).now);
+    stress_open_fails (opening.TextLimit size) failed quiet limit swap barred barred_looks looks = record {
+      told = λ told. stress_none (ending.TextLimit size) told (record { none = none; output = output_same }) tt (λ early. (looks (λ is. absurd (cc))).runs told.folder);
       swap = λ told is. absurd (cc);
       barred = λ told has. elim (barred told has) [ inl is ↦ absurd (cc) | inr more ↦ elim more [ inl is ↦ absurd (cc) | inr is ↦ absurd (cc) ] ];
       file = λ told. (limit size refl).passes told;
@@ -113,23 +112,25 @@ module _ (tells : Tells) (old new : Scene) (acts : Acts tells (Opens stress_name
 
   -- it was opened
   pub stress_opened : (session : Session) → names_of session ≡ names → (IsTrue tells.folder → HasSwap names old.folder → ⊥) → (IsTrue tells.folder → FileFits (content_of old stress_name))
-      → (IsTrue tells.folder → Fits session new.folder (opened_file old stress_name).state (opened (stress_text old))) → IsStressTurn tells old new session [] true []
-  stress_opened session same free file fits = record {
+      → (IsTrue tells.folder → Fits session new.folder (opened_file old stress_name).state (opened (stress_text old))) → (IsTrue tells.folder → HasNewest old) → (IsTrue tells.folder → HasNewest new)
+      → IsStressTurn tells old new session [] true []
+  stress_opened session same free file fits newest_at_start newest = record {
     told = λ told.
         let runs = acts.runs told.folder in (
           [],
           record {
             one_each = refl;
             marks_are = refl;
-            none_quits = tt;
+            are_answered = tt;
             errors = refl;
             fits = fits told.folder;
             moments = runs.moments.added;
             added = runs.moments.is;
-            safe = Each-weaker (Inside old (Opens stress_name old.folder)) (IsBeforeRemoval names old (stress_text old) []) (before (free told.folder)) runs.moments.added runs.moments.each;
+            safe = Each-weaker (Inside old (Opens stress_name old.folder)) (IsBeforeLine names old (stress_text old) []) (before (free told.folder)) runs.moments.added runs.moments.each;
             spared = runs.now.spared;
-            first = new.folder;
-            steps = refl;
+            steps = acts.later;
+            newest_at_start = newest_at_start told.folder;
+            newest = newest told.folder;
             output = ap (λ (s : Scene). s.output) acts.frame;
             answers = omega (arith, ap (λ (s : Scene). length s.answers) acts.frame);
             counted = counted_on output_count old old new
@@ -141,7 +142,7 @@ module _ (tells : Tells) (old new : Scene) (acts : Acts tells (Opens stress_name
                 (ap (λ (s : Scene). s.out_faults) acts.frame) (counted_none output_count old);
           },
         );
-    keeps = record { free = free; file = file; names = same; counts = only_folder old new acts.frame acts.later; causes = All-nil (HasCause (counts_of old) (counts_of new)) };
+    keeps = record { free = free; file = file; names = same; counts = only_folder old new acts.frame acts.later; causes = All-nil (FaultHasCause (counts_of old) (counts_of new)) };
     script = ap (λ (s : Scene). s.script) acts.frame;
     times = λ told. ap (λ (s : Scene). s.answers) acts.frame ∙ sym (append-nil old.answers);
   }

@@ -1,5 +1,5 @@
 -- A command of the stress mode: what it leaves of what is known between two of them.
-use Rattle.std.proofs.Common.{◌≡◌, inl, inr, ℕ, ◌+◌, Bool, false, not, ◌&&◌, ◌||◌, if◌then◌else◌, List, [], ◌∷◌, ◌++◌, length, map, Option, Some, None, Ok, IfSome, refl, sym, ap, subst, ◌∙◌, append_assoc, arith}
+use Rattle.std.proofs.Common.{◌≡◌, ◌⊎◌, inl, inr, ℕ, ◌≤◌, ◌+◌, Bool, true, false, not, ◌&&◌, ◌||◌, if◌then◌else◌, List, [], ◌∷◌, ◌++◌, length, map, Option, Some, None, Ok, IsTrue, refl, sym, ap, subst, ◌∙◌, append_assoc, arith}
 use Rattle.std.proofs.lemmas.Bool.{true≢false}
 use Rattle.std.proofs.lemmas.List.{length-append}
 use Rattle.std.proofs.lemmas.List.Elements.{All-nil, All-cons, All-append}
@@ -7,7 +7,7 @@ use Rattle.vs_faults.proofs.Causes.{risen_after}
 use Rattle.vs_host.specs.Disk.{Disk}
 use Rattle.vs_host.specs.Names.{names_of_file}
 use Rattle.vs_host.specs.Trace.{Snapshot, Each}
-use Rattle.vs_host.specs.World.{Tells, Scene}
+use Rattle.vs_host.specs.World.{Tells, Scene, HasNewest}
 use Rattle.vs_host.specs.declared.names.Names.{Names}
 use Rattle.vs_disk.specs.Runs.{Inside}
 use Rattle.vs_disk.proofs.Runs.{Each-append, Each-weaker}
@@ -19,7 +19,7 @@ use Rattle.vs_excmd.specs.declared.request.Request.{Request}
 use Rattle.vs_machine.specs.Machine.{is_done}
 use Rattle.vs_machine.specs.Replies.{Answer}
 use Rattle.vs_machine.specs.declared.command.Mark.{Mark}
-use Rattle.vs_safety.specs.Texts.{Text, Sync, IsFlag}
+use Rattle.vs_safety.specs.Texts.{Text, Sync}
 use Rattle.vs_safety.specs.Turns.{Turn, with_begun, with_sync, after_turns, opened}
 use Rattle.vs_safety.specs.FileWork.{FileWork}
 use Rattle.vs_safety.specs.Safety.{IsUnderWay, Spares, Stepped, Works}
@@ -27,22 +27,16 @@ use Rattle.vs_safety.proofs.Splits.{after_push}
 use Rattle.vs_session.specs.declared.session.Session.{Session}
 use Rattle.vs_session.specs.Session.{SessionState, Ended, is_write, lacks_name, states_after, turn_of, turns_of, any_error, undo_work, write_work, writes_files}
 use Rattle.vs_session.specs.Fits.{Answers, Fits}
-use Rattle.vs_top.specs.Run.{counts_of, HasCause, opened_file}
-use Rattle.vs_top.specs.Stress.{TellsStress, HasSteps, IsBeforeRemoval, stress_name, stress_text}
+use Rattle.vs_top.specs.Run.{counts_of, FaultHasCause, opened_file}
+use Rattle.vs_top.specs.Stress.{TellsStress, HasEnds, HasSteps, IsBeforeLine, folder_after, is_up_to, stress_name, stress_text}
 use Rattle.vs_top.specs.StressTurns.{IsStressTurn, StressTold}
 use Rattle.vs_top.proofs.Counting.{causes_on, counted_works}
 use Rattle.vs_top.proofs.Pushes.{and_not, errors_push, map_push, none_push, states_push, turns_push}
 use Rattle.vs_top.proofs.Stepping.{HasStepped}
-
--- one more step
-pub steps_push : (names : Names) (first mid last : Disk) (turns : List Turn) (turn : Turn) → HasSteps names first turns mid → turn.found ≡ Some mid
-    → IfSome turn.sync (λ sync. IsFlag names turn.done mid last sync.acknowledged) → HasSteps names first (turns ++ turn ∷ []) last
-steps_push names first mid last [] turn is found flag =
-    (last, found ∙ ap Some is, subst (λ (d : Disk). IfSome turn.sync (λ sync. IsFlag names turn.done d last sync.acknowledged)) is flag, refl)
-steps_push names first mid last (one ∷ turns) turn all found flag = (all.0, all.1, all.2, steps_push names all.0 mid last turns turn all.3 found flag)
+use Rattle.vs_top.proofs.StressFolders.{before_line, folder_now, folders_on, later_read, steps_as, steps_push, told_folder}
 
 -- the moments so far, with one command more
-pub moment_on : (names : Names) (start : Scene) (text : Text) (turns : List Turn) (turn : Turn) (m : Snapshot) → IsBeforeRemoval names start text turns m → IsBeforeRemoval names start text (turns ++ turn ∷ []) m
+pub moment_on : (names : Names) (start : Scene) (text : Text) (turns : List Turn) (turn : Turn) (m : Snapshot) → IsBeforeLine names start text turns m → IsBeforeLine names start text (turns ++ turn ∷ []) m
 moment_on names start text turns turn m is = record {
   spared = is.spared;
   recovers = elim is.recovers [
@@ -53,6 +47,7 @@ moment_on names start text turns turn m is = record {
       rest = at.rest ++ turn ∷ [];
       turns_are = ap (λ (ts : List Turn). ts ++ turn ∷ []) at.turns_are ∙ append_assoc at.first (at.turn ∷ at.rest) (turn ∷ []);
       answered = at.answered;
+      written = at.written;
       recovers = at.recovers;
     })
   ];
@@ -69,7 +64,7 @@ pub writes_none : (state : SessionState) (instruction : Instruction) (ended : En
 writes_none state instruction ended plain = no_work state ended.found ended.acknowledged (lacks_name state.options.write state.name ended.found) instruction.parsed plain
 
 module _ (tells : Tells) (old now new : Scene) (session after : Session) (marks : List Mark) (clean : Bool) (request : Request) (mark : Mark) (reply : Answer) (instruction : Instruction) (commands : List Instruction)
-    (step : HasStepped tells now new session after request mark reply) (meant : IsRequest request instruction) (plain : writes_files instruction.parsed ≡ false) (turn : IsStressTurn tells old now session marks clean commands) where
+    (step : HasStepped tells now new session after request mark reply) (newest : IsTrue tells.folder → HasNewest new) (meant : IsRequest request instruction) (plain : writes_files instruction.parsed ≡ false) (turn : IsStressTurn tells old now session marks clean commands) where
   module _ (told : TellsStress tells) (ends : List Ended) (here : StressTold old now session marks clean commands ends) where
     abbrev names : Names
     names = names_of_file stress_name
@@ -118,39 +113,78 @@ module _ (tells : Tells) (old now new : Scene) (session after : Session) (marks 
         let at : List ℕ = mark.at ∷ [] in
         omega (arith, ap (λ (l : List ℕ). length l) (step.clock told.clock), length-append now.answers at, here.answers)
 
-    moment_here : (m : Snapshot) → Inside new (Spares names None (IsUnderWay names (with_begun one.sync syncs) None) now.folder) m → IsBeforeRemoval names old (stress_text old) (turns ++ one ∷ []) m
+    moment_here : (m : Snapshot) → Inside new (Spares names None (IsUnderWay names (with_begun one.sync syncs) None) now.folder) m → IsBeforeLine names old (stress_text old) (turns ++ one ∷ []) m
     moment_here m inside = record {
       spared = same_then (is_foreign names) old.folder now.folder m.folder here.spared inside.folder.spared;
-      recovers = inr (record { first = turns; turn = one; rest = []; turns_are = refl; answered = inside.answered ∙ long_now; recovers = inside.folder.folder.recovers });
+      recovers = inr (record { first = turns; turn = one; rest = []; turns_are = refl; answered = inside.answered ∙ long_now; written = inside.output ∙ works.output ∙ here.output; recovers = inside.folder.folder.recovers });
     }
+
+    abbrev newer : List Snapshot
+    newer = works.moments.added
+
+    abbrev moments : List Snapshot
+    moments = newer ++ here.moments
+
+    added : new.trace ≡ moments ++ old.trace
+    added = works.moments.is ∙ ap (λ (ms : List Snapshot). newer ++ ms) here.added ∙ sym (append_assoc newer here.moments old.trace)
+
+    safe : Each (IsBeforeLine names old (stress_text old) (turns ++ one ∷ [])) moments
+    safe =
+        let each : List Turn → Snapshot → Type 0 = λ ts. IsBeforeLine names old (stress_text old) ts in
+        Each-append (each (turns ++ one ∷ [])) newer here.moments
+        (Each-weaker (Inside new (Spares names None (IsUnderWay names (with_begun one.sync syncs) None) now.folder)) (each (turns ++ one ∷ [])) moment_here newer works.moments.each)
+        (Each-weaker (each turns) (each (turns ++ one ∷ [])) (λ m is. moment_on names old (stress_text old) turns one m is) here.moments here.safe)
+
+    -- the folders of the commands before are those that they were
+    same_before : (n : ℕ) → 0 ≤ n → n ≤ 0 + length turns → folder_after old here.moments n ≡ folder_after old moments n
+    same_before n least most =
+        sym (folders_on old here.moments n newer
+        (Each-weaker (Inside new (Spares names None (IsUnderWay names (with_begun one.sync syncs) None) now.folder)) (λ m. (is_up_to old n m ≡ false) ⊎ (m.folder ≡ folder_after old here.moments n))
+        (λ m inside. inl (later_read old n m (omega (arith, inside.answered, long_now, most)))) newer works.moments.each))
+
+    found_folder : now.folder ≡ folder_after old moments (length turns)
+    found_folder = sym (told_folder old now session marks clean commands ends here) ∙ same_before (length turns) (omega arith) (omega arith)
+
+    left_folder : new.folder ≡ folder_after old moments (length turns + 1)
+    left_folder =
+        let last : List Turn = one ∷ [] in
+        sym (folder_now old new (length turns + 1) moments here.newest_at_start (newest told.folder) added
+        (Each-weaker (IsBeforeLine names old (stress_text old) (turns ++ last)) (λ m. is_up_to old (length turns + 1) m ≡ true)
+        (before_line names old (stress_text old) (turns ++ last) (length turns + 1) (omega (arith, length-append turns last))) moments safe))
+
+    ends_here : HasEnds names one (folder_after old moments (length turns)) (folder_after old moments (length turns + 1)) now.folder_faults new.folder_faults
+    ends_here =
+        subst (λ (d : Disk). HasEnds names one d (folder_after old moments (length turns + 1)) now.folder_faults new.folder_faults) found_folder
+        (subst (λ (d : Disk). HasEnds names one now.folder d now.folder_faults new.folder_faults) left_folder
+        (record { found = ap Some stepped.found; flag = stepped.flag; later = step.later; cause = stepped.cause }))
+
+    steps : HasSteps names (folder_after old moments) 0 old.folder_faults (turns ++ one ∷ []) new.folder_faults
+    steps =
+        steps_push names (folder_after old moments) 0 old.folder_faults now.folder_faults new.folder_faults (length turns) turns one (omega arith)
+        (steps_as names (folder_after old here.moments) (folder_after old moments) 0 old.folder_faults now.folder_faults turns same_before here.steps) ends_here
 
     told_on : StressTold old new after (marks ++ mark ∷ []) (clean && (is_done mark.outcome && not reply.is_error)) commands' ends'
     told_on =
-        let newer : List Snapshot = works.moments.added in
-        let each : List Turn → Snapshot → Type 0 = λ ts. IsBeforeRemoval names old (stress_text old) ts in
         let last : List Ended = ended ∷ [] in
         let more : List Instruction = instruction ∷ [] in
         let one_turn : List Turn = one ∷ [] in
         record {
           one_each = omega (arith, here.one_each, length-append ends last, length-append commands more);
           marks_are = ap (λ (l : List Mark). l ++ mark ∷ []) here.marks_are ∙ ap (λ (m : Mark). map (λ (e : Ended). e.mark) ends ++ m ∷ []) (sym answers.mark_is) ∙ sym (map_push (λ (e : Ended). e.mark) ends ended);
-          none_quits = none_push instruction ended first commands ends here.one_each here.none_quits answers.not_quit answers.found;
+          are_answered = none_push instruction ended first commands ends here.one_each here.are_answered answers.not_quit answers.found;
           errors = ap (λ (b : Bool). clean && b) (ap (λ (m : Mark). is_done m.outcome && not reply.is_error) (sym answers.mark_is)) ∙ ap (λ (b : Bool). b && (is_done ended.mark.outcome && not reply.is_error)) here.errors
               ∙ and_not (any_error first commands ends) (is_done ended.mark.outcome) reply.is_error
               ∙ ap (λ (a : Answer). not (any_error first commands ends || (not (is_done ended.mark.outcome) || a.is_error))) answers.reply_is
               ∙ ap not (sym (errors_push instruction ended first commands ends here.one_each));
           fits = subst (λ (ss : List Sync). Fits after new.folder (states_after first commands' ends') ss) (sym syncs_are)
               (subst (λ (s : SessionState). Fits after new.folder s (with_sync one.sync syncs)) (sym (states_push instruction ended first commands ends here.one_each)) answers.fits);
-          moments = newer ++ here.moments;
-          added = works.moments.is ∙ ap (λ (ms : List Snapshot). newer ++ ms) here.added ∙ sym (append_assoc newer here.moments old.trace);
-          safe = subst (λ (ts : List Turn). Each (each ts) (newer ++ here.moments)) (sym turns_are)
-              (Each-append (each (turns ++ one ∷ [])) newer here.moments
-              (Each-weaker (Inside new (Spares names None (IsUnderWay names (with_begun one.sync syncs) None) now.folder)) (each (turns ++ one ∷ [])) moment_here newer works.moments.each)
-              (Each-weaker (each turns) (each (turns ++ one ∷ [])) (λ m is. moment_on names old (stress_text old) turns one m is) here.moments here.safe));
+          moments = moments;
+          added = added;
+          safe = subst (λ (ts : List Turn). Each (IsBeforeLine names old (stress_text old) ts) moments) (sym turns_are) safe;
           spared = same_then (is_foreign names) old.folder now.folder new.folder here.spared works.spared;
-          first = here.first;
-          steps = subst (λ (ts : List Turn). HasSteps names here.first ts new.folder) (sym turns_are)
-              (steps_push names here.first now.folder new.folder turns one here.steps (ap Some stepped.found) stepped.flag);
+          steps = subst (λ (ts : List Turn). HasSteps names (folder_after old moments) 0 old.folder_faults ts new.folder_faults) (sym turns_are) steps;
+          newest_at_start = here.newest_at_start;
+          newest = newest told.folder;
           output = works.output ∙ here.output;
           answers = omega (arith, long_now, ap (λ (ts : List Turn). length ts) turns_are, length-append turns one_turn);
           counted = counted_works names None _ old now new (ap (λ (s : Scene). s.out_faults) step.frame) works here.counted;
@@ -171,9 +205,9 @@ module _ (tells : Tells) (old now new : Scene) (session after : Session) (marks 
             output = ap (λ (s : Scene). s.out_faults) step.frame ∙ before.output;
             later = omega (arith, before.later, step.later);
           };
-          causes = All-append (HasCause (counts_of old) (counts_of new)) marks (mark ∷ [])
+          causes = All-append (FaultHasCause (counts_of old) (counts_of new)) marks (mark ∷ [])
               (causes_on (counts_of old) (counts_of now) (counts_of new) marks step.later turn.keeps.causes)
-              (All-cons (HasCause (counts_of old) (counts_of new)) mark [] (λ is. risen_after before.later (step.risen is)) (All-nil (HasCause (counts_of old) (counts_of new))));
+              (All-cons (FaultHasCause (counts_of old) (counts_of new)) mark [] (λ is. risen_after before.later (step.risen is)) (All-nil (FaultHasCause (counts_of old) (counts_of new))));
         };
         script = ap (λ (s : Scene). s.script) step.frame ∙ turn.script;
         times = λ told.

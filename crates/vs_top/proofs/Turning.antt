@@ -37,10 +37,10 @@ use Rattle.vs_session.specs.declared.session.Session.{Session}
 use Rattle.vs_session.specs.declared.ending.End.{End}
 use Rattle.vs_session.specs.declared.ending.End.TheVariants as end
 use Rattle.vs_session.specs.Session.{SessionState, Ended, accepts_quit, reply_of, state_after, states_after, turn_of, turns_of, replies_of, any_error}
-use Rattle.vs_session.specs.Fits.{Answers, Fits, HasSwap, StepsIn, names_of}
+use Rattle.vs_session.specs.Fits.{Answers, Fits, StepsIn, names_of}
 use Rattle.vs_top.specs.Ending.{script_ending}
-use Rattle.vs_top.specs.Run.{TellsRun, Did, IsKept, IsCutShort, HasRun, RunsEdit, Counts, counts_of, OnlyFolder, HasCause, IsBarred, IsTimed, NoneQuits, IsWithin, commands_in, commands_within, opened_file, ran_of, written, written_before}
-use Rattle.vs_top.specs.Turns.{AreCounted, text_at, opening_at, Told, Keeps, StopsAt, IsAtClose}
+use Rattle.vs_top.specs.Run.{TellsRun, Did, KeepsMarks, IsCutShort, HasRun, RunsEdit, Counts, counts_of, OnlyFolder, FaultHasCause, IsTimed, AreAnswered, IsWithin, commands_in, commands_within, opened_file, ran_of, written, written_before}
+use Rattle.vs_top.specs.Turns.{AreCounted, text_at, opening_at, Told, KeepsOpenFile, StopsAt, IsAtClose}
 use Rattle.vs_top.specs.declared.ending.Ending.{Ending}
 use Rattle.vs_top.specs.declared.ending.Ending.TheVariants as ending
 use Rattle.vs_top.proofs.Pushes.{replies_same, states_push, turns_push, none_push, errors_push, and_not, map_push}
@@ -86,7 +86,7 @@ rose_reading old now new reads rose counted = record {
 
 pub record IsTurn (tells : Tells) (name : List ℕ) (old now : Scene) (session : Session) (fresh reader : Ahead) (marks : List Mark) (clean : Bool) : Type 0 where
   pub told : TellsRun tells → (commands : List Instruction) × (ends : List Ended) × Told name old now session marks clean commands ends × HasRead fresh reader old now commands
-  pub keeps : Keeps tells name old now session marks
+  pub keeps : KeepsOpenFile tells name old now session marks
   pub counts : IsTrue tells.script → CountsTaken fresh reader old now
   pub times : IsTrue tells.clock → now.answers ≡ old.answers ++ map (λ mark. mark.at) marks
 
@@ -118,8 +118,8 @@ module _ (tells : Tells) (name : List ℕ) (old now read : Scene) (session : Ses
     abbrev did : Did
     did = record { commands = commands; ends = ends; closing = NotBegun }
 
-    kept : IsKept (opened_file old name) marks did
-    kept = record { one_each = here.one_each; marks_are = here.marks_are; none_quits = here.none_quits }
+    kept : KeepsMarks (opened_file old name) marks did
+    kept = record { one_each = here.one_each; marks_are = here.marks_are; are_answered = here.are_answered }
 
     looked : Going (names_of_file name) old read (text_at old name) (opening_at old name) turns
     looked = going_looks (names_of_file name) old (text_at old name) (opening_at old name) now read turns (reads_look now read after.frame (after.reads told.folder)) here.going
@@ -141,7 +141,7 @@ module _ (tells : Tells) (name : List ℕ) (old now read : Scene) (session : Ses
           answered = record { taken = found.taken; script = found.script ∙ ap (λ (l : List ℕ). found.taken ++ l) (sym found.is_left); commands = found.whole; answered = (output_is, refl) };
           safe = λ free. safe;
           failed = rose_reading old now read (after.reads told.folder) rose here.counted.script;
-          same = λ early. absurd (true≢false (sym early));
+          looks = λ early. absurd (true≢false (sym early));
         }
 
     run_too_long : Stops script_error.TooLong whole_commands [] reader reader' now read → HasRun name old read ending.ScriptTooLong marks
@@ -157,7 +157,7 @@ module _ (tells : Tells) (name : List ℕ) (old now read : Scene) (session : Ses
           answered = record { longer = omega (arith, long, found.is_left.0, size); commands = found.whole ∙ ap whole_commands (sym front); answered = (output_is, refl) };
           safe = λ free. safe;
           failed = tt;
-          same = λ early. absurd (true≢false (sym early));
+          looks = λ early. absurd (true≢false (sym early));
         }
 
     run_no_memory : (request : Request) (taken : TakesRequest request reader reader' now read) → HasSeen reader' read → CountsTaken fresh reader' old read → HasRun name old read ending.NoMemory marks
@@ -169,13 +169,10 @@ module _ (tells : Tells) (name : List ℕ) (old now read : Scene) (session : Ses
           answered = inr ((taken.first ∷ within.0, within.1 ∙ append_assoc commands (taken.first ∷ []) within.0), (output_is, refl));
           safe = λ free. safe;
           failed = tt;
-          same = λ early. absurd (true≢false (sym early));
+          looks = λ early. absurd (true≢false (sym early));
         }
 
   module _ (turn : IsTurn tells name old now session fresh reader marks clean) where
-    free_barred : (end : Ending) → IsTrue tells.folder → HasSwap (names_of_file name) old.folder → IsBarred end
-    free_barred end told has = absurd (turn.keeps.free told has)
-
     times : IsTrue tells.clock → IsTimed old read marks
     times told = record { more = []; one = omega arith; is = ap (λ (s : Scene). s.answers) after.frame ∙ turn.times told ∙ sym (append-nil (old.answers ++ map (λ mark. mark.at) marks)) }
 
@@ -188,7 +185,7 @@ module _ (tells : Tells) (name : List ℕ) (old now read : Scene) (session : Ses
         record {
           told = λ told. let here = turn.told told in run_fails told here.0 here.1 here.2 here.3 (stops told.script) (failed refl);
           swap = λ told is. absurd (cc);
-          barred = free_barred ending.ScriptFault;
+          barred = λ told has. absurd (turn.keeps.free told has);
           file = turn.keeps.file;
           taken = λ told.
               let stop = stops told in
@@ -208,7 +205,7 @@ module _ (tells : Tells) (name : List ℕ) (old now read : Scene) (session : Ses
         record {
           told = λ told. let here = turn.told told in run_too_long told here.0 here.1 here.2 here.3 (stops told.script);
           swap = λ told is. absurd (cc);
-          barred = free_barred ending.ScriptTooLong;
+          barred = λ told has. absurd (turn.keeps.free told has);
           file = turn.keeps.file;
           taken = λ told.
               let stop = stops told in
@@ -237,7 +234,7 @@ module _ (tells : Tells) (name : List ℕ) (old now read : Scene) (session : Ses
               let here = turn.told told in
               run_no_memory told here.0 here.1 here.2 here.3 request (taken told.script) (after.seen told.script) (counts_on fresh reader reader' old now read (turn.counts told.script) (ok.counts told.script));
           swap = λ told is. absurd (cc);
-          barred = free_barred ending.NoMemory;
+          barred = λ told has. absurd (turn.keeps.free told has);
           file = λ told. tt;
           taken = λ told. few_taken fresh reader' old read new (counts_on fresh reader reader' old now read (turn.counts told) (ok.counts told)) after.limit;
           counts = record { script = ok.quiet ∙ before.script; output = only.output ∙ before.output; later = omega (arith, only.later, before.later) };

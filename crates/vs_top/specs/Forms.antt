@@ -11,11 +11,12 @@ use Rattle.vs_modes.specs.Recover.{RunsRecover}
 use Rattle.vs_modes.specs.Info.{RunsInfo}
 use Rattle.vs_modes.specs.Discard.{RunsDiscard}
 use Rattle.vs_top.specs.declared.ending.Ending.{Ending}
+use Rattle.vs_top.specs.declared.ending.Ending.TheVariants as ending
 use Rattle.vs_top.specs.declared.form.Mode.{Mode}
 use Rattle.vs_top.specs.declared.form.Mode.TheVariants as mode
 use Rattle.vs_top.specs.Ending.{ended_by}
 use Rattle.vs_top.specs.Run.{RunsEdit}
-use Rattle.vs_top.specs.Stress.{IsStress}
+use Rattle.vs_top.specs.Stress.{IsStress, RunsStress}
 
 -- the first argument of a form
 abbrev pub word_of : Mode → List ℕ
@@ -46,6 +47,20 @@ Performs mode.Edit tells name old new end marks = RunsEdit tells name old new en
 Performs mode.Recover tells name old new end marks = EndsBy (RunsRecover tells (names_of_file name) old new) end marks
 Performs mode.Info tells name old new end marks = EndsBy (RunsInfo tells (names_of_file name) old new) end marks
 Performs mode.Discard tells name old new end marks = EndsBy (RunsDiscard tells (names_of_file name) old new) end marks
+
+-- Nothing was done, since the arguments have no form.
+pub record DoesNothing (words : List (List ℕ)) (old new : Scene) (end : Ending) (marks : List Mark) : Type 0 where
+  pub unbuilt : ¬ IsBuilt words
+  pub ended : end ≡ ending.Usage
+  pub idle : new ≡ old
+  pub none : marks ≡ []
+
+-- What the arguments ask for was done: in their mode with the file of their name, or in the stress mode with their number.
+abbrev pub Does : Tells → List (List ℕ) → Scene → Scene → Ending → List Mark → Type 0
+Does tells words old new end marks =
+    ((mode : Mode) × (name : List ℕ) × IsForm words mode name × Performs mode tells name old new end marks)
+    ⊎ ((count : ℕ) × IsStress words count × RunsStress tells count old new end marks)
+    ⊎ DoesNothing words old new end marks
 
 -- A folder that is told has swap files of the file that give a text.
 pub record Gives (tells : Tells) (scene : Scene) (name : Name) : Type 0 where

@@ -1,9 +1,10 @@
 -- What a run of one script over one file writes, and what it keeps.
-use Rattle.std.specs.Prelude.{ℕ, Bool, true, false, List, ◌∷◌, [], ◌≡◌, ◌<◌, ◌≤◌, ◌+◌, ◌⊎◌, ◌++◌, ⊤, All, codes, map, length, take, nat_le, if◌then◌else◌, IsTrue, IsSomeAnd, IfSome}
+use Rattle.std.specs.Prelude.{ℕ, Bool, true, false, List, ◌∷◌, [], ◌≡◌, ◌<◌, ◌≤◌, ◌+◌, ◌⊎◌, ◌++◌, ⊤, All, map, length, take, nat_le, if◌then◌else◌, IsTrue, IsSomeAnd, IfSome}
 use Rattle.std.specs.declared.option.Option.{Option}
 use Rattle.vs_faults.specs.Faults.{HasRisen}
-use Rattle.vs_host.specs.Names.{is_allowed, names_of_file}
+use Rattle.vs_host.specs.Names.{names_of_file}
 use Rattle.vs_host.specs.World.{Tells, Scene, content_of}
+use Rattle.vs_disk.specs.Runs.{Looks}
 use Rattle.vs_text.specs.Text.{lines_of}
 use Rattle.vs_text.specs.Limits.{IsWithinLimits}
 use Rattle.vs_excmd.specs.Request.{Instruction}
@@ -22,10 +23,6 @@ use Rattle.vs_session.specs.Opened.{Opened, opened, text_in}
 use Rattle.vs_session.specs.Fits.{HasSwap}
 use Rattle.vs_top.specs.declared.ending.Ending.{Ending}
 use Rattle.vs_top.specs.declared.ending.Ending.TheVariants as ending
-
--- the arguments are `edit` and this name
-abbrev pub IsEdit : List (List ℕ) → List ℕ → Type 0
-IsEdit words name = (words ≡ codes "edit" ∷ name ∷ []) × IsTrue (is_allowed name)
 
 -- a host tells all that a run depends on, and what it writes
 pub record TellsRun (tells : Tells) : Type 0 where
@@ -55,12 +52,12 @@ written file commands ends = (opening_of file.name file.found).bytes ++ replies_
 abbrev pub refuses_any : Opened → List Instruction → List Ended → Bool
 refuses_any file commands ends = any_error file.state commands ends
 
--- None of these commands was an accepted `q` or `q!`, each `rundo` found what stood under the name of the undo file, and only a `w`
--- that was to store the undo file says that it was not stored.
-abbrev pub NoneQuits : SessionState → List Instruction → List Ended → Type 0
-NoneQuits state [] ends = ⊤
-NoneQuits state (command ∷ commands) [] = ⊤
-NoneQuits state (command ∷ commands) (ended ∷ ends) = (accepts_quit state command ≡ false) × HasFound state command ended × NoneQuits (state_after state command ended) commands ends
+-- These commands may have been answered so: none was an accepted `q` or `q!`, each `rundo` found what stood under the name of the undo
+-- file, and only a `w` that was to store the undo file says that it was not stored.
+abbrev pub AreAnswered : SessionState → List Instruction → List Ended → Type 0
+AreAnswered state [] ends = ⊤
+AreAnswered state (command ∷ commands) [] = ⊤
+AreAnswered state (command ∷ commands) (ended ∷ ends) = (accepts_quit state command ≡ false) × HasFound state command ended × AreAnswered (state_after state command ended) commands ends
 
 -- ---- what a run answered
 
@@ -71,10 +68,10 @@ pub record Did : Type 0 where
   pub closing : Closing
 
 -- One mark was kept for each command, and none of them was an accepted quit.
-pub record IsKept (file : Opened) (marks : List Mark) (did : Did) : Type 0 where
+pub record KeepsMarks (file : Opened) (marks : List Mark) (did : Did) : Type 0 where
   pub one_each : length did.ends ≡ length did.commands
   pub marks_are : marks ≡ map (λ ended. ended.mark) did.ends
-  pub none_quits : NoneQuits file.state did.commands did.ends
+  pub are_answered : AreAnswered file.state did.commands did.ends
 
 -- these commands were answered, the opening reply and their replies were written, and the run did not begin to close
 abbrev pub HasAnswered : Opened → Scene → Scene → Did → Type 0
@@ -151,7 +148,7 @@ pub record IsCutLast (file : Opened) (old new : Scene) (did : Did) : Type 0 wher
   pub output : new.output ≡ old.output ++ (written file did.commands did.ends ++ take count (closing_line did.closing))
 
 -- The last sync or the removal failed, and the last line was not written.
-pub record FailsLast (file : Opened) (old new : Scene) (did : Did) : Type 0 where
+pub record FailsToClose (file : Opened) (old new : Scene) (did : Did) : Type 0 where
   pub closes : Closes false file old new did
   pub output : new.output ≡ old.output ++ written file did.commands did.ends
 
@@ -170,7 +167,7 @@ AnsweredBy ending.SwapFound file old new marks did = AnswersNone old new marks
 AnsweredBy ending.NoSwap file old new marks did = ⊥
 AnsweredBy ending.ScriptFault file old new marks did = AnswersTaken file old new did
 AnsweredBy ending.OutputFault file old new marks did = IsCutShort file old new did ⊎ IsCutLast file old new did
-AnsweredBy ending.FolderFault file old new marks did = AnswersNone old new marks ⊎ FailsLast file old new did
+AnsweredBy ending.FolderFault file old new marks did = AnswersNone old new marks ⊎ FailsToClose file old new did
 AnsweredBy ending.NoMemory file old new marks did = AnswersNone old new marks ⊎ (IsWithin old did × HasAnswered file old new did)
 AnsweredBy ending.Encrypted file old new marks did = ⊥
 AnsweredBy ending.NotSwap file old new marks did = ⊥
@@ -227,8 +224,8 @@ CountsBy (ending.TextLimit size) old new = new ≡ old
 CountsBy ending.ScriptTooLong old new = OnlyFolder old new
 
 -- a mark says that a call on the folder failed, only where its count rose
-abbrev pub HasCause : Counts → Counts → Mark → Type 0
-HasCause old new mark = is_fault mark.outcome ≡ true → HasRisen old.folder new.folder
+abbrev pub FaultHasCause : Counts → Counts → Mark → Type 0
+FaultHasCause old new mark = is_fault mark.outcome ≡ true → HasRisen old.folder new.folder
 
 -- ---- the file
 
@@ -252,12 +249,18 @@ HasFile ending.NotSwap file = ⊥
 HasFile (ending.TextLimit size) file = IsSomeAnd file (λ bytes. PassesLimit (lines_of bytes) size)
 HasFile ending.ScriptTooLong file = FileFits file
 
--- a run over a file that has a swap file ends with just this, unless it had no memory or a call failed before
-abbrev pub IsBarred : Ending → Type 0
-IsBarred ending.SwapFound = ⊤
-IsBarred ending.NoMemory = ⊤
-IsBarred ending.FolderFault = ⊤
-IsBarred end = ⊥
+-- a run over a file that has a swap file ends with `SwapFound`, unless it had no memory or a call failed before
+abbrev pub EndsBarred : Ending → Type 0
+EndsBarred ending.SwapFound = ⊤
+EndsBarred ending.NoMemory = ⊤
+EndsBarred ending.FolderFault = ⊤
+EndsBarred end = ⊥
+
+-- It answers no command, and only looks at the folder.
+pub record IsBarred (old new : Scene) (end : Ending) (marks : List Mark) : Type 0 where
+  pub ended : EndsBarred end
+  pub answered : AnswersNone old new marks
+  pub looks : Looks old new
 
 -- how many bytes of the script a run takes at most: the limit, and one more where it finds the script too long
 abbrev pub most_taken : Ending → ℕ
@@ -296,21 +299,21 @@ ran_of name old did = record {
 -- the same syncs and writes. The promise is of a file that had no swap file.
 pub record HasRun (name : List ℕ) (old new : Scene) (end : Ending) (marks : List Mark) : Type 0 where
   pub did : Did
-  pub kept : IsKept (opened_file old name) marks did
+  pub kept : KeepsMarks (opened_file old name) marks did
   pub answered : AnsweredBy end (opened_file old name) old new marks did
   pub safe : (HasSwap (names_of_file name) old.folder → ⊥) → IsCrashSafe (names_of_file name) old new (ran_of name old did)
   pub failed : FailedBy end old new
-  pub same : IsTrue (is_early end) → new.folder ≡ old.folder
+  pub looks : IsTrue (is_early end) → Looks old new
 
 -- What `edit` does with the file of a name, by its ending.
 pub record RunsEdit (tells : Tells) (name : List ℕ) (old new : Scene) (end : Ending) (marks : List Mark) : Type 0 where
   pub told : TellsRun tells → HasRun name old new end marks
   pub swap : IsTrue tells.folder → end ≡ ending.SwapFound → HasSwap (names_of_file name) old.folder
-  pub barred : IsTrue tells.folder → HasSwap (names_of_file name) old.folder → IsBarred end
+  pub barred : IsTrue tells.folder → HasSwap (names_of_file name) old.folder → IsBarred old new end marks
   pub file : IsTrue tells.folder → HasFile end (content_of old name)
   pub taken : IsTrue tells.script → length old.script ≤ length new.script + most_taken end
   pub counts : CountsBy end (counts_of old) (counts_of new)
-  pub causes : All (HasCause (counts_of old) (counts_of new)) marks
+  pub causes : All (FaultHasCause (counts_of old) (counts_of new)) marks
   pub times : IsTrue tells.clock → IsTimed old new marks
 
 -- File and script are within their limits, no swap file is there, and no count of faults rose.

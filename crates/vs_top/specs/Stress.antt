@@ -1,5 +1,5 @@
 -- What the stress mode does: it answers commands of its own over a session, and writes what the session has come to.
-use Rattle.std.specs.Prelude.{ℕ, Bool, true, false, List, ◌∷◌, [], ◌≡◌, ◌≤◌, ◌+◌, ◌⊎◌, ◌++◌, ⊤, All, codes, length, take, IsTrue, IfSome, Some}
+use Rattle.std.specs.Prelude.{ℕ, Bool, true, false, List, ◌∷◌, [], ◌≡◌, ◌≤◌, ◌+◌, ◌⊎◌, ◌++◌, ◌&&◌, if◌then◌else◌, ⊤, All, codes, length, take, nat_le, IsTrue, IfSome, Some}
 use Rattle.vs_faults.specs.Faults.{HasRisen}
 use Rattle.vs_host.specs.Disk.{Disk}
 use Rattle.vs_host.specs.Names.{names_of_file}
@@ -7,6 +7,7 @@ use Rattle.vs_host.specs.Trace.{Snapshot, Each}
 use Rattle.vs_host.specs.World.{Tells, Scene, content_of}
 use Rattle.vs_host.specs.declared.names.Names.{Names}
 use Rattle.vs_disk.specs.Names.{SameAt}
+use Rattle.vs_disk.specs.Runs.{Looks}
 use Rattle.vs_pair.specs.Pair.{is_foreign}
 use Rattle.vs_pair.specs.Steps.{IsFresh}
 use Rattle.vs_excmd.specs.Request.{Instruction}
@@ -19,7 +20,7 @@ use Rattle.vs_session.specs.Fits.{HasSwap}
 use Rattle.vs_session.specs.Summary.{summary_of}
 use Rattle.vs_stress.specs.Arguments.{IsCount, summary_line}
 use Rattle.vs_stress.specs.Commands.{stress_commands}
-use Rattle.vs_top.specs.Run.{Did, IsKept, AnswersNone, Counts, CountsBy, FailedBy, HasCause, HasFile, IsBarred, IsTimed, FileFits, counts_of, is_early, opened_file, refuses_any}
+use Rattle.vs_top.specs.Run.{Did, KeepsMarks, AnswersNone, Counts, CountsBy, FailedBy, FaultHasCause, HasFile, IsBarred, IsTimed, FileFits, counts_of, is_early, opened_file, refuses_any}
 use Rattle.vs_top.specs.declared.ending.Ending.{Ending}
 use Rattle.vs_top.specs.declared.ending.Ending.TheVariants as ending
 
@@ -90,13 +91,38 @@ StressedBy ending.NotSwap count old new marks did = ⊥
 StressedBy (ending.TextLimit size) count old new marks did = AnswersNone old new marks
 StressedBy ending.ScriptTooLong count old new marks did = ⊥
 
--- ---- the folder
+-- ---- the folder between two commands
 
--- Each command found the folder as the one before it left it, and its sync is acknowledged as the folder has it at both its ends.
-abbrev pub HasSteps : Names → Disk → List Turn → Disk → Type 0
-HasSteps names first [] last = last ≡ first
-HasSteps names first (turn ∷ turns) last =
-    (mid : Disk) × (turn.found ≡ Some first) × IfSome turn.sync (λ sync. IsFlag names turn.done first mid sync.acknowledged) × HasSteps names mid turns last
+-- whether no more than so many commands had begun, and nothing was written
+abbrev pub is_up_to : Scene → ℕ → Snapshot → Bool
+is_up_to start n moment = nat_le moment.answered (length start.answers + n) && nat_le (length moment.output) (length start.output)
+
+-- the folder after so many commands, where these are the moments since the start, the newest first
+abbrev pub folder_after : Scene → List Snapshot → ℕ → Disk
+folder_after start [] n = start.folder
+folder_after start (moment ∷ older) n = if is_up_to start n moment then moment.folder else folder_after start older n
+
+-- A command that began in one folder and ended in another, where the calls that failed so far were so many: it found the one, its sync
+-- is acknowledged as both have it, and a failed call that is answered happened in it.
+pub record HasEnds (names : Names) (turn : Turn) (first last : Disk) (before after : ℕ) : Type 0 where
+  pub found : turn.found ≡ Some first
+  pub flag : IfSome turn.sync (λ sync. IsFlag names turn.done first last sync.acknowledged)
+  pub later : before ≤ after
+  pub cause : turn.failed ≡ true → HasRisen before after
+
+-- each of these commands did so, the first after k others; the calls that failed before and in all were so many
+abbrev pub HasSteps : Names → (ℕ → Disk) → ℕ → ℕ → List Turn → ℕ → Type 0
+HasSteps names folder k before [] all = before ≤ all
+HasSteps names folder k before (turn ∷ turns) all =
+    (after : ℕ) × HasEnds names turn (folder k) (folder (k + 1)) before after × HasSteps names folder (k + 1) after turns all
+
+-- ---- the moments
+
+-- A moment before the first command.
+pub record IsAtOpening (names : Names) (start : Scene) (text : Text) (moment : Snapshot) : Type 0 where
+  pub answered : moment.answered ≡ length start.answers
+  pub written : moment.output ≡ start.output
+  pub recovers : RecoversOrNone names (text ∷ []) moment.folder
 
 -- A moment while the command after these was under way, or had ended: the clock was read as often as commands had begun.
 pub record IsAtCommand (names : Names) (start : Scene) (text : Text) (turns : List Turn) (moment : Snapshot) : Type 0 where
@@ -105,59 +131,60 @@ pub record IsAtCommand (names : Names) (start : Scene) (text : Text) (turns : Li
   pub rest : List Turn
   pub turns_are : turns ≡ first ++ turn ∷ rest
   pub answered : moment.answered ≡ length start.answers + (length first + 1)
+  pub written : moment.output ≡ start.output
   -- what was recoverable is recovered, or the text of the sync that the command begins
   pub recovers : Recovers names (recoverable (with_begun turn.sync (after_turns (opened text) first))) moment.folder
 
--- A moment before the first command.
-pub record IsAtOpening (names : Names) (start : Scene) (text : Text) (moment : Snapshot) : Type 0 where
-  pub answered : moment.answered ≡ length start.answers
-  pub recovers : RecoversOrNone names (text ∷ []) moment.folder
-
--- A moment after the last command, while the swap files are removed.
-pub record IsAtRemoval (names : Names) (start : Scene) (text : Text) (turns : List Turn) (moment : Snapshot) : Type 0 where
+-- The moment at which the line was written, or a part of it.
+pub record IsAtLine (names : Names) (start : Scene) (text : Text) (turns : List Turn) (line : List ℕ) (moment : Snapshot) : Type 0 where
   pub answered : moment.answered ≡ length start.answers + length turns
+  pub written : (n : ℕ) × (moment.output ≡ start.output ++ take n line)
+  pub recovers : Recovers names (recoverable (after_turns (opened text) turns)) moment.folder
+
+-- A moment after that, while the swap files are removed: the line is whole.
+pub record IsAtRemoval (names : Names) (start : Scene) (text : Text) (turns : List Turn) (line : List ℕ) (moment : Snapshot) : Type 0 where
+  pub answered : moment.answered ≡ length start.answers + length turns
+  pub written : moment.output ≡ start.output ++ line
   pub recovers : RecoversOrNone names (recoverable (after_turns (opened text) turns)) moment.folder
 
--- At a moment before the removal no name but those of the pair has changed, and recovery gives what it may.
-pub record IsBeforeRemoval (names : Names) (start : Scene) (text : Text) (turns : List Turn) (moment : Snapshot) : Type 0 where
+-- At a moment before the line no name but those of the pair has changed, and recovery gives what it may.
+pub record IsBeforeLine (names : Names) (start : Scene) (text : Text) (turns : List Turn) (moment : Snapshot) : Type 0 where
   pub spared : SameAt (is_foreign names) start.folder moment.folder
   pub recovers : IsAtOpening names start text moment ⊎ IsAtCommand names start text turns moment
 
 -- And so at any moment.
-pub record IsStressMoment (names : Names) (start : Scene) (text : Text) (turns : List Turn) (moment : Snapshot) : Type 0 where
+pub record IsStressMoment (names : Names) (start : Scene) (text : Text) (turns : List Turn) (line : List ℕ) (moment : Snapshot) : Type 0 where
   pub spared : SameAt (is_foreign names) start.folder moment.folder
-  pub recovers : IsAtOpening names start text moment ⊎ IsAtCommand names start text turns moment ⊎ IsAtRemoval names start text turns moment
+  pub recovers : IsAtOpening names start text moment ⊎ IsAtCommand names start text turns moment ⊎ IsAtLine names start text turns line moment ⊎ IsAtRemoval names start text turns line moment
 
--- So it is at each moment from one scene to another.
-pub record IsStressSafe (names : Names) (start now : Scene) (text : Text) (turns : List Turn) : Type 0 where
+-- So it is at each moment from one scene to another, for the commands and the line that follows them.
+pub record IsStressSafe (names : Names) (start now : Scene) (text : Text) (turns : List Turn) (line : List ℕ) : Type 0 where
   pub moments : List Snapshot
   pub added : now.trace ≡ moments ++ start.trace
-  pub safe : Each (IsStressMoment names start text turns) moments
+  pub safe : Each (IsStressMoment names start text turns line) moments
   pub spared : SameAt (is_foreign names) start.folder now.folder
-  pub first : Disk
-  pub last : Disk
-  pub steps : HasSteps names first turns last
+  pub steps : HasSteps names (folder_after start moments) 0 start.folder_faults turns now.folder_faults
 
 -- ---- a run
 
 -- What it did, over a host that tells: its commands and how they ended.
 pub record HasStress (count : ℕ) (old new : Scene) (end : Ending) (marks : List Mark) : Type 0 where
   pub did : Did
-  pub kept : IsKept (opened_file old stress_name) marks did
+  pub kept : KeepsMarks (opened_file old stress_name) marks did
   pub answered : StressedBy end count old new marks did
-  pub safe : (HasSwap (names_of_file stress_name) old.folder → ⊥) → IsStressSafe (names_of_file stress_name) old new (stress_text old) (stress_turns old did)
+  pub safe : (HasSwap (names_of_file stress_name) old.folder → ⊥) → IsStressSafe (names_of_file stress_name) old new (stress_text old) (stress_turns old did) (stress_line count old did)
   pub failed : FailedBy end old new
-  pub same : IsTrue (is_early end) → new.folder ≡ old.folder
+  pub looks : IsTrue (is_early end) → Looks old new
 
 -- What the stress mode does, by its ending. The script is not read.
 pub record RunsStress (tells : Tells) (count : ℕ) (old new : Scene) (end : Ending) (marks : List Mark) : Type 0 where
   pub told : TellsStress tells → HasStress count old new end marks
   pub swap : IsTrue tells.folder → end ≡ ending.SwapFound → HasSwap (names_of_file stress_name) old.folder
-  pub barred : IsTrue tells.folder → HasSwap (names_of_file stress_name) old.folder → IsBarred end
+  pub barred : IsTrue tells.folder → HasSwap (names_of_file stress_name) old.folder → IsBarred old new end marks
   pub file : IsTrue tells.folder → HasFile end (content_of old stress_name)
   pub script : new.script ≡ old.script
   pub counts : CountsBy end (counts_of old) (counts_of new)
-  pub causes : All (HasCause (counts_of old) (counts_of new)) marks
+  pub causes : All (FaultHasCause (counts_of old) (counts_of new)) marks
   pub times : IsTrue tells.clock → IsTimed old new marks
 
 -- The file is within its limits, no swap file is there, and no count of faults rose.

@@ -1,9 +1,8 @@
 -- What is known of the stress mode between two of its commands.
 use Rattle.std.specs.Prelude.{ℕ, Bool, true, not, List, [], ◌∷◌, ◌≡◌, ◌+◌, ◌++◌, All, length, map, IsTrue}
-use Rattle.vs_host.specs.Disk.{Disk}
 use Rattle.vs_host.specs.Names.{names_of_file}
 use Rattle.vs_host.specs.Trace.{Snapshot, Each}
-use Rattle.vs_host.specs.World.{Tells, Scene, content_of}
+use Rattle.vs_host.specs.World.{Tells, Scene, HasNewest, content_of}
 use Rattle.vs_disk.specs.Names.{SameAt}
 use Rattle.vs_pair.specs.Pair.{is_foreign}
 use Rattle.vs_excmd.specs.Request.{Instruction}
@@ -15,24 +14,25 @@ use Rattle.vs_session.specs.declared.session.Session.{Session}
 use Rattle.vs_session.specs.Session.{Ended, states_after, turns_of, any_error}
 use Rattle.vs_session.specs.Fits.{Fits, names_of}
 use Rattle.vs_stress.specs.Commands.{stress_commands}
-use Rattle.vs_top.specs.Run.{NoneQuits, opened_file}
-use Rattle.vs_top.specs.Stress.{TellsStress, HasSteps, IsBeforeRemoval, stress_name, stress_text}
-use Rattle.vs_top.specs.Turns.{Keeps}
+use Rattle.vs_top.specs.Run.{AreAnswered, opened_file}
+use Rattle.vs_top.specs.Stress.{TellsStress, HasSteps, IsBeforeLine, folder_after, stress_name, stress_text}
+use Rattle.vs_top.specs.Turns.{KeepsOpenFile}
 
 -- These commands were answered, and nothing was written.
 pub record StressTold (old now : Scene) (session : Session) (marks : List Mark) (clean : Bool) (commands : List Instruction) (ends : List Ended) : Type 0 where
   pub one_each : length ends ≡ length commands
   pub marks_are : marks ≡ map (λ ended. ended.mark) ends
-  pub none_quits : NoneQuits (opened_file old stress_name).state commands ends
+  pub are_answered : AreAnswered (opened_file old stress_name).state commands ends
   pub errors : clean ≡ not (any_error (opened_file old stress_name).state commands ends)
   pub fits : Fits session now.folder (states_after (opened_file old stress_name).state commands ends)
       (after_turns (opened (stress_text old)) (turns_of (opened_file old stress_name).state commands ends))
   pub moments : List Snapshot
   pub added : now.trace ≡ moments ++ old.trace
-  pub safe : Each (IsBeforeRemoval (names_of_file stress_name) old (stress_text old) (turns_of (opened_file old stress_name).state commands ends)) moments
+  pub safe : Each (IsBeforeLine (names_of_file stress_name) old (stress_text old) (turns_of (opened_file old stress_name).state commands ends)) moments
   pub spared : SameAt (is_foreign (names_of_file stress_name)) old.folder now.folder
-  pub first : Disk
-  pub steps : HasSteps (names_of_file stress_name) first (turns_of (opened_file old stress_name).state commands ends) now.folder
+  pub steps : HasSteps (names_of_file stress_name) (folder_after old moments) 0 old.folder_faults (turns_of (opened_file old stress_name).state commands ends) now.folder_faults
+  pub newest_at_start : HasNewest old
+  pub newest : HasNewest now
   pub output : now.output ≡ old.output
   pub answers : length now.answers ≡ length old.answers + length (turns_of (opened_file old stress_name).state commands ends)
   pub counted : IsCounted output_count old now
@@ -40,7 +40,7 @@ pub record StressTold (old now : Scene) (session : Session) (marks : List Mark) 
 -- over any host
 pub record IsStressTurn (tells : Tells) (old now : Scene) (session : Session) (marks : List Mark) (clean : Bool) (commands : List Instruction) : Type 0 where
   pub told : TellsStress tells → (ends : List Ended) × StressTold old now session marks clean commands ends
-  pub keeps : Keeps tells stress_name old now session marks
+  pub keeps : KeepsOpenFile tells stress_name old now session marks
   pub script : now.script ≡ old.script
   pub times : IsTrue tells.clock → now.answers ≡ old.answers ++ map (λ mark. mark.at) marks
 

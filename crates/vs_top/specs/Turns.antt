@@ -16,7 +16,7 @@ use Rattle.vs_session.specs.declared.ending.End.TheVariants as end
 use Rattle.vs_session.specs.Session.{Ended, accepts_quit, states_after, turns_of, any_error}
 use Rattle.vs_session.specs.Opened.{Opened, text_in}
 use Rattle.vs_session.specs.Fits.{Fits, HasOpened, HasSwap, names_of}
-use Rattle.vs_top.specs.Run.{TellsRun, NoneQuits, Counts, counts_of, OnlyFolder, HasCause, FileFits, IsTimed, commands_in, opened_file}
+use Rattle.vs_top.specs.Run.{TellsRun, AreAnswered, Counts, counts_of, OnlyFolder, FaultHasCause, FileFits, IsTimed, commands_in, opened_file}
 
 -- the text that a run opens, and its opening reply
 abbrev pub text_at : Scene → List ℕ → List (List ℕ)
@@ -35,7 +35,7 @@ pub record AreCounted (old now : Scene) : Type 0 where
 pub record Told (name : List ℕ) (old now : Scene) (session : Session) (marks : List Mark) (clean : Bool) (commands : List Instruction) (ends : List Ended) : Type 0 where
   pub one_each : length ends ≡ length commands
   pub marks_are : marks ≡ map (λ ended. ended.mark) ends
-  pub none_quits : NoneQuits (opened_file old name).state commands ends
+  pub are_answered : AreAnswered (opened_file old name).state commands ends
   pub errors : clean ≡ not (any_error (opened_file old name).state commands ends)
   pub fits : Fits session now.folder (states_after (opened_file old name).state commands ends) (after_turns (opened (text_at old name)) (turns_of (opened_file old name).state commands ends))
   pub going : Going (names_of_file name) old now (text_at old name) (opening_at old name) (turns_of (opened_file old name).state commands ends)
@@ -50,17 +50,17 @@ pub record ToldOpen (name : List ℕ) (old now : Scene) (session : Session) : Ty
 
 -- What a run over any host keeps: the file was within its limits and had no swap file, the names are those of the file, and but for
 -- commands that were answered so no call failed.
-pub record Keeps (tells : Tells) (name : List ℕ) (old now : Scene) (session : Session) (marks : List Mark) : Type 0 where
+pub record KeepsOpenFile (tells : Tells) (name : List ℕ) (old now : Scene) (session : Session) (marks : List Mark) : Type 0 where
   pub free : IsTrue tells.folder → HasSwap (names_of_file name) old.folder → ⊥
   pub file : IsTrue tells.folder → FileFits (content_of old name)
   pub names : names_of session ≡ names_of_file name
   pub counts : OnlyFolder (counts_of old) (counts_of now)
-  pub causes : All (HasCause (counts_of old) (counts_of now)) marks
+  pub causes : All (FaultHasCause (counts_of old) (counts_of now)) marks
 
 -- a session has just opened its file, and the script is as it was
 pub record IsOpened (tells : Tells) (name : List ℕ) (old now : Scene) (session : Session) : Type 0 where
   pub told : TellsRun tells → ToldOpen name old now session
-  pub keeps : Keeps tells name old now session []
+  pub keeps : KeepsOpenFile tells name old now session []
   pub script : now.script ≡ old.script
   pub answers : now.answers ≡ old.answers
 
@@ -73,6 +73,6 @@ StopsAt end.Quit file old now commands ends =
 -- all commands that are to be answered were, and the session is about to end
 pub record IsAtClose (tells : Tells) (name : List ℕ) (old now : Scene) (session : Session) (marks : List Mark) (how : End) (clean : Bool) : Type 0 where
   pub told : TellsRun tells → (commands : List Instruction) × (ends : List Ended) × Told name old now session marks clean commands ends × StopsAt how (opened_file old name) old now commands ends
-  pub keeps : Keeps tells name old now session marks
+  pub keeps : KeepsOpenFile tells name old now session marks
   pub taken : IsTrue tells.script → length old.script ≤ length now.script + script_limit
   pub times : IsTrue tells.clock → IsTimed old now marks

@@ -1,13 +1,13 @@
 // The top call, and the forms of its arguments.
-ghost use Rattle.std.specs.Prelude.{◌≡◌, ◌⊎◌, ◌<◌, ◌≤◌, ◌^◌, [], List, ℕ, length, map, All, IsTrue, string_bytes};
+ghost use Rattle.std.specs.Prelude.{◌≡◌, ◌⊎◌, ◌<◌, ◌^◌, [], List, ℕ, length, map, All, IsTrue, string_bytes};
 ghost use Rattle.vs_host.specs.Names.{is_allowed, names_of_file};
 ghost use Rattle.vs_modes.specs.Recover.{RunsRecover};
 ghost use Rattle.vs_modes.specs.Info.{RunsInfo};
 ghost use Rattle.vs_modes.specs.Discard.{RunsDiscard};
 ghost use Rattle.vs_top.specs.Ending.{status_of, ending_in, ended_by};
-ghost use Rattle.vs_top.specs.Forms.{EndsBy, Gives, IsBuilt, IsForm, IsSpared, NamesFile, Performs};
+ghost use Rattle.vs_top.specs.Forms.{Does, EndsBy, Gives, IsBuilt, IsForm, IsSpared, Performs};
 ghost use Rattle.vs_top.specs.Stress.{IsStress, IsStressUnhindered, RunsStress};
-ghost use Rattle.vs_top.specs.Run.{IsEdit, IsThrough, IsThroughMark, IsUnhindered, RunsEdit};
+ghost use Rattle.vs_top.specs.Run.{IsThrough, IsThroughMark, IsUnhindered, RunsEdit};
 
 use crate::edit::edit;
 use crate::ending::Ending;
@@ -27,18 +27,6 @@ pub struct Report {
     /// One mark for each command that was answered, in order.
     pub marks: Vec<Mark>,
     ghost is_status: { status ≡ status_of ending },
-}
-
-impl Report {
-    fn of(ending: Ending, marks: Vec<Mark>) -> Report
-        ensures { (result.ending ≡ ending) × (result.marks.items ≡ marks.items) }
-    {
-        Report {
-            ending,
-            status: ending.status(),
-            marks,
-        }
-    }
 }
 
 /// The ending of a run, at the script's end or before it.
@@ -76,57 +64,39 @@ fn perform<H: Host>(alloc: Global, form: Form<'_>, host: &mut H, marks: &mut Vec
     }
 }
 
-// Does what arguments with the name of a file say. With other arguments it ends with `Usage`.
-fn run_form<H: Host>(alloc: Global, words: &[String], host: &mut H) -> Report
+/// Does what the arguments say.
+fn perform_words<H: Host>(
+    alloc: Global,
+    words: &[String],
+    host: &mut H,
+    marks: &mut Vec<Mark>,
+) -> Ending
+    requires marks { marks.old.items ≡ [] }
     requires clock { IsTrue (H.tells).clock → length (H.scene host.old).answers < 2 ^ 62 }
     requires settled { IsTrue (H.tells).folder → (H.scene host.old).folder.pending ≡ [] }
-    ensures usage { result.ending ≡ Ending.Usage → ¬ NamesFile (map string_bytes words.now) }
-    ensures idle { result.ending ≡ Ending.Usage → (H.scene host.new ≡ H.scene host.old) × (result.marks.items ≡ []) }
-    ensures edit { (name : List ℕ) → IsEdit (map string_bytes words.now) name →
-        RunsEdit H.tells name (H.scene host.old) (H.scene host.new) result.ending result.marks.items }
-    ensures through { (name : List ℕ) → IsEdit (map string_bytes words.now) name → IsUnhindered H.tells name (H.scene host.old) (H.scene host.new) →
-        IsThrough result.ending × All IsThroughMark result.marks.items }
-    ensures recover { (name : List ℕ) → IsForm (map string_bytes words.now) Mode.Recover name →
-        EndsBy (RunsRecover H.tells (names_of_file name) (H.scene host.old) (H.scene host.new)) result.ending result.marks.items }
-    ensures recovers { (name : List ℕ) → IsForm (map string_bytes words.now) Mode.Recover name → Gives H.tells (H.scene host.old) name →
-        IsSpared (H.scene host.old) (H.scene host.new) → (result.ending ≡ Ending.Done) ⊎ (result.ending ≡ Ending.NoMemory) }
-    ensures info { (name : List ℕ) → IsForm (map string_bytes words.now) Mode.Info name →
-        EndsBy (RunsInfo H.tells (names_of_file name) (H.scene host.old) (H.scene host.new)) result.ending result.marks.items }
-    ensures discard { (name : List ℕ) → IsForm (map string_bytes words.now) Mode.Discard name →
-        EndsBy (RunsDiscard H.tells (names_of_file name) (H.scene host.old) (H.scene host.new)) result.ending result.marks.items }
-    ensures other { ¬ NamesFile (map string_bytes words.now) → result.ending ≡ Ending.Usage }
+    ensures { Does H.tells (map string_bytes words.now) (H.scene host.old) (H.scene host.new) result marks.new.items }
 {
-    let mut marks = Vec::new(alloc);
-    let Some(form) = form_of(words) else {
-        return Report::of(Ending::Usage, marks);
-    };
-    let ending = perform(alloc, form, host, &mut marks);
-    Report::of(ending, marks)
-}
-
-// Runs the stress mode.
-fn run_stress<H: Host>(alloc: Global, count: u64, host: &mut H) -> Report
-    requires few { count ≤ 100000 }
-    requires clock { IsTrue (H.tells).clock → length (H.scene host.old).answers < 2 ^ 62 }
-    requires settled { IsTrue (H.tells).folder → (H.scene host.old).folder.pending ≡ [] }
-    ensures { RunsStress H.tells count (H.scene host.old) (H.scene host.new) result.ending result.marks.items }
-{
-    let mut marks = Vec::new(alloc);
-    let ending = ending_in(stress(alloc, count, host, &mut marks));
-    Report::of(ending, marks)
+    if let Some(count) = stress_count(words) {
+        return ending_in(stress(alloc, count, host, marks));
+    }
+    match form_of(words) {
+        Some(form) => perform(alloc, form, host, marks),
+        None => Ending::Usage,
+    }
 }
 
 /// Does what the arguments say: `edit NAME` runs the script of the host over the file of a name, `recover NAME`, `info NAME` and
 /// `discard NAME` go to its swap files, and `stress N` tries a session with N commands of its own. With other arguments it ends
-/// with `Usage`, takes no memory and makes no call.
+/// with `Usage`, takes no memory and makes no call. Where nothing hinders it, it comes to its end: the clauses `through`, `recovers` and
+/// `stresses` say so, and follow from `edit`, `recover` and `stress`.
 pub fn run<H: Host>(alloc: Global, words: &[String], host: &mut H) -> Report
     requires clock { IsTrue (H.tells).clock → length (H.scene host.old).answers < 2 ^ 62 }
     requires settled { IsTrue (H.tells).folder → (H.scene host.old).folder.pending ≡ [] }
     ensures usage { result.ending ≡ Ending.Usage → ¬ IsBuilt (map string_bytes words.now) }
     ensures idle { result.ending ≡ Ending.Usage → (H.scene host.new ≡ H.scene host.old) × (result.marks.items ≡ []) }
-    ensures edit { (name : List ℕ) → IsEdit (map string_bytes words.now) name →
+    ensures edit { (name : List ℕ) → IsForm (map string_bytes words.now) Mode.Edit name →
         RunsEdit H.tells name (H.scene host.old) (H.scene host.new) result.ending result.marks.items }
-    ensures through { (name : List ℕ) → IsEdit (map string_bytes words.now) name → IsUnhindered H.tells name (H.scene host.old) (H.scene host.new) →
+    ensures through { (name : List ℕ) → IsForm (map string_bytes words.now) Mode.Edit name → IsUnhindered H.tells name (H.scene host.old) (H.scene host.new) →
         IsThrough result.ending × All IsThroughMark result.marks.items }
     ensures recover { (name : List ℕ) → IsForm (map string_bytes words.now) Mode.Recover name →
         EndsBy (RunsRecover H.tells (names_of_file name) (H.scene host.old) (H.scene host.new)) result.ending result.marks.items }
@@ -142,8 +112,11 @@ pub fn run<H: Host>(alloc: Global, words: &[String], host: &mut H) -> Report
     ensures stresses { (count : ℕ) → IsStress (map string_bytes words.now) count → IsStressUnhindered H.tells (H.scene host.old) (H.scene host.new) →
         IsThrough result.ending × All IsThroughMark result.marks.items }
 {
-    match stress_count(words) {
-        Some(count) => run_stress(alloc, count, host),
-        None => run_form(alloc, words, host),
+    let mut marks = Vec::new(alloc);
+    let ending = perform_words(alloc, words, host, &mut marks);
+    Report {
+        ending,
+        status: ending.status(),
+        marks,
     }
 }

@@ -10,7 +10,7 @@ ghost use Rattle.vs_disk.specs.Images.{HoldsBytes, IsSynced, Takes};
 ghost use Rattle.vs_disk.specs.Runs.{Runs};
 ghost use Rattle.vs_pair.specs.Acts.{Acts, NoneFails};
 ghost use Rattle.vs_backup.specs.Works.{IsAlone, Spares, one_name, two_names};
-ghost use Rattle.vs_ubind.specs.Storing.{CallsOn};
+ghost use Rattle.vs_ubind.specs.Storing.{CallsOn, StoresBy};
 
 use vs_host::{Failed, Folder, Names};
 
@@ -74,7 +74,7 @@ fn take_name<F: Folder>(host: &mut F, from: &str, to: &str) -> Result<(), Failed
     requires differ { from.now ≢ to.now }
     requires there { IsTrue F.tells.folder → IsSome (content_of (F.scene host.old) from.now) }
     ensures acts { Acts F.tells (Spares (two_names from.now to.now)) (F.scene host.old) (F.scene host.new) }
-    ensures calls { CallsOn F.tells (two_names from.now to.now) (F.scene host.old) (F.scene host.new) }
+    ensures calls { IsTrue F.tells.folder → StoresBy from.now to.now (F.scene host.old) (F.scene host.new) }
     ensures takes { IsTrue F.tells.folder → (bytes : List ℕ) → IsSynced from.now bytes (F.scene host.old).folder
         → Runs (Takes to.now bytes) (F.scene host.old) (F.scene host.new) }
     ensures holds { OnOk result (IsTrue F.tells.folder → (bytes : List ℕ) → IsSynced from.now bytes (F.scene host.old).folder
@@ -96,7 +96,7 @@ fn store_as<F: Folder>(
 ) -> Result<(), Failed>
     requires { name.now ≢ temporary.now }
     ensures acts { Acts F.tells (Spares (two_names temporary.now name.now)) (F.scene host.old) (F.scene host.new) }
-    ensures calls { CallsOn F.tells (two_names temporary.now name.now) (F.scene host.old) (F.scene host.new) }
+    ensures calls { IsTrue F.tells.folder → StoresBy temporary.now name.now (F.scene host.old) (F.scene host.new) }
     ensures takes { IsTrue F.tells.folder → Runs (Takes name.now bytes.now) (F.scene host.old) (F.scene host.new) }
     ensures holds { OnOk result (IsTrue F.tells.folder → HoldsBytes name.now bytes.now (F.scene host.new).folder) }
     ensures none { OnOk result (NoneFails F.tells (F.scene host.old) (F.scene host.new)) }
@@ -118,7 +118,7 @@ fn store_as<F: Folder>(
 pub fn store<F: Folder>(host: &mut F, names: &Names, bytes: &[u8]) -> Result<(), Failed>
     requires { AreNames names.now }
     ensures acts { Acts F.tells (Spares (two_names names.now.undo_new names.now.undo)) (F.scene host.old) (F.scene host.new) }
-    ensures calls { CallsOn F.tells (two_names names.now.undo_new names.now.undo) (F.scene host.old) (F.scene host.new) }
+    ensures calls { IsTrue F.tells.folder → StoresBy names.now.undo_new names.now.undo (F.scene host.old) (F.scene host.new) }
     ensures takes { IsTrue F.tells.folder → Runs (Takes names.now.undo bytes.now) (F.scene host.old) (F.scene host.new) }
     ensures holds { OnOk result (IsTrue F.tells.folder → HoldsBytes names.now.undo bytes.now (F.scene host.new).folder) }
     ensures none { OnOk result (NoneFails F.tells (F.scene host.old) (F.scene host.new)) }

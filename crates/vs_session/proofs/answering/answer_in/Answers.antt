@@ -22,8 +22,8 @@ returns-clause-reply g c =
 
 pub returns-clause-state : goal.returns-clause-state
 returns-clause-state g c =
-    let ready = c.answer.ensures.ready in
-    let stays = c.answer.ensures.stays in
+    let ready = c.answer.ensures.atomic.ready in
+    let stays = c.answer.ensures.atomic.stays in
     if_ok_as c.answer.result _ _
     (λ answered ans told state instruction stands cursor is.
     let after = (ans state instruction (record { text = told_text _ _ _ _ told stands.text; history = stands.history; cursor = cursor }) is).after in
@@ -32,24 +32,24 @@ returns-clause-state g c =
 
 pub returns-clause-err : goal.returns-clause-err
 returns-clause-err g c =
-    let ready = c.answer.ensures.ready in
-    let stays = c.answer.ensures.stays in
+    let ready = c.answer.ensures.atomic.ready in
+    let stays = c.answer.ensures.atomic.stays in
     on_err_as c.answer.result _ _
     (λ stayed told state stands.
     stands_back _ _ _ _ _ _ (c.pair-1.given.1 (sym stays.1.0)) (c.tree-1.given.1 (sym stays.0))
     (record { text = paged_text _ _ _ _ ready.committed (stayed.text.text state.text (told_text _ _ _ _ told stands.text)); history = subst (λ p. IsHistory p state.text state.history) (sym stayed.tree) stands.history }))
-    c.answer.ensures.stayed
+    c.answer.ensures.atomic.stayed
 
 pub returns-clause-bounded : goal.returns-clause-bounded
 returns-clause-bounded g c =
-    let ready = c.answer.ensures.ready in
-    subst (λ (t : LineTree). IsBounded t) (sym (c.tree-1.given.1 (sym c.answer.ensures.stays.0))) (bounded_tree g.F.World.tells.folder c.answer.new.store.pages.pair.now.pages c.answer.new.store.tree.now ready.valid.1 ready.committed)
+    let ready = c.answer.ensures.atomic.ready in
+    subst (λ (t : LineTree). IsBounded t) (sym (c.tree-1.given.1 (sym c.answer.ensures.atomic.stays.0))) (bounded_tree g.F.World.tells.folder c.answer.new.store.pages.pair.now.pages c.answer.new.store.tree.now ready.valid.1 ready.committed)
 
 pub returns-clause-counts : goal.returns-clause-counts
 returns-clause-counts g c =
-    subst (λ (t : LineTree). FitsCount c.answer.new.history (max 1 t.present.lines)) (sym (c.tree-1.given.1 (sym c.answer.ensures.stays.0))) c.answer.ensures.ready.counts
+    subst (λ (t : LineTree). FitsCount c.answer.new.history (max 1 t.present.lines)) (sym (c.tree-1.given.1 (sym c.answer.ensures.atomic.stays.0))) c.answer.ensures.atomic.ready.counts
 
 pub returns-clause-keeps : goal.returns-clause-keeps
 returns-clause-keeps g c =
-    let stays = c.answer.ensures.stays in
+    let stays = c.answer.ensures.atomic.stays in
     keeps_back g.F.World.tells c.args.pair.now _ _ (g.F.World.scene c.args.host.now) _ _ (c.pair-1.given.1 (sym stays.1.0)) (ap (λ (h : g.row.F.Denot). g.F.World.scene h) (c.host-1.given.1 (sym stays.1.1))) stays.1.2

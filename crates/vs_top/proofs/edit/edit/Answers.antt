@@ -18,7 +18,7 @@ returns-in_err-session g c =
     (λ is. c.in_err-session.ensures.cause.risen (ap Err is)) (λ other. c.in_err-session.ensures.quiet (λ is. other (cc))) (λ size is. c.in_err-session.ensures.limit size (ap Err is))
     (λ is. c.in_err-session.ensures.swap (ap Err is))
     (λ told has. elim (c.in_err-session.ensures.barred told has) [ inl is ↦ inl (cc) | inr more ↦ elim more [ inl is ↦ inr (inl (cc)) | inr is ↦ inr (inr (cc)) ] ])
-    (λ other. c.in_err-session.ensures.looks refl (λ is. other (cc))))
+    c.in_err-session.ensures.barred_looks (λ other. c.in_err-session.ensures.looks refl (λ is. other (cc))))
 
 pub open-requires-clause-name : goal.open-requires-clause-name
 open-requires-clause-name g c = c.requires.name

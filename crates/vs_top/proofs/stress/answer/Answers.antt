@@ -16,7 +16,7 @@ returns-clause-ok g c = λ old commands instruction meant turn.
     (subst (λ (b : Bool). IsStressTurn g.H.World.tells old new c.step.new.self (c.args.marks.now.items ++ c.in-Answer.mark ∷ []) (c.args.clean && b) (commands ++ instruction ∷ [])) (sym c.is_clean-went_well.ensures)
     (turn_on g.H.World.tells old now new c.args.session.now c.step.new.self c.args.marks.now.items c.args.clean c.args.request.now c.in-Answer.mark c.in-Answer.reply instruction commands
     (record { step = c.in-Answer.ensures.step; frame = c.step.ensures.frame; later = c.step.ensures.cause.later; risen = c.in-Answer.ensures.cause.risen; names = c.step.ensures.file.names; clock = c.in-Answer.ensures.clock })
-    meant (sym (ap writes_files meant.parsed) ∙ c.requires.plain) turn))
+    (g.H.World.newest c.step.new.host) meant (sym (ap writes_files meant.parsed) ∙ c.requires.plain) turn))
 
 pub returns-clause-clock : goal.returns-clause-clock
 returns-clause-clock g c = λ told.

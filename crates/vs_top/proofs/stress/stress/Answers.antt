@@ -22,7 +22,7 @@ returns-in_err-session g c =
     (λ is. c.in_err-session.ensures.cause.risen (ap Err is)) (λ other. c.in_err-session.ensures.quiet (λ is. other (cc))) (λ size is. c.in_err-session.ensures.limit size (ap Err is))
     (λ is. c.in_err-session.ensures.swap (ap Err is))
     (λ told has. elim (c.in_err-session.ensures.barred told has) [ inl is ↦ inl (cc) | inr more ↦ elim more [ inl is ↦ inr (inl (cc)) | inr is ↦ inr (inr (cc)) ] ])
-    (λ other. c.in_err-session.ensures.looks refl (λ is. other (cc))))
+    c.in_err-session.ensures.barred_looks (λ other. c.in_err-session.ensures.looks refl (λ is. other (cc))))
 
 pub answer_all-requires-clause-generation : goal.answer_all-requires-clause-generation
 answer_all-requires-clause-generation g c = omega (arith, c.in_ok-session.ensures.generation)
@@ -43,7 +43,7 @@ returns-in_err-clean g c =
     let stop = c.in_err-clean.ensures.err.1 old
     (stress_opened g.H.World.tells old mid c.open.ensures.acts c.in_ok-session.session c.in_ok-session.ensures.name.1
     (λ told has. elim (c.in_ok-session.ensures.barred told has) [ inl is ↦ absurd (cc) | inr more ↦ elim more [ inl is ↦ absurd (cc) | inr is ↦ absurd (cc) ] ])
-    (λ told. file_fits _ (c.in_ok-session.ensures.over told)) c.in_ok-session.ensures.fits) in
+    (λ told. file_fits _ (c.in_ok-session.ensures.over told)) c.in_ok-session.ensures.fits (g.H.World.newest c.args.host.now) (g.H.World.newest c.open.new.host)) in
     stress_ending g.H.World.tells c.args.count old (g.H.World.scene c.answer_all.new.host) c.answer_all.new.marks.items c.from_residual-in_err-clean.result _ _ c.from_residual-in_err-clean.ensures.1 c.in_err-clean.ensures.err.0
     (no_memory g.H.World.tells old (g.H.World.scene c.answer_all.new.host) c.answer_all.new.session c.answer_all.new.marks.items stop.clean stop.commands stop.turn c.args.count stop.rest stop.first)
 
@@ -61,4 +61,4 @@ returns g c =
     (c.in_ok-clean.ensures.ok old
     (stress_opened g.H.World.tells old mid c.open.ensures.acts c.in_ok-session.session c.in_ok-session.ensures.name.1
     (λ told has. elim (c.in_ok-session.ensures.barred told has) [ inl is ↦ absurd (cc) | inr more ↦ elim more [ inl is ↦ absurd (cc) | inr is ↦ absurd (cc) ] ])
-    (λ told. file_fits _ (c.in_ok-session.ensures.over told)) c.in_ok-session.ensures.fits))
+    (λ told. file_fits _ (c.in_ok-session.ensures.over told)) c.in_ok-session.ensures.fits (g.H.World.newest c.args.host.now) (g.H.World.newest c.open.new.host)))

@@ -1,8 +1,10 @@
-use Rattle.std.proofs.Common.{◌≡◌, inl, inr, [], ◌∷◌, IsTrue, refl}
+use Rattle.std.proofs.Common.{◌≡◌, inl, inr, [], ◌∷◌, IsTrue, Ok, refl, sym}
+use Rattle.std.proofs.lemmas.Bool.{true≢false}
 use Rattle.std.proofs.lemmas.Result.{on_ok_weaker}
 use Rattle.vs_host.specs.Disk.{ChangesNames, Renames, SyncsNames}
 use Rattle.vs_host.specs.Trace.{Renamed, SyncedNames}
 use Rattle.vs_host.specs.World.{Scene}
+use Rattle.vs_host.specs.declared.traits.Failed.{Failed}
 use Rattle.vs_disk.specs.Images.{Takes}
 use Rattle.vs_disk.proofs.Runs.{one_call, call_on}
 use Rattle.vs_disk.proofs.Contents.{takes_renamed, takes_then}
@@ -11,7 +13,7 @@ use Rattle.vs_backup.specs.Works.{two_names}
 use Rattle.vs_backup.proofs.Frames.{either, spares_renamed, spares_synced, takes_spared, takes_same, settled_now, synced_renamed}
 use Rattle.vs_backup.proofs.Kept.{settled_holds}
 use Rattle.vs_ubind.proofs.Calls.{spares_acts, spares_call}
-use Rattle.vs_ubind.proofs.Told.{calls_one, calls_then}
+use Rattle.vs_ubind.proofs.Told.{calls_one, stores_on, stores_renamed}
 use Rattle.vs_ubind.proofs.storing.take_name.Goals as goal
 
 pub returns-in_err-rename-clause-acts : goal.returns-in_err-rename-clause-acts
@@ -78,16 +80,16 @@ returns-clause-none g c =
     c.sync_names.ensures.quiet
 
 pub returns-in_err-rename-clause-calls : goal.returns-in_err-rename-clause-calls
-returns-in_err-rename-clause-calls g c =
-    calls_one g.F.World.tells (two_names c.args.from.now c.args.to.now) Renamed (c.args.from.now ∷ c.args.to.now ∷ []) (inl refl, (inr refl, tt)) (λ none. absurd (cc)) c.rename.result
-    (g.F.World.scene c.args.host.now) (g.F.World.scene c.rename.new.self) c.rename.ensures.told
+returns-in_err-rename-clause-calls g c told =
+    let s0 : Scene = g.F.World.scene c.args.host.now in
+    let s1 : Scene = g.F.World.scene c.rename.new.self in
+    stores_on g.F.World.tells c.args.from.now c.args.to.now s0 s1 told
+    (calls_one g.F.World.tells (two_names c.args.from.now c.args.to.now) Renamed (c.args.from.now ∷ c.args.to.now ∷ []) (inl refl, (inr refl, tt)) (λ none. absurd (cc)) c.rename.result
+    s0 s1 c.rename.ensures.told)
 
 pub returns-clause-calls : goal.returns-clause-calls
-returns-clause-calls g c =
-    let on = two_names c.args.from.now c.args.to.now in
+returns-clause-calls g c told =
     let s0 : Scene = g.F.World.scene c.args.host.now in
     let s1 : Scene = g.F.World.scene c.rename.new.self in
     let s2 : Scene = g.F.World.scene c.sync_names.new.self in
-    calls_then g.F.World.tells on s0 s1 s2
-    (calls_one g.F.World.tells on Renamed (c.args.from.now ∷ c.args.to.now ∷ []) (inl refl, (inr refl, tt)) (λ none. absurd (cc)) c.rename.result s0 s1 c.rename.ensures.told)
-    (calls_one g.F.World.tells on SyncedNames [] tt (λ none. refl) c.sync_names.result s1 s2 c.sync_names.ensures.told)
+    stores_renamed c.args.from.now c.args.to.now {T = Unit {0}} {E = Failed} (Ok tt) c.sync_names.result s0 s1 s2 (λ err. true≢false (sym err)) (c.in_ok-rename.ensures.told told) (c.sync_names.ensures.told told)

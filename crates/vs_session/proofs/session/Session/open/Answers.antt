@@ -18,12 +18,18 @@ returns-in_err-kept-clause-acts g c =
 pub returns-in_err-kept-clause-looks : goal.returns-in_err-kept-clause-looks
 returns-in_err-kept-clause-looks g c = λ err other. looks_none g.H.World.tells (g.H.World.scene c.args.host.now)
 
+pub returns-in_err-kept-clause-barred_looks : goal.returns-in_err-kept-clause-barred_looks
+returns-in_err-kept-clause-barred_looks g c = λ told has. looks_none g.H.World.tells (g.H.World.scene c.args.host.now)
+
 pub returns-in_err-history-clause-acts : goal.returns-in_err-history-clause-acts
 returns-in_err-history-clause-acts g c =
     let old = g.H.World.scene c.args.host.now in opens_looks g.H.World.tells c.args.name.now old old c.requires.settled (looks_none g.H.World.tells old)
 
 pub returns-in_err-history-clause-looks : goal.returns-in_err-history-clause-looks
 returns-in_err-history-clause-looks g c = λ err other. looks_none g.H.World.tells (g.H.World.scene c.args.host.now)
+
+pub returns-in_err-history-clause-barred_looks : goal.returns-in_err-history-clause-barred_looks
+returns-in_err-history-clause-barred_looks g c = λ told has. looks_none g.H.World.tells (g.H.World.scene c.args.host.now)
 
 pub returns-in_err-opening-clause-acts : goal.returns-in_err-opening-clause-acts
 returns-in_err-opening-clause-acts g c =
@@ -55,6 +61,9 @@ returns-clause-acts g c =
     let new = g.H.World.scene c.start.new.host in
     opens_then g.H.World.tells c.args.name.now c.in_ok-opening.opening.text (g.H.World.scene c.args.host.now) mid new c.requires.settled c.in_ok-opening.ensures.text c.in_ok-opening.ensures.none c.in_ok-opening.ensures.looks
     (subst (λ (n : List ℕ). Acts g.H.World.tells (folder.Starting (names_of_file n) c.in_ok-opening.opening.text) mid new) c.in_ok-opening.ensures.name c.in_ok-text.ensures.acts)
+
+pub returns-clause-barred_looks : goal.returns-clause-barred_looks
+returns-clause-barred_looks g c = λ told has. absurd (c.in_ok-opening.ensures.free told has)
 
 pub returns-clause-undo : goal.returns-clause-undo
 returns-clause-undo g c = c.in_ok-history.ensures.counts _

@@ -1,10 +1,8 @@
 use Rattle.std.proofs.Common.{◌∷◌, true, refl, ◌∙◌, subst}
-use Rattle.vs_host.specs.Trace.{GoesOn}
 use Rattle.vs_host.specs.declared.names.Names.{Names}
 use Rattle.vs_disk.specs.Runs.{Runs}
-use Rattle.vs_backup.specs.Works.{two_names}
 use Rattle.vs_undo.specs.History.{history_marked}
-use Rattle.vs_ubind.specs.Storing.{IsCallOn}
+use Rattle.vs_ubind.specs.Storing.{StoresBy}
 use Rattle.vs_session.specs.Fits.{names_of}
 use Rattle.vs_session.specs.Session.{after_sync, sync_in}
 use Rattle.vs_session.specs.Stores.{HasUndo, StoresUndo}
@@ -28,7 +26,7 @@ returns-in-Ok-clause-step g c told state syncs instruction before start at is on
     (store.reply ∙ numbers after made.folder _ _ _ _ _ c.in-Ok.bytes wrote.fits refl refl)
     (λ done. subst (λ (n : Names). HasUndo n state.machine.text history new.folder) same (store.stored done told state.machine.text history undo_is))
     store.cause
-    (subst (λ (n : Names). GoesOn (IsCallOn (two_names n.undo_new n.undo)) made.trace new.trace) same (store.calls.calls told)) (store.last told)
+    (subst (λ (n : Names). StoresBy n.undo_new n.undo made new) same (store.calls told)) (store.last told)
 
 pub returns-in-Err-clause-step : goal.returns-in-Err-clause-step
 returns-in-Err-clause-step g c told state syncs instruction before start at is on s undo_is =

@@ -1,0 +1,96 @@
+-- The folder between two commands of the stress mode is that of the last moment before the second, and each command ends where the next begins.
+use Rattle.std.proofs.Common.{◌≡◌, ◌⊎◌, inl, inr, ℕ, ◌≤◌, ◌<◌, ◌+◌, Bool, true, false, if◌then◌else◌, List, [], ◌∷◌, ◌++◌, length, get_or, refl, sym, ap, subst, ◌∙◌, arith}
+use Rattle.std.proofs.lemmas.Bool.{true≢false}
+use Rattle.std.proofs.lemmas.Bool.Decides.{nat_tests}
+use Rattle.std.proofs.lemmas.List.{length-append}
+use Rattle.vs_faults.proofs.Causes.{risen_after}
+use Rattle.vs_host.specs.Disk.{Disk}
+use Rattle.vs_host.specs.Names.{names_of_file}
+use Rattle.vs_host.specs.Trace.{Snapshot, Each}
+use Rattle.vs_host.specs.World.{Scene, HasNewest}
+use Rattle.vs_host.specs.declared.names.Names.{Names}
+use Rattle.vs_disk.proofs.Runs.{Each-weaker}
+use Rattle.vs_excmd.specs.Request.{Instruction}
+use Rattle.vs_machine.specs.declared.command.Mark.{Mark}
+use Rattle.vs_safety.specs.Texts.{Text}
+use Rattle.vs_safety.specs.Turns.{Turn}
+use Rattle.vs_session.specs.declared.session.Session.{Session}
+use Rattle.vs_session.specs.Session.{Ended, turns_of}
+use Rattle.vs_top.specs.Run.{opened_file}
+use Rattle.vs_top.specs.Stress.{HasEnds, HasSteps, IsBeforeLine, folder_after, is_up_to, stress_name, stress_text}
+use Rattle.vs_top.specs.StressTurns.{StressTold}
+
+-- ---- which moments are behind a command
+
+up_to : (start : Scene) (n : ℕ) (m : Snapshot) → m.answered ≤ length start.answers + n → length m.output ≤ length start.output → is_up_to start n m ≡ true
+up_to start n m few short = grind (arith, nat_tests)
+
+pub later_read : (start : Scene) (n : ℕ) (m : Snapshot) → length start.answers + n < m.answered → is_up_to start n m ≡ false
+later_read start n m more = grind (arith, nat_tests)
+
+pub later_written : (start : Scene) (n : ℕ) (m : Snapshot) → length start.output < length m.output → is_up_to start n m ≡ false
+later_written start n m more = grind (arith, nat_tests)
+
+-- no moment before the line is
+pub before_line : (names : Names) (start : Scene) (text : Text) (turns : List Turn) (n : ℕ) → length turns ≤ n → (m : Snapshot) → IsBeforeLine names start text turns m → is_up_to start n m ≡ true
+before_line names start text turns n most m is = elim is.recovers [
+  | inl opening ↦ up_to start n m (omega (arith, opening.answered)) (omega (arith, ap (λ (l : List ℕ). length l) opening.written))
+  | inr at ↦
+      let rest : List Turn = at.turn ∷ at.rest in
+      up_to start n m (omega (arith, at.answered, most, ap (λ (ts : List Turn). length ts) at.turns_are, length-append at.first rest)) (omega (arith, ap (λ (l : List ℕ). length l) at.written))
+]
+
+-- ---- the folder
+
+chosen : (b : Bool) (here rest last : Disk) → (b ≡ false) ⊎ (here ≡ last) → rest ≡ last → (if b then here else rest) ≡ last
+chosen false here rest last either same = same
+chosen true here rest last (inl differs) same = absurd (true≢false differs)
+chosen true here rest last (inr is) same = is
+
+-- moments behind the command, and such as have its folder, change nothing
+pub folders_on : (start : Scene) (older : List Snapshot) (n : ℕ) (newer : List Snapshot) → Each (λ m. (is_up_to start n m ≡ false) ⊎ (m.folder ≡ folder_after start older n)) newer
+    → folder_after start (newer ++ older) n ≡ folder_after start older n
+folders_on start older n [] each = refl
+folders_on start older n (m ∷ newer) each = chosen (is_up_to start n m) m.folder (folder_after start (newer ++ older) n) (folder_after start older n) each.0 (folders_on start older n newer each.1)
+
+-- where no moment is behind it, the folder is as it is now
+pub folder_now : (start now : Scene) (n : ℕ) (moments : List Snapshot) → HasNewest start → HasNewest now → now.trace ≡ moments ++ start.trace → Each (λ m. is_up_to start n m ≡ true) moments
+    → folder_after start moments n ≡ now.folder
+folder_now start now n [] first last added each =
+    let same : first.newest ≡ last.newest = ap (λ (ms : List Snapshot). get_or ms 0 first.newest) (sym first.is ∙ sym added ∙ last.is) in
+    sym first.folder ∙ ap (λ (m : Snapshot). m.folder) same ∙ last.folder
+folder_now start now n (m ∷ older) first last added each =
+    let same : m ≡ last.newest = ap (λ (ms : List Snapshot). get_or ms 0 m) (sym added ∙ last.is) in
+    ap (λ (b : Bool). if b then m.folder else folder_after start older n) each.0 ∙ ap (λ (m : Snapshot). m.folder) same ∙ last.folder
+
+pub told_folder : (old now : Scene) (session : Session) (marks : List Mark) (clean : Bool) (commands : List Instruction) (ends : List Ended) (here : StressTold old now session marks clean commands ends)
+    → folder_after old here.moments (length (turns_of (opened_file old stress_name).state commands ends)) ≡ now.folder
+told_folder old now session marks clean commands ends here =
+    let turns = turns_of (opened_file old stress_name).state commands ends in
+    folder_now old now (length turns) here.moments here.newest_at_start here.newest here.added
+    (Each-weaker (IsBeforeLine (names_of_file stress_name) old (stress_text old) turns) (λ m. is_up_to old (length turns) m ≡ true)
+    (before_line (names_of_file stress_name) old (stress_text old) turns (length turns) (omega arith)) here.moments here.safe)
+
+-- ---- the steps
+
+pub steps_as : (names : Names) (f g : ℕ → Disk) (k before all : ℕ) (turns : List Turn) → ((n : ℕ) → k ≤ n → n ≤ k + length turns → f n ≡ g n) → HasSteps names f k before turns all → HasSteps names g k before turns all
+steps_as names f g k before all [] same steps = steps
+steps_as names f g k before all (turn ∷ turns) same steps = (
+  steps.0,
+  subst (λ (d : Disk). HasEnds names turn d (g (k + 1)) before steps.0) (same k (omega arith) (omega arith))
+      (subst (λ (d : Disk). HasEnds names turn (f k) d before steps.0) (same (k + 1) (omega arith) (omega arith)) steps.1),
+  steps_as names f g (k + 1) steps.0 all turns (λ n least most. same n (omega (arith, least)) (omega (arith, most))) steps.2,
+)
+
+pub steps_later : (names : Names) (f : ℕ → Disk) (k before all more : ℕ) (turns : List Turn) → all ≤ more → HasSteps names f k before turns all → HasSteps names f k before turns more
+steps_later names f k before all more [] later steps = omega (arith, later, steps)
+steps_later names f k before all more (turn ∷ turns) later steps = (steps.0, steps.1, steps_later names f (k + 1) steps.0 all more turns later steps.2)
+
+-- one more
+pub steps_push : (names : Names) (f : ℕ → Disk) (k before all more n : ℕ) (turns : List Turn) (turn : Turn) → n ≡ k + length turns → HasSteps names f k before turns all → HasEnds names turn (f n) (f (n + 1)) all more
+    → HasSteps names f k before (turns ++ turn ∷ []) more
+steps_push names f k before all more n [] turn is steps ends =
+    let here : n ≡ k = omega (arith, is) in
+    let last : HasEnds names turn (f k) (f (k + 1)) all more = subst (λ (n : ℕ). HasEnds names turn (f n) (f (n + 1)) all more) here ends in
+    (more, record { found = last.found; flag = last.flag; later = omega (arith, steps, last.later); cause = λ failed. risen_after steps (last.cause failed) }, omega arith)
+steps_push names f k before all more n (one ∷ turns) turn is steps ends = (steps.0, steps.1, steps_push names f (k + 1) steps.0 all more n turns turn (omega (arith, is)) steps.2 ends)
