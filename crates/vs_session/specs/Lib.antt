@@ -7,3 +7,4 @@ pub mod Summary
 pub mod Fits
 pub mod Writes
 pub mod Stores
+pub mod Calls

@@ -1,13 +1,12 @@
 // The answer to `rundo`.
 ghost use Rattle.std.specs.Prelude.{◌≡◌, Err, None, List, Result, Some, true, if◌then◌else◌, IsTrue};
-ghost use Rattle.vs_faults.specs.Faults.{HasCause};
-ghost use Rattle.vs_host.specs.World.{ReadsFolder, content_of};
-ghost use Rattle.vs_disk.specs.Runs.{Looks};
+ghost use Rattle.vs_host.specs.World.{content_of};
 ghost use Rattle.vs_excmd.specs.Request.{Instruction};
 ghost use Rattle.vs_undo.specs.History.{History};
 ghost use Rattle.vs_machine.specs.Replies.{refuses};
 ghost use Rattle.vs_safety.specs.Texts.{Sync};
-ghost use Rattle.vs_session.specs.Fits.{Fits, FitsUndo, IsFault, IsMarkedAt, IsStep, SameFile, generation_of, names_of};
+ghost use Rattle.vs_session.specs.Calls.{GoesOnReading, IsUsable};
+ghost use Rattle.vs_session.specs.Fits.{Fits, IsFault, IsMarkedAt, IsStep, names_of};
 ghost use Rattle.vs_session.specs.Session.{SessionState, history_in, is_fault, is_rundo, is_saved, with_history};
 ghost use Rattle.vs_session.specs.Taken.{IsTaken, outcome_by, taken_reply, unreadable_text};
 
@@ -58,17 +57,11 @@ impl Session {
 
     // Replaces the history with that of the undo file, where it is taken with the text. Else nothing of the session changes.
     fn replace_history<F: Folder>(&mut self, alloc: Global, host: &mut F) -> (Outcome, Reply)
-        requires undo { FitsUndo self.old }
-        requires fits { IsTrue F.tells.folder → (state : SessionState) × (syncs : List Sync) × Fits self.old (F.scene host.old).folder state syncs }
+        requires usable { IsUsable F.tells self.old (F.scene host.old).folder }
         ensures read { IsTrue F.tells.folder → (state : SessionState) (syncs : List Sync) → Fits self.old (F.scene host.old).folder state syncs
             → (read : Result History TakeErr) × IsTaken state.machine.text (content_of (F.scene host.old) (names_of self.old).undo) read × (result.0 ≡ outcome_by read) × (result.1 ≡ taken_reply read)
             × Fits self.new (F.scene host.new).folder (with_history (history_in read) state) syncs }
-        ensures looks { IsTrue F.tells.folder → Looks (F.scene host.old) (F.scene host.new) }
-        ensures frame { ReadsFolder (F.scene host.old) (F.scene host.new) }
-        ensures file { SameFile self.old self.new }
-        ensures generation { generation_of self.new ≡ generation_of self.old }
-        ensures undo { FitsUndo self.new }
-        ensures cause { HasCause (F.scene host.old).folder_faults (F.scene host.new).folder_faults (is_fault result.0 ≡ true) }
+        ensures kept { GoesOnReading F.tells (is_fault result.0 ≡ true) self.old self.new (F.scene host.old) (F.scene host.new) }
     {
         match self.take_undo(alloc, host) {
             Ok(Taken { tree, changes }) => {
@@ -84,16 +77,11 @@ impl Session {
 
     /// Answers `rundo`: the history of the undo file replaces that of the session, where it is one of the text.
     pub(crate) fn answer_rundo<F: Folder>(&mut self, alloc: Global, host: &mut F, at: u64) -> Step
-        requires undo { FitsUndo self.old }
-        requires fits { IsTrue F.tells.folder → (state : SessionState) × (syncs : List Sync) × Fits self.old (F.scene host.old).folder state syncs }
+        requires usable { IsUsable F.tells self.old (F.scene host.old).folder }
         ensures step { IsTrue F.tells.folder → (state : SessionState) (syncs : List Sync) (instruction : Instruction) → Fits self.old (F.scene host.old).folder state syncs
             → is_rundo instruction.parsed ≡ true → IsStep result state syncs instruction self.old self.new (F.scene host.old) (F.scene host.new) }
         ensures time { IsMarkedAt result at }
-        ensures frame { ReadsFolder (F.scene host.old) (F.scene host.new) }
-        ensures file { SameFile self.old self.new }
-        ensures generation { generation_of self.new ≡ generation_of self.old }
-        ensures undo { FitsUndo self.new }
-        ensures cause { HasCause (F.scene host.old).folder_faults (F.scene host.new).folder_faults (IsFault result) }
+        ensures kept { GoesOnReading F.tells (IsFault result) self.old self.new (F.scene host.old) (F.scene host.new) }
     {
         let (outcome, reply) = self.replace_history(alloc, host);
         Step::Answer {

@@ -1,8 +1,6 @@
 // One step of a session.
 ghost use Rattle.std.specs.Prelude.{◌≡◌, ◌≢◌, ◌+◌, ◌<◌, ◌≤◌, ◌^◌, ◌∷◌, ℕ, List, None, true, false, IsErr, IsTrue, OnErr, OnOk, length};
 ghost use Rattle.vs_faults.specs.Faults.{HasCause};
-ghost use Rattle.vs_host.specs.World.{ChangesFolder, ReadsFolder};
-ghost use Rattle.vs_disk.specs.Runs.{Looks};
 ghost use Rattle.vs_pair.specs.Acts.{Acts, NoneFails};
 ghost use Rattle.vs_pair.specs.Pair.{Rises};
 ghost use Rattle.vs_exparse.specs.Command.{command_of, result_of};
@@ -11,6 +9,7 @@ ghost use Rattle.vs_machine.specs.Machine.{reply_of as machine_reply};
 ghost use Rattle.vs_machine.specs.declared.command.Mark.{Mark};
 ghost use Rattle.vs_safety.specs.Texts.{Sync};
 ghost use Rattle.vs_paged.specs.Fits.{Syncing};
+ghost use Rattle.vs_session.specs.Calls.{FitsFolder, GoesOnReading, GoesOnSyncing, IsUsable};
 ghost use Rattle.vs_session.specs.Fits.{Fits, FitsUndo, IsFault, IsMarkedAt, IsStep, IsTimed, SameFile, StepsIn, generation_of, names_of};
 ghost use Rattle.vs_session.specs.Session.{SessionState, after_sync, answered, begins_after, carried, counted, is_fault, is_move, is_rundo, is_saved, is_write, is_wundo, options_set, own_reply, quits, sync_in, uses_files};
 
@@ -127,7 +126,7 @@ impl Session {
     /// Syncs the text into a swap file. The steps are counted anew where that succeeded.
     pub(crate) fn sync<F: Folder>(&mut self, host: &mut F) -> Result<(), Failed>
         requires room { generation_of self.old < 2 ^ 63 }
-        requires fits { IsTrue F.tells.folder → (state : SessionState) × (syncs : List Sync) × Fits self.old (F.scene host.old).folder state syncs }
+        requires fits { FitsFolder F.tells self.old (F.scene host.old).folder }
         ensures acts { Acts F.tells (Syncing self.old.text) (F.scene host.old) (F.scene host.new) }
         ensures ok { OnOk result (IsTrue F.tells.folder → (state : SessionState) (syncs : List Sync) → Fits self.old (F.scene host.old).folder state syncs
             → Fits self.new (F.scene host.new).folder (after_sync state true) (sync_in state true ∷ syncs)) }
@@ -158,18 +157,12 @@ impl Session {
     ) -> (Outcome, Reply)
         requires form { IsFormed request.now }
         requires own { own_reply (result_of request.now.parsed) ≡ None }
-        requires undo { FitsUndo self.old }
-        requires fits { IsTrue F.tells.folder → (state : SessionState) × (syncs : List Sync) × Fits self.old (F.scene host.old).folder state syncs }
+        requires usable { IsUsable F.tells self.old (F.scene host.old).folder }
         ensures reply { IsTrue F.tells.folder → (state : SessionState) (syncs : List Sync) (instruction : Instruction) → Fits self.old (F.scene host.old).folder state syncs
             → IsRequest request.now instruction → result.1 ≡ machine_reply state.machine instruction (record { outcome = result.0; at = at }) }
         ensures fits { IsTrue F.tells.folder → (state : SessionState) (syncs : List Sync) (instruction : Instruction) → Fits self.old (F.scene host.old).folder state syncs
             → IsRequest request.now instruction → Fits self.new (F.scene host.new).folder (carried state instruction (record { outcome = result.0; at = at })) syncs }
-        ensures looks { IsTrue F.tells.folder → Looks (F.scene host.old) (F.scene host.new) }
-        ensures frame { ReadsFolder (F.scene host.old) (F.scene host.new) }
-        ensures file { SameFile self.old self.new }
-        ensures generation { generation_of self.new ≡ generation_of self.old }
-        ensures undo { FitsUndo self.new }
-        ensures cause { HasCause (F.scene host.old).folder_faults (F.scene host.new).folder_faults (is_fault result.0 ≡ true) }
+        ensures kept { GoesOnReading F.tells (is_fault result.0 ≡ true) self.old self.new (F.scene host.old) (F.scene host.new) }
         ensures stored { result.0 ≢ Outcome.NoUndo }
     {
         let before = self.history.current();
@@ -202,19 +195,13 @@ impl Session {
         at: u64,
     ) -> (Outcome, Reply)
         requires form { IsFormed request.now }
-        requires undo { FitsUndo self.old }
-        requires fits { IsTrue F.tells.folder → (state : SessionState) × (syncs : List Sync) × Fits self.old (F.scene host.old).folder state syncs }
+        requires usable { IsUsable F.tells self.old (F.scene host.old).folder }
         ensures reply { IsTrue F.tells.folder → (state : SessionState) (syncs : List Sync) (instruction : Instruction) → Fits self.old (F.scene host.old).folder state syncs
             → IsRequest request.now instruction →
             result.1 ≡ answered result.0 (own_reply instruction.parsed) (machine_reply state.machine instruction (record { outcome = result.0; at = at })) }
         ensures fits { IsTrue F.tells.folder → (state : SessionState) (syncs : List Sync) (instruction : Instruction) → Fits self.old (F.scene host.old).folder state syncs
             → IsRequest request.now instruction → Fits self.new (F.scene host.new).folder (carried state instruction (record { outcome = result.0; at = at })) syncs }
-        ensures looks { IsTrue F.tells.folder → Looks (F.scene host.old) (F.scene host.new) }
-        ensures frame { ReadsFolder (F.scene host.old) (F.scene host.new) }
-        ensures file { SameFile self.old self.new }
-        ensures generation { generation_of self.new ≡ generation_of self.old }
-        ensures undo { FitsUndo self.new }
-        ensures cause { HasCause (F.scene host.old).folder_faults (F.scene host.new).folder_faults (is_fault result.0 ≡ true) }
+        ensures kept { GoesOnReading F.tells (is_fault result.0 ≡ true) self.old self.new (F.scene host.old) (F.scene host.new) }
         ensures stored { result.0 ≢ Outcome.NoUndo }
     {
         match own_reply(request) {
@@ -239,16 +226,11 @@ impl Session {
         requires plain { uses_files (result_of request.now.parsed) ≡ false }
         requires begins { begins_after self.old.steps (result_of request.now.parsed) ≡ true }
         requires room { generation_of self.old < 2 ^ 63 }
-        requires undo { FitsUndo self.old }
-        requires fits { IsTrue F.tells.folder → (state : SessionState) × (syncs : List Sync) × Fits self.old (F.scene host.old).folder state syncs }
+        requires usable { IsUsable F.tells self.old (F.scene host.old).folder }
         ensures step { IsTrue F.tells.folder → (state : SessionState) (syncs : List Sync) (instruction : Instruction) → Fits self.old (F.scene host.old).folder state syncs
             → IsRequest request.now instruction → IsStep result state syncs instruction self.old self.new (F.scene host.old) (F.scene host.new) }
         ensures time { IsMarkedAt result at }
-        ensures frame { ChangesFolder (F.scene host.old) (F.scene host.new) }
-        ensures file { SameFile self.old self.new }
-        ensures room { generation_of self.new ≤ generation_of self.old + 1 }
-        ensures undo { FitsUndo self.new }
-        ensures cause { HasCause (F.scene host.old).folder_faults (F.scene host.new).folder_faults (IsFault result) }
+        ensures kept { GoesOnSyncing (IsFault result) self.old self.new (F.scene host.old) (F.scene host.new) }
     {
         match self.sync(host) {
             Ok(()) => {
@@ -273,16 +255,11 @@ impl Session {
         requires form { IsFormed request.now }
         requires goes_on { quits (result_of request.now.parsed) (is_saved self.old.saved self.old.history.current) ≡ false }
         requires room { generation_of self.old < 2 ^ 63 }
-        requires undo { FitsUndo self.old }
-        requires fits { IsTrue F.tells.folder → (state : SessionState) × (syncs : List Sync) × Fits self.old (F.scene host.old).folder state syncs }
+        requires usable { IsUsable F.tells self.old (F.scene host.old).folder }
         ensures step { IsTrue F.tells.folder → (state : SessionState) (syncs : List Sync) (instruction : Instruction) → Fits self.old (F.scene host.old).folder state syncs
             → IsRequest request.now instruction → IsStep result state syncs instruction self.old self.new (F.scene host.old) (F.scene host.new) }
         ensures time { IsMarkedAt result at }
-        ensures frame { ChangesFolder (F.scene host.old) (F.scene host.new) }
-        ensures file { SameFile self.old self.new }
-        ensures room { generation_of self.new ≤ generation_of self.old + 1 }
-        ensures undo { FitsUndo self.new }
-        ensures cause { HasCause (F.scene host.old).folder_faults (F.scene host.new).folder_faults (IsFault result) }
+        ensures kept { GoesOnSyncing (IsFault result) self.old self.new (F.scene host.old) (F.scene host.new) }
     {
         if is_write(request) {
             return self.answer_write(alloc, host, at);

@@ -1,14 +1,12 @@
 // The storing of a session's undo file.
-ghost use Rattle.std.specs.Prelude.{◌≡◌, ◌<◌, ◌≤◌, ◌+◌, ◌^◌, List, true, IsErr, IsErrOf, IsTrue, OnOk};
-ghost use Rattle.vs_faults.specs.Faults.{HasCause};
-ghost use Rattle.vs_host.specs.World.{ChangesFolder};
-ghost use Rattle.vs_disk.specs.Runs.{FailsLast, Runs};
+ghost use Rattle.std.specs.Prelude.{◌≡◌, List, true, IsErr, IsErrOf, IsTrue, OnOk};
+ghost use Rattle.vs_disk.specs.Runs.{Runs};
 ghost use Rattle.vs_excmd.specs.Request.{Instruction};
 ghost use Rattle.vs_undo.specs.History.{History};
 ghost use Rattle.vs_safety.specs.Texts.{Sync, Text};
 ghost use Rattle.vs_safety.specs.Undo.{IsUndoOf};
-ghost use Rattle.vs_ubind.specs.Storing.{StoresBy};
-ghost use Rattle.vs_session.specs.Fits.{Fits, FitsUndo, IsFault, IsMarkedAt, IsStep, SameFile, generation_of, names_of};
+ghost use Rattle.vs_session.specs.Calls.{GoesOn, IsUsable, KeepsState, StoresBytes};
+ghost use Rattle.vs_session.specs.Fits.{Fits, IsFault, IsMarkedAt, IsStep, names_of};
 ghost use Rattle.vs_session.specs.Session.{SessionState, is_wundo};
 ghost use Rattle.vs_session.specs.Stores.{HasUndo, StoresUndo};
 
@@ -22,35 +20,22 @@ use vs_ubind::store;
 impl Session {
     /// Stores these bytes as the undo file.
     pub(crate) fn store_bytes<F: Folder>(&self, host: &mut F, bytes: &[u8]) -> Result<(), Failed>
-        ensures runs { IsTrue F.tells.folder → (text : Text) (history : History) → IsUndoOf text history bytes.now
-            → Runs (StoresUndo (names_of self.now) text history) (F.scene host.old) (F.scene host.new) }
         ensures stored { OnOk result (IsTrue F.tells.folder → (text : Text) (history : History) → IsUndoOf text history bytes.now
             → HasUndo (names_of self.now) text history (F.scene host.new).folder) }
-        ensures fits { IsTrue F.tells.folder → (state : SessionState) (syncs : List Sync) → Fits self.now (F.scene host.old).folder state syncs
-            → Fits self.now (F.scene host.new).folder state syncs }
-        ensures calls { IsTrue F.tells.folder → StoresBy (names_of self.now).undo_new (names_of self.now).undo (F.scene host.old) (F.scene host.new) }
-        ensures last { IsTrue F.tells.folder → FailsLast (F.scene host.old) (F.scene host.new) }
-        ensures frame { ChangesFolder (F.scene host.old) (F.scene host.new) }
-        ensures cause { HasCause (F.scene host.old).folder_faults (F.scene host.new).folder_faults (IsErr result) }
+        ensures stores { StoresBytes F.tells (IsErr result) self.now bytes.now (F.scene host.old) (F.scene host.new) }
     {
         store(host, &self.text.pair.files.names, bytes)
     }
 
     // Stores the undo file of the text with its history. Nothing of the session changes.
     fn store_undo<F: Folder>(&mut self, alloc: Global, host: &mut F) -> Result<(), StoreErr>
-        requires undo { FitsUndo self.old }
-        requires fits { IsTrue F.tells.folder → (state : SessionState) × (syncs : List Sync) × Fits self.old (F.scene host.old).folder state syncs }
+        requires usable { IsUsable F.tells self.old (F.scene host.old).folder }
         ensures runs { IsTrue F.tells.folder → (state : SessionState) (syncs : List Sync) → Fits self.old (F.scene host.old).folder state syncs
             → Runs (StoresUndo (names_of self.old) state.machine.text state.machine.history) (F.scene host.old) (F.scene host.new) }
         ensures stored { OnOk result (IsTrue F.tells.folder → (state : SessionState) (syncs : List Sync) → Fits self.old (F.scene host.old).folder state syncs
             → HasUndo (names_of self.old) state.machine.text state.machine.history (F.scene host.new).folder) }
-        ensures fits { IsTrue F.tells.folder → (state : SessionState) (syncs : List Sync) → Fits self.old (F.scene host.old).folder state syncs
-            → Fits self.new (F.scene host.new).folder state syncs }
-        ensures frame { ChangesFolder (F.scene host.old) (F.scene host.new) }
-        ensures file { SameFile self.old self.new }
-        ensures generation { generation_of self.new ≡ generation_of self.old }
-        ensures undo { FitsUndo self.new }
-        ensures cause { HasCause (F.scene host.old).folder_faults (F.scene host.new).folder_faults (IsErrOf result StoreErr.Failed) }
+        ensures fits { KeepsState F.tells self.old self.new (F.scene host.old).folder (F.scene host.new).folder }
+        ensures kept { GoesOn (IsErrOf result StoreErr.Failed) self.old self.new (F.scene host.old) (F.scene host.new) }
     {
         let bytes = self.undo_bytes(alloc, host, false)?;
         match self.store_bytes(host, &bytes) {
@@ -61,16 +46,11 @@ impl Session {
 
     /// Answers `wundo`: stores the undo file of the text with its history.
     pub(crate) fn answer_wundo<F: Folder>(&mut self, alloc: Global, host: &mut F, at: u64) -> Step
-        requires undo { FitsUndo self.old }
-        requires fits { IsTrue F.tells.folder → (state : SessionState) × (syncs : List Sync) × Fits self.old (F.scene host.old).folder state syncs }
+        requires usable { IsUsable F.tells self.old (F.scene host.old).folder }
         ensures step { IsTrue F.tells.folder → (state : SessionState) (syncs : List Sync) (instruction : Instruction) → Fits self.old (F.scene host.old).folder state syncs
             → is_wundo instruction.parsed ≡ true → IsStep result state syncs instruction self.old self.new (F.scene host.old) (F.scene host.new) }
         ensures time { IsMarkedAt result at }
-        ensures frame { ChangesFolder (F.scene host.old) (F.scene host.new) }
-        ensures file { SameFile self.old self.new }
-        ensures generation { generation_of self.new ≡ generation_of self.old }
-        ensures undo { FitsUndo self.new }
-        ensures cause { HasCause (F.scene host.old).folder_faults (F.scene host.new).folder_faults (IsFault result) }
+        ensures kept { GoesOn (IsFault result) self.old self.new (F.scene host.old) (F.scene host.new) }
     {
         match self.store_undo(alloc, host) {
             Ok(()) => Step::Answer {

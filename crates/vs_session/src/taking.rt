@@ -1,14 +1,14 @@
 // The undo file of a session is read, and its history is bound to the text.
 ghost use Rattle.std.specs.Prelude.{◌≡◌, ℕ, Err, IfErr, IfOk, IsErrOf, IsTrue, List, Ok, Some, length, max};
 ghost use Rattle.vs_faults.specs.Faults.{HasCause};
-ghost use Rattle.vs_host.specs.World.{ReadsFolder, content_of};
-ghost use Rattle.vs_disk.specs.Runs.{Looks};
+ghost use Rattle.vs_host.specs.World.{content_of};
 ghost use Rattle.vs_pair.specs.Lent.{KeepsFiles};
 ghost use Rattle.vs_undo.specs.History.{FitsCount, History, IsHistory};
 ghost use Rattle.vs_ufile.specs.Decode.{IsUndoFile, KeepsRules};
 ghost use Rattle.vs_ufile.specs.Values.{history_of};
 ghost use Rattle.vs_safety.specs.Texts.{Sync, Text};
 ghost use Rattle.vs_paged.specs.Fits as paged;
+ghost use Rattle.vs_session.specs.Calls.{FitsFolder, KeepsState, OnlyReads};
 ghost use Rattle.vs_session.specs.Fits.{Fits, FitsUndo, SameFile, generation_of, names_of};
 ghost use Rattle.vs_session.specs.Session.{SessionState};
 ghost use Rattle.vs_session.specs.Taken.{IsTaken};
@@ -51,9 +51,7 @@ pub struct Taken {
 fn fetch_undo<F: Folder>(alloc: Global, host: &mut F, names: &Names) -> Result<Vec<u8>, TakeErr>
     ensures found { IfOk result (λ bytes. IsTrue F.tells.folder → content_of (F.scene host.old) names.now.undo ≡ Some bytes.items) }
     ensures refused { IfErr result (λ error. IsTrue F.tells.folder → (text : Text) → IsTaken text (content_of (F.scene host.old) names.now.undo) (Err error)) }
-    ensures frame { ReadsFolder (F.scene host.old) (F.scene host.new) }
-    ensures looks { IsTrue F.tells.folder → Looks (F.scene host.old) (F.scene host.new) }
-    ensures cause { HasCause (F.scene host.old).folder_faults (F.scene host.new).folder_faults (IsErrOf result TakeErr.Failed) }
+    ensures reads { OnlyReads F.tells (IsErrOf result TakeErr.Failed) (F.scene host.old) (F.scene host.new) }
 {
     match fetch(alloc, host, names) {
         Ok(bytes) => Ok(bytes),
@@ -116,21 +114,18 @@ impl Session {
         alloc: Global,
         host: &mut F,
     ) -> Result<Taken, TakeErr>
-        requires fits { IsTrue F.tells.folder → (state : SessionState) × (syncs : List Sync) × Fits self.old (F.scene host.old).folder state syncs }
+        requires fits { FitsFolder F.tells self.old (F.scene host.old).folder }
         ensures taken { IfOk result (λ taken. IsTrue F.tells.folder → (state : SessionState) (syncs : List Sync) → Fits self.old (F.scene host.old).folder state syncs
             → (history : History) × IsTaken state.machine.text (content_of (F.scene host.old) (names_of self.old).undo) (Ok history) × IsHistory taken.tree state.machine.text history
             × (taken.changes ≡ length history.links.nodes)) }
         ensures refused { IfErr result (λ error. IsTrue F.tells.folder → (state : SessionState) (syncs : List Sync) → Fits self.old (F.scene host.old).folder state syncs
             → IsTaken state.machine.text (content_of (F.scene host.old) (names_of self.old).undo) (Err error)) }
         ensures counts { IfOk result (λ taken. FitsCount taken.tree (max 1 self.new.text.tree.present.lines)) }
-        ensures fits { IsTrue F.tells.folder → (state : SessionState) (syncs : List Sync) → Fits self.old (F.scene host.old).folder state syncs
-            → Fits self.new (F.scene host.new).folder state syncs }
-        ensures looks { IsTrue F.tells.folder → Looks (F.scene host.old) (F.scene host.new) }
-        ensures frame { ReadsFolder (F.scene host.old) (F.scene host.new) }
+        ensures fits { KeepsState F.tells self.old self.new (F.scene host.old).folder (F.scene host.new).folder }
+        ensures reads { OnlyReads F.tells (IsErrOf result TakeErr.Failed) (F.scene host.old) (F.scene host.new) }
         ensures file { SameFile self.old self.new }
         ensures generation { generation_of self.new ≡ generation_of self.old }
         ensures undo { FitsUndo self.old → FitsUndo self.new }
-        ensures cause { HasCause (F.scene host.old).folder_faults (F.scene host.new).folder_faults (IsErrOf result TakeErr.Failed) }
     {
         let bytes = fetch_undo(alloc, host, &self.text.pair.files.names)?;
         let contents = decode_undo(alloc, &bytes)?;

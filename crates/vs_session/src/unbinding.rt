@@ -1,8 +1,6 @@
 // The bytes of a session's undo file.
 ghost use Rattle.std.specs.Prelude.{◌≡◌, IfOk, IsErrOf, IsTrue, List, max};
 ghost use Rattle.vs_faults.specs.Faults.{HasCause};
-ghost use Rattle.vs_host.specs.World.{ReadsFolder};
-ghost use Rattle.vs_disk.specs.Runs.{Looks};
 ghost use Rattle.vs_pair.specs.Lent.{IsReady, KeepsFiles};
 ghost use Rattle.vs_undo.specs.History.{FitsCount};
 ghost use Rattle.vs_ufile.specs.Decode.{IsWellFormed};
@@ -12,7 +10,8 @@ ghost use Rattle.vs_machine.specs.Machine.{State};
 ghost use Rattle.vs_safety.specs.Texts.{Sync};
 ghost use Rattle.vs_safety.specs.Undo.{IsUndoOf};
 ghost use Rattle.vs_paged.specs.Pages.{IsBounded};
-ghost use Rattle.vs_session.specs.Fits.{Fits, FitsUndo, SameFile, generation_of};
+ghost use Rattle.vs_session.specs.Calls.{GoesOnReading, IsUsable, KeepsState};
+ghost use Rattle.vs_session.specs.Fits.{Fits};
 ghost use Rattle.vs_session.specs.Session.{SessionState};
 ghost use Rattle.vs_session.specs.Standing.{FitsState, Stands};
 
@@ -94,19 +93,12 @@ impl Session {
         host: &mut F,
         save_next: bool,
     ) -> Result<Vec<u8>, StoreErr>
-        requires undo { FitsUndo self.old }
-        requires fits { IsTrue F.tells.folder → (state : SessionState) × (syncs : List Sync) × Fits self.old (F.scene host.old).folder state syncs }
+        requires usable { IsUsable F.tells self.old (F.scene host.old).folder }
         ensures bytes { IfOk result (λ bytes. IsTrue F.tells.folder → (state : SessionState) (syncs : List Sync) → Fits self.old (F.scene host.old).folder state syncs
             → IsUndoOf state.machine.text (history_next save_next state.machine.history) bytes.items) }
-        ensures fits { IsTrue F.tells.folder → (state : SessionState) (syncs : List Sync) → Fits self.old (F.scene host.old).folder state syncs
-            → Fits self.new (F.scene host.new).folder state syncs }
-        ensures looks { IsTrue F.tells.folder → Looks (F.scene host.old) (F.scene host.new) }
+        ensures fits { KeepsState F.tells self.old self.new (F.scene host.old).folder (F.scene host.new).folder }
+        ensures kept { GoesOnReading F.tells (IsErrOf result StoreErr.Failed) self.old self.new (F.scene host.old) (F.scene host.new) }
         ensures still { IsTrue F.tells.folder → F.scene host.new ≡ F.scene host.old }
-        ensures frame { ReadsFolder (F.scene host.old) (F.scene host.new) }
-        ensures file { SameFile self.old self.new }
-        ensures generation { generation_of self.new ≡ generation_of self.old }
-        ensures undo { FitsUndo self.new }
-        ensures cause { HasCause (F.scene host.old).folder_faults (F.scene host.new).folder_faults (IsErrOf result StoreErr.Failed) }
     {
         let contents = unbind_text(alloc, &mut self.text, host, &self.history, save_next)?;
         let bytes = encode(alloc, &contents)?;

@@ -1,18 +1,16 @@
 // The write of a session's file.
-ghost use Rattle.std.specs.Prelude.{◌≡◌, ◌⊎◌, ◌+◌, ◌<◌, ◌≤◌, ◌^◌, ℕ, List, false, string_bytes, true, IsTrue};
-ghost use Rattle.vs_faults.specs.Faults.{HasCause};
-ghost use Rattle.vs_host.specs.World.{ChangesFolder, Scene};
-ghost use Rattle.vs_disk.specs.Runs.{FailsLast, Runs};
+ghost use Rattle.std.specs.Prelude.{◌≡◌, ◌⊎◌, ◌<◌, ◌^◌, ℕ, List, false, string_bytes, true, IsTrue};
+ghost use Rattle.vs_host.specs.World.{Scene};
 ghost use Rattle.vs_backup.specs.Writing.{IsFailed};
 ghost use Rattle.vs_excmd.specs.Request.{Instruction};
 ghost use Rattle.vs_undo.specs.History.{History, history_marked};
 ghost use Rattle.vs_machine.specs.Replies.{says};
 ghost use Rattle.vs_safety.specs.Texts.{Sync, Text};
 ghost use Rattle.vs_safety.specs.Undo.{IsUndoOf};
-ghost use Rattle.vs_ubind.specs.Storing.{StoresBy};
-ghost use Rattle.vs_session.specs.Fits.{Answers, Fits, FitsUndo, IsFault, IsMarkedAt, IsStep, SameFile, generation_of, names_of};
+ghost use Rattle.vs_session.specs.Calls.{GoesOn, GoesOnSyncing, IsUsable, StoresBytes};
+ghost use Rattle.vs_session.specs.Fits.{Answers, Fits, IsFault, IsMarkedAt, IsStep, generation_of, names_of};
 ghost use Rattle.vs_session.specs.Session.{SessionState, is_fault, is_write, line_by};
-ghost use Rattle.vs_session.specs.Stores.{HasUndo, StoresUndo};
+ghost use Rattle.vs_session.specs.Stores.{HasUndo};
 ghost use Rattle.vs_session.specs.Writes.{HasSynced, Wrote, outcome_to, reply_to};
 
 use crate::{Session, Step};
@@ -38,15 +36,10 @@ fn refused(why: WriteErr) -> (Outcome, Reply)
 impl Session {
     // Writes the text into its file. Where that is carried out, the current state of the history has the mark of the write.
     fn write<F: Folder>(&mut self, alloc: Global, host: &mut F) -> Result<u64, WriteErr>
-        requires undo { FitsUndo self.old }
-        requires fits { IsTrue F.tells.folder → (state : SessionState) × (syncs : List Sync) × Fits self.old (F.scene host.old).folder state syncs }
+        requires usable { IsUsable F.tells self.old (F.scene host.old).folder }
         ensures wrote { IsTrue F.tells.folder → (state : SessionState) (syncs : List Sync) → Fits self.old (F.scene host.old).folder state syncs
             → Wrote state syncs self.old self.new result (F.scene host.old) (F.scene host.new) }
-        ensures frame { ChangesFolder (F.scene host.old) (F.scene host.new) }
-        ensures file { SameFile self.old self.new }
-        ensures generation { generation_of self.new ≡ generation_of self.old }
-        ensures undo { FitsUndo self.new }
-        ensures cause { HasCause (F.scene host.old).folder_faults (F.scene host.new).folder_faults (IsFailed result) }
+        ensures kept { GoesOn (IsFailed result) self.old self.new (F.scene host.old) (F.scene host.new) }
     {
         match write_text(alloc, &mut self.text, host, &self.options.write) {
             Ok(bytes) => {
@@ -60,16 +53,11 @@ impl Session {
 
     // Writes the text into its file, after the sync of the command, where no undo file is asked for.
     fn write_alone<F: Folder>(&mut self, alloc: Global, host: &mut F) -> (Outcome, Reply)
-        requires undo { FitsUndo self.old }
-        requires fits { IsTrue F.tells.folder → (state : SessionState) × (syncs : List Sync) × Fits self.old (F.scene host.old).folder state syncs }
+        requires usable { IsUsable F.tells self.old (F.scene host.old).folder }
         ensures step { IsTrue F.tells.folder → (state : SessionState) (syncs : List Sync) (instruction : Instruction) (before : Session) (start : Scene) (at : ℕ)
             → is_write instruction.parsed ≡ true → state.options.undofile ≡ false → HasSynced state syncs before self.old start (F.scene host.old)
             → Answers state syncs instruction before self.new (record { outcome = result.0; at = at }) result.1 start (F.scene host.new) }
-        ensures frame { ChangesFolder (F.scene host.old) (F.scene host.new) }
-        ensures file { SameFile self.old self.new }
-        ensures generation { generation_of self.new ≡ generation_of self.old }
-        ensures undo { FitsUndo self.new }
-        ensures cause { HasCause (F.scene host.old).folder_faults (F.scene host.new).folder_faults (is_fault result.0 ≡ true) }
+        ensures kept { GoesOn (is_fault result.0 ≡ true) self.old self.new (F.scene host.old) (F.scene host.new) }
     {
         match self.write(alloc, host) {
             Ok(bytes) => (Outcome::Done, self.written(bytes)),
@@ -93,18 +81,11 @@ impl Session {
 
     // Stores these bytes as the undo file of the text, after a write of so many bytes.
     fn store_written<F: Folder>(&self, host: &mut F, undo: &[u8], bytes: u64) -> (Outcome, Reply)
-        ensures runs { IsTrue F.tells.folder → (text : Text) (history : History) → IsUndoOf text history undo.now
-            → Runs (StoresUndo (names_of self.now) text history) (F.scene host.old) (F.scene host.new) }
-        ensures calls { IsTrue F.tells.folder → StoresBy (names_of self.now).undo_new (names_of self.now).undo (F.scene host.old) (F.scene host.new) }
-        ensures last { IsTrue F.tells.folder → FailsLast (F.scene host.old) (F.scene host.new) }
         ensures ended { (result.0 ≡ Outcome.Done) ⊎ (result.0 ≡ Outcome.NoUndo) }
         ensures stored { result.0 ≡ Outcome.Done → IsTrue F.tells.folder → (text : Text) (history : History) → IsUndoOf text history undo.now
             → HasUndo (names_of self.now) text history (F.scene host.new).folder }
-        ensures fits { IsTrue F.tells.folder → (state : SessionState) (syncs : List Sync) → Fits self.now (F.scene host.old).folder state syncs
-            → Fits self.now (F.scene host.new).folder state syncs }
         ensures reply { result.1 ≡ says (line_by result.0 (string_bytes self.now.name) self.now.text.tree.present.lines bytes) }
-        ensures frame { ChangesFolder (F.scene host.old) (F.scene host.new) }
-        ensures cause { HasCause (F.scene host.old).folder_faults (F.scene host.new).folder_faults (is_fault result.0 ≡ true) }
+        ensures stores { StoresBytes F.tells (is_fault result.0 ≡ true) self.now undo.now (F.scene host.old) (F.scene host.new) }
     {
         match self.store_bytes(host, undo) {
             Ok(()) => (Outcome::Done, self.written(bytes)),
@@ -119,17 +100,12 @@ impl Session {
         host: &mut F,
         undo: &[u8],
     ) -> (Outcome, Reply)
-        requires undo { FitsUndo self.old }
-        requires fits { IsTrue F.tells.folder → (state : SessionState) × (syncs : List Sync) × Fits self.old (F.scene host.old).folder state syncs }
+        requires usable { IsUsable F.tells self.old (F.scene host.old).folder }
         ensures step { IsTrue F.tells.folder → (state : SessionState) (syncs : List Sync) (instruction : Instruction) (before : Session) (start : Scene) (at : ℕ)
             → is_write instruction.parsed ≡ true → state.options.undofile ≡ true → HasSynced state syncs before self.old start (F.scene host.old)
             → IsUndoOf state.machine.text (history_marked state.machine.history) undo.now
             → Answers state syncs instruction before self.new (record { outcome = result.0; at = at }) result.1 start (F.scene host.new) }
-        ensures frame { ChangesFolder (F.scene host.old) (F.scene host.new) }
-        ensures file { SameFile self.old self.new }
-        ensures generation { generation_of self.new ≡ generation_of self.old }
-        ensures undo { FitsUndo self.new }
-        ensures cause { HasCause (F.scene host.old).folder_faults (F.scene host.new).folder_faults (is_fault result.0 ≡ true) }
+        ensures kept { GoesOn (is_fault result.0 ≡ true) self.old self.new (F.scene host.old) (F.scene host.new) }
     {
         match self.write(alloc, host) {
             Ok(bytes) => self.store_written(host, undo, bytes),
@@ -139,16 +115,11 @@ impl Session {
 
     // The same, with the undo file of the history as it will be after the write.
     fn write_with_undo<F: Folder>(&mut self, alloc: Global, host: &mut F) -> (Outcome, Reply)
-        requires undo { FitsUndo self.old }
-        requires fits { IsTrue F.tells.folder → (state : SessionState) × (syncs : List Sync) × Fits self.old (F.scene host.old).folder state syncs }
+        requires usable { IsUsable F.tells self.old (F.scene host.old).folder }
         ensures step { IsTrue F.tells.folder → (state : SessionState) (syncs : List Sync) (instruction : Instruction) (before : Session) (start : Scene) (at : ℕ)
             → is_write instruction.parsed ≡ true → state.options.undofile ≡ true → HasSynced state syncs before self.old start (F.scene host.old)
             → Answers state syncs instruction before self.new (record { outcome = result.0; at = at }) result.1 start (F.scene host.new) }
-        ensures frame { ChangesFolder (F.scene host.old) (F.scene host.new) }
-        ensures file { SameFile self.old self.new }
-        ensures generation { generation_of self.new ≡ generation_of self.old }
-        ensures undo { FitsUndo self.new }
-        ensures cause { HasCause (F.scene host.old).folder_faults (F.scene host.new).folder_faults (is_fault result.0 ≡ true) }
+        ensures kept { GoesOn (is_fault result.0 ≡ true) self.old self.new (F.scene host.old) (F.scene host.new) }
     {
         match self.undo_bytes(alloc, host, true) {
             Ok(undo) => self.write_and_store(alloc, host, &undo),
@@ -159,16 +130,11 @@ impl Session {
 
     // Writes the text into its file, after the sync of the command, and stores its undo file where that is asked for.
     fn write_files<F: Folder>(&mut self, alloc: Global, host: &mut F) -> (Outcome, Reply)
-        requires undo { FitsUndo self.old }
-        requires fits { IsTrue F.tells.folder → (state : SessionState) × (syncs : List Sync) × Fits self.old (F.scene host.old).folder state syncs }
+        requires usable { IsUsable F.tells self.old (F.scene host.old).folder }
         ensures step { IsTrue F.tells.folder → (state : SessionState) (syncs : List Sync) (instruction : Instruction) (before : Session) (start : Scene) (at : ℕ)
             → is_write instruction.parsed ≡ true → HasSynced state syncs before self.old start (F.scene host.old)
             → Answers state syncs instruction before self.new (record { outcome = result.0; at = at }) result.1 start (F.scene host.new) }
-        ensures frame { ChangesFolder (F.scene host.old) (F.scene host.new) }
-        ensures file { SameFile self.old self.new }
-        ensures generation { generation_of self.new ≡ generation_of self.old }
-        ensures undo { FitsUndo self.new }
-        ensures cause { HasCause (F.scene host.old).folder_faults (F.scene host.new).folder_faults (is_fault result.0 ≡ true) }
+        ensures kept { GoesOn (is_fault result.0 ≡ true) self.old self.new (F.scene host.old) (F.scene host.new) }
     {
         if self.options.undofile {
             return self.write_with_undo(alloc, host);
@@ -180,16 +146,11 @@ impl Session {
     /// memory before the file is touched.
     pub(crate) fn answer_write<F: Folder>(&mut self, alloc: Global, host: &mut F, at: u64) -> Step
         requires room { generation_of self.old < 2 ^ 63 }
-        requires undo { FitsUndo self.old }
-        requires fits { IsTrue F.tells.folder → (state : SessionState) × (syncs : List Sync) × Fits self.old (F.scene host.old).folder state syncs }
+        requires usable { IsUsable F.tells self.old (F.scene host.old).folder }
         ensures step { IsTrue F.tells.folder → (state : SessionState) (syncs : List Sync) (instruction : Instruction) → Fits self.old (F.scene host.old).folder state syncs
             → is_write instruction.parsed ≡ true → IsStep result state syncs instruction self.old self.new (F.scene host.old) (F.scene host.new) }
         ensures time { IsMarkedAt result at }
-        ensures frame { ChangesFolder (F.scene host.old) (F.scene host.new) }
-        ensures file { SameFile self.old self.new }
-        ensures room { generation_of self.new ≤ generation_of self.old + 1 }
-        ensures undo { FitsUndo self.new }
-        ensures cause { HasCause (F.scene host.old).folder_faults (F.scene host.new).folder_faults (IsFault result) }
+        ensures kept { GoesOnSyncing (IsFault result) self.old self.new (F.scene host.old) (F.scene host.new) }
     {
         match self.sync(host) {
             Ok(()) => {

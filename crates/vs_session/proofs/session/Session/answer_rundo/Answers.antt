@@ -6,5 +6,5 @@ returns-clause-step g c told state syncs instruction fits is =
     let old = g.F.World.scene c.args.host.now in
     let new = g.F.World.scene c.replace_history-outcome.new.host in
     let read = c.replace_history-outcome.ensures.read told state syncs fits in
-    answers_read state syncs instruction c.args.self.now old fits is c.replace_history-outcome.new.self read.0 _ c.args.at _ new c.replace_history-outcome.ensures.file.names c.replace_history-outcome.ensures.frame
-    (c.replace_history-outcome.ensures.looks told) read.1 read.2 read.3 c.replace_history-outcome.ensures.cause read.4
+    answers_read state syncs instruction c.args.self.now old fits is c.replace_history-outcome.new.self read.0 _ c.args.at _ new c.replace_history-outcome.ensures.kept.file.names c.replace_history-outcome.ensures.kept.frame
+    (c.replace_history-outcome.ensures.kept.looks told) read.1 read.2 read.3 c.replace_history-outcome.ensures.kept.cause read.4

@@ -4,11 +4,11 @@ use Rattle.vs_session.proofs.SessionLemmas.{quits_is, begins_is}
 use Rattle.vs_session.proofs.Steps.{answers_synced, answers_failed}
 use Rattle.vs_session.proofs.session.Session.answer_synced.Goals as goal
 
-pub carry_out-outcome-requires-clause-undo : goal.carry_out-outcome-requires-clause-undo
-carry_out-outcome-requires-clause-undo g c = c.in-Ok.ensures.undo c.requires.undo
-
-pub carry_out-outcome-requires-clause-fits : goal.carry_out-outcome-requires-clause-fits
-carry_out-outcome-requires-clause-fits g c told = let given = c.requires.fits told in (after_sync given.0 true, sync_in given.0 true ∷ given.1, c.in-Ok.ensures.ok told given.0 given.1 given.2)
+pub carry_out-outcome-requires-clause-usable : goal.carry_out-outcome-requires-clause-usable
+carry_out-outcome-requires-clause-usable g c = record {
+  undo = c.in-Ok.ensures.undo c.requires.usable.undo;
+  fits = λ told. let given = c.requires.usable.fits told in (after_sync given.0 true, sync_in given.0 true ∷ given.1, c.in-Ok.ensures.ok told given.0 given.1 given.2);
+}
 
 pub returns-in-Ok-clause-step : goal.returns-in-Ok-clause-step
 returns-in-Ok-clause-step g c told state syncs instruction fits is =
@@ -17,8 +17,8 @@ returns-in-Ok-clause-step g c told state syncs instruction fits is =
     let new = g.F.World.scene c.carry_out-outcome.new.host in
     let synced = c.in-Ok.ensures.ok told state syncs fits in
     answers_synced state syncs instruction c.args.self.now old (quits_is c.args.self.now old.folder state syncs instruction _ false fits is.parsed c.requires.goes_on) fits (sym (ap uses_files is.parsed) ∙ c.requires.plain) c.sync.new.self c.carry_out-outcome.new.self _ _ mid new c.carry_out-outcome.ensures.stored
-    (begins_is c.args.self.now old.folder state syncs instruction _ true fits is.parsed c.requires.begins) c.in-Ok.ensures.file.names (c.carry_out-outcome.ensures.file.names ∙ c.in-Ok.ensures.file.names) c.in-Ok.ensures.acts.frame
-    (c.in-Ok.ensures.acts.runs told) c.in-Ok.ensures.acts.later (c.in-Ok.ensures.rises told) synced c.carry_out-outcome.ensures.frame (c.carry_out-outcome.ensures.looks told) c.carry_out-outcome.ensures.cause
+    (begins_is c.args.self.now old.folder state syncs instruction _ true fits is.parsed c.requires.begins) c.in-Ok.ensures.file.names (c.carry_out-outcome.ensures.kept.file.names ∙ c.in-Ok.ensures.file.names) c.in-Ok.ensures.acts.frame
+    (c.in-Ok.ensures.acts.runs told) c.in-Ok.ensures.acts.later (c.in-Ok.ensures.rises told) synced c.carry_out-outcome.ensures.kept.frame (c.carry_out-outcome.ensures.kept.looks told) c.carry_out-outcome.ensures.kept.cause
     (c.carry_out-outcome.ensures.reply told (after_sync state true) (sync_in state true ∷ syncs) instruction synced is) (c.carry_out-outcome.ensures.fits told (after_sync state true) (sync_in state true ∷ syncs) instruction synced is)
 
 pub returns-in-Err-clause-step : goal.returns-in-Err-clause-step

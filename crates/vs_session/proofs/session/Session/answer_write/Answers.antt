@@ -4,11 +4,13 @@ use Rattle.vs_session.proofs.Steps.{above_quiet, answers_failed}
 use Rattle.vs_session.proofs.WriteCommand.{begins_is, never_quits}
 use Rattle.vs_session.proofs.session.Session.answer_write.Goals as goal
 
-pub write_files-outcome-requires-clause-undo : goal.write_files-outcome-requires-clause-undo
-write_files-outcome-requires-clause-undo g c = c.in-Ok.ensures.undo c.requires.undo
-
-pub write_files-outcome-requires-clause-fits : goal.write_files-outcome-requires-clause-fits
-write_files-outcome-requires-clause-fits g c told = let given = c.requires.fits told in (after_sync given.0 true, sync_in given.0 true ∷ given.1, c.in-Ok.ensures.ok told given.0 given.1 given.2)
+pub write_files-outcome-requires : goal.write_files-outcome-requires
+write_files-outcome-requires g c = record {
+  usable = record {
+    undo = c.in-Ok.ensures.undo c.requires.usable.undo;
+    fits = λ told. let given = c.requires.usable.fits told in (after_sync given.0 true, sync_in given.0 true ∷ given.1, c.in-Ok.ensures.ok told given.0 given.1 given.2);
+  };
+}
 
 pub returns-in-Ok-clause-step : goal.returns-in-Ok-clause-step
 returns-in-Ok-clause-step g c told state syncs instruction fits is =

@@ -7,22 +7,22 @@ pub returns-in-Ok-clause-step : goal.returns-in-Ok-clause-step
 returns-in-Ok-clause-step g c told state syncs instruction fits is =
     let old = g.F.World.scene c.args.host.now in
     let new = g.F.World.scene c.store_undo.new.host in
-    answers_stored state syncs instruction c.args.self.now old fits is c.store_undo.new.self Done c.args.at _ new c.in-Ok.ensures.file.names c.in-Ok.ensures.frame
+    answers_stored state syncs instruction c.args.self.now old fits is c.store_undo.new.self Done c.args.at _ new c.in-Ok.ensures.kept.file.names c.in-Ok.ensures.kept.frame
     (c.in-Ok.ensures.runs told state syncs fits) (λ _. c.in-Ok.ensures.stored told state syncs fits)
-    (record { later = c.in-Ok.ensures.cause.later; risen = λ e. absurd (cc) }) (λ e. absurd (cc)) c.undo_file_written.ensures (c.in-Ok.ensures.fits told state syncs fits)
+    (record { later = c.in-Ok.ensures.kept.cause.later; risen = λ e. absurd (cc) }) (λ e. absurd (cc)) c.undo_file_written.ensures (c.in-Ok.ensures.fits told state syncs fits)
 
 pub returns-in-Err-NoMemory-clause-step : goal.returns-in-Err-NoMemory-clause-step
 returns-in-Err-NoMemory-clause-step g c told state syncs instruction fits is =
     let old = g.F.World.scene c.args.host.now in
     let new = g.F.World.scene c.store_undo.new.host in
-    answers_stored state syncs instruction c.args.self.now old fits is c.store_undo.new.self NoMemory c.args.at _ new c.in-Err-NoMemory.ensures.file.names c.in-Err-NoMemory.ensures.frame
+    answers_stored state syncs instruction c.args.self.now old fits is c.store_undo.new.self NoMemory c.args.at _ new c.in-Err-NoMemory.ensures.kept.file.names c.in-Err-NoMemory.ensures.kept.frame
     (c.in-Err-NoMemory.ensures.runs told state syncs fits) (λ e. absurd (cc))
-    (record { later = c.in-Err-NoMemory.ensures.cause.later; risen = λ e. absurd (cc) }) (λ e. absurd (cc)) c.out_of_memory.ensures (c.in-Err-NoMemory.ensures.fits told state syncs fits)
+    (record { later = c.in-Err-NoMemory.ensures.kept.cause.later; risen = λ e. absurd (cc) }) (λ e. absurd (cc)) c.out_of_memory.ensures (c.in-Err-NoMemory.ensures.fits told state syncs fits)
 
 pub returns-in-Err-Failed-clause-step : goal.returns-in-Err-Failed-clause-step
 returns-in-Err-Failed-clause-step g c told state syncs instruction fits is =
     let old = g.F.World.scene c.args.host.now in
     let new = g.F.World.scene c.store_undo.new.host in
-    answers_stored state syncs instruction c.args.self.now old fits is c.store_undo.new.self Fault c.args.at _ new c.in-Err-Failed.ensures.file.names c.in-Err-Failed.ensures.frame
+    answers_stored state syncs instruction c.args.self.now old fits is c.store_undo.new.self Fault c.args.at _ new c.in-Err-Failed.ensures.kept.file.names c.in-Err-Failed.ensures.kept.frame
     (c.in-Err-Failed.ensures.runs told state syncs fits) (λ e. absurd (cc))
-    (record { later = c.in-Err-Failed.ensures.cause.later; risen = λ _. c.in-Err-Failed.ensures.cause.risen (ap error_is c.in-Err-Failed.field-0-is) }) (λ e. absurd (cc)) c.device_fault.ensures (c.in-Err-Failed.ensures.fits told state syncs fits)
+    (record { later = c.in-Err-Failed.ensures.kept.cause.later; risen = λ _. c.in-Err-Failed.ensures.kept.cause.risen (ap error_is c.in-Err-Failed.field-0-is) }) (λ e. absurd (cc)) c.device_fault.ensures (c.in-Err-Failed.ensures.fits told state syncs fits)

@@ -1,4 +1,5 @@
 use Rattle.std.proofs.Common.{Ok, Err, refl, ap, ◌∙◌}
+use Rattle.vs_faults.proofs.Causes.{HasCause-weaker}
 use Rattle.vs_session.proofs.Replaced.{err_taken, failed_taken, fits_replaced, read_line}
 use Rattle.vs_session.proofs.session.Session.replace_history.Goals as goal
 
@@ -17,8 +18,12 @@ pub returns-in-Err-clause-read : goal.returns-in-Err-clause-read
 returns-in-Err-clause-read g c told state syncs fits =
     (Err c.in-Err.error, c.in-Err.ensures.refused told state syncs fits, c.refused.ensures.outcome, c.refused.ensures.reply, c.in-Err.ensures.fits told state syncs fits)
 
-pub returns-in-Err-clause-cause : goal.returns-in-Err-clause-cause
-returns-in-Err-clause-cause g c = record {
-  later = c.in-Err.ensures.cause.later;
-  risen = λ fault. c.in-Err.ensures.cause.risen (ap err_taken (failed_taken c.in-Err.error _ c.refused.ensures.outcome fault));
+pub returns-in-Err-clause-kept : goal.returns-in-Err-clause-kept
+returns-in-Err-clause-kept g c = record {
+  frame = c.in-Err.ensures.reads.frame;
+  looks = c.in-Err.ensures.reads.looks;
+  file = c.in-Err.ensures.file;
+  generation = c.in-Err.ensures.generation;
+  undo = c.in-Err.ensures.undo c.requires.usable.undo;
+  cause = HasCause-weaker c.in-Err.ensures.reads.cause (λ fault. ap err_taken (failed_taken c.in-Err.error _ c.refused.ensures.outcome fault));
 }

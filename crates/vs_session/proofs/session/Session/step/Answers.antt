@@ -3,10 +3,13 @@ use Rattle.vs_host.specs.World.{Scene}
 use Rattle.vs_session.proofs.Steps.{fits_moved, step_from}
 use Rattle.vs_session.proofs.session.Session.step.Goals as goal
 
-pub answer-requires-clause-fits : goal.answer-requires-clause-fits
-answer-requires-clause-fits g c told =
-    let given = c.requires.fits told in
-    (given.0, given.1, fits_moved _ _ _ given.0 given.1 (ap (λ (s : Scene). s.folder) c.now-at.ensures.frame) given.2)
+pub answer-requires-clause-usable : goal.answer-requires-clause-usable
+answer-requires-clause-usable g c = record {
+  undo = c.requires.undo;
+  fits = λ told.
+      let given = c.requires.fits told in
+      (given.0, given.1, fits_moved _ _ _ given.0 given.1 (ap (λ (s : Scene). s.folder) c.now-at.ensures.frame) given.2);
+}
 
 pub returns-clause-step : goal.returns-clause-step
 returns-clause-step g c told state syncs instruction fits is =

@@ -3,16 +3,17 @@ use Rattle.vs_session.specs.Fits.{names_of}
 use Rattle.vs_session.proofs.Stored.{fits_stored, stores_runs}
 use Rattle.vs_session.proofs.session.Session.store_bytes.Goals as goal
 
-pub returns-clause-runs : goal.returns-clause-runs
-returns-clause-runs g c told text history is =
-    stores_runs (names_of c.args.self.now) text history c.args.bytes.now is _ _ (c.store.ensures.acts.runs told) (c.store.ensures.takes told)
-
-pub returns-clause-fits : goal.returns-clause-fits
-returns-clause-fits g c told state syncs fits =
-    fits_stored c.args.self.now _ _ state syncs c.args.self.now.text.pair.files.named (c.store.ensures.acts.runs told).now fits
-
-pub returns-clause-last : goal.returns-clause-last
-returns-clause-last g c told = c.store.ensures.acts.last told
+pub returns-clause-stores : goal.returns-clause-stores
+returns-clause-stores g c = record {
+  runs = λ told text history is.
+      stores_runs (names_of c.args.self.now) text history c.args.bytes.now is _ _ (c.store.ensures.acts.runs told) (c.store.ensures.takes told);
+  fits = λ told state syncs fits.
+      fits_stored c.args.self.now _ _ state syncs c.args.self.now.text.pair.files.named (c.store.ensures.acts.runs told).now fits;
+  calls = c.store.ensures.calls;
+  last = c.store.ensures.acts.last;
+  frame = c.store.ensures.acts.frame;
+  cause = c.store.ensures.cause;
+}
 
 pub returns-clause-stored : goal.returns-clause-stored
 returns-clause-stored g c = on_ok_as c.store.result _ _ (λ holds told text history is. (c.args.bytes.now, is, holds told)) c.store.ensures.holds

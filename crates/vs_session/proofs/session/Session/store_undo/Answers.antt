@@ -3,32 +3,32 @@ use Rattle.vs_session.proofs.Stored.{stored_bytes, stored_runs, stores_looked}
 use Rattle.vs_session.proofs.session.Session.store_undo.Goals as goal
 
 pub returns-in_err-bytes-clause-runs : goal.returns-in_err-bytes-clause-runs
-returns-in_err-bytes-clause-runs g c told state syncs fits = stores_looked _ _ _ _ _ (c.in_err-bytes.ensures.looks told)
+returns-in_err-bytes-clause-runs g c told state syncs fits = stores_looked _ _ _ _ _ (c.in_err-bytes.ensures.kept.looks told)
 
 pub returns-in-Ok-clause-runs : goal.returns-in-Ok-clause-runs
 returns-in-Ok-clause-runs g c told state syncs fits =
     let old = g.F.World.scene c.args.host.now in
     let mid = g.F.World.scene c.undo_bytes.new.host in
     let new = g.F.World.scene c.store_bytes.new.host in
-    stored_runs (names_of c.args.self.now) (names_of c.undo_bytes.new.self) state.machine.text state.machine.history c.in_ok-bytes.bytes.items c.deref.result.now c.in_ok-bytes.ensures.file.names c.deref.ensures.value
-    (c.in_ok-bytes.ensures.bytes told state syncs fits) old mid new c.in_ok-bytes.ensures.frame (c.in_ok-bytes.ensures.looks told) c.in-Ok.ensures.frame (c.in-Ok.ensures.runs told)
+    stored_runs (names_of c.args.self.now) (names_of c.undo_bytes.new.self) state.machine.text state.machine.history c.in_ok-bytes.bytes.items c.deref.result.now c.in_ok-bytes.ensures.kept.file.names c.deref.ensures.value
+    (c.in_ok-bytes.ensures.bytes told state syncs fits) old mid new c.in_ok-bytes.ensures.kept.frame (c.in_ok-bytes.ensures.kept.looks told) c.in-Ok.ensures.stores.frame (c.in-Ok.ensures.stores.runs told)
 
 pub returns-in-Ok-clause-stored : goal.returns-in-Ok-clause-stored
 returns-in-Ok-clause-stored g c told state syncs fits =
     let new = g.F.World.scene c.store_bytes.new.host in
-    stored_bytes (names_of c.args.self.now) (names_of c.undo_bytes.new.self) state.machine.text state.machine.history c.in_ok-bytes.bytes.items c.deref.result.now c.in_ok-bytes.ensures.file.names c.deref.ensures.value
+    stored_bytes (names_of c.args.self.now) (names_of c.undo_bytes.new.self) state.machine.text state.machine.history c.in_ok-bytes.bytes.items c.deref.result.now c.in_ok-bytes.ensures.kept.file.names c.deref.ensures.value
     (c.in_ok-bytes.ensures.bytes told state syncs fits) new.folder (c.in-Ok.ensures.stored told)
 
 pub returns-in-Ok-clause-fits : goal.returns-in-Ok-clause-fits
-returns-in-Ok-clause-fits g c told state syncs fits = c.in-Ok.ensures.fits told state syncs (c.in_ok-bytes.ensures.fits told state syncs fits)
+returns-in-Ok-clause-fits g c told state syncs fits = c.in-Ok.ensures.stores.fits told state syncs (c.in_ok-bytes.ensures.fits told state syncs fits)
 
 pub returns-clause-runs : goal.returns-clause-runs
 returns-clause-runs g c told state syncs fits =
     let old = g.F.World.scene c.args.host.now in
     let mid = g.F.World.scene c.undo_bytes.new.host in
     let new = g.F.World.scene c.store_bytes.new.host in
-    stored_runs (names_of c.args.self.now) (names_of c.undo_bytes.new.self) state.machine.text state.machine.history c.in_ok-bytes.bytes.items c.deref.result.now c.in_ok-bytes.ensures.file.names c.deref.ensures.value
-    (c.in_ok-bytes.ensures.bytes told state syncs fits) old mid new c.in_ok-bytes.ensures.frame (c.in_ok-bytes.ensures.looks told) c.in-Err.ensures.frame (c.in-Err.ensures.runs told)
+    stored_runs (names_of c.args.self.now) (names_of c.undo_bytes.new.self) state.machine.text state.machine.history c.in_ok-bytes.bytes.items c.deref.result.now c.in_ok-bytes.ensures.kept.file.names c.deref.ensures.value
+    (c.in_ok-bytes.ensures.bytes told state syncs fits) old mid new c.in_ok-bytes.ensures.kept.frame (c.in_ok-bytes.ensures.kept.looks told) c.in-Err.ensures.stores.frame (c.in-Err.ensures.stores.runs told)
 
 pub returns-clause-fits : goal.returns-clause-fits
-returns-clause-fits g c told state syncs fits = c.in-Err.ensures.fits told state syncs (c.in_ok-bytes.ensures.fits told state syncs fits)
+returns-clause-fits g c told state syncs fits = c.in-Err.ensures.stores.fits told state syncs (c.in_ok-bytes.ensures.fits told state syncs fits)

@@ -7,6 +7,7 @@ use Rattle.vs_session.specs.Fits.{names_of}
 use Rattle.vs_session.specs.Session.{after_sync, sync_in}
 use Rattle.vs_session.specs.Stores.{HasUndo, StoresUndo}
 use Rattle.vs_session.proofs.BothWritten.{answers_both}
+use Rattle.vs_session.proofs.Calls.{GoesOn-weaker}
 use Rattle.vs_session.proofs.FileWritten.{failed_why, numbers, refuses_as}
 use Rattle.vs_session.proofs.Written.{answers_refused}
 use Rattle.vs_session.proofs.session.Session.write_and_store.Goals as goal
@@ -17,25 +18,25 @@ returns-in-Ok-clause-step g c told state syncs instruction before start at is on
     let made = g.F.World.scene c.write.new.host in
     let new = g.F.World.scene c.store_written.new.host in
     let after = c.write.new.self in
-    let same = c.in-Ok.ensures.file.names ∙ s.names in
+    let same = c.in-Ok.ensures.kept.file.names ∙ s.names in
     let wrote = c.in-Ok.ensures.wrote told (after_sync state true) (sync_in state true ∷ syncs) s.synced in
     let history = history_marked state.machine.history in
     let store = c.store_written.ensures in
-    answers_both state syncs instruction is before c.args.self.now start mid s on c.in-Ok.bytes at after made new c.in-Ok.ensures.frame same wrote store.frame store.cause.later
-    (subst (λ (n : Names). Runs (StoresUndo n state.machine.text history) made new) same (store.runs told state.machine.text history undo_is)) _ _ store.ended
+    answers_both state syncs instruction is before c.args.self.now start mid s on c.in-Ok.bytes at after made new c.in-Ok.ensures.kept.frame same wrote store.stores.frame store.stores.cause.later
+    (subst (λ (n : Names). Runs (StoresUndo n state.machine.text history) made new) same (store.stores.runs told state.machine.text history undo_is)) _ _ store.ended
     (store.reply ∙ numbers after made.folder _ _ _ _ _ c.in-Ok.bytes wrote.fits refl refl)
     (λ done. subst (λ (n : Names). HasUndo n state.machine.text history new.folder) same (store.stored done told state.machine.text history undo_is))
-    store.cause
-    (subst (λ (n : Names). StoresBy n.undo_new n.undo made new) same (store.calls told)) (store.last told)
+    store.stores.cause
+    (subst (λ (n : Names). StoresBy n.undo_new n.undo made new) same (store.stores.calls told)) (store.stores.last told)
 
 pub returns-in-Err-clause-step : goal.returns-in-Err-clause-step
 returns-in-Err-clause-step g c told state syncs instruction before start at is on s undo_is =
     let mid = g.F.World.scene c.args.host.now in
     let new = g.F.World.scene c.write.new.host in
-    answers_refused state syncs instruction is before c.args.self.now start mid s c.in-Err.why at c.write.new.self new c.in-Err.ensures.frame (c.in-Err.ensures.file.names ∙ s.names)
+    answers_refused state syncs instruction is before c.args.self.now start mid s c.in-Err.why at c.write.new.self new c.in-Err.ensures.kept.frame (c.in-Err.ensures.kept.file.names ∙ s.names)
     (c.in-Err.ensures.wrote told (after_sync state true) (sync_in state true ∷ syncs) s.synced) _ _
-    (record { later = c.in-Err.ensures.cause.later; risen = λ fault. c.in-Err.ensures.cause.risen (failed_why c.in-Err.why _ c.refused.ensures.outcome fault) })
+    (record { later = c.in-Err.ensures.kept.cause.later; risen = λ fault. c.in-Err.ensures.kept.cause.risen (failed_why c.in-Err.why _ c.refused.ensures.outcome fault) })
     (refuses_as c.in-Err.why _ _ c.refused.ensures.outcome c.refused.ensures.reply)
 
-pub returns-in-Err-clause-cause : goal.returns-in-Err-clause-cause
-returns-in-Err-clause-cause g c = record { later = c.in-Err.ensures.cause.later; risen = λ fault. c.in-Err.ensures.cause.risen (failed_why c.in-Err.why _ c.refused.ensures.outcome fault) }
+pub returns-in-Err-clause-kept : goal.returns-in-Err-clause-kept
+returns-in-Err-clause-kept g c = GoesOn-weaker c.in-Err.ensures.kept (λ fault. failed_why c.in-Err.why _ c.refused.ensures.outcome fault)

@@ -12,15 +12,20 @@ use Rattle.vs_session.proofs.Stored.{error_is}
 use Rattle.vs_session.proofs.Written.{answers_refused}
 use Rattle.vs_session.proofs.session.Session.write_with_undo.Goals as goal
 
-pub write_and_store-requires-clause-fits : goal.write_and_store-requires-clause-fits
-write_and_store-requires-clause-fits g c told = let given = c.requires.fits told in (given.0, given.1, c.in-Ok.ensures.fits told given.0 given.1 given.2)
+pub write_and_store-requires : goal.write_and_store-requires
+write_and_store-requires g c = record {
+  usable = record {
+    undo = c.in-Ok.ensures.kept.undo;
+    fits = λ told. let given = c.requires.usable.fits told in (given.0, given.1, c.in-Ok.ensures.fits told given.0 given.1 given.2);
+  };
+}
 
 pub returns-in-Ok-clause-step : goal.returns-in-Ok-clause-step
 returns-in-Ok-clause-step g c told state syncs instruction before start at is on s =
     let mid = g.F.World.scene c.args.host.now in
     let seen = g.F.World.scene c.undo_bytes.new.host in
     c.write_and_store.ensures.step told state syncs instruction before start at is on
-    (synced_looked state syncs before c.args.self.now c.undo_bytes.new.self start mid seen s c.in-Ok.ensures.frame (c.in-Ok.ensures.looks told) (c.in-Ok.ensures.still told) c.in-Ok.ensures.file.names
+    (synced_looked state syncs before c.args.self.now c.undo_bytes.new.self start mid seen s c.in-Ok.ensures.kept.frame (c.in-Ok.ensures.kept.looks told) (c.in-Ok.ensures.still told) c.in-Ok.ensures.kept.file.names
     (c.in-Ok.ensures.fits told (after_sync state true) (sync_in state true ∷ syncs) s.synced))
     (subst (λ (b : List ℕ). IsUndoOf state.machine.text (history_marked state.machine.history) b) (sym c.deref.ensures.value) (c.in-Ok.ensures.bytes told (after_sync state true) (sync_in state true ∷ syncs) s.synced))
 
@@ -29,15 +34,15 @@ returns-in-Err-NoMemory-clause-step g c told state syncs instruction before star
     let mid = g.F.World.scene c.args.host.now in
     let seen = g.F.World.scene c.undo_bytes.new.host in
     let why = c.in-Err-NoMemory.ensures in
-    answers_refused state syncs instruction is before c.args.self.now start mid s (error.Failed Nowhere) at c.undo_bytes.new.self seen (reads_change mid seen why.frame) (why.file.names ∙ s.names)
-    (wrote_nothing (after_sync state true) (sync_in state true ∷ syncs) c.args.self.now c.undo_bytes.new.self mid seen (why.looks told) (why.still told) s.synced (why.fits told (after_sync state true) (sync_in state true ∷ syncs) s.synced))
-    NoMemory _ (record { later = why.cause.later; risen = λ e. absurd (true≢false (sym e)) }) (inl (refl, c.out_of_memory.ensures))
+    answers_refused state syncs instruction is before c.args.self.now start mid s (error.Failed Nowhere) at c.undo_bytes.new.self seen (reads_change mid seen why.kept.frame) (why.kept.file.names ∙ s.names)
+    (wrote_nothing (after_sync state true) (sync_in state true ∷ syncs) c.args.self.now c.undo_bytes.new.self mid seen (why.kept.looks told) (why.still told) s.synced (why.fits told (after_sync state true) (sync_in state true ∷ syncs) s.synced))
+    NoMemory _ (record { later = why.kept.cause.later; risen = λ e. absurd (true≢false (sym e)) }) (inl (refl, c.out_of_memory.ensures))
 
 pub returns-in-Err-Failed-clause-step : goal.returns-in-Err-Failed-clause-step
 returns-in-Err-Failed-clause-step g c told state syncs instruction before start at is on s =
     let mid = g.F.World.scene c.args.host.now in
     let seen = g.F.World.scene c.undo_bytes.new.host in
     let why = c.in-Err-Failed.ensures in
-    answers_refused state syncs instruction is before c.args.self.now start mid s (error.Failed Nowhere) at c.undo_bytes.new.self seen (reads_change mid seen why.frame) (why.file.names ∙ s.names)
-    (wrote_nothing (after_sync state true) (sync_in state true ∷ syncs) c.args.self.now c.undo_bytes.new.self mid seen (why.looks told) (why.still told) s.synced (why.fits told (after_sync state true) (sync_in state true ∷ syncs) s.synced))
-    Fault _ (record { later = why.cause.later; risen = λ e. why.cause.risen (ap error_is c.in-Err-Failed.field-0-is) }) (inr (refl, c.device_fault.ensures))
+    answers_refused state syncs instruction is before c.args.self.now start mid s (error.Failed Nowhere) at c.undo_bytes.new.self seen (reads_change mid seen why.kept.frame) (why.kept.file.names ∙ s.names)
+    (wrote_nothing (after_sync state true) (sync_in state true ∷ syncs) c.args.self.now c.undo_bytes.new.self mid seen (why.kept.looks told) (why.still told) s.synced (why.fits told (after_sync state true) (sync_in state true ∷ syncs) s.synced))
+    Fault _ (record { later = why.kept.cause.later; risen = λ e. why.kept.cause.risen (ap error_is c.in-Err-Failed.field-0-is) }) (inr (refl, c.device_fault.ensures))

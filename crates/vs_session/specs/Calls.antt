@@ -1,0 +1,70 @@
+-- What a call on a session requires of it, and how the session goes on over the call.
+use Rattle.std.specs.Prelude.{◌≡◌, ◌≤◌, ◌+◌, ℕ, List, IsTrue}
+use Rattle.vs_faults.specs.Faults.{HasCause}
+use Rattle.vs_host.specs.Disk.{Disk}
+use Rattle.vs_host.specs.World.{Tells, Scene, ChangesFolder, ReadsFolder}
+use Rattle.vs_disk.specs.Runs.{FailsLast, Looks, Runs}
+use Rattle.vs_undo.specs.History.{History}
+use Rattle.vs_safety.specs.Texts.{Sync, Text}
+use Rattle.vs_safety.specs.Undo.{IsUndoOf}
+use Rattle.vs_ubind.specs.Storing.{StoresBy}
+use Rattle.vs_session.specs.declared.session.Session.{Session}
+use Rattle.vs_session.specs.Session.{SessionState}
+use Rattle.vs_session.specs.Stores.{StoresUndo}
+use Rattle.vs_session.specs.Fits.{Fits, FitsUndo, SameFile, generation_of, names_of}
+
+-- Where the folder is told, the session is in some state, and the folder has the swap files that some syncs made.
+abbrev pub FitsFolder : Tells → Session → Disk → Type 0
+FitsFolder tells session disk = IsTrue tells.folder → (state : SessionState) × (syncs : List Sync) × Fits session disk state syncs
+
+-- The session can take a command: its undo tree fits its text, and it fits the folder.
+pub record IsUsable (tells : Tells) (session : Session) (disk : Disk) : Type 0 where
+  pub undo : FitsUndo session
+  pub fits : FitsFolder tells session disk
+
+-- The session is still in each state that it was in, and the folder has the swap files of the same syncs.
+abbrev pub KeepsState : Tells → Session → Session → Disk → Disk → Type 0
+KeepsState tells before after was now = IsTrue tells.folder → (state : SessionState) (syncs : List Sync) → Fits before was state syncs → Fits after now state syncs
+
+-- The folder was only looked at, and its faults have risen where a call failed.
+pub record OnlyReads (tells : Tells) (Failed : Type 0) (old new : Scene) : Type 0 where
+  pub frame : ReadsFolder old new
+  pub looks : IsTrue tells.folder → Looks old new
+  pub cause : HasCause old.folder_faults new.folder_faults Failed
+
+-- The session goes on with the same file and the same number of syncs, and its undo tree fits its text. Nothing but the folder, its
+-- faults and the trace changed, and the faults have risen where a call failed.
+pub record GoesOn (Failed : Type 0) (before after : Session) (old new : Scene) : Type 0 where
+  pub frame : ChangesFolder old new
+  pub file : SameFile before after
+  pub generation : generation_of after ≡ generation_of before
+  pub undo : FitsUndo after
+  pub cause : HasCause old.folder_faults new.folder_faults Failed
+
+-- The same, and the folder was only looked at.
+pub record GoesOnReading (tells : Tells) (Failed : Type 0) (before after : Session) (old new : Scene) : Type 0 where
+  pub frame : ReadsFolder old new
+  pub looks : IsTrue tells.folder → Looks old new
+  pub file : SameFile before after
+  pub generation : generation_of after ≡ generation_of before
+  pub undo : FitsUndo after
+  pub cause : HasCause old.folder_faults new.folder_faults Failed
+
+-- The same as `GoesOn`, but that one sync may have been begun.
+pub record GoesOnSyncing (Failed : Type 0) (before after : Session) (old new : Scene) : Type 0 where
+  pub frame : ChangesFolder old new
+  pub file : SameFile before after
+  pub generation : generation_of after ≤ generation_of before + 1
+  pub undo : FitsUndo after
+  pub cause : HasCause old.folder_faults new.folder_faults Failed
+
+-- These bytes were stored as the undo file of the session, as far as the calls went: where they are the undo file of a text and a
+-- history, a stop leaves what was there before or them whole. No call was made but those of the storing, none but the last one failed,
+-- and the session fits the folder in each state that it fitted it in before.
+pub record StoresBytes (tells : Tells) (Failed : Type 0) (session : Session) (bytes : List ℕ) (old new : Scene) : Type 0 where
+  pub runs : IsTrue tells.folder → (text : Text) (history : History) → IsUndoOf text history bytes → Runs (StoresUndo (names_of session) text history) old new
+  pub fits : KeepsState tells session session old.folder new.folder
+  pub calls : IsTrue tells.folder → StoresBy (names_of session).undo_new (names_of session).undo old new
+  pub last : IsTrue tells.folder → FailsLast old new
+  pub frame : ChangesFolder old new
+  pub cause : HasCause old.folder_faults new.folder_faults Failed
