@@ -1,25 +1,75 @@
 -- One look at the folder after another, and what an opening makes of it.
-use Rattle.std.proofs.Common.{◌≡◌, inl, inr, ℕ, List, Option, Some, None, IsSome, IsTrue, refl, sym, ◌∙◌, subst}
-use Rattle.vs_host.specs.Disk.{Disk, IsImage, IsImageOf, content_in}
+use Rattle.std.proofs.Common.{◌≡◌, inl, inr, ℕ, List, Option, Some, None, Result, Ok, Err, IsErr, IsErrAnd, IsSome, IsTrue, OnOk, refl, sym, ◌∙◌, subst}
+use Rattle.vs_faults.specs.Faults.{HasCause}
+use Rattle.vs_faults.proofs.Causes.{HasCause-trans, cause_none}
+use Rattle.vs_host.specs.Disk.{Disk, Name, IsImage, IsImageOf, content_in}
+use Rattle.vs_host.specs.Trace.{Kind}
 use Rattle.vs_host.specs.Names.{names_of_file}
-use Rattle.vs_host.specs.World.{Tells, Scene}
+use Rattle.vs_host.specs.World.{Tells, Scene, IsTold, ReadsFolder}
 use Rattle.vs_host.specs.declared.names.Names.{Names}
 use Rattle.vs_disk.proofs.Others.{same_none}
 use Rattle.vs_pair.specs.Acts.{Acts, NoneFails}
 use Rattle.vs_pair.specs.Pair.{Image, NoneThere, is_foreign}
 use Rattle.vs_pair.specs.Steps.{IsAbsent, IsFresh}
-use Rattle.vs_pair.proofs.Acts.{acts_none, acts_as, acts_on, acts_then}
+use Rattle.vs_pair.proofs.Calls.{look_acts, look_none}
+use Rattle.vs_pair.proofs.Acts.{acts_none, acts_as, acts_on, acts_then, none_fails, none_then}
 use Rattle.vs_safety.specs.Texts.{Text}
 use Rattle.vs_paged.specs.Fits.{Starting}
-use Rattle.vs_session.specs.Open.{OnlyLooks}
+use Rattle.vs_paged.proofs.SyncLemmas.{on_ok_as}
+use Rattle.vs_session.specs.Open.{IsLook, OnlyLooks}
 use Rattle.vs_session.specs.Opened.{text_in}
 use Rattle.vs_session.specs.Fits.{HasSwap, IsSettled, Opens}
+use Rattle.vs_session.proofs.OpenLemmas.{ReadsFolder-trans}
 
 pub looks_none : (tells : Tells) (scene : Scene) → OnlyLooks tells scene scene
 looks_none tells scene = acts_none tells (λ a b. b ≡ a) scene refl
 
 pub looks_then : (tells : Tells) (old mid new : Scene) → NoneFails tells old mid → OnlyLooks tells old mid → OnlyLooks tells mid new → OnlyLooks tells old new
 looks_then tells old mid new none first second = acts_on tells (λ a b. b ≡ a) (λ a b c one two. two ∙ one) old mid new none first second
+
+on_ok_all : {T E A : Type 0} (result : Result T E) → A → OnOk result A
+on_ok_all (Ok x) a = a
+on_ok_all (Err e) a = tt
+
+-- an error is no value
+pub on_ok_never : {T E A : Type 0} {P : E → Type 0} (result : Result T E) → IsErrAnd result P → OnOk result A
+on_ok_never (Ok x) is = absurd is
+on_ok_never (Err e) is = tt
+
+-- one call
+pub is_look : {T E : Type 0} (tells : Tells) (kind : Kind) (names : List Name) (result : Result T E) (old new : Scene) → ReadsFolder old new → HasCause old.folder_faults new.folder_faults (IsErr result)
+    → (IsTrue tells.folder → IsTold kind names result old new) → OnOk result (new.folder_faults ≡ old.folder_faults) → IsLook tells result (IsErr result) old new
+is_look tells kind names result old new frame cause told quiet = record {
+  frame = frame;
+  looks = look_acts tells (λ a b. b ≡ a) kind names result old new frame cause told (λ tells_it. refl);
+  none = on_ok_as result (new.folder_faults ≡ old.folder_faults) (NoneFails tells old new) (λ same. look_none tells kind names result old new frame told same) quiet;
+  cause = cause;
+}
+
+-- before the first call
+pub IsLook-none : {T E F : Type 0} (tells : Tells) (result : Result T E) (scene : Scene) → (F → ⊥) → IsLook tells result F scene scene
+IsLook-none tells result scene never = record { frame = refl; looks = looks_none tells scene; none = on_ok_all result (none_fails tells scene); cause = cause_none never }
+
+-- after calls none of which failed
+pub IsLook-loop : {T E F : Type 0} (tells : Tells) (result : Result T E) (old new : Scene) → ReadsFolder old new → OnlyLooks tells old new → NoneFails tells old new → (F → ⊥) → IsLook tells result F old new
+IsLook-loop tells result old new frame looks none never = record { frame = frame; looks = looks; none = on_ok_all result none; cause = record { later = looks.later; risen = λ failed. absurd (never failed) } }
+
+pub IsLook-ended : (tells : Tells) (old new : Scene) → ReadsFolder old new → OnlyLooks tells old new → NoneFails tells old new → IsLook {T = Unit {0}} {E = Unit {0}} tells (Ok tt) ⊥ old new
+IsLook-ended tells old new frame looks none = IsLook-loop tells (Ok tt) old new frame looks none (λ never. never)
+
+-- a look after one that succeeded
+pub IsLook-then : {T E F U V G W X H : Type 0} {x : T} {second : Result U V} {old mid new : Scene} (tells : Tells) (result : Result W X) → IsLook {T = T} {E = E} tells (Ok x) F old mid → IsLook tells second G mid new
+    → (OnOk second (NoneFails tells mid new) → OnOk result (NoneFails tells mid new)) → (H → G) → IsLook tells result H old new
+IsLook-then {old} {mid} {new} tells result first next carry so = record {
+  frame = ReadsFolder-trans old mid new first.frame next.frame;
+  looks = looks_then tells old mid new first.none first.looks next.looks;
+  none = on_ok_as result (NoneFails tells mid new) (NoneFails tells old new) (λ quiet. none_then tells old mid new first.none quiet) (carry next.none);
+  cause = HasCause-trans first.cause next.cause (λ failed. inr (so failed));
+}
+
+-- two looks that succeeded
+pub IsLook-both : {T E U V F G : Type 0} {x : T} {y : U} {old mid new : Scene} (tells : Tells) → IsLook {T = T} {E = E} tells (Ok x) F old mid → IsLook {T = U} {E = V} tells (Ok y) G mid new → IsLook {T = U} {E = V} tells (Ok y) G old new
+IsLook-both {y} tells first next = IsLook-then tells (Ok y) first next (λ none. none) (λ failed. failed)
 
 -- ---- a folder without swap files
 

@@ -12,7 +12,6 @@ use Rattle.vs_text.specs.Limits.{IsRefusal, IsWithinLimits, first_long}
 use Rattle.vs_text.specs.declared.TheConstants.{MAX_LINE_BYTES}
 use Rattle.vs_text.specs.declared.error.TextErr.{TextErr}
 use Rattle.vs_text.specs.declared.error.TextErr.TheVariants as text
-use Rattle.vs_faults.specs.Faults.{HasCause}
 use Rattle.vs_host.specs.World.{Scene, ReadsFolder, Tells, content_of}
 use Rattle.vs_session.specs.Open.{open_error, IsTooLarge, PassesLimit}
 use Rattle.vs_session.specs.declared.open.OpenErr.{OpenErr}
@@ -108,10 +107,6 @@ never_failed (Ok x) e is of = absurd is
 never_failed (Err x) (text.TextFull n) is of = absurd (cc)
 never_failed (Err x) (text.LineTooLong n) is of = absurd (cc)
 never_failed (Err x) text.NoMemory is of = absurd (cc)
-
--- no fault was counted
-pub no_fault : (before now : ℕ) (Failed : Type 0) → now ≡ before → (Failed → ⊥) → HasCause before now Failed
-no_fault before now Failed is none = record { later = omega (arith, is); risen = λ failed. absurd (none failed) }
 
 -- such an error was the same before
 pub handed_back : {T U : Type 0} (r : Result T OpenErr) (e f : OpenErr) → IsErrAnd r (λ x. x ≡ e) → IsErrOf r f → IsErrOf {T = U} (Err e) f

@@ -1,8 +1,10 @@
 -- Why a file is not opened.
-use Rattle.std.specs.Prelude.{◌≡◌, ◌<◌, ◌⊎◌, ℕ, List, IsTrue, IsSomeAnd}
+use Rattle.std.specs.Prelude.{◌≡◌, ◌<◌, ◌⊎◌, ℕ, List, IsTrue, IsSomeAnd, OnOk}
 use Rattle.std.specs.declared.option.Option.{Option}
-use Rattle.vs_host.specs.World.{Tells, Scene}
-use Rattle.vs_pair.specs.Acts.{Acts}
+use Rattle.std.specs.declared.result.Result.{Result}
+use Rattle.vs_faults.specs.Faults.{HasCause}
+use Rattle.vs_host.specs.World.{Tells, Scene, ReadsFolder}
+use Rattle.vs_pair.specs.Acts.{Acts, NoneFails}
 use Rattle.vs_text.specs.Text.{lines_of}
 use Rattle.vs_text.specs.Limits.{IsRefusal}
 use Rattle.vs_text.specs.declared.TheConstants.{MAX_LINE_BYTES}
@@ -28,3 +30,10 @@ pub record IsTooLarge (tells : Tells) (size : ℕ) (file : Option (List ℕ)) : 
 -- the folder was only looked at
 abbrev pub OnlyLooks : Tells → Scene → Scene → Type 0
 OnlyLooks tells old new = Acts tells (λ before after. after ≡ before) old new
+
+-- The folder was only looked at, and no call failed where the answer is `Ok`. Its faults have risen where a call failed.
+pub record IsLook {T E : Type 0} (tells : Tells) (result : Result T E) (Failed : Type 0) (old new : Scene) : Type 0 where
+  pub frame : ReadsFolder old new
+  pub looks : OnlyLooks tells old new
+  pub none : OnOk result (NoneFails tells old new)
+  pub cause : HasCause old.folder_faults new.folder_faults Failed

@@ -1,19 +1,14 @@
 // Calls that only look at the folder.
 ghost use Rattle.std.specs.Prelude.{◌≡◌, ◌+◌, ◌≤◌, IfOk, IfSome, IsErr, IsSome, IsSomeAnd, IsTrue, OnOk, drop, is_some, length, take};
-ghost use Rattle.vs_faults.specs.Faults.{HasCause};
-ghost use Rattle.vs_host.specs.World.{ReadsFolder, content_of};
-ghost use Rattle.vs_pair.specs.Acts.{NoneFails};
-ghost use Rattle.vs_session.specs.Open.{OnlyLooks};
+ghost use Rattle.vs_host.specs.World.{content_of};
+ghost use Rattle.vs_session.specs.Open.{IsLook};
 
 use vs_host::{Failed, Folder};
 
 /// Whether a file stands under the name.
 pub(crate) fn has_file<F: Folder>(host: &mut F, name: &str) -> Result<bool, Failed>
     ensures value { IfOk result (λ there. IsTrue F.tells.folder → there ≡ is_some (content_of (F.scene host.old) name.now)) }
-    ensures cause { HasCause (F.scene host.old).folder_faults (F.scene host.new).folder_faults (IsErr result) }
-    ensures frame { ReadsFolder (F.scene host.old) (F.scene host.new) }
-    ensures looks { OnlyLooks F.tells (F.scene host.old) (F.scene host.new) }
-    ensures none { OnOk result (NoneFails F.tells (F.scene host.old) (F.scene host.new)) }
+    ensures look { IsLook F.tells result (IsErr result) (F.scene host.old) (F.scene host.new) }
 {
     host.has(name)
 }
@@ -22,10 +17,7 @@ pub(crate) fn has_file<F: Folder>(host: &mut F, name: &str) -> Result<bool, Fail
 pub(crate) fn size_of_file<F: Folder>(host: &mut F, name: &str) -> Result<u64, Failed>
     requires { IsTrue F.tells.folder → IsSome (content_of (F.scene host.old) name.now) }
     ensures value { IfOk result (λ size. IsTrue F.tells.folder → IfSome (content_of (F.scene host.old) name.now) (λ bytes. size ≡ length bytes)) }
-    ensures cause { HasCause (F.scene host.old).folder_faults (F.scene host.new).folder_faults (IsErr result) }
-    ensures frame { ReadsFolder (F.scene host.old) (F.scene host.new) }
-    ensures looks { OnlyLooks F.tells (F.scene host.old) (F.scene host.new) }
-    ensures none { OnOk result (NoneFails F.tells (F.scene host.old) (F.scene host.new)) }
+    ensures look { IsLook F.tells result (IsErr result) (F.scene host.old) (F.scene host.new) }
 {
     host.len(name)
 }
@@ -39,10 +31,7 @@ pub(crate) fn read_bytes<F: Folder>(
 ) -> Result<(), Failed>
     requires { IsTrue F.tells.folder → IsSomeAnd (content_of (F.scene host.old) name.now) (λ bytes. at + length piece.old ≤ length bytes) }
     ensures value { OnOk result (IsTrue F.tells.folder → IfSome (content_of (F.scene host.old) name.now) (λ bytes. piece.new ≡ take (length piece.old) (drop at bytes))) }
-    ensures cause { HasCause (F.scene host.old).folder_faults (F.scene host.new).folder_faults (IsErr result) }
-    ensures frame { ReadsFolder (F.scene host.old) (F.scene host.new) }
-    ensures looks { OnlyLooks F.tells (F.scene host.old) (F.scene host.new) }
-    ensures none { OnOk result (NoneFails F.tells (F.scene host.old) (F.scene host.new)) }
+    ensures look { IsLook F.tells result (IsErr result) (F.scene host.old) (F.scene host.new) }
 {
     host.read_at(name, at, piece)
 }

@@ -2,15 +2,15 @@
 ghost use Rattle.std.specs.Prelude.{◌≡◌, ◌⊎◌, ◌∷◌, [], ℕ, true, false, IfOk, IfSome, IsErr, IsErrOf, IsTrue, OnOk, string_bytes};
 ghost use Rattle.vs_faults.specs.Faults.{HasCause, IsQuiet};
 ghost use Rattle.vs_host.specs.Names.{is_allowed, names_of_file};
-ghost use Rattle.vs_host.specs.World.{ReadsFolder, content_of};
-ghost use Rattle.vs_pair.specs.Acts.{Acts, NoneFails};
+ghost use Rattle.vs_host.specs.World.{content_of};
+ghost use Rattle.vs_pair.specs.Acts.{Acts};
 ghost use Rattle.vs_pair.specs.Steps.{IsFresh};
 ghost use Rattle.vs_text.specs.Limits.{IsWithinLimits};
 ghost use Rattle.vs_text.specs.Text.{lines_of};
 ghost use Rattle.vs_machine.specs.Replies.{opening_of};
 ghost use Rattle.vs_safety.specs.Turns as turns;
 ghost use Rattle.vs_session.specs.Fits.{Fits, FitsUndo, HasOpened, HasSwap, IsSettled, Opens, generation_of, names_of};
-ghost use Rattle.vs_session.specs.Open.{IsTooLarge, OnlyLooks};
+ghost use Rattle.vs_session.specs.Open.{IsLook, IsTooLarge, OnlyLooks};
 ghost use Rattle.vs_session.specs.Opened.{opened, sizes_of, text_in};
 
 use crate::looking::has_file;
@@ -38,10 +38,7 @@ fn names_for(alloc: Global, name: &str) -> Result<Names, AllocError>
 fn has_swap<F: Folder>(host: &mut F, names: &Names) -> Result<bool, Failed>
     ensures there { IfOk result (λ found. found ≡ true → IsTrue F.tells.folder → HasSwap names.now (F.scene host.old).folder) }
     ensures free { IfOk result (λ found. found ≡ false → IsTrue F.tells.folder → HasSwap names.now (F.scene host.old).folder → ⊥) }
-    ensures cause { HasCause (F.scene host.old).folder_faults (F.scene host.new).folder_faults (IsErr result) }
-    ensures frame { ReadsFolder (F.scene host.old) (F.scene host.new) }
-    ensures looks { OnlyLooks F.tells (F.scene host.old) (F.scene host.new) }
-    ensures none { OnOk result (NoneFails F.tells (F.scene host.old) (F.scene host.new)) }
+    ensures look { IsLook F.tells result (IsErr result) (F.scene host.old) (F.scene host.new) }
 {
     if has_file(host, names.swp.as_str())? {
         return Ok(true);
@@ -64,11 +61,8 @@ fn read_text<H: Host>(
     ensures swap { IsErrOf result OpenErr.SwapFound → IsTrue (H.tells).folder → HasSwap (names_of_file name.now) (H.scene host.old).folder }
     ensures limit { (size : ℕ) → IsErrOf result (OpenErr.TextLimit size) → IsTooLarge H.tells size (content_of (H.scene host.old) name.now) }
     ensures no_swap { (size : ℕ) → IsErrOf result (OpenErr.TextLimit size) → IsTrue (H.tells).folder → HasSwap (names_of_file name.now) (H.scene host.old).folder → ⊥ }
-    ensures cause { HasCause (H.scene host.old).folder_faults (H.scene host.new).folder_faults (IsErrOf result OpenErr.Failed) }
     ensures quiet { IsQuiet (H.scene host.old).folder_faults (H.scene host.new).folder_faults (IsErrOf result OpenErr.Failed) }
-    ensures frame { ReadsFolder (H.scene host.old) (H.scene host.new) }
-    ensures looks { OnlyLooks H.tells (H.scene host.old) (H.scene host.new) }
-    ensures none { OnOk result (NoneFails H.tells (H.scene host.old) (H.scene host.new)) }
+    ensures look { IsLook H.tells result (IsErrOf result OpenErr.Failed) (H.scene host.old) (H.scene host.new) }
 {
     let names = names_for(alloc, name)?;
     let mut text = OpeningText::new(alloc, name)?;

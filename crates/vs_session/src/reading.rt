@@ -1,12 +1,11 @@
 // How the text of a file is read.
 ghost use Rattle.std.specs.Prelude.{◌≡◌, ◌<◌, ◌≤◌, ◌+◌, ◌^◌, ◌++◌, [], ℕ, List, None, IfOk, IfSome, IsErrOf, IsSomeAnd, IsTrue, OnOk, drop, length, take};
-ghost use Rattle.vs_faults.specs.Faults.{HasCause, IsQuiet};
-ghost use Rattle.vs_host.specs.World.{ReadsFolder, content_of};
-ghost use Rattle.vs_pair.specs.Acts.{NoneFails};
+ghost use Rattle.vs_faults.specs.Faults.{IsQuiet};
+ghost use Rattle.vs_host.specs.World.{content_of};
 ghost use Rattle.vs_text.specs.Limits.{IsWithinLimits};
 ghost use Rattle.vs_text.specs.Reader.{HasRead, size_read};
 ghost use Rattle.vs_text.specs.Text.{lines_of};
-ghost use Rattle.vs_session.specs.Open.{IsTooLarge, OnlyLooks, PassesLimit};
+ghost use Rattle.vs_session.specs.Open.{IsLook, IsTooLarge, PassesLimit};
 ghost use Rattle.vs_session.specs.Opened.{sizes_of, text_in};
 
 use crate::OpenErr;
@@ -40,11 +39,8 @@ fn read_piece<H: Host>(
         → IfSome (content_of (H.scene host.old) name.now) (λ bytes. piece.new ≡ take (length piece.old) (drop at bytes)) }
     ensures name { text.new.name ≡ text.old.name }
     ensures others { IsErrOf result OpenErr.SwapFound → ⊥ }
-    ensures cause { HasCause (H.scene host.old).folder_faults (H.scene host.new).folder_faults (IsErrOf result OpenErr.Failed) }
     ensures quiet { IsQuiet (H.scene host.old).folder_faults (H.scene host.new).folder_faults (IsErrOf result OpenErr.Failed) }
-    ensures frame { ReadsFolder (H.scene host.old) (H.scene host.new) }
-    ensures looks { OnlyLooks H.tells (H.scene host.old) (H.scene host.new) }
-    ensures none { OnOk result (NoneFails H.tells (H.scene host.old) (H.scene host.new)) }
+    ensures look { IsLook H.tells result (IsErrOf result OpenErr.Failed) (H.scene host.old) (H.scene host.new) }
 {
     read_bytes(host, name, at, piece)?;
     reader.feed(alloc, piece)?;
@@ -67,11 +63,8 @@ fn read_pieces<H: Host>(
     ensures limit { (n : ℕ) → IsErrOf result (OpenErr.TextLimit n) → IsTooLarge H.tells n (content_of (H.scene host.old) name.now) }
     ensures name { text.new.name ≡ text.old.name }
     ensures others { IsErrOf result OpenErr.SwapFound → ⊥ }
-    ensures cause { HasCause (H.scene host.old).folder_faults (H.scene host.new).folder_faults (IsErrOf result OpenErr.Failed) }
     ensures quiet { IsQuiet (H.scene host.old).folder_faults (H.scene host.new).folder_faults (IsErrOf result OpenErr.Failed) }
-    ensures frame { ReadsFolder (H.scene host.old) (H.scene host.new) }
-    ensures looks { OnlyLooks H.tells (H.scene host.old) (H.scene host.new) }
-    ensures none { OnOk result (NoneFails H.tells (H.scene host.old) (H.scene host.new)) }
+    ensures look { IsLook H.tells result (IsErrOf result OpenErr.Failed) (H.scene host.old) (H.scene host.new) }
 {
     let mut reader = TextReader::new(alloc)?;
     let mut piece = vec![in alloc; 0u8; PIECE as usize]?;
@@ -109,11 +102,8 @@ pub(crate) fn read_file<H: Host>(
     ensures limit { (size : ℕ) → IsErrOf result (OpenErr.TextLimit size) → IsTooLarge H.tells size (content_of (H.scene host.old) name.now) }
     ensures name { text.new.name ≡ text.old.name }
     ensures others { IsErrOf result OpenErr.SwapFound → ⊥ }
-    ensures cause { HasCause (H.scene host.old).folder_faults (H.scene host.new).folder_faults (IsErrOf result OpenErr.Failed) }
     ensures quiet { IsQuiet (H.scene host.old).folder_faults (H.scene host.new).folder_faults (IsErrOf result OpenErr.Failed) }
-    ensures frame { ReadsFolder (H.scene host.old) (H.scene host.new) }
-    ensures looks { OnlyLooks H.tells (H.scene host.old) (H.scene host.new) }
-    ensures none { OnOk result (NoneFails H.tells (H.scene host.old) (H.scene host.new)) }
+    ensures look { IsLook H.tells result (IsErrOf result OpenErr.Failed) (H.scene host.old) (H.scene host.new) }
 {
     if !has_file(host, name)? {
         return Ok(None);

@@ -1,11 +1,11 @@
 use Rattle.std.proofs.Common.{refl, [], ◌≡◌, ◌≤◌, ◌+◌, ◌++◌, ◌∙◌, ℕ, List, length, take, ap, subst, sym, arith, length-append, length-take}
 use Rattle.vs_text.specs.Text.{lines_of}
 use Rattle.vs_text.specs.Limits.{IsWithinLimits}
-use Rattle.vs_session.proofs.OpenLemmas.{limit_of, same_content, piece_within, limit_in_piece, whole_read, limit_at_end, some_read, handed_back, handed_on, not_failed, never_failed, never_swap, no_fault, fed_next, err_is, ReadsFolder-trans}
+use Rattle.vs_session.proofs.OpenLemmas.{limit_of, same_content, piece_within, limit_in_piece, whole_read, limit_at_end, some_read, handed_back, handed_on, not_failed, never_failed, never_swap, fed_next, err_is, ReadsFolder-trans}
 use Rattle.vs_pair.proofs.Acts.{none_fails, none_then}
 use Rattle.vs_text.specs.Reader.{HasRead}
 use Rattle.vs_paged.specs.Pages.{Opening}
-use Rattle.vs_session.proofs.LookLemmas.{looks_none, looks_then}
+use Rattle.vs_session.proofs.LookLemmas.{IsLook-ended, IsLook-loop, IsLook-none, IsLook-then, looks_none, looks_then, on_ok_never}
 use Rattle.vs_session.proofs.reading.read_pieces.Goals as goal
 
 pub read_piece-requires-clause-there : goal.read_piece-requires-clause-there
@@ -42,11 +42,11 @@ pieces-preserved g c =
           fed_next _ _ bytes before.fed c.read_piece.new.piece c.pieces.at c.min-count.result _ same is (before.told told bytes is) given (c.in_ok-read_piece.ensures.piece told);
       high = within;
       room = before.room;
-      frame = ReadsFolder-trans (g.H.World.scene c.args.host.now) (g.H.World.scene c.pieces.host) (g.H.World.scene c.read_piece.new.host) before.frame c.in_ok-read_piece.ensures.frame;
+      frame = ReadsFolder-trans (g.H.World.scene c.args.host.now) (g.H.World.scene c.pieces.host) (g.H.World.scene c.read_piece.new.host) before.frame c.in_ok-read_piece.ensures.look.frame;
       faults = c.in_ok-read_piece.ensures.quiet (λ of. absurd (cc)) ∙ before.faults;
       name = c.in_ok-read_piece.ensures.name ∙ before.name;
-      looks = looks_then g.H.World.tells (g.H.World.scene c.args.host.now) (g.H.World.scene c.pieces.host) (g.H.World.scene c.read_piece.new.host) before.none before.looks c.in_ok-read_piece.ensures.looks;
-      none = none_then g.H.World.tells (g.H.World.scene c.args.host.now) (g.H.World.scene c.pieces.host) (g.H.World.scene c.read_piece.new.host) before.none c.in_ok-read_piece.ensures.none;
+      looks = looks_then g.H.World.tells (g.H.World.scene c.args.host.now) (g.H.World.scene c.pieces.host) (g.H.World.scene c.read_piece.new.host) before.none before.looks c.in_ok-read_piece.ensures.look.looks;
+      none = none_then g.H.World.tells (g.H.World.scene c.args.host.now) (g.H.World.scene c.pieces.host) (g.H.World.scene c.read_piece.new.host) before.none c.in_ok-read_piece.ensures.look.none;
     }
 
 pub returns-in_err-rest-clause-limit : goal.returns-in_err-rest-clause-limit
@@ -57,8 +57,10 @@ returns-in_err-rest-clause-limit g c = λ n is.
     limit_at_end _ _ n before.fed (λ told. whole_read _ c.pieces.at c.args.size before.fed (c.requires.there told) end (before.told told))
     (limit_of _ _ _ c.from_residual-in_err-rest.ensures.1 answer.refused n is)
 
-pub returns-in_err-rest-clause-cause : goal.returns-in_err-rest-clause-cause
-returns-in_err-rest-clause-cause g c = no_fault _ _ _ c.pieces.invariant.faults (never_failed _ _ c.from_residual-in_err-rest.ensures.1)
+pub returns-in_err-rest-clause-look : goal.returns-in_err-rest-clause-look
+returns-in_err-rest-clause-look g c =
+    let before = c.pieces.invariant in
+    IsLook-loop g.H.World.tells _ (g.H.World.scene c.args.host.now) (g.H.World.scene c.pieces.host) before.frame before.looks before.none (never_failed _ _ c.from_residual-in_err-rest.ensures.1)
 
 pub push_lines-requires : goal.push_lines-requires
 push_lines-requires g c =
@@ -66,8 +68,10 @@ push_lines-requires g c =
     let W : List (List ℕ) → Type 0 = λ text. IsWithinLimits text in
     subst W (sym (ap (λ (rest : List (List ℕ)). c.pieces.text.text ++ rest) c.lines.ensures ∙ answer.text)) answer.fits
 
-pub returns-in_err-push_lines-clause-cause : goal.returns-in_err-push_lines-clause-cause
-returns-in_err-push_lines-clause-cause g c = no_fault _ _ _ c.pieces.invariant.faults (not_failed _ c.from_residual-in_err-push_lines.ensures.1)
+pub returns-in_err-push_lines-clause-look : goal.returns-in_err-push_lines-clause-look
+returns-in_err-push_lines-clause-look g c =
+    let before = c.pieces.invariant in
+    IsLook-loop g.H.World.tells _ (g.H.World.scene c.args.host.now) (g.H.World.scene c.pieces.host) before.frame before.looks before.none (not_failed _ c.from_residual-in_err-push_lines.ensures.1)
 
 pub returns-clause-text : goal.returns-clause-text
 returns-clause-text g c = λ told.
@@ -84,18 +88,21 @@ returns-clause-fits g c = λ told.
     let answer = c.in_ok-rest.ensures.answer c.pieces.text.text before.fed before.read in
     some_read _ before.fed (λ bytes. IsWithinLimits (lines_of bytes)) (whole_read _ c.pieces.at c.args.size before.fed (c.requires.there told) end (before.told told)) answer.fits
 
-pub returns-clause-cause : goal.returns-clause-cause
-returns-clause-cause g c = no_fault _ _ _ c.pieces.invariant.faults (λ of. absurd (cc))
+pub returns-clause-look : goal.returns-clause-look
+returns-clause-look g c =
+    let before = c.pieces.invariant in
+    IsLook-loop g.H.World.tells _ (g.H.World.scene c.args.host.now) (g.H.World.scene c.pieces.host) before.frame before.looks before.none (λ of. absurd (cc))
 
-pub returns-in_err-reader-clause-looks : goal.returns-in_err-reader-clause-looks
-returns-in_err-reader-clause-looks g c = looks_none g.H.World.tells (g.H.World.scene c.args.host.now)
+pub returns-in_err-reader-clause-look : goal.returns-in_err-reader-clause-look
+returns-in_err-reader-clause-look g c = IsLook-none g.H.World.tells _ (g.H.World.scene c.args.host.now) (not_failed _ c.from_residual.ensures.1)
 
-pub returns-in_err-piece-clause-looks : goal.returns-in_err-piece-clause-looks
-returns-in_err-piece-clause-looks g c = looks_none g.H.World.tells (g.H.World.scene c.args.host.now)
+pub returns-in_err-piece-clause-look : goal.returns-in_err-piece-clause-look
+returns-in_err-piece-clause-look g c = IsLook-none g.H.World.tells _ (g.H.World.scene c.args.host.now) (not_failed _ c.from_residual-in_err-piece.ensures.1)
 
-pub returns-in_err-read_piece-clause-looks : goal.returns-in_err-read_piece-clause-looks
-returns-in_err-read_piece-clause-looks g c =
-    looks_then g.H.World.tells (g.H.World.scene c.args.host.now) (g.H.World.scene c.pieces.host) (g.H.World.scene c.read_piece.new.host) c.pieces.invariant.none c.pieces.invariant.looks c.in_err-read_piece.ensures.looks
+pub returns-in_err-read_piece-clause-look : goal.returns-in_err-read_piece-clause-look
+returns-in_err-read_piece-clause-look g c =
+    let before = c.pieces.invariant in
+    IsLook-then g.H.World.tells _ (IsLook-ended g.H.World.tells (g.H.World.scene c.args.host.now) (g.H.World.scene c.pieces.host) before.frame before.looks before.none) c.in_err-read_piece.ensures.look (λ none. on_ok_never _ c.from_residual-in_err-read_piece.ensures.1) (handed_back _ _ _ c.from_residual-in_err-read_piece.ensures.1)
 
 pub pieces-init : goal.pieces-init
 pieces-init g c = record {
