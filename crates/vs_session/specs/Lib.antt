@@ -8,3 +8,4 @@ pub mod Fits
 pub mod Writes
 pub mod Stores
 pub mod Calls
+pub mod Lent

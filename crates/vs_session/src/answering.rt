@@ -1,13 +1,10 @@
 // The answer of the machine over a text in pages.
-ghost use Rattle.std.specs.Prelude.{◌≡◌, IfOk, IsErrOf, IsTrue, List, OnErr, OnOk, max};
-ghost use Rattle.vs_faults.specs.Faults.{HasCause};
-ghost use Rattle.vs_pair.specs.Lent.{IsReady, KeepsFiles};
+ghost use Rattle.std.specs.Prelude.{◌≡◌, IfOk, IsErrOf, IsTrue, List, OnErr};
 ghost use Rattle.vs_excmd.specs.Request.{Instruction, IsFormed, IsRequest};
-ghost use Rattle.vs_undo.specs.History.{FitsCount};
 ghost use Rattle.vs_machine.specs.Answers.{meaning_at};
 ghost use Rattle.vs_machine.specs.Machine.{State, done_reply, done_state};
 ghost use Rattle.vs_safety.specs.Texts.{Sync};
-ghost use Rattle.vs_paged.specs.Pages.{IsBounded};
+ghost use Rattle.vs_session.specs.Lent.{FitsWithUndo, IsLentWithUndo, KeepsLentWithUndo, KeepsWithUndo};
 ghost use Rattle.vs_session.specs.Standing.{FitsState, Stands};
 
 use std::alloc::Global;
@@ -30,10 +27,7 @@ fn answer_in<F: Folder>(
     request: &Request,
     at: u64,
 ) -> Result<Answered, StoreErr>
-    requires bounded { IsBounded tree.old }
-    requires counts { FitsCount history.old (max 1 tree.old.present.lines) }
-    requires ready { IsTrue F.tells.folder → IsReady pair.old (F.scene host.old).folder }
-    requires stands { IsTrue F.tells.folder → (state : State) × Stands pair.old.pages tree.old history.old state }
+    requires lent { IsLentWithUndo F.tells pair.old tree.old history.old (F.scene host.old).folder }
     requires form { IsFormed request.now }
     ensures reply { IfOk result (λ answered. IsTrue F.tells.folder → (state : State) (instruction : Instruction)
         → Stands pair.old.pages tree.old history.old state → cursor ≡ state.cursor → IsRequest request.now instruction → answered.reply ≡ done_reply state (meaning_at state instruction)) }
@@ -41,10 +35,7 @@ fn answer_in<F: Folder>(
         → Stands pair.old.pages tree.old history.old state → cursor ≡ state.cursor → IsRequest request.now instruction
         → let after = done_state state at (meaning_at state instruction) in Stands pair.new.pages tree.new history.new after × (answered.cursor ≡ after.cursor)) }
     ensures err { OnErr result (IsTrue F.tells.folder → (state : State) → Stands pair.old.pages tree.old history.old state → Stands pair.new.pages tree.new history.new state) }
-    ensures bounded { IsBounded tree.new }
-    ensures counts { FitsCount history.new (max 1 tree.new.present.lines) }
-    ensures keeps { KeepsFiles F.tells pair.old pair.new (F.scene host.old) (F.scene host.new) }
-    ensures cause { HasCause (F.scene host.old).folder_faults (F.scene host.new).folder_faults (IsErrOf result StoreErr.Failed) }
+    ensures kept { KeepsLentWithUndo F.tells (IsErrOf result StoreErr.Failed) pair.old pair.new tree.new history.new (F.scene host.old) (F.scene host.new) }
 {
     let mut store = TreeStore {
         tree,
@@ -64,8 +55,7 @@ pub(crate) fn answer_text<F: Folder>(
     request: &Request,
     at: u64,
 ) -> Result<Answered, StoreErr>
-    requires counts { FitsCount history.old (max 1 text.old.tree.present.lines) }
-    requires fits { IsTrue F.tells.folder → (state : State) × (syncs : List Sync) × FitsState text.old history.old (F.scene host.old).folder state syncs }
+    requires fits { FitsWithUndo F.tells text.old history.old (F.scene host.old).folder }
     requires form { IsFormed request.now }
     ensures reply { IfOk result (λ answered. IsTrue F.tells.folder → (state : State) (syncs : List Sync) (instruction : Instruction)
         → FitsState text.old history.old (F.scene host.old).folder state syncs → cursor ≡ state.cursor → IsRequest request.now instruction
@@ -75,9 +65,7 @@ pub(crate) fn answer_text<F: Folder>(
         → let after = done_state state at (meaning_at state instruction) in FitsState text.new history.new (F.scene host.new).folder after syncs × (answered.cursor ≡ after.cursor)) }
     ensures err { OnErr result (IsTrue F.tells.folder → (state : State) (syncs : List Sync) → FitsState text.old history.old (F.scene host.old).folder state syncs
         → FitsState text.new history.new (F.scene host.new).folder state syncs) }
-    ensures counts { FitsCount history.new (max 1 text.new.tree.present.lines) }
-    ensures keeps { KeepsFiles F.tells text.old.pair text.new.pair (F.scene host.old) (F.scene host.new) }
-    ensures cause { HasCause (F.scene host.old).folder_faults (F.scene host.new).folder_faults (IsErrOf result StoreErr.Failed) }
+    ensures kept { KeepsWithUndo F.tells (IsErrOf result StoreErr.Failed) text.old text.new history.new (F.scene host.old) (F.scene host.new) }
 {
     answer_in(
         alloc,

@@ -1,7 +1,5 @@
 // A history is bound to a text in pages.
-ghost use Rattle.std.specs.Prelude.{◌≡◌, IfErr, IfOk, IsErrOf, IsTrue, List, length, max};
-ghost use Rattle.vs_faults.specs.Faults.{HasCause};
-ghost use Rattle.vs_pair.specs.Lent.{IsReady, KeepsFiles};
+ghost use Rattle.std.specs.Prelude.{IfErr, IfOk, IsErrOf, IsTrue, List, max};
 ghost use Rattle.vs_undo.specs.History.{FitsCount, History, IsHistory};
 ghost use Rattle.vs_ufile.specs.Decode.{KeepsRules};
 ghost use Rattle.vs_ufile.specs.Values.{history_of};
@@ -9,7 +7,8 @@ ghost use Rattle.vs_ubind.specs.Binding.{IsRefused};
 ghost use Rattle.vs_ubind.specs.Bound.{IsBound};
 ghost use Rattle.vs_safety.specs.Texts.{Sync, Text};
 ghost use Rattle.vs_paged.specs.Fits as paged;
-ghost use Rattle.vs_paged.specs.Pages.{IsBounded, IsPaged};
+ghost use Rattle.vs_paged.specs.Pages.{IsPaged};
+ghost use Rattle.vs_session.specs.Lent.{IsLent, KeepsLent, KeepsText};
 
 use std::alloc::Global;
 use vs_host::Folder;
@@ -29,18 +28,12 @@ fn bind_in<F: Folder>(
     contents: &FileHistory,
 ) -> Result<UndoTree, BindErr>
     requires rules { KeepsRules (history_of contents.now) }
-    requires bounded { IsBounded tree.old }
-    requires ready { IsTrue F.tells.folder → IsReady pair.old (F.scene host.old).folder }
-    requires paged { IsTrue F.tells.folder → (text : Text) × IsPaged pair.old.pages tree.old text }
+    requires lent { IsLent F.tells pair.old tree.old (F.scene host.old).folder }
     ensures bound { IfOk result (λ undo. IsTrue F.tells.folder → (text : Text) → IsPaged pair.old.pages tree.old text
         → (history : History) × IsBound (history_of contents.now) text history × IsHistory undo text history) }
     ensures refused { IfErr result (λ error. IsTrue F.tells.folder → (text : Text) → IsPaged pair.old.pages tree.old text → IsRefused (history_of contents.now) text error) }
     ensures counts { IfOk result (λ undo. FitsCount undo (max 1 tree.new.present.lines)) }
-    ensures paged { IsTrue F.tells.folder → (text : Text) → IsPaged pair.old.pages tree.old text → IsPaged pair.new.pages tree.new text }
-    ensures bounded { IsBounded tree.new }
-    ensures lines { tree.new.present.lines ≡ tree.old.present.lines }
-    ensures keeps { KeepsFiles F.tells pair.old pair.new (F.scene host.old) (F.scene host.new) }
-    ensures cause { HasCause (F.scene host.old).folder_faults (F.scene host.new).folder_faults (IsErrOf result BindErr.Failed) }
+    ensures kept { KeepsLent F.tells (IsErrOf result BindErr.Failed) pair.old pair.new tree.old tree.new (F.scene host.old) (F.scene host.new) }
 {
     let mut store = TreeStore {
         tree,
@@ -63,11 +56,7 @@ pub(crate) fn bind_text<F: Folder>(
     ensures refused { IfErr result (λ error. IsTrue F.tells.folder → (lines : Text) (syncs : List Sync) → paged.Fits text.old (F.scene host.old).folder lines syncs
         → IsRefused (history_of contents.now) lines error) }
     ensures counts { IfOk result (λ undo. FitsCount undo (max 1 text.new.tree.present.lines)) }
-    ensures fits { IsTrue F.tells.folder → (lines : Text) (syncs : List Sync) → paged.Fits text.old (F.scene host.old).folder lines syncs
-        → paged.Fits text.new (F.scene host.new).folder lines syncs }
-    ensures lines { text.new.tree.present.lines ≡ text.old.tree.present.lines }
-    ensures keeps { KeepsFiles F.tells text.old.pair text.new.pair (F.scene host.old) (F.scene host.new) }
-    ensures cause { HasCause (F.scene host.old).folder_faults (F.scene host.new).folder_faults (IsErrOf result BindErr.Failed) }
+    ensures kept { KeepsText F.tells (IsErrOf result BindErr.Failed) text.old text.new (F.scene host.old) (F.scene host.new) }
 {
     bind_in(alloc, &mut text.tree, &mut text.pair, host, contents)
 }

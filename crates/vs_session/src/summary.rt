@@ -3,12 +3,12 @@ ghost use Rattle.std.specs.Prelude.{◌≡◌, IfOk, IsErrOf, IsTrue, List};
 ghost use Rattle.vs_faults.specs.Faults.{HasCause};
 ghost use Rattle.vs_host.specs.World.{ReadsFolder};
 ghost use Rattle.vs_disk.specs.Runs.{FailsLast, Looks};
-ghost use Rattle.vs_pair.specs.Lent.{IsReady, KeepsFiles};
 ghost use Rattle.vs_safety.specs.Texts.{Sync, Text};
 ghost use Rattle.vs_ubind.specs.Digest.{digest_of};
 ghost use Rattle.vs_paged.specs.Fits as paged;
-ghost use Rattle.vs_paged.specs.Pages.{IsBounded, IsPaged};
+ghost use Rattle.vs_paged.specs.Pages.{IsPaged};
 ghost use Rattle.vs_session.specs.Fits.{Fits, FitsUndo, SameFile, generation_of};
+ghost use Rattle.vs_session.specs.Lent.{IsLent, KeepsLent, KeepsText};
 ghost use Rattle.vs_session.specs.Session.{SessionState};
 ghost use Rattle.vs_session.specs.Summary.{summary_of};
 
@@ -41,15 +41,9 @@ fn digest_in<F: Folder>(
     pair: &mut SwapPair,
     host: &mut F,
 ) -> Result<[u8; 32], StoreErr>
-    requires bounded { IsBounded tree.old }
-    requires ready { IsTrue F.tells.folder → IsReady pair.old (F.scene host.old).folder }
-    requires paged { IsTrue F.tells.folder → (text : Text) × IsPaged pair.old.pages tree.old text }
+    requires lent { IsLent F.tells pair.old tree.old (F.scene host.old).folder }
     ensures digest { IfOk result (λ digest. IsTrue F.tells.folder → (text : Text) → IsPaged pair.old.pages tree.old text → digest ≡ digest_of text) }
-    ensures paged { IsTrue F.tells.folder → (text : Text) → IsPaged pair.old.pages tree.old text → IsPaged pair.new.pages tree.new text }
-    ensures bounded { IsBounded tree.new }
-    ensures lines { tree.new.present.lines ≡ tree.old.present.lines }
-    ensures keeps { KeepsFiles F.tells pair.old pair.new (F.scene host.old) (F.scene host.new) }
-    ensures cause { HasCause (F.scene host.old).folder_faults (F.scene host.new).folder_faults (IsErrOf result StoreErr.Failed) }
+    ensures kept { KeepsLent F.tells (IsErrOf result StoreErr.Failed) pair.old pair.new tree.old tree.new (F.scene host.old) (F.scene host.new) }
 {
     let mut store = TreeStore {
         tree,
@@ -67,11 +61,7 @@ fn digest_text<F: Folder>(
     requires fits { IsTrue F.tells.folder → (lines : Text) × (syncs : List Sync) × paged.Fits text.old (F.scene host.old).folder lines syncs }
     ensures digest { IfOk result (λ digest. IsTrue F.tells.folder → (lines : Text) (syncs : List Sync) → paged.Fits text.old (F.scene host.old).folder lines syncs
         → digest ≡ digest_of lines) }
-    ensures fits { IsTrue F.tells.folder → (lines : Text) (syncs : List Sync) → paged.Fits text.old (F.scene host.old).folder lines syncs
-        → paged.Fits text.new (F.scene host.new).folder lines syncs }
-    ensures lines { text.new.tree.present.lines ≡ text.old.tree.present.lines }
-    ensures keeps { KeepsFiles F.tells text.old.pair text.new.pair (F.scene host.old) (F.scene host.new) }
-    ensures cause { HasCause (F.scene host.old).folder_faults (F.scene host.new).folder_faults (IsErrOf result StoreErr.Failed) }
+    ensures kept { KeepsText F.tells (IsErrOf result StoreErr.Failed) text.old text.new (F.scene host.old) (F.scene host.new) }
 {
     digest_in(alloc, &mut text.tree, &mut text.pair, host)
 }

@@ -1,8 +1,6 @@
 // The undo file of a session is read, and its history is bound to the text.
 ghost use Rattle.std.specs.Prelude.{◌≡◌, ℕ, Err, IfErr, IfOk, IsErrOf, IsTrue, List, Ok, Some, length, max};
-ghost use Rattle.vs_faults.specs.Faults.{HasCause};
 ghost use Rattle.vs_host.specs.World.{content_of};
-ghost use Rattle.vs_pair.specs.Lent.{KeepsFiles};
 ghost use Rattle.vs_undo.specs.History.{FitsCount, History, IsHistory};
 ghost use Rattle.vs_ufile.specs.Decode.{IsUndoFile, KeepsRules};
 ghost use Rattle.vs_ufile.specs.Values.{history_of};
@@ -10,6 +8,7 @@ ghost use Rattle.vs_safety.specs.Texts.{Sync, Text};
 ghost use Rattle.vs_paged.specs.Fits as paged;
 ghost use Rattle.vs_session.specs.Calls.{FitsFolder, KeepsState, OnlyReads};
 ghost use Rattle.vs_session.specs.Fits.{Fits, FitsUndo, SameFile, generation_of, names_of};
+ghost use Rattle.vs_session.specs.Lent.{KeepsText};
 ghost use Rattle.vs_session.specs.Session.{SessionState};
 ghost use Rattle.vs_session.specs.Taken.{IsTaken};
 
@@ -91,11 +90,7 @@ fn bind_undo<F: Folder>(
     ensures refused { IfErr result (λ error. IsTrue F.tells.folder → (lines : Text) (syncs : List Sync) (bytes : List ℕ) → paged.Fits text.old (F.scene host.old).folder lines syncs
         → IsUndoFile (history_of contents.now) bytes → IsTaken lines (Some bytes) (Err error)) }
     ensures counts { IfOk result (λ undo. FitsCount undo (max 1 text.new.tree.present.lines)) }
-    ensures fits { IsTrue F.tells.folder → (lines : Text) (syncs : List Sync) → paged.Fits text.old (F.scene host.old).folder lines syncs
-        → paged.Fits text.new (F.scene host.new).folder lines syncs }
-    ensures lines { text.new.tree.present.lines ≡ text.old.tree.present.lines }
-    ensures keeps { KeepsFiles F.tells text.old.pair text.new.pair (F.scene host.old) (F.scene host.new) }
-    ensures cause { HasCause (F.scene host.old).folder_faults (F.scene host.new).folder_faults (IsErrOf result TakeErr.Failed) }
+    ensures kept { KeepsText F.tells (IsErrOf result TakeErr.Failed) text.old text.new (F.scene host.old) (F.scene host.new) }
 {
     match bind_text(alloc, text, host, contents) {
         Ok(tree) => Ok(tree),

@@ -1,17 +1,14 @@
 // The bytes of a session's undo file.
-ghost use Rattle.std.specs.Prelude.{◌≡◌, IfOk, IsErrOf, IsTrue, List, max};
-ghost use Rattle.vs_faults.specs.Faults.{HasCause};
-ghost use Rattle.vs_pair.specs.Lent.{IsReady, KeepsFiles};
-ghost use Rattle.vs_undo.specs.History.{FitsCount};
+ghost use Rattle.std.specs.Prelude.{◌≡◌, IfOk, IsErrOf, IsTrue, List};
 ghost use Rattle.vs_ufile.specs.Decode.{IsWellFormed};
 ghost use Rattle.vs_ufile.specs.Values.{history_of};
 ghost use Rattle.vs_ubind.specs.Bound.{IsBound, history_next};
 ghost use Rattle.vs_machine.specs.Machine.{State};
 ghost use Rattle.vs_safety.specs.Texts.{Sync};
 ghost use Rattle.vs_safety.specs.Undo.{IsUndoOf};
-ghost use Rattle.vs_paged.specs.Pages.{IsBounded};
 ghost use Rattle.vs_session.specs.Calls.{GoesOnReading, IsUsable, KeepsState};
 ghost use Rattle.vs_session.specs.Fits.{Fits};
+ghost use Rattle.vs_session.specs.Lent.{FitsWithUndo, IsLentWithUndo, KeepsLentWithUndo, KeepsWithUndo};
 ghost use Rattle.vs_session.specs.Session.{SessionState};
 ghost use Rattle.vs_session.specs.Standing.{FitsState, Stands};
 
@@ -35,18 +32,12 @@ fn unbind_in<F: Folder>(
     history: &UndoTree,
     save_next: bool,
 ) -> Result<FileHistory, StoreErr>
-    requires bounded { IsBounded tree.old }
-    requires counts { FitsCount history.now (max 1 tree.old.present.lines) }
-    requires ready { IsTrue F.tells.folder → IsReady pair.old (F.scene host.old).folder }
-    requires stands { IsTrue F.tells.folder → (state : State) × Stands pair.old.pages tree.old history.now state }
+    requires lent { IsLentWithUndo F.tells pair.old tree.old history.now (F.scene host.old).folder }
     ensures bound { IfOk result (λ contents. IsTrue F.tells.folder → (state : State) → Stands pair.old.pages tree.old history.now state
         → IsBound (history_of contents) state.text (history_next save_next state.history)) }
     ensures formed { IfOk result (λ contents. IsWellFormed (history_of contents)) }
     ensures stands { IsTrue F.tells.folder → (state : State) → Stands pair.old.pages tree.old history.now state → Stands pair.new.pages tree.new history.now state }
-    ensures bounded { IsBounded tree.new }
-    ensures counts { FitsCount history.now (max 1 tree.new.present.lines) }
-    ensures keeps { KeepsFiles F.tells pair.old pair.new (F.scene host.old) (F.scene host.new) }
-    ensures cause { HasCause (F.scene host.old).folder_faults (F.scene host.new).folder_faults (IsErrOf result StoreErr.Failed) }
+    ensures kept { KeepsLentWithUndo F.tells (IsErrOf result StoreErr.Failed) pair.old pair.new tree.new history.now (F.scene host.old) (F.scene host.new) }
 {
     let mut store = TreeStore {
         tree,
@@ -63,16 +54,13 @@ fn unbind_text<F: Folder>(
     history: &UndoTree,
     save_next: bool,
 ) -> Result<FileHistory, StoreErr>
-    requires counts { FitsCount history.now (max 1 text.old.tree.present.lines) }
-    requires fits { IsTrue F.tells.folder → (state : State) × (syncs : List Sync) × FitsState text.old history.now (F.scene host.old).folder state syncs }
+    requires fits { FitsWithUndo F.tells text.old history.now (F.scene host.old).folder }
     ensures bound { IfOk result (λ contents. IsTrue F.tells.folder → (state : State) (syncs : List Sync) → FitsState text.old history.now (F.scene host.old).folder state syncs
         → IsBound (history_of contents) state.text (history_next save_next state.history)) }
     ensures formed { IfOk result (λ contents. IsWellFormed (history_of contents)) }
     ensures fits { IsTrue F.tells.folder → (state : State) (syncs : List Sync) → FitsState text.old history.now (F.scene host.old).folder state syncs
         → FitsState text.new history.now (F.scene host.new).folder state syncs }
-    ensures counts { FitsCount history.now (max 1 text.new.tree.present.lines) }
-    ensures keeps { KeepsFiles F.tells text.old.pair text.new.pair (F.scene host.old) (F.scene host.new) }
-    ensures cause { HasCause (F.scene host.old).folder_faults (F.scene host.new).folder_faults (IsErrOf result StoreErr.Failed) }
+    ensures kept { KeepsWithUndo F.tells (IsErrOf result StoreErr.Failed) text.old text.new history.now (F.scene host.old) (F.scene host.new) }
 {
     unbind_in(
         alloc,

@@ -2,18 +2,18 @@ use Rattle.std.proofs.Common.{sym, ap, subst, max}
 use Rattle.vs_tree.specs.declared.tree.LineTree.{LineTree}
 use Rattle.vs_undo.specs.History.{FitsCount, IsHistory}
 use Rattle.vs_paged.specs.Pages.{IsBounded}
-use Rattle.vs_session.proofs.StoreLemmas.{if_ok_as, present_fits, committed_fits, same_text, told_text, paged_text, bounded_tree, stands_paged, stands_undo, stands_back, keeps_back}
+use Rattle.vs_session.proofs.StoreLemmas.{if_ok_as, present_fits, committed_fits, same_text, told_text, paged_text, bounded_tree, stands_paged, stands_undo, stands_back, keeps_back, cause_back}
 use Rattle.vs_paged.proofs.SyncLemmas.{on_err_as}
 use Rattle.vs_session.proofs.answering.answer_in.Goals as goal
 
 pub answer-requires-clause-ready : goal.answer-requires-clause-ready
 answer-requires-clause-ready g c =
-    let paged = stands_paged g.F.World.tells.folder c.args.pair.now.pages c.args.tree.now c.args.history.now c.requires.stands in
+    let paged = stands_paged g.F.World.tells.folder c.args.pair.now.pages c.args.tree.now c.args.history.now c.requires.lent.stands in
     record {
-      valid = (c.requires.ready, present_fits _ _ _ c.requires.bounded paged, committed_fits _ _ _ c.requires.bounded paged);
-      committed = same_text _ _ _ c.requires.bounded paged;
-      counts = c.requires.counts;
-      texts = stands_undo g.F.World.tells.folder c.args.pair.now.pages c.args.tree.now c.args.history.now c.requires.stands;
+      valid = (c.requires.lent.ready, present_fits _ _ _ c.requires.lent.bounded paged, committed_fits _ _ _ c.requires.lent.bounded paged);
+      committed = same_text _ _ _ c.requires.lent.bounded paged;
+      counts = c.requires.lent.counts;
+      texts = stands_undo g.F.World.tells.folder c.args.pair.now.pages c.args.tree.now c.args.history.now c.requires.lent.stands;
     }
 
 pub returns-clause-reply : goal.returns-clause-reply
@@ -40,16 +40,13 @@ returns-clause-err g c =
     (record { text = paged_text _ _ _ _ ready.committed (stayed.text.text state.text (told_text _ _ _ _ told stands.text)); history = subst (λ p. IsHistory p state.text state.history) (sym stayed.tree) stands.history }))
     c.answer.ensures.atomic.stayed
 
-pub returns-clause-bounded : goal.returns-clause-bounded
-returns-clause-bounded g c =
+pub returns-clause-kept : goal.returns-clause-kept
+returns-clause-kept g c =
     let ready = c.answer.ensures.atomic.ready in
-    subst (λ (t : LineTree). IsBounded t) (sym (c.tree-1.given.1 (sym c.answer.ensures.atomic.stays.0))) (bounded_tree g.F.World.tells.folder c.answer.new.store.pages.pair.now.pages c.answer.new.store.tree.now ready.valid.1 ready.committed)
-
-pub returns-clause-counts : goal.returns-clause-counts
-returns-clause-counts g c =
-    subst (λ (t : LineTree). FitsCount c.answer.new.history (max 1 t.present.lines)) (sym (c.tree-1.given.1 (sym c.answer.ensures.atomic.stays.0))) c.answer.ensures.atomic.ready.counts
-
-pub returns-clause-keeps : goal.returns-clause-keeps
-returns-clause-keeps g c =
     let stays = c.answer.ensures.atomic.stays in
-    keeps_back g.F.World.tells c.args.pair.now _ _ (g.F.World.scene c.args.host.now) _ _ (c.pair-1.given.1 (sym stays.1.0)) (ap (λ (h : g.row.F.Denot). g.F.World.scene h) (c.host-1.given.1 (sym stays.1.1))) stays.1.2
+    record {
+      bounded = subst (λ (t : LineTree). IsBounded t) (sym (c.tree-1.given.1 (sym stays.0))) (bounded_tree g.F.World.tells.folder c.answer.new.store.pages.pair.now.pages c.answer.new.store.tree.now ready.valid.1 ready.committed);
+      counts = subst (λ (t : LineTree). FitsCount c.answer.new.history (max 1 t.present.lines)) (sym (c.tree-1.given.1 (sym stays.0))) ready.counts;
+      keeps = keeps_back g.F.World.tells c.args.pair.now _ _ (g.F.World.scene c.args.host.now) _ _ (c.pair-1.given.1 (sym stays.1.0)) (ap (λ (h : g.row.F.Denot). g.F.World.scene h) (c.host-1.given.1 (sym stays.1.1))) stays.1.2;
+      cause = cause_back (g.F.World.scene c.args.host.now).folder_faults _ _ (ap (λ (h : g.row.F.Denot). g.F.World.scene h) (c.host-1.given.1 (sym stays.1.1))) c.answer.ensures.atomic.cause;
+    }

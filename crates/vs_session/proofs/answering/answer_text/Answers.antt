@@ -5,16 +5,18 @@ use Rattle.vs_paged.proofs.SyncLemmas.{on_err_as}
 use Rattle.vs_session.proofs.StoreLemmas.{if_ok_as, fits_ready, state_left}
 use Rattle.vs_session.proofs.answering.answer_text.Goals as goal
 
-pub answer_in-requires-clause-ready : goal.answer_in-requires-clause-ready
-answer_in-requires-clause-ready g c told = let fits = (c.requires.fits told).2 in fits_ready _ _ _ _ fits.text
-
-pub answer_in-requires-clause-stands : goal.answer_in-requires-clause-stands
-answer_in-requires-clause-stands g c told = let given = c.requires.fits told in (given.0, record { text = given.2.text.pages; history = given.2.history })
+pub answer_in-requires-clause-lent : goal.answer_in-requires-clause-lent
+answer_in-requires-clause-lent g c = record {
+  bounded = c.args.text.now.bounded;
+  counts = c.requires.fits.counts;
+  ready = λ told. let fits = (c.requires.fits.fits told).2 in fits_ready _ _ _ _ fits.text;
+  stands = λ told. let given = c.requires.fits.fits told in (given.0, record { text = given.2.text.pages; history = given.2.history });
+}
 
 pub invariant_of-text : goal.invariant_of-text
 invariant_of-text g c = record {
-  bounded = c.answer_in.ensures.bounded;
-  started = subst (λ (f : SwapFiles). 2 ≤ f.generation) (sym c.answer_in.ensures.keeps.files) c.args.text.now.started;
+  bounded = c.answer_in.ensures.kept.bounded;
+  started = subst (λ (f : SwapFiles). 2 ≤ f.generation) (sym c.answer_in.ensures.kept.keeps.files) c.args.text.now.started;
 }
 
 pub returns-clause-reply : goal.returns-clause-reply
@@ -23,7 +25,7 @@ returns-clause-reply g c =
 
 pub returns-clause-state : goal.returns-clause-state
 returns-clause-state g c =
-    let keeps = c.answer_in.ensures.keeps in
+    let keeps = c.answer_in.ensures.kept.keeps in
     if_ok_as c.answer_in.result _ _
     (λ answered after told state syncs instruction fits cursor is.
     let now = after told state instruction (record { text = fits.text.pages; history = fits.history }) cursor is in
@@ -32,7 +34,7 @@ returns-clause-state g c =
 
 pub returns-clause-err : goal.returns-clause-err
 returns-clause-err g c =
-    let keeps = c.answer_in.ensures.keeps in
+    let keeps = c.answer_in.ensures.kept.keeps in
     on_err_as c.answer_in.result _ _
     (λ err told state syncs fits.
     state_left _ c.args.text.now _ c.args.history.now _ _ _ state state syncs keeps fits (err told state (record { text = fits.text.pages; history = fits.history })))

@@ -1,30 +1,28 @@
-use Rattle.std.proofs.Common.{sym, ap, subst}
+use Rattle.std.proofs.Common.{sym, ap, subst, ◌∙◌}
 use Rattle.vs_tree.specs.declared.tree.LineTree.{LineTree}
 use Rattle.vs_paged.specs.Pages.{IsBounded}
-use Rattle.vs_session.proofs.StoreLemmas.{if_ok_as, present_fits, committed_fits, told_text, keeps_back}
+use Rattle.vs_session.proofs.StoreLemmas.{if_ok_as, present_fits, committed_fits, told_text, keeps_back, cause_back}
 use Rattle.vs_session.proofs.SummaryLemmas.{bounded_stays, paged_stays}
 use Rattle.vs_session.proofs.summary.digest_in.Goals as goal
 
 pub digest-requires : goal.digest-requires
-digest-requires g c = (c.requires.ready, present_fits _ _ _ c.requires.bounded c.requires.paged, committed_fits _ _ _ c.requires.bounded c.requires.paged)
+digest-requires g c = (c.requires.lent.ready, present_fits _ _ _ c.requires.lent.bounded c.requires.lent.paged, committed_fits _ _ _ c.requires.lent.bounded c.requires.lent.paged)
 
 pub returns-clause-digest : goal.returns-clause-digest
 returns-clause-digest g c =
     if_ok_as c.digest.result _ _ (λ digest is told text paged. is text (told_text _ _ _ _ told paged)) c.digest.ensures.digest
 
-pub returns-clause-paged : goal.returns-clause-paged
-returns-clause-paged g c = λ told text paged.
+pub returns-clause-kept : goal.returns-clause-kept
+returns-clause-kept g c =
     let kept = c.digest.ensures.kept in
-    paged_stays g.F.World.tells.folder _ c.digest.new.text.pages.pair.now c.args.pair.now.pages _ c.digest.new.text.tree.now c.args.tree.now text (c.pair-1.given.1 (sym kept.stays.1.0)) (c.tree-1.given.1 (sym kept.stays.0))
-    kept.present kept.committed told paged
-
-pub returns-clause-bounded : goal.returns-clause-bounded
-returns-clause-bounded g c =
-    let kept = c.digest.ensures.kept in
-    subst (λ (t : LineTree). IsBounded t) (sym (c.tree-1.given.1 (sym kept.stays.0)))
-    (bounded_stays g.F.World.tells.folder c.args.pair.now.pages c.digest.new.text.pages.pair.now.pages c.args.tree.now c.digest.new.text.tree.now kept.valid.1 kept.present kept.committed c.requires.bounded)
-
-pub returns-clause-keeps : goal.returns-clause-keeps
-returns-clause-keeps g c =
-    let stays = c.digest.ensures.kept.stays in
-    keeps_back g.F.World.tells c.args.pair.now _ _ (g.F.World.scene c.args.host.now) _ _ (c.pair-1.given.1 (sym stays.1.0)) (ap (λ (h : g.row.F.Denot). g.F.World.scene h) (c.host-1.given.1 (sym stays.1.1))) stays.1.2
+    let stays = kept.stays in
+    record {
+      paged = λ told text paged.
+          paged_stays g.F.World.tells.folder _ c.digest.new.text.pages.pair.now c.args.pair.now.pages _ c.digest.new.text.tree.now c.args.tree.now text (c.pair-1.given.1 (sym stays.1.0)) (c.tree-1.given.1 (sym stays.0))
+          kept.present kept.committed told paged;
+      bounded = subst (λ (t : LineTree). IsBounded t) (sym (c.tree-1.given.1 (sym stays.0)))
+          (bounded_stays g.F.World.tells.folder c.args.pair.now.pages c.digest.new.text.pages.pair.now.pages c.args.tree.now c.digest.new.text.tree.now kept.valid.1 kept.present kept.committed c.requires.lent.bounded);
+      lines = ap (λ (t : LineTree). t.present.lines) (c.tree-1.given.1 (sym stays.0)) ∙ kept.present.lines;
+      keeps = keeps_back g.F.World.tells c.args.pair.now _ _ (g.F.World.scene c.args.host.now) _ _ (c.pair-1.given.1 (sym stays.1.0)) (ap (λ (h : g.row.F.Denot). g.F.World.scene h) (c.host-1.given.1 (sym stays.1.1))) stays.1.2;
+      cause = cause_back (g.F.World.scene c.args.host.now).folder_faults _ _ (ap (λ (h : g.row.F.Denot). g.F.World.scene h) (c.host-1.given.1 (sym stays.1.1))) c.digest.ensures.cause;
+    }

@@ -4,16 +4,20 @@ use Rattle.vs_pair.specs.declared.files.SwapFiles.{SwapFiles}
 use Rattle.vs_session.proofs.StoreLemmas.{if_ok_as, fits_ready, state_left}
 use Rattle.vs_session.proofs.unbinding.unbind_text.Goals as goal
 
-pub unbind_in-requires-clause-ready : goal.unbind_in-requires-clause-ready
-unbind_in-requires-clause-ready g c told = let fits = (c.requires.fits told).2 in fits_ready _ _ _ _ fits.text
-
-pub unbind_in-requires-clause-stands : goal.unbind_in-requires-clause-stands
-unbind_in-requires-clause-stands g c told = let given = c.requires.fits told in (given.0, record { text = given.2.text.pages; history = given.2.history })
+pub unbind_in-requires : goal.unbind_in-requires
+unbind_in-requires g c = record {
+  lent = record {
+    bounded = c.args.text.now.bounded;
+    counts = c.requires.fits.counts;
+    ready = λ told. let fits = (c.requires.fits.fits told).2 in fits_ready _ _ _ _ fits.text;
+    stands = λ told. let given = c.requires.fits.fits told in (given.0, record { text = given.2.text.pages; history = given.2.history });
+  };
+}
 
 pub invariant_of-text : goal.invariant_of-text
 invariant_of-text g c = record {
-  bounded = c.unbind_in.ensures.bounded;
-  started = subst (λ (f : SwapFiles). 2 ≤ f.generation) (sym c.unbind_in.ensures.keeps.files) c.args.text.now.started;
+  bounded = c.unbind_in.ensures.kept.bounded;
+  started = subst (λ (f : SwapFiles). 2 ≤ f.generation) (sym c.unbind_in.ensures.kept.keeps.files) c.args.text.now.started;
 }
 
 pub returns-clause-bound : goal.returns-clause-bound
@@ -22,5 +26,5 @@ returns-clause-bound g c =
 
 pub returns-clause-fits : goal.returns-clause-fits
 returns-clause-fits g c told state syncs fits =
-    let keeps = c.unbind_in.ensures.keeps in
+    let keeps = c.unbind_in.ensures.kept.keeps in
     state_left _ c.args.text.now _ c.args.history.now _ _ _ state state syncs keeps fits (c.unbind_in.ensures.stands told state (record { text = fits.text.pages; history = fits.history }))

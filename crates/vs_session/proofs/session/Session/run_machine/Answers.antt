@@ -6,7 +6,7 @@ use Rattle.vs_session.proofs.SessionLemmas.{counted_is, counted_same, stays_set}
 use Rattle.vs_session.proofs.session.Session.run_machine.Goals as goal
 
 pub answer_text-requires-clause-fits : goal.answer_text-requires-clause-fits
-answer_text-requires-clause-fits g c told = let given = c.requires.usable.fits told in (given.0.machine, given.1, given.2.stands)
+answer_text-requires-clause-fits g c = record { counts = c.requires.usable.undo; fits = λ told. let given = c.requires.usable.fits told in (given.0.machine, given.1, given.2.stands) }
 
 pub returns-in-Ok-clause-reply : goal.returns-in-Ok-clause-reply
 returns-in-Ok-clause-reply g c told state syncs instruction fits is = c.in-Ok.ensures.reply told state.machine syncs instruction fits.stands fits.cursor is

@@ -3,8 +3,8 @@ use Rattle.vs_session.proofs.SessionLemmas.{fits_again}
 use Rattle.vs_session.proofs.Stored.{undo_of_bytes}
 use Rattle.vs_session.proofs.session.Session.undo_bytes.Goals as goal
 
-pub unbind_text-requires-clause-fits : goal.unbind_text-requires-clause-fits
-unbind_text-requires-clause-fits g c told = let given = c.requires.usable.fits told in (given.0.machine, given.1, given.2.stands)
+pub unbind_text-requires : goal.unbind_text-requires
+unbind_text-requires g c = record { fits = record { counts = c.requires.usable.undo; fits = λ told. let given = c.requires.usable.fits told in (given.0.machine, given.1, given.2.stands) } }
 
 pub returns-clause-bytes : goal.returns-clause-bytes
 returns-clause-bytes g c told state syncs fits = undo_of_bytes _ _ _ _ c.in_ok-contents.ensures.formed c.in_ok-bytes.ensures.written (c.in_ok-contents.ensures.bound told state.machine syncs fits.stands)
