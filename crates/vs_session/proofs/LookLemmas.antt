@@ -1,5 +1,5 @@
 -- One look at the folder after another, and what an opening makes of it.
-use Rattle.std.proofs.Common.{◌≡◌, inl, inr, ℕ, List, Option, Some, None, Result, Ok, Err, IsErr, IsErrAnd, IsSome, IsTrue, OnOk, refl, sym, ◌∙◌, subst}
+use Rattle.std.proofs.Common.{◌≡◌, inl, inr, ℕ, List, Option, Some, None, Result, Ok, Err, IsErr, IsErrAnd, IsErrOf, IfSome, IsSome, IsTrue, OnOk, refl, sym, ◌∙◌, subst}
 use Rattle.vs_faults.specs.Faults.{HasCause}
 use Rattle.vs_faults.proofs.Causes.{HasCause-trans, cause_none}
 use Rattle.vs_host.specs.Disk.{Disk, Name, IsImage, IsImageOf, content_in}
@@ -13,13 +13,17 @@ use Rattle.vs_pair.specs.Pair.{Image, NoneThere, is_foreign}
 use Rattle.vs_pair.specs.Steps.{IsAbsent, IsFresh}
 use Rattle.vs_pair.proofs.Calls.{look_acts, look_none}
 use Rattle.vs_pair.proofs.Acts.{acts_none, acts_as, acts_on, acts_then, none_fails, none_then}
+use Rattle.vs_text.specs.Text.{lines_of}
+use Rattle.vs_text.specs.Limits.{IsWithinLimits}
 use Rattle.vs_safety.specs.Texts.{Text}
 use Rattle.vs_paged.specs.Fits.{Starting}
 use Rattle.vs_paged.proofs.SyncLemmas.{on_ok_as}
-use Rattle.vs_session.specs.Open.{IsLook, OnlyLooks}
+use Rattle.vs_session.specs.Open.{IsLook, IsTooLarge, KeepsToLimits, OnlyLooks}
+use Rattle.vs_session.specs.declared.open.OpenErr.{OpenErr}
+use Rattle.vs_session.specs.declared.open.OpenErr.TheVariants as opening
 use Rattle.vs_session.specs.Opened.{text_in}
 use Rattle.vs_session.specs.Fits.{HasSwap, IsSettled, Opens}
-use Rattle.vs_session.proofs.OpenLemmas.{ReadsFolder-trans}
+use Rattle.vs_session.proofs.OpenLemmas.{ReadsFolder-trans, never_other}
 
 pub looks_none : (tells : Tells) (scene : Scene) → OnlyLooks tells scene scene
 looks_none tells scene = acts_none tells (λ a b. b ≡ a) scene refl
@@ -32,9 +36,9 @@ on_ok_all (Ok x) a = a
 on_ok_all (Err e) a = tt
 
 -- an error is no value
-pub on_ok_never : {T E A : Type 0} {P : E → Type 0} (result : Result T E) → IsErrAnd result P → OnOk result A
-on_ok_never (Ok x) is = absurd is
-on_ok_never (Err e) is = tt
+on_ok_never : {T : Type 0} (A : Type 0) (result : Result T OpenErr) (error : OpenErr) → IsErrAnd result (λ e. e ≡ error) → OnOk result A
+on_ok_never A (Ok x) error is = absurd is
+on_ok_never A (Err e) error is = tt
 
 -- one call
 pub is_look : {T E : Type 0} (tells : Tells) (kind : Kind) (names : List Name) (result : Result T E) (old new : Scene) → ReadsFolder old new → HasCause old.folder_faults new.folder_faults (IsErr result)
@@ -67,9 +71,24 @@ IsLook-then {old} {mid} {new} tells result first next carry so = record {
   cause = HasCause-trans first.cause next.cause (λ failed. inr (so failed));
 }
 
+-- the same, where what was looked at is refused
+pub IsLook-refused : {T E F U V G W H : Type 0} {x : T} {second : Result U V} {old mid new : Scene} (tells : Tells) (result : Result W OpenErr) (error : OpenErr) → IsLook {T = T} {E = E} tells (Ok x) F old mid → IsLook tells second G mid new
+    → IsErrAnd result (λ e. e ≡ error) → (H → G) → IsLook tells result H old new
+IsLook-refused {mid} {new} tells result error first next is so = IsLook-then tells result first next (λ none. on_ok_never (NoneFails tells mid new) result error is) so
+
 -- two looks that succeeded
 pub IsLook-both : {T E U V F G : Type 0} {x : T} {y : U} {old mid new : Scene} (tells : Tells) → IsLook {T = T} {E = E} tells (Ok x) F old mid → IsLook {T = U} {E = V} tells (Ok y) G mid new → IsLook {T = U} {E = V} tells (Ok y) G old new
 IsLook-both {y} tells first next = IsLook-then tells (Ok y) first next (λ none. none) (λ failed. failed)
+
+-- ---- limits
+
+pub KeepsToLimits-refused : {T : Type 0} (tells : Tells) (result : Result T OpenErr) (file : Option (List ℕ)) (error : OpenErr) → IsErrAnd result (λ e. e ≡ error)
+    → ((size : ℕ) → IsErrOf result (opening.TextLimit size) → IsTooLarge tells size file) → KeepsToLimits tells result file
+KeepsToLimits-refused tells result file error is limit = record { within = on_ok_never (IsTrue tells.folder → IfSome file (λ bytes. IsWithinLimits (lines_of bytes))) result error is; limit = limit }
+
+-- refused for something else
+pub KeepsToLimits-other : {T : Type 0} (tells : Tells) (result : Result T OpenErr) (file : Option (List ℕ)) (error : OpenErr) → IsErrAnd result (λ e. e ≡ error) → ((size : ℕ) → error ≡ opening.TextLimit size → ⊥) → KeepsToLimits tells result file
+KeepsToLimits-other tells result file error is differ = KeepsToLimits-refused tells result file error is (λ size of. absurd (never_other result error (opening.TextLimit size) is (differ size) of))
 
 -- ---- a folder without swap files
 

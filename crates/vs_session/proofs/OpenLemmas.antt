@@ -139,6 +139,15 @@ never_swap (Err x) (text.TextFull n) is of = absurd (cc)
 never_swap (Err x) (text.LineTooLong n) is of = absurd (cc)
 never_swap (Err x) text.NoMemory is of = absurd (cc)
 
+-- a failed call passed no limit
+pub failed_no_limit : (size : ℕ) → opening.Failed ≡ opening.TextLimit size → ⊥
+failed_no_limit size is = cc
+
+-- an error that is another
+pub never_other : {T : Type 0} (r : Result T OpenErr) (e f : OpenErr) → IsErrAnd r (λ x. x ≡ e) → (e ≡ f → ⊥) → IsErrOf r f → ⊥
+never_other (Ok x) e f is differ of = absurd is
+never_other (Err x) e f is differ of = differ (sym is ∙ err_is of)
+
 -- a text that is within the limits passes none
 pub never_over : (file : Option (List ℕ)) (X : Type 0) → IfSome file (λ bytes. IsWithinLimits (lines_of bytes)) → IfSome file (λ bytes. ¬ IsWithinLimits (lines_of bytes) → X)
 never_over None X is = tt

@@ -1,12 +1,12 @@
 -- Why a file is not opened.
-use Rattle.std.specs.Prelude.{◌≡◌, ◌<◌, ◌⊎◌, ℕ, List, IsTrue, IsSomeAnd, OnOk}
+use Rattle.std.specs.Prelude.{◌≡◌, ◌<◌, ◌⊎◌, ℕ, List, IfSome, IsErrOf, IsTrue, IsSomeAnd, OnOk}
 use Rattle.std.specs.declared.option.Option.{Option}
 use Rattle.std.specs.declared.result.Result.{Result}
 use Rattle.vs_faults.specs.Faults.{HasCause}
 use Rattle.vs_host.specs.World.{Tells, Scene, ReadsFolder}
 use Rattle.vs_pair.specs.Acts.{Acts, NoneFails}
 use Rattle.vs_text.specs.Text.{lines_of}
-use Rattle.vs_text.specs.Limits.{IsRefusal}
+use Rattle.vs_text.specs.Limits.{IsRefusal, IsWithinLimits}
 use Rattle.vs_text.specs.declared.TheConstants.{MAX_LINE_BYTES}
 use Rattle.vs_text.specs.declared.error.TextErr.{TextErr}
 use Rattle.vs_text.specs.declared.error.TextErr.TheVariants as text
@@ -26,6 +26,11 @@ PassesLimit lines size = IsRefusal lines (text.LineTooLong size) ⊎ IsRefusal l
 pub record IsTooLarge (tells : Tells) (size : ℕ) (file : Option (List ℕ)) : Type 0 where
   pub above : MAX_LINE_BYTES < size
   pub passes : IsTrue tells.folder → IsSomeAnd file (λ bytes. PassesLimit (lines_of bytes) size)
+
+-- Where a file was read its text is within the limits, and where one was passed, this is the number that passed it.
+pub record KeepsToLimits {T : Type 0} (tells : Tells) (result : Result T OpenErr) (file : Option (List ℕ)) : Type 0 where
+  pub within : OnOk result (IsTrue tells.folder → IfSome file (λ bytes. IsWithinLimits (lines_of bytes)))
+  pub limit : (size : ℕ) → IsErrOf result (opening.TextLimit size) → IsTooLarge tells size file
 
 -- the folder was only looked at
 abbrev pub OnlyLooks : Tells → Scene → Scene → Type 0

@@ -10,7 +10,7 @@ ghost use Rattle.vs_text.specs.Text.{lines_of};
 ghost use Rattle.vs_machine.specs.Replies.{opening_of};
 ghost use Rattle.vs_safety.specs.Turns as turns;
 ghost use Rattle.vs_session.specs.Fits.{Fits, FitsUndo, HasOpened, HasSwap, IsSettled, Opens, generation_of, names_of};
-ghost use Rattle.vs_session.specs.Open.{IsLook, IsTooLarge, OnlyLooks};
+ghost use Rattle.vs_session.specs.Open.{IsLook, IsTooLarge, KeepsToLimits, OnlyLooks};
 ghost use Rattle.vs_session.specs.Opened.{opened, sizes_of, text_in};
 
 use crate::looking::has_file;
@@ -56,10 +56,9 @@ fn read_text<H: Host>(
     ensures name { IfOk result (λ read. read.0.name ≡ name.now) }
     ensures text { IfOk result (λ read. IsTrue (H.tells).folder → read.0.text ≡ text_in (content_of (H.scene host.old) name.now)) }
     ensures found { IfOk result (λ read. IsTrue (H.tells).folder → read.1 ≡ sizes_of (content_of (H.scene host.old) name.now)) }
-    ensures fits { OnOk result (IsTrue (H.tells).folder → IfSome (content_of (H.scene host.old) name.now) (λ bytes. IsWithinLimits (lines_of bytes))) }
     ensures free { OnOk result (IsTrue (H.tells).folder → HasSwap (names_of_file name.now) (H.scene host.old).folder → ⊥) }
     ensures swap { IsErrOf result OpenErr.SwapFound → IsTrue (H.tells).folder → HasSwap (names_of_file name.now) (H.scene host.old).folder }
-    ensures limit { (size : ℕ) → IsErrOf result (OpenErr.TextLimit size) → IsTooLarge H.tells size (content_of (H.scene host.old) name.now) }
+    ensures limits { KeepsToLimits H.tells result (content_of (H.scene host.old) name.now) }
     ensures no_swap { (size : ℕ) → IsErrOf result (OpenErr.TextLimit size) → IsTrue (H.tells).folder → HasSwap (names_of_file name.now) (H.scene host.old).folder → ⊥ }
     ensures quiet { IsQuiet (H.scene host.old).folder_faults (H.scene host.new).folder_faults (IsErrOf result OpenErr.Failed) }
     ensures look { IsLook H.tells result (IsErrOf result OpenErr.Failed) (H.scene host.old) (H.scene host.new) }

@@ -2,10 +2,9 @@
 ghost use Rattle.std.specs.Prelude.{◌≡◌, ◌<◌, ◌≤◌, ◌+◌, ◌^◌, ◌++◌, [], ℕ, List, None, IfOk, IfSome, IsErrOf, IsSomeAnd, IsTrue, OnOk, drop, length, take};
 ghost use Rattle.vs_faults.specs.Faults.{IsQuiet};
 ghost use Rattle.vs_host.specs.World.{content_of};
-ghost use Rattle.vs_text.specs.Limits.{IsWithinLimits};
 ghost use Rattle.vs_text.specs.Reader.{HasRead, size_read};
 ghost use Rattle.vs_text.specs.Text.{lines_of};
-ghost use Rattle.vs_session.specs.Open.{IsLook, IsTooLarge, PassesLimit};
+ghost use Rattle.vs_session.specs.Open.{IsLook, KeepsToLimits, PassesLimit};
 ghost use Rattle.vs_session.specs.Opened.{sizes_of, text_in};
 
 use crate::OpenErr;
@@ -59,8 +58,7 @@ fn read_pieces<H: Host>(
     requires there { IsTrue (H.tells).folder → IsSomeAnd (content_of (H.scene host.old) name.now) (λ bytes. size ≡ length bytes) }
     requires empty { text.old.text ≡ [] }
     ensures text { OnOk result (IsTrue (H.tells).folder → IfSome (content_of (H.scene host.old) name.now) (λ bytes. text.new.text ≡ lines_of bytes)) }
-    ensures fits { OnOk result (IsTrue (H.tells).folder → IfSome (content_of (H.scene host.old) name.now) (λ bytes. IsWithinLimits (lines_of bytes))) }
-    ensures limit { (n : ℕ) → IsErrOf result (OpenErr.TextLimit n) → IsTooLarge H.tells n (content_of (H.scene host.old) name.now) }
+    ensures limits { KeepsToLimits H.tells result (content_of (H.scene host.old) name.now) }
     ensures name { text.new.name ≡ text.old.name }
     ensures others { IsErrOf result OpenErr.SwapFound → ⊥ }
     ensures quiet { IsQuiet (H.scene host.old).folder_faults (H.scene host.new).folder_faults (IsErrOf result OpenErr.Failed) }
@@ -98,8 +96,7 @@ pub(crate) fn read_file<H: Host>(
     requires { text.old.text ≡ [] }
     ensures found { IfOk result (λ found. IsTrue (H.tells).folder → found ≡ sizes_of (content_of (H.scene host.old) name.now)) }
     ensures text { OnOk result (IsTrue (H.tells).folder → text.new.text ≡ text_in (content_of (H.scene host.old) name.now)) }
-    ensures fits { OnOk result (IsTrue (H.tells).folder → IfSome (content_of (H.scene host.old) name.now) (λ bytes. IsWithinLimits (lines_of bytes))) }
-    ensures limit { (size : ℕ) → IsErrOf result (OpenErr.TextLimit size) → IsTooLarge H.tells size (content_of (H.scene host.old) name.now) }
+    ensures limits { KeepsToLimits H.tells result (content_of (H.scene host.old) name.now) }
     ensures name { text.new.name ≡ text.old.name }
     ensures others { IsErrOf result OpenErr.SwapFound → ⊥ }
     ensures quiet { IsQuiet (H.scene host.old).folder_faults (H.scene host.new).folder_faults (IsErrOf result OpenErr.Failed) }

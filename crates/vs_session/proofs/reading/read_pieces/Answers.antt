@@ -5,7 +5,7 @@ use Rattle.vs_session.proofs.OpenLemmas.{limit_of, same_content, piece_within, l
 use Rattle.vs_pair.proofs.Acts.{none_fails, none_then}
 use Rattle.vs_text.specs.Reader.{HasRead}
 use Rattle.vs_paged.specs.Pages.{Opening}
-use Rattle.vs_session.proofs.LookLemmas.{IsLook-ended, IsLook-loop, IsLook-none, IsLook-then, looks_none, looks_then, on_ok_never}
+use Rattle.vs_session.proofs.LookLemmas.{IsLook-ended, IsLook-loop, IsLook-none, IsLook-refused, KeepsToLimits-other, KeepsToLimits-refused, looks_none, looks_then}
 use Rattle.vs_session.proofs.reading.read_pieces.Goals as goal
 
 pub read_piece-requires-clause-there : goal.read_piece-requires-clause-there
@@ -15,13 +15,13 @@ read_piece-requires-clause-there g c = λ told.
     let size : length (take c.min-count.result c.deref_mut.result.now) ≡ c.min-count.result = omega (arith, c.min-count.ensures, c.pieces.invariant.room, c.deref_mut.ensures.len, length-take c.min-count.result c.deref_mut.result.now) in
     piece_within _ _ c.args.size c.pieces.at c.min-count.result _ same (c.requires.there told) within size
 
-pub returns-in_err-read_piece-clause-limit : goal.returns-in_err-read_piece-clause-limit
-returns-in_err-read_piece-clause-limit g c = λ n is.
+pub returns-in_err-read_piece-clause-limits : goal.returns-in_err-read_piece-clause-limits
+returns-in_err-read_piece-clause-limits g c = KeepsToLimits-refused g.H.World.tells _ _ _ c.from_residual-in_err-read_piece.ensures.1 (λ n is.
     let before = c.pieces.invariant in
     let same = same_content (g.H.World.scene c.args.host.now) (g.H.World.scene c.pieces.host) c.args.name.now before.frame in
     let of = handed_back _ _ _ c.from_residual-in_err-read_piece.ensures.1 is in
     limit_in_piece _ _ _ n c.pieces.at _ c.args.size before.fed c.read_piece.new.piece same c.requires.there before.told
-    (c.in_err-read_piece.ensures.told n of) (λ more. c.in_err-read_piece.ensures.limit n of before.fed more before.read)
+    (c.in_err-read_piece.ensures.told n of) (λ more. c.in_err-read_piece.ensures.limit n of before.fed more before.read))
 
 pub returns-in_err-read_piece-clause-quiet : goal.returns-in_err-read_piece-clause-quiet
 returns-in_err-read_piece-clause-quiet g c = λ other.
@@ -49,13 +49,13 @@ pieces-preserved g c =
       none = none_then g.H.World.tells (g.H.World.scene c.args.host.now) (g.H.World.scene c.pieces.host) (g.H.World.scene c.read_piece.new.host) before.none c.in_ok-read_piece.ensures.look.none;
     }
 
-pub returns-in_err-rest-clause-limit : goal.returns-in_err-rest-clause-limit
-returns-in_err-rest-clause-limit g c = λ n is.
+pub returns-in_err-rest-clause-limits : goal.returns-in_err-rest-clause-limits
+returns-in_err-rest-clause-limits g c = KeepsToLimits-refused g.H.World.tells _ _ _ c.from_residual-in_err-rest.ensures.1 (λ n is.
     let before = c.pieces.invariant in
     let end : c.pieces.at ≡ c.args.size = omega (arith, c.pieces-test.false, before.high) in
     let answer = c.in_err-rest.ensures.answer c.pieces.text.text before.fed before.read in
     limit_at_end _ _ n before.fed (λ told. whole_read _ c.pieces.at c.args.size before.fed (c.requires.there told) end (before.told told))
-    (limit_of _ _ _ c.from_residual-in_err-rest.ensures.1 answer.refused n is)
+    (limit_of _ _ _ c.from_residual-in_err-rest.ensures.1 answer.refused n is))
 
 pub returns-in_err-rest-clause-look : goal.returns-in_err-rest-clause-look
 returns-in_err-rest-clause-look g c =
@@ -73,6 +73,9 @@ returns-in_err-push_lines-clause-look g c =
     let before = c.pieces.invariant in
     IsLook-loop g.H.World.tells _ (g.H.World.scene c.args.host.now) (g.H.World.scene c.pieces.host) before.frame before.looks before.none (not_failed _ c.from_residual-in_err-push_lines.ensures.1)
 
+pub returns-in_err-push_lines-clause-limits : goal.returns-in_err-push_lines-clause-limits
+returns-in_err-push_lines-clause-limits g c = KeepsToLimits-other g.H.World.tells _ _ _ c.from_residual-in_err-push_lines.ensures.1 (λ size is. absurd (cc))
+
 pub returns-clause-text : goal.returns-clause-text
 returns-clause-text g c = λ told.
     let before = c.pieces.invariant in
@@ -81,12 +84,15 @@ returns-clause-text g c = λ told.
     let now = ap (λ (o : Opening). o.text) c.in_ok-push_lines.ensures.ok ∙ (ap (λ (rest : List (List ℕ)). c.pieces.text.text ++ rest) c.lines.ensures ∙ answer.text) in
     some_read _ before.fed (λ bytes. c.push_lines.new.self.text ≡ lines_of bytes) (whole_read _ c.pieces.at c.args.size before.fed (c.requires.there told) end (before.told told)) now
 
-pub returns-clause-fits : goal.returns-clause-fits
-returns-clause-fits g c = λ told.
-    let before = c.pieces.invariant in
-    let end : c.pieces.at ≡ c.args.size = omega (arith, c.pieces-test.false, before.high) in
-    let answer = c.in_ok-rest.ensures.answer c.pieces.text.text before.fed before.read in
-    some_read _ before.fed (λ bytes. IsWithinLimits (lines_of bytes)) (whole_read _ c.pieces.at c.args.size before.fed (c.requires.there told) end (before.told told)) answer.fits
+pub returns-clause-limits : goal.returns-clause-limits
+returns-clause-limits g c = record {
+  within = λ told.
+      let before = c.pieces.invariant in
+      let end : c.pieces.at ≡ c.args.size = omega (arith, c.pieces-test.false, before.high) in
+      let answer = c.in_ok-rest.ensures.answer c.pieces.text.text before.fed before.read in
+      some_read _ before.fed (λ bytes. IsWithinLimits (lines_of bytes)) (whole_read _ c.pieces.at c.args.size before.fed (c.requires.there told) end (before.told told)) answer.fits;
+  limit = λ n is. absurd (cc);
+}
 
 pub returns-clause-look : goal.returns-clause-look
 returns-clause-look g c =
@@ -102,7 +108,7 @@ returns-in_err-piece-clause-look g c = IsLook-none g.H.World.tells _ (g.H.World.
 pub returns-in_err-read_piece-clause-look : goal.returns-in_err-read_piece-clause-look
 returns-in_err-read_piece-clause-look g c =
     let before = c.pieces.invariant in
-    IsLook-then g.H.World.tells _ (IsLook-ended g.H.World.tells (g.H.World.scene c.args.host.now) (g.H.World.scene c.pieces.host) before.frame before.looks before.none) c.in_err-read_piece.ensures.look (λ none. on_ok_never _ c.from_residual-in_err-read_piece.ensures.1) (handed_back _ _ _ c.from_residual-in_err-read_piece.ensures.1)
+    IsLook-refused g.H.World.tells _ _ (IsLook-ended g.H.World.tells (g.H.World.scene c.args.host.now) (g.H.World.scene c.pieces.host) before.frame before.looks before.none) c.in_err-read_piece.ensures.look c.from_residual-in_err-read_piece.ensures.1 (handed_back _ _ _ c.from_residual-in_err-read_piece.ensures.1)
 
 pub pieces-init : goal.pieces-init
 pieces-init g c = record {

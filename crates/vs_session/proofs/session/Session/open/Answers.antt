@@ -36,7 +36,7 @@ returns-in_err-opening-clause-acts g c =
     opens_looks g.H.World.tells c.args.name.now (g.H.World.scene c.args.host.now) (g.H.World.scene c.read_text.new.host) c.requires.settled c.in_err-opening.ensures.look.looks
 
 pub returns-in_err-opening-clause-limit : goal.returns-in_err-opening-clause-limit
-returns-in_err-opening-clause-limit g c = λ size of. c.in_err-opening.ensures.limit size (handed_back _ _ _ c.from_residual-in_err-opening.ensures.1 of)
+returns-in_err-opening-clause-limit g c = λ size of. c.in_err-opening.ensures.limits.limit size (handed_back _ _ _ c.from_residual-in_err-opening.ensures.1 of)
 
 pub start-requires : goal.start-requires
 start-requires g c = record {
@@ -86,7 +86,7 @@ returns-clause-fits g c = λ told.
     }
 
 pub returns-clause-over : goal.returns-clause-over
-returns-clause-over g c = λ told. never_over _ _ (c.in_ok-opening.ensures.fits told)
+returns-clause-over g c = λ told. never_over _ _ (c.in_ok-opening.ensures.limits.within told)
 
 pub invariant_of-result-clause-named : goal.invariant_of-result-clause-named
 invariant_of-result-clause-named g c = c.in_ok-text.ensures.names ∙ ap names_of_file (c.in_ok-opening.ensures.name ∙ sym c.in_ok-kept.ensures.ok)
