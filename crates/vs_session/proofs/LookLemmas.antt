@@ -18,12 +18,12 @@ use Rattle.vs_text.specs.Limits.{IsWithinLimits}
 use Rattle.vs_safety.specs.Texts.{Text}
 use Rattle.vs_paged.specs.Fits.{Starting}
 use Rattle.vs_paged.proofs.SyncLemmas.{on_ok_as}
-use Rattle.vs_session.specs.Open.{IsLook, IsTooLarge, KeepsToLimits, OnlyLooks}
+use Rattle.vs_session.specs.Open.{IsLook, IsReading, IsTooLarge, KeepsToLimits, OnlyLooks}
 use Rattle.vs_session.specs.declared.open.OpenErr.{OpenErr}
 use Rattle.vs_session.specs.declared.open.OpenErr.TheVariants as opening
 use Rattle.vs_session.specs.Opened.{text_in}
 use Rattle.vs_session.specs.Fits.{HasSwap, IsSettled, Opens}
-use Rattle.vs_session.proofs.OpenLemmas.{ReadsFolder-trans, never_other}
+use Rattle.vs_session.proofs.OpenLemmas.{ReadsFolder-trans, handed_on, never_other}
 
 pub looks_none : (tells : Tells) (scene : Scene) → OnlyLooks tells scene scene
 looks_none tells scene = acts_none tells (λ a b. b ≡ a) scene refl
@@ -79,6 +79,35 @@ IsLook-refused {mid} {new} tells result error first next is so = IsLook-then tel
 -- two looks that succeeded
 pub IsLook-both : {T E U V F G : Type 0} {x : T} {y : U} {old mid new : Scene} (tells : Tells) → IsLook {T = T} {E = E} tells (Ok x) F old mid → IsLook {T = U} {E = V} tells (Ok y) G mid new → IsLook {T = U} {E = V} tells (Ok y) G old new
 IsLook-both {y} tells first next = IsLook-then tells (Ok y) first next (λ none. none) (λ failed. failed)
+
+-- ---- reading
+
+-- where no call failed
+pub IsReading-calm : {T : Type 0} (tells : Tells) (result : Result T OpenErr) (old new : Scene) → ReadsFolder old new → OnlyLooks tells old new → NoneFails tells old new → (IsErrOf result opening.Failed → ⊥) → IsReading tells result old new
+IsReading-calm tells result old new frame looks none never = record { look = IsLook-loop tells result old new frame looks none never; quiet = λ other. none.faults }
+
+pub IsReading-none : {T : Type 0} (tells : Tells) (result : Result T OpenErr) (scene : Scene) → (IsErrOf result opening.Failed → ⊥) → IsReading tells result scene scene
+IsReading-none tells result scene never = IsReading-calm tells result scene scene refl (looks_none tells scene) (none_fails tells scene) never
+
+-- a call that failed, after looks that did not
+pub IsReading-failed : {T E F U V W G : Type 0} {x : T} {second : Result U V} {old mid new : Scene} (tells : Tells) (result : Result W OpenErr) → IsLook {T = T} {E = E} tells (Ok x) F old mid → IsLook tells second G mid new → G
+    → IsErrAnd result (λ e. e ≡ opening.Failed) → IsReading tells result old new
+IsReading-failed tells result first next failed is = record {
+  look = IsLook-refused tells result opening.Failed first next is (λ same. failed);
+  quiet = λ other. absurd (other (handed_on result opening.Failed opening.Failed is refl));
+}
+
+-- the first call failed
+pub IsReading-first : {U V W G : Type 0} {first : Result U V} {old new : Scene} (tells : Tells) (result : Result W OpenErr) → IsLook tells first G old new → G → IsErrAnd result (λ e. e ≡ opening.Failed) → IsReading tells result old new
+IsReading-first {old} tells result first failed is = IsReading-failed tells result (IsLook-ended tells old old refl (looks_none tells old) (none_fails tells old)) first failed is
+
+-- reading that was refused, after looks that did not fail
+pub IsReading-refused : {T E F U W : Type 0} {x : T} {second : Result U OpenErr} {old mid new : Scene} (tells : Tells) (result : Result W OpenErr) (error : OpenErr) → IsLook {T = T} {E = E} tells (Ok x) F old mid → IsReading tells second mid new
+    → IsErrAnd result (λ e. e ≡ error) → (IsErrOf result opening.Failed → IsErrOf second opening.Failed) → (IsErrOf second opening.Failed → IsErrOf result opening.Failed) → IsReading tells result old new
+IsReading-refused tells result error first next is so back = record {
+  look = IsLook-refused tells result error first next.look is so;
+  quiet = λ other. next.quiet (λ failed. other (back failed)) ∙ first.none.faults;
+}
 
 -- ---- limits
 

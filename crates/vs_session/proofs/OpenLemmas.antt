@@ -143,6 +143,19 @@ never_swap (Err x) text.NoMemory is of = absurd (cc)
 pub failed_no_limit : (size : ℕ) → opening.Failed ≡ opening.TextLimit size → ⊥
 failed_no_limit size is = cc
 
+-- a value is no error
+pub ok_never : {T : Type 0} {x : T} {e : OpenErr} → IsErrOf {T = T} (Ok x) e → ⊥
+ok_never is = cc
+
+-- a failed call found no swap file
+pub failed_no_swap : opening.Failed ≡ opening.SwapFound → ⊥
+failed_no_swap is = cc
+
+-- want of memory is no swap file
+pub never_swapped : {T : Type 0} (r : Result T OpenErr) → IsErrAnd r (λ x. x ≡ opening.NoMemory) → IsErrOf r opening.SwapFound → ⊥
+never_swapped (Ok x) is of = absurd is
+never_swapped (Err x) is of = absurd (cc)
+
 -- an error that is another
 pub never_other : {T : Type 0} (r : Result T OpenErr) (e f : OpenErr) → IsErrAnd r (λ x. x ≡ e) → (e ≡ f → ⊥) → IsErrOf r f → ⊥
 never_other (Ok x) e f is differ of = absurd is

@@ -2,7 +2,7 @@
 use Rattle.std.specs.Prelude.{◌≡◌, ◌<◌, ◌⊎◌, ℕ, List, IfSome, IsErrOf, IsTrue, IsSomeAnd, OnOk}
 use Rattle.std.specs.declared.option.Option.{Option}
 use Rattle.std.specs.declared.result.Result.{Result}
-use Rattle.vs_faults.specs.Faults.{HasCause}
+use Rattle.vs_faults.specs.Faults.{HasCause, IsQuiet}
 use Rattle.vs_host.specs.World.{Tells, Scene, ReadsFolder}
 use Rattle.vs_pair.specs.Acts.{Acts, NoneFails}
 use Rattle.vs_text.specs.Text.{lines_of}
@@ -10,6 +10,7 @@ use Rattle.vs_text.specs.Limits.{IsRefusal, IsWithinLimits}
 use Rattle.vs_text.specs.declared.TheConstants.{MAX_LINE_BYTES}
 use Rattle.vs_text.specs.declared.error.TextErr.{TextErr}
 use Rattle.vs_text.specs.declared.error.TextErr.TheVariants as text
+use Rattle.vs_paged.specs.Pages.{Opening}
 use Rattle.vs_session.specs.declared.open.OpenErr.{OpenErr}
 use Rattle.vs_session.specs.declared.open.OpenErr.TheVariants as opening
 
@@ -42,3 +43,14 @@ pub record IsLook {T E : Type 0} (tells : Tells) (result : Result T E) (Failed :
   pub looks : OnlyLooks tells old new
   pub none : OnOk result (NoneFails tells old new)
   pub cause : HasCause old.folder_faults new.folder_faults Failed
+
+-- The folder was only looked at, by a function that may be refused for other reasons than a failed call. Then no fault was counted.
+pub record IsReading {T : Type 0} (tells : Tells) (result : Result T OpenErr) (old new : Scene) : Type 0 where
+  pub look : IsLook tells result (IsErrOf result opening.Failed) old new
+  pub quiet : IsQuiet old.folder_faults new.folder_faults (IsErrOf result opening.Failed)
+
+-- A text was read out of the folder into this one, which keeps its name. That is never refused for a swap file.
+pub record ReadsInto {T : Type 0} (tells : Tells) (result : Result T OpenErr) (before after : Opening) (old new : Scene) : Type 0 where
+  pub name : after.name ≡ before.name
+  pub others : IsErrOf result opening.SwapFound → ⊥
+  pub reading : IsReading tells result old new

@@ -10,7 +10,7 @@ ghost use Rattle.vs_text.specs.Text.{lines_of};
 ghost use Rattle.vs_machine.specs.Replies.{opening_of};
 ghost use Rattle.vs_safety.specs.Turns as turns;
 ghost use Rattle.vs_session.specs.Fits.{Fits, FitsUndo, HasOpened, HasSwap, IsSettled, Opens, generation_of, names_of};
-ghost use Rattle.vs_session.specs.Open.{IsLook, IsTooLarge, KeepsToLimits, OnlyLooks};
+ghost use Rattle.vs_session.specs.Open.{IsLook, IsReading, IsTooLarge, KeepsToLimits, OnlyLooks};
 ghost use Rattle.vs_session.specs.Opened.{opened, sizes_of, text_in};
 
 use crate::looking::has_file;
@@ -60,8 +60,7 @@ fn read_text<H: Host>(
     ensures swap { IsErrOf result OpenErr.SwapFound → IsTrue (H.tells).folder → HasSwap (names_of_file name.now) (H.scene host.old).folder }
     ensures limits { KeepsToLimits H.tells result (content_of (H.scene host.old) name.now) }
     ensures no_swap { (size : ℕ) → IsErrOf result (OpenErr.TextLimit size) → IsTrue (H.tells).folder → HasSwap (names_of_file name.now) (H.scene host.old).folder → ⊥ }
-    ensures quiet { IsQuiet (H.scene host.old).folder_faults (H.scene host.new).folder_faults (IsErrOf result OpenErr.Failed) }
-    ensures look { IsLook H.tells result (IsErrOf result OpenErr.Failed) (H.scene host.old) (H.scene host.new) }
+    ensures reading { IsReading H.tells result (H.scene host.old) (H.scene host.new) }
 {
     let names = names_for(alloc, name)?;
     let mut text = OpeningText::new(alloc, name)?;

@@ -1,10 +1,9 @@
 // How the text of a file is read.
 ghost use Rattle.std.specs.Prelude.{◌≡◌, ◌<◌, ◌≤◌, ◌+◌, ◌^◌, ◌++◌, [], ℕ, List, None, IfOk, IfSome, IsErrOf, IsSomeAnd, IsTrue, OnOk, drop, length, take};
-ghost use Rattle.vs_faults.specs.Faults.{IsQuiet};
 ghost use Rattle.vs_host.specs.World.{content_of};
 ghost use Rattle.vs_text.specs.Reader.{HasRead, size_read};
 ghost use Rattle.vs_text.specs.Text.{lines_of};
-ghost use Rattle.vs_session.specs.Open.{IsLook, KeepsToLimits, PassesLimit};
+ghost use Rattle.vs_session.specs.Open.{KeepsToLimits, PassesLimit, ReadsInto};
 ghost use Rattle.vs_session.specs.Opened.{sizes_of, text_in};
 
 use crate::OpenErr;
@@ -36,10 +35,7 @@ fn read_piece<H: Host>(
         → PassesLimit (lines_of ((fed ++ piece.new) ++ more)) size }
     ensures told { (size : ℕ) → IsErrOf result (OpenErr.TextLimit size) → IsTrue (H.tells).folder
         → IfSome (content_of (H.scene host.old) name.now) (λ bytes. piece.new ≡ take (length piece.old) (drop at bytes)) }
-    ensures name { text.new.name ≡ text.old.name }
-    ensures others { IsErrOf result OpenErr.SwapFound → ⊥ }
-    ensures quiet { IsQuiet (H.scene host.old).folder_faults (H.scene host.new).folder_faults (IsErrOf result OpenErr.Failed) }
-    ensures look { IsLook H.tells result (IsErrOf result OpenErr.Failed) (H.scene host.old) (H.scene host.new) }
+    ensures reads { ReadsInto H.tells result text.old text.new (H.scene host.old) (H.scene host.new) }
 {
     read_bytes(host, name, at, piece)?;
     reader.feed(alloc, piece)?;
@@ -59,10 +55,7 @@ fn read_pieces<H: Host>(
     requires empty { text.old.text ≡ [] }
     ensures text { OnOk result (IsTrue (H.tells).folder → IfSome (content_of (H.scene host.old) name.now) (λ bytes. text.new.text ≡ lines_of bytes)) }
     ensures limits { KeepsToLimits H.tells result (content_of (H.scene host.old) name.now) }
-    ensures name { text.new.name ≡ text.old.name }
-    ensures others { IsErrOf result OpenErr.SwapFound → ⊥ }
-    ensures quiet { IsQuiet (H.scene host.old).folder_faults (H.scene host.new).folder_faults (IsErrOf result OpenErr.Failed) }
-    ensures look { IsLook H.tells result (IsErrOf result OpenErr.Failed) (H.scene host.old) (H.scene host.new) }
+    ensures reads { ReadsInto H.tells result text.old text.new (H.scene host.old) (H.scene host.new) }
 {
     let mut reader = TextReader::new(alloc)?;
     let mut piece = vec![in alloc; 0u8; PIECE as usize]?;
@@ -97,10 +90,7 @@ pub(crate) fn read_file<H: Host>(
     ensures found { IfOk result (λ found. IsTrue (H.tells).folder → found ≡ sizes_of (content_of (H.scene host.old) name.now)) }
     ensures text { OnOk result (IsTrue (H.tells).folder → text.new.text ≡ text_in (content_of (H.scene host.old) name.now)) }
     ensures limits { KeepsToLimits H.tells result (content_of (H.scene host.old) name.now) }
-    ensures name { text.new.name ≡ text.old.name }
-    ensures others { IsErrOf result OpenErr.SwapFound → ⊥ }
-    ensures quiet { IsQuiet (H.scene host.old).folder_faults (H.scene host.new).folder_faults (IsErrOf result OpenErr.Failed) }
-    ensures look { IsLook H.tells result (IsErrOf result OpenErr.Failed) (H.scene host.old) (H.scene host.new) }
+    ensures reads { ReadsInto H.tells result text.old text.new (H.scene host.old) (H.scene host.new) }
 {
     if !has_file(host, name)? {
         return Ok(None);

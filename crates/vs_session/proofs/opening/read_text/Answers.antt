@@ -1,21 +1,25 @@
-use Rattle.std.proofs.Common.{◌∙◌, ℕ, List, Option, IfSome, ap, subst}
+use Rattle.std.proofs.Common.{◌∙◌, ℕ, List, Option, IfSome, ap, refl, subst}
 use Rattle.vs_text.specs.Limits.{IsWithinLimits}
 use Rattle.vs_text.specs.Text.{lines_of}
 use Rattle.vs_session.specs.Open.{IsTooLarge}
 use Rattle.vs_session.specs.Opened.{sizes_of, text_in}
-use Rattle.vs_session.proofs.OpenLemmas.{failed_no_limit, handed_back, not_failed, same_content}
-use Rattle.vs_session.proofs.LookLemmas.{IsLook-none, IsLook-refused, IsLook-then, KeepsToLimits-other, KeepsToLimits-refused}
+use Rattle.vs_session.proofs.OpenLemmas.{err_is, failed_no_limit, handed_back, handed_on, not_failed, ok_never, same_content}
+use Rattle.vs_session.proofs.LookLemmas.{IsLook-both, IsReading-calm, IsReading-first, IsReading-none, IsReading-refused, KeepsToLimits-other, KeepsToLimits-refused}
 use Rattle.vs_session.proofs.opening.read_text.Goals as goal
 
-pub returns-in_err-names-clause-look : goal.returns-in_err-names-clause-look
-returns-in_err-names-clause-look g c = IsLook-none g.H.World.tells _ (g.H.World.scene c.args.host.now) (not_failed _ c.from_residual.ensures.1)
+pub returns-in_err-names-clause-reading : goal.returns-in_err-names-clause-reading
+returns-in_err-names-clause-reading g c = IsReading-none g.H.World.tells _ (g.H.World.scene c.args.host.now) (not_failed _ c.from_residual.ensures.1)
 
-pub returns-in_err-text-clause-look : goal.returns-in_err-text-clause-look
-returns-in_err-text-clause-look g c = IsLook-none g.H.World.tells _ (g.H.World.scene c.args.host.now) (not_failed _ c.from_residual-in_err-text.ensures.1)
+pub returns-in_err-text-clause-reading : goal.returns-in_err-text-clause-reading
+returns-in_err-text-clause-reading g c = IsReading-none g.H.World.tells _ (g.H.World.scene c.args.host.now) (not_failed _ c.from_residual-in_err-text.ensures.1)
 
-pub returns-in_err-found-clause-look : goal.returns-in_err-found-clause-look
-returns-in_err-found-clause-look g c =
-    IsLook-refused g.H.World.tells _ _ c.in_ok-has_swap.ensures.look c.in_err-found.ensures.look c.from_residual-in_err-found.ensures.1 (handed_back _ _ _ c.from_residual-in_err-found.ensures.1)
+pub returns-in_err-has_swap-clause-reading : goal.returns-in_err-has_swap-clause-reading
+returns-in_err-has_swap-clause-reading g c = IsReading-first g.H.World.tells _ c.in_err-has_swap.ensures.look refl c.from_residual-in_err-has_swap.ensures.1
+
+pub returns-in_err-found-clause-reading : goal.returns-in_err-found-clause-reading
+returns-in_err-found-clause-reading g c =
+    IsReading-refused g.H.World.tells _ _ c.in_ok-has_swap.ensures.look c.in_err-found.ensures.reads.reading c.from_residual-in_err-found.ensures.1 (handed_back _ _ _ c.from_residual-in_err-found.ensures.1)
+    (λ of. handed_on _ _ _ c.from_residual-in_err-found.ensures.1 (err_is of))
 
 pub returns-in_err-found-clause-limits : goal.returns-in_err-found-clause-limits
 returns-in_err-found-clause-limits g c = KeepsToLimits-refused g.H.World.tells _ _ _ c.from_residual-in_err-found.ensures.1 (λ size of.
@@ -42,8 +46,10 @@ returns-clause-limits g c = record {
   limit = λ size of. absurd (cc);
 }
 
-pub returns-clause-look : goal.returns-clause-look
-returns-clause-look g c = IsLook-then g.H.World.tells _ c.in_ok-has_swap.ensures.look c.in_ok-found.ensures.look (λ none. none) (λ failed. absurd (cc))
+pub returns-clause-reading : goal.returns-clause-reading
+returns-clause-reading g c =
+    let look = IsLook-both g.H.World.tells c.in_ok-has_swap.ensures.look c.in_ok-found.ensures.reads.reading.look in
+    IsReading-calm g.H.World.tells _ (g.H.World.scene c.args.host.now) (g.H.World.scene c.read_file.new.host) look.frame look.looks look.none ok_never
 
 pub returns-in_err-found-clause-swap : goal.returns-in_err-found-clause-swap
-returns-in_err-found-clause-swap g c = λ of told. absurd (c.in_err-found.ensures.others (handed_back _ _ _ c.from_residual-in_err-found.ensures.1 of))
+returns-in_err-found-clause-swap g c = λ of told. absurd (c.in_err-found.ensures.reads.others (handed_back _ _ _ c.from_residual-in_err-found.ensures.1 of))

@@ -1,11 +1,11 @@
 use Rattle.std.proofs.Common.{refl, [], ◌≡◌, ◌≤◌, ◌+◌, ◌++◌, ◌∙◌, ℕ, List, length, take, ap, subst, sym, arith, length-append, length-take}
 use Rattle.vs_text.specs.Text.{lines_of}
 use Rattle.vs_text.specs.Limits.{IsWithinLimits}
-use Rattle.vs_session.proofs.OpenLemmas.{limit_of, same_content, piece_within, limit_in_piece, whole_read, limit_at_end, some_read, handed_back, handed_on, not_failed, never_failed, never_swap, fed_next, err_is, ReadsFolder-trans}
+use Rattle.vs_session.proofs.OpenLemmas.{limit_of, same_content, piece_within, limit_in_piece, whole_read, limit_at_end, some_read, handed_back, handed_on, not_failed, never_failed, never_swap, never_swapped, ok_never, fed_next, err_is, ReadsFolder-trans}
 use Rattle.vs_pair.proofs.Acts.{none_fails, none_then}
 use Rattle.vs_text.specs.Reader.{HasRead}
 use Rattle.vs_paged.specs.Pages.{Opening}
-use Rattle.vs_session.proofs.LookLemmas.{IsLook-ended, IsLook-loop, IsLook-none, IsLook-refused, KeepsToLimits-other, KeepsToLimits-refused, looks_none, looks_then}
+use Rattle.vs_session.proofs.LookLemmas.{IsLook-ended, IsReading-calm, IsReading-none, IsReading-refused, KeepsToLimits-other, KeepsToLimits-refused, looks_none, looks_then}
 use Rattle.vs_session.proofs.reading.read_pieces.Goals as goal
 
 pub read_piece-requires-clause-there : goal.read_piece-requires-clause-there
@@ -23,10 +23,6 @@ returns-in_err-read_piece-clause-limits g c = KeepsToLimits-refused g.H.World.te
     limit_in_piece _ _ _ n c.pieces.at _ c.args.size before.fed c.read_piece.new.piece same c.requires.there before.told
     (c.in_err-read_piece.ensures.told n of) (λ more. c.in_err-read_piece.ensures.limit n of before.fed more before.read))
 
-pub returns-in_err-read_piece-clause-quiet : goal.returns-in_err-read_piece-clause-quiet
-returns-in_err-read_piece-clause-quiet g c = λ other.
-    c.in_err-read_piece.ensures.quiet (λ of. other (handed_on _ _ _ c.from_residual-in_err-read_piece.ensures.1 (err_is of))) ∙ c.pieces.invariant.faults
-
 pub pieces-preserved : goal.pieces-preserved
 pieces-preserved g c =
     let before = c.pieces.invariant in
@@ -42,11 +38,11 @@ pieces-preserved g c =
           fed_next _ _ bytes before.fed c.read_piece.new.piece c.pieces.at c.min-count.result _ same is (before.told told bytes is) given (c.in_ok-read_piece.ensures.piece told);
       high = within;
       room = before.room;
-      frame = ReadsFolder-trans (g.H.World.scene c.args.host.now) (g.H.World.scene c.pieces.host) (g.H.World.scene c.read_piece.new.host) before.frame c.in_ok-read_piece.ensures.look.frame;
-      faults = c.in_ok-read_piece.ensures.quiet (λ of. absurd (cc)) ∙ before.faults;
-      name = c.in_ok-read_piece.ensures.name ∙ before.name;
-      looks = looks_then g.H.World.tells (g.H.World.scene c.args.host.now) (g.H.World.scene c.pieces.host) (g.H.World.scene c.read_piece.new.host) before.none before.looks c.in_ok-read_piece.ensures.look.looks;
-      none = none_then g.H.World.tells (g.H.World.scene c.args.host.now) (g.H.World.scene c.pieces.host) (g.H.World.scene c.read_piece.new.host) before.none c.in_ok-read_piece.ensures.look.none;
+      frame = ReadsFolder-trans (g.H.World.scene c.args.host.now) (g.H.World.scene c.pieces.host) (g.H.World.scene c.read_piece.new.host) before.frame c.in_ok-read_piece.ensures.reads.reading.look.frame;
+      faults = c.in_ok-read_piece.ensures.reads.reading.quiet (λ of. absurd (cc)) ∙ before.faults;
+      name = c.in_ok-read_piece.ensures.reads.name ∙ before.name;
+      looks = looks_then g.H.World.tells (g.H.World.scene c.args.host.now) (g.H.World.scene c.pieces.host) (g.H.World.scene c.read_piece.new.host) before.none before.looks c.in_ok-read_piece.ensures.reads.reading.look.looks;
+      none = none_then g.H.World.tells (g.H.World.scene c.args.host.now) (g.H.World.scene c.pieces.host) (g.H.World.scene c.read_piece.new.host) before.none c.in_ok-read_piece.ensures.reads.reading.look.none;
     }
 
 pub returns-in_err-rest-clause-limits : goal.returns-in_err-rest-clause-limits
@@ -57,10 +53,14 @@ returns-in_err-rest-clause-limits g c = KeepsToLimits-refused g.H.World.tells _ 
     limit_at_end _ _ n before.fed (λ told. whole_read _ c.pieces.at c.args.size before.fed (c.requires.there told) end (before.told told))
     (limit_of _ _ _ c.from_residual-in_err-rest.ensures.1 answer.refused n is))
 
-pub returns-in_err-rest-clause-look : goal.returns-in_err-rest-clause-look
-returns-in_err-rest-clause-look g c =
+pub returns-in_err-rest-clause-reads : goal.returns-in_err-rest-clause-reads
+returns-in_err-rest-clause-reads g c =
     let before = c.pieces.invariant in
-    IsLook-loop g.H.World.tells _ (g.H.World.scene c.args.host.now) (g.H.World.scene c.pieces.host) before.frame before.looks before.none (never_failed _ _ c.from_residual-in_err-rest.ensures.1)
+    record {
+      name = before.name;
+      others = never_swap _ _ c.from_residual-in_err-rest.ensures.1;
+      reading = IsReading-calm g.H.World.tells _ (g.H.World.scene c.args.host.now) (g.H.World.scene c.pieces.host) before.frame before.looks before.none (never_failed _ _ c.from_residual-in_err-rest.ensures.1);
+    }
 
 pub push_lines-requires : goal.push_lines-requires
 push_lines-requires g c =
@@ -68,10 +68,14 @@ push_lines-requires g c =
     let W : List (List ℕ) → Type 0 = λ text. IsWithinLimits text in
     subst W (sym (ap (λ (rest : List (List ℕ)). c.pieces.text.text ++ rest) c.lines.ensures ∙ answer.text)) answer.fits
 
-pub returns-in_err-push_lines-clause-look : goal.returns-in_err-push_lines-clause-look
-returns-in_err-push_lines-clause-look g c =
+pub returns-in_err-push_lines-clause-reads : goal.returns-in_err-push_lines-clause-reads
+returns-in_err-push_lines-clause-reads g c =
     let before = c.pieces.invariant in
-    IsLook-loop g.H.World.tells _ (g.H.World.scene c.args.host.now) (g.H.World.scene c.pieces.host) before.frame before.looks before.none (not_failed _ c.from_residual-in_err-push_lines.ensures.1)
+    record {
+      name = ap (λ (o : Opening). o.name) c.in_err-push_lines.ensures.err ∙ before.name;
+      others = never_swapped _ c.from_residual-in_err-push_lines.ensures.1;
+      reading = IsReading-calm g.H.World.tells _ (g.H.World.scene c.args.host.now) (g.H.World.scene c.pieces.host) before.frame before.looks before.none (not_failed _ c.from_residual-in_err-push_lines.ensures.1);
+    }
 
 pub returns-in_err-push_lines-clause-limits : goal.returns-in_err-push_lines-clause-limits
 returns-in_err-push_lines-clause-limits g c = KeepsToLimits-other g.H.World.tells _ _ _ c.from_residual-in_err-push_lines.ensures.1 (λ size is. absurd (cc))
@@ -94,21 +98,39 @@ returns-clause-limits g c = record {
   limit = λ n is. absurd (cc);
 }
 
-pub returns-clause-look : goal.returns-clause-look
-returns-clause-look g c =
+pub returns-clause-reads : goal.returns-clause-reads
+returns-clause-reads g c =
     let before = c.pieces.invariant in
-    IsLook-loop g.H.World.tells _ (g.H.World.scene c.args.host.now) (g.H.World.scene c.pieces.host) before.frame before.looks before.none (λ of. absurd (cc))
+    record {
+      name = ap (λ (o : Opening). o.name) c.in_ok-push_lines.ensures.ok ∙ before.name;
+      others = ok_never;
+      reading = IsReading-calm g.H.World.tells _ (g.H.World.scene c.args.host.now) (g.H.World.scene c.pieces.host) before.frame before.looks before.none ok_never;
+    }
 
-pub returns-in_err-reader-clause-look : goal.returns-in_err-reader-clause-look
-returns-in_err-reader-clause-look g c = IsLook-none g.H.World.tells _ (g.H.World.scene c.args.host.now) (not_failed _ c.from_residual.ensures.1)
+pub returns-in_err-reader-clause-reads : goal.returns-in_err-reader-clause-reads
+returns-in_err-reader-clause-reads g c = record {
+  name = refl;
+  others = never_swapped _ c.from_residual.ensures.1;
+  reading = IsReading-none g.H.World.tells _ (g.H.World.scene c.args.host.now) (not_failed _ c.from_residual.ensures.1);
+}
 
-pub returns-in_err-piece-clause-look : goal.returns-in_err-piece-clause-look
-returns-in_err-piece-clause-look g c = IsLook-none g.H.World.tells _ (g.H.World.scene c.args.host.now) (not_failed _ c.from_residual-in_err-piece.ensures.1)
+pub returns-in_err-piece-clause-reads : goal.returns-in_err-piece-clause-reads
+returns-in_err-piece-clause-reads g c = record {
+  name = refl;
+  others = never_swapped _ c.from_residual-in_err-piece.ensures.1;
+  reading = IsReading-none g.H.World.tells _ (g.H.World.scene c.args.host.now) (not_failed _ c.from_residual-in_err-piece.ensures.1);
+}
 
-pub returns-in_err-read_piece-clause-look : goal.returns-in_err-read_piece-clause-look
-returns-in_err-read_piece-clause-look g c =
+pub returns-in_err-read_piece-clause-reads : goal.returns-in_err-read_piece-clause-reads
+returns-in_err-read_piece-clause-reads g c =
     let before = c.pieces.invariant in
-    IsLook-refused g.H.World.tells _ _ (IsLook-ended g.H.World.tells (g.H.World.scene c.args.host.now) (g.H.World.scene c.pieces.host) before.frame before.looks before.none) c.in_err-read_piece.ensures.look c.from_residual-in_err-read_piece.ensures.1 (handed_back _ _ _ c.from_residual-in_err-read_piece.ensures.1)
+    let reads = c.in_err-read_piece.ensures.reads in
+    record {
+      name = reads.name ∙ before.name;
+      others = λ of. reads.others (handed_back _ _ _ c.from_residual-in_err-read_piece.ensures.1 of);
+      reading = IsReading-refused g.H.World.tells _ _ (IsLook-ended g.H.World.tells (g.H.World.scene c.args.host.now) (g.H.World.scene c.pieces.host) before.frame before.looks before.none) reads.reading c.from_residual-in_err-read_piece.ensures.1
+          (handed_back _ _ _ c.from_residual-in_err-read_piece.ensures.1) (λ of. handed_on _ _ _ c.from_residual-in_err-read_piece.ensures.1 (err_is of));
+    }
 
 pub pieces-init : goal.pieces-init
 pieces-init g c = record {
@@ -124,9 +146,3 @@ pieces-init g c = record {
   looks = looks_none g.H.World.tells (g.H.World.scene c.args.host.now);
   none = none_fails g.H.World.tells (g.H.World.scene c.args.host.now);
 }
-
-pub returns-in_err-read_piece-clause-others : goal.returns-in_err-read_piece-clause-others
-returns-in_err-read_piece-clause-others g c = λ of. c.in_err-read_piece.ensures.others (handed_back _ _ _ c.from_residual-in_err-read_piece.ensures.1 of)
-
-pub returns-in_err-rest-clause-others : goal.returns-in_err-rest-clause-others
-returns-in_err-rest-clause-others g c = never_swap _ _ c.from_residual-in_err-rest.ensures.1

@@ -33,7 +33,7 @@ returns-in_err-history-clause-barred_looks g c = λ told has. looks_none g.H.Wor
 
 pub returns-in_err-opening-clause-acts : goal.returns-in_err-opening-clause-acts
 returns-in_err-opening-clause-acts g c =
-    opens_looks g.H.World.tells c.args.name.now (g.H.World.scene c.args.host.now) (g.H.World.scene c.read_text.new.host) c.requires.settled c.in_err-opening.ensures.look.looks
+    opens_looks g.H.World.tells c.args.name.now (g.H.World.scene c.args.host.now) (g.H.World.scene c.read_text.new.host) c.requires.settled c.in_err-opening.ensures.reading.look.looks
 
 pub returns-in_err-opening-clause-limit : goal.returns-in_err-opening-clause-limit
 returns-in_err-opening-clause-limit g c = λ size of. c.in_err-opening.ensures.limits.limit size (handed_back _ _ _ c.from_residual-in_err-opening.ensures.1 of)
@@ -44,7 +44,7 @@ start-requires g c = record {
       let old = g.H.World.scene c.args.host.now in
       let mid = g.H.World.scene c.read_text.new.host in
       let free = is_fresh (names_of_file c.args.name.now) old.folder (c.requires.settled told) (c.in_ok-opening.ensures.free told) in
-      let same = subst (λ (d : Disk). IsFresh (names_of_file c.args.name.now) d) (sym (ap (λ (s : Scene). s.folder) c.in_ok-opening.ensures.look.frame)) free in
+      let same = subst (λ (d : Disk). IsFresh (names_of_file c.args.name.now) d) (sym (ap (λ (s : Scene). s.folder) c.in_ok-opening.ensures.reading.look.frame)) free in
       subst (λ (n : List ℕ). IsFresh (names_of_file n) mid.folder) (sym c.in_ok-opening.ensures.name) same;
 }
 
@@ -52,14 +52,14 @@ pub returns-in_err-text-clause-acts : goal.returns-in_err-text-clause-acts
 returns-in_err-text-clause-acts g c =
     let mid = g.H.World.scene c.read_text.new.host in
     let new = g.H.World.scene c.start.new.host in
-    opens_then g.H.World.tells c.args.name.now c.in_ok-opening.opening.text (g.H.World.scene c.args.host.now) mid new c.requires.settled c.in_ok-opening.ensures.text c.in_ok-opening.ensures.look.none c.in_ok-opening.ensures.look.looks
+    opens_then g.H.World.tells c.args.name.now c.in_ok-opening.opening.text (g.H.World.scene c.args.host.now) mid new c.requires.settled c.in_ok-opening.ensures.text c.in_ok-opening.ensures.reading.look.none c.in_ok-opening.ensures.reading.look.looks
     (subst (λ (n : List ℕ). Acts g.H.World.tells (folder.Starting (names_of_file n) c.in_ok-opening.opening.text) mid new) c.in_ok-opening.ensures.name c.in_err-text.ensures.acts)
 
 pub returns-clause-acts : goal.returns-clause-acts
 returns-clause-acts g c =
     let mid = g.H.World.scene c.read_text.new.host in
     let new = g.H.World.scene c.start.new.host in
-    opens_then g.H.World.tells c.args.name.now c.in_ok-opening.opening.text (g.H.World.scene c.args.host.now) mid new c.requires.settled c.in_ok-opening.ensures.text c.in_ok-opening.ensures.look.none c.in_ok-opening.ensures.look.looks
+    opens_then g.H.World.tells c.args.name.now c.in_ok-opening.opening.text (g.H.World.scene c.args.host.now) mid new c.requires.settled c.in_ok-opening.ensures.text c.in_ok-opening.ensures.reading.look.none c.in_ok-opening.ensures.reading.look.looks
     (subst (λ (n : List ℕ). Acts g.H.World.tells (folder.Starting (names_of_file n) c.in_ok-opening.opening.text) mid new) c.in_ok-opening.ensures.name c.in_ok-text.ensures.acts)
 
 pub returns-clause-barred_looks : goal.returns-clause-barred_looks
