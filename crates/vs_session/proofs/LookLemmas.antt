@@ -1,7 +1,7 @@
 -- One look at the folder after another, and what an opening makes of it.
 use Rattle.std.proofs.Common.{◌≡◌, inl, inr, ℕ, List, Option, Some, None, Result, Ok, Err, IsErr, IsErrAnd, IsErrOf, IfSome, IsSome, IsTrue, OnOk, refl, sym, ◌∙◌, subst}
 use Rattle.vs_faults.specs.Faults.{HasCause}
-use Rattle.vs_faults.proofs.Causes.{HasCause-trans, cause_none}
+use Rattle.vs_faults.proofs.Causes.{HasCause-trans}
 use Rattle.vs_host.specs.Disk.{Disk, Name, IsImage, IsImageOf, content_in}
 use Rattle.vs_host.specs.Trace.{Kind}
 use Rattle.vs_host.specs.Names.{names_of_file}
@@ -49,10 +49,6 @@ is_look tells kind names result old new frame cause told quiet = record {
   none = on_ok_as result (new.folder_faults ≡ old.folder_faults) (NoneFails tells old new) (λ same. look_none tells kind names result old new frame told same) quiet;
   cause = cause;
 }
-
--- before the first call
-pub IsLook-none : {T E F : Type 0} (tells : Tells) (result : Result T E) (scene : Scene) → (F → ⊥) → IsLook tells result F scene scene
-IsLook-none tells result scene never = record { frame = refl; looks = looks_none tells scene; none = on_ok_all result (none_fails tells scene); cause = cause_none never }
 
 -- after calls none of which failed
 pub IsLook-loop : {T E F : Type 0} (tells : Tells) (result : Result T E) (old new : Scene) → ReadsFolder old new → OnlyLooks tells old new → NoneFails tells old new → (F → ⊥) → IsLook tells result F old new
