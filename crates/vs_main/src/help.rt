@@ -54,8 +54,9 @@ Example:
   b
   quit
 
-While a file is written it or its backup is whole. A script that ends without q
-leaves swap files with its text.
+While a file is written it or its backup is whole, unless backup and
+writebackup are both off. A script that ends without q leaves swap files with
+its text.
 
 Exit status; from 2 on a line on standard error says the same:
    0  every command did its work, or the text was recovered, and so on
