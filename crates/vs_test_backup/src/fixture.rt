@@ -22,7 +22,7 @@ pub const KEEPS: [Keep; 3] = [Keep::Read, Keep::Synced, Keep::Byte(b'?')];
 pub const PREFIXES: [u32; 5] = [0, 1, 2, 3, 4];
 
 /// Options by whether a backup is kept, whether one is made, and how.
-pub fn options(backup: bool, writebackup: bool, copy: CopyMode) -> WriteOptions {
+pub(crate) fn options(backup: bool, writebackup: bool, copy: CopyMode) -> WriteOptions {
     WriteOptions {
         backup,
         writebackup,
@@ -39,7 +39,7 @@ fn put(alloc: Global, host: &mut MemHost, name: &str, bytes: &[u8]) -> Result<()
 }
 
 /// A folder with these files, and the text that is to be written.
-pub fn desk_with(alloc: Global, files: &[(&str, &[u8])]) -> Result<TextDesk<MemHost>, Fail>
+pub(crate) fn desk_with(alloc: Global, files: &[(&str, &[u8])]) -> Result<TextDesk<MemHost>, Fail>
     ensures { IfOk result (λ desk. AreSound desk.text) }
 {
     let mut folder = MemHost::new(alloc, Vec::new(alloc))?;
@@ -60,7 +60,7 @@ fn names_of(alloc: Global, name: &str) -> Result<Names, Fail>
 }
 
 /// Writes the text of the desk into the file of this name.
-pub fn write_to<F: Folder>(
+pub(crate) fn write_to<F: Folder>(
     alloc: Global,
     desk: &mut TextDesk<F>,
     name: &str,
@@ -73,7 +73,7 @@ pub fn write_to<F: Folder>(
 }
 
 /// The desk after a write into `f` that was stopped after so many calls.
-pub fn stopped(
+pub(crate) fn stopped(
     alloc: Global,
     files: &[(&str, &[u8])],
     options: &WriteOptions,
@@ -86,7 +86,7 @@ pub fn stopped(
 }
 
 /// What an image has under a name; `-` where it has no file.
-pub fn left(
+pub(crate) fn left(
     alloc: Global,
     host: &MemHost,
     names: u32,
@@ -99,7 +99,12 @@ pub fn left(
 }
 
 /// Whether each image has under the name one of these bytes; `-` stands for no file.
-pub fn always(alloc: Global, host: &MemHost, name: &str, allowed: &[&[u8]]) -> Result<bool, Fail> {
+pub(crate) fn always(
+    alloc: Global,
+    host: &MemHost,
+    name: &str,
+    allowed: &[&[u8]],
+) -> Result<bool, Fail> {
     for names in PREFIXES {
         for keep in KEEPS {
             let bytes = left(alloc, host, names, keep, name)?;

@@ -24,7 +24,7 @@ pub struct Watched {
 }
 
 impl Watched {
-    pub fn new(alloc: Global, inner: MemHost) -> Watched {
+    pub(crate) fn new(alloc: Global, inner: MemHost) -> Watched {
         Watched {
             inner,
             most: 0,
@@ -34,7 +34,7 @@ impl Watched {
     }
 
     /// The file of this name gets these mode bits.
-    pub fn note(&mut self, name: &str, mode: u32)
+    pub(crate) fn note(&mut self, name: &str, mode: u32)
         ensures inner { self.new.inner ≡ self.old.inner }
     {
         if let Ok(name) = String::from_str(self.alloc, name) {

@@ -21,7 +21,7 @@ pub const OLD: &[u8] = b"a\n";
 pub const NEW: &[u8] = b"a\nx\n";
 
 /// A folder with the file `f`, in which each call after so many fails.
-pub fn folder_with_file(alloc: Global, stop: u64) -> Result<MemHost, Fail>
+pub(crate) fn folder_with_file(alloc: Global, stop: u64) -> Result<MemHost, Fail>
     ensures { IfOk result (λ host. IsFresh (names_of_file (codes "f")) (folder_of host)) }
 {
     let mut host = MemHost::new(alloc, Vec::new(alloc))?;
@@ -31,7 +31,7 @@ pub fn folder_with_file(alloc: Global, stop: u64) -> Result<MemHost, Fail>
 }
 
 /// The new text with its swap files.
-pub fn start_new<F: Folder>(alloc: Global, host: &mut F) -> Result<PagedText, Fail>
+pub(crate) fn start_new<F: Folder>(alloc: Global, host: &mut F) -> Result<PagedText, Fail>
     requires fresh { IsTrue F.tells.folder → IsFresh (names_of_file (codes "f")) (F.scene host.old).folder }
     ensures started { IfOk result (λ text. IsTrue F.tells.folder → IsStarted text (F.scene host.new).folder) }
 {
@@ -48,7 +48,7 @@ pub fn start_new<F: Folder>(alloc: Global, host: &mut F) -> Result<PagedText, Fa
 }
 
 /// Writes the new text into the file once, or once again, and gives the last answer.
-pub fn write_new<F: Folder>(
+pub(crate) fn write_new<F: Folder>(
     alloc: Global,
     host: &mut F,
     options: &WriteOptions,

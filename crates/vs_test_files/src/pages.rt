@@ -22,7 +22,7 @@ pub const PAGE_0: [(usize, &[u8]); 11] = [
 ];
 
 /// The host after `edit f` over this file with an empty script.
-pub fn after_edit(alloc: Global, file: Option<&[u8]>) -> Result<MemHost, Fail> {
+pub(crate) fn after_edit(alloc: Global, file: Option<&[u8]>) -> Result<MemHost, Fail> {
     let mut host = MemHost::new(alloc, Vec::new(alloc))?;
     if let Some(bytes) = file {
         host.put(alloc, "f", Vec::from_slice(alloc, bytes)?)?;
@@ -38,13 +38,13 @@ pub fn after_edit(alloc: Global, file: Option<&[u8]>) -> Result<MemHost, Fail> {
 }
 
 /// A page of a file, where it lies in it as a whole.
-pub fn page(file: &[u8], at: usize) -> Option<&[u8]> {
+pub(crate) fn page(file: &[u8], at: usize) -> Option<&[u8]> {
     let start = at.checked_mul(PAGE_SIZE)?;
     file.get(start..start.checked_add(PAGE_SIZE)?)
 }
 
 /// Whether a page has these bytes at these places, and zeros elsewhere.
-pub fn is_page(page: Option<&[u8]>, parts: &[(usize, &[u8])]) -> bool {
+pub(crate) fn is_page(page: Option<&[u8]>, parts: &[(usize, &[u8])]) -> bool {
     let Some(page) = page else {
         return false;
     };

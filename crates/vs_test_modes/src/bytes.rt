@@ -17,7 +17,7 @@ pub struct Swap<'a> {
 }
 
 /// A swap file of the pair that is open.
-pub fn open<'a>(generation: u8, lines: &'a [&'a [u8]]) -> Swap<'a> {
+pub(crate) fn open<'a>(generation: u8, lines: &'a [&'a [u8]]) -> Swap<'a> {
     Swap {
         identifier: b"b0",
         page_size: 4096,
@@ -96,7 +96,7 @@ fn put_data(bytes: &mut Vec<u8>, swap: &Swap<'_>) -> Result<(), Fail> {
 }
 
 /// The three pages of a swap file.
-pub fn swap_file(alloc: Global, swap: &Swap<'_>) -> Result<Vec<u8>, Fail> {
+pub(crate) fn swap_file(alloc: Global, swap: &Swap<'_>) -> Result<Vec<u8>, Fail> {
     let mut bytes = Vec::new(alloc);
     put_zero(&mut bytes, swap)?;
     put_root(&mut bytes, swap)?;

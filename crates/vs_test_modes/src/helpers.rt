@@ -9,7 +9,7 @@ use vs_memory::MemHost;
 use vs_top::run;
 
 /// A host with these swap files of the file `f`, where they are given, and two other files.
-pub fn host_with(
+pub(crate) fn host_with(
     alloc: Global,
     swp: Option<Swap<'_>>,
     swo: Option<Swap<'_>>,
@@ -30,7 +30,7 @@ pub fn host_with(
 }
 
 /// Whether these words end with the status, and this is the whole output.
-pub fn answers(
+pub(crate) fn answers(
     alloc: Global,
     host: &mut MemHost,
     words: [&str; 2],
@@ -49,6 +49,6 @@ pub fn answers(
 }
 
 /// Whether the file `f` and its backup are as they were put.
-pub fn others_are_left(host: &MemHost) -> bool {
+pub(crate) fn others_are_left(host: &MemHost) -> bool {
     host.file("f") == Some(b"old\n".as_slice()) && host.file("f~") == Some(b"older\n".as_slice())
 }

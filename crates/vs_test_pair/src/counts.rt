@@ -18,7 +18,7 @@ use vs_zero::Zero;
 const PAGES: usize = 63;
 
 // A pair that was started with pages of zeros, or none where that failed.
-pub fn start_pages<F: Folder>(alloc: Global, host: &mut F) -> Result<Option<SwapPair>, Fail>
+pub(crate) fn start_pages<F: Folder>(alloc: Global, host: &mut F) -> Result<Option<SwapPair>, Fail>
     requires fresh { IsTrue F.tells.folder → IsFresh (names_of_file (codes "f")) (F.scene host.old).folder }
     ensures fits { IfOk result (λ found. IfSome found (λ pair. IsTrue F.tells.folder → Fits pair (F.scene host.new).folder)) }
     ensures there { IfOk result (λ found. IfSome found (λ pair. HasText pair)) }

@@ -69,7 +69,7 @@ fn start_text<F: Folder>(alloc: Global, host: &mut F, text: u8) -> Result<Option
 }
 
 // Syncs this text, and says whether that succeeded.
-pub fn sync_text<F: Folder>(
+pub(crate) fn sync_text<F: Folder>(
     alloc: Global,
     pair: &mut SwapPair,
     host: &mut F,
@@ -95,7 +95,7 @@ pub fn sync_text<F: Folder>(
 }
 
 /// Starts a pair with the text 1, syncs the texts 2 and 3, and ends it.
-pub fn live<F: Folder>(alloc: Global, host: &mut F) -> Result<Life, Fail>
+pub(crate) fn live<F: Folder>(alloc: Global, host: &mut F) -> Result<Life, Fail>
     requires fresh { IsTrue F.tells.folder → IsFresh (names_of_file (codes "f")) (F.scene host.old).folder }
 {
     let Some(mut pair) = start_text(alloc, host, 1)? else {
@@ -128,7 +128,7 @@ fn put_tree<F: Folder>(alloc: Global, pair: &mut SwapPair, host: &mut F) -> Resu
 }
 
 /// Starts a pair of the text without lines, and says whether that succeeded.
-pub fn start_empty<F: Folder>(alloc: Global, host: &mut F) -> Result<bool, Fail>
+pub(crate) fn start_empty<F: Folder>(alloc: Global, host: &mut F) -> Result<bool, Fail>
     requires fresh { IsTrue F.tells.folder → IsFresh (names_of_file (codes "f")) (F.scene host.old).folder }
 {
     let mut pair = SwapPair::new(alloc, NAME)?;

@@ -33,7 +33,7 @@ fn every_keep(alloc: Global) -> Result<Vec<Keep>, Fail> {
 }
 
 // A folder without files, in which this call fails, and each one after `stop`. Calls are counted from 1.
-pub fn empty_folder(alloc: Global, failing: u64, stop: u64) -> Result<MemHost, Fail>
+pub(crate) fn empty_folder(alloc: Global, failing: u64, stop: u64) -> Result<MemHost, Fail>
     ensures { IfOk result (λ host. IsFresh (names_of_file (codes "f")) (folder_of host)) }
 {
     let mut host = MemHost::new(alloc, Vec::new(alloc))?;

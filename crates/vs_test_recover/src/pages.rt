@@ -101,7 +101,7 @@ fn add_block(bytes: &mut Vec<u8>, block: &Block<'_>) -> Result<(), Fail> {
 }
 
 /// The file of these blocks, cut to so many bytes where it has more.
-pub fn file_of(alloc: Global, blocks: &[Block<'_>], len: usize) -> Result<Vec<u8>, Fail> {
+pub(crate) fn file_of(alloc: Global, blocks: &[Block<'_>], len: usize) -> Result<Vec<u8>, Fail> {
     let mut bytes = Vec::new(alloc);
     for block in blocks {
         add_block(&mut bytes, block)?;
@@ -111,7 +111,7 @@ pub fn file_of(alloc: Global, blocks: &[Block<'_>], len: usize) -> Result<Vec<u8
 }
 
 /// A folder with these swap files of `f`, where they have some bytes.
-pub fn folder_of(alloc: Global, swp: Vec<u8>, swo: Vec<u8>) -> Result<MemHost, Fail> {
+pub(crate) fn folder_of(alloc: Global, swp: Vec<u8>, swo: Vec<u8>) -> Result<MemHost, Fail> {
     let mut host = MemHost::new(alloc, Vec::new(alloc))?;
     if !swp.is_empty() {
         host.put(alloc, ".f.swp", swp)?;
@@ -123,7 +123,7 @@ pub fn folder_of(alloc: Global, swp: Vec<u8>, swo: Vec<u8>) -> Result<MemHost, F
 }
 
 /// What is said of an image: the generation and the first bytes of the lines of a file that stands, or a word.
-pub fn said(alloc: Global, image: &Image) -> Result<String, Fail> {
+pub(crate) fn said(alloc: Global, image: &Image) -> Result<String, Fail> {
     match image {
         Image::Standing { generation, text } => {
             let mut words = format!(in alloc; "stands {generation} ")?;
@@ -144,7 +144,7 @@ pub fn said(alloc: Global, image: &Image) -> Result<String, Fail> {
 }
 
 /// What is said of the file of these blocks, cut to so many bytes.
-pub fn said_of(alloc: Global, blocks: &[Block<'_>], len: usize) -> Result<String, Fail> {
+pub(crate) fn said_of(alloc: Global, blocks: &[Block<'_>], len: usize) -> Result<String, Fail> {
     let bytes = file_of(alloc, blocks, len)?;
     let mut host = MemHost::new(alloc, Vec::new(alloc))?;
     host.put(alloc, ".f.swp", bytes)?;

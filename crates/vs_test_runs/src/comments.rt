@@ -22,7 +22,7 @@ pub struct Comments {
 
 impl Comments {
     /// A comment of 65,535 bytes and its end, 16,384 times, and these bytes after it.
-    pub fn of_a_gibibyte(alloc: Global, tail: &[u8]) -> Result<Comments, Fail> {
+    pub(crate) fn of_a_gibibyte(alloc: Global, tail: &[u8]) -> Result<Comments, Fail> {
         let mut line = Vec::from_slice(alloc, b"\"")?;
         line.resize(65_535, b'x')?;
         line.push(b'\n')?;

@@ -9,7 +9,7 @@ use vs_memory::MemHost;
 use vs_top::{Report, run};
 
 /// A host with the file `f`, where there is one, and a script.
-pub fn host_with(alloc: Global, file: Option<&[u8]>, script: &[u8]) -> Result<MemHost, Fail>
+pub(crate) fn host_with(alloc: Global, file: Option<&[u8]>, script: &[u8]) -> Result<MemHost, Fail>
     ensures answers { IfOk result (λ host. host.answers ≡ []) }
     ensures settled { IfOk result (λ host. (folder_of host).pending ≡ []) }
 {
@@ -20,7 +20,7 @@ pub fn host_with(alloc: Global, file: Option<&[u8]>, script: &[u8]) -> Result<Me
     Ok(host)
 }
 
-pub fn arguments_of(alloc: Global, arguments: &[&str]) -> Result<Vec<String>, Fail> {
+pub(crate) fn arguments_of(alloc: Global, arguments: &[&str]) -> Result<Vec<String>, Fail> {
     let mut list = Vec::new(alloc);
     for argument in arguments {
         list.push(String::from_str(alloc, argument)?)?;
@@ -29,7 +29,7 @@ pub fn arguments_of(alloc: Global, arguments: &[&str]) -> Result<Vec<String>, Fa
 }
 
 /// Runs `edit f`.
-pub fn edit_f<H: Host>(alloc: Global, host: &mut H) -> Result<Report, Fail>
+pub(crate) fn edit_f<H: Host>(alloc: Global, host: &mut H) -> Result<Report, Fail>
     requires clock { IsTrue (H.tells).clock → (H.scene host.old).answers ≡ [] }
     requires settled { IsTrue (H.tells).folder → (H.scene host.old).folder.pending ≡ [] }
 {

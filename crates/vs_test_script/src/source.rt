@@ -49,7 +49,7 @@ fn from(bytes: &[u8], at: u64) -> &[u8] {
 
 impl Source {
     /// Bytes that are all there is.
-    pub fn of(alloc: Global, bytes: &[u8], piece: usize) -> Result<Source, Fail> {
+    pub(crate) fn of(alloc: Global, bytes: &[u8], piece: usize) -> Result<Source, Fail> {
         Ok(Source {
             front: Vec::from_slice(alloc, bytes)?,
             unit: Vec::new(alloc),

@@ -39,7 +39,7 @@ fn take_synced<'o, 'a>(
 }
 
 /// What may be recovered where a run over the file, with these commands and `q!`, wrote this output and no more.
-pub fn allowed_after<'a>(
+pub(crate) fn allowed_after<'a>(
     alloc: Global,
     turns: &'a [Turn],
     output: &[u8],

@@ -8,7 +8,7 @@ use vs_memory::MemHost;
 use vs_top::{Report, run};
 
 /// A host with the file `f`, where there is one, and a script.
-pub fn host_with(alloc: Global, file: Option<&[u8]>, script: &[u8]) -> Result<MemHost, Fail>
+pub(crate) fn host_with(alloc: Global, file: Option<&[u8]>, script: &[u8]) -> Result<MemHost, Fail>
     ensures answers { IfOk result (λ host. host.answers ≡ []) }
     ensures settled { IfOk result (λ host. (folder_of host).pending ≡ []) }
 {
@@ -20,7 +20,7 @@ pub fn host_with(alloc: Global, file: Option<&[u8]>, script: &[u8]) -> Result<Me
 }
 
 /// Runs `edit f`.
-pub fn edit_f(alloc: Global, host: &mut MemHost) -> Result<Report, Fail>
+pub(crate) fn edit_f(alloc: Global, host: &mut MemHost) -> Result<Report, Fail>
     requires clock { host.old.answers ≡ [] }
     requires settled { (folder_of host.old).pending ≡ [] }
 {
@@ -31,7 +31,7 @@ pub fn edit_f(alloc: Global, host: &mut MemHost) -> Result<Report, Fail>
 }
 
 /// The host after a run over the file `f` in which the call `failing` fails, and each one after `stop`. Calls are counted from 1.
-pub fn after_run(
+pub(crate) fn after_run(
     alloc: Global,
     file: &[u8],
     script: &[u8],

@@ -20,7 +20,7 @@ pub const KEEPS: [Keep; 7] = [
 ];
 
 /// The same with each byte.
-pub fn every_keep(alloc: Global) -> Result<Vec<Keep>, Fail> {
+pub(crate) fn every_keep(alloc: Global) -> Result<Vec<Keep>, Fail> {
     let mut keeps = Vec::new(alloc);
     keeps.push(Keep::Read)?;
     keeps.push(Keep::Synced)?;
@@ -68,7 +68,7 @@ fn find_wrong(
 }
 
 /// The image of a stop of which something else is recovered than is allowed, where there is one.
-pub fn find_wrong_of(
+pub(crate) fn find_wrong_of(
     alloc: Global,
     host: &MemHost,
     story: &Story,
@@ -84,7 +84,7 @@ pub fn find_wrong_of(
 }
 
 /// A stop of a run in which this call fails, where none does if it is 0, of which something else is recovered, where there is one.
-pub fn find_wrong_stop(
+pub(crate) fn find_wrong_stop(
     alloc: Global,
     story: &Story,
     failing: u64,
@@ -104,7 +104,7 @@ pub fn find_wrong_stop(
 }
 
 /// Whether one of these texts, and nothing else, is recovered after a stop of a run in which a call fails.
-pub fn leaves(
+pub(crate) fn leaves(
     alloc: Global,
     story: &Story,
     failing: u64,

@@ -72,7 +72,7 @@ impl Story {
         }
     }
 
-    pub fn of(alloc: Global, text: &str) -> Result<Story, Fail> {
+    pub(crate) fn of(alloc: Global, text: &str) -> Result<Story, Fail> {
         let mut story = Story {
             script: Vec::new(alloc),
             turns: Vec::new(alloc),

@@ -20,7 +20,7 @@ const LINES: [(&str, &[u8]); 4] = [
 const OTHERS: [&str; 7] = ["0", "0100001", "100001", "+1", "-1", "", "1x"];
 
 /// A host whose folder has one file, or none.
-pub fn host_with(alloc: Global, file: Option<(&str, &[u8])>) -> Result<MemHost, Fail>
+pub(crate) fn host_with(alloc: Global, file: Option<(&str, &[u8])>) -> Result<MemHost, Fail>
     ensures answers { IfOk result (λ host. host.answers ≡ []) }
     ensures settled { IfOk result (λ host. (folder_of host).pending ≡ []) }
 {
@@ -32,7 +32,7 @@ pub fn host_with(alloc: Global, file: Option<(&str, &[u8])>) -> Result<MemHost, 
 }
 
 /// The report of `stress` with this argument.
-pub fn stressed(alloc: Global, host: &mut MemHost, number: &str) -> Result<Report, Fail>
+pub(crate) fn stressed(alloc: Global, host: &mut MemHost, number: &str) -> Result<Report, Fail>
     requires answers { host.old.answers ≡ [] }
     requires settled { (folder_of host.old).pending ≡ [] }
 {

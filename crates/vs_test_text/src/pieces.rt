@@ -7,7 +7,7 @@ use std::alloc::Global;
 use vs_text::{Text, TextErr, TextReader};
 
 /// Reads a file in pieces of at most `size` bytes.
-pub fn read_in_pieces(alloc: Global, file: &[u8], size: usize) -> Result<Text, TextErr>
+pub(crate) fn read_in_pieces(alloc: Global, file: &[u8], size: usize) -> Result<Text, TextErr>
     requires { 0 < size }
     ensures text { IfOk result (λ text. text ≡ lines_of file.now) }
     ensures fits { OnOk result (IsWithinLimits (lines_of file.now)) }
@@ -24,7 +24,7 @@ pub fn read_in_pieces(alloc: Global, file: &[u8], size: usize) -> Result<Text, T
 }
 
 /// Reads a file in pieces of at most `size` bytes, and takes the lines that have ended after each piece.
-pub fn take_in_pieces(alloc: Global, file: &[u8], size: usize) -> Result<Text, TextErr>
+pub(crate) fn take_in_pieces(alloc: Global, file: &[u8], size: usize) -> Result<Text, TextErr>
     requires { 0 < size }
     ensures text { IfOk result (λ text. text ≡ lines_of file.now) }
     ensures fits { OnOk result (IsWithinLimits (lines_of file.now)) }

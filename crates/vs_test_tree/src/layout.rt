@@ -25,7 +25,7 @@ fn push_line<S: LineStore>(alloc: Global, store: &mut S, size: u64) -> Result<bo
     Ok(true)
 }
 
-pub fn push_lines<S: LineStore>(
+pub(crate) fn push_lines<S: LineStore>(
     alloc: Global,
     store: &mut S,
     count: u64,

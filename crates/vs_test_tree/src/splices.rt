@@ -9,7 +9,7 @@ use vs_text::{Line, from_stored, write_text};
 pub struct Numbers(pub u64);
 
 impl Numbers {
-    pub fn below(&mut self, n: u64) -> u64
+    pub(crate) fn below(&mut self, n: u64) -> u64
         requires { 0 < n }
         ensures { result < n }
     {
@@ -55,7 +55,7 @@ impl Numbers {
     }
 
     // A splice of a text with this number of lines; a few take out all of them.
-    pub fn splice(&mut self, alloc: Global, len: u64) -> Result<Splice, AllocError> {
+    pub(crate) fn splice(&mut self, alloc: Global, len: u64) -> Result<Splice, AllocError> {
         let new = self.lines(alloc)?;
         if self.below(1_000) == 0 {
             return Ok(Splice {
@@ -79,7 +79,7 @@ pub struct Splice {
 
 impl Splice {
     // Splices a store, where all that a splice asks for holds, and says whether it does.
-    pub fn apply<S: LineStore>(&self, alloc: Global, store: &mut S) -> Result<bool, StoreErr>
+    pub(crate) fn apply<S: LineStore>(&self, alloc: Global, store: &mut S) -> Result<bool, StoreErr>
         requires { S.valid store.old }
         ensures { S.valid store.new }
     {
@@ -92,7 +92,7 @@ impl Splice {
 }
 
 // The file of the text that a store has.
-pub fn file_of<S: LineStore>(alloc: Global, store: &mut S) -> Result<Vec<u8>, StoreErr>
+pub(crate) fn file_of<S: LineStore>(alloc: Global, store: &mut S) -> Result<Vec<u8>, StoreErr>
     requires { S.valid store.old }
     ensures { S.valid store.new }
 {

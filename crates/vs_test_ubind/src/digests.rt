@@ -44,7 +44,7 @@ const DIGESTS: [(&[u8], [u8; 32]); 5] = [
 ];
 
 /// A store of the text that a file of these bytes has.
-pub fn store_of(alloc: Global, bytes: &[u8]) -> Result<VecStore, Fail>
+pub(crate) fn store_of(alloc: Global, bytes: &[u8]) -> Result<VecStore, Fail>
     ensures { IfOk result AreSound }
 {
     let text = read_text(alloc, bytes).ok().ok_or("it is a text")?;

@@ -21,7 +21,7 @@ pub struct Editor<S> {
 }
 
 // A history of one state, which is the text of the store.
-pub fn begin<S: LineStore + Drop>(alloc: Global, text: S) -> Result<Editor<S>, AllocError>
+pub(crate) fn begin<S: LineStore + Drop>(alloc: Global, text: S) -> Result<Editor<S>, AllocError>
     requires { S.valid text }
     ensures { IfOk result (λ editor. IsReady S.LineStore editor.tree editor.text) }
 {
@@ -32,7 +32,7 @@ pub fn begin<S: LineStore + Drop>(alloc: Global, text: S) -> Result<Editor<S>, A
 }
 
 // Puts a line after the last one, at a time.
-pub fn append<S: LineStore>(
+pub(crate) fn append<S: LineStore>(
     alloc: Global,
     editor: &mut Editor<S>,
     line: &[u8],
@@ -59,7 +59,11 @@ pub fn append<S: LineStore>(
     Ok(())
 }
 
-pub fn go_to<S: LineStore>(alloc: Global, editor: &mut Editor<S>, number: u64) -> Result<(), Fail>
+pub(crate) fn go_to<S: LineStore>(
+    alloc: Global,
+    editor: &mut Editor<S>,
+    number: u64,
+) -> Result<(), Fail>
     requires { IsReady S.LineStore editor.old.tree editor.old.text }
     ensures { IsReady S.LineStore editor.new.tree editor.new.text }
 {
@@ -68,7 +72,7 @@ pub fn go_to<S: LineStore>(alloc: Global, editor: &mut Editor<S>, number: u64) -
     Ok(())
 }
 
-pub fn data_of<S: LineStore>(
+pub(crate) fn data_of<S: LineStore>(
     alloc: Global,
     editor: &mut Editor<S>,
     save_next: bool,

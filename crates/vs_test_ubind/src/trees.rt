@@ -15,7 +15,7 @@ use vs_ufile::{FileHistory, decode, encode};
 use vs_undo::Parts;
 
 // Changes 1 and 2, one after the other, and 3 and 4 beside 2; then back to 3. Change 4 has save number 1. The chain is 3, 4, 2.
-pub fn editor_with_branches(alloc: Global) -> Result<Editor<VecStore>, Fail>
+pub(crate) fn editor_with_branches(alloc: Global) -> Result<Editor<VecStore>, Fail>
     ensures { IfOk result (λ editor. IsReady ⟦<VecStore as LineStore>⟧ editor.tree editor.text) }
 {
     let mut editor = begin(alloc, store_of(alloc, b"")?)?;
@@ -31,7 +31,7 @@ pub fn editor_with_branches(alloc: Global) -> Result<Editor<VecStore>, Fail>
 }
 
 // The file that these bytes are.
-pub fn read(alloc: Global, bytes: &[u8]) -> Result<FileHistory, Fail>
+pub(crate) fn read(alloc: Global, bytes: &[u8]) -> Result<FileHistory, Fail>
     ensures { IfOk result (λ history. KeepsRules (history_of history)) }
 {
     match decode(alloc, bytes) {
@@ -114,7 +114,7 @@ const CASES: [Case; 10] = [
 ];
 
 // Puts a number into four bytes.
-pub fn put(bytes: &mut [u8], at: usize, number: u32) {
+pub(crate) fn put(bytes: &mut [u8], at: usize, number: u32) {
     for (i, byte) in number.to_be_bytes().iter().enumerate() {
         if let Some(slot) = bytes.get_mut(at.saturating_add(i)) {
             *slot = *byte;

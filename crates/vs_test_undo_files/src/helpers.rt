@@ -26,7 +26,11 @@ fn put(alloc: Global, host: &mut MemHost, name: &str, bytes: &[u8]) -> Result<()
 }
 
 /// A host with these files and a script.
-pub fn host_of(alloc: Global, files: &[(&str, &[u8])], script: &[u8]) -> Result<MemHost, Fail>
+pub(crate) fn host_of(
+    alloc: Global,
+    files: &[(&str, &[u8])],
+    script: &[u8],
+) -> Result<MemHost, Fail>
     ensures answers { IfOk result (λ host. host.answers ≡ []) }
     ensures settled { IfOk result (λ host. (folder_of host).pending ≡ []) }
 {
@@ -49,7 +53,7 @@ fn run_f<H: Host>(alloc: Global, host: &mut H) -> Result<Report, Fail>
 }
 
 /// Runs `edit f`, and gives its exit status.
-pub fn edit_f<H: Host>(alloc: Global, host: &mut H) -> Result<u8, Fail>
+pub(crate) fn edit_f<H: Host>(alloc: Global, host: &mut H) -> Result<u8, Fail>
     requires clock { IsTrue (H.tells).clock → (H.scene host.old).answers ≡ [] }
     requires settled { IsTrue (H.tells).folder → (H.scene host.old).folder.pending ≡ [] }
 {
@@ -57,7 +61,7 @@ pub fn edit_f<H: Host>(alloc: Global, host: &mut H) -> Result<u8, Fail>
 }
 
 /// Runs `edit f`, and gives its exit status and how its commands ended.
-pub fn marks_of<H: Host>(alloc: Global, host: &mut H) -> Result<(u8, Vec<Outcome>), Fail>
+pub(crate) fn marks_of<H: Host>(alloc: Global, host: &mut H) -> Result<(u8, Vec<Outcome>), Fail>
     requires clock { IsTrue (H.tells).clock → (H.scene host.old).answers ≡ [] }
     requires settled { IsTrue (H.tells).folder → (H.scene host.old).folder.pending ≡ [] }
 {

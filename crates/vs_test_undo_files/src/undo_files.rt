@@ -27,7 +27,7 @@ const REPLIES: &[u8] =
     b"\"f\" 1L, 2B\nchange 1, 2 lines\nchange 2, 3 lines\nat 1, 2 lines\nundo file written\nquit\n";
 
 /// The undo file, where there is one that decodes.
-pub fn undo_file(alloc: Global, host: &MemHost) -> Result<Option<FileHistory>, Fail> {
+pub(crate) fn undo_file(alloc: Global, host: &MemHost) -> Result<Option<FileHistory>, Fail> {
     let Some(bytes) = host.file(".f.un~") else {
         return Ok(None);
     };
@@ -38,7 +38,7 @@ pub fn undo_file(alloc: Global, host: &MemHost) -> Result<Option<FileHistory>, F
 }
 
 /// Whether an undo file has the two changes of the script, of which the first is current.
-pub fn has_both(history: &FileHistory) -> bool {
+pub(crate) fn has_both(history: &FileHistory) -> bool {
     let changes = history.changes.as_slice();
     if history.digest != TWO_LINES || history.lines != 2 || changes.len() != 2 {
         return false;
@@ -84,7 +84,12 @@ fn the_undo_file_of_the_text_without_lines_has_100_bytes(rt: HostRuntime) -> Res
 }
 
 /// The host after a run in which the call `failing` fails, and each one after `stop`. Calls are counted from 1.
-pub fn after_run(alloc: Global, script: &[u8], failing: u64, stop: u64) -> Result<MemHost, Fail> {
+pub(crate) fn after_run(
+    alloc: Global,
+    script: &[u8],
+    failing: u64,
+    stop: u64,
+) -> Result<MemHost, Fail> {
     let mut host = host_of(alloc, &[("f", b"a\n"), (".f.un~", OLD)], script)?;
     host.fail_call(alloc, failing)?;
     host.stop_after(stop);
@@ -93,7 +98,7 @@ pub fn after_run(alloc: Global, script: &[u8], failing: u64, stop: u64) -> Resul
 }
 
 /// How many calls a run makes.
-pub fn calls_of(alloc: Global, script: &[u8]) -> Result<u64, Fail> {
+pub(crate) fn calls_of(alloc: Global, script: &[u8]) -> Result<u64, Fail> {
     let mut host = host_of(alloc, &[("f", b"a\n"), (".f.un~", OLD)], script)?;
     edit_f(alloc, &mut host)?;
     Ok(host.calls())

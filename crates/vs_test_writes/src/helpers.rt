@@ -20,7 +20,7 @@ pub const KEEPS: [Keep; 3] = [Keep::Read, Keep::Synced, Keep::Byte(b'?')];
 pub const PREFIXES: [u32; 6] = [0, 1, 2, 3, 4, u32::MAX];
 
 /// A host with the file `f` and the backup `f~`, where they are there, and a script.
-pub fn host_with(
+pub(crate) fn host_with(
     alloc: Global,
     f: Option<&[u8]>,
     backup: Option<&[u8]>,
@@ -53,7 +53,11 @@ fn put(alloc: Global, host: &mut MemHost, name: &str, bytes: &[u8]) -> Result<()
 }
 
 /// A host with these files and a script.
-pub fn host_of(alloc: Global, files: &[(&str, &[u8])], script: &[u8]) -> Result<MemHost, Fail>
+pub(crate) fn host_of(
+    alloc: Global,
+    files: &[(&str, &[u8])],
+    script: &[u8],
+) -> Result<MemHost, Fail>
     ensures answers { IfOk result (λ host. host.answers ≡ []) }
     ensures settled { IfOk result (λ host. (folder_of host).pending ≡ []) }
 {
@@ -65,7 +69,7 @@ pub fn host_of(alloc: Global, files: &[(&str, &[u8])], script: &[u8]) -> Result<
 }
 
 /// Runs `edit f`, and gives its exit status.
-pub fn edit_f<H: Host>(alloc: Global, host: &mut H) -> Result<u8, Fail>
+pub(crate) fn edit_f<H: Host>(alloc: Global, host: &mut H) -> Result<u8, Fail>
     requires clock { IsTrue (H.tells).clock → (H.scene host.old).answers ≡ [] }
     requires settled { IsTrue (H.tells).folder → (H.scene host.old).folder.pending ≡ [] }
 {
@@ -83,7 +87,7 @@ pub struct Image {
 }
 
 /// The images of a folder, by what is kept of each file and of the pending changes of names.
-pub fn images_of(alloc: Global, host: &MemHost) -> Result<Vec<Image>, Fail> {
+pub(crate) fn images_of(alloc: Global, host: &MemHost) -> Result<Vec<Image>, Fail> {
     let mut images = Vec::new(alloc);
     for keep in KEEPS {
         for names in PREFIXES {

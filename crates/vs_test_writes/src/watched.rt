@@ -22,7 +22,7 @@ pub struct Watched {
 }
 
 impl Watched {
-    pub fn new(inner: MemHost, backup: &'static str) -> Watched
+    pub(crate) fn new(inner: MemHost, backup: &'static str) -> Watched
         ensures { result.inner ≡ inner }
     {
         Watched {
