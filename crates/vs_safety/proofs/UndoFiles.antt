@@ -13,7 +13,7 @@ use Rattle.vs_pair.specs.Pair.{is_foreign}
 use Rattle.vs_undo.specs.History.{History}
 use Rattle.vs_safety.specs.Texts.{Text}
 use Rattle.vs_safety.specs.Writes.{State}
-use Rattle.vs_safety.specs.Undo.{IsUndoIn, IsUndoOf, UndoWrite}
+use Rattle.vs_safety.specs.Undo.{HasUndo, IsUndoIn, IsUndoOf, UndoWrite}
 use Rattle.vs_safety.specs.FileWork.{FileWork, EditedFile, UndoFile, BothFiles, Keeps, IsFoundIn, IsWholeAt, HasLeft, undo_stored}
 use Rattle.vs_safety.specs.Turns.{Turn, IsLastUndo, IsUndoBy, KeepsUndo, NoneStored, has_stored}
 
@@ -56,7 +56,7 @@ module _ (names : Names) where
   undo_moment (Some (UndoFile undo)) old new foreign found keeps whole left may = found_in undo old new found whole left may
   undo_moment (Some (BothFiles write undo)) old new foreign found keeps whole left may = found_in undo old new found.1 whole.1.0 left may
 
-  stored_only : (text : Text) (history : History) (new : Disk) → ((bytes : List ℕ) × IsUndoOf text history bytes × HoldsBytes names.undo bytes new) → (left : Option (List ℕ)) → MayLeave new names.undo left
+  stored_only : (text : Text) (history : History) (new : Disk) → HasUndo names text history new → (left : Option (List ℕ)) → MayLeave new names.undo left
       → IsSomeAnd left (IsUndoOf text history)
   stored_only text history new stored left may =
       subst (λ (o : Option (List ℕ)). IsSomeAnd o (IsUndoOf text history)) (sym (held_only names.undo stored.0 new left stored.2 may)) stored.1

@@ -1,6 +1,6 @@
 -- The answer to `wundo`, and the calls that store an undo file.
 use Rattle.std.proofs.Common.{◌≡◌, ◌⊎◌, inl, inr, ℕ, Bool, true, false, cond, ◌&&◌, ◌==◌, not, List, [], ◌++◌, Option, Some, None, Result, Ok, Err, refl, sym, ◌∙◌, ap, subst}
-use Rattle.std.specs.Prelude.{IsSomeAnd}
+use Rattle.std.specs.Prelude.{IsSomeAnd, OnOk}
 use Rattle.std.proofs.lemmas.Bool.{true≢false}
 use Rattle.std.proofs.lemmas.List.{append-nil}
 use Rattle.vs_faults.specs.Faults.{HasCause}
@@ -25,7 +25,8 @@ use Rattle.vs_edit.specs.declared.store.StoreErr.{StoreErr}
 use Rattle.vs_undo.specs.History.{History}
 use Rattle.vs_ufile.specs.Decode.{IsUndoFile, IsWellFormed}
 use Rattle.vs_ufile.specs.Values as file
-use Rattle.vs_ubind.specs.Bound.{IsBound}
+use Rattle.vs_ufile.specs.Writing.{IsWritten}
+use Rattle.vs_ubind.specs.Bound.{IsBound, IsFiled}
 use Rattle.vs_options.specs.declared.setting.Options.{Options}
 use Rattle.vs_machine.specs.Machine as machine
 use Rattle.vs_machine.specs.Machine.{State, took_effect, current_of}
@@ -34,7 +35,7 @@ use Rattle.vs_machine.specs.declared.command.Mark.{Mark}
 use Rattle.vs_machine.specs.declared.command.Outcome.{Outcome}
 use Rattle.vs_machine.specs.declared.command.Outcome.TheVariants.{Done, NoMemory, Fault, NoUndo}
 use Rattle.vs_safety.specs.Texts.{Sync, Text, Recovers, recoverable}
-use Rattle.vs_safety.specs.Undo.{IsUndoOf, UndoWrite, HasStored}
+use Rattle.vs_safety.specs.Undo.{HasUndo, IsUndoOf, UndoWrite, HasStored}
 use Rattle.vs_safety.specs.Writes.{state_now}
 use Rattle.vs_safety.specs.FileWork.{FileWork, UndoFile, Keeps}
 use Rattle.vs_safety.specs.Safety.{IsUnderWay, Spares, Works}
@@ -43,7 +44,7 @@ use Rattle.vs_paged.proofs.SyncLemmas.{fits_kept, fits_recovers}
 use Rattle.vs_desk.proofs.Left.{goes_both}
 use Rattle.vs_session.specs.declared.session.Session.{Session}
 use Rattle.vs_session.specs.Session.{SessionState, Ended, accepts_quit, after_sync, answered, begins_after, begins_sync, carried, counted, is_fault, is_rundo, is_write, is_wundo, lacks_name, options_after, quits, reply_of, session_reply, state_after, sync_in, undo_in, undo_work, with_history, work_of, write_work, written_state}
-use Rattle.vs_session.specs.Stores.{HasUndo, StoresUndo}
+use Rattle.vs_session.specs.Stores.{StoresUndo}
 use Rattle.vs_session.specs.Fits.{Answers, Fits, names_of}
 use Rattle.vs_session.proofs.SessionLemmas.{counted_same}
 use Rattle.vs_session.proofs.UndoNames.{new_name, undo_apart}
@@ -51,16 +52,22 @@ use Rattle.vs_session.proofs.Steps.{assemble, between_synced, no_history, unread
 
 -- ---- the bytes
 
-pub undo_of_bytes : (text : Text) (history : History) (contents : file.History) (bytes : List ℕ) → IsWellFormed contents → ((more : List ℕ) → IsUndoFile contents (bytes ++ more)) → IsBound contents text history
-    → IsUndoOf text history bytes
-undo_of_bytes text history contents bytes formed written bound = record {
+pub undo_of_bytes : (text : Text) (history : History) (contents : file.History) (bytes : List ℕ) → IsWellFormed contents → ((more : List ℕ) → IsUndoFile contents (bytes ++ more)) → IsWritten contents bytes
+    → IsBound contents text history → IsFiled contents text history → IsUndoOf text history bytes
+undo_of_bytes text history contents bytes formed file written bound filed = record {
   contents = contents;
   formed = formed;
-  file = subst (λ (b : List ℕ). IsUndoFile contents b) (append-nil bytes) (written []);
+  file = subst (λ (b : List ℕ). IsUndoFile contents b) (append-nil bytes) (file []);
   bound = bound;
+  written = written;
+  filed = filed;
 }
 
 -- ---- the calls
+
+pub both_ok : {T E : Type 0} (result : Result T E) (A B P : Type 0) → (A → B → P) → OnOk result A → OnOk result B → OnOk result P
+both_ok (Ok value) A B P leads one other = leads one other
+both_ok (Err why) A B P leads one other = tt
 
 module _ (names : Names) (text : Text) (history : History) where
   pub stores_none : (disk : Disk) → StoresUndo names text history disk disk

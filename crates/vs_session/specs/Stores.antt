@@ -5,7 +5,7 @@ use Rattle.vs_host.specs.Disk.{Disk}
 use Rattle.vs_host.specs.Trace.{Snapshot}
 use Rattle.vs_host.specs.World.{Scene}
 use Rattle.vs_host.specs.declared.names.Names.{Names}
-use Rattle.vs_disk.specs.Images.{HoldsBytes, MayLeave}
+use Rattle.vs_disk.specs.Images.{MayLeave}
 use Rattle.vs_disk.specs.Runs.{FailsLast}
 use Rattle.vs_backup.specs.Works.{Spares, two_names}
 use Rattle.vs_undo.specs.History.{History}
@@ -20,13 +20,9 @@ pub record StoresUndo (names : Names) (text : Text) (history : History) (old new
   pub spares : Spares (two_names names.undo_new names.undo) old new
   pub undo : (left : Option (List ℕ)) → MayLeave new names.undo left → MayLeave old names.undo left ⊎ IsSomeAnd left (IsUndoOf text history)
 
--- The name has the undo file of this text and this history in each image.
-abbrev pub HasUndo : Names → Text → History → Disk → Type 0
-HasUndo names text history disk = (bytes : List ℕ) × IsUndoOf text history bytes × HoldsBytes names.undo bytes disk
-
--- The last calls between two scenes were those of a storing of the undo file that failed. From the scene on at which it began, no
--- call was made but on its two names, and the sync of the names directly after their rename; none but the last one failed, and that
--- one did. The count of faults at that scene is no lower than that of the newest snapshot before it.
+-- The last calls between two scenes were those of a storing of the undo file that failed. From the scene on at which it began, the
+-- calls were on its temporary name, then its rename, then the sync of the names; none but the last one failed, and that one did. The
+-- count of faults at that scene is no lower than that of the newest snapshot before it.
 pub record HasFailedStoring (names : Names) (old new : Scene) : Type 0 where
   pub began : Scene
   pub before : List Snapshot

@@ -4,11 +4,11 @@ ghost use Rattle.vs_disk.specs.Runs.{Runs};
 ghost use Rattle.vs_excmd.specs.Request.{Instruction};
 ghost use Rattle.vs_undo.specs.History.{History};
 ghost use Rattle.vs_safety.specs.Texts.{Sync, Text};
-ghost use Rattle.vs_safety.specs.Undo.{IsUndoOf};
+ghost use Rattle.vs_safety.specs.Undo.{HasUndo, IsUndoOf};
 ghost use Rattle.vs_session.specs.Calls.{GoesOn, IsUsable, KeepsState, StoresBytes};
 ghost use Rattle.vs_session.specs.Fits.{Fits, IsFault, IsMarkedAt, IsStep, names_of};
 ghost use Rattle.vs_session.specs.Session.{SessionState, is_wundo};
-ghost use Rattle.vs_session.specs.Stores.{HasUndo, StoresUndo};
+ghost use Rattle.vs_session.specs.Stores.{StoresUndo};
 
 use crate::{Session, Step};
 use std::alloc::Global;

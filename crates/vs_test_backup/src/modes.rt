@@ -9,7 +9,9 @@ use std::alloc::Global;
 use std::process::Abort;
 use std::test::Fail;
 use vs_backup::CopyMode;
+use vs_host::Names;
 use vs_memory::MemHost;
+use vs_ubind::store;
 
 // The mode bits of the file that is written over.
 const OLD_MODE: u32 = 0o640;
@@ -88,5 +90,23 @@ fn a_file_that_was_not_there_is_as_the_system_makes_it(rt: HostRuntime) -> Resul
     let answer = write_to(alloc, &mut desk, "f", &options(true, true, CopyMode::No))?;
     assert!(rt; answer == Ok(4));
     assert!(rt; has_modes(&desk.folder, &[("f.vsnew", USUAL), ("f", USUAL)]));
+    Ok(())
+}
+
+#[test]
+fn an_undo_file_has_the_mode_of_its_text_file(rt: HostRuntime) -> Result<(), Fail> {
+    let alloc = rt.alloc();
+    let mut folder = desk_over(alloc)?.folder;
+    let Ok(names) = Names::of(alloc, "f") else {
+        return Err(Fail::new("the name is not allowed"));
+    };
+    assert!(rt; store(&mut folder, &names, NEW).is_ok());
+    let expected = [
+        ("f", OLD_MODE),
+        (".f.un~.vsnew", PRIVATE),
+        (".f.un~.vsnew", OLD_MODE),
+        (".f.un~", OLD_MODE),
+    ];
+    assert!(rt; has_modes(&folder, &expected));
     Ok(())
 }

@@ -16,7 +16,7 @@ use Rattle.vs_ufile.specs.Values as file
 use Rattle.vs_ufile.specs.Descent.{IsLastUsed}
 use Rattle.vs_ufile.specs.Tree.{link, IsChange}
 use Rattle.vs_ubind.specs.Digest.{digest_of}
-use Rattle.vs_ubind.specs.Bound.{history_next, IsBound}
+use Rattle.vs_ubind.specs.Bound.{history_next, IsBound, IsFiled}
 use Rattle.vs_ubind.specs.Meaning.{entries_in, flagged, last_flag, taken, IsKeptSave, Means, StandsFor}
 use Rattle.vs_ubind.specs.Unbound.{filed, filed_change, filed_entry, flag_of, used_within, with_next}
 use Rattle.vs_ubind.proofs.Chains.{child_index, none}
@@ -153,4 +153,13 @@ bound_next next contents digest count lines parts text history sound is digest_i
   sound = sound_next next parts sound;
   means = subst (λ d. Means d (with_next next parts)) (sym is) (means_next next digest count parts sound);
   is = history_on next parts text history tells;
+}
+
+pub filed_next : (next : Bool) (contents : file.History) (digest : List ℕ) (count lines : ℕ) (parts : Parts) (text : List (List ℕ)) (history : History) → IsSound parts → contents ≡ filed digest count (with_next next parts)
+    → digest ≡ digest_of text → count ≡ max 1 lines → length text ≡ lines → IsHistory parts text history → IsFiled contents text (history_next next history)
+filed_next next contents digest count lines parts text history sound is digest_is count_is long tells = record {
+  tree = with_next next parts;
+  sound = sound_next next parts sound;
+  is = history_on next parts text history tells;
+  fields = is ∙ (ap (λ d. filed d count (with_next next parts)) digest_is ∙ ap (λ n. filed (digest_of text) n (with_next next parts)) (count_is ∙ (ap (λ n. max 1 n) (sym long) ∙ sym (stored_count text))));
 }

@@ -4,9 +4,9 @@ use Rattle.std.proofs.lemmas.List.{append_assoc}
 use Rattle.vs_host.specs.Disk.{Name}
 use Rattle.vs_host.specs.Trace.{Kind, Renamed, SyncedNames, Snapshot, Each, GoesOn}
 use Rattle.vs_host.specs.World.{Tells, Scene, IsTold, snapshot_of}
-use Rattle.vs_disk.proofs.Runs.{goes_then, goes_weaker}
-use Rattle.vs_backup.specs.Works.{one_name, two_names}
-use Rattle.vs_ubind.specs.Storing.{IsCallOn, CallsOn, EndsInRename, SyncsRename, AreStoring, StoresBy}
+use Rattle.vs_disk.proofs.Runs.{Each-append, goes_then}
+use Rattle.vs_backup.specs.Works.{one_name}
+use Rattle.vs_ubind.specs.Storing.{IsCallOn, CallsOn, EndInRename, EndInSync, AreStoring, StoresBy}
 
 told_goes : (on : Name → Type 0) (kind : Kind) (names : List Name) → Each on names → names ≢ [] → {T E : Type 0} (result : Result T E) (old new : Scene)
     → IsTold kind names result old new → GoesOn (IsCallOn on) old.trace new.trace
@@ -22,56 +22,55 @@ calls_one tells on kind names each some result old new told = record { calls = �
 pub calls_then : (tells : Tells) (on : Name → Type 0) (old mid new : Scene) → CallsOn tells on old mid → CallsOn tells on mid new → CallsOn tells on old new
 calls_then tells on old mid new first second = record { calls = λ told. goes_then (IsCallOn on) old.trace mid.trace new.trace (first.calls told) (second.calls told) }
 
-each_wider : (P Q : Name → Type 0) → ((name : Name) → P name → Q name) → (names : List Name) → Each P names → Each Q names
-each_wider P Q leads [] each = tt
-each_wider P Q leads (name ∷ names) each = (leads name each.0, each_wider P Q leads names each.1)
-
--- a name among two
-pub calls_wider : (tells : Tells) (a b : Name) (old new : Scene) → CallsOn tells (one_name a) old new → CallsOn tells (two_names a b) old new
-calls_wider tells a b old new calls = record {
-  calls = λ told. goes_weaker (IsCallOn (one_name a)) (IsCallOn (two_names a b))
-      (λ call is. record { names = each_wider (one_name a) (two_names a b) (λ name same. inl same) call.names is.names; some = is.some }) old.trace new.trace (calls.calls told);
-}
-
 -- ---- the calls of a storing
-each_storing : (from to : Name) (calls : List Snapshot) → Each (IsCallOn (two_names from to)) calls → AreStoring from to calls
-each_storing from to [] each = tt
-each_storing from to (call ∷ calls) each = (inl each.0, each_storing from to calls each.1)
-
--- calls on the two names alone
-pub stores_on : (tells : Tells) (from to : Name) (old new : Scene) → IsTrue tells.folder → CallsOn tells (two_names from to) old new → StoresBy from to old new
+-- calls on the first name alone
+pub stores_on : (tells : Tells) (from to : Name) (old new : Scene) → IsTrue tells.folder → CallsOn tells (one_name from) old new → StoresBy from to old new
 stores_on tells from to old new told calls =
-    let goes = calls.calls told in record { added = goes.added; is = goes.is; calls = each_storing from to goes.added goes.each }
+    let goes = calls.calls told in record { added = goes.added; is = goes.is; calls = inl goes.each }
+
+-- the rename, whatever it answers
+pub stores_renamed : (from to : Name) {T E : Type 0} (renamed : Result T E) (old new : Scene) → IsTold Renamed (from ∷ to ∷ []) renamed old new → StoresBy from to old new
+stores_renamed from to renamed old new (inl is) = record {
+  added = snapshot_of new Renamed (from ∷ to ∷ []) ∷ [];
+  is = is;
+  calls = inr (inl (record { kind = refl; names = refl }, tt));
+}
+stores_renamed from to renamed old new (inr missed) = record { added = []; is = missed.1.trace; calls = inl tt }
 
 -- the rename, and the sync of the names, whatever that answers
-pub stores_renamed : (from to : Name) {T E U V : Type 0} (renamed : Result T E) (synced : Result U V) (old mid new : Scene) → ¬ IsErr renamed
+pub stores_synced : (from to : Name) {T E U V : Type 0} (renamed : Result T E) (synced : Result U V) (old mid new : Scene) → ¬ IsErr renamed
     → IsTold Renamed (from ∷ to ∷ []) renamed old mid → IsTold SyncedNames [] synced mid new → StoresBy from to old new
-stores_renamed from to renamed synced old mid new ok (inr missed) told = absurd (ok missed.0)
-stores_renamed from to renamed synced old mid new ok (inl is) (inl last) = record {
+stores_synced from to renamed synced old mid new ok (inr missed) told = absurd (ok missed.0)
+stores_synced from to renamed synced old mid new ok (inl is) (inl last) = record {
   added = snapshot_of new SyncedNames [] ∷ snapshot_of mid Renamed (from ∷ to ∷ []) ∷ [];
   is = last ∙ ap (λ (trace : List Snapshot). snapshot_of new SyncedNames [] ∷ trace) is;
-  calls = (inr (record { kind = refl; none = refl; after = (refl, refl) }), (inl (record { names = (inl refl, (inr refl, tt)); some = λ none. absurd (cc) }), tt));
+  calls = inr (inr (record { kind = refl; names = refl }, (record { kind = refl; names = refl }, tt)));
 }
-stores_renamed from to renamed synced old mid new ok (inl is) (inr missed) = record {
+stores_synced from to renamed synced old mid new ok (inl is) (inr missed) = record {
   added = snapshot_of mid Renamed (from ∷ to ∷ []) ∷ [];
   is = missed.1.trace ∙ is;
-  calls = (inl (record { names = (inl refl, (inr refl, tt)); some = λ none. absurd (cc) }), tt);
+  calls = inr (inl (record { kind = refl; names = refl }, tt));
 }
 
-ends_longer : (from to : Name) (calls before : List Snapshot) → EndsInRename from to calls → EndsInRename from to (calls ++ before)
-ends_longer from to [] before ends = absurd ends
-ends_longer from to (call ∷ calls) before ends = ends
+renames_longer : (from to : Name) (calls before : List Snapshot) → EndInRename from to calls → Each (IsCallOn (one_name from)) before → EndInRename from to (calls ++ before)
+renames_longer from to [] before ends each = absurd ends
+renames_longer from to (call ∷ calls) before ends each = (ends.0, Each-append (IsCallOn (one_name from)) calls before ends.1 each)
 
-storing_longer : (from to : Name) (calls before : List Snapshot) → AreStoring from to calls → AreStoring from to before → AreStoring from to (calls ++ before)
-storing_longer from to [] before are earlier = earlier
-storing_longer from to (call ∷ calls) before (inl on, are) earlier = (inl on, storing_longer from to calls before are earlier)
-storing_longer from to (call ∷ calls) before (inr syncs, are) earlier =
-    (inr (record { kind = syncs.kind; none = syncs.none; after = ends_longer from to calls before syncs.after }), storing_longer from to calls before are earlier)
+syncs_longer : (from to : Name) (calls before : List Snapshot) → EndInSync from to calls → Each (IsCallOn (one_name from)) before → EndInSync from to (calls ++ before)
+syncs_longer from to [] before ends each = absurd ends
+syncs_longer from to (call ∷ calls) before ends each = (ends.0, renames_longer from to calls before ends.1 each)
 
--- calls of a storing that go on
-pub stores_then : (from to : Name) (old mid new : Scene) → StoresBy from to old mid → StoresBy from to mid new → StoresBy from to old new
-stores_then from to old mid new first second = record {
-  added = second.added ++ first.added;
-  is = second.is ∙ ap (λ (trace : List Snapshot). second.added ++ trace) first.is ∙ sym (append_assoc second.added first.added old.trace);
-  calls = storing_longer from to second.added first.added second.calls first.calls;
-}
+storing_longer : (from to : Name) (calls before : List Snapshot) → AreStoring from to calls → Each (IsCallOn (one_name from)) before → AreStoring from to (calls ++ before)
+storing_longer from to calls before (inl on) each = inl (Each-append (IsCallOn (one_name from)) calls before on each)
+storing_longer from to calls before (inr (inl ends)) each = inr (inl (renames_longer from to calls before ends each))
+storing_longer from to calls before (inr (inr ends)) each = inr (inr (syncs_longer from to calls before ends each))
+
+-- calls on the first name, and what goes on from there
+pub stores_then : (tells : Tells) (from to : Name) (old mid new : Scene) → IsTrue tells.folder → CallsOn tells (one_name from) old mid → StoresBy from to mid new → StoresBy from to old new
+stores_then tells from to old mid new told first second =
+    let goes = first.calls told in
+    record {
+      added = second.added ++ goes.added;
+      is = second.is ∙ ap (λ (trace : List Snapshot). second.added ++ trace) goes.is ∙ sym (append_assoc second.added goes.added old.trace);
+      calls = storing_longer from to second.added goes.added second.calls goes.each;
+    }

@@ -24,6 +24,14 @@ IsRefused contents text (EntryDoesNotFit number) = IsOfText contents text × ((t
 IsRefused contents text NoMemory = Unit {0}
 IsRefused contents text Failed = Unit {0}
 
+-- What a refusal carries of the file, and of the number of stored lines.
+abbrev pub Carries : file.History → ℕ → BindErr → Type 0
+Carries contents count (DigestDiffers file own) = (file ≡ contents.digest) × (file ≢ own)
+Carries contents count (LinesDiffer file own) = (file ≡ contents.lines) × (own ≡ count) × (file ≢ own)
+Carries contents count (EntryDoesNotFit number) = contents.lines ≡ count
+Carries contents count NoMemory = Unit {0}
+Carries contents count Failed = Unit {0}
+
 -- the same cause
 abbrev pub bind_err : StoreErr → BindErr
 bind_err store.NoMemory = NoMemory

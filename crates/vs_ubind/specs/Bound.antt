@@ -7,6 +7,7 @@ use Rattle.vs_undo.specs.Sound.{IsSound}
 use Rattle.vs_ufile.specs.Values as file
 use Rattle.vs_ubind.specs.Digest.{digest_of}
 use Rattle.vs_ubind.specs.Meaning.{Means}
+use Rattle.vs_ubind.specs.Unbound.{filed}
 
 -- The data was made for this text, and stands for a tree whose entries lead from this text to those of the history.
 pub record IsBound (contents : file.History) (text : List (List ℕ)) (history : History) : Type 0 where
@@ -16,6 +17,13 @@ pub record IsBound (contents : file.History) (text : List (List ℕ)) (history :
   pub sound : IsSound tree
   pub means : Means contents tree
   pub is : IsHistory tree text history
+
+-- The data is that of a sound tree whose entries lead from this text to those of the history, with each field that a reader passes over.
+pub record IsFiled (contents : file.History) (text : List (List ℕ)) (history : History) : Type 0 where
+  pub tree : Parts
+  pub sound : IsSound tree
+  pub is : IsHistory tree text history
+  pub fields : contents ≡ filed (digest_of text) (length (stored text)) tree
 
 -- the history, or the history after the next write
 abbrev pub history_next : Bool → History → History

@@ -10,7 +10,7 @@ ghost use Rattle.vs_undo.specs.Sound.{IsSound};
 ghost use Rattle.vs_outward.specs.Outward.{IsMisfit};
 ghost use Rattle.vs_ufile.specs.Decode.{KeepsRules};
 ghost use Rattle.vs_ufile.specs.Values.{history_of};
-ghost use Rattle.vs_ubind.specs.Binding.{IsOfText, IsRefused};
+ghost use Rattle.vs_ubind.specs.Binding.{Carries, IsOfText, IsRefused};
 ghost use Rattle.vs_ubind.specs.Bound.{IsBound};
 ghost use Rattle.vs_ubind.specs.Meaning.{Means};
 
@@ -75,6 +75,7 @@ fn compare<S: LineStore>(alloc: Global, history: &FileHistory, text: &mut S) -> 
     ensures same { OnOk result ((lines : List (List ℕ)) → (S.shows text.old).present.Is lines → IsOfText (history_of history.now) lines) }
     ensures count { OnOk result (history.now.lines ≡ max 1 (S.shows text.old).present.lines) }
     ensures refused { IfErr result (λ e. (lines : List (List ℕ)) → (S.shows text.old).present.Is lines → IsRefused (history_of history.now) lines e) }
+    ensures carried { IfErr result (λ e. Carries (history_of history.now) (max 1 (S.shows text.old).present.lines) e) }
     ensures kept { OnlyReads S.LineStore text.old text.new }
     ensures cause { HasCause (S.shows text.old).faults (S.shows text.new).faults (IsErrOf result BindErr.Failed) }
 {
@@ -116,6 +117,7 @@ pub fn bind<S: LineStore>(
     ensures count { OnOk result (history.now.lines ≡ max 1 (S.shows text.old).present.lines) }
     ensures all_fit { IfOk result (λ tree. (lines : List (List ℕ)) → (S.shows text.old).present.Is lines → (number : ℕ) → IsMisfit tree lines number → ⊥) }
     ensures refused { IfErr result (λ e. (lines : List (List ℕ)) → (S.shows text.old).present.Is lines → IsRefused (history_of history.now) lines e) }
+    ensures carried { IfErr result (λ e. Carries (history_of history.now) (max 1 (S.shows text.old).present.lines) e) }
     ensures present { SameText (S.shows text.old).present (S.shows text.new).present }
     ensures kept { Continues S.LineStore text.old text.new }
     ensures cause { HasCause (S.shows text.old).faults (S.shows text.new).faults (IsErrOf result BindErr.Failed) }

@@ -9,7 +9,7 @@ ghost use Rattle.vs_host.specs.World.{ChangesFolder, IsTold, content_of};
 ghost use Rattle.vs_disk.specs.Images.{HoldsBytes, IsSynced, Takes};
 ghost use Rattle.vs_disk.specs.Runs.{Runs};
 ghost use Rattle.vs_pair.specs.Acts.{Acts, NoneFails};
-ghost use Rattle.vs_backup.specs.Works.{IsAlone, Spares, one_name, two_names};
+ghost use Rattle.vs_backup.specs.Works.{IsAlone, IsGone, Spares, one_name, two_names};
 ghost use Rattle.vs_ubind.specs.Storing.{CallsOn, StoresBy};
 
 use vs_host::{Failed, Folder, Names};
@@ -79,6 +79,7 @@ fn take_name<F: Folder>(host: &mut F, from: &str, to: &str) -> Result<(), Failed
         → Runs (Takes to.now bytes) (F.scene host.old) (F.scene host.new) }
     ensures holds { OnOk result (IsTrue F.tells.folder → (bytes : List ℕ) → IsSynced from.now bytes (F.scene host.old).folder
         → HoldsBytes to.now bytes (F.scene host.new).folder) }
+    ensures gone { OnOk result (IsTrue F.tells.folder → IsGone from.now (F.scene host.new).folder) }
     ensures none { OnOk result (NoneFails F.tells (F.scene host.old) (F.scene host.new)) }
     ensures cause { HasCause (F.scene host.old).folder_faults (F.scene host.new).folder_faults (IsErr result) }
 {
@@ -99,6 +100,7 @@ fn store_as<F: Folder>(
     ensures calls { IsTrue F.tells.folder → StoresBy temporary.now name.now (F.scene host.old) (F.scene host.new) }
     ensures takes { IsTrue F.tells.folder → Runs (Takes name.now bytes.now) (F.scene host.old) (F.scene host.new) }
     ensures holds { OnOk result (IsTrue F.tells.folder → HoldsBytes name.now bytes.now (F.scene host.new).folder) }
+    ensures gone { OnOk result (IsTrue F.tells.folder → IsGone temporary.now (F.scene host.new).folder) }
     ensures none { OnOk result (NoneFails F.tells (F.scene host.old) (F.scene host.new)) }
     ensures cause { HasCause (F.scene host.old).folder_faults (F.scene host.new).folder_faults (IsErr result) }
 {
@@ -113,14 +115,15 @@ fn store_as<F: Folder>(
 /// read it.
 ///
 /// At each moment a stop leaves under the name of the undo file these bytes, or what it left before; after an error as well.
-/// All names but that and its temporary name are left alone. No call is made but on these two and the sync of the names, and none
-/// but the last one has failed.
+/// All names but that and its temporary name are left alone. The calls are those on the temporary name, then its rename, then the
+/// sync of the names; none but the last call has failed.
 pub fn store<F: Folder>(host: &mut F, names: &Names, bytes: &[u8]) -> Result<(), Failed>
     requires { AreNames names.now }
     ensures acts { Acts F.tells (Spares (two_names names.now.undo_new names.now.undo)) (F.scene host.old) (F.scene host.new) }
     ensures calls { IsTrue F.tells.folder → StoresBy names.now.undo_new names.now.undo (F.scene host.old) (F.scene host.new) }
     ensures takes { IsTrue F.tells.folder → Runs (Takes names.now.undo bytes.now) (F.scene host.old) (F.scene host.new) }
     ensures holds { OnOk result (IsTrue F.tells.folder → HoldsBytes names.now.undo bytes.now (F.scene host.new).folder) }
+    ensures gone { OnOk result (IsTrue F.tells.folder → IsGone names.now.undo_new (F.scene host.new).folder) }
     ensures none { OnOk result (NoneFails F.tells (F.scene host.old) (F.scene host.new)) }
     ensures cause { HasCause (F.scene host.old).folder_faults (F.scene host.new).folder_faults (IsErr result) }
 {

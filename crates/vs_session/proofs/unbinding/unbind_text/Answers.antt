@@ -24,6 +24,10 @@ pub returns-clause-bound : goal.returns-clause-bound
 returns-clause-bound g c =
     if_ok_as c.unbind_in.result _ _ (λ contents bound told state syncs fits. bound told state (record { text = fits.text.pages; history = fits.history })) c.unbind_in.ensures.bound
 
+pub returns-clause-filed : goal.returns-clause-filed
+returns-clause-filed g c =
+    if_ok_as c.unbind_in.result _ _ (λ contents filed told state syncs fits. filed told state (record { text = fits.text.pages; history = fits.history })) c.unbind_in.ensures.filed
+
 pub returns-clause-fits : goal.returns-clause-fits
 returns-clause-fits g c told state syncs fits =
     let keeps = c.unbind_in.ensures.kept.keeps in

@@ -8,7 +8,7 @@ use Rattle.vs_pair.proofs.Acts.{none_then}
 use Rattle.vs_backup.specs.Works.{one_name, two_names}
 use Rattle.vs_backup.proofs.Calls.{synced_there}
 use Rattle.vs_ubind.proofs.Calls.{spares_acts, takes_one, wider_acts}
-use Rattle.vs_ubind.proofs.Told.{calls_then, calls_wider, stores_on, stores_then}
+use Rattle.vs_ubind.proofs.Told.{calls_then, stores_on, stores_then}
 use Rattle.vs_ubind.proofs.storing.store_as.Goals as goal
 
 pub take_name-requires-clause-differ : goal.take_name-requires-clause-differ
@@ -85,17 +85,14 @@ returns-clause-none g c =
 
 pub returns-in_err-make_anew-clause-calls : goal.returns-in_err-make_anew-clause-calls
 returns-in_err-make_anew-clause-calls g c told =
-    let s0 : Scene = g.F.World.scene c.args.host.now in
-    let s1 : Scene = g.F.World.scene c.make_anew.new.host in
-    stores_on g.F.World.tells c.args.temporary.now c.args.name.now s0 s1 told (calls_wider g.F.World.tells c.args.temporary.now c.args.name.now s0 s1 c.make_anew.ensures.calls)
+    stores_on g.F.World.tells c.args.temporary.now c.args.name.now (g.F.World.scene c.args.host.now) (g.F.World.scene c.make_anew.new.host) told c.make_anew.ensures.calls
 
 pub returns-in_err-fill-clause-calls : goal.returns-in_err-fill-clause-calls
 returns-in_err-fill-clause-calls g c told =
     let s0 : Scene = g.F.World.scene c.args.host.now in
     let s1 : Scene = g.F.World.scene c.make_anew.new.host in
     let s2 : Scene = g.F.World.scene c.fill.new.host in
-    stores_on g.F.World.tells c.args.temporary.now c.args.name.now s0 s2 told
-    (calls_wider g.F.World.tells c.args.temporary.now c.args.name.now s0 s2 (calls_then g.F.World.tells (one_name c.args.temporary.now) s0 s1 s2 c.make_anew.ensures.calls c.fill.ensures.calls))
+    stores_on g.F.World.tells c.args.temporary.now c.args.name.now s0 s2 told (calls_then g.F.World.tells (one_name c.args.temporary.now) s0 s1 s2 c.make_anew.ensures.calls c.fill.ensures.calls)
 
 pub returns-clause-calls : goal.returns-clause-calls
 returns-clause-calls g c told =
@@ -103,7 +100,6 @@ returns-clause-calls g c told =
     let s1 : Scene = g.F.World.scene c.make_anew.new.host in
     let s2 : Scene = g.F.World.scene c.fill.new.host in
     let s3 : Scene = g.F.World.scene c.take_name.new.host in
-    stores_then c.args.temporary.now c.args.name.now s0 s2 s3
-    (stores_on g.F.World.tells c.args.temporary.now c.args.name.now s0 s2 told
-    (calls_wider g.F.World.tells c.args.temporary.now c.args.name.now s0 s2 (calls_then g.F.World.tells (one_name c.args.temporary.now) s0 s1 s2 c.make_anew.ensures.calls c.fill.ensures.calls)))
+    stores_then g.F.World.tells c.args.temporary.now c.args.name.now s0 s2 s3 told
+    (calls_then g.F.World.tells (one_name c.args.temporary.now) s0 s1 s2 c.make_anew.ensures.calls c.fill.ensures.calls)
     (c.take_name.ensures.calls told)

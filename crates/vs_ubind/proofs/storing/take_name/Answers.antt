@@ -12,8 +12,9 @@ use Rattle.vs_pair.proofs.Acts.{none_call, none_then}
 use Rattle.vs_backup.specs.Works.{two_names}
 use Rattle.vs_backup.proofs.Frames.{either, spares_renamed, spares_synced, takes_spared, takes_same, settled_now, synced_renamed}
 use Rattle.vs_backup.proofs.Kept.{settled_holds}
+use Rattle.vs_backup.proofs.Replacing.{gone_renamed}
 use Rattle.vs_ubind.proofs.Calls.{spares_acts, spares_call}
-use Rattle.vs_ubind.proofs.Told.{calls_one, stores_on, stores_renamed}
+use Rattle.vs_ubind.proofs.Told.{stores_renamed, stores_synced}
 use Rattle.vs_ubind.proofs.storing.take_name.Goals as goal
 
 pub returns-in_err-rename-clause-acts : goal.returns-in_err-rename-clause-acts
@@ -81,15 +82,18 @@ returns-clause-none g c =
 
 pub returns-in_err-rename-clause-calls : goal.returns-in_err-rename-clause-calls
 returns-in_err-rename-clause-calls g c told =
-    let s0 : Scene = g.F.World.scene c.args.host.now in
-    let s1 : Scene = g.F.World.scene c.rename.new.self in
-    stores_on g.F.World.tells c.args.from.now c.args.to.now s0 s1 told
-    (calls_one g.F.World.tells (two_names c.args.from.now c.args.to.now) Renamed (c.args.from.now ∷ c.args.to.now ∷ []) (inl refl, (inr refl, tt)) (λ none. absurd (cc)) c.rename.result
-    s0 s1 c.rename.ensures.told)
+    stores_renamed c.args.from.now c.args.to.now c.rename.result (g.F.World.scene c.args.host.now) (g.F.World.scene c.rename.new.self) (c.rename.ensures.told told)
 
 pub returns-clause-calls : goal.returns-clause-calls
 returns-clause-calls g c told =
     let s0 : Scene = g.F.World.scene c.args.host.now in
     let s1 : Scene = g.F.World.scene c.rename.new.self in
     let s2 : Scene = g.F.World.scene c.sync_names.new.self in
-    stores_renamed c.args.from.now c.args.to.now {T = Unit {0}} {E = Failed} (Ok tt) c.sync_names.result s0 s1 s2 (λ err. true≢false (sym err)) (c.in_ok-rename.ensures.told told) (c.sync_names.ensures.told told)
+    stores_synced c.args.from.now c.args.to.now {T = Unit {0}} {E = Failed} (Ok tt) c.sync_names.result s0 s1 s2 (λ err. true≢false (sym err)) (c.in_ok-rename.ensures.told told) (c.sync_names.ensures.told told)
+
+pub returns-clause-gone : goal.returns-clause-gone
+returns-clause-gone g c =
+    on_ok_weaker c.sync_names.result
+    (λ syncs told. gone_renamed c.args.from.now c.args.to.now (g.F.World.scene c.args.host.now).folder (g.F.World.scene c.rename.new.self).folder (g.F.World.scene c.sync_names.new.self).folder
+    c.requires.differ (c.in_ok-rename.ensures.ok told) (syncs told))
+    c.sync_names.ensures.ok

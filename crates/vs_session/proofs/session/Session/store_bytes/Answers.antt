@@ -1,6 +1,5 @@
-use Rattle.vs_paged.proofs.SyncLemmas.{on_ok_as}
 use Rattle.vs_session.specs.Fits.{names_of}
-use Rattle.vs_session.proofs.Stored.{fits_stored, stores_runs}
+use Rattle.vs_session.proofs.Stored.{both_ok, fits_stored, stores_runs}
 use Rattle.vs_session.proofs.session.Session.store_bytes.Goals as goal
 
 pub returns-clause-stores : goal.returns-clause-stores
@@ -16,4 +15,4 @@ returns-clause-stores g c = record {
 }
 
 pub returns-clause-stored : goal.returns-clause-stored
-returns-clause-stored g c = on_ok_as c.store.result _ _ (λ holds told text history is. (c.args.bytes.now, is, holds told)) c.store.ensures.holds
+returns-clause-stored g c = both_ok c.store.result _ _ _ (λ holds gone told text history is. (c.args.bytes.now, is, holds told, gone told)) c.store.ensures.holds c.store.ensures.gone
