@@ -16,7 +16,7 @@ ghost use Rattle.vs_paged.specs.Fits.{Fits, names_of};
 ghost use Rattle.vs_paged.specs.Pages.{IsBounded, IsPaged};
 ghost use Rattle.vs_desk.specs.Counts.{NoneAbove};
 ghost use Rattle.vs_desk.specs.Pages.{SamePages};
-ghost use Rattle.vs_desk.specs.Still.{KeepsLeft, SparesStill};
+ghost use Rattle.vs_desk.specs.Still.{KeepsLeft};
 ghost use Rattle.vs_desk.specs.Writes.{KeepsSwap, WritesFile};
 
 use crate::desk::PagedDesk;
@@ -62,7 +62,7 @@ fn write_in<F: Folder>(
 ///
 /// After an error `old_in` says where the old bytes stand. At each moment what may be recovered from the swap files is
 /// recovered, and text and swap files are as before, whatever was answered. A stop leaves under each name on which the write does
-/// not work only what it might leave there before, and such names that are still are left alone.
+/// not work only what it might leave there before, and a set of such names to whose files no other name leads is left alone.
 pub fn write_text<F: Folder>(
     alloc: Global,
     text: &mut PagedText,
@@ -85,7 +85,7 @@ pub fn write_text<F: Folder>(
         → Fits text.new (F.scene host.new).folder lines syncs }
 
     // All names on which the write does not work.
-    ensures others { IsTrue F.tells.folder → SparesStill (WorksOn options.now (names_of text.old).file (F.scene host.old).folder) (F.scene host.old) (F.scene host.new) }
+    ensures others { IsTrue F.tells.folder → SparesOthers (WorksOn options.now (names_of text.old).file (F.scene host.old).folder) (F.scene host.old) (F.scene host.new) }
     ensures left { IsTrue F.tells.folder → (lines : Text) (syncs : List Sync) → Fits text.old (F.scene host.old).folder lines syncs
         → Runs (KeepsLeft (WorksOn options.now (names_of text.old).file (F.scene host.old).folder)) (F.scene host.old) (F.scene host.new) }
     ensures names { names_of text.new ≡ names_of text.old }

@@ -65,9 +65,9 @@ keeps_same names write old new same = subst (λ (d : Disk). Keeps names write ol
   where
     unchanged : (write : Option FileWork) → Keeps names write old old
     unchanged None = same_none (is_foreign names) old
-    unchanged (Some (EditedFile write)) = λ inside start foreign avoids settled was. was
+    unchanged (Some (EditedFile write)) = record { apart = λ inside foreign avoids apart. same_none inside old; settled = λ inside start foreign avoids settled was. was }
     unchanged (Some (UndoFile undo)) = λ inside foreign avoids. same_none inside old
-    unchanged (Some (BothFiles write undo)) = λ inside start foreign avoids settled was. was
+    unchanged (Some (BothFiles write undo)) = record { apart = λ inside foreign avoids apart. same_none inside old; settled = λ inside start foreign avoids settled was. was }
 
 module _ (names : Names) (moments newer : List Snapshot) (from to : ℕ) (turn : Turn) (ended : HasEnded names moments from to turn) where
   pub ended_stays : HasEnded names (newer ++ moments) from to turn
@@ -102,9 +102,9 @@ module _ (names : Names) (moments newer : List Snapshot) (from to : ℕ) (turn :
 keeps_on : (names : Names) (write : Option FileWork) (start old new : Disk) (inside : Name → Bool) → start.pending ≡ [] → AreForeign names inside → IfSome write (λ w. AvoidsFiles names w inside)
     → Keeps names write old new → SameAt inside start old → SameAt inside start new
 keeps_on names None start old new inside settled foreign avoids keeps same = same_then inside start old new same (same_weaker (is_foreign names) inside old new foreign keeps)
-keeps_on names (Some (EditedFile write)) start old new inside settled foreign avoids keeps same = keeps inside start foreign avoids settled same
+keeps_on names (Some (EditedFile write)) start old new inside settled foreign avoids keeps same = keeps.settled inside start foreign avoids settled same
 keeps_on names (Some (UndoFile undo)) start old new inside settled foreign avoids keeps same = same_then inside start old new same (keeps inside foreign avoids)
-keeps_on names (Some (BothFiles write undo)) start old new inside settled foreign avoids keeps same = keeps inside start foreign avoids settled same
+keeps_on names (Some (BothFiles write undo)) start old new inside settled foreign avoids keeps same = keeps.settled inside start foreign avoids settled same
 
 pub spared_step : (names : Names) (turn : Turn) (turns : List Turn) (start old new : Disk) → start.pending ≡ [] → SparesOthers names turns start old → Keeps names turn.write old new
     → SparesOthers names (turns ++ turn ∷ []) start new
@@ -113,7 +113,7 @@ spared_step names turn turns start old new settled spared keeps inside foreign a
 
 -- as it begins, nothing has changed
 write_found : (names : Names) (write : Write) (folder : Disk) → write.found ≡ folder → IsWholeIn names write folder
-write_found names write folder found = subst (λ (d : Disk). IsWholeIn names write d) found (record { backed = λ old backup is made. inl (λ image part. part); fresh = λ none left may. inr may })
+write_found names write folder found = subst (λ (d : Disk). IsWholeIn names write d) found (record { backed = λ old backup is made. inl (record { read = λ name is. refl; left = λ image part. part }); replaced = λ old backup is made left may. inr may; in_place = λ old backup is made copied. refl; fresh = λ none left may. inr may })
 
 undo_found : (names : Names) (undo : UndoWrite) (folder : Disk) → undo.found ≡ folder → IsUndoIn names undo folder
 undo_found names undo folder found = subst (λ (d : Disk). IsUndoIn names undo d) found (λ left may. inl may)

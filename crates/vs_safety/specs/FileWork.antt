@@ -3,7 +3,7 @@ use Rattle.std.specs.Prelude.{◌≡◌, ◌⊎◌, ◌&&◌, Bool, not, [], Opt
 use Rattle.vs_host.specs.Disk.{Disk, Name}
 use Rattle.vs_host.specs.declared.names.Names.{Names}
 use Rattle.vs_disk.specs.Images.{HoldsBytes}
-use Rattle.vs_disk.specs.Names.{SameAt}
+use Rattle.vs_disk.specs.Names.{IsApart, SameAt}
 use Rattle.vs_pair.specs.Pair.{is_foreign}
 use Rattle.vs_backup.specs.Works.{IsOutside, two_names}
 use Rattle.vs_safety.specs.Writes.{Write, AreForeign, Avoids, HasWritten, IsWholeIn, State, new_bytes}
@@ -29,19 +29,19 @@ AvoidsFiles names (EditedFile write) inside = Avoids names write inside
 AvoidsFiles names (UndoFile undo) inside = IsOutside (two_names names.undo_new names.undo) inside
 AvoidsFiles names (BothFiles write undo) inside = Avoids names write inside × IsOutside (two_names names.undo_new names.undo) inside
 
--- The names that are not of the pair and on which the command does not work are left, but for changes that were pending: what was
--- spared since a folder in which no change of a name was pending, goes on to be spared.
-abbrev pub KeepsSettled : Names → FileWork → Disk → Disk → Type 0
-KeepsSettled names work old new =
-    (inside : Name → Bool) (start : Disk) → AreForeign names inside → AvoidsFiles names work inside → start.pending ≡ [] → SameAt inside start old → SameAt inside start new
+-- The names that are not of the pair and on which the command does not work are left: a set of them to whose files no other name
+-- leads, and a set that was spared since a folder in which no change of a name was pending.
+pub record KeepsOthers (names : Names) (work : FileWork) (old new : Disk) : Type 0 where
+  pub apart : (inside : Name → Bool) → AreForeign names inside → AvoidsFiles names work inside → IsApart inside old → SameAt inside old new
+  pub settled : (inside : Name → Bool) (start : Disk) → AreForeign names inside → AvoidsFiles names work inside → start.pending ≡ [] → SameAt inside start old → SameAt inside start new
 
 -- What a command leaves of the names that are not of the pair: all, where it writes no other file; all on which it does not work,
--- where it stores the undo file alone; and where it writes the edited file, those of them of which no change was pending.
+-- where it stores the undo file alone; and where it writes the edited file, those of them to whose files no other name leads.
 abbrev pub Keeps : Names → Option FileWork → Disk → Disk → Type 0
 Keeps names None old new = SameAt (is_foreign names) old new
 Keeps names (Some (UndoFile undo)) old new = (inside : Name → Bool) → AreForeign names inside → AvoidsFiles names (UndoFile undo) inside → SameAt inside old new
-Keeps names (Some (EditedFile write)) old new = KeepsSettled names (EditedFile write) old new
-Keeps names (Some (BothFiles write undo)) old new = KeepsSettled names (BothFiles write undo) old new
+Keeps names (Some (EditedFile write)) old new = KeepsOthers names (EditedFile write) old new
+Keeps names (Some (BothFiles write undo)) old new = KeepsOthers names (BothFiles write undo) old new
 
 -- ---- the files
 

@@ -3,7 +3,7 @@
 use Rattle.std.specs.Prelude.{◌≡◌, ◌⊎◌, ℕ, Bool, true, false, ◌||◌, List, Option, Some, None, IsSome}
 use Rattle.std.specs.Str.{bytes_eq}
 use Rattle.vs_faults.specs.Faults.{HasRisen}
-use Rattle.vs_host.specs.Disk.{Disk, Name, names_at, content_in}
+use Rattle.vs_host.specs.Disk.{Disk, Name, names_of, names_at, content_in}
 use Rattle.vs_host.specs.Trace.{Snapshot}
 use Rattle.vs_host.specs.World.{Scene}
 use Rattle.vs_host.specs.declared.names.Names.{Names}
@@ -12,7 +12,7 @@ use Rattle.vs_disk.specs.Images.{HoldsBytes, MayLeave, Takes}
 use Rattle.vs_disk.specs.Names.{IsImageAt}
 use Rattle.vs_pair.specs.Pair.{Image, is_foreign}
 use Rattle.vs_backup.specs.declared.options.WriteOptions.{WriteOptions}
-use Rattle.vs_backup.specs.Backups.{WorksOn, backup_of}
+use Rattle.vs_backup.specs.Backups.{WorksOn, backup_of, copies}
 use Rattle.vs_backup.specs.Works.{IsOutside}
 use Rattle.vs_backup.specs.Writing.{IsWhole, MayLackNew}
 use Rattle.vs_safety.specs.Texts.{Text}
@@ -54,12 +54,20 @@ is_either one other name = bytes_eq one name || bytes_eq other name
 abbrev pub LeavesOld : Name → Name → Disk → Disk → Type 0
 LeavesOld one other old new = (image : Image) → IsImageAt (is_either one other) new image → IsImageAt (is_either one other) old image
 
--- A moment of a write. Over a file that was there, with a backup: a stop leaves of both only what it might leave before, or in each
--- image one of them has the old or the new bytes whole. Of a file that was not there, a stop leaves the new bytes, or what it might
--- leave before.
+-- The same is read under these two names as before, and a stop leaves under both only what it might leave before.
+pub record IsUntouched (one other : Name) (old new : Disk) : Type 0 where
+  pub read : (name : Name) → is_either one other name ≡ true → content_in new name ≡ content_in old name
+  pub left : LeavesOld one other old new
+
+-- A moment of a write. Over a file that was there, with a backup: both are untouched, or in each image one of them has the old or the
+-- new bytes whole; a stop leaves under the backup name the old bytes, or what it might leave before; and where the file is copied to its
+-- backup, its name leads where it led. Of a file that was not there, a stop leaves the new bytes, or what it might leave before.
 pub record IsWholeIn (names : Names) (write : Write) (folder : Disk) : Type 0 where
   pub backed : (old : List ℕ) (backup : Name) → old_bytes names write ≡ Some old → backup_for names write ≡ Some backup
-      → LeavesOld names.file backup write.found folder ⊎ IsWhole names.file backup old (new_bytes write) folder
+      → IsUntouched names.file backup write.found folder ⊎ IsWhole names.file backup old (new_bytes write) folder
+  pub replaced : (old : List ℕ) (backup : Name) → old_bytes names write ≡ Some old → backup_for names write ≡ Some backup → Takes backup old write.found folder
+  pub in_place : (old : List ℕ) (backup : Name) → old_bytes names write ≡ Some old → backup_for names write ≡ Some backup → copies write.options.copy ≡ true
+      → names_of folder names.file ≡ names_of write.found names.file
   pub fresh : old_bytes names write ≡ None → Takes names.file (new_bytes write) write.found folder
 
 -- the folder, and how many calls on it failed so far

@@ -6,7 +6,7 @@ use Rattle.std.proofs.lemmas.Slice.Eq.{bytes_eq-Decides}
 use Rattle.std.proofs.lemmas.Bool.{true≢false}
 use Rattle.vs_faults.specs.Faults.{HasCause, HasRisen}
 use Rattle.vs_host.specs.File.{File, IsFileImage}
-use Rattle.vs_host.specs.Disk.{Disk, Name, IsImageOf}
+use Rattle.vs_host.specs.Disk.{Disk, Name, IsFolder, IsImageOf}
 use Rattle.vs_host.specs.Names.{AreNames}
 use Rattle.vs_host.specs.Trace.{Snapshot, Each}
 use Rattle.vs_host.specs.World.{Scene, ChangesFolder, ReadsFolder}
@@ -15,6 +15,7 @@ use Rattle.vs_text.specs.Text.{file_of}
 use Rattle.vs_disk.specs.Images.{HoldsBytes, MayLeave}
 use Rattle.vs_disk.specs.Names.{SameAt}
 use Rattle.vs_disk.specs.Runs.{Runs, FailsLast, Looks}
+use Rattle.vs_disk.proofs.Contents.{takes_then}
 use Rattle.vs_disk.proofs.Others.{same_none, same_then}
 use Rattle.vs_disk.proofs.Runs.{frames, reads_change, runs_as, runs_then}
 use Rattle.vs_disk.proofs.Steps.{itself}
@@ -28,6 +29,7 @@ use Rattle.vs_backup.specs.declared.errors.WriteErr.{WriteErr}
 use Rattle.vs_backup.specs.declared.errors.WriteErr.TheVariants as error
 use Rattle.vs_backup.specs.declared.errors.Place.TheVariants.{Nowhere}
 use Rattle.vs_backup.specs.Writing.{IsUnseen}
+use Rattle.vs_backup.proofs.Frames.{takes_spared}
 use Rattle.vs_machine.specs.Machine.{took_effect}
 use Rattle.vs_machine.specs.Replies.{Answer, says}
 use Rattle.vs_machine.specs.declared.command.Outcome.{Outcome}
@@ -36,7 +38,7 @@ use Rattle.vs_undo.specs.History.{History, history_marked}
 use Rattle.vs_ubind.specs.Storing.{StoresBy}
 use Rattle.vs_safety.specs.Causes.{newest_count, folder_count}
 use Rattle.vs_safety.specs.Texts.{Sync, Text, Recovers, recoverable}
-use Rattle.vs_safety.specs.Undo.{HasStored, UndoWrite}
+use Rattle.vs_safety.specs.Undo.{HasStored, HasUndo, UndoWrite}
 use Rattle.vs_safety.specs.Writes.{Write, HasWritten, IsWholeIn, backup_for, new_bytes, state_now}
 use Rattle.vs_safety.specs.FileWork.{BothFiles, FileWork}
 use Rattle.vs_safety.specs.Safety.{IsUnderWay, Spares}
@@ -48,7 +50,7 @@ use Rattle.vs_desk.specs.Still.{KeepsLeft}
 use Rattle.vs_desk.specs.Writes.{KeepsSwap}
 use Rattle.vs_session.specs.declared.session.Session.{Session}
 use Rattle.vs_session.specs.Session.{SessionState, after_sync, is_fault, is_write, line_by, reply_of, state_after, sync_in, undo_after, write_in, write_reply, written_state}
-use Rattle.vs_session.specs.Stores.{HasFailedStoring, HasUndo, StoresUndo}
+use Rattle.vs_session.specs.Stores.{HasFailedStoring, StoresUndo}
 use Rattle.vs_session.specs.Writes.{HasSynced, Wrote}
 use Rattle.vs_session.specs.Fits.{Answers, Fits, names_of}
 use Rattle.vs_session.proofs.Steps.{recovers_synced, risen_since, risen_until, works_runs}
@@ -74,9 +76,9 @@ synced_looked state syncs before between next old mid new s reads looks still na
 }
 
 -- nothing but that was done: as where a call failed before it was known whether there is a file
-pub wrote_nothing : (state : SessionState) (syncs : List Sync) (before after : Session) (old new : Scene) → Looks old new → new ≡ old → Fits before old.folder state syncs → Fits after new.folder state syncs
-    → Wrote state syncs before after (Err (error.Failed Nowhere)) old new
-wrote_nothing state syncs before after old new looks still fits now =
+pub wrote_nothing : (state : SessionState) (syncs : List Sync) (before after : Session) (old new : Scene) → IsFolder old.folder → Looks old new → new ≡ old → Fits before old.folder state syncs
+    → Fits after new.folder state syncs → Wrote state syncs before after (Err (error.Failed Nowhere)) old new
+wrote_nothing state syncs before after old new folder looks still fits now =
     let unseen : IsUnseen old new (Err (error.Failed Nowhere)) = record { looks = looks; failed = refl } in
     record {
       file = record { backed = λ was there backup made. inl unseen; all_taken = λ there on none. inl unseen; plain = λ was there off. inl unseen; fresh = λ none. inl unseen };
@@ -84,7 +86,8 @@ wrote_nothing state syncs before after old new looks still fits now =
       swap = runs_as (λ a b. b ≡ a) (KeepsSwap (names_of before) (recoverable syncs)) old new
           (λ d is. subst (λ (e : Disk). KeepsSwap (names_of before) (recoverable syncs) old.folder e) (sym is)
           (record { same = same_none (is_swap (names_of before)) old.folder; recovers = fits_recovers before.text old.folder state.machine.text syncs fits.stands.text })) looks;
-      others = λ inside out still. runs_as (λ a b. b ≡ a) (SameAt inside) old new (λ d is. subst (λ (e : Disk). SameAt inside old.folder e) (sym is) (same_none inside old.folder)) looks;
+      folder = folder;
+      others = λ inside out apart. runs_as (λ a b. b ≡ a) (SameAt inside) old new (λ d is. subst (λ (e : Disk). SameAt inside old.folder e) (sym is) (same_none inside old.folder)) looks;
       left = runs_as (λ a b. b ≡ a) (KeepsLeft (WorksOn state.options.write (names_of before).file old.folder)) old new
           (λ d is. subst (λ (e : Disk). KeepsLeft (WorksOn state.options.write (names_of before).file old.folder) old.folder e) (sym is) (λ name out left may. may)) looks;
       above = subst (λ (scene : Scene). NoneAbove old scene) (sym still) (above_none old);
@@ -99,13 +102,6 @@ held bytes disk name holds found may =
     let here = holds may.0 in
     let image = subst (λ (o : Option ℕ). IsImageOf disk o found) here.leads may.1 in
     image.1 ∙ ap (λ (b : List ℕ). Some b) (here.leaves image.0 image.2)
-
-holds_whole : (names : Names) (write : Write) (disk : Disk) → HoldsBytes names.file (new_bytes write) disk → IsWholeIn names write disk
-holds_whole names write disk holds = record {
-  backed = λ old backup is made. inr (λ image whole.
-      inl (subst (λ (o : Option (List ℕ)). IsSomeAnd o (λ c. (c ≡ old) ⊎ (c ≡ new_bytes write))) (sym (held (new_bytes write) disk names.file holds (image names.file) (whole.0, whole.1 names.file))) (inr refl)));
-  fresh = λ none found may. inl (held (new_bytes write) disk names.file holds found may);
-}
 
 module _ (names : Names) (old new : Disk) (spares : SparesNames (two_names names.undo_new names.undo) old new) where
   same_alone : (name : Name) → (two_names names.undo_new names.undo name → ⊥) → SameAt (bytes_eq name) old new
@@ -122,6 +118,18 @@ module _ (names : Names) (old new : Disk) (spares : SparesNames (two_names names
         leads = leads;
         leaves = λ c image. here.leaves c (subst (λ (f : File). IsFileImage f c) (same.files lost name here.number (itself name) leads) image);
       }
+
+  -- the file has the new bytes in each image, and so it goes on
+  kept_whole : (write : Write) → (two_names names.undo_new names.undo names.file → ⊥) → ((backup : Name) → backup_for names write ≡ Some backup → two_names names.undo_new names.undo backup → ⊥)
+      → HoldsBytes names.file (new_bytes write) new → IsWholeIn names write old → IsWholeIn names write new
+  kept_whole write out out_backup holds whole = record {
+    backed = λ was backup is made. inr (λ image left.
+        inl (subst (λ (o : Option (List ℕ)). IsSomeAnd o (λ c. (c ≡ was) ⊎ (c ≡ new_bytes write))) (sym (held (new_bytes write) new names.file holds (image names.file) (left.0, left.1 names.file))) (inr refl)));
+    replaced = λ was backup is made.
+        takes_then backup was write.found old new (whole.replaced was backup is made) (takes_spared (two_names names.undo_new names.undo) backup was old new (out_backup backup made) spares);
+    in_place = λ was backup is made copied. (same_alone names.file out).now names.file (itself names.file) ∙ whole.in_place was backup is made copied;
+    fresh = λ none found may. inl (held (new_bytes write) new names.file holds found may);
+  }
 
 -- ---- the count of faults as the storing begins
 
@@ -185,6 +193,9 @@ module _ (state : SessionState) (syncs : List Sync) (instruction : Instruction) 
       fits_stored after made.folder d (written_state (after_sync state true)) all (subst AreNames (sym names_after) named)
       (subst (λ (n : Names). SparesNames (two_names n.undo_new n.undo) made.folder d) (sym names_after) spares) wrote.fits
 
+  backup_is : (backup : Name) → backup_for names write ≡ Some backup → two_names names.undo_new names.undo backup → ⊥
+  backup_is backup made_as = backup_outside names named backup (backup_named names named state.options.write old.folder backup made_as)
+
   abbrev Both : Disk → Disk → Type 0
   Both a d = Spares names (Some work) (IsUnderWay names during (Some work)) old.folder d
 
@@ -193,15 +204,18 @@ module _ (state : SessionState) (syncs : List Sync) (instruction : Instruction) 
     folder = record {
       recovers = recovers_on state syncs instruction is before between old mid s d (recovers_synced names after d (written_state (after_sync state true)) all names_after (fits_on d storing.spares));
       whole = (
-        holds_whole names write d (holds_on d storing.spares),
+        kept_whole names made.folder d storing.spares write (file_outside names named) backup_is (holds_on d storing.spares) runs.now.whole,
         (
           λ left may. elim (storing.undo left may) [ inl was ↦ inl (runs.now.undo left was) | inr stored ↦ inr stored ],
           inr (holds_on d storing.spares),
         ),
       );
     };
-    spared = λ inside start foreign avoids settled spared.
-        same_then inside start made.folder d (runs.now.keeps inside start foreign avoids.0 settled spared) (storing.spares inside avoids.1);
+    spared = record {
+      apart = λ inside foreign avoids apart. same_then inside old.folder made.folder d (runs.now.keeps.apart inside foreign avoids.0 apart) (storing.spares inside avoids.1);
+      settled = λ inside start foreign avoids settled spared.
+          same_then inside start made.folder d (runs.now.keeps.settled inside start foreign avoids.0 settled spared) (storing.spares inside avoids.1);
+    };
   }
 
   both_runs : Runs Both old new
@@ -210,9 +224,6 @@ module _ (state : SessionState) (syncs : List Sync) (instruction : Instruction) 
 
   rises : Rises names old.folder new.folder
   rises = rises_kept names made.folder new.folder (stores.now.spares (is_swap names) (undo_outside names named)) old.folder (written_rises state syncs instruction is before between old mid s after (Ok size) made second wrote)
-
-  backup_is : (backup : Name) → backup_for names write ≡ Some backup → two_names names.undo_new names.undo backup → ⊥
-  backup_is backup made_as = backup_outside names named backup (backup_named names named state.options.write old.folder backup made_as)
 
   wrote_new : HasWritten names write true (state_now old) (state_now new)
   wrote_new = record {

@@ -28,16 +28,15 @@ use Rattle.vs_backup.specs.Backups.{WorksOn, IsBackupName, IsNoName, backs_up, b
 use Rattle.vs_backup.specs.Backups.WorksOn.{TheFile, TheNewFile, TheBackup, TheCopy}
 use Rattle.vs_backup.specs.Works.{IsOutside, Narrowed}
 use Rattle.vs_backup.specs.Writing.{IsUnseen, IsWhole, FindsNoName, MayLackNew, WritesFresh, WritesInPlace, WritesNew, WritesPlain, WritesWith, nowhere}
+use Rattle.vs_backup.proofs.Backed.{narrowed_content}
 use Rattle.vs_backup.proofs.Choosing.{candidates_are, letters_next, none_left, IsBackupName-plain, IsBackupName-lettered, some_name}
 use Rattle.vs_backup.proofs.Frames.{absent_now, not_same}
 use Rattle.vs_backup.proofs.Kept.{may_leave_now}
 use Rattle.vs_backup.proofs.NamesApart.{file_apart, backup_apart, temporary_apart}
 use Rattle.vs_safety.specs.Undo.{LeavesUndo}
-use Rattle.vs_safety.specs.Writes.{Write, State, AreForeign, Avoids, HasWritten, IsWholeIn, LeavesOld, backup_for, is_either, new_bytes, old_bytes, state_now}
-use Rattle.vs_desk.specs.Still.{IsStill, SparesStill}
+use Rattle.vs_safety.specs.Writes.{Write, State, AreForeign, Avoids, HasWritten, IsUntouched, IsWholeIn, LeavesOld, backup_for, is_either, new_bytes, old_bytes, state_now}
 use Rattle.vs_desk.specs.Writes.{WritesFile}
 use Rattle.vs_desk.proofs.Left.{goes_both, moved_to, narrowed_image, same_left}
-use Rattle.vs_desk.proofs.Stillness.{still_settled, still_lasts}
 use Rattle.vs_session.specs.Session.{lacks_name}
 use Rattle.vs_session.proofs.Steps.{apart_foreign}
 use Rattle.vs_session.proofs.UndoNames.{undo_apart}
@@ -174,21 +173,46 @@ module _ (names : Names) (are : AreNames names) where
       | inr other ↦ subst (λ (n : Name). is_apart names n ≡ true) ((bytes_eq-Decides backup name).0 (sym (ap (λ (b : Bool). b || bytes_eq backup name) other) ∙ is)) apart
     ]
 
-    pub leaves_old : (backup : Name) → IsBackupName names.file backup → LeavesOld names.file backup old mid
-    leaves_old backup named image part =
-        image_before (is_either names.file backup) old mid
-        (same_weaker (is_apart names) (is_either names.file backup) old mid (λ name is. either_apart backup name (apart_backup backup named) is) same) image part
+    pub untouched_old : (backup : Name) → IsBackupName names.file backup → IsUntouched names.file backup old mid
+    untouched_old backup named = record {
+      read = λ name is. content_same name (either_apart backup name (apart_backup backup named) is);
+      left = λ image part.
+          image_before (is_either names.file backup) old mid
+          (same_weaker (is_apart names) (is_either names.file backup) old mid (λ name is. either_apart backup name (apart_backup backup named) is) same) image part;
+    }
+
+    takes_apart : (name : Name) → is_apart names name ≡ true → (new : List ℕ) → Takes name new old mid
+    takes_apart name apart new found may =
+        let l = same.back may.0 in
+        inr (l.0, image_same old mid (names_at old l.0 name) (names_at mid may.0 name) found (l.1 name apart) (λ number leads. same.files may.0 name number apart leads) may.1)
 
     pub takes_old : (new : List ℕ) → Takes names.file new old mid
-    takes_old new found may =
-        let l = same.back may.0 in
-        inr (l.0, image_same old mid (names_at old l.0 names.file) (names_at mid may.0 names.file) found (l.1 names.file apart_file) (λ number leads. same.files may.0 names.file number apart_file leads) may.1)
+    takes_old new = takes_apart names.file apart_file new
+
+    pub takes_backup : (backup : Name) → IsBackupName names.file backup → (new : List ℕ) → Takes backup new old mid
+    takes_backup backup named new = takes_apart backup (apart_backup backup named) new
+
+    pub place_same : names_of mid names.file ≡ names_of old names.file
+    place_same = same.now names.file apart_file
 
 -- what narrowed, leaves of two names only what it left before
-pub narrowed_leaves : (one other : Name) (old new : Disk) → Narrowed old new → LeavesOld one other old new
+narrowed_leaves : (one other : Name) (old new : Disk) → Narrowed old new → LeavesOld one other old new
 narrowed_leaves one other old new narrowed image part =
     let l = narrowed.back part.0 in
     (l.0, λ name is. subst (λ (at : Option ℕ). IsImageOf old at (image name)) (l.1 name) (narrowed_image old new (names_at new part.0 name) (image name) narrowed (part.1 name is)))
 
-pub leaves_then : (one other : Name) (a b c : Disk) → LeavesOld one other a b → LeavesOld one other b c → LeavesOld one other a c
-leaves_then one other a b c first second image part = first image (second image part)
+-- and of each name
+pub narrowed_takes : (name : Name) (bytes : List ℕ) (old new : Disk) → Narrowed old new → Takes name bytes old new
+narrowed_takes name bytes old new narrowed found may =
+    let l = narrowed.back may.0 in
+    inr (l.0, subst (λ (at : Option ℕ). IsImageOf old at found) (l.1 name) (narrowed_image old new (names_at new may.0 name) found narrowed may.1))
+
+-- and the same is read under them
+pub narrowed_untouched : (one other : Name) (old new : Disk) → Narrowed old new → IsUntouched one other old new
+narrowed_untouched one other old new narrowed = record {
+  read = λ name is. narrowed_content name old new narrowed;
+  left = narrowed_leaves one other old new narrowed;
+}
+
+pub untouched_then : (one other : Name) (a b c : Disk) → IsUntouched one other a b → IsUntouched one other b c → IsUntouched one other a c
+untouched_then one other a b c first second = record { read = λ name is. second.read name is ∙ first.read name is; left = λ image part. first.left image (second.left image part) }

@@ -1,7 +1,7 @@
 -- What a session makes of what the write of its text answered.
 use Rattle.std.proofs.Common.{◌≡◌, inl, inr, ℕ, Bool, true, false, ◌==◌, cond, length, string_bytes, List, Result, Ok, Err, refl, sym, ◌∙◌, ap, subst}
 use Rattle.std.proofs.lemmas.Bool.{cases_Bool, true≢false}
-use Rattle.vs_host.specs.Disk.{Disk}
+use Rattle.vs_host.specs.Disk.{Disk, IsFolder}
 use Rattle.vs_host.specs.World.{Scene}
 use Rattle.vs_text.specs.Text.{file_of}
 use Rattle.vs_disk.specs.Runs.{Runs}
@@ -9,6 +9,7 @@ use Rattle.vs_options.specs.declared.setting.Options.{Options}
 use Rattle.vs_backup.specs.declared.errors.WriteErr.{WriteErr}
 use Rattle.vs_backup.specs.declared.errors.WriteErr.TheVariants as error
 use Rattle.vs_backup.specs.Backups.{IsNoName, WorksOn}
+use Rattle.vs_backup.specs.Works.{SparesOthers}
 use Rattle.vs_undo.specs.History.{marked}
 use Rattle.vs_undo.specs.declared.parts.Parts.{Parts}
 use Rattle.vs_backup.specs.Writing.{IsFailed}
@@ -16,7 +17,7 @@ use Rattle.vs_machine.specs.Replies.{Answer, says}
 use Rattle.vs_machine.specs.declared.command.Outcome.{Outcome}
 use Rattle.vs_safety.specs.Texts.{Sync, recoverable}
 use Rattle.vs_desk.specs.Counts.{NoneAbove}
-use Rattle.vs_desk.specs.Still.{KeepsLeft, SparesStill}
+use Rattle.vs_desk.specs.Still.{KeepsLeft}
 use Rattle.vs_desk.specs.Writes.{KeepsSwap, WritesFile}
 use Rattle.vs_session.specs.declared.session.Session.{Session}
 use Rattle.vs_session.specs.Session.{SessionState, is_fault, line_by}
@@ -27,13 +28,14 @@ use Rattle.vs_session.proofs.Written.{Refuses, err_of}
 -- with the options that the state has
 pub wrote : (state : SessionState) (syncs : List Sync) (before after : Session) (old new : Scene) (result : Result ℕ WriteErr) → Fits before old.folder state syncs
     → WritesFile before.options.write (names_of before) (file_of state.machine.text) old new result → (result ≡ Err error.NoBackupName → IsNoName before.options.write (names_of before).file true old.folder)
-    → Runs (KeepsSwap (names_of before) (recoverable syncs)) old new → SparesStill (WorksOn before.options.write (names_of before).file old.folder) old new
+    → Runs (KeepsSwap (names_of before) (recoverable syncs)) old new → IsFolder old.folder → SparesOthers (WorksOn before.options.write (names_of before).file old.folder) old new
     → Runs (KeepsLeft (WorksOn before.options.write (names_of before).file old.folder)) old new → NoneAbove old new → Fits after new.folder (state_to state result) syncs → Wrote state syncs before after result old new
-wrote state syncs before after old new result fits file no_name swap others left above now = record {
+wrote state syncs before after old new result fits file no_name swap folder others left above now = record {
   file = subst (λ (o : Options). WritesFile o.write (names_of before) (file_of state.machine.text) old new result) fits.options file;
   no_name = λ is. subst (λ (o : Options). IsNoName o.write (names_of before).file true old.folder) fits.options (no_name is);
   swap = swap;
-  others = subst (λ (o : Options). SparesStill (WorksOn o.write (names_of before).file old.folder) old new) fits.options others;
+  folder = folder;
+  others = subst (λ (o : Options). SparesOthers (WorksOn o.write (names_of before).file old.folder) old new) fits.options others;
   left = subst (λ (o : Options). Runs (KeepsLeft (WorksOn o.write (names_of before).file old.folder)) old new) fits.options left;
   above = above;
   fits = now;

@@ -3,39 +3,40 @@ use Rattle.std.proofs.Common.{◌≡◌, ◌⊎◌, inl, inr, ℕ, ◌≤◌, Bo
 use Rattle.std.specs.Prelude.{is_some, is_none, IsSome, IsErrOf}
 use Rattle.std.proofs.lemmas.Bool.{true≢false, cases_Bool}
 use Rattle.vs_faults.specs.Faults.{HasRisen}
-use Rattle.vs_host.specs.Disk.{Disk, Name, names_at, content_in}
-use Rattle.vs_host.specs.Names.{AreNames}
+use Rattle.vs_host.specs.Disk.{Disk, Name, IsFolder, names_of, names_at, content_in}
+use Rattle.vs_host.specs.Names.{AreNames, temporary}
 use Rattle.vs_host.specs.Trace.{Snapshot, GoesOn}
 use Rattle.vs_host.specs.World.{Scene}
 use Rattle.vs_host.specs.declared.names.Names.{Names}
 use Rattle.vs_text.specs.Text.{file_of}
 use Rattle.vs_disk.specs.Images.{HoldsBytes, MayLeave, Takes}
-use Rattle.vs_disk.specs.Names.{SameAt}
+use Rattle.vs_disk.specs.Names.{IsApart, SameAt}
 use Rattle.vs_disk.specs.Runs.{Inside, Runs, Looks}
 use Rattle.vs_disk.proofs.Contents.{takes_then, some_bytes}
 use Rattle.vs_disk.proofs.Others.{same_then}
 use Rattle.vs_disk.proofs.Runs.{goes_then, goes_weaker}
-use Rattle.vs_pair.specs.Pair.{is_apart}
+use Rattle.vs_pair.specs.Pair.{is_apart, is_swap}
 use Rattle.vs_pair.proofs.MadeFiles.{same_weaker}
 use Rattle.vs_backup.specs.declared.options.WriteOptions.{WriteOptions}
 use Rattle.vs_backup.specs.declared.errors.WriteErr.{WriteErr}
 use Rattle.vs_backup.specs.declared.errors.WriteErr.TheVariants as error
 use Rattle.vs_backup.specs.declared.errors.Place.TheVariants as place
-use Rattle.vs_backup.specs.Backups.{WorksOn, IsNoName, backs_up, backup_of}
-use Rattle.vs_backup.specs.Works.{Narrowed, two_names}
-use Rattle.vs_backup.specs.Writing.{FindsNoName, IsUnseen, IsWhole, MayLackNew, OldIn, WritesFresh, WritesInPlace, WritesNew, WritesPlain, WritesWith, nowhere}
+use Rattle.vs_backup.specs.Backups.{WorksOn, IsNoName, backs_up, backup_of, copies}
+use Rattle.vs_backup.specs.Works.{LeadsTo, Narrowed, SparesOthers, two_names}
+use Rattle.vs_backup.specs.Writing.{BeginsWhole, FindsNoName, Places, IsUnseen, IsWhole, MayLackNew, OldIn, WritesFresh, WritesInPlace, WritesNew, WritesPlain, WritesWith, nowhere}
 use Rattle.vs_backup.proofs.Frames.{absent_now}
 use Rattle.vs_backup.proofs.Kept.{may_leave_now}
 use Rattle.vs_safety.specs.Texts.{Text}
 use Rattle.vs_safety.specs.Writes.{Write, State, AreForeign, Avoids, HasWritten, IsWholeIn, state_now}
 use Rattle.vs_safety.specs.FileWork.{EditedFile, Keeps}
 use Rattle.vs_paged.proofs.SyncLemmas.{on_ok_as}
-use Rattle.vs_desk.specs.Still.{SparesStill}
+use Rattle.vs_desk.specs.Still.{IsStill}
 use Rattle.vs_desk.specs.Writes.{WritesFile}
-use Rattle.vs_desk.proofs.Stillness.{still_settled, still_lasts}
+use Rattle.vs_desk.proofs.Left.{goes_both}
+use Rattle.vs_desk.proofs.Stillness.{still_apart, still_settled, still_lasts}
 use Rattle.vs_session.specs.Session.{lacks_name}
 use Rattle.vs_session.proofs.Steps.{apart_foreign, risen_since}
-use Rattle.vs_session.proofs.FileWrites.{both_true, none_is, not_true, goes_all, backup_named, file_same, backup_same, works_same, leaves_old, takes_old, leaves_then, narrowed_leaves}
+use Rattle.vs_session.proofs.FileWrites.{both_true, none_is, not_true, goes_all, backup_named, file_same, backup_same, works_same, narrowed_takes, narrowed_untouched, place_same, takes_backup, takes_old, untouched_old, untouched_then}
 
 abbrev ok_size : ℕ → Result ℕ WriteErr
 ok_size size = Ok size
@@ -61,13 +62,33 @@ pub record Facts (names : Names) (options : WriteOptions) (bytes : List ℕ) (ol
 -- while only the swap files have changed
 pub whole_synced : (names : Names) (are : AreNames names) (options : WriteOptions) (text : Text) (old d : Disk) → SameAt (is_apart names) old d → IsWholeIn names (record { options = options; text = text; found = old }) d
 whole_synced names are options text old d same = record {
-  backed = λ was backup is made. inl (leaves_old names are old d same backup (backup_named names are options old backup made));
+  backed = λ was backup is made. inl (untouched_old names are old d same backup (backup_named names are options old backup made));
+  replaced = λ was backup is made. takes_backup names are old d same backup (backup_named names are options old backup made) was;
+  in_place = λ was backup is made copied. place_same names are old d same;
   fresh = λ none. takes_old names are old d same (file_of text);
 }
 
 pub keeps_synced : (names : Names) (write : Write) (old d : Disk) → SameAt (is_apart names) old d → Keeps names (Some (EditedFile write)) old d
-keeps_synced names write old d same inside start foreign avoids settled spared =
-    same_then inside start old d spared (same_weaker (is_apart names) inside old d (λ name is. apart_foreign names name (foreign name is)) same)
+keeps_synced names write old d same = record {
+  apart = λ inside foreign avoids apart. here inside foreign;
+  settled = λ inside start foreign avoids settled spared. same_then inside start old d spared (here inside foreign);
+}
+  where
+    here : (inside : Name → Bool) → AreForeign names inside → SameAt inside old d
+    here inside foreign = same_weaker (is_apart names) inside old d (λ name is. apart_foreign names name (foreign name is)) same
+
+-- no other name leads to the files of a set after the sync, either
+apart_synced : (names : Names) (inside : Name → Bool) (old mid : Disk) → AreForeign names inside → IsFolder mid → IsStill (is_swap names) mid → SameAt (is_apart names) old mid → IsApart inside old → IsApart inside mid
+apart_synced names inside old mid foreign folder still same apart = record {
+  alone = λ lost name other number is out leads there. elim (cases_Bool (is_swap names other)) [
+    | inl swap ↦
+        let one : name ≡ other = folder.apart lost name other number leads (still lost other swap ∙ there) in
+        absurd (true≢false (sym is ∙ ap inside one ∙ out))
+    | inr none ↦
+        let back = same.back lost in
+        apart.alone back.0 name other number is out (sym (back.1 name (apart_foreign names name (foreign name is))) ∙ leads) (sym (same.now other (ap not none)) ∙ there)
+  ];
+}
 
 module _ (names : Names) (are : AreNames names) (options : WriteOptions) (text : Text) (old : Disk) (mid new : Scene) (same : SameAt (is_apart names) old mid.folder) where
   abbrev write : Write
@@ -79,7 +100,19 @@ module _ (names : Names) (are : AreNames names) (options : WriteOptions) (text :
   there_mid : content_in mid.folder names.file ≡ content_in old names.file
   there_mid = file_same names are old mid.folder same
 
+  -- the file is copied to its backup
+  record Copied : Type 0 where
+    pub copied : copies options.copy ≡ true
+
   -- ---- the other names
+  -- a set to whose files no other name leads
+  record Apart : Type 0 where
+    pub inside : Name → Bool
+    pub foreign : AreForeign names inside
+    pub avoids : Avoids names write inside
+    pub apart : IsApart inside old
+
+  -- a set that was spared since a folder in which no change of a name was pending
   record Since : Type 0 where
     pub inside : Name → Bool
     pub start : Disk
@@ -91,23 +124,42 @@ module _ (names : Names) (are : AreNames names) (options : WriteOptions) (text :
   since_mid : (a : Since) → SameAt a.inside a.start mid.folder
   since_mid a = same_then a.inside a.start old mid.folder a.spared (same_weaker (is_apart names) a.inside old mid.folder (λ name is. apart_foreign names name (a.foreign name is)) same)
 
-  spares_since : SparesStill (WorksOn options names.file mid.folder) mid new → (a : Since) → Runs (SameAt a.inside) mid new
-  spares_since others a = others a.inside (λ name is on. a.avoids name is (works_same names are old mid.folder same options name on))
-      (still_lasts a.inside a.start mid.folder (since_mid a) (still_settled a.inside a.start a.settled))
+  apart_mid : (a : Apart) → SameAt a.inside old mid.folder
+  apart_mid a = same_weaker (is_apart names) a.inside old mid.folder (λ name is. apart_foreign names name (a.foreign name is)) same
 
-  keeps_of : (d : Disk) → ((a : Since) → SameAt a.inside a.start d) → Keeps names (Some (EditedFile write)) old d
-  keeps_of d all inside start foreign avoids settled spared = all (record { inside = inside; start = start; foreign = foreign; avoids = avoids; settled = settled; spared = spared })
+  keeps_of : (d : Disk) → ((a : Apart) → SameAt a.inside old d) → ((a : Since) → SameAt a.inside a.start d) → Keeps names (Some (EditedFile write)) old d
+  keeps_of d all since = record {
+    apart = λ inside foreign avoids apart. all (record { inside = inside; foreign = foreign; avoids = avoids; apart = apart });
+    settled = λ inside start foreign avoids settled spared. since (record { inside = inside; start = start; foreign = foreign; avoids = avoids; settled = settled; spared = spared });
+  }
 
-  pub keeps_moments : (Q : Snapshot → Type 0) → GoesOn Q mid.trace new.trace → SparesStill (WorksOn options names.file mid.folder) mid new
-      → GoesOn (λ m. Keeps names (Some (EditedFile write)) old m.folder) mid.trace new.trace
-  keeps_moments Q base others =
-      goes_weaker (λ m. (a : Since) → SameAt a.inside a.start m.folder) (λ m. Keeps names (Some (EditedFile write)) old m.folder) (λ m all. keeps_of m.folder all) mid.trace new.trace
-      (goes_all Since (λ a m. SameAt a.inside a.start m.folder) Q mid.trace new.trace base
-      (λ a. goes_weaker (Inside mid (SameAt a.inside mid.folder)) (λ m. SameAt a.inside a.start m.folder) (λ m inside. same_then a.inside a.start mid.folder m.folder (since_mid a) inside.folder) mid.trace new.trace
-      (spares_since others a).moments))
+  module _ (folder : IsFolder mid.folder) (still : IsStill (is_swap names) mid.folder) (others : SparesOthers (WorksOn options names.file mid.folder) mid new) where
+    spares_apart : (a : Apart) → Runs (SameAt a.inside) mid new
+    spares_apart a = others a.inside (λ name is on. a.avoids name is (works_same names are old mid.folder same options name on)) (apart_synced names a.inside old mid.folder a.foreign folder still same a.apart)
 
-  pub keeps_now : SparesStill (WorksOn options names.file mid.folder) mid new → Keeps names (Some (EditedFile write)) old new.folder
-  keeps_now others = keeps_of new.folder (λ a. same_then a.inside a.start mid.folder new.folder (since_mid a) (spares_since others a).now)
+    spares_since : (a : Since) → Runs (SameAt a.inside) mid new
+    spares_since a = others a.inside (λ name is on. a.avoids name is (works_same names are old mid.folder same options name on))
+        (still_apart a.inside mid.folder folder (still_lasts a.inside a.start mid.folder (since_mid a) (still_settled a.inside a.start a.settled)))
+
+    apart_moments : (Q : Snapshot → Type 0) → GoesOn Q mid.trace new.trace → GoesOn (λ m. (a : Apart) → SameAt a.inside old m.folder) mid.trace new.trace
+    apart_moments Q base = goes_all Apart (λ a m. SameAt a.inside old m.folder) Q mid.trace new.trace base
+        (λ a. goes_weaker (Inside mid (SameAt a.inside mid.folder)) (λ m. SameAt a.inside old m.folder) (λ m inside. same_then a.inside old mid.folder m.folder (apart_mid a) inside.folder) mid.trace new.trace
+        (spares_apart a).moments)
+
+    since_moments : (Q : Snapshot → Type 0) → GoesOn Q mid.trace new.trace → GoesOn (λ m. (a : Since) → SameAt a.inside a.start m.folder) mid.trace new.trace
+    since_moments Q base = goes_all Since (λ a m. SameAt a.inside a.start m.folder) Q mid.trace new.trace base
+        (λ a. goes_weaker (Inside mid (SameAt a.inside mid.folder)) (λ m. SameAt a.inside a.start m.folder) (λ m inside. same_then a.inside a.start mid.folder m.folder (since_mid a) inside.folder) mid.trace new.trace
+        (spares_since a).moments)
+
+    pub keeps_moments : (Q : Snapshot → Type 0) → GoesOn Q mid.trace new.trace → GoesOn (λ m. Keeps names (Some (EditedFile write)) old m.folder) mid.trace new.trace
+    keeps_moments Q base =
+        goes_weaker (λ m. ((a : Apart) → SameAt a.inside old m.folder) × ((a : Since) → SameAt a.inside a.start m.folder)) (λ m. Keeps names (Some (EditedFile write)) old m.folder)
+        (λ m both. keeps_of m.folder both.0 both.1) mid.trace new.trace
+        (goes_both (λ m. (a : Apart) → SameAt a.inside old m.folder) (λ m. (a : Since) → SameAt a.inside a.start m.folder) mid.trace new.trace (apart_moments Q base) (since_moments Q base))
+
+    pub keeps_now : Keeps names (Some (EditedFile write)) old new.folder
+    keeps_now = keeps_of new.folder (λ a. same_then a.inside old mid.folder new.folder (apart_mid a) (spares_apart a).now)
+        (λ a. same_then a.inside a.start mid.folder new.folder (since_mid a) (spares_since a).now)
 
   -- ---- the file and its backup, at each moment
   abbrev Good : Disk → Type 0
@@ -129,22 +181,54 @@ module _ (names : Names) (are : AreNames names) (options : WriteOptions) (text :
     module _ (was : List ℕ) (there : content_in old names.file ≡ Some was) where
       narrowed_good : (d : Disk) → Narrowed mid.folder d → Good d
       narrowed_good d narrowed = record {
-        backed = λ other backup is made. inl (leaves_then names.file backup old mid.folder d (leaves_old names are old mid.folder same backup (backup_named names are options old backup made)) (narrowed_leaves names.file backup mid.folder d narrowed));
+        backed = λ other backup is made. inl (untouched_then names.file backup old mid.folder d (untouched_old names are old mid.folder same backup (backup_named names are options old backup made))
+            (narrowed_untouched names.file backup mid.folder d narrowed));
+        replaced = λ other backup is made. takes_then backup other old mid.folder d (takes_backup names are old mid.folder same backup (backup_named names are options old backup made) other) (narrowed_takes backup other mid.folder d narrowed);
+        in_place = λ other backup is made copied. narrowed.now names.file ∙ place_same names are old mid.folder same;
         fresh = λ none. none_some was (Takes names.file bytes old d) (sym none ∙ there);
       }
 
-      whole_good : (backup : Name) → backup_of options names.file old ≡ Some backup → (d : Disk) → IsWhole names.file backup was bytes d → Good d
-      whole_good backup made d whole = record {
+      -- a moment after the two syncs
+      record After (backup : Name) (from d : Disk) : Type 0 where
+        pub whole : IsWhole names.file backup was bytes d
+        pub replaced : Takes backup was from d
+        pub in_place : copies options.copy ≡ true → names_of d names.file ≡ names_of from names.file
+
+      whole_good : (backup : Name) → backup_of options names.file old ≡ Some backup → (from d : Disk) → Narrowed mid.folder from → After backup from d → Good d
+      whole_good backup made from d narrowed after = record {
         backed = λ other name is named. inr (subst (λ (o : List ℕ). IsWhole names.file name o bytes d) (some_bytes was other (sym there ∙ is))
-            (subst (λ (n : Name). IsWhole names.file n was bytes d) (some_bytes backup name (sym made ∙ named)) whole));
+            (subst (λ (n : Name). IsWhole names.file n was bytes d) (some_bytes backup name (sym made ∙ named)) after.whole));
+        replaced = λ other name is named. subst (λ (o : List ℕ). Takes name o old d) (some_bytes was other (sym there ∙ is))
+            (subst (λ (n : Name). Takes n was old d) (some_bytes backup name (sym made ∙ named))
+            (takes_then backup was old from d ((narrowed_good from narrowed).replaced was backup there made) after.replaced));
+        in_place = λ other name is named copied. after.in_place copied ∙ (narrowed_good from narrowed).in_place was backup there made copied;
         fresh = λ none. none_some was (Takes names.file bytes old d) (sym none ∙ there);
       }
 
       not_backed : backup_of options names.file old ≡ None → (d : Disk) → Good d
       not_backed none d = record {
         backed = λ other name is named. none_some name _ (sym none ∙ named);
+        replaced = λ other name is named. none_some name _ (sym none ∙ named);
+        in_place = λ other name is named copied. none_some name _ (sym none ∙ named);
         fresh = λ gone. none_some was (Takes names.file bytes old d) (sym gone ∙ there);
       }
+
+      module _ (backup : Name) (begins : BeginsWhole (copies options.copy) options.backup names.file (temporary backup) backup was bytes mid new result) where
+        place_moments : (copied : copies options.copy ≡ true) → Runs (LeadsTo names.file names.file) begins.begun new
+        place_moments copied = subst (λ (c : Bool). Places c options.backup names.file backup begins.begun new result) copied begins.places
+
+        after_moments : GoesOn (λ m. After backup begins.begun.folder m.folder) begins.begun.trace new.trace
+        after_moments = goes_weaker (λ m. Inside begins.begun (IsWhole names.file backup was bytes) m × (Inside begins.begun (Takes backup was begins.begun.folder) m × ((c : Copied) → LeadsTo names.file names.file begins.begun.folder m.folder)))
+            (λ m. After backup begins.begun.folder m.folder) (λ m all. record { whole = all.0.folder; replaced = all.1.0.folder; in_place = λ copied. all.1.1 (record { copied = copied }) 0 }) begins.begun.trace new.trace
+            (goes_both (Inside begins.begun (IsWhole names.file backup was bytes))
+            (λ m. Inside begins.begun (Takes backup was begins.begun.folder) m × ((c : Copied) → LeadsTo names.file names.file begins.begun.folder m.folder)) begins.begun.trace new.trace begins.whole.moments
+            (goes_both (Inside begins.begun (Takes backup was begins.begun.folder)) (λ m. (c : Copied) → LeadsTo names.file names.file begins.begun.folder m.folder) begins.begun.trace new.trace begins.replaced.moments
+            (goes_all Copied (λ c m. LeadsTo names.file names.file begins.begun.folder m.folder) (Inside begins.begun (Takes backup was begins.begun.folder)) begins.begun.trace new.trace begins.replaced.moments
+            (λ c. goes_weaker (Inside begins.begun (LeadsTo names.file names.file begins.begun.folder)) (λ m. LeadsTo names.file names.file begins.begun.folder m.folder) (λ m inside. inside.folder) begins.begun.trace new.trace
+            (place_moments c.copied).moments))))
+
+        after_now : After backup begins.begun.folder new.folder
+        after_now = record { whole = begins.whole.now; replaced = begins.replaced.now; in_place = λ copied. (place_moments copied).now 0 }
 
       backed_moments : (backup : Name) → backup_of options names.file old ≡ Some backup → WritesWith options names.file backup was bytes mid new result → Moments
       backed_moments backup made writes = elim writes.moments [
@@ -152,8 +236,9 @@ module _ (names : Names) (are : AreNames names) (options : WriteOptions) (text :
         | inl begins ↦ (
           goes_then (λ m. Good m.folder) mid.trace begins.begun.trace new.trace
               (goes_weaker (Inside mid (Narrowed mid.folder)) (λ m. Good m.folder) (λ m inside. narrowed_good m.folder inside.folder) mid.trace begins.begun.trace begins.looked.moments)
-              (goes_weaker (Inside begins.begun (IsWhole names.file backup was bytes)) (λ m. Good m.folder) (λ m inside. whole_good backup made m.folder inside.folder) begins.begun.trace new.trace begins.whole.moments),
-          whole_good backup made new.folder begins.whole.now,
+              (goes_weaker (λ m. After backup begins.begun.folder m.folder) (λ m. Good m.folder) (λ m after. whole_good backup made begins.begun.folder m.folder begins.looked.now after) begins.begun.trace new.trace
+              (after_moments backup begins)),
+          whole_good backup made begins.begun.folder new.folder begins.looked.now (after_now backup begins),
         )
       ]
 
@@ -170,6 +255,8 @@ module _ (names : Names) (are : AreNames names) (options : WriteOptions) (text :
       | inl unseen ↦ from_looks unseen.looks
       | inr writes ↦ from_runs (Takes names.file bytes) (λ d takes. record {
         backed = λ was backup is made. none_some was _ (sym none ∙ is);
+        replaced = λ was backup is made. none_some was _ (sym none ∙ is);
+        in_place = λ was backup is made copied. none_some was _ (sym none ∙ is);
         fresh = λ gone. takes_then names.file bytes old mid.folder d (takes_old names are old mid.folder same bytes) takes;
       }) writes.fresh.takes
     ]

@@ -13,13 +13,14 @@ use Rattle.vs_disk.specs.Images.{HoldsBytes}
 use Rattle.vs_disk.specs.Names.{SameAt}
 use Rattle.vs_disk.specs.Runs.{Inside, Runs, Looks}
 use Rattle.vs_disk.proofs.Runs.{frames, goes_weaker, runs_as, runs_then}
-use Rattle.vs_pair.specs.Pair.{Rises, is_apart}
+use Rattle.vs_pair.specs.Pair.{Rises, is_apart, is_swap}
 use Rattle.vs_pair.proofs.Others.{rises_kept}
 use Rattle.vs_excmd.specs.Request.{Instruction}
 use Rattle.vs_backup.specs.declared.options.WriteOptions.{WriteOptions}
 use Rattle.vs_backup.specs.declared.errors.WriteErr.{WriteErr}
 use Rattle.vs_backup.specs.declared.errors.WriteErr.TheVariants as error
 use Rattle.vs_backup.specs.Backups.{IsNoName, WorksOn}
+use Rattle.vs_backup.specs.Works.{SparesOthers}
 use Rattle.vs_machine.specs.Machine as machine
 use Rattle.vs_machine.specs.Machine.{took_effect}
 use Rattle.vs_machine.specs.Replies.{Answer, says, refuses, device_fault, no_backup_name, out_of_memory, written_line}
@@ -33,9 +34,10 @@ use Rattle.vs_safety.specs.Writes.{Write, HasWritten, IsWholeIn, state_now}
 use Rattle.vs_safety.specs.FileWork.{BothFiles, EditedFile, FileWork, HasLeft, IsWholeAt, Keeps}
 use Rattle.vs_safety.specs.Safety.{IsUnderWay, Spares, Works}
 use Rattle.vs_paged.specs.Fits as folder
-use Rattle.vs_desk.specs.Still.{KeepsLeft, SparesStill}
+use Rattle.vs_desk.specs.Still.{IsStill, KeepsLeft}
 use Rattle.vs_desk.specs.Writes.{KeepsSwap, WritesFile}
 use Rattle.vs_desk.proofs.Left.{goes_both}
+use Rattle.vs_desk.proofs.Stillness.{still_fits}
 use Rattle.vs_session.specs.declared.session.Session.{Session}
 use Rattle.vs_session.specs.Session.{SessionState, Ended, accepts_quit, after_sync, answered, begins_sync, carried, is_fault, is_write, lacks_name, line_by, reply_of, state_after, stores_both, sync_in, undo_after, undo_work, with_history, write_in, write_reply, write_work, written_state}
 use Rattle.vs_session.specs.Writes.{HasSynced, Wrote, state_to}
@@ -52,7 +54,7 @@ record Did (names : Names) (options : WriteOptions) (text : Text) (syncs : List 
   pub file : WritesFile options names (file_of text) mid new result
   pub no_name : result ≡ Err error.NoBackupName → IsNoName options names.file true mid.folder
   pub swap : Runs (KeepsSwap names (recoverable syncs)) mid new
-  pub others : SparesStill (WorksOn options names.file mid.folder) mid new
+  pub others : SparesOthers (WorksOn options names.file mid.folder) mid new
   pub left : Runs (KeepsLeft (WorksOn options names.file mid.folder)) mid new
 
 -- A moment of the write, over a folder as the command found it.
@@ -181,8 +183,11 @@ module _ (state : SessionState) (syncs : List Sync) (instruction : Instruction) 
     left_all : GoesOn (λ m. LeavesUndo names old.folder m.folder) mid.trace new.trace
     left_all = goes_weaker (Inside mid (KeepsLeft (WorksOn options names.file mid.folder) mid.folder)) (λ m. LeavesUndo names old.folder m.folder) (λ m inside. undo_left m.folder inside.folder) mid.trace new.trace did.left.moments
 
+    still : IsStill (is_swap names) mid.folder
+    still = subst (λ (n : Names). IsStill (is_swap n) mid.folder) s.names (still_fits between.text mid.folder _ _ s.synced.stands.text)
+
     keeps_all : GoesOn (λ m. Keeps names (Some (EditedFile write)) old.folder m.folder) mid.trace new.trace
-    keeps_all = keeps_moments names are options text old.folder mid new same Base did.swap.moments did.others
+    keeps_all = keeps_moments names are options text old.folder mid new same wrote.folder still did.others Base did.swap.moments
 
     abbrev Parts : Snapshot → Type 0
     Parts m = Keeps names (Some (EditedFile write)) old.folder m.folder × (IsWholeIn names write m.folder × LeavesUndo names old.folder m.folder)
@@ -206,7 +211,7 @@ module _ (state : SessionState) (syncs : List Sync) (instruction : Instruction) 
         recovers = recovers_on new.folder did.swap.now.recovers;
         whole = whole_all.1;
         undo = undo_left new.folder did.left.now;
-        keeps = keeps_now names are options text old.folder mid new same did.others;
+        keeps = keeps_now names are options text old.folder mid new same wrote.folder still did.others;
       };
     }
 
@@ -243,7 +248,10 @@ module _ (state : SessionState) (syncs : List Sync) (instruction : Instruction) 
   pub lead : (b : Bool) (d : Disk) → Moment names write under old.folder d → Spares names (Some (work_by b)) (IsUnderWay names under (Some (work_by b))) old.folder d
   lead true d m = record {
     folder = record { recovers = m.recovers; whole = (m.whole, (λ left may. inl (m.undo left may), inl m.undo)) };
-    spared = λ inside start foreign avoids settled spared. m.keeps inside start foreign avoids.0 settled spared;
+    spared = record {
+      apart = λ inside foreign avoids apart. m.keeps.apart inside foreign avoids.0 apart;
+      settled = λ inside start foreign avoids settled spared. m.keeps.settled inside start foreign avoids.0 settled spared;
+    };
   }
   lead false d m = record { folder = record { recovers = m.recovers; whole = (m.whole, m.undo) }; spared = m.keeps }
 

@@ -1,10 +1,12 @@
 -- The write of a session's file, after the sync that its command begins.
 use Rattle.std.specs.Prelude.{◌≡◌, ◌∷◌, ℕ, true, List, Result, Ok, Err}
+use Rattle.vs_host.specs.Disk.{IsFolder}
 use Rattle.vs_host.specs.World.{Scene, ChangesFolder}
 use Rattle.vs_text.specs.Text.{file_of}
 use Rattle.vs_disk.specs.Runs.{Runs}
 use Rattle.vs_pair.specs.Pair.{Rises}
 use Rattle.vs_backup.specs.Backups.{IsNoName, WorksOn}
+use Rattle.vs_backup.specs.Works.{SparesOthers}
 use Rattle.vs_backup.specs.declared.errors.WriteErr.{WriteErr}
 use Rattle.vs_backup.specs.declared.errors.WriteErr.TheVariants as error
 use Rattle.vs_machine.specs.declared.command.Outcome.{Outcome}
@@ -13,7 +15,7 @@ use Rattle.vs_machine.specs.Replies.{Answer, refuses, device_fault, no_backup_na
 use Rattle.vs_safety.specs.Texts.{Sync, recoverable}
 use Rattle.vs_paged.specs.Fits.{Syncing}
 use Rattle.vs_desk.specs.Counts.{NoneAbove}
-use Rattle.vs_desk.specs.Still.{KeepsLeft, SparesStill}
+use Rattle.vs_desk.specs.Still.{KeepsLeft}
 use Rattle.vs_desk.specs.Writes.{KeepsSwap, WritesFile}
 use Rattle.vs_session.specs.declared.session.Session.{Session}
 use Rattle.vs_session.specs.Session.{SessionState, after_sync, sync_in, written_state}
@@ -40,7 +42,8 @@ pub record Wrote (state : SessionState) (syncs : List Sync) (before after : Sess
   pub file : WritesFile state.options.write (names_of before) (file_of state.machine.text) old new result
   pub no_name : result ≡ Err error.NoBackupName → IsNoName state.options.write (names_of before).file true old.folder
   pub swap : Runs (KeepsSwap (names_of before) (recoverable syncs)) old new
-  pub others : SparesStill (WorksOn state.options.write (names_of before).file old.folder) old new
+  pub folder : IsFolder old.folder
+  pub others : SparesOthers (WorksOn state.options.write (names_of before).file old.folder) old new
   pub left : Runs (KeepsLeft (WorksOn state.options.write (names_of before).file old.folder)) old new
   pub above : NoneAbove old new
   pub fits : Fits after new.folder (state_to state result) syncs

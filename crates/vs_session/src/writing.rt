@@ -6,11 +6,10 @@ ghost use Rattle.vs_excmd.specs.Request.{Instruction};
 ghost use Rattle.vs_undo.specs.History.{History, history_marked};
 ghost use Rattle.vs_machine.specs.Replies.{says};
 ghost use Rattle.vs_safety.specs.Texts.{Sync, Text};
-ghost use Rattle.vs_safety.specs.Undo.{IsUndoOf};
+ghost use Rattle.vs_safety.specs.Undo.{HasUndo, IsUndoOf};
 ghost use Rattle.vs_session.specs.Calls.{GoesOn, GoesOnSyncing, IsUsable, StoresBytes};
 ghost use Rattle.vs_session.specs.Fits.{Answers, Fits, IsFault, IsMarkedAt, IsStep, generation_of, names_of};
 ghost use Rattle.vs_session.specs.Session.{SessionState, is_fault, is_write, line_by};
-ghost use Rattle.vs_session.specs.Stores.{HasUndo};
 ghost use Rattle.vs_session.specs.Writes.{HasSynced, Wrote, outcome_to, reply_to};
 
 use crate::{Session, Step};

@@ -32,9 +32,7 @@ returns-clause-fits g c told lines syncs fits =
     fits_changed paged _ s1.folder lines lines syncs refl (λ mark map le since. same.marks mark map since) (paged_same g.F.World.tells.folder _ _ _ _ lines told same fits.pages) (fits_kept paged s0.folder s1.folder lines syncs runs.now fits)
 
 pub returns-clause-others : goal.returns-clause-others
-returns-clause-others g c told inside out still =
-    let s0 : Scene = g.F.World.scene c.args.host.now in
-    c.write_in.ensures.others told inside out (still_apart inside s0.folder (g.F.World.is_folder c.args.host.now told) still)
+returns-clause-others g c told = c.write_in.ensures.others told
 
 pub returns-clause-left : goal.returns-clause-left
 returns-clause-left g c told lines syncs fits =
