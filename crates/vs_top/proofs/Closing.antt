@@ -1,13 +1,13 @@
 -- How a run closes: the last sync or the removal, and the last line, each with what it answers and the promise.
 use Rattle.std.proofs.Common.{◌≡◌, ◌⊎◌, inl, inr, ℕ, ◌≤◌, ◌<◌, ◌+◌, Bool, true, false, not, if◌then◌else◌, List, [], ◌∷◌, ◌++◌, length, take, map, All, Option, Some, None, IsTrue, IsErrAnd, Ok, Err, refl, sym, ap, subst, ◌∙◌, append_assoc, append-nil, arith}
 use Rattle.std.proofs.lemmas.Bool.{true≢false}
-use Rattle.std.proofs.lemmas.List.{take_all}
+use Rattle.std.proofs.lemmas.List.{length-append, take_all}
 use Rattle.vs_faults.specs.Faults.{HasRisen}
 use Rattle.vs_faults.proofs.Causes.{risen_before, risen_after}
 use Rattle.vs_host.specs.Disk.{Disk, Name, IsImage, IsImageOf}
 use Rattle.vs_host.specs.Names.{names_of_file}
-use Rattle.vs_host.specs.Trace.{WroteOutput}
-use Rattle.vs_host.specs.World.{Tells, Scene, ChangesFolder, ChangesOutput, content_of}
+use Rattle.vs_host.specs.Trace.{WroteOutput, Snapshot}
+use Rattle.vs_host.specs.World.{Tells, Scene, ChangesFolder, ChangesOutput, content_of, snapshot_of}
 use Rattle.vs_host.specs.declared.names.Names.{Names}
 use Rattle.vs_disk.specs.Runs.{FailsLast}
 use Rattle.vs_pair.specs.Pair.{Image, NoneThere}
@@ -15,20 +15,23 @@ use Rattle.vs_pair.specs.Steps.{IsAbsent, IsFresh}
 use Rattle.vs_excmd.specs.Request.{Instruction}
 use Rattle.vs_script.specs.Ahead.{script_limit}
 use Rattle.vs_machine.specs.declared.command.Mark.{Mark}
-use Rattle.vs_safety.specs.Texts.{Sync, RecoversOrNone, recoverable}
+use Rattle.vs_safety.specs.Texts.{Sync, IsBetween, RecoversOrNone, recoverable}
 use Rattle.vs_safety.specs.Turns.{Turn, Closing, NotBegun, LastSync, Quits, last_turn, after_turns, opened, preserved_line, quit_line}
 use Rattle.vs_safety.specs.Safety.{IsCrashSafe, IsAdded, Works, Writes, Stepped}
 use Rattle.vs_safety.specs.Going.{Going, Stepping, Halted}
+use Rattle.vs_safety.specs.Stretches.{IsFirst}
+use Rattle.vs_safety.specs.Writes.{State}
 use Rattle.vs_safety.specs.Causes.{IsCounted, RoseLast, output_count, folder_count}
 use Rattle.vs_safety.proofs.Going.{going_steps, going_halts, reply_written, reply_cut, stepping_halts}
 use Rattle.vs_safety.proofs.Endings.{halted_safe, quit_stops, quit_written}
 use Rattle.vs_safety.proofs.Causes.{rose_at, rose_last}
+use Rattle.vs_safety.proofs.Moments.{first_stays}
 use Rattle.vs_session.specs.declared.session.Session.{Session}
 use Rattle.vs_session.specs.declared.ending.End.{End}
 use Rattle.vs_session.specs.declared.ending.End.TheVariants as end
 use Rattle.vs_session.specs.Session.{SessionState, Ended, sync_in, states_after, turns_of}
 use Rattle.vs_session.specs.Fits.{Fits, Leaves, HasSwap, names_of}
-use Rattle.vs_top.specs.Run.{TellsRun, Did, KeepsMarks, Closes, AnswersAll, IsCutLast, HasRun, RunsEdit, Counts, counts_of, OnlyFolder, FaultHasCause, IsTimed, opened_file, ran_of, written, closing_line}
+use Rattle.vs_top.specs.Run.{TellsRun, Did, KeepsMarks, HasSince, IsCalm, KeepsSwap, Closes, AnswersAll, IsCutLast, HasRun, RunsEdit, Counts, answered_at, counts_of, OnlyFolder, FaultHasCause, IsTimed, opened_file, ran_of, written, closing_line}
 use Rattle.vs_top.specs.Turns.{text_at, opening_at, Told, KeepsOpenFile, StopsAt, IsAtClose}
 use Rattle.vs_top.specs.declared.ending.Ending.{Ending}
 use Rattle.vs_top.specs.Ending.{ending_in}
@@ -47,6 +50,7 @@ fresh_image names disk fresh image whole = (absent_image names.swp disk fresh.no
 pub record Finishes (tells : Tells) (session : Session) (now mid : Scene) (how : End) (ok : Bool) : Type 0 where
   pub sync : how ≡ end.Sync → IsTrue tells.folder → (state : SessionState) (syncs : List Sync) → Fits session now.folder state syncs → Stepped (names_of session) syncs (last_turn (sync_in state ok)) now mid
   pub quit : how ≡ end.Quit → IsTrue tells.folder → (state : SessionState) (syncs : List Sync) → Fits session now.folder state syncs → Leaves (names_of session) syncs now mid
+  pub calm : ok ≡ true → mid.folder_faults ≡ now.folder_faults
   pub last : IsTrue tells.folder → FailsLast now mid
   pub later : now.folder_faults ≤ mid.folder_faults
   pub frame : ChangesFolder now mid
@@ -70,9 +74,9 @@ line_is end.Sync ok state = refl
 line_is end.Quit ok state = refl
 
 by_clean : (clean : Bool) (name : List ℕ) (old new : Scene) (marks : List Mark) (did : Did) → KeepsMarks (opened_file old name) marks did → AnswersAll (not clean) (opened_file old name) old new did
-    → ((HasSwap (names_of_file name) old.folder → ⊥) → IsCrashSafe (names_of_file name) old new (ran_of name old did)) → HasRun name old new (if clean then ending.Done else ending.WithErrors) marks
-by_clean true name old new marks did kept answered safe = record { did = did; kept = kept; answered = answered; safe = safe; failed = tt; looks = λ early. absurd (true≢false (sym early)) }
-by_clean false name old new marks did kept answered safe = record { did = did; kept = kept; answered = answered; safe = safe; failed = tt; looks = λ early. absurd (true≢false (sym early)) }
+    → KeepsSwap (opened_file old name) did new.folder → ((HasSwap (names_of_file name) old.folder → ⊥) → IsCrashSafe (names_of_file name) old new (ran_of name old did)) → HasRun name old new (if clean then ending.Done else ending.WithErrors) marks
+by_clean true name old new marks did kept answered left safe = record { did = did; kept = kept; answered = answered; safe = safe; left = left; failed = tt; looks = λ early. absurd (true≢false (sym early)) }
+by_clean false name old new marks did kept answered left safe = record { did = did; kept = kept; answered = answered; safe = safe; left = left; failed = tt; looks = λ early. absurd (true≢false (sym early)) }
 
 module _ (tells : Tells) (name : List ℕ) (old now mid : Scene) (session : Session) (marks : List Mark) (clean : Bool) (told : TellsRun tells) (keeps : KeepsOpenFile tells name old now session marks)
     (commands : List Instruction) (ends : List Ended) (here : Told name old now session marks clean commands ends) where
@@ -103,9 +107,46 @@ module _ (tells : Tells) (name : List ℕ) (old now mid : Scene) (session : Sess
       here.going.output ∙ append_assoc old.output (opening_at old name) (Rattle.vs_safety.specs.Turns.replies turns)
       ∙ ap (λ (l : List ℕ). old.output ++ (opening_at old name ++ l)) (replies_same (opened_file old name).state commands ends)
 
+  -- since the last reply
+  since : (how : End) (ok : Bool) (new : Scene) (newer : List Snapshot) → new.trace ≡ newer ++ now.trace → (P : Snapshot → Type 0) → P here.going.here → HasSince (answered_at (opened_file old name) old (did how ok)) old new P
+  since how ok new newer is P has = record {
+    moments = newer ++ here.going.moments;
+    added = is ∙ ap (λ (ms : List Snapshot). newer ++ ms) here.going.course.added ∙ sym (append_assoc newer here.going.moments old.trace);
+    first = here.going.here;
+    begins = subst (λ (n : ℕ). IsFirst n (newer ++ here.going.moments) here.going.here) (ap (λ (l : List ℕ). length l) output_is ∙ length-append old.output (written (opened_file old name) commands ends))
+        (first_stays (length now.output) here.going.moments newer here.going.here here.going.begins);
+    has = has;
+  }
+
+  -- what the trace has more
+  pub more_mid : (how : End) (ok : Bool) → Finishes tells session now mid how ok → (newer : List Snapshot) × (mid.trace ≡ newer ++ now.trace)
+  more_mid how ok finishes =
+      let last = finishes.last told.folder in
+      (last.last ++ last.earlier, last.is ∙ sym (append_assoc last.last last.earlier now.trace))
+
+  more_new : (how : End) (ok : Bool) (new : Scene) → Finishes tells session now mid how ok → IsAdded WroteOutput [] mid new → (newer : List Snapshot) × (new.trace ≡ newer ++ now.trace)
+  more_new how ok new finishes added =
+      let more = more_mid how ok finishes in
+      elim added [
+        | inl told_here ↦ (snapshot_of new WroteOutput [] ∷ more.0, told_here ∙ ap (λ (ms : List Snapshot). snapshot_of new WroteOutput [] ∷ ms) more.1)
+        | inr left ↦ (more.0, left.trace ∙ more.1)
+      ]
+
+  same_faults : here.going.here.folder_faults ≡ now.folder_faults
+  same_faults = ap (λ (s : State). s.faults) here.going.state
+
+  -- and no call has failed
+  calm : (how : End) (new : Scene) (newer : List Snapshot) → new.trace ≡ newer ++ now.trace → new.folder_faults ≡ mid.folder_faults → Finishes tells session now mid how true → IsCalm (opened_file old name) old new (did how true)
+  calm how new newer is faults finishes = since how true new newer is (λ m. new.folder_faults ≡ m.folder_faults) (faults ∙ finishes.calm refl ∙ sym same_faults)
+
   stepping : (ok : Bool) → Finishes tells session now mid end.Sync ok → Stepping names old mid (text_at old name) (opening_at old name) turns (last_turn (sync_in state ok))
   stepping ok finishes = going_steps names old (text_at old name) (opening_at old name) now mid turns (last_turn (sync_in state ok)) (omega arith)
       (subst (λ (n : Names). Stepped n syncs (last_turn (sync_in state ok)) now mid) keeps.names (finishes.sync refl told.folder state syncs here.fits)) here.going
+
+  -- a swap file stands for the last sync, or an accepted quit has removed them
+  left : (how : End) (ok : Bool) (new : Scene) → new.folder ≡ mid.folder → Finishes tells session now mid how ok → KeepsSwap (opened_file old name) (did how ok) new.folder
+  left end.Sync ok new folder finishes = subst (λ (d : Disk). IsBetween names (sync_in state ok ∷ syncs) d) (sym folder) (stepping ok finishes).between
+  left end.Quit ok new folder finishes = tt
 
   removal : (ok : Bool) → Finishes tells session now mid end.Quit ok → Works names None (RecoversOrNone names (recoverable syncs)) now mid
   removal ok finishes = subst (λ (n : Names). Works n None (RecoversOrNone n (recoverable syncs)) now mid) keeps.names (finishes.quit refl told.folder state syncs here.fits).works
@@ -140,6 +181,7 @@ module _ (tells : Tells) (name : List ℕ) (old now mid : Scene) (session : Sess
     kept = kept how false;
     answered = inr (record { closes = closes how false stops mid (ap (λ (s : Scene). s.script) finishes.frame); output = mid_output how false finishes });
     safe = λ free. failed_safe how finishes;
+    left = inr (left how false mid refl finishes);
     failed = rose_last folder_count old now mid (λ m none. none.folder) (finishes.last told.folder) rose here.counted.folder;
     looks = λ early. absurd (true≢false (sym early));
   }
@@ -152,17 +194,20 @@ module _ (tells : Tells) (name : List ℕ) (old now mid : Scene) (session : Sess
     answered = inr (record {
       closes = closes how true stops new (script ∙ ap (λ (s : Scene). s.script) finishes.frame);
       count = n;
+      calm = calm how new (more_new how true new finishes writes.added).0 (more_new how true new finishes writes.added).1 writes.faults finishes;
       output = writes.output ∙ ap (λ (l : List ℕ). l ++ take n (closing_line (closing_of how true state))) (mid_output how true finishes) ∙ append_assoc old.output (written (opened_file old name) commands ends) (take n (closing_line (closing_of how true state)));
     });
     safe = λ free. cut_safe how new n finishes gone writes;
+    left = left how true new writes.folder finishes;
     failed = rose_at output_count old mid new WroteOutput [] writes.added rose (counted how finishes);
     looks = λ early. absurd (true≢false (sym early));
   }
 
   all_answered : (how : End) (new : Scene) → StopsAt how (opened_file old name) old now commands ends → Finishes tells session now mid how true → new.output ≡ mid.output ++ closing_line (closing_of how true state) → new.script ≡ mid.script
-      → AnswersAll (not clean) (opened_file old name) old new (did how true)
-  all_answered how new stops finishes output script = record {
+      → new.folder_faults ≡ mid.folder_faults → IsAdded WroteOutput [] mid new → AnswersAll (not clean) (opened_file old name) old new (did how true)
+  all_answered how new stops finishes output script faults added = record {
     closes = closes how true stops new (script ∙ ap (λ (s : Scene). s.script) finishes.frame);
+    calm = calm how new (more_new how true new finishes added).0 (more_new how true new finishes added).1 faults finishes;
     output = output ∙ ap (λ (l : List ℕ). l ++ closing_line (closing_of how true state)) (mid_output how true finishes) ∙ append_assoc old.output (written (opened_file old name) commands ends) (closing_line (closing_of how true state));
     errors_are = flip_clean clean _ here.errors;
   }
@@ -172,7 +217,8 @@ module _ (tells : Tells) (name : List ℕ) (old now mid : Scene) (session : Sess
   run_ends how new stops finishes gone writes script =
       let line : List ℕ = closing_line (closing_of how true state) in
       by_clean clean name old new marks (did how true) (kept how true)
-      (all_answered how new stops finishes (writes.output ∙ ap (λ (l : List ℕ). mid.output ++ l) (take_all (length line) line (omega arith))) script)
+      (all_answered how new stops finishes (writes.output ∙ ap (λ (l : List ℕ). mid.output ++ l) (take_all (length line) line (omega arith))) script writes.faults writes.added)
+      (left how true new writes.folder finishes)
       (λ free. cut_safe how new (length line) finishes gone writes)
 
 -- ---- over any host

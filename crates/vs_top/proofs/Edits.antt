@@ -83,13 +83,15 @@ module _ (tells : Tells) (name : List ℕ) (old new : Scene) (pending : IsTrue t
   -- the file was not opened
   module _ (marks : List Mark) (none : marks ≡ []) where
     run_none : (end : Ending) → TellsRun tells → Rattle.vs_top.specs.Run.AnsweredBy end (opened_file old name) old new marks did_none → Rattle.vs_top.specs.Run.FailedBy end old new
-        → (IsTrue (Rattle.vs_top.specs.Run.is_early end) → Looks old new) → HasRun name old new end marks
-    run_none end told answered failed looks = record {
+        → Rattle.vs_top.specs.Run.LeftBy end (opened_file old name) old new did_none → (IsTrue (Rattle.vs_top.specs.Run.is_early end) → Looks old new)
+        → HasRun name old new end marks
+    run_none end told answered failed left looks = record {
       did = did_none;
       kept = kept_none name old marks none;
       answered = answered;
       safe = λ free. halted_safe (names_of_file name) old new (ran_of name old did_none) refl
           (not_opened (names_of_file name) old (text_at old name) (opening_at old name) (opening_some name (opened_file old name).found) new (pending told.folder) (at_start told free) (works told free));
+      left = left;
       failed = failed;
       looks = looks;
     }
@@ -108,7 +110,7 @@ module _ (tells : Tells) (name : List ℕ) (old new : Scene) (pending : IsTrue t
         → (IsTrue tells.folder → HasSwap (names_of_file name) old.folder → (error ≡ opening.SwapFound) ⊎ (error ≡ opening.Failed) ⊎ (error ≡ opening.NoMemory))
         → (IsTrue tells.folder → HasSwap (names_of_file name) old.folder → OnlyLooks tells old new) → ((error ≡ opening.Failed → ⊥) → OnlyLooks tells old new) → RunsEdit tells name old new (open_ending error) marks
     open_fails opening.SwapFound failed quiet limit swap barred barred_looks looks = record {
-      told = λ told. run_none ending.SwapFound told (record { none = none; output = output_same }) tt (λ early. (looks (λ is. absurd (cc))).runs told.folder);
+      told = λ told. run_none ending.SwapFound told (record { none = none; output = output_same }) tt tt (λ early. (looks (λ is. absurd (cc))).runs told.folder);
       swap = λ told is. swap refl told;
       barred = λ told has. only_looked tells old new ending.SwapFound marks tt none (barred_looks told has) told;
       file = λ told. tt;
@@ -119,7 +121,7 @@ module _ (tells : Tells) (name : List ℕ) (old new : Scene) (pending : IsTrue t
     }
     open_fails opening.Failed failed quiet limit swap barred barred_looks looks = record {
       told = λ told. run_none ending.FolderFault told (inl (record { none = none; output = output_same })) (rose_last folder_count old old new (λ m calm. calm.folder) (acts.last told.folder) (failed refl) (counted_none folder_count old))
-          (λ early. absurd (true≢false (sym early)));
+          (inl refl) (λ early. absurd (true≢false (sym early)));
       swap = λ told is. absurd (cc);
       barred = λ told has. only_looked tells old new ending.FolderFault marks tt none (barred_looks told has) told;
       file = λ told. tt;
@@ -129,7 +131,7 @@ module _ (tells : Tells) (name : List ℕ) (old new : Scene) (pending : IsTrue t
       times = λ told. no_times old new marks none (ap (λ (s : Scene). s.answers) acts.frame);
     }
     open_fails opening.NoMemory failed quiet limit swap barred barred_looks looks = record {
-      told = λ told. run_none ending.NoMemory told (inl (record { none = none; output = output_same })) tt (λ early. absurd (true≢false (sym early)));
+      told = λ told. run_none ending.NoMemory told (inl (record { none = none; output = output_same })) tt (refl, inl ((looks (λ is. absurd (cc))).runs told.folder)) (λ early. absurd (true≢false (sym early)));
       swap = λ told is. absurd (cc);
       barred = λ told has. only_looked tells old new ending.NoMemory marks tt none (barred_looks told has) told;
       file = λ told. tt;
@@ -139,7 +141,7 @@ module _ (tells : Tells) (name : List ℕ) (old new : Scene) (pending : IsTrue t
       times = λ told. no_times old new marks none (ap (λ (s : Scene). s.answers) acts.frame);
     }
     open_fails (opening.TextLimit size) failed quiet limit swap barred barred_looks looks = record {
-      told = λ told. run_none (ending.TextLimit size) told (record { none = none; output = output_same }) tt (λ early. (looks (λ is. absurd (cc))).runs told.folder);
+      told = λ told. run_none (ending.TextLimit size) told (record { none = none; output = output_same }) tt tt (λ early. (looks (λ is. absurd (cc))).runs told.folder);
       swap = λ told is. absurd (cc);
       barred = λ told has. elim (barred told has) [ inl is ↦ absurd (cc) | inr more ↦ elim more [ inl is ↦ absurd (cc) | inr is ↦ absurd (cc) ] ];
       file = λ told. (limit size refl).passes told;

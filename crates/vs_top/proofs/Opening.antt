@@ -65,6 +65,7 @@ module _ (tells : Tells) (name : List ℕ) (old now : Scene) (session : Session)
           kept = kept_none name old marks none;
           answered = inl (record { none = none; output = here.opened_here.output });
           safe = λ free. halted_safe (names_of_file name) old now (ran_of name old did_none) refl (opened_halts (names_of_file name) old (text_at old name) (opening_at old name) (opening_some name (opened_file old name).found) now here.opened_here);
+          left = (refl, inr (session, at.keeps.names, here.fits));
           failed = tt;
           looks = λ early. absurd (true≢false (sym early));
         };
@@ -113,6 +114,7 @@ module _ (tells : Tells) (name : List ℕ) (old now : Scene) (session : Session)
                 });
                 safe = λ free. halted_safe (names_of_file name) old new (ran_of name old did_none) refl
                     (opening_cut (names_of_file name) old (text_at old name) (opening_at old name) (opening_some name (opened_file old name).found) now new here.opened_here cut.0 writes);
+                left = (session, at.keeps.names, subst (λ (d : Disk). Fits session d (opened_file old name).state (opened (text_at old name))) (sym writes.folder) here.fits);
                 failed = rose_at output_count old now new WroteOutput [] writes.added rose here.counted;
                 looks = λ early. absurd (true≢false (sym early));
               };

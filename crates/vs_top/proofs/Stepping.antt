@@ -126,6 +126,14 @@ module _ (tells : Tells) (name : List ℕ) (old now read stepped : Scene) (sessi
         ap (λ (ts : List Turn). old.output ++ (opening_at old name ++ replies ts)) (sym turns_are)
         ∙ ap (λ (l : List ℕ). old.output ++ (opening_at old name ++ l)) (replies_same first commands' ends')
 
+    syncs_are : after_turns (opened (text_at old name)) (turns_of first commands' ends') ≡ with_sync turn.sync syncs
+    syncs_are = ap (λ (ts : List Turn). after_turns (opened (text_at old name)) ts) turns_are ∙ after_push turn turns (opened (text_at old name))
+
+    fits_after_step : Fits session' stepped.folder (states_after first commands' ends') (after_turns (opened (text_at old name)) (turns_of first commands' ends'))
+    fits_after_step =
+        subst (λ (ss : List Sync). Fits session' stepped.folder (states_after first commands' ends') ss) (sym syncs_are)
+        (subst (λ (s : SessionState). Fits session' stepped.folder s (with_sync turn.sync syncs)) (sym (states_push taken.first ended first commands ends here.one_each)) answers.fits)
+
     -- the reply was written in part
     run_cut : (new : Scene) (n : ℕ) (marks' : List Mark) → marks' ≡ marks ++ mark ∷ [] → Writes n reply.bytes stepped new → HasRisen stepped.out_faults new.out_faults → (rest : List Instruction) × (commands_within old.script ≡ commands' ++ rest)
         → HasRun name old new ending.OutputFault marks'
@@ -150,6 +158,11 @@ module _ (tells : Tells) (name : List ℕ) (old now read stepped : Scene) (sessi
             whole = whole_before;
           });
           safe = λ free. halted_safe names old new (ran_of name old did) refl (subst (λ (ts : List Turn). Halted names old new (text_at old name) (opening_at old name) ts) (sym turns_are) halted);
+          left = (
+            session',
+            step.names ∙ keeps,
+            subst (λ (d : Disk). Fits session' d (states_after first commands' ends') (after_turns (opened (text_at old name)) (turns_of first commands' ends'))) (sym writes.folder) fits_after_step,
+          );
           failed = rose_at output_count old stepped new WroteOutput [] writes.added rose
               (counted_works names turn.write _ old read stepped (ap (λ (s : Scene). s.out_faults) step.frame) (subst (λ (k : Names). Stepped k syncs (turn_of state taken.first ended) read stepped) keeps answers.stepped).works
               (counted_reads old now read ok.after.frame ok.quiet (ok.all told.folder) here.counted).output);
@@ -175,8 +188,6 @@ module _ (tells : Tells) (name : List ℕ) (old now read stepped : Scene) (sessi
     told_on new marks' one kept writes cleans =
         let writes' : Writes (length turn.reply) turn.reply stepped new = subst (λ (l : List ℕ). Writes (length l) l stepped new) same_bytes writes in
         let going = reply_written names old (text_at old name) (opening_at old name) stepped new turns turn some_turn stepping writes' in
-        let syncs_are : after_turns (opened (text_at old name)) (turns_of first commands' ends') ≡ with_sync turn.sync syncs =
-        ap (λ (ts : List Turn). after_turns (opened (text_at old name)) ts) turns_are ∙ after_push turn turns (opened (text_at old name)) in
         let was = kept_did marks' kept in
         record {
           one_each = was.one_each;
@@ -185,9 +196,7 @@ module _ (tells : Tells) (name : List ℕ) (old now read stepped : Scene) (sessi
           errors = ap (λ (b : Bool). clean && b) (cleans ∙ ap (λ (m : Mark). is_done m.outcome && not reply.is_error) (sym answers.mark_is)) ∙ ap (λ (b : Bool). b && (is_done ended.mark.outcome && not reply.is_error)) here.errors ∙ and_not (any_error first commands ends) (is_done ended.mark.outcome) reply.is_error
               ∙ ap (λ (a : Answer). not (any_error first commands ends || (not (is_done ended.mark.outcome) || a.is_error))) answers.reply_is
               ∙ ap not (sym (errors_push taken.first ended first commands ends here.one_each));
-          fits = subst (λ (d : Disk). Fits session' d (states_after first commands' ends') (after_turns (opened (text_at old name)) (turns_of first commands' ends'))) (sym writes.folder)
-              (subst (λ (ss : List Sync). Fits session' stepped.folder (states_after first commands' ends') ss) (sym syncs_are)
-              (subst (λ (s : SessionState). Fits session' stepped.folder s (with_sync turn.sync syncs)) (sym (states_push taken.first ended first commands ends here.one_each)) answers.fits));
+          fits = subst (λ (d : Disk). Fits session' d (states_after first commands' ends') (after_turns (opened (text_at old name)) (turns_of first commands' ends'))) (sym writes.folder) fits_after_step;
           going = subst (λ (ts : List Turn). Going names old new (text_at old name) (opening_at old name) ts) (sym turns_are) going;
           counted = elim writes'.added [
             | inl told_here ↦ all_counted old stepped new told_here stepping.moments stepping.course.added

@@ -1,5 +1,5 @@
 -- The folder between two commands of the stress mode is that of the last moment before the second, and each command ends where the next begins.
-use Rattle.std.proofs.Common.{◌≡◌, ◌⊎◌, inl, inr, ℕ, ◌≤◌, ◌<◌, ◌+◌, Bool, true, false, if◌then◌else◌, List, [], ◌∷◌, ◌++◌, length, get_or, refl, sym, ap, subst, ◌∙◌, arith}
+use Rattle.std.proofs.Common.{◌≡◌, ◌⊎◌, inl, inr, ℕ, ◌≤◌, ◌<◌, ◌+◌, Bool, true, false, if◌then◌else◌, List, [], ◌∷◌, ◌++◌, length, get_or, refl, sym, ap, subst, ◌∙◌, append_assoc, arith}
 use Rattle.std.proofs.lemmas.Bool.{true≢false}
 use Rattle.std.proofs.lemmas.Bool.Decides.{nat_tests}
 use Rattle.std.proofs.lemmas.List.{length-append}
@@ -9,7 +9,7 @@ use Rattle.vs_host.specs.Names.{names_of_file}
 use Rattle.vs_host.specs.Trace.{Snapshot, Each}
 use Rattle.vs_host.specs.World.{Scene, HasNewest}
 use Rattle.vs_host.specs.declared.names.Names.{Names}
-use Rattle.vs_disk.proofs.Runs.{Each-weaker}
+use Rattle.vs_disk.proofs.Runs.{Each-append, Each-weaker}
 use Rattle.vs_excmd.specs.Request.{Instruction}
 use Rattle.vs_machine.specs.declared.command.Mark.{Mark}
 use Rattle.vs_safety.specs.Texts.{Text}
@@ -17,7 +17,7 @@ use Rattle.vs_safety.specs.Turns.{Turn}
 use Rattle.vs_session.specs.declared.session.Session.{Session}
 use Rattle.vs_session.specs.Session.{Ended, turns_of}
 use Rattle.vs_top.specs.Run.{opened_file}
-use Rattle.vs_top.specs.Stress.{HasEnds, HasSteps, IsBeforeLine, folder_after, is_up_to, stress_name, stress_text}
+use Rattle.vs_top.specs.Stress.{HasCount, HasEnds, HasSteps, HasStretches, IsBeforeLine, IsBehind, folder_after, is_up_to, stress_name, stress_text}
 use Rattle.vs_top.specs.StressTurns.{StressTold}
 
 -- ---- which moments are behind a command
@@ -63,34 +63,86 @@ folder_now start now n (m ∷ older) first last added each =
     let same : m ≡ last.newest = ap (λ (ms : List Snapshot). get_or ms 0 m) (sym added ∙ last.is) in
     ap (λ (b : Bool). if b then m.folder else folder_after start older n) each.0 ∙ ap (λ (m : Snapshot). m.folder) same ∙ last.folder
 
-pub told_folder : (old now : Scene) (session : Session) (marks : List Mark) (clean : Bool) (commands : List Instruction) (ends : List Ended) (here : StressTold old now session marks clean commands ends)
+pub told_folder : (Reached : Scene → Type 0) (old now : Scene) (session : Session) (marks : List Mark) (clean : Bool) (commands : List Instruction) (ends : List Ended) (here : StressTold Reached old now session marks clean commands ends)
     → folder_after old here.moments (length (turns_of (opened_file old stress_name).state commands ends)) ≡ now.folder
-told_folder old now session marks clean commands ends here =
+told_folder Reached old now session marks clean commands ends here =
     let turns = turns_of (opened_file old stress_name).state commands ends in
     folder_now old now (length turns) here.moments here.newest_at_start here.newest here.added
     (Each-weaker (IsBeforeLine (names_of_file stress_name) old (stress_text old) turns) (λ m. is_up_to old (length turns) m ≡ true)
     (before_line (names_of_file stress_name) old (stress_text old) turns (length turns) (omega arith)) here.moments here.safe)
 
+-- ---- the counts
+
+-- moments behind the commands change nothing
+pub counts_on : (Reached : Scene → Type 0) (start : Scene) (older newer : List Snapshot) (n count : ℕ) → Each (IsBehind start n) newer → HasCount Reached start older n count → HasCount Reached start (newer ++ older) n count
+counts_on Reached start older newer n count behind has = record {
+  scene = has.scene;
+  reached = has.reached;
+  later = newer ++ has.later;
+  earlier = has.earlier;
+  moments_are = ap (λ (ms : List Snapshot). newer ++ ms) has.moments_are ∙ sym (append_assoc newer has.later has.earlier);
+  later_are = Each-append (IsBehind start n) newer has.later behind has.later_are;
+  earlier_are = has.earlier_are;
+  trace = has.trace;
+  is = has.is;
+}
+
+-- where no moment is behind them, the count is that of now
+pub counts_now : (Reached : Scene → Type 0) (start now : Scene) (n : ℕ) (moments : List Snapshot) → Reached now → now.trace ≡ moments ++ start.trace → Each (λ m. is_up_to start n m ≡ true) moments
+    → HasCount Reached start moments n now.folder_faults
+counts_now Reached start now n moments reached added each = record { scene = now; reached = reached; later = []; earlier = moments; moments_are = refl; later_are = tt; earlier_are = each; trace = added; is = refl }
+
 -- ---- the steps
 
-pub steps_as : (names : Names) (f g : ℕ → Disk) (k before all : ℕ) (turns : List Turn) → ((n : ℕ) → k ≤ n → n ≤ k + length turns → f n ≡ g n) → HasSteps names f k before turns all → HasSteps names g k before turns all
-steps_as names f g k before all [] same steps = steps
-steps_as names f g k before all (turn ∷ turns) same steps = (
+pub steps_as : (names : Names) (f g : ℕ → Disk) (C D : ℕ → ℕ → Type 0) (k before all : ℕ) (turns : List Turn) → ((n : ℕ) → k ≤ n → n ≤ k + length turns → f n ≡ g n)
+    → ((n count : ℕ) → k ≤ n → n ≤ k + length turns → C n count → D n count) → HasSteps names f C k before turns all → HasSteps names g D k before turns all
+steps_as names f g C D k before all [] same counts steps = steps
+steps_as names f g C D k before all (turn ∷ turns) same counts steps = (
   steps.0,
+  counts (k + 1) steps.0 (omega arith) (omega arith) steps.1,
   subst (λ (d : Disk). HasEnds names turn d (g (k + 1)) before steps.0) (same k (omega arith) (omega arith))
-      (subst (λ (d : Disk). HasEnds names turn (f k) d before steps.0) (same (k + 1) (omega arith) (omega arith)) steps.1),
-  steps_as names f g (k + 1) steps.0 all turns (λ n least most. same n (omega (arith, least)) (omega (arith, most))) steps.2,
+      (subst (λ (d : Disk). HasEnds names turn (f k) d before steps.0) (same (k + 1) (omega arith) (omega arith)) steps.2),
+  steps_as names f g C D (k + 1) steps.0 all turns (λ n least most. same n (omega (arith, least)) (omega (arith, most))) (λ n count least most. counts n count (omega (arith, least)) (omega (arith, most))) steps.3,
 )
 
-pub steps_later : (names : Names) (f : ℕ → Disk) (k before all more : ℕ) (turns : List Turn) → all ≤ more → HasSteps names f k before turns all → HasSteps names f k before turns more
-steps_later names f k before all more [] later steps = omega (arith, later, steps)
-steps_later names f k before all more (turn ∷ turns) later steps = (steps.0, steps.1, steps_later names f (k + 1) steps.0 all more turns later steps.2)
+steps_later : (names : Names) (f : ℕ → Disk) (C : ℕ → ℕ → Type 0) (k before all more : ℕ) (turns : List Turn) → all ≤ more → HasSteps names f C k before turns all → HasSteps names f C k before turns more
+steps_later names f C k before all more [] later steps = omega (arith, later, steps)
+steps_later names f C k before all more (turn ∷ turns) later steps = (steps.0, steps.1, steps.2, steps_later names f C (k + 1) steps.0 all more turns later steps.3)
 
 -- one more
-pub steps_push : (names : Names) (f : ℕ → Disk) (k before all more n : ℕ) (turns : List Turn) (turn : Turn) → n ≡ k + length turns → HasSteps names f k before turns all → HasEnds names turn (f n) (f (n + 1)) all more
-    → HasSteps names f k before (turns ++ turn ∷ []) more
-steps_push names f k before all more n [] turn is steps ends =
+steps_push : (names : Names) (f : ℕ → Disk) (C : ℕ → ℕ → Type 0) (k before all more n : ℕ) (turns : List Turn) (turn : Turn) → n ≡ k + length turns → HasSteps names f C k before turns all → C (n + 1) more → HasEnds names turn (f n) (f (n + 1)) all more
+    → HasSteps names f C k before (turns ++ turn ∷ []) more
+steps_push names f C k before all more n [] turn is steps counted ends =
     let here : n ≡ k = omega (arith, is) in
     let last : HasEnds names turn (f k) (f (k + 1)) all more = subst (λ (n : ℕ). HasEnds names turn (f n) (f (n + 1)) all more) here ends in
-    (more, record { found = last.found; flag = last.flag; later = omega (arith, steps, last.later); cause = λ failed. risen_after steps (last.cause failed) }, omega arith)
-steps_push names f k before all more n (one ∷ turns) turn is steps ends = (steps.0, steps.1, steps_push names f (k + 1) steps.0 all more n turns turn (omega (arith, is)) steps.2 ends)
+    (more, subst (λ (n : ℕ). C (n + 1) more) here counted, record { found = last.found; flag = last.flag; later = omega (arith, steps, last.later); cause = λ failed. risen_after steps (last.cause failed) }, omega arith)
+steps_push names f C k before all more n (one ∷ turns) turn is steps counted ends =
+    (steps.0, steps.1, steps.2, steps_push names f C (k + 1) steps.0 all more n turns turn (omega (arith, is)) steps.3 counted ends)
+
+-- ---- the stretches
+
+-- with moments that are behind all commands
+pub stretches_on : (Reached : Scene → Type 0) (names : Names) (start : Scene) (older newer : List Snapshot) (turns : List Turn) (all : ℕ) → ((n : ℕ) → n ≤ length turns → Each (IsBehind start n) newer)
+    → ((n : ℕ) → 0 ≤ n → n ≤ 0 + length turns → folder_after start older n ≡ folder_after start (newer ++ older) n) → HasStretches Reached names start older turns all → HasStretches Reached names start (newer ++ older) turns all
+stretches_on Reached names start older newer turns all behind same was = record {
+  before = was.before;
+  counted = counts_on Reached start older newer 0 was.before (behind 0 (omega arith)) was.counted;
+  since = was.since;
+  each = steps_as names (folder_after start older) (folder_after start (newer ++ older)) (HasCount Reached start older) (HasCount Reached start (newer ++ older)) 0 was.before all turns same
+      (λ n count least most has. counts_on Reached start older newer n count (behind n (omega (arith, most))) has) was.each;
+}
+
+pub stretches_later : (Reached : Scene → Type 0) (names : Names) (start : Scene) (moments : List Snapshot) (turns : List Turn) (all more : ℕ) → all ≤ more → HasStretches Reached names start moments turns all
+    → HasStretches Reached names start moments turns more
+stretches_later Reached names start moments turns all more later was =
+    record { before = was.before; counted = was.counted; since = was.since; each = steps_later names (folder_after start moments) (HasCount Reached start moments) 0 was.before all more turns later was.each }
+
+pub stretches_push : (Reached : Scene → Type 0) (names : Names) (start : Scene) (moments : List Snapshot) (turns : List Turn) (turn : Turn) (all more : ℕ) → HasStretches Reached names start moments turns all
+    → HasCount Reached start moments (length turns + 1) more → HasEnds names turn (folder_after start moments (length turns)) (folder_after start moments (length turns + 1)) all more
+    → HasStretches Reached names start moments (turns ++ turn ∷ []) more
+stretches_push Reached names start moments turns turn all more was counted ends = record {
+  before = was.before;
+  counted = was.counted;
+  since = was.since;
+  each = steps_push names (folder_after start moments) (HasCount Reached start moments) 0 was.before all more (length turns) turns turn (omega arith) was.each counted ends;
+}

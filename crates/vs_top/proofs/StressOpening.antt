@@ -1,10 +1,10 @@
 -- The opening of the stress mode, and what comes of it where it fails.
-use Rattle.std.proofs.Common.{◌≡◌, ◌⊎◌, inl, inr, ℕ, true, List, [], length, IsTrue, refl, sym, ap, ◌∙◌, append-nil, arith}
+use Rattle.std.proofs.Common.{◌≡◌, ◌⊎◌, inl, inr, ℕ, ◌≤◌, true, List, [], ◌++◌, length, IsTrue, refl, sym, ap, ◌∙◌, append-nil, arith}
 use Rattle.std.proofs.lemmas.Bool.{true≢false}
 use Rattle.std.proofs.lemmas.List.Elements.{All-nil}
 use Rattle.vs_faults.specs.Faults.{HasRisen, IsQuiet}
 use Rattle.vs_host.specs.Names.{names_of_file}
-use Rattle.vs_host.specs.Trace.{Snapshot}
+use Rattle.vs_host.specs.Trace.{Snapshot, Each}
 use Rattle.vs_host.specs.World.{Tells, Scene, HasNewest, content_of}
 use Rattle.vs_host.specs.declared.names.Names.{Names}
 use Rattle.vs_disk.specs.Runs.{Inside, Looks}
@@ -22,7 +22,7 @@ use Rattle.vs_session.specs.Fits.{Fits, HasSwap, Opens, names_of}
 use Rattle.vs_stress.specs.Commands.{stress_commands}
 use Rattle.vs_top.specs.Ending.{open_ending}
 use Rattle.vs_top.specs.Run.{FailedBy, FileFits, FaultHasCause, counts_of, is_early, opened_file}
-use Rattle.vs_top.specs.Stress.{TellsStress, HasStress, IsBeforeLine, IsStressMoment, RunsStress, StressedBy, stress_line, stress_name, stress_text}
+use Rattle.vs_top.specs.Stress.{TellsStress, HasStress, HasStretches, IsBeforeLine, IsStressMoment, RunsStress, StressedBy, is_up_to, stress_line, stress_name, stress_text}
 use Rattle.vs_top.specs.StressTurns.{IsStressTurn}
 use Rattle.vs_top.specs.declared.ending.Ending.{Ending}
 use Rattle.vs_top.specs.declared.ending.Ending.TheVariants as ending
@@ -30,17 +30,26 @@ use Rattle.vs_top.proofs.Counting.{only_folder}
 use Rattle.vs_top.proofs.Edits.{only_looked}
 use Rattle.vs_top.proofs.Opening.{did_none, kept_none, no_causes, no_times}
 use Rattle.vs_top.proofs.StressEnds.{at_moment}
+use Rattle.vs_top.proofs.StressFolders.{before_line, counts_now}
 
 abbrev names : Names
 names = names_of_file stress_name
 
-module _ (tells : Tells) (old new : Scene) (acts : Acts tells (Opens stress_name) old new) where
+module _ (Reached : Scene → Type 0) (tells : Tells) (old new : Scene) (acts : Acts tells (Opens stress_name) old new) (reached : Reached new) where
   before : (free : HasSwap names old.folder → ⊥) → (m : Snapshot) → Inside old (Opens stress_name old.folder) m → IsBeforeLine names old (stress_text old) [] m
   before free m inside = record { spared = inside.folder.spared; recovers = inl (record { answered = inside.answered; written = inside.output; recovers = inside.folder.safe free }) }
 
+  -- no command has begun at it
+  up_to_none : (free : HasSwap names old.folder → ⊥) → (m : Snapshot) → Inside old (Opens stress_name old.folder) m → is_up_to old 0 m ≡ true
+  up_to_none free m inside = before_line names old (stress_text old) [] 0 (omega arith) m (before free m inside)
+
+  -- and the count of the calls that failed is that of the host
+  first_count : (moments : List Snapshot) → new.trace ≡ moments ++ old.trace → Each (λ m. is_up_to old 0 m ≡ true) moments → HasStretches Reached names old moments [] new.folder_faults
+  first_count moments added each = record { before = new.folder_faults; counted = counts_now Reached old new 0 moments reached added each; since = acts.later; each = omega arith }
+
   -- it was not opened
   module _ (count : ℕ) (marks : List Mark) (none : marks ≡ []) where
-    stress_none : (end : Ending) → TellsStress tells → StressedBy end count old new marks did_none → FailedBy end old new → (IsTrue (is_early end) → Looks old new) → HasStress count old new end marks
+    stress_none : (end : Ending) → TellsStress tells → StressedBy end count old new marks did_none → FailedBy end old new → (IsTrue (is_early end) → Looks old new) → HasStress Reached count old new end marks
     stress_none end told answered failed looks = record {
       did = did_none;
       kept = kept_none stress_name old marks none;
@@ -52,7 +61,7 @@ module _ (tells : Tells) (old new : Scene) (acts : Acts tells (Opens stress_name
             added = runs.moments.is;
             safe = Each-weaker (Inside old (Opens stress_name old.folder)) (IsStressMoment names old (stress_text old) [] (stress_line count old did_none)) (λ m inside. at_moment old (stress_text old) [] (stress_line count old did_none) m (before free m inside)) runs.moments.added runs.moments.each;
             spared = runs.now.spared;
-            steps = acts.later;
+            steps = first_count runs.moments.added runs.moments.is (Each-weaker (Inside old (Opens stress_name old.folder)) (λ m. is_up_to old 0 m ≡ true) (up_to_none free) runs.moments.added runs.moments.each);
           };
       failed = failed;
       looks = looks;
@@ -67,7 +76,7 @@ module _ (tells : Tells) (old new : Scene) (acts : Acts tells (Opens stress_name
     pub stress_open_fails : (error : OpenErr) → (error ≡ opening.Failed → HasRisen old.folder_faults new.folder_faults) → IsQuiet old.folder_faults new.folder_faults (error ≡ opening.Failed)
         → ((size : ℕ) → error ≡ opening.TextLimit size → IsTooLarge tells size (content_of old stress_name)) → (error ≡ opening.SwapFound → IsTrue tells.folder → HasSwap names old.folder)
         → (IsTrue tells.folder → HasSwap names old.folder → (error ≡ opening.SwapFound) ⊎ (error ≡ opening.Failed) ⊎ (error ≡ opening.NoMemory))
-        → (IsTrue tells.folder → HasSwap names old.folder → OnlyLooks tells old new) → ((error ≡ opening.Failed → ⊥) → OnlyLooks tells old new) → RunsStress tells count old new (open_ending error) marks
+        → (IsTrue tells.folder → HasSwap names old.folder → OnlyLooks tells old new) → ((error ≡ opening.Failed → ⊥) → OnlyLooks tells old new) → RunsStress Reached tells count old new (open_ending error) marks
     stress_open_fails opening.SwapFound failed quiet limit swap barred barred_looks looks = record {
       told = λ told. stress_none ending.SwapFound told (record { none = none; output = output_same }) tt (λ early. (looks (λ is. absurd (cc))).runs told.folder);
       swap = λ told is. swap refl told;
@@ -113,7 +122,7 @@ module _ (tells : Tells) (old new : Scene) (acts : Acts tells (Opens stress_name
   -- it was opened
   pub stress_opened : (session : Session) → names_of session ≡ names → (IsTrue tells.folder → HasSwap names old.folder → ⊥) → (IsTrue tells.folder → FileFits (content_of old stress_name))
       → (IsTrue tells.folder → Fits session new.folder (opened_file old stress_name).state (opened (stress_text old))) → (IsTrue tells.folder → HasNewest old) → (IsTrue tells.folder → HasNewest new)
-      → IsStressTurn tells old new session [] true []
+      → IsStressTurn Reached tells old new session [] true []
   stress_opened session same free file fits newest_at_start newest = record {
     told = λ told.
         let runs = acts.runs told.folder in (
@@ -128,7 +137,7 @@ module _ (tells : Tells) (old new : Scene) (acts : Acts tells (Opens stress_name
             added = runs.moments.is;
             safe = Each-weaker (Inside old (Opens stress_name old.folder)) (IsBeforeLine names old (stress_text old) []) (before (free told.folder)) runs.moments.added runs.moments.each;
             spared = runs.now.spared;
-            steps = acts.later;
+            steps = first_count runs.moments.added runs.moments.is (Each-weaker (Inside old (Opens stress_name old.folder)) (λ m. is_up_to old 0 m ≡ true) (up_to_none (free told.folder)) runs.moments.added runs.moments.each);
             newest_at_start = newest_at_start told.folder;
             newest = newest told.folder;
             output = ap (λ (s : Scene). s.output) acts.frame;

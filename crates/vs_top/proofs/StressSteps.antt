@@ -28,12 +28,12 @@ use Rattle.vs_session.specs.declared.session.Session.{Session}
 use Rattle.vs_session.specs.Session.{SessionState, Ended, is_write, lacks_name, states_after, turn_of, turns_of, any_error, undo_work, write_work, writes_files}
 use Rattle.vs_session.specs.Fits.{Answers, Fits}
 use Rattle.vs_top.specs.Run.{counts_of, FaultHasCause, opened_file}
-use Rattle.vs_top.specs.Stress.{TellsStress, HasEnds, HasSteps, IsBeforeLine, folder_after, is_up_to, stress_name, stress_text}
+use Rattle.vs_top.specs.Stress.{TellsStress, HasEnds, HasStretches, IsBeforeLine, IsBehind, folder_after, is_up_to, stress_name, stress_text}
 use Rattle.vs_top.specs.StressTurns.{IsStressTurn, StressTold}
 use Rattle.vs_top.proofs.Counting.{causes_on, counted_works}
 use Rattle.vs_top.proofs.Pushes.{and_not, errors_push, map_push, none_push, states_push, turns_push}
 use Rattle.vs_top.proofs.Stepping.{HasStepped}
-use Rattle.vs_top.proofs.StressFolders.{before_line, folder_now, folders_on, later_read, steps_as, steps_push, told_folder}
+use Rattle.vs_top.proofs.StressFolders.{before_line, counts_now, folder_now, folders_on, later_read, stretches_on, stretches_push, told_folder}
 
 -- the moments so far, with one command more
 pub moment_on : (names : Names) (start : Scene) (text : Text) (turns : List Turn) (turn : Turn) (m : Snapshot) → IsBeforeLine names start text turns m → IsBeforeLine names start text (turns ++ turn ∷ []) m
@@ -63,9 +63,9 @@ no_work state found acknowledged lacks parsed plain = refl
 pub writes_none : (state : SessionState) (instruction : Instruction) (ended : Ended) → writes_files instruction.parsed ≡ false → (turn_of state instruction ended).write ≡ None
 writes_none state instruction ended plain = no_work state ended.found ended.acknowledged (lacks_name state.options.write state.name ended.found) instruction.parsed plain
 
-module _ (tells : Tells) (old now new : Scene) (session after : Session) (marks : List Mark) (clean : Bool) (request : Request) (mark : Mark) (reply : Answer) (instruction : Instruction) (commands : List Instruction)
-    (step : HasStepped tells now new session after request mark reply) (newest : IsTrue tells.folder → HasNewest new) (meant : IsRequest request instruction) (plain : writes_files instruction.parsed ≡ false) (turn : IsStressTurn tells old now session marks clean commands) where
-  module _ (told : TellsStress tells) (ends : List Ended) (here : StressTold old now session marks clean commands ends) where
+module _ (Reached : Scene → Type 0) (tells : Tells) (old now new : Scene) (session after : Session) (marks : List Mark) (clean : Bool) (request : Request) (mark : Mark) (reply : Answer) (instruction : Instruction) (commands : List Instruction)
+    (step : HasStepped tells now new session after request mark reply) (newest : IsTrue tells.folder → HasNewest new) (reached : Reached new) (meant : IsRequest request instruction) (plain : writes_files instruction.parsed ≡ false) (turn : IsStressTurn Reached tells old now session marks clean commands) where
+  module _ (told : TellsStress tells) (ends : List Ended) (here : StressTold Reached old now session marks clean commands ends) where
     abbrev names : Names
     names = names_of_file stress_name
 
@@ -143,7 +143,7 @@ module _ (tells : Tells) (old now new : Scene) (session after : Session) (marks 
         (λ m inside. inl (later_read old n m (omega (arith, inside.answered, long_now, most)))) newer works.moments.each))
 
     found_folder : now.folder ≡ folder_after old moments (length turns)
-    found_folder = sym (told_folder old now session marks clean commands ends here) ∙ same_before (length turns) (omega arith) (omega arith)
+    found_folder = sym (told_folder Reached old now session marks clean commands ends here) ∙ same_before (length turns) (omega arith) (omega arith)
 
     left_folder : new.folder ≡ folder_after old moments (length turns + 1)
     left_folder =
@@ -158,12 +158,24 @@ module _ (tells : Tells) (old now new : Scene) (session after : Session) (marks 
         (subst (λ (d : Disk). HasEnds names one now.folder d now.folder_faults new.folder_faults) left_folder
         (record { found = ap Some stepped.found; flag = stepped.flag; later = step.later; cause = stepped.cause }))
 
-    steps : HasSteps names (folder_after old moments) 0 old.folder_faults (turns ++ one ∷ []) new.folder_faults
-    steps =
-        steps_push names (folder_after old moments) 0 old.folder_faults now.folder_faults new.folder_faults (length turns) turns one (omega arith)
-        (steps_as names (folder_after old here.moments) (folder_after old moments) 0 old.folder_faults now.folder_faults turns same_before here.steps) ends_here
+    behind_before : (n : ℕ) → n ≤ length turns → Each (IsBehind old n) newer
+    behind_before n most =
+        Each-weaker (Inside new (Spares names None (IsUnderWay names (with_begun one.sync syncs) None) now.folder)) (IsBehind old n)
+        (λ m inside. inl (later_read old n m (omega (arith, inside.answered, long_now, most)))) newer works.moments.each
 
-    told_on : StressTold old new after (marks ++ mark ∷ []) (clean && (is_done mark.outcome && not reply.is_error)) commands' ends'
+    all_up_to : Each (λ m. is_up_to old (length turns + 1) m ≡ true) moments
+    all_up_to =
+        let last : List Turn = one ∷ [] in
+        Each-weaker (IsBeforeLine names old (stress_text old) (turns ++ last)) (λ m. is_up_to old (length turns + 1) m ≡ true)
+        (before_line names old (stress_text old) (turns ++ last) (length turns + 1) (omega (arith, length-append turns last))) moments safe
+
+    steps : HasStretches Reached names old moments (turns ++ one ∷ []) new.folder_faults
+    steps =
+        stretches_push Reached names old moments turns one now.folder_faults new.folder_faults
+        (stretches_on Reached names old here.moments newer turns now.folder_faults behind_before same_before here.steps)
+        (counts_now Reached old new (length turns + 1) moments reached added all_up_to) ends_here
+
+    told_on : StressTold Reached old new after (marks ++ mark ∷ []) (clean && (is_done mark.outcome && not reply.is_error)) commands' ends'
     told_on =
         let last : List Ended = ended ∷ [] in
         let more : List Instruction = instruction ∷ [] in
@@ -182,7 +194,7 @@ module _ (tells : Tells) (old now new : Scene) (session after : Session) (marks 
           added = added;
           safe = subst (λ (ts : List Turn). Each (IsBeforeLine names old (stress_text old) ts) moments) (sym turns_are) safe;
           spared = same_then (is_foreign names) old.folder now.folder new.folder here.spared works.spared;
-          steps = subst (λ (ts : List Turn). HasSteps names (folder_after old moments) 0 old.folder_faults ts new.folder_faults) (sym turns_are) steps;
+          steps = subst (λ (ts : List Turn). HasStretches Reached names old moments ts new.folder_faults) (sym turns_are) steps;
           newest_at_start = here.newest_at_start;
           newest = newest told.folder;
           output = works.output ∙ here.output;
@@ -191,7 +203,7 @@ module _ (tells : Tells) (old now new : Scene) (session after : Session) (marks 
         }
 
   -- over any host
-  pub turn_on : IsStressTurn tells old new after (marks ++ mark ∷ []) (clean && (is_done mark.outcome && not reply.is_error)) (commands ++ instruction ∷ [])
+  pub turn_on : IsStressTurn Reached tells old new after (marks ++ mark ∷ []) (clean && (is_done mark.outcome && not reply.is_error)) (commands ++ instruction ∷ [])
   turn_on =
       let before = turn.keeps.counts in
       record {

@@ -28,6 +28,7 @@ use Rattle.vs_safety.specs.Texts.{Sync}
 use Rattle.vs_safety.specs.Turns.{Turn, NotBegun, with_sync, after_turns, opened, replies}
 use Rattle.vs_safety.specs.Safety.{IsCrashSafe, IsAdded, Looks, Writes, Works, Stepped}
 use Rattle.vs_safety.specs.Going.{Going, Stepping, Halted}
+use Rattle.vs_safety.specs.Stretches.{IsFirst}
 use Rattle.vs_safety.specs.Causes.{newest_count, IsCounted, RoseLast, script_count, output_count, folder_count}
 use Rattle.vs_safety.proofs.Splits.{after_push}
 use Rattle.vs_safety.proofs.Going.{going_looks, going_steps, going_halts, reply_written, reply_cut}
@@ -39,7 +40,7 @@ use Rattle.vs_session.specs.declared.ending.End.TheVariants as end
 use Rattle.vs_session.specs.Session.{SessionState, Ended, accepts_quit, reply_of, state_after, states_after, turn_of, turns_of, replies_of, any_error}
 use Rattle.vs_session.specs.Fits.{Answers, Fits, StepsIn, names_of}
 use Rattle.vs_top.specs.Ending.{script_ending}
-use Rattle.vs_top.specs.Run.{TellsRun, Did, KeepsMarks, IsCutShort, HasRun, RunsEdit, Counts, counts_of, OnlyFolder, FaultHasCause, IsTimed, AreAnswered, IsWithin, commands_in, commands_within, opened_file, ran_of, written, written_before}
+use Rattle.vs_top.specs.Run.{TellsRun, Did, KeepsMarks, HasAnswered, KeepsSwap, IsCutShort, HasRun, RunsEdit, Counts, counts_of, OnlyFolder, FaultHasCause, IsTimed, AreAnswered, IsWithin, commands_in, commands_within, opened_file, ran_of, written, written_before}
 use Rattle.vs_top.specs.Turns.{AreCounted, text_at, opening_at, Told, KeepsOpenFile, StopsAt, IsAtClose}
 use Rattle.vs_top.specs.declared.ending.Ending.{Ending}
 use Rattle.vs_top.specs.declared.ending.Ending.TheVariants as ending
@@ -111,7 +112,7 @@ no_more now old marks is = is ∙ sym (append-nil (old ++ map (λ mark. mark.at)
 
 module _ (tells : Tells) (name : List ℕ) (old now read : Scene) (session : Session) (fresh reader reader' : Ahead) (marks : List Mark) (clean : Bool) (new : fresh ≡ fresh_reader)
     (after : AfterRead tells reader reader' now read) where
-  module _ (told : TellsRun tells) (commands : List Instruction) (ends : List Ended) (here : Told name old now session marks clean commands ends) (had : HasRead fresh reader old now commands) where
+  module _ (told : TellsRun tells) (commands : List Instruction) (ends : List Ended) (here : Told name old now session marks clean commands ends) (had : HasRead fresh reader old now commands) (same : names_of session ≡ names_of_file name) where
     abbrev turns : List Turn
     turns = turns_of (opened_file old name).state commands ends
 
@@ -132,14 +133,32 @@ module _ (tells : Tells) (name : List ℕ) (old now read : Scene) (session : Ses
         looked.output ∙ append_assoc old.output (opening_at old name) (replies turns)
         ∙ ap (λ (l : List ℕ). old.output ++ (opening_at old name ++ l)) (replies_same (opened_file old name).state commands ends)
 
+    answered : HasAnswered (opened_file old name) old read did
+    answered = record {
+      output = output_is;
+      closing = refl;
+      stays = record {
+        moments = looked.moments;
+        added = looked.course.added;
+        first = looked.here;
+        begins = subst (λ (n : ℕ). IsFirst n looked.moments looked.here) (ap (λ (l : List ℕ). length l) output_is ∙ length-append old.output (written (opened_file old name) commands ends)) looked.begins;
+        has = sym looked.state;
+      };
+    }
+
+    -- the session still fits the folder
+    left : KeepsSwap (opened_file old name) did read.folder
+    left = (session, same, subst (λ (d : Disk). Fits session d (states_after (opened_file old name).state commands ends) (after_turns (opened (text_at old name)) turns)) (sym (ap (λ (s : Scene). s.folder) after.frame)) here.fits)
+
     run_fails : Stops script_error.Failed whole_commands [] reader reader' now read → HasRisen now.script_faults read.script_faults → HasRun name old read ending.ScriptFault marks
     run_fails stop rose =
         let found = stops_run script_error.Failed old now read fresh reader reader' commands new had stop in
         record {
           did = did;
           kept = kept;
-          answered = record { taken = found.taken; script = found.script ∙ ap (λ (l : List ℕ). found.taken ++ l) (sym found.is_left); commands = found.whole; answered = (output_is, refl) };
+          answered = record { taken = found.taken; script = found.script ∙ ap (λ (l : List ℕ). found.taken ++ l) (sym found.is_left); commands = found.whole; answered = answered };
           safe = λ free. safe;
+          left = left;
           failed = rose_reading old now read (after.reads told.folder) rose here.counted.script;
           looks = λ early. absurd (true≢false (sym early));
         }
@@ -154,8 +173,9 @@ module _ (tells : Tells) (name : List ℕ) (old now read : Scene) (session : Ses
         record {
           did = did;
           kept = kept;
-          answered = record { longer = omega (arith, long, found.is_left.0, size); commands = found.whole ∙ ap whole_commands (sym front); answered = (output_is, refl) };
+          answered = record { longer = omega (arith, long, found.is_left.0, size); commands = found.whole ∙ ap whole_commands (sym front); answered = answered };
           safe = λ free. safe;
+          left = left;
           failed = tt;
           looks = λ early. absurd (true≢false (sym early));
         }
@@ -166,8 +186,9 @@ module _ (tells : Tells) (name : List ℕ) (old now read : Scene) (session : Ses
         record {
           did = did;
           kept = kept;
-          answered = inr ((taken.first ∷ within.0, within.1 ∙ append_assoc commands (taken.first ∷ []) within.0), (output_is, refl));
+          answered = inr ((taken.first ∷ within.0, within.1 ∙ append_assoc commands (taken.first ∷ []) within.0), answered);
           safe = λ free. safe;
+          left = (refl, inr left);
           failed = tt;
           looks = λ early. absurd (true≢false (sym early));
         }
@@ -183,7 +204,7 @@ module _ (tells : Tells) (name : List ℕ) (old now read : Scene) (session : Ses
         let only = only_script now read after.frame in
         let before = turn.keeps.counts in
         record {
-          told = λ told. let here = turn.told told in run_fails told here.0 here.1 here.2 here.3 (stops told.script) (failed refl);
+          told = λ told. let here = turn.told told in run_fails told here.0 here.1 here.2 here.3 turn.keeps.names (stops told.script) (failed refl);
           swap = λ told is. absurd (cc);
           barred = λ told has. absurd (turn.keeps.free told has);
           file = turn.keeps.file;
@@ -203,7 +224,7 @@ module _ (tells : Tells) (name : List ℕ) (old now read : Scene) (session : Ses
         let only = only_script now read after.frame in
         let before = turn.keeps.counts in
         record {
-          told = λ told. let here = turn.told told in run_too_long told here.0 here.1 here.2 here.3 (stops told.script);
+          told = λ told. let here = turn.told told in run_too_long told here.0 here.1 here.2 here.3 turn.keeps.names (stops told.script);
           swap = λ told is. absurd (cc);
           barred = λ told has. absurd (turn.keeps.free told has);
           file = turn.keeps.file;
@@ -232,7 +253,7 @@ module _ (tells : Tells) (name : List ℕ) (old now read : Scene) (session : Ses
         record {
           told = λ told.
               let here = turn.told told in
-              run_no_memory told here.0 here.1 here.2 here.3 request (taken told.script) (after.seen told.script) (counts_on fresh reader reader' old now read (turn.counts told.script) (ok.counts told.script));
+              run_no_memory told here.0 here.1 here.2 here.3 turn.keeps.names request (taken told.script) (after.seen told.script) (counts_on fresh reader reader' old now read (turn.counts told.script) (ok.counts told.script));
           swap = λ told is. absurd (cc);
           barred = λ told has. absurd (turn.keeps.free told has);
           file = λ told. tt;

@@ -2,8 +2,11 @@
 use Rattle.std.specs.Prelude.{ℕ, Bool, true, false, List, ◌∷◌, [], ◌≡◌, ◌<◌, ◌≤◌, ◌+◌, ◌⊎◌, ◌++◌, ⊤, All, map, length, take, nat_le, if◌then◌else◌, IsTrue, IsSomeAnd, IfSome}
 use Rattle.std.specs.declared.option.Option.{Option}
 use Rattle.vs_faults.specs.Faults.{HasRisen}
+use Rattle.vs_host.specs.Disk.{Disk}
 use Rattle.vs_host.specs.Names.{names_of_file}
+use Rattle.vs_host.specs.Trace.{Snapshot}
 use Rattle.vs_host.specs.World.{Tells, Scene, content_of}
+use Rattle.vs_host.specs.declared.names.Names.{Names}
 use Rattle.vs_disk.specs.Runs.{Looks}
 use Rattle.vs_text.specs.Text.{lines_of}
 use Rattle.vs_text.specs.Limits.{IsWithinLimits}
@@ -14,13 +17,17 @@ use Rattle.vs_script.specs.Script.{commands_of}
 use Rattle.vs_machine.specs.Replies.{opening_of}
 use Rattle.vs_machine.specs.declared.command.Mark.{Mark}
 use Rattle.vs_machine.specs.declared.command.Outcome.TheVariants as outcome
-use Rattle.vs_safety.specs.Turns.{Closing, NotBegun, LastSync, Quits, Ran, preserved_line, quit_line}
+use Rattle.vs_safety.specs.Texts.{Sync, IsBetween}
+use Rattle.vs_safety.specs.Turns.{Closing, NotBegun, LastSync, Quits, Ran, after_turns, opened as first_sync, preserved_line, quit_line}
+use Rattle.vs_safety.specs.Stretches.{IsFirst}
 use Rattle.vs_safety.specs.Safety.{IsCrashSafe}
+use Rattle.vs_safety.specs.Writes.{state_in, state_now}
 use Rattle.vs_safety.specs.Causes.{RoseLast, script_count, output_count, folder_count}
+use Rattle.vs_session.specs.declared.session.Session.{Session}
 use Rattle.vs_session.specs.Session.{SessionState, Ended, HasFound, is_fault, accepts_quit, sync_in, state_after, states_after, turns_of, replies_of, any_error}
 use Rattle.vs_session.specs.Open.{PassesLimit}
 use Rattle.vs_session.specs.Opened.{Opened, opened, text_in}
-use Rattle.vs_session.specs.Fits.{HasSwap}
+use Rattle.vs_session.specs.Fits.{Fits, HasSwap, names_of}
 use Rattle.vs_top.specs.declared.ending.Ending.{Ending}
 use Rattle.vs_top.specs.declared.ending.Ending.TheVariants as ending
 
@@ -73,9 +80,28 @@ pub record KeepsMarks (file : Opened) (marks : List Mark) (did : Did) : Type 0 w
   pub marks_are : marks ≡ map (λ ended. ended.mark) did.ends
   pub are_answered : AreAnswered file.state did.commands did.ends
 
--- these commands were answered, the opening reply and their replies were written, and the run did not begin to close
-abbrev pub HasAnswered : Opened → Scene → Scene → Did → Type 0
-HasAnswered file old new did = (new.output ≡ old.output ++ written file did.commands did.ends) × (did.closing ≡ NotBegun)
+-- P holds of the first moment since the start at which the output had n bytes.
+pub record HasSince (n : ℕ) (start now : Scene) (P : Snapshot → Type 0) : Type 0 where
+  pub moments : List Snapshot
+  pub added : now.trace ≡ moments ++ start.trace
+  pub first : Snapshot
+  pub begins : IsFirst n moments first
+  pub has : P first
+
+-- how long the output is where the replies to these commands are whole in it
+abbrev pub answered_at : Opened → Scene → Did → ℕ
+answered_at file old did = length old.output + length (written file did.commands did.ends)
+
+-- no call on the folder has failed since the last reply was whole
+abbrev pub IsCalm : Opened → Scene → Scene → Did → Type 0
+IsCalm file old new did = HasSince (answered_at file old did) old new (λ m. new.folder_faults ≡ m.folder_faults)
+
+-- These commands were answered, the opening reply and their replies were written, and the run did not begin to close. Since then nothing
+-- has changed in the folder, and no call on it failed.
+pub record HasAnswered (file : Opened) (old new : Scene) (did : Did) : Type 0 where
+  pub output : new.output ≡ old.output ++ written file did.commands did.ends
+  pub closing : did.closing ≡ NotBegun
+  pub stays : HasSince (answered_at file old did) old new (λ m. state_now new ≡ state_in m)
 
 -- All commands of the script were answered, and the text was synced, or that failed.
 pub record CameToEnd (synced : Bool) (file : Opened) (old new : Scene) (did : Did) : Type 0 where
@@ -105,6 +131,7 @@ pub record AnswersAll (errors : Bool) (file : Opened) (old new : Scene) (did : D
   pub closes : Closes true file old new did
   pub output : new.output ≡ old.output ++ (written file did.commands did.ends ++ closing_line did.closing)
   pub errors_are : refuses_any file did.commands did.ends ≡ errors
+  pub calm : IsCalm file old new did
 
 -- It answered the commands that were whole in what was taken of the script.
 pub record AnswersTaken (file : Opened) (old new : Scene) (did : Did) : Type 0 where
@@ -146,6 +173,7 @@ pub record IsCutLast (file : Opened) (old new : Scene) (did : Did) : Type 0 wher
   pub closes : Closes true file old new did
   pub count : ℕ
   pub output : new.output ≡ old.output ++ (written file did.commands did.ends ++ take count (closing_line did.closing))
+  pub calm : IsCalm file old new did
 
 -- The last sync or the removal failed, and the last line was not written.
 pub record FailsToClose (file : Opened) (old new : Scene) (did : Did) : Type 0 where
@@ -173,6 +201,40 @@ AnsweredBy ending.Encrypted file old new marks did = ⊥
 AnsweredBy ending.NotSwap file old new marks did = ⊥
 AnsweredBy (ending.TextLimit size) file old new marks did = AnswersNone old new marks
 AnsweredBy ending.ScriptTooLong file old new marks did = AnswersLimit file old new did
+
+-- ---- the swap files that it leaves
+
+-- What stands after these syncs, by how a run closed. Before it closes some session is in this state and fits the folder, so that both
+-- swap files are there. After the sync at the script's end one of them stands for the last acknowledged sync, and the other one is not
+-- there or not open, or stands for another of them. An accepted quit leaves none.
+abbrev pub StandsAfter : Names → SessionState → List Sync → Closing → Disk → Type 0
+StandsAfter names state syncs NotBegun folder = (session : Session) × (names_of session ≡ names) × Fits session folder state syncs
+StandsAfter names state syncs (LastSync sync) folder = IsBetween names (sync ∷ syncs) folder
+StandsAfter names state syncs Quits folder = ⊤
+
+-- the syncs after the commands that a run answered
+abbrev pub syncs_of : Opened → Did → List Sync
+syncs_of file did = after_turns (first_sync file.state.machine.text) (turns_of file.state did.commands did.ends)
+
+abbrev pub KeepsSwap : Opened → Did → Disk → Type 0
+KeepsSwap file did folder = StandsAfter (names_of_file file.name) (states_after file.state did.commands did.ends) (syncs_of file did) did.closing folder
+
+-- What a run leaves of the swap files, by its ending, where it opened the file. Where there was no memory for that, the folder was only
+-- looked at.
+abbrev pub LeftBy : Ending → Opened → Scene → Scene → Did → Type 0
+LeftBy ending.Done file old new did = KeepsSwap file did new.folder
+LeftBy ending.WithErrors file old new did = KeepsSwap file did new.folder
+LeftBy ending.Usage file old new did = ⊤
+LeftBy ending.SwapFound file old new did = ⊤
+LeftBy ending.NoSwap file old new did = ⊤
+LeftBy ending.ScriptFault file old new did = KeepsSwap file did new.folder
+LeftBy ending.OutputFault file old new did = KeepsSwap file did new.folder
+LeftBy ending.FolderFault file old new did = (did.closing ≡ NotBegun) ⊎ KeepsSwap file did new.folder
+LeftBy ending.NoMemory file old new did = (did.closing ≡ NotBegun) × (Looks old new ⊎ KeepsSwap file did new.folder)
+LeftBy ending.Encrypted file old new did = ⊤
+LeftBy ending.NotSwap file old new did = ⊤
+LeftBy (ending.TextLimit size) file old new did = ⊤
+LeftBy ending.ScriptTooLong file old new did = KeepsSwap file did new.folder
 
 -- ---- failed calls
 
@@ -302,6 +364,7 @@ pub record HasRun (name : List ℕ) (old new : Scene) (end : Ending) (marks : Li
   pub kept : KeepsMarks (opened_file old name) marks did
   pub answered : AnsweredBy end (opened_file old name) old new marks did
   pub safe : (HasSwap (names_of_file name) old.folder → ⊥) → IsCrashSafe (names_of_file name) old new (ran_of name old did)
+  pub left : LeftBy end (opened_file old name) old new did
   pub failed : FailedBy end old new
   pub looks : IsTrue (is_early end) → Looks old new
 

@@ -6,6 +6,7 @@ ghost use Rattle.vs_faults.specs.Faults.{HasCause, IsQuiet};
 ghost use Rattle.vs_host.specs.Trace.{WroteOutput};
 ghost use Rattle.vs_host.specs.World.{ChangesFolder, ChangesOutput, Scene};
 ghost use Rattle.vs_disk.specs.Runs.{FailsLast};
+ghost use Rattle.vs_pair.specs.Acts.{NoneFails};
 ghost use Rattle.vs_pair.specs.Steps.{IsFresh};
 ghost use Rattle.vs_machine.specs.Machine.{is_done};
 ghost use Rattle.vs_top.specs.Ending.{ending_in};
@@ -86,6 +87,7 @@ pub(crate) fn finish<H: Host>(session: Session, host: &mut H, how: End) -> Resul
         → Leaves (names_of session) syncs (H.scene host.old) (H.scene host.new) }
     ensures gone { how ≡ End.Quit → OnOk result (IsTrue (H.tells).folder → IsFresh (names_of session) (H.scene host.new).folder) }
     ensures last { IsTrue (H.tells).folder → FailsLast (H.scene host.old) (H.scene host.new) }
+    ensures none { OnOk result (NoneFails H.tells (H.scene host.old) (H.scene host.new)) }
     ensures cause { HasCause (H.scene host.old).folder_faults (H.scene host.new).folder_faults (IsErr result) }
     ensures fault { IfErr result (λ ending. ending ≡ Ending.FolderFault) }
     ensures frame { ChangesFolder (H.scene host.old) (H.scene host.new) }

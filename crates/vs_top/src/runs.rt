@@ -6,7 +6,7 @@ ghost use Rattle.vs_modes.specs.Info.{RunsInfo};
 ghost use Rattle.vs_modes.specs.Discard.{RunsDiscard};
 ghost use Rattle.vs_top.specs.Ending.{status_of, ending_in, ended_by};
 ghost use Rattle.vs_top.specs.Forms.{Does, EndsBy, Gives, IsBuilt, IsForm, IsSpared, Performs};
-ghost use Rattle.vs_top.specs.Stress.{IsStress, IsStressUnhindered, RunsStress};
+ghost use Rattle.vs_top.specs.Stress.{IsSceneOf, IsStress, IsStressUnhindered, RunsStress};
 ghost use Rattle.vs_top.specs.Run.{IsThrough, IsThroughMark, IsUnhindered, RunsEdit};
 
 use crate::edit::edit;
@@ -74,7 +74,7 @@ fn perform_words<H: Host>(
     requires marks { marks.old.items ≡ [] }
     requires clock { IsTrue (H.tells).clock → length (H.scene host.old).answers < 2 ^ 62 }
     requires settled { IsTrue (H.tells).folder → (H.scene host.old).folder.pending ≡ [] }
-    ensures { Does H.tells (map string_bytes words.now) (H.scene host.old) (H.scene host.new) result marks.new.items }
+    ensures { Does (IsSceneOf H.scene) H.tells (map string_bytes words.now) (H.scene host.old) (H.scene host.new) result marks.new.items }
 {
     if let Some(count) = stress_count(words) {
         return ending_in(stress(alloc, count, host, marks));
@@ -108,7 +108,7 @@ pub fn run<H: Host>(alloc: Global, words: &[String], host: &mut H) -> Report
         EndsBy (RunsDiscard H.tells (names_of_file name) (H.scene host.old) (H.scene host.new)) result.ending result.marks.items }
     ensures other { ¬ IsBuilt (map string_bytes words.now) → result.ending ≡ Ending.Usage }
     ensures stress { (count : ℕ) → IsStress (map string_bytes words.now) count →
-        RunsStress H.tells count (H.scene host.old) (H.scene host.new) result.ending result.marks.items }
+        RunsStress (IsSceneOf H.scene) H.tells count (H.scene host.old) (H.scene host.new) result.ending result.marks.items }
     ensures stresses { (count : ℕ) → IsStress (map string_bytes words.now) count → IsStressUnhindered H.tells (H.scene host.old) (H.scene host.new) →
         IsThrough result.ending × All IsThroughMark result.marks.items }
 {

@@ -8,7 +8,7 @@ ghost use Rattle.vs_session.specs.Fits.{Fits, FitsUndo, generation_of};
 ghost use Rattle.vs_session.specs.Session.{SessionState, quits, writes_files};
 ghost use Rattle.vs_stress.specs.Commands.{stress_commands};
 ghost use Rattle.vs_top.specs.Ending.{ending_in};
-ghost use Rattle.vs_top.specs.Stress.{RunsStress};
+ghost use Rattle.vs_top.specs.Stress.{IsSceneOf, RunsStress};
 ghost use Rattle.vs_top.specs.StressTurns.{IsStressTurn, StopsStress};
 
 use crate::edit::{ending_of, finish, is_clean, keep, put};
@@ -39,8 +39,8 @@ fn answer<H: Host>(
     requires undo { FitsUndo session.old }
     requires fits { IsTrue (H.tells).folder → (state : SessionState) × (syncs : List Sync) × Fits session.old (H.scene host.old).folder state syncs }
     ensures ok { IfOk result (λ after. (old : Scene) (commands : List Instruction) (instruction : Instruction) → IsRequest request.now instruction
-        → IsStressTurn H.tells old (H.scene host.old) session.old marks.old.items clean commands
-        → IsStressTurn H.tells old (H.scene host.new) session.new marks.new.items after (commands ++ instruction ∷ [])) }
+        → IsStressTurn (IsSceneOf H.scene) H.tells old (H.scene host.old) session.old marks.old.items clean commands
+        → IsStressTurn (IsSceneOf H.scene) H.tells old (H.scene host.new) session.new marks.new.items after (commands ++ instruction ∷ [])) }
     ensures err { IfErr result (λ ending. (ending ≡ Ending.NoMemory) × (marks.new.items ≡ marks.old.items) × (session.new ≡ session.old) × (H.scene host.new ≡ H.scene host.old)) }
     ensures clock { IsTrue (H.tells).clock → length (H.scene host.new).answers ≤ length (H.scene host.old).answers + 1 }
     ensures room { generation_of session.new ≤ generation_of session.old + 1 }
@@ -73,10 +73,10 @@ fn answer_all<H: Host>(
     requires undo { FitsUndo session.old }
     requires clock { IsTrue (H.tells).clock → length (H.scene host.old).answers < 2 ^ 62 }
     requires fits { IsTrue (H.tells).folder → (state : SessionState) × (syncs : List Sync) × Fits session.old (H.scene host.old).folder state syncs }
-    ensures ok { IfOk result (λ clean. (old : Scene) → IsStressTurn H.tells old (H.scene host.old) session.old [] true []
-        → IsStressTurn H.tells old (H.scene host.new) session.new marks.new.items clean (stress_commands count)) }
-    ensures err { IfErr result (λ ending. (ending ≡ Ending.NoMemory) × ((old : Scene) → IsStressTurn H.tells old (H.scene host.old) session.old [] true []
-        → StopsStress H.tells count old (H.scene host.new) session.new marks.new.items)) }
+    ensures ok { IfOk result (λ clean. (old : Scene) → IsStressTurn (IsSceneOf H.scene) H.tells old (H.scene host.old) session.old [] true []
+        → IsStressTurn (IsSceneOf H.scene) H.tells old (H.scene host.new) session.new marks.new.items clean (stress_commands count)) }
+    ensures err { IfErr result (λ ending. (ending ≡ Ending.NoMemory) × ((old : Scene) → IsStressTurn (IsSceneOf H.scene) H.tells old (H.scene host.old) session.old [] true []
+        → StopsStress (IsSceneOf H.scene) H.tells count old (H.scene host.new) session.new marks.new.items)) }
     ensures room { generation_of session.new ≤ 100003 }
     ensures fits { IsTrue (H.tells).folder → (state : SessionState) × (syncs : List Sync) × Fits session.new (H.scene host.new).folder state syncs }
 {
@@ -98,8 +98,8 @@ fn close<H: Host>(
 ) -> Result<Ending, Ending>
     requires room { generation_of session < 2 ^ 63 }
     requires fits { IsTrue (H.tells).folder → (state : SessionState) × (syncs : List Sync) × Fits session (H.scene host.old).folder state syncs }
-    ensures { (old : Scene) (marks : List Mark) → IsStressTurn H.tells old (H.scene host.old) session marks clean (stress_commands count)
-        → RunsStress H.tells count old (H.scene host.new) (ending_in result) marks }
+    ensures { (old : Scene) (marks : List Mark) → IsStressTurn (IsSceneOf H.scene) H.tells old (H.scene host.old) session marks clean (stress_commands count)
+        → RunsStress (IsSceneOf H.scene) H.tells count old (H.scene host.new) (ending_in result) marks }
 {
     let mut session = session;
     let summary = session.summary(alloc, host)?;
@@ -129,7 +129,7 @@ pub fn stress<H: Host>(
     requires marks { marks.old.items ≡ [] }
     requires clock { IsTrue (H.tells).clock → length (H.scene host.old).answers < 2 ^ 62 }
     requires settled { IsTrue (H.tells).folder → (H.scene host.old).folder.pending ≡ [] }
-    ensures { RunsStress H.tells count (H.scene host.old) (H.scene host.new) (ending_in result) marks.new.items }
+    ensures { RunsStress (IsSceneOf H.scene) H.tells count (H.scene host.old) (H.scene host.new) (ending_in result) marks.new.items }
 {
     let mut session = Session::open(alloc, host, FILE)?;
     let clean = answer_all(alloc, &mut session, host, marks, count)?;

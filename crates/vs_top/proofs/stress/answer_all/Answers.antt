@@ -2,13 +2,14 @@ use Rattle.std.proofs.Common.{◌≡◌, ◌+◌, true, List, [], refl, sym, sub
 use Rattle.vs_excmd.specs.Request.{Instruction}
 use Rattle.vs_machine.specs.declared.command.Mark.{Mark}
 use Rattle.vs_stress.specs.Commands.{generated, generated_to, preserves}
+use Rattle.vs_top.specs.Stress.{IsSceneOf}
 use Rattle.vs_top.specs.StressTurns.{IsStressTurn}
 use Rattle.vs_top.proofs.StressCommands.{answered_all, first_stress, goes_on, last_goes_on, last_writes_nothing, next_commands, stopped_last, stops_as, stops_here, writes_nothing}
 use Rattle.vs_top.proofs.stress.answer_all.Goals as goal
 
 pub commands-init : goal.commands-init
 commands-init g c = record {
-  turn = λ old at. subst (λ (l : List Mark). IsStressTurn g.H.World.tells old (g.H.World.scene c.args.host.now) c.args.session.now l true []) (sym c.requires.marks) at;
+  turn = λ old at. subst (λ (l : List Mark). IsStressTurn (IsSceneOf g.H.World.scene) g.H.World.tells old (g.H.World.scene c.args.host.now) c.args.session.now l true []) (sym c.requires.marks) at;
   room = c.requires.generation;
   undo = c.requires.undo;
   fits = c.requires.fits;
@@ -33,7 +34,7 @@ returns-in_err-clean-clause-err g c =
     stops_as _ c.from_residual-in_err-clean.result _ c.from_residual-in_err-clean.ensures.1 c.in_err-clean.ensures.err.0
     (λ old at.
     let first = first_stress c.commands.number c.args.count (omega arith) in
-    stops_here g.H.World.tells c.args.count old (g.H.World.scene c.commands.host) (g.H.World.scene c.answer.new.host) c.commands.session c.answer.new.session c.commands.marks.items c.answer.new.marks.items c.commands.clean (generated_to c.commands.number) first.0 first.1
+    stops_here (IsSceneOf g.H.World.scene) g.H.World.tells c.args.count old (g.H.World.scene c.commands.host) (g.H.World.scene c.answer.new.host) c.commands.session c.answer.new.session c.commands.marks.items c.answer.new.marks.items c.commands.clean (generated_to c.commands.number) first.0 first.1
     c.in_err-clean.ensures.err.1 c.in_err-clean.ensures.err.2 c.in_err-clean.ensures.err.3 (c.commands.invariant.turn old at))
 
 pub returns-in_err-clean-clause-fits : goal.returns-in_err-clean-clause-fits
@@ -41,7 +42,7 @@ returns-in_err-clean-clause-fits g c = λ told. c.answer.ensures.fits told (gene
 
 pub commands-preserved : goal.commands-preserved
 commands-preserved g c = record {
-  turn = λ old at. subst (λ (l : List Instruction). IsStressTurn g.H.World.tells old (g.H.World.scene c.answer.new.host) c.answer.new.session c.answer.new.marks.items c.in_ok-clean.clean l) (next_commands c.commands.number)
+  turn = λ old at. subst (λ (l : List Instruction). IsStressTurn (IsSceneOf g.H.World.scene) g.H.World.tells old (g.H.World.scene c.answer.new.host) c.answer.new.session c.answer.new.marks.items c.in_ok-clean.clean l) (next_commands c.commands.number)
       (c.in_ok-clean.ensures.ok old (generated_to c.commands.number) (generated (c.commands.number + 1)) c.in_ok-request.ensures.request (c.commands.invariant.turn old at));
   room = omega (arith, c.answer.ensures.room, c.commands.invariant.room);
   undo = c.answer.ensures.undo;
@@ -61,11 +62,11 @@ returns-clause-fits g c = λ told. c.answer-2.ensures.fits told preserves c.pres
 pub returns-clause-ok : goal.returns-clause-ok
 returns-clause-ok g c =
     let all : c.commands.number ≡ c.args.count = omega arith in
-    answered_all g.H.World.tells c.args.count (g.H.World.scene c.args.host.now) (g.H.World.scene c.commands.host) (g.H.World.scene c.answer-2.new.host) c.args.session.now c.commands.session c.answer-2.new.session c.commands.marks.items c.answer-2.new.marks.items c.commands.clean c.commands.number all c.preserve.result c.preserve.ensures.request c.commands.invariant.turn
+    answered_all (IsSceneOf g.H.World.scene) g.H.World.tells c.args.count (g.H.World.scene c.args.host.now) (g.H.World.scene c.commands.host) (g.H.World.scene c.answer-2.new.host) c.args.session.now c.commands.session c.answer-2.new.session c.commands.marks.items c.answer-2.new.marks.items c.commands.clean c.commands.number all c.preserve.result c.preserve.ensures.request c.commands.invariant.turn
     c.answer-2.result c.answer-2.ensures.ok
 
 pub returns-clause-err : goal.returns-clause-err
 returns-clause-err g c =
     let all : c.commands.number ≡ c.args.count = omega arith in
-    stopped_last g.H.World.tells c.args.count (g.H.World.scene c.args.host.now) (g.H.World.scene c.commands.host) (g.H.World.scene c.answer-2.new.host) c.args.session.now c.commands.session c.answer-2.new.session c.commands.marks.items c.answer-2.new.marks.items c.commands.clean c.commands.number all c.commands.invariant.turn c.answer-2.result
+    stopped_last (IsSceneOf g.H.World.scene) g.H.World.tells c.args.count (g.H.World.scene c.args.host.now) (g.H.World.scene c.commands.host) (g.H.World.scene c.answer-2.new.host) c.args.session.now c.commands.session c.answer-2.new.session c.commands.marks.items c.answer-2.new.marks.items c.commands.clean c.commands.number all c.commands.invariant.turn c.answer-2.result
     c.answer-2.ensures.err

@@ -2,6 +2,7 @@ use Rattle.std.proofs.Common.{◌∙◌, ◌<◌, ℕ, List, ◌++◌, length, t
 use Rattle.vs_host.specs.World.{Scene}
 use Rattle.vs_machine.specs.Replies.{Answer}
 use Rattle.vs_session.specs.Fits.{Fits}
+use Rattle.vs_top.specs.Stress.{IsSceneOf}
 use Rattle.vs_top.proofs.StressClosing.{close_cut, close_ends, close_fails, close_left, close_no_memory, line_some}
 use Rattle.vs_top.proofs.StressEnds.{stress_ending}
 use Rattle.vs_top.proofs.stress.close.Goals as goal
@@ -11,15 +12,15 @@ summary-requires g c = record { fits = c.requires.fits }
 
 pub returns-in_err-summary : goal.returns-in_err-summary
 returns-in_err-summary g c = λ old marks turn.
-    stress_ending g.H.World.tells c.args.count old (g.H.World.scene c.summary.new.host) marks c.from_residual.result _ _ c.from_residual.ensures.1 refl
-    (close_fails g.H.World.tells c.args.count old (g.H.World.scene c.args.host.now) (g.H.World.scene c.summary.new.host) c.args.session c.summary.new.self marks c.args.clean turn
+    stress_ending (IsSceneOf g.H.World.scene) g.H.World.tells c.args.count old (g.H.World.scene c.summary.new.host) marks c.from_residual.result _ _ c.from_residual.ensures.1 refl
+    (close_fails (IsSceneOf g.H.World.scene) g.H.World.tells c.args.count old (g.H.World.scene c.args.host.now) (g.H.World.scene c.summary.new.host) c.args.session c.summary.new.self marks c.args.clean turn
     (record { frame = c.summary.ensures.frame; later = c.summary.ensures.cause.later; still = c.summary.ensures.still; names = c.summary.ensures.file.names; fits = c.summary.ensures.fits })
     _ (λ is. c.in_err-summary.ensures.cause.risen (ap Err is)))
 
 pub returns-in_err-line : goal.returns-in_err-line
 returns-in_err-line g c = λ old marks turn.
-    stress_ending g.H.World.tells c.args.count old (g.H.World.scene c.summary.new.host) marks c.from_residual-in_err-line.result _ _ c.from_residual-in_err-line.ensures.1 refl
-    (close_no_memory g.H.World.tells c.args.count old (g.H.World.scene c.args.host.now) (g.H.World.scene c.summary.new.host) c.args.session c.summary.new.self marks c.args.clean turn
+    stress_ending (IsSceneOf g.H.World.scene) g.H.World.tells c.args.count old (g.H.World.scene c.summary.new.host) marks c.from_residual-in_err-line.result _ _ c.from_residual-in_err-line.ensures.1 refl
+    (close_no_memory (IsSceneOf g.H.World.scene) g.H.World.tells c.args.count old (g.H.World.scene c.args.host.now) (g.H.World.scene c.summary.new.host) c.args.session c.summary.new.self marks c.args.clean turn
     (record { frame = c.summary.ensures.frame; later = c.summary.ensures.cause.later; still = c.summary.ensures.still; names = c.summary.ensures.file.names; fits = c.summary.ensures.fits }))
 
 pub printed-requires : goal.printed-requires
@@ -27,8 +28,8 @@ printed-requires g c = subst (λ (l : List ℕ). 0 < length l) (sym c.in_ok-line
 
 pub returns-in_err-put : goal.returns-in_err-put
 returns-in_err-put g c = λ old marks turn.
-    stress_ending g.H.World.tells c.args.count old (g.H.World.scene c.put.new.host) marks c.from_residual-in_err-put.result _ _ c.from_residual-in_err-put.ensures.1 c.in_err-put.ensures.out
-    (close_cut g.H.World.tells c.args.count old (g.H.World.scene c.args.host.now) (g.H.World.scene c.summary.new.host) c.args.session c.summary.new.self marks c.args.clean turn
+    stress_ending (IsSceneOf g.H.World.scene) g.H.World.tells c.args.count old (g.H.World.scene c.put.new.host) marks c.from_residual-in_err-put.result _ _ c.from_residual-in_err-put.ensures.1 c.in_err-put.ensures.out
+    (close_cut (IsSceneOf g.H.World.scene) g.H.World.tells c.args.count old (g.H.World.scene c.args.host.now) (g.H.World.scene c.summary.new.host) c.args.session c.summary.new.self marks c.args.clean turn
     (record { frame = c.summary.ensures.frame; later = c.summary.ensures.cause.later; still = c.summary.ensures.still; names = c.summary.ensures.file.names; fits = c.summary.ensures.fits })
     c.in_ok-summary.summary c.in_ok-summary.ensures.summary c.in_ok-line.line.items c.in_ok-line.ensures (g.H.World.scene c.put.new.host) c.put.ensures.frame c.put.ensures.added
     (λ told. let cut = c.in_err-put.ensures.err told in (cut.0, cut.1 ∙ ap (λ (r : Answer). (g.H.World.scene c.summary.new.host).output ++ take cut.0 r.bytes) c.printed.ensures)) (c.in_err-put.ensures.cause.risen refl))
@@ -43,18 +44,18 @@ finish-requires-clause-fits g c = λ told.
 
 pub returns-in_err-finish : goal.returns-in_err-finish
 returns-in_err-finish g c = λ old marks turn.
-    stress_ending g.H.World.tells c.args.count old (g.H.World.scene c.finish.new.host) marks c.from_residual-in_err-finish.result _ _ c.from_residual-in_err-finish.ensures.1 c.in_err-finish.ensures.fault
-    (close_left g.H.World.tells c.args.count old (g.H.World.scene c.args.host.now) (g.H.World.scene c.summary.new.host) c.args.session c.summary.new.self marks c.args.clean turn
+    stress_ending (IsSceneOf g.H.World.scene) g.H.World.tells c.args.count old (g.H.World.scene c.finish.new.host) marks c.from_residual-in_err-finish.result _ _ c.from_residual-in_err-finish.ensures.1 c.in_err-finish.ensures.fault
+    (close_left (IsSceneOf g.H.World.scene) g.H.World.tells c.args.count old (g.H.World.scene c.args.host.now) (g.H.World.scene c.summary.new.host) c.args.session c.summary.new.self marks c.args.clean turn
     (record { frame = c.summary.ensures.frame; later = c.summary.ensures.cause.later; still = c.summary.ensures.still; names = c.summary.ensures.file.names; fits = c.summary.ensures.fits })
     c.in_ok-summary.summary c.in_ok-summary.ensures.summary c.in_ok-line.line.items c.in_ok-line.ensures (g.H.World.scene c.put.new.host) (g.H.World.scene c.finish.new.host) c.put.ensures.frame c.put.ensures.added
     (λ told. c.in_ok-put.ensures.ok told ∙ ap (λ (r : Answer). (g.H.World.scene c.summary.new.host).output ++ r.bytes) c.printed.ensures) (c.in_ok-put.ensures.quiet (λ is. absurd (cc)))
-    _ (record { sync = c.in_err-finish.ensures.sync; quit = c.finish.ensures.quit; last = c.finish.ensures.last; later = c.finish.ensures.cause.later; frame = c.finish.ensures.frame }) (c.in_err-finish.ensures.cause.risen refl))
+    _ (record { sync = c.in_err-finish.ensures.sync; quit = c.finish.ensures.quit; calm = λ ok. absurd (cc); last = c.finish.ensures.last; later = c.finish.ensures.cause.later; frame = c.finish.ensures.frame }) (c.in_err-finish.ensures.cause.risen refl))
 
 pub returns : goal.returns
 returns g c = λ old marks turn.
     rw c.ending_of.ensures
-    (close_ends g.H.World.tells c.args.count old (g.H.World.scene c.args.host.now) (g.H.World.scene c.summary.new.host) c.args.session c.summary.new.self marks c.args.clean turn
+    (close_ends (IsSceneOf g.H.World.scene) g.H.World.tells c.args.count old (g.H.World.scene c.args.host.now) (g.H.World.scene c.summary.new.host) c.args.session c.summary.new.self marks c.args.clean turn
     (record { frame = c.summary.ensures.frame; later = c.summary.ensures.cause.later; still = c.summary.ensures.still; names = c.summary.ensures.file.names; fits = c.summary.ensures.fits })
     c.in_ok-summary.summary c.in_ok-summary.ensures.summary c.in_ok-line.line.items c.in_ok-line.ensures (g.H.World.scene c.put.new.host) (g.H.World.scene c.finish.new.host) c.put.ensures.frame c.put.ensures.added
     (λ told. c.in_ok-put.ensures.ok told ∙ ap (λ (r : Answer). (g.H.World.scene c.summary.new.host).output ++ r.bytes) c.printed.ensures) (c.in_ok-put.ensures.quiet (λ is. absurd (cc)))
-    _ (record { sync = c.in_ok-finish.ensures.sync; quit = c.finish.ensures.quit; last = c.finish.ensures.last; later = c.finish.ensures.cause.later; frame = c.finish.ensures.frame }) (c.in_ok-finish.ensures.gone refl))
+    _ (record { sync = c.in_ok-finish.ensures.sync; quit = c.finish.ensures.quit; calm = λ ok. c.in_ok-finish.ensures.none.faults; last = c.finish.ensures.last; later = c.finish.ensures.cause.later; frame = c.finish.ensures.frame }) (c.in_ok-finish.ensures.gone refl))

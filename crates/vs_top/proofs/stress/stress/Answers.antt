@@ -1,7 +1,7 @@
 use Rattle.std.proofs.Common.{length, refl, ap, inl, inr, arith, Err}
 use Rattle.vs_host.specs.Names.{names_of_file}
 use Rattle.vs_host.specs.World.{Scene}
-use Rattle.vs_top.specs.Stress.{stress_name}
+use Rattle.vs_top.specs.Stress.{IsSceneOf, stress_name}
 use Rattle.vs_top.proofs.Edits.{settled, file_fits}
 use Rattle.vs_top.proofs.StressEnds.{no_memory, stress_ending}
 use Rattle.vs_top.proofs.StressOpening.{stress_open_fails, stress_opened}
@@ -17,8 +17,8 @@ pub returns-in_err-session : goal.returns-in_err-session
 returns-in_err-session g c =
     let old : Scene = g.H.World.scene c.args.host.now in
     let new : Scene = g.H.World.scene c.open.new.host in
-    stress_ending g.H.World.tells c.args.count old new c.args.marks.now.items c.from_residual.result _ _ c.from_residual.ensures.1 refl
-    (stress_open_fails g.H.World.tells old new c.open.ensures.acts c.args.count c.args.marks.now.items c.requires.marks _
+    stress_ending (IsSceneOf g.H.World.scene) g.H.World.tells c.args.count old new c.args.marks.now.items c.from_residual.result _ _ c.from_residual.ensures.1 refl
+    (stress_open_fails (IsSceneOf g.H.World.scene) g.H.World.tells old new c.open.ensures.acts (c.open.new.host, refl) c.args.count c.args.marks.now.items c.requires.marks _
     (λ is. c.in_err-session.ensures.cause.risen (ap Err is)) (λ other. c.in_err-session.ensures.quiet (λ is. other (cc))) (λ size is. c.in_err-session.ensures.limit size (ap Err is))
     (λ is. c.in_err-session.ensures.swap (ap Err is))
     (λ told has. elim (c.in_err-session.ensures.barred told has) [ inl is ↦ inl (cc) | inr more ↦ elim more [ inl is ↦ inr (inl (cc)) | inr is ↦ inr (inr (cc)) ] ])
@@ -41,11 +41,11 @@ returns-in_err-clean g c =
     let old : Scene = g.H.World.scene c.args.host.now in
     let mid : Scene = g.H.World.scene c.open.new.host in
     let stop = c.in_err-clean.ensures.err.1 old
-    (stress_opened g.H.World.tells old mid c.open.ensures.acts c.in_ok-session.session c.in_ok-session.ensures.name.1
+    (stress_opened (IsSceneOf g.H.World.scene) g.H.World.tells old mid c.open.ensures.acts (c.open.new.host, refl) c.in_ok-session.session c.in_ok-session.ensures.name.1
     (λ told has. elim (c.in_ok-session.ensures.barred told has) [ inl is ↦ absurd (cc) | inr more ↦ elim more [ inl is ↦ absurd (cc) | inr is ↦ absurd (cc) ] ])
     (λ told. file_fits _ (c.in_ok-session.ensures.over told)) c.in_ok-session.ensures.fits (g.H.World.newest c.args.host.now) (g.H.World.newest c.open.new.host)) in
-    stress_ending g.H.World.tells c.args.count old (g.H.World.scene c.answer_all.new.host) c.answer_all.new.marks.items c.from_residual-in_err-clean.result _ _ c.from_residual-in_err-clean.ensures.1 c.in_err-clean.ensures.err.0
-    (no_memory g.H.World.tells old (g.H.World.scene c.answer_all.new.host) c.answer_all.new.session c.answer_all.new.marks.items stop.clean stop.commands stop.turn c.args.count stop.rest stop.first)
+    stress_ending (IsSceneOf g.H.World.scene) g.H.World.tells c.args.count old (g.H.World.scene c.answer_all.new.host) c.answer_all.new.marks.items c.from_residual-in_err-clean.result _ _ c.from_residual-in_err-clean.ensures.1 c.in_err-clean.ensures.err.0
+    (no_memory (IsSceneOf g.H.World.scene) g.H.World.tells old (g.H.World.scene c.answer_all.new.host) c.answer_all.new.session c.answer_all.new.marks.items stop.clean stop.commands stop.turn c.args.count stop.rest stop.first)
 
 pub close-requires-clause-room : goal.close-requires-clause-room
 close-requires-clause-room g c = omega (arith, c.answer_all.ensures.room)
@@ -59,6 +59,6 @@ returns g c =
     let mid : Scene = g.H.World.scene c.open.new.host in
     c.close.ensures old c.answer_all.new.marks.items
     (c.in_ok-clean.ensures.ok old
-    (stress_opened g.H.World.tells old mid c.open.ensures.acts c.in_ok-session.session c.in_ok-session.ensures.name.1
+    (stress_opened (IsSceneOf g.H.World.scene) g.H.World.tells old mid c.open.ensures.acts (c.open.new.host, refl) c.in_ok-session.session c.in_ok-session.ensures.name.1
     (λ told has. elim (c.in_ok-session.ensures.barred told has) [ inl is ↦ absurd (cc) | inr more ↦ elim more [ inl is ↦ absurd (cc) | inr is ↦ absurd (cc) ] ])
     (λ told. file_fits _ (c.in_ok-session.ensures.over told)) c.in_ok-session.ensures.fits (g.H.World.newest c.args.host.now) (g.H.World.newest c.open.new.host)))
