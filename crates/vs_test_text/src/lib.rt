@@ -4,5 +4,3 @@
 mod pieces;
 #[cfg(test)]
 mod tests;
-
-pub use pieces::{read_in_pieces, take_in_pieces};

@@ -1,6 +1,6 @@
 ghost use Rattle.std.specs.Prelude.{◌≤◌, length};
 
-use crate::{read_in_pieces, take_in_pieces};
+use crate::pieces::{read_in_pieces, take_in_pieces};
 use std::alloc::{AllocError, Global};
 use std::test::Fail;
 use vs_text::{
