@@ -1,3 +1,4 @@
+pub mod GoingLemmas
 pub mod OutLemmas
 pub mod LedLemmas
 pub mod TriedLemmas

@@ -23,6 +23,10 @@ pub record IsOnTrail {S : Type 0} (g : Ghosts S) (nodes : List Node) (first : S)
   pub texts : (text : List (List ℕ)) → (g.shows first).present.Is text
       → (here : List (List ℕ)) × ((g.shows now).present.Is here × HasTrail Leads nodes (reverse trail) text here)
 
+-- The store is on the later steps, from whatever first text it was on the earlier ones.
+abbrev pub KeepsTrail : {S : Type 0} (g : Ghosts S) → List Node → List Step → S → List Step → S → Type 0
+KeepsTrail {S = S} g nodes was before trail now = (first : S) → IsOnTrail g nodes first was before → IsOnTrail g nodes first trail now
+
 -- No text within the limits follows over the entries of this change from the one that the changes before it lead to.
 pub record IsBarredBy (nodes : List Node) (path : List ℕ) (text : List (List ℕ)) (number : ℕ) : Type 0 where
   pub after : List ℕ
@@ -43,6 +47,10 @@ pub record IsTried {S : Type 0} (g : Ghosts S) (nodes : List Node) (first : S) (
 abbrev pub IsSettledAt : {S : Type 0} (g : Ghosts S) → Parts → S → Option ℕ → ℕ → Type 0
 IsSettledAt g parts first least state = (path : List ℕ) × (IsOutward parts path state × IsTried g parts.nodes first least path)
 
+-- The states that were settled still are, where another change may be the least that is known.
+abbrev pub KeepsSettled : {S : Type 0} (g : Ghosts S) → Parts → Option ℕ → Option ℕ → Type 0
+KeepsSettled {S = S} g parts was least = (first : S) (state : ℕ) → IsSettledAt g parts first was state → IsSettledAt g parts first least state
+
 -- The least change that is known so far does not fit.
 abbrev pub IsKnownMisfit : {S : Type 0} (g : Ghosts S) → Parts → S → Option ℕ → Type 0
 IsKnownMisfit g parts first least = (l : ℕ) → least ≡ Some l → (text : List (List ℕ)) → (g.shows first).present.Is text → IsMisfit parts text l
@@ -53,3 +61,7 @@ pub record IsSearch {S : Type 0} (g : Ghosts S) (parts : Parts) (first : S) (sea
   pub count : length search.settled.items ≡ length parts.nodes
   pub settled : (i : ℕ) (node : Node) → i < length parts.nodes → get_or search.settled.items i false ≡ true → IsSettledAt g parts first search.least (get_or parts.nodes i node).number
   pub misfit : IsKnownMisfit g parts first search.least
+
+-- The search goes on, from whatever first text it began.
+abbrev pub KeepsSearch : {S : Type 0} (g : Ghosts S) → Parts → Search → S → Search → S → Type 0
+KeepsSearch {S = S} g parts was before search now = (first : S) → IsSearch g parts first was before → IsSearch g parts first search now

@@ -1,11 +1,10 @@
 // Crossing an edge of the tree where the entries fit.
-ghost use Rattle.std.specs.Prelude.{◌≡◌, ℕ, List, IfNone, IfOk, IfSome, IsErrOf, OnOk, max, reverse};
+ghost use Rattle.std.specs.Prelude.{◌≡◌, ℕ, List, IfNone, IfOk, IfSome, OnOk, max, reverse};
 ghost use Rattle.std.specs.List.Sorted.{IsStrictlyIncreasing};
-ghost use Rattle.vs_faults.specs.Faults.{HasCause};
-ghost use Rattle.vs_edit.specs.Calls.{CanGoBack};
 ghost use Rattle.vs_entries.specs.Entries.{Leads, LeadsCount};
 ghost use Rattle.vs_undo.specs.Edges.{IsLed};
 ghost use Rattle.vs_undo.specs.Numbers.{numbers};
+ghost use Rattle.vs_outward.specs.Calls.{GoesOn};
 ghost use Rattle.vs_outward.specs.Outward.{entries_at};
 
 use std::alloc::Global;
@@ -20,9 +19,7 @@ fn take_back<S: LineStore>(alloc: Global, store: &mut S, back: Vec<Entry>) -> Re
     requires texts { (text : List (List ℕ)) → (S.shows store.old).present.Is text → (to : List (List ℕ)) × IsLed Leads (reverse back.items) text to }
     ensures counts { OnOk result ((to : ℕ) → IsLed LeadsCount (reverse back.items) (max 1 (S.shows store.old).present.lines) to → max 1 (S.shows store.new).present.lines ≡ to) }
     ensures texts { OnOk result ((text to : List (List ℕ)) → (S.shows store.old).present.Is text → IsLed Leads (reverse back.items) text to → (S.shows store.new).present.Is to) }
-    ensures valid { OnOk result (S.valid store.new) }
-    ensures kept { CanGoBack S.LineStore store.old store.new }
-    ensures cause { HasCause (S.shows store.old).faults (S.shows store.new).faults (IsErrOf result StoreErr.Failed) }
+    ensures goes_on { GoesOn S.LineStore store.old store.new result }
 {
     let mut entries = back;
     entries.reverse();
@@ -47,9 +44,7 @@ pub(crate) fn try_all<S: LineStore>(
     ensures refused { IfOk result (λ o. IfNone o ((text to : List (List ℕ)) → (S.shows store.old).present.Is text → IsLed Leads entries.now text to → ⊥)) }
     ensures same_counts { IfOk result (λ o. IfNone o (max 1 (S.shows store.new).present.lines ≡ max 1 (S.shows store.old).present.lines)) }
     ensures same_texts { IfOk result (λ o. IfNone o ((text : List (List ℕ)) → (S.shows store.old).present.Is text → (S.shows store.new).present.Is text)) }
-    ensures valid { OnOk result (S.valid store.new) }
-    ensures kept { CanGoBack S.LineStore store.old store.new }
-    ensures cause { HasCause (S.shows store.old).faults (S.shows store.new).faults (IsErrOf result StoreErr.Failed) }
+    ensures goes_on { GoesOn S.LineStore store.old store.new result }
 {
     let mut back = Vec::with_capacity(alloc, entries.len())?;
     for entry in entries {

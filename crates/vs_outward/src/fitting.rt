@@ -2,15 +2,16 @@
 ghost use Rattle.std.specs.Prelude.{◌≡◌, ◌<◌, ◌≤◌, ◌⊎◌, ℕ, List, [], Option, Some, None, true, false, IfNone, IfOk, IfSome, IsErrOf, OnOk, get_or, length, max, reverse};
 ghost use Rattle.std.specs.List.Sorted.{IsStrictlyIncreasing};
 ghost use Rattle.vs_faults.specs.Faults.{HasCause};
-ghost use Rattle.vs_edit.specs.Calls.{CanGoBack, Continues};
+ghost use Rattle.vs_edit.specs.Calls.{Continues};
 ghost use Rattle.vs_edit.specs.State.{SameText};
 ghost use Rattle.vs_undo.specs.History.{FitsCount, FitsText};
 ghost use Rattle.vs_undo.specs.Numbers.{numbers};
 ghost use Rattle.vs_undo.specs.Sound.{IsSound};
 ghost use Rattle.vs_undo.specs.Ways.{is_on, IsKept, IsWayOf};
 ghost use Rattle.vs_undo.specs.declared.parts.Node.{Node};
+ghost use Rattle.vs_outward.specs.Calls.{GoesOn};
 ghost use Rattle.vs_outward.specs.Outward.{IsFirstMisfit, IsOutward};
-ghost use Rattle.vs_outward.specs.Trails.{IsBarredBy, IsKnownMisfit, IsOnTrail, IsSearch, IsSettledAt, IsTried};
+ghost use Rattle.vs_outward.specs.Trails.{IsBarredBy, IsOnTrail, IsSearch, IsSettledAt, IsTried, KeepsSearch, KeepsSettled, KeepsTrail};
 ghost use Rattle.vs_outward.specs.declared.fitting.Search.{Search};
 
 use crate::order::visits;
@@ -103,13 +104,11 @@ fn walk_in<S: LineStore>(
     requires valid { S.valid store.old }
     requires rising { IsStrictlyIncreasing (numbers parts.now.nodes) }
     requires on { (first : S) × IsOnTrail S.LineStore parts.now.nodes first trail.old.items store.old }
-    ensures on { OnOk result ((first : S) → IsOnTrail S.LineStore parts.now.nodes first trail.old.items store.old → IsOnTrail S.LineStore parts.now.nodes first trail.new.items store.new) }
+    ensures on { OnOk result (KeepsTrail S.LineStore parts.now.nodes trail.old.items store.old trail.new.items store.new) }
     ensures tried { IfOk result (λ o. (first : S) → IsOnTrail S.LineStore parts.now.nodes first trail.old.items store.old → IsTried S.LineStore parts.now.nodes first o (reverse path.now)) }
     ensures barred { IfOk result (λ o. IfSome o (λ number. (first : S) → IsOnTrail S.LineStore parts.now.nodes first trail.old.items store.old
         → (text : List (List ℕ)) → (S.shows first).present.Is text → IsBarredBy parts.now.nodes (reverse path.now) text number)) }
-    ensures valid { OnOk result (S.valid store.new) }
-    ensures kept { CanGoBack S.LineStore store.old store.new }
-    ensures cause { HasCause (S.shows store.old).faults (S.shows store.new).faults (IsErrOf result StoreErr.Failed) }
+    ensures goes_on { GoesOn S.LineStore store.old store.new result }
 {
     walk(alloc, store, parts.nodes.nodes(), trail, path)
 }
@@ -126,12 +125,10 @@ fn try_path<S: LineStore>(
     requires sound { IsSound parts.now }
     requires outward { (to : ℕ) × IsOutward parts.now (reverse path.now) to }
     requires search { (first : S) × IsSearch S.LineStore parts.now first search.old store.old }
-    ensures search { OnOk result ((first : S) → IsSearch S.LineStore parts.now first search.old store.old → IsSearch S.LineStore parts.now first search.new store.new) }
+    ensures search { OnOk result (KeepsSearch S.LineStore parts.now search.old store.old search.new store.new) }
     ensures tried { OnOk result ((first : S) → IsSearch S.LineStore parts.now first search.old store.old → IsTried S.LineStore parts.now.nodes first search.new.least (reverse path.now)) }
-    ensures known { OnOk result ((first : S) (state : ℕ) → IsSettledAt S.LineStore parts.now first search.old.least state → IsSettledAt S.LineStore parts.now first search.new.least state) }
-    ensures valid { OnOk result (S.valid store.new) }
-    ensures kept { CanGoBack S.LineStore store.old store.new }
-    ensures cause { HasCause (S.shows store.old).faults (S.shows store.new).faults (IsErrOf result StoreErr.Failed) }
+    ensures known { OnOk result (KeepsSettled S.LineStore parts.now search.old.least search.new.least) }
+    ensures goes_on { GoesOn S.LineStore store.old store.new result }
 {
     if let Some(number) = walk_in(alloc, store, parts, &mut search.trail, path)? {
         search.least = Some(lesser(search.least, number));
@@ -153,12 +150,10 @@ fn visit<S: LineStore>(
     requires way { IsWayOf parts.now.nodes parts.now.current way.now }
     requires kept { IsKept parts.now.nodes number }
     requires search { (first : S) × IsSearch S.LineStore parts.now first search.old store.old }
-    ensures search { OnOk result ((first : S) → IsSearch S.LineStore parts.now first search.old store.old → IsSearch S.LineStore parts.now first search.new store.new) }
+    ensures search { OnOk result (KeepsSearch S.LineStore parts.now search.old store.old search.new store.new) }
     ensures settled { OnOk result ((first : S) → IsSearch S.LineStore parts.now first search.old store.old → IsSettledAt S.LineStore parts.now first search.new.least number) }
-    ensures known { OnOk result ((first : S) (state : ℕ) → IsSettledAt S.LineStore parts.now first search.old.least state → IsSettledAt S.LineStore parts.now first search.new.least state) }
-    ensures valid { OnOk result (S.valid store.new) }
-    ensures kept { CanGoBack S.LineStore store.old store.new }
-    ensures cause { HasCause (S.shows store.old).faults (S.shows store.new).faults (IsErrOf result StoreErr.Failed) }
+    ensures known { OnOk result (KeepsSettled S.LineStore parts.now search.old.least search.new.least) }
+    ensures goes_on { GoesOn S.LineStore store.old store.new result }
 {
     let path = path_to(alloc, parts, way, number)?;
     try_path(alloc, store, parts, search, &path)?;
@@ -180,13 +175,11 @@ fn visit_at<S: LineStore>(
     requires way { IsWayOf parts.now.nodes parts.now.current way.now }
     requires within { place < length parts.now.nodes }
     requires search { (first : S) × IsSearch S.LineStore parts.now first search.old store.old }
-    ensures search { OnOk result ((first : S) → IsSearch S.LineStore parts.now first search.old store.old → IsSearch S.LineStore parts.now first search.new store.new) }
+    ensures search { OnOk result (KeepsSearch S.LineStore parts.now search.old store.old search.new store.new) }
     ensures settled { OnOk result ((first : S) (node : Node) → IsSearch S.LineStore parts.now first search.old store.old
         → IsSettledAt S.LineStore parts.now first search.new.least (get_or parts.now.nodes place node).number) }
-    ensures known { OnOk result ((first : S) (state : ℕ) → IsSettledAt S.LineStore parts.now first search.old.least state → IsSettledAt S.LineStore parts.now first search.new.least state) }
-    ensures valid { OnOk result (S.valid store.new) }
-    ensures kept { CanGoBack S.LineStore store.old store.new }
-    ensures cause { HasCause (S.shows store.old).faults (S.shows store.new).faults (IsErrOf result StoreErr.Failed) }
+    ensures known { OnOk result (KeepsSettled S.LineStore parts.now search.old.least search.new.least) }
+    ensures goes_on { GoesOn S.LineStore store.old store.new result }
 {
     let nodes = parts.nodes.nodes();
     let _ = store.len();
@@ -208,8 +201,7 @@ fn find_misfit<S: LineStore>(
     ensures counts { IfOk result (λ o. IfNone o (FitsCount parts.now (max 1 (S.shows store.old).present.lines))) }
     ensures texts { IfOk result (λ o. IfNone o ((text : List (List ℕ)) → (S.shows store.old).present.Is text → FitsText parts.now text)) }
     ensures misfit { IfOk result (λ o. IfSome o (λ number. (text : List (List ℕ)) → (S.shows store.old).present.Is text → IsFirstMisfit parts.now text number)) }
-    ensures kept { CanGoBack S.LineStore store.old store.new }
-    ensures cause { HasCause (S.shows store.old).faults (S.shows store.new).faults (IsErrOf result StoreErr.Failed) }
+    ensures goes_on { GoesOn S.LineStore store.old store.new result }
 {
     let nodes = parts.nodes.nodes();
     let way = way_of(alloc, nodes, parts.current)?;

@@ -1,13 +1,12 @@
 // A store that is led over the changes of a tree, with the entries that lead it back.
-ghost use Rattle.std.specs.Prelude.{◌≡◌, ◌+◌, ◌-◌, ◌<◌, ◌≤◌, ◌++◌, ◌∷◌, [], ℕ, List, Some, IfNone, IfOk, IfSome, IsErrOf, IsTrue, OnOk, OnErr, length, map, max, reverse, take};
+ghost use Rattle.std.specs.Prelude.{◌≡◌, ◌+◌, ◌-◌, ◌<◌, ◌≤◌, ◌++◌, ◌∷◌, [], ℕ, List, Some, IfNone, IfOk, IfSome, IsTrue, OnOk, length, map, max, reverse, take};
 ghost use Rattle.std.specs.List.Sorted.{IsStrictlyIncreasing};
-ghost use Rattle.vs_faults.specs.Faults.{HasCause};
-ghost use Rattle.vs_edit.specs.Calls.{CanGoBack};
 ghost use Rattle.vs_entries.specs.Entries.{Leads};
 ghost use Rattle.vs_undo.specs.Edges.{IsLed};
 ghost use Rattle.vs_undo.specs.Numbers.{numbers};
+ghost use Rattle.vs_outward.specs.Calls.{GoesOn};
 ghost use Rattle.vs_outward.specs.Outward.{entries_at};
-ghost use Rattle.vs_outward.specs.Trails.{IsBarredBy, IsOnTrail, IsTried};
+ghost use Rattle.vs_outward.specs.Trails.{IsBarredBy, IsOnTrail, IsTried, KeepsTrail};
 ghost use Rattle.vs_outward.specs.declared.trail.Step.{Step};
 
 use crate::crossing::{entries_at, try_all};
@@ -33,13 +32,11 @@ fn step_out<S: LineStore>(
     requires valid { S.valid store.old }
     requires rising { IsStrictlyIncreasing (numbers nodes.now) }
     ensures crossed { IfOk result (λ yes. IsTrue yes → (step : Step) × ((trail.new.items ≡ trail.old.items ++ step ∷ []) × (step.number ≡ number))) }
-    ensures on { IfOk result (λ yes. (first : S) → IsOnTrail S.LineStore nodes.now first trail.old.items store.old → IsOnTrail S.LineStore nodes.now first trail.new.items store.new) }
+    ensures on { OnOk result (KeepsTrail S.LineStore nodes.now trail.old.items store.old trail.new.items store.new) }
     ensures same { IfOk result (λ yes. ¬ (IsTrue yes) → trail.new.items ≡ trail.old.items) }
     ensures refused { IfOk result (λ yes. ¬ (IsTrue yes) → (text to : List (List ℕ)) → (S.shows store.old).present.Is text → IsLed Leads (entries_at nodes.now number) text to → ⊥) }
     ensures stayed { IfOk result (λ yes. ¬ (IsTrue yes) → (text : List (List ℕ)) → (S.shows store.old).present.Is text → (S.shows store.new).present.Is text) }
-    ensures valid { OnOk result (S.valid store.new) }
-    ensures kept { CanGoBack S.LineStore store.old store.new }
-    ensures cause { HasCause (S.shows store.old).faults (S.shows store.new).faults (IsErrOf result StoreErr.Failed) }
+    ensures goes_on { GoesOn S.LineStore store.old store.new result }
 {
     let Some(back) = try_all(alloc, store, entries_at(nodes, number))? else {
         return Ok(false);
@@ -57,11 +54,9 @@ fn step_in<S: LineStore>(
 ) -> Result<(), StoreErr>
     requires valid { S.valid store.old }
     requires on { (first : S) × IsOnTrail S.LineStore nodes.now first trail.old.items store.old }
-    ensures on { OnOk result ((first : S) → IsOnTrail S.LineStore nodes.now first trail.old.items store.old → IsOnTrail S.LineStore nodes.now first trail.new.items store.new) }
+    ensures on { OnOk result (KeepsTrail S.LineStore nodes.now trail.old.items store.old trail.new.items store.new) }
     ensures less { OnOk result (trail.new.items ≡ take (length trail.old.items - 1) trail.old.items) }
-    ensures valid { OnOk result (S.valid store.new) }
-    ensures kept { CanGoBack S.LineStore store.old store.new }
-    ensures cause { HasCause (S.shows store.old).faults (S.shows store.new).faults (IsErrOf result StoreErr.Failed) }
+    ensures goes_on { GoesOn S.LineStore store.old store.new result }
 {
     if let Some(step) = trail.pop() {
         apply_all(alloc, store, step.back.entries())?;
@@ -80,11 +75,9 @@ fn go_in<S: LineStore>(
     requires valid { S.valid store.old }
     requires some { left ≤ length trail.old.items }
     requires on { (first : S) × IsOnTrail S.LineStore nodes.now first trail.old.items store.old }
-    ensures on { OnOk result ((first : S) → IsOnTrail S.LineStore nodes.now first trail.old.items store.old → IsOnTrail S.LineStore nodes.now first trail.new.items store.new) }
+    ensures on { OnOk result (KeepsTrail S.LineStore nodes.now trail.old.items store.old trail.new.items store.new) }
     ensures less { OnOk result (trail.new.items ≡ take left trail.old.items) }
-    ensures valid { OnOk result (S.valid store.new) }
-    ensures kept { CanGoBack S.LineStore store.old store.new }
-    ensures cause { HasCause (S.shows store.old).faults (S.shows store.new).faults (IsErrOf result StoreErr.Failed) }
+    ensures goes_on { GoesOn S.LineStore store.old store.new result }
 {
     let count = trail.len() - left;
     for _ in 0..count {
@@ -119,13 +112,11 @@ fn go_out<S: LineStore>(
     requires rising { IsStrictlyIncreasing (numbers nodes.now) }
     requires within { length trail.old.items ≤ length path.now }
     requires begun { map (λ (step : Step). step.number) trail.old.items ≡ take (length trail.old.items) path.now }
-    ensures on { OnOk result ((first : S) → IsOnTrail S.LineStore nodes.now first trail.old.items store.old → IsOnTrail S.LineStore nodes.now first trail.new.items store.new) }
+    ensures on { OnOk result (KeepsTrail S.LineStore nodes.now trail.old.items store.old trail.new.items store.new) }
     ensures whole { IfOk result (λ o. IfNone o (map (λ (step : Step). step.number) trail.new.items ≡ path.now)) }
     ensures barred { IfOk result (λ o. IfSome o (λ number. (after : List ℕ) × (path.now ≡ map (λ (step : Step). step.number) trail.new.items ++ number ∷ after))) }
     ensures refused { IfOk result (λ o. IfSome o (λ number. (text to : List (List ℕ)) → (S.shows store.new).present.Is text → IsLed Leads (entries_at nodes.now number) text to → ⊥)) }
-    ensures valid { OnOk result (S.valid store.new) }
-    ensures kept { CanGoBack S.LineStore store.old store.new }
-    ensures cause { HasCause (S.shows store.old).faults (S.shows store.new).faults (IsErrOf result StoreErr.Failed) }
+    ensures goes_on { GoesOn S.LineStore store.old store.new result }
 {
     for k in trail.len()..path.len() {
         if !step_out(alloc, store, nodes, trail, path[k])? {
@@ -149,13 +140,11 @@ pub(crate) fn walk<S: LineStore>(
     requires valid { S.valid store.old }
     requires rising { IsStrictlyIncreasing (numbers nodes.now) }
     requires on { (first : S) × IsOnTrail S.LineStore nodes.now first trail.old.items store.old }
-    ensures on { OnOk result ((first : S) → IsOnTrail S.LineStore nodes.now first trail.old.items store.old → IsOnTrail S.LineStore nodes.now first trail.new.items store.new) }
+    ensures on { OnOk result (KeepsTrail S.LineStore nodes.now trail.old.items store.old trail.new.items store.new) }
     ensures tried { IfOk result (λ o. (first : S) → IsOnTrail S.LineStore nodes.now first trail.old.items store.old → IsTried S.LineStore nodes.now first o (reverse path.now)) }
     ensures barred { IfOk result (λ o. IfSome o (λ number. (first : S) → IsOnTrail S.LineStore nodes.now first trail.old.items store.old
         → (text : List (List ℕ)) → (S.shows first).present.Is text → IsBarredBy nodes.now (reverse path.now) text number)) }
-    ensures valid { OnOk result (S.valid store.new) }
-    ensures kept { CanGoBack S.LineStore store.old store.new }
-    ensures cause { HasCause (S.shows store.old).faults (S.shows store.new).faults (IsErrOf result StoreErr.Failed) }
+    ensures goes_on { GoesOn S.LineStore store.old store.new result }
 {
     let shared = shared_start(trail, path);
     go_in(alloc, store, nodes, trail, shared)?;

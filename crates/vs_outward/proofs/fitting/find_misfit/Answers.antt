@@ -1,7 +1,8 @@
 -- At the end each state is settled.
-use Rattle.std.proofs.Common.{◌≡◌, ◌<◌, inl, inr, ℕ, List, None, Some, Option, false, true, [], length, get_or, sym, ap, subst, ◌∙◌, arith}
+use Rattle.std.proofs.Common.{◌≡◌, Err, ◌<◌, inl, inr, ℕ, List, None, Some, Option, false, true, [], length, get_or, sym, ap, subst, ◌∙◌, arith}
 use Rattle.std.specs.Prelude.{All, Contains}
 use Rattle.std.proofs.lemmas.Bool.{cases_lt}
+use Rattle.std.proofs.lemmas.Result.{err_from_is_err_and}
 use Rattle.std.proofs.lemmas.Grind.{get_or_default_zero}
 use Rattle.std.proofs.lemmas.List.Elements.{All-get_or}
 use Rattle.vs_undo.specs.declared.parts.Node.{Node}
@@ -10,6 +11,7 @@ use Rattle.vs_edit.specs.declared.store.LineStore.{Ghosts}
 use Rattle.vs_undo.specs.declared.parts.Parts.{Parts}
 use Rattle.vs_outward.specs.declared.fitting.Search.{Search}
 use Rattle.vs_outward.specs.Trails.{IsSearch, IsSettledAt}
+use Rattle.vs_outward.proofs.GoingLemmas.{stopped}
 use Rattle.vs_outward.proofs.FitLemmas.{all_counts, all_misfit, all_texts, settled_all}
 use Rattle.vs_outward.proofs.TriedLemmas.{on_none}
 use Rattle.vs_outward.proofs.fitting.find_misfit.Goals as goal
@@ -47,9 +49,9 @@ loop-place-init g c =
       search = out.search c.args.store.now at;
       root = out.settled c.args.store.now at;
       seen = λ k node far. absurd (omega arith);
-      valid = out.valid;
-      kept = out.kept;
-      faults = omega (arith, out.cause.later);
+      valid = out.goes_on.valid;
+      kept = out.goes_on.kept;
+      faults = omega (arith, out.goes_on.cause.later);
     }
 
 pub visit_at-requires-clause-within : goal.visit_at-requires-clause-within
@@ -76,9 +78,9 @@ loop-place-preserved g c =
             let same : i ≡ k = omega (arith, past, within) in
             subst (λ j. IsSettledAt g.S.LineStore parts first c.visit_at.new.search.least (get_or parts.nodes (get_or order j 0) node).number) same (out.settled first node inv.search)
       ];
-      valid = out.valid;
-      kept = Continues-trans g.met.S.LineStore.stays_on inv.kept out.kept;
-      faults = omega (arith, inv.faults, out.cause.later);
+      valid = out.goes_on.valid;
+      kept = Continues-trans g.met.S.LineStore.stays_on inv.kept out.goes_on.kept;
+      faults = omega (arith, inv.faults, out.goes_on.cause.later);
     }
 
 pub returns-clause-counts : goal.returns-clause-counts
@@ -114,5 +116,8 @@ returns-clause-misfit g c =
     all_misfit parts c.requires.sound.tree g.S.LineStore first c.requires.sound.current c.loop-place.search.least
     (settled_all g.S.LineStore parts first c.loop-place.search.least inv.root (all_seen g.S.LineStore parts first c.loop-place.search.least order c.loop-place.place-index (omega arith) inv.seen each)) inv.search.misfit
 
-pub returns-in_err-visit_at-clause-kept : goal.returns-in_err-visit_at-clause-kept
-returns-in_err-visit_at-clause-kept g c = Continues-trans g.met.S.LineStore.stays_on c.loop-place.invariant.kept c.in_err-visit_at.ensures.kept
+pub returns-in_err-visit_at-clause-goes_on : goal.returns-in_err-visit_at-clause-goes_on
+returns-in_err-visit_at-clause-goes_on g c =
+    let inv = c.loop-place.invariant in
+    let p = err_from_is_err_and c.from_residual-in_err-visit_at.result c.from_residual-in_err-visit_at.ensures.1 in
+    stopped g.met.S.LineStore.stays_on inv.kept inv.faults c.from_residual-in_err-visit_at.result (p.1 ∙ ap Err p.2) c.in_err-visit_at.ensures.goes_on

@@ -1,8 +1,11 @@
 -- The states on the path are settled with the state that it leads to.
-use Rattle.std.proofs.Common.{◌≡◌, true, reverse, subst, ◌∙◌, inl, inr, get_or}
+use Rattle.std.proofs.Common.{◌≡◌, true, Err, reverse, ap, subst, ◌∙◌, inl, inr, get_or, arith}
+use Rattle.std.proofs.lemmas.Result.{err_from_is_err_and}
+use Rattle.vs_edit.proofs.Steps.{Continues-none}
 use Rattle.vs_undo.specs.Ways.{is_on}
 use Rattle.vs_outward.specs.Trails.{IsTried}
 use Rattle.vs_undo.proofs.WayLemmas.{is_on-reverse}
+use Rattle.vs_outward.proofs.GoingLemmas.{out_of_memory}
 use Rattle.vs_outward.proofs.TriedLemmas.{settled_on}
 use Rattle.vs_outward.proofs.fitting.visit.Goals as goal
 
@@ -22,3 +25,9 @@ returns-clause-search g c = λ first was.
       ];
       misfit = next.misfit;
     }
+
+pub returns-in_err-path-clause-goes_on : goal.returns-in_err-path-clause-goes_on
+returns-in_err-path-clause-goes_on g c =
+    let p = err_from_is_err_and c.from_residual.result c.from_residual.ensures.1 in
+    let store = g.met.S.LineStore in
+    out_of_memory c.from_residual.result (p.1 ∙ ap Err p.2) (Continues-none store.stays_itself (store.is_safe c.args.store.now c.requires.valid)) (omega arith)

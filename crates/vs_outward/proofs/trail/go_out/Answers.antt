@@ -3,6 +3,7 @@ use Rattle.std.proofs.lemmas.Bool.Decides.{nat_tests}
 use Rattle.std.proofs.lemmas.List.{map-append, take_more}
 use Rattle.vs_edit.proofs.Steps.{Continues-trans}
 use Rattle.vs_outward.specs.declared.trail.Step.{Step}
+use Rattle.vs_outward.proofs.GoingLemmas.{ended}
 use Rattle.vs_outward.proofs.LedLemmas.{cut_path}
 use Rattle.vs_outward.proofs.trail.go_out.Goals as goal
 
@@ -14,8 +15,8 @@ returns-then-not-branch-clause-barred g c =
     let crossed : take k path ≡ map (λ (step : Step). step.number) c.step_out.new.trail.items = sym c.loop-k.invariant.begun ∙ ap (map (λ (step : Step). step.number)) (sym same) in
     (drop (k + 1) path, cut_path path k (omega arith) ∙ ap (λ xs. xs ++ get_or path k 0 ∷ drop (k + 1) path) crossed)
 
-pub returns-then-not-branch-clause-kept : goal.returns-then-not-branch-clause-kept
-returns-then-not-branch-clause-kept g c = Continues-trans g.met.S.LineStore.stays_on c.loop-k.invariant.kept c.in_ok-step_out.ensures.kept
+pub returns-then-not-branch-clause-goes_on : goal.returns-then-not-branch-clause-goes_on
+returns-then-not-branch-clause-goes_on g c = let inv = c.loop-k.invariant in ended g.met.S.LineStore.stays_on inv.kept inv.faults c.in_ok-step_out.ensures.goes_on
 
 pub loop-k-preserved : goal.loop-k-preserved
 loop-k-preserved g c =
@@ -29,7 +30,7 @@ loop-k-preserved g c =
       on = λ first was. out.on first (inv.on first was);
       begun = ap (map number) crossed.1.0 ∙ (map-append number c.loop-k.trail.items (crossed.0 ∷ []) ∙ (ap (λ xs. xs ++ crossed.0.number ∷ []) inv.begun
           ∙ (ap (λ n. take k path ++ n ∷ []) crossed.1.1 ∙ sym (take_more path k 0 (omega arith)))));
-      valid = out.valid;
-      kept = Continues-trans g.met.S.LineStore.stays_on inv.kept out.kept;
-      faults = omega (arith, inv.faults, out.cause.later);
+      valid = out.goes_on.valid;
+      kept = Continues-trans g.met.S.LineStore.stays_on inv.kept out.goes_on.kept;
+      faults = omega (arith, inv.faults, out.goes_on.cause.later);
     }

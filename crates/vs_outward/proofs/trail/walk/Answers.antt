@@ -2,13 +2,13 @@
 use Rattle.std.proofs.Common.{◌≡◌, ℕ, ◌++◌, ◌∷◌, List, Option, Some, None, Result, Ok, Err, IfOk, IfNone, IfSome, OnOk, map, reverse}
 use Rattle.vs_edit.specs.declared.store.LineStore.{Ghosts}
 use Rattle.vs_edit.specs.declared.store.StoreErr.{StoreErr}
-use Rattle.vs_edit.proofs.Steps.{Continues-trans}
 use Rattle.vs_entries.specs.Entries.{Leads}
 use Rattle.vs_undo.specs.declared.parts.Node.{Node}
 use Rattle.vs_undo.specs.Edges.{IsLed}
 use Rattle.vs_outward.specs.declared.trail.Step.{Step}
 use Rattle.vs_outward.specs.Outward.{entries_at}
 use Rattle.vs_outward.specs.Trails.{IsBarredBy, IsOnTrail, IsTried}
+use Rattle.vs_outward.proofs.GoingLemmas.{after}
 use Rattle.vs_outward.proofs.TriedLemmas.{barred_at, tried_barred, tried_whole}
 use Rattle.vs_outward.proofs.trail.walk.Goals as goal
 
@@ -42,5 +42,5 @@ returns-clause-barred g c =
     bars g.S.LineStore c.args.nodes.now c.args.store.now c.go_in.new.store c.go_out.new.store c.args.trail.now.items c.go_in.new.trail.items c.go_out.new.trail.items c.args.path.now
     c.in_ok-go_in.ensures.on c.go_out.result c.go_out.ensures.on c.go_out.ensures.barred c.go_out.ensures.refused
 
-pub returns-clause-kept : goal.returns-clause-kept
-returns-clause-kept g c = Continues-trans g.met.S.LineStore.stays_on c.in_ok-go_in.ensures.kept c.go_out.ensures.kept
+pub returns-clause-goes_on : goal.returns-clause-goes_on
+returns-clause-goes_on g c = after g.met.S.LineStore.stays_on c.in_ok-go_in.ensures.goes_on.kept c.in_ok-go_in.ensures.goes_on.cause.later c.go_out.ensures.goes_on
