@@ -1,6 +1,7 @@
 -- What the swap files of a text in pages have, by the syncs of the session.
-use Rattle.std.specs.Prelude.{◌≡◌, Bool, true, List, [], ◌∷◌}
+use Rattle.std.specs.Prelude.{◌≡◌, Bool, true, IsTrue, List, [], ◌∷◌}
 use Rattle.vs_host.specs.Disk.{Disk}
+use Rattle.vs_host.specs.World.{Tells}
 use Rattle.vs_host.specs.declared.names.Names.{Names}
 use Rattle.vs_disk.specs.Names.{SameAt}
 use Rattle.vs_pair.specs.Swap.{Synced}
@@ -36,6 +37,10 @@ pub record Fits (paged : PagedText) (disk : Disk) (text : Text) (syncs : List Sy
   pub past : List Synced
   pub fit : IsFit (known_of paged.pair) disk newest later past
   pub syncs_are : AreSyncs newest later past syncs
+
+-- Where the folder is told, the pages have some text, and the folder has the swap files that some syncs made.
+abbrev pub FitsFolder : Tells → PagedText → Disk → Type 0
+FitsFolder tells paged disk = IsTrue tells.folder → (text : Text) × (syncs : List Sync) × Fits paged disk text syncs
 
 -- a sync that succeeded
 abbrev pub acknowledged_sync : Text → Bool → Sync

@@ -5,7 +5,7 @@ ghost use Rattle.vs_pair.specs.Acts.{Acts, NoneFails};
 ghost use Rattle.vs_pair.specs.Pair.{Rises};
 ghost use Rattle.vs_pair.specs.Steps.{IsAbsent};
 ghost use Rattle.vs_safety.specs.Texts.{Text, Sync, begun};
-ghost use Rattle.vs_paged.specs.Fits.{Ending, Fits, Syncing, acknowledged_sync, names_of};
+ghost use Rattle.vs_paged.specs.Fits.{Ending, Fits, FitsFolder, Syncing, acknowledged_sync, names_of};
 
 use crate::PagedText;
 use vs_host::{Failed, Folder};
@@ -23,7 +23,7 @@ impl PagedText {
     /// has changes that are not in the edited file. It takes no memory.
     pub fn sync<F: Folder>(&mut self, host: &mut F, dirty: bool) -> Result<(), Failed>
         requires room { self.old.pair.files.generation < 2 ^ 63 }
-        requires fits { IsTrue F.tells.folder → (text : Text) × (syncs : List Sync) × Fits self.old (F.scene host.old).folder text syncs }
+        requires fits { FitsFolder F.tells self.old (F.scene host.old).folder }
         ensures acts { Acts F.tells (Syncing self.old) (F.scene host.old) (F.scene host.new) }
         ensures ok { OnOk result (IsTrue F.tells.folder → (text : Text) (syncs : List Sync) → Fits self.old (F.scene host.old).folder text syncs
             → Fits self.new (F.scene host.new).folder text (acknowledged_sync text dirty ∷ syncs)) }
@@ -50,7 +50,7 @@ impl PagedText {
     /// Removes both swap files, that of the last acknowledged sync after the other one. After an error the files that are left
     /// stay. It takes no memory.
     pub fn end<F: Folder>(self, host: &mut F) -> Result<(), Failed>
-        requires fits { IsTrue F.tells.folder → (text : Text) × (syncs : List Sync) × Fits self (F.scene host.old).folder text syncs }
+        requires fits { FitsFolder F.tells self (F.scene host.old).folder }
         ensures acts { Acts F.tells (Ending self) (F.scene host.old) (F.scene host.new) }
         ensures gone { OnOk result (IsTrue F.tells.folder → IsAbsent (names_of self).swp (F.scene host.new).folder × IsAbsent (names_of self).swo (F.scene host.new).folder) }
         ensures none { OnOk result (NoneFails F.tells (F.scene host.old) (F.scene host.new)) }

@@ -36,7 +36,7 @@ use Rattle.vs_session.specs.declared.session.Step.TheVariants as steps
 use Rattle.vs_session.specs.declared.taking.TakeErr.{TakeErr}
 use Rattle.vs_session.specs.declared.taking.TakeErr.TheVariants as take
 use Rattle.vs_session.specs.Session.{SessionState, Ended, HasFound, accepts_quit, after_sync, answered, begins_after, begins_sync, carried, history_by, history_taken, is_fault, is_rundo, is_write, is_wundo, lacks_name, own_reply, reply_of, session_reply, state_after, stores_both, sync_in, sync_of, undo_work, uses_files, with_history, work_of, write_work, writes_files, written_state}
-use Rattle.vs_session.specs.Fits.{Answers, Fits, IsStep, Leaves, names_of}
+use Rattle.vs_session.specs.Fits.{Answers, Fits, HasSyncs, IsStep, Leaves, names_of}
 use Rattle.vs_session.specs.Stores.{HasFailedStoring}
 use Rattle.vs_session.proofs.SessionLemmas.{counted_same}
 
@@ -414,6 +414,11 @@ last_step (Ok x) session after state syncs old new same fits frame runs cause ri
     last_acknowledged (names_of session) session state syncs old new refl fits frame runs rises (between_synced (names_of session) after new.folder (after_sync state true) (sync_in state true ∷ syncs) same ok)
 last_step (Err e) session after state syncs old new same fits frame runs cause rises none ok err =
     last_failed (names_of session) session state syncs old new refl fits frame runs (cause.risen refl) none (between_synced (names_of session) after new.folder state (sync_in state false ∷ syncs) same err)
+
+pub has_syncs : {T E : Type 0} (result : Result T E) (session after : Session) (state : SessionState) (syncs : List Sync) (disk : Disk) → names_of after ≡ names_of session
+    → OnOk result (Fits after disk (after_sync state true) (sync_in state true ∷ syncs)) → OnErr result (Fits after disk state (sync_in state false ∷ syncs)) → HasSyncs (names_of session) (sync_in state (is_ok result) ∷ syncs) disk
+has_syncs (Ok x) session after state syncs disk same ok err = record { session = after; state = after_sync state true; named = same; fits = ok }
+has_syncs (Err e) session after state syncs disk same ok err = record { session = after; state = state; named = same; fits = err }
 
 -- ---- the removal
 

@@ -4,14 +4,18 @@ use Rattle.vs_faults.specs.Faults.{HasCause}
 use Rattle.vs_host.specs.Disk.{Disk}
 use Rattle.vs_host.specs.World.{Tells, Scene, ChangesFolder, ReadsFolder}
 use Rattle.vs_disk.specs.Runs.{FailsLast, Looks, Runs}
+use Rattle.vs_excmd.specs.Request.{Instruction, IsRequest}
+use Rattle.vs_excmd.specs.declared.request.Request.{Request}
 use Rattle.vs_undo.specs.History.{History}
+use Rattle.vs_machine.specs.declared.command.Mark.{Mark}
 use Rattle.vs_safety.specs.Texts.{Sync, Text}
 use Rattle.vs_safety.specs.Undo.{IsUndoOf}
 use Rattle.vs_ubind.specs.Storing.{StoresBy}
 use Rattle.vs_session.specs.declared.session.Session.{Session}
-use Rattle.vs_session.specs.Session.{SessionState}
+use Rattle.vs_session.specs.declared.session.Step.{Step}
+use Rattle.vs_session.specs.Session.{SessionState, carried}
 use Rattle.vs_session.specs.Stores.{StoresUndo}
-use Rattle.vs_session.specs.Fits.{Fits, FitsUndo, SameFile, generation_of, names_of}
+use Rattle.vs_session.specs.Fits.{Fits, FitsUndo, IsStep, SameFile, generation_of, names_of}
 
 -- Where the folder is told, the session is in some state, and the folder has the swap files that some syncs made.
 abbrev pub FitsFolder : Tells → Session → Disk → Type 0
@@ -25,6 +29,16 @@ pub record IsUsable (tells : Tells) (session : Session) (disk : Disk) : Type 0 w
 -- The session is still in each state that it was in, and the folder has the swap files of the same syncs.
 abbrev pub KeepsState : Tells → Session → Session → Disk → Disk → Type 0
 KeepsState tells before after was now = IsTrue tells.folder → (state : SessionState) (syncs : List Sync) → Fits before was state syncs → Fits after now state syncs
+
+-- Where the folder is told, the session has carried out the command that a request stands for, in each state that it was in.
+abbrev pub CarriesRequest : Tells → Request → Mark → Session → Session → Disk → Disk → Type 0
+CarriesRequest tells request mark before after was now =
+    IsTrue tells.folder → (state : SessionState) (syncs : List Sync) (instruction : Instruction) → Fits before was state syncs → IsRequest request instruction → Fits after now (carried state instruction mark) syncs
+
+-- Where the folder is told, the step answers the command that a request stands for, in each state that the session was in.
+abbrev pub AnswersRequest : Tells → Request → Step → Session → Session → Scene → Scene → Type 0
+AnswersRequest tells request step before after old new =
+    IsTrue tells.folder → (state : SessionState) (syncs : List Sync) (instruction : Instruction) → Fits before old.folder state syncs → IsRequest request instruction → IsStep step state syncs instruction before after old new
 
 -- The folder was only looked at, and its faults have risen where a call failed.
 pub record OnlyReads (tells : Tells) (Failed : Type 0) (old new : Scene) : Type 0 where

@@ -38,6 +38,13 @@ pub record Fits (session : Session) (disk : Disk) (state : SessionState) (syncs 
 abbrev pub names_of : Session → Names
 names_of session = paged.names_of session.text
 
+-- Some session with these names fits the folder after these syncs, the newest first, so that both swap files are there.
+pub record HasSyncs (names : Names) (syncs : List Sync) (disk : Disk) : Type 0 where
+  pub session : Session
+  pub state : SessionState
+  pub named : names_of session ≡ names
+  pub fits : Fits session disk state syncs
+
 -- the number of the newest sync
 abbrev pub generation_of : Session → ℕ
 generation_of session = session.text.pair.files.generation

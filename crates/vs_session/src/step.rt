@@ -9,7 +9,7 @@ ghost use Rattle.vs_machine.specs.Machine.{reply_of as machine_reply};
 ghost use Rattle.vs_machine.specs.declared.command.Mark.{Mark};
 ghost use Rattle.vs_safety.specs.Texts.{Sync};
 ghost use Rattle.vs_paged.specs.Fits.{Syncing};
-ghost use Rattle.vs_session.specs.Calls.{FitsFolder, GoesOnReading, GoesOnSyncing, IsUsable};
+ghost use Rattle.vs_session.specs.Calls.{AnswersRequest, CarriesRequest, FitsFolder, GoesOnReading, GoesOnSyncing, IsUsable};
 ghost use Rattle.vs_session.specs.Fits.{Fits, FitsUndo, IsFault, IsMarkedAt, IsStep, IsTimed, SameFile, StepsIn, generation_of, names_of};
 ghost use Rattle.vs_session.specs.Session.{SessionState, after_sync, answered, begins_after, carried, counted, is_fault, is_move, is_rundo, is_saved, is_write, is_wundo, options_set, own_reply, quits, sync_in, uses_files};
 
@@ -160,8 +160,7 @@ impl Session {
         requires usable { IsUsable F.tells self.old (F.scene host.old).folder }
         ensures reply { IsTrue F.tells.folder → (state : SessionState) (syncs : List Sync) (instruction : Instruction) → Fits self.old (F.scene host.old).folder state syncs
             → IsRequest request.now instruction → result.1 ≡ machine_reply state.machine instruction (record { outcome = result.0; at = at }) }
-        ensures fits { IsTrue F.tells.folder → (state : SessionState) (syncs : List Sync) (instruction : Instruction) → Fits self.old (F.scene host.old).folder state syncs
-            → IsRequest request.now instruction → Fits self.new (F.scene host.new).folder (carried state instruction (record { outcome = result.0; at = at })) syncs }
+        ensures fits { CarriesRequest F.tells request.now (record { outcome = result.0; at = at }) self.old self.new (F.scene host.old).folder (F.scene host.new).folder }
         ensures kept { GoesOnReading F.tells (is_fault result.0 ≡ true) self.old self.new (F.scene host.old) (F.scene host.new) }
         ensures stored { result.0 ≢ Outcome.NoUndo }
     {
@@ -199,8 +198,7 @@ impl Session {
         ensures reply { IsTrue F.tells.folder → (state : SessionState) (syncs : List Sync) (instruction : Instruction) → Fits self.old (F.scene host.old).folder state syncs
             → IsRequest request.now instruction →
             result.1 ≡ answered result.0 (own_reply instruction.parsed) (machine_reply state.machine instruction (record { outcome = result.0; at = at })) }
-        ensures fits { IsTrue F.tells.folder → (state : SessionState) (syncs : List Sync) (instruction : Instruction) → Fits self.old (F.scene host.old).folder state syncs
-            → IsRequest request.now instruction → Fits self.new (F.scene host.new).folder (carried state instruction (record { outcome = result.0; at = at })) syncs }
+        ensures fits { CarriesRequest F.tells request.now (record { outcome = result.0; at = at }) self.old self.new (F.scene host.old).folder (F.scene host.new).folder }
         ensures kept { GoesOnReading F.tells (is_fault result.0 ≡ true) self.old self.new (F.scene host.old) (F.scene host.new) }
         ensures stored { result.0 ≢ Outcome.NoUndo }
     {
@@ -227,8 +225,7 @@ impl Session {
         requires begins { begins_after self.old.steps (result_of request.now.parsed) ≡ true }
         requires room { generation_of self.old < 2 ^ 63 }
         requires usable { IsUsable F.tells self.old (F.scene host.old).folder }
-        ensures step { IsTrue F.tells.folder → (state : SessionState) (syncs : List Sync) (instruction : Instruction) → Fits self.old (F.scene host.old).folder state syncs
-            → IsRequest request.now instruction → IsStep result state syncs instruction self.old self.new (F.scene host.old) (F.scene host.new) }
+        ensures step { AnswersRequest F.tells request.now result self.old self.new (F.scene host.old) (F.scene host.new) }
         ensures time { IsMarkedAt result at }
         ensures kept { GoesOnSyncing (IsFault result) self.old self.new (F.scene host.old) (F.scene host.new) }
     {
@@ -256,8 +253,7 @@ impl Session {
         requires goes_on { quits (result_of request.now.parsed) (is_saved self.old.saved self.old.history.current) ≡ false }
         requires room { generation_of self.old < 2 ^ 63 }
         requires usable { IsUsable F.tells self.old (F.scene host.old).folder }
-        ensures step { IsTrue F.tells.folder → (state : SessionState) (syncs : List Sync) (instruction : Instruction) → Fits self.old (F.scene host.old).folder state syncs
-            → IsRequest request.now instruction → IsStep result state syncs instruction self.old self.new (F.scene host.old) (F.scene host.new) }
+        ensures step { AnswersRequest F.tells request.now result self.old self.new (F.scene host.old) (F.scene host.new) }
         ensures time { IsMarkedAt result at }
         ensures kept { GoesOnSyncing (IsFault result) self.old self.new (F.scene host.old) (F.scene host.new) }
     {
@@ -288,9 +284,8 @@ impl Session {
         requires clock { IsTrue (H.tells).clock → length (H.scene host.old).answers < 2 ^ 63 }
         requires room { generation_of self.old < 2 ^ 63 }
         requires undo { FitsUndo self.old }
-        requires fits { IsTrue (H.tells).folder → (state : SessionState) × (syncs : List Sync) × Fits self.old (H.scene host.old).folder state syncs }
-        ensures step { IsTrue (H.tells).folder → (state : SessionState) (syncs : List Sync) (instruction : Instruction) → Fits self.old (H.scene host.old).folder state syncs
-            → IsRequest request.now instruction → IsStep result state syncs instruction self.old self.new (H.scene host.old) (H.scene host.new) }
+        requires fits { FitsFolder H.tells self.old (H.scene host.old).folder }
+        ensures step { AnswersRequest H.tells request.now result self.old self.new (H.scene host.old) (H.scene host.new) }
         ensures undo { FitsUndo self.new }
         ensures file { SameFile self.old self.new }
         ensures room { generation_of self.new ≤ generation_of self.old + 1 }

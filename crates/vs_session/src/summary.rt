@@ -7,6 +7,7 @@ ghost use Rattle.vs_safety.specs.Texts.{Sync, Text};
 ghost use Rattle.vs_ubind.specs.Digest.{digest_of};
 ghost use Rattle.vs_paged.specs.Fits as paged;
 ghost use Rattle.vs_paged.specs.Pages.{IsPaged};
+ghost use Rattle.vs_session.specs.Calls.{FitsFolder, KeepsState};
 ghost use Rattle.vs_session.specs.Fits.{Fits, FitsUndo, SameFile, generation_of};
 ghost use Rattle.vs_session.specs.Lent.{IsLent, KeepsLent, KeepsText};
 ghost use Rattle.vs_session.specs.Session.{SessionState};
@@ -58,7 +59,7 @@ fn digest_text<F: Folder>(
     text: &mut PagedText,
     host: &mut F,
 ) -> Result<[u8; 32], StoreErr>
-    requires fits { IsTrue F.tells.folder → (lines : Text) × (syncs : List Sync) × paged.Fits text.old (F.scene host.old).folder lines syncs }
+    requires fits { paged.FitsFolder F.tells text.old (F.scene host.old).folder }
     ensures digest { IfOk result (λ digest. IsTrue F.tells.folder → (lines : Text) (syncs : List Sync) → paged.Fits text.old (F.scene host.old).folder lines syncs
         → digest ≡ digest_of lines) }
     ensures kept { KeepsText F.tells (IsErrOf result StoreErr.Failed) text.old text.new (F.scene host.old) (F.scene host.new) }
@@ -70,11 +71,10 @@ impl Session {
     /// The summary of the session, which goes on as before after every answer. `Failed` comes only where a call on the folder
     /// failed, and it is the last one.
     pub fn summary<F: Folder>(&mut self, alloc: Global, host: &mut F) -> Result<Summary, StoreErr>
-        requires fits { IsTrue F.tells.folder → (state : SessionState) × (syncs : List Sync) × Fits self.old (F.scene host.old).folder state syncs }
+        requires fits { FitsFolder F.tells self.old (F.scene host.old).folder }
         ensures summary { IfOk result (λ summary. IsTrue F.tells.folder → (state : SessionState) (syncs : List Sync) → Fits self.old (F.scene host.old).folder state syncs
             → summary ≡ summary_of state syncs) }
-        ensures fits { IsTrue F.tells.folder → (state : SessionState) (syncs : List Sync) → Fits self.old (F.scene host.old).folder state syncs
-            → Fits self.new (F.scene host.new).folder state syncs }
+        ensures fits { KeepsState F.tells self.old self.new (F.scene host.old).folder (F.scene host.new).folder }
         ensures undo { FitsUndo self.old → FitsUndo self.new }
         ensures file { SameFile self.old self.new }
         ensures generation { generation_of self.new ≡ generation_of self.old }

@@ -83,7 +83,7 @@ fn bind_undo<F: Folder>(
     contents: &FileHistory,
 ) -> Result<UndoTree, TakeErr>
     requires rules { KeepsRules (history_of contents.now) }
-    requires fits { IsTrue F.tells.folder → (lines : Text) × (syncs : List Sync) × paged.Fits text.old (F.scene host.old).folder lines syncs }
+    requires fits { paged.FitsFolder F.tells text.old (F.scene host.old).folder }
     ensures taken { IfOk result (λ undo. IsTrue F.tells.folder → (lines : Text) (syncs : List Sync) (bytes : List ℕ) → paged.Fits text.old (F.scene host.old).folder lines syncs
         → IsUndoFile (history_of contents.now) bytes
         → (history : History) × IsTaken lines (Some bytes) (Ok history) × IsHistory undo lines history × (length contents.now.changes.items ≡ length history.links.nodes)) }

@@ -10,12 +10,12 @@ use Rattle.vs_host.specs.Trace.{WroteOutput, Snapshot}
 use Rattle.vs_host.specs.World.{Tells, Scene, ChangesFolder, ChangesOutput, content_of, snapshot_of}
 use Rattle.vs_host.specs.declared.names.Names.{Names}
 use Rattle.vs_disk.specs.Runs.{FailsLast}
-use Rattle.vs_pair.specs.Pair.{Image, NoneThere}
+use Rattle.vs_pair.specs.Pair.{Image, NoneThere, Rises}
 use Rattle.vs_pair.specs.Steps.{IsAbsent, IsFresh}
 use Rattle.vs_excmd.specs.Request.{Instruction}
 use Rattle.vs_script.specs.Ahead.{script_limit}
 use Rattle.vs_machine.specs.declared.command.Mark.{Mark}
-use Rattle.vs_safety.specs.Texts.{Sync, IsBetween, RecoversOrNone, recoverable}
+use Rattle.vs_safety.specs.Texts.{Sync, RecoversOrNone, recoverable}
 use Rattle.vs_safety.specs.Turns.{Turn, Closing, NotBegun, LastSync, Quits, last_turn, after_turns, opened, preserved_line, quit_line}
 use Rattle.vs_safety.specs.Safety.{IsCrashSafe, IsAdded, Works, Writes, Stepped}
 use Rattle.vs_safety.specs.Going.{Going, Stepping, Halted}
@@ -30,8 +30,8 @@ use Rattle.vs_session.specs.declared.session.Session.{Session}
 use Rattle.vs_session.specs.declared.ending.End.{End}
 use Rattle.vs_session.specs.declared.ending.End.TheVariants as end
 use Rattle.vs_session.specs.Session.{SessionState, Ended, sync_in, states_after, turns_of}
-use Rattle.vs_session.specs.Fits.{Fits, Leaves, HasSwap, names_of}
-use Rattle.vs_top.specs.Run.{TellsRun, Did, KeepsMarks, HasSince, IsCalm, KeepsSwap, Closes, AnswersAll, IsCutLast, HasRun, RunsEdit, Counts, answered_at, counts_of, OnlyFolder, FaultHasCause, IsTimed, opened_file, ran_of, written, closing_line}
+use Rattle.vs_session.specs.Fits.{Fits, HasSyncs, Leaves, HasSwap, names_of}
+use Rattle.vs_top.specs.Run.{TellsRun, Did, KeepsMarks, HasSince, HasNoFaultSince, HasRisenSince, KeepsSwap, Closes, AnswersAll, IsCutLast, HasRun, RunsEdit, Counts, answered_at, counts_of, OnlyFolder, FaultHasCause, IsTimed, opened_file, ran_of, written, closing_line}
 use Rattle.vs_top.specs.Turns.{text_at, opening_at, Told, KeepsOpenFile, StopsAt, IsAtClose}
 use Rattle.vs_top.specs.declared.ending.Ending.{Ending}
 use Rattle.vs_top.specs.Ending.{ending_in}
@@ -50,7 +50,9 @@ fresh_image names disk fresh image whole = (absent_image names.swp disk fresh.no
 pub record Finishes (tells : Tells) (session : Session) (now mid : Scene) (how : End) (ok : Bool) : Type 0 where
   pub sync : how ≡ end.Sync → IsTrue tells.folder → (state : SessionState) (syncs : List Sync) → Fits session now.folder state syncs → Stepped (names_of session) syncs (last_turn (sync_in state ok)) now mid
   pub quit : how ≡ end.Quit → IsTrue tells.folder → (state : SessionState) (syncs : List Sync) → Fits session now.folder state syncs → Leaves (names_of session) syncs now mid
-  pub calm : ok ≡ true → mid.folder_faults ≡ now.folder_faults
+  pub no_fault : ok ≡ true → mid.folder_faults ≡ now.folder_faults
+  pub fits : how ≡ end.Sync → IsTrue tells.folder → (state : SessionState) (syncs : List Sync) → Fits session now.folder state syncs → HasSyncs (names_of session) (sync_in state ok ∷ syncs) mid.folder
+  pub rises : ok ≡ true → how ≡ end.Sync → IsTrue tells.folder → Rises (names_of session) now.folder mid.folder
   pub last : IsTrue tells.folder → FailsLast now mid
   pub later : now.folder_faults ≤ mid.folder_faults
   pub frame : ChangesFolder now mid
@@ -136,16 +138,29 @@ module _ (tells : Tells) (name : List ℕ) (old now mid : Scene) (session : Sess
   same_faults = ap (λ (s : State). s.faults) here.going.state
 
   -- and no call has failed
-  calm : (how : End) (new : Scene) (newer : List Snapshot) → new.trace ≡ newer ++ now.trace → new.folder_faults ≡ mid.folder_faults → Finishes tells session now mid how true → IsCalm (opened_file old name) old new (did how true)
-  calm how new newer is faults finishes = since how true new newer is (λ m. new.folder_faults ≡ m.folder_faults) (faults ∙ finishes.calm refl ∙ sym same_faults)
+  no_fault : (how : End) (new : Scene) (newer : List Snapshot) → new.trace ≡ newer ++ now.trace → new.folder_faults ≡ mid.folder_faults → Finishes tells session now mid how true → HasNoFaultSince (opened_file old name) old new (did how true)
+  no_fault how new newer is faults finishes = since how true new newer is (λ m. new.folder_faults ≡ m.folder_faults) (faults ∙ finishes.no_fault refl ∙ sym same_faults)
+
+  -- and the last sync was made
+  risen : (how : End) (new : Scene) (newer : List Snapshot) → new.trace ≡ newer ++ now.trace → new.folder ≡ mid.folder → Finishes tells session now mid how true
+      → HasRisenSince (closing_of how true state) (opened_file old name) old new (did how true)
+  risen end.Sync new newer is folder finishes =
+      let here_folder : here.going.here.folder ≡ now.folder = ap (λ (s : State). s.folder) here.going.state in
+      since end.Sync true new newer is (λ m. Rises names m.folder new.folder)
+      (subst (λ (d : Disk). Rises names here.going.here.folder d) (sym folder)
+      (subst (λ (d : Disk). Rises names d mid.folder) (sym here_folder)
+      (subst (λ (n : Names). Rises n now.folder mid.folder) keeps.names (finishes.rises refl refl told.folder))))
+  risen end.Quit new newer is folder finishes = tt
 
   stepping : (ok : Bool) → Finishes tells session now mid end.Sync ok → Stepping names old mid (text_at old name) (opening_at old name) turns (last_turn (sync_in state ok))
   stepping ok finishes = going_steps names old (text_at old name) (opening_at old name) now mid turns (last_turn (sync_in state ok)) (omega arith)
       (subst (λ (n : Names). Stepped n syncs (last_turn (sync_in state ok)) now mid) keeps.names (finishes.sync refl told.folder state syncs here.fits)) here.going
 
-  -- a swap file stands for the last sync, or an accepted quit has removed them
+  -- some session fits the folder after the last sync, or an accepted quit has removed the swap files
   left : (how : End) (ok : Bool) (new : Scene) → new.folder ≡ mid.folder → Finishes tells session now mid how ok → KeepsSwap (opened_file old name) (did how ok) new.folder
-  left end.Sync ok new folder finishes = subst (λ (d : Disk). IsBetween names (sync_in state ok ∷ syncs) d) (sym folder) (stepping ok finishes).between
+  left end.Sync ok new folder finishes =
+      subst (λ (d : Disk). HasSyncs names (sync_in state ok ∷ syncs) d) (sym folder)
+      (subst (λ (n : Names). HasSyncs n (sync_in state ok ∷ syncs) mid.folder) keeps.names (finishes.fits refl told.folder state syncs here.fits))
   left end.Quit ok new folder finishes = tt
 
   removal : (ok : Bool) → Finishes tells session now mid end.Quit ok → Works names None (RecoversOrNone names (recoverable syncs)) now mid
@@ -194,7 +209,8 @@ module _ (tells : Tells) (name : List ℕ) (old now mid : Scene) (session : Sess
     answered = inr (record {
       closes = closes how true stops new (script ∙ ap (λ (s : Scene). s.script) finishes.frame);
       count = n;
-      calm = calm how new (more_new how true new finishes writes.added).0 (more_new how true new finishes writes.added).1 writes.faults finishes;
+      no_fault = no_fault how new (more_new how true new finishes writes.added).0 (more_new how true new finishes writes.added).1 writes.faults finishes;
+      risen = risen how new (more_new how true new finishes writes.added).0 (more_new how true new finishes writes.added).1 writes.folder finishes;
       output = writes.output ∙ ap (λ (l : List ℕ). l ++ take n (closing_line (closing_of how true state))) (mid_output how true finishes) ∙ append_assoc old.output (written (opened_file old name) commands ends) (take n (closing_line (closing_of how true state)));
     });
     safe = λ free. cut_safe how new n finishes gone writes;
@@ -204,10 +220,11 @@ module _ (tells : Tells) (name : List ℕ) (old now mid : Scene) (session : Sess
   }
 
   all_answered : (how : End) (new : Scene) → StopsAt how (opened_file old name) old now commands ends → Finishes tells session now mid how true → new.output ≡ mid.output ++ closing_line (closing_of how true state) → new.script ≡ mid.script
-      → new.folder_faults ≡ mid.folder_faults → IsAdded WroteOutput [] mid new → AnswersAll (not clean) (opened_file old name) old new (did how true)
-  all_answered how new stops finishes output script faults added = record {
+      → new.folder_faults ≡ mid.folder_faults → new.folder ≡ mid.folder → IsAdded WroteOutput [] mid new → AnswersAll (not clean) (opened_file old name) old new (did how true)
+  all_answered how new stops finishes output script faults folder added = record {
     closes = closes how true stops new (script ∙ ap (λ (s : Scene). s.script) finishes.frame);
-    calm = calm how new (more_new how true new finishes added).0 (more_new how true new finishes added).1 faults finishes;
+    no_fault = no_fault how new (more_new how true new finishes added).0 (more_new how true new finishes added).1 faults finishes;
+    risen = risen how new (more_new how true new finishes added).0 (more_new how true new finishes added).1 folder finishes;
     output = output ∙ ap (λ (l : List ℕ). l ++ closing_line (closing_of how true state)) (mid_output how true finishes) ∙ append_assoc old.output (written (opened_file old name) commands ends) (closing_line (closing_of how true state));
     errors_are = flip_clean clean _ here.errors;
   }
@@ -217,7 +234,7 @@ module _ (tells : Tells) (name : List ℕ) (old now mid : Scene) (session : Sess
   run_ends how new stops finishes gone writes script =
       let line : List ℕ = closing_line (closing_of how true state) in
       by_clean clean name old new marks (did how true) (kept how true)
-      (all_answered how new stops finishes (writes.output ∙ ap (λ (l : List ℕ). mid.output ++ l) (take_all (length line) line (omega arith))) script writes.faults writes.added)
+      (all_answered how new stops finishes (writes.output ∙ ap (λ (l : List ℕ). mid.output ++ l) (take_all (length line) line (omega arith))) script writes.faults writes.folder writes.added)
       (left how true new writes.folder finishes)
       (λ free. cut_safe how new (length line) finishes gone writes)
 

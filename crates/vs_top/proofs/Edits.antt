@@ -120,7 +120,7 @@ module _ (tells : Tells) (name : List ℕ) (old new : Scene) (pending : IsTrue t
       times = λ told. no_times old new marks none (ap (λ (s : Scene). s.answers) acts.frame);
     }
     open_fails opening.Failed failed quiet limit swap barred barred_looks looks = record {
-      told = λ told. run_none ending.FolderFault told (inl (record { none = none; output = output_same })) (rose_last folder_count old old new (λ m calm. calm.folder) (acts.last told.folder) (failed refl) (counted_none folder_count old))
+      told = λ told. run_none ending.FolderFault told (inl (record { none = none; output = output_same })) (rose_last folder_count old old new (λ m no_fault. no_fault.folder) (acts.last told.folder) (failed refl) (counted_none folder_count old))
           (inl refl) (λ early. absurd (true≢false (sym early)));
       swap = λ told is. absurd (cc);
       barred = λ told has. only_looked tells old new ending.FolderFault marks tt none (barred_looks told has) told;
@@ -192,10 +192,10 @@ through tells name old new (ending.TextLimit size) marks runs free = passes_no_l
 through tells name old new ending.ScriptTooLong marks runs free = omega (arith, free.script, (runs.told free.told).answered.longer)
 
 pub through_outcome : (o : Outcome) → (is_fault o ≡ true → ⊥) → (o ≡ outcome.Done) ⊎ (o ≡ outcome.NoMemory)
-through_outcome outcome.Done calm = inl refl
-through_outcome outcome.NoMemory calm = inr refl
-through_outcome outcome.Fault calm = absurd (calm refl)
-through_outcome outcome.NoUndo calm = absurd (calm refl)
+through_outcome outcome.Done no_fault = inl refl
+through_outcome outcome.NoMemory no_fault = inr refl
+through_outcome outcome.Fault no_fault = absurd (no_fault refl)
+through_outcome outcome.NoUndo no_fault = absurd (no_fault refl)
 
 pub through_marks : (tells : Tells) (name : List ℕ) (old new : Scene) (end : Ending) (marks : List Mark) → RunsEdit tells name old new end marks → IsUnhindered tells name old new → All IsThroughMark marks
 through_marks tells name old new end marks runs free = λ k d within. through_outcome (get_or marks k d).outcome (λ is. free.no_folder_fault (runs.causes k d within is))

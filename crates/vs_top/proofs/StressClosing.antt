@@ -37,23 +37,23 @@ pub record HasSummed (tells : Tells) (now new : Scene) (session after : Session)
 pub line_some : (count lines changes syncs : ℕ) (digest : List ℕ) → 0 < length (summary_line count lines changes syncs digest)
 line_some count lines changes syncs digest = omega arith
 
-module _ (Reached : Scene → Type 0) (tells : Tells) (count : ℕ) (old now new : Scene) (session after : Session) (marks : List Mark) (clean : Bool) (turn : IsStressTurn Reached tells old now session marks clean (stress_commands count)) (summed : HasSummed tells now new session after) where
-  after_summary : IsStressTurn Reached tells old new after marks clean (stress_commands count)
-  after_summary = turn_still Reached tells old now session marks clean (stress_commands count) turn new after summed.frame summed.later summed.still summed.names summed.fits
+module _ (OfHost : Scene → Type 0) (tells : Tells) (count : ℕ) (old now new : Scene) (session after : Session) (marks : List Mark) (clean : Bool) (turn : IsStressTurn OfHost tells old now session marks clean (stress_commands count)) (summed : HasSummed tells now new session after) where
+  after_summary : IsStressTurn OfHost tells old new after marks clean (stress_commands count)
+  after_summary = turn_still OfHost tells old now session marks clean (stress_commands count) turn new after summed.frame summed.later summed.still summed.names summed.fits
 
   ends_same : (told : TellsStress tells) → (turn.told told).0 ≡ (after_summary.told told).0
   unfolding after_summary
-  ends_same told = still_ends Reached tells old now session marks clean (stress_commands count) turn new after summed.frame summed.later summed.still summed.names summed.fits told
+  ends_same told = still_ends OfHost tells old now session marks clean (stress_commands count) turn new after summed.frame summed.later summed.still summed.names summed.fits told
 
   -- there was no memory
-  pub close_no_memory : RunsStress Reached tells count old new ending.NoMemory marks
-  close_no_memory = no_memory Reached tells old new after marks clean (stress_commands count) after_summary count [] (sym (append-nil (stress_commands count)))
+  pub close_no_memory : RunsStress OfHost tells count old new ending.NoMemory marks
+  close_no_memory = no_memory OfHost tells old new after marks clean (stress_commands count) after_summary count [] (sym (append-nil (stress_commands count)))
 
   -- the summary failed
-  pub close_fails : (error : StoreErr) → (error ≡ store.Failed → HasRisen now.folder_faults new.folder_faults) → RunsStress Reached tells count old new (store_ending error) marks
+  pub close_fails : (error : StoreErr) → (error ≡ store.Failed → HasRisen now.folder_faults new.folder_faults) → RunsStress OfHost tells count old new (store_ending error) marks
   close_fails store.NoMemory failed = close_no_memory
   close_fails store.Failed failed =
-      no_summary Reached tells old new after marks clean (stress_commands count) after_summary count now.folder_faults refl (failed refl) turn.keeps.counts.later
+      no_summary OfHost tells old new after marks clean (stress_commands count) after_summary count now.folder_faults refl (failed refl) turn.keeps.counts.later
       (λ told. subst (λ (s : Scene). HasRisen s.folder_faults new.folder_faults) (sym (summed.still told)) (failed refl))
 
   -- the line was made
@@ -75,15 +75,15 @@ module _ (Reached : Scene → Type 0) (tells : Tells) (count : ℕ) (old now new
 
     -- it was not written whole
     pub close_cut : (mid : Scene) → ChangesOutput new mid → (IsTrue tells.folder → IsAdded WroteOutput [] new mid) → (IsTrue tells.output → (n : ℕ) × (mid.output ≡ new.output ++ take n line)) → HasRisen new.out_faults mid.out_faults
-        → RunsStress Reached tells count old mid ending.OutputFault marks
-    close_cut mid frame added wrote rose = line_cut Reached tells old new after marks clean (stress_commands count) after_summary count refl line some line_is mid frame added wrote rose
+        → RunsStress OfHost tells count old mid ending.OutputFault marks
+    close_cut mid frame added wrote rose = line_cut OfHost tells old new after marks clean (stress_commands count) after_summary count refl line some line_is mid frame added wrote rose
 
     module _ (mid last : Scene) (frame : ChangesOutput new mid) (added : IsTrue tells.folder → IsAdded WroteOutput [] new mid) (wrote : IsTrue tells.output → mid.output ≡ new.output ++ line) (quiet : mid.out_faults ≡ new.out_faults)
         (ok : Bool) (finishes : Finishes tells after mid last end.Quit ok) where
       -- the removal failed
-      pub close_left : HasRisen mid.folder_faults last.folder_faults → RunsStress Reached tells count old last ending.FolderFault marks
-      close_left rose = removal_fails Reached tells old new after marks clean (stress_commands count) after_summary count refl line some line_is mid last frame added wrote quiet ok finishes rose
+      pub close_left : HasRisen mid.folder_faults last.folder_faults → RunsStress OfHost tells count old last ending.FolderFault marks
+      close_left rose = removal_fails OfHost tells old new after marks clean (stress_commands count) after_summary count refl line some line_is mid last frame added wrote quiet ok finishes rose
 
       -- all was done
-      pub close_ends : (IsTrue tells.folder → IsFresh (names_of after) last.folder) → RunsStress Reached tells count old last (if clean then ending.Done else ending.WithErrors) marks
-      close_ends gone = stress_ends Reached tells old new after marks clean (stress_commands count) after_summary count refl line some line_is mid last frame added wrote quiet ok finishes gone
+      pub close_ends : (IsTrue tells.folder → IsFresh (names_of after) last.folder) → RunsStress OfHost tells count old last (if clean then ending.Done else ending.WithErrors) marks
+      close_ends gone = stress_ends OfHost tells old new after marks clean (stress_commands count) after_summary count refl line some line_is mid last frame added wrote quiet ok finishes gone

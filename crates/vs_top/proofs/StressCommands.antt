@@ -76,15 +76,15 @@ first_stress k n le =
     )
 
 -- there was no memory for a command, and all is as before it
-pub stops_here : (Reached : Scene → Type 0) (tells : Tells) (count : ℕ) (old now new : Scene) (session after : Session) (marks more : List Mark) (clean : Bool) (commands rest : List Instruction) → stress_commands count ≡ commands ++ rest
-    → more ≡ marks → after ≡ session → new ≡ now → IsStressTurn Reached tells old now session marks clean commands → StopsStress Reached tells count old new after more
-stops_here Reached tells count old now new session after marks more clean commands rest first same_marks same_session same_scene turn = record {
+pub stops_here : (OfHost : Scene → Type 0) (tells : Tells) (count : ℕ) (old now new : Scene) (session after : Session) (marks more : List Mark) (clean : Bool) (commands rest : List Instruction) → stress_commands count ≡ commands ++ rest
+    → more ≡ marks → after ≡ session → new ≡ now → IsStressTurn OfHost tells old now session marks clean commands → StopsStress OfHost tells count old new after more
+stops_here OfHost tells count old now new session after marks more clean commands rest first same_marks same_session same_scene turn = record {
   commands = commands;
   rest = rest;
   first = first;
   clean = clean;
-  turn = subst (λ (s : Scene). IsStressTurn Reached tells old s after more clean commands) (sym same_scene)
-      (subst (λ (x : Session). IsStressTurn Reached tells old now x more clean commands) (sym same_session) (subst (λ (l : List Mark). IsStressTurn Reached tells old now session l clean commands) (sym same_marks) turn));
+  turn = subst (λ (s : Scene). IsStressTurn OfHost tells old s after more clean commands) (sym same_scene)
+      (subst (λ (x : Session). IsStressTurn OfHost tells old now x more clean commands) (sym same_session) (subst (λ (l : List Mark). IsStressTurn OfHost tells old now session l clean commands) (sym same_marks) turn));
 }
 
 -- the ending that `?` hands on
@@ -93,23 +93,23 @@ stops_as P (Ok clean) one is same p = tt
 stops_as P (Err e) one is same p = (is ∙ same, p)
 
 -- the last command was answered
-pub answered_all : (Reached : Scene → Type 0) (tells : Tells) (count : ℕ) (start now new : Scene) (first session after : Session) (marks more : List Mark) (clean : Bool) (number : ℕ) → number ≡ count → (request : Request) → IsRequest request preserves
-    → ((old : Scene) → IsStressTurn Reached tells old start first [] true [] → IsStressTurn Reached tells old now session marks clean (generated_to number)) → (r : Result Bool Ending)
-    → IfOk r (λ b. (old : Scene) (commands : List Instruction) (instruction : Instruction) → IsRequest request instruction → IsStressTurn Reached tells old now session marks clean commands
-    → IsStressTurn Reached tells old new after more b (commands ++ instruction ∷ []))
-    → IfOk r (λ b. (old : Scene) → IsStressTurn Reached tells old start first [] true [] → IsStressTurn Reached tells old new after more b (stress_commands count))
-answered_all Reached tells count start now new first session after marks more clean number all request is turn (Ok b) ok = λ old at.
-    ok old (generated_to count) preserves is (subst (λ (n : ℕ). IsStressTurn Reached tells old now session marks clean (generated_to n)) all (turn old at))
-answered_all Reached tells count start now new first session after marks more clean number all request is turn (Err e) ok = tt
+pub answered_all : (OfHost : Scene → Type 0) (tells : Tells) (count : ℕ) (start now new : Scene) (first session after : Session) (marks more : List Mark) (clean : Bool) (number : ℕ) → number ≡ count → (request : Request) → IsRequest request preserves
+    → ((old : Scene) → IsStressTurn OfHost tells old start first [] true [] → IsStressTurn OfHost tells old now session marks clean (generated_to number)) → (r : Result Bool Ending)
+    → IfOk r (λ b. (old : Scene) (commands : List Instruction) (instruction : Instruction) → IsRequest request instruction → IsStressTurn OfHost tells old now session marks clean commands
+    → IsStressTurn OfHost tells old new after more b (commands ++ instruction ∷ []))
+    → IfOk r (λ b. (old : Scene) → IsStressTurn OfHost tells old start first [] true [] → IsStressTurn OfHost tells old new after more b (stress_commands count))
+answered_all OfHost tells count start now new first session after marks more clean number all request is turn (Ok b) ok = λ old at.
+    ok old (generated_to count) preserves is (subst (λ (n : ℕ). IsStressTurn OfHost tells old now session marks clean (generated_to n)) all (turn old at))
+answered_all OfHost tells count start now new first session after marks more clean number all request is turn (Err e) ok = tt
 
 -- there was no memory for it
-pub stopped_last : (Reached : Scene → Type 0) (tells : Tells) (count : ℕ) (start now new : Scene) (first session after : Session) (marks more : List Mark) (clean : Bool) (number : ℕ) → number ≡ count
-    → ((old : Scene) → IsStressTurn Reached tells old start first [] true [] → IsStressTurn Reached tells old now session marks clean (generated_to number)) → (r : Result Bool Ending)
+pub stopped_last : (OfHost : Scene → Type 0) (tells : Tells) (count : ℕ) (start now new : Scene) (first session after : Session) (marks more : List Mark) (clean : Bool) (number : ℕ) → number ≡ count
+    → ((old : Scene) → IsStressTurn OfHost tells old start first [] true [] → IsStressTurn OfHost tells old now session marks clean (generated_to number)) → (r : Result Bool Ending)
     → IfErr r (λ e. (e ≡ ending.NoMemory) × (more ≡ marks) × (after ≡ session) × (new ≡ now))
-    → IfErr r (λ e. (e ≡ ending.NoMemory) × ((old : Scene) → IsStressTurn Reached tells old start first [] true [] → StopsStress Reached tells count old new after more))
-stopped_last Reached tells count start now new first session after marks more clean number all turn (Ok b) err = tt
-stopped_last Reached tells count start now new first session after marks more clean number all turn (Err e) err = (
+    → IfErr r (λ e. (e ≡ ending.NoMemory) × ((old : Scene) → IsStressTurn OfHost tells old start first [] true [] → StopsStress OfHost tells count old new after more))
+stopped_last OfHost tells count start now new first session after marks more clean number all turn (Ok b) err = tt
+stopped_last OfHost tells count start now new first session after marks more clean number all turn (Err e) err = (
   err.0,
   λ old at.
-      stops_here Reached tells count old now new session after marks more clean (generated_to count) (preserves ∷ []) refl err.1 err.2 err.3 (subst (λ (n : ℕ). IsStressTurn Reached tells old now session marks clean (generated_to n)) all (turn old at)),
+      stops_here OfHost tells count old now new session after marks more clean (generated_to count) (preserves ∷ []) refl err.1 err.2 err.3 (subst (λ (n : ℕ). IsStressTurn OfHost tells old now session marks clean (generated_to n)) all (turn old at)),
 )

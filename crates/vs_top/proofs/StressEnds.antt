@@ -61,20 +61,20 @@ full_last : (start now : Scene) (moments : List Snapshot) → now.trace ≡ mome
 full_last start now moments added (inl less) = absurd (omega (arith, less))
 full_last start now moments added (inr full) = record { last = []; earlier = moments; one = omega arith; is = added; rose = inr full }
 
-module _ (Reached : Scene → Type 0) (tells : Tells) (old now : Scene) (session : Session) (marks : List Mark) (clean : Bool) (commands : List Instruction) (turn : IsStressTurn Reached tells old now session marks clean commands) where
+module _ (OfHost : Scene → Type 0) (tells : Tells) (old now : Scene) (session : Session) (marks : List Mark) (clean : Bool) (commands : List Instruction) (turn : IsStressTurn OfHost tells old now session marks clean commands) where
   moments_now : (told : TellsStress tells) (line : List ℕ) → let here = turn.told told in Each (IsStressMoment names old (stress_text old) (turns_of (opened_file old stress_name).state commands here.0) line) here.1.moments
   moments_now told line =
       let here = turn.told told in
       let turns = turns_of (opened_file old stress_name).state commands here.0 in
       Each-weaker (IsBeforeLine names old (stress_text old) turns) (IsStressMoment names old (stress_text old) turns line) (λ m is. at_moment old (stress_text old) turns line m is) here.1.moments here.1.safe
 
-  safe_now : (told : TellsStress tells) (line : List ℕ) → let here = turn.told told in IsStressSafe Reached names old now (stress_text old) (turns_of (opened_file old stress_name).state commands here.0) line
+  safe_now : (told : TellsStress tells) (line : List ℕ) → let here = turn.told told in IsStressSafe OfHost names old now (stress_text old) (turns_of (opened_file old stress_name).state commands here.0) line
   safe_now told line =
       let here = turn.told told in record { moments = here.1.moments; added = here.1.added; safe = moments_now told line; spared = here.1.spared; steps = here.1.steps }
 
   -- the run stops before it writes the line
   pub stops : (count : ℕ) (end : Ending) → (told : TellsStress tells) → StressedBy end count old now marks (did_of commands (turn.told told).0) → Rattle.vs_top.specs.Run.FailedBy end old now → Rattle.vs_top.specs.Run.is_early end ≡ false
-      → HasStress Reached count old now end marks
+      → HasStress OfHost count old now end marks
   stops count end told answered failed late =
       let here = turn.told told in
       record {
@@ -87,7 +87,7 @@ module _ (Reached : Scene → Type 0) (tells : Tells) (old now : Scene) (session
       }
 
   -- there is no memory
-  pub no_memory : (count : ℕ) (rest : List Instruction) → stress_commands count ≡ commands ++ rest → RunsStress Reached tells count old now ending.NoMemory marks
+  pub no_memory : (count : ℕ) (rest : List Instruction) → stress_commands count ≡ commands ++ rest → RunsStress OfHost tells count old now ending.NoMemory marks
   no_memory count rest is = record {
     told = λ told. stops count ending.NoMemory told (record { rest = rest; first = is; output = (turn.told told).1.output }) tt refl;
     swap = λ told same. absurd (cc);
@@ -100,7 +100,7 @@ module _ (Reached : Scene → Type 0) (tells : Tells) (old now : Scene) (session
   }
 
   -- the summary failed
-  pub no_summary : (count : ℕ) (was : ℕ) → commands ≡ stress_commands count → HasRisen was now.folder_faults → old.folder_faults ≤ was → (IsTrue tells.folder → HasRisen now.folder_faults now.folder_faults) → RunsStress Reached tells count old now ending.FolderFault marks
+  pub no_summary : (count : ℕ) (was : ℕ) → commands ≡ stress_commands count → HasRisen was now.folder_faults → old.folder_faults ≤ was → (IsTrue tells.folder → HasRisen now.folder_faults now.folder_faults) → RunsStress OfHost tells count old now ending.FolderFault marks
   no_summary count was all rose later last = record {
     told = λ told.
         let here = turn.told told in
@@ -116,7 +116,7 @@ module _ (Reached : Scene → Type 0) (tells : Tells) (old now : Scene) (session
 
   -- a summary that left the folder as it was
   pub turn_still : (new : Scene) (after : Session) → ReadsFolder now new → now.folder_faults ≤ new.folder_faults → (IsTrue tells.folder → new ≡ now) → names_of after ≡ names_of session
-      → (IsTrue tells.folder → (state : SessionState) (syncs : List Sync) → Fits session now.folder state syncs → Fits after new.folder state syncs) → IsStressTurn Reached tells old new after marks clean commands
+      → (IsTrue tells.folder → (state : SessionState) (syncs : List Sync) → Fits session now.folder state syncs → Fits after new.folder state syncs) → IsStressTurn OfHost tells old new after marks clean commands
   turn_still new after frame later still same fits = record {
     told = λ told.
         let here = turn.told told in
@@ -132,7 +132,7 @@ module _ (Reached : Scene → Type 0) (tells : Tells) (old now : Scene) (session
             added = ap (λ (s : Scene). s.trace) is ∙ here.1.added;
             safe = here.1.safe;
             spared = subst (λ (s : Scene). Rattle.vs_disk.specs.Names.SameAt (is_foreign names) old.folder s.folder) (sym is) here.1.spared;
-            steps = subst (λ (s : Scene). HasStretches Reached names old here.1.moments (turns_of (opened_file old stress_name).state commands here.0) s.folder_faults) (sym is) here.1.steps;
+            steps = subst (λ (s : Scene). HasStretches OfHost names old here.1.moments (turns_of (opened_file old stress_name).state commands here.0) s.folder_faults) (sym is) here.1.steps;
             newest_at_start = here.1.newest_at_start;
             newest = subst HasNewest (sym is) here.1.newest;
             output = ap (λ (s : Scene). s.output) is ∙ here.1.output;
@@ -174,7 +174,7 @@ module _ (Reached : Scene → Type 0) (tells : Tells) (old now : Scene) (session
 
     -- what is known of the folder after the write of the line, or of a part of it
     put_safe : (new : Scene) → ChangesOutput now new → (IsTrue tells.folder → IsAdded WroteOutput [] now new) → (told : TellsStress tells) → (n : ℕ) → new.output ≡ old.output ++ take n (told_line told)
-        → IsStressSafe Reached names old new (stress_text old) (turns told) (told_line told)
+        → IsStressSafe OfHost names old new (stress_text old) (turns told) (told_line told)
     put_safe new frame added told n output =
         let here = (turn.told told).1 in
         let syncs : List Sync = after_turns (opened (stress_text old)) (turns told) in
@@ -182,8 +182,8 @@ module _ (Reached : Scene → Type 0) (tells : Tells) (old now : Scene) (session
         let answers : length new.answers ≡ length old.answers + length (turns told) = ap (λ (s : Scene). length s.answers) frame ∙ here.answers in
         let between : IsBetween names syncs now.folder = subst (λ (n : Names). IsBetween n syncs now.folder) turn.keeps.names (fits_between session.text now.folder _ _ here.fits.stands.text) in
         let spared = subst (λ (d : Disk). Rattle.vs_disk.specs.Names.SameAt (is_foreign names) old.folder d) (sym folder) here.spared in
-        let steps : HasStretches Reached names old here.moments (turns told) new.folder_faults =
-        subst (λ (n : ℕ). HasStretches Reached names old here.moments (turns told) n) (sym (ap (λ (s : Scene). s.folder_faults) frame)) here.steps in
+        let steps : HasStretches OfHost names old here.moments (turns told) new.folder_faults =
+        subst (λ (n : ℕ). HasStretches OfHost names old here.moments (turns told) n) (sym (ap (λ (s : Scene). s.folder_faults) frame)) here.steps in
         let last : Snapshot = snapshot_of new WroteOutput [] in
         let moment : IsStressMoment names old (stress_text old) (turns told) (told_line told) last = record {
           spared = spared;
@@ -198,7 +198,7 @@ module _ (Reached : Scene → Type 0) (tells : Tells) (old now : Scene) (session
           elim (leb_tells (length (turns told)) k) [
             | inl end ↦
                 let is : k ≡ length (turns told) = omega (arith, most, end.1) in
-                inr (folder ∙ sym (told_folder Reached old now session marks clean commands (ends told) here) ∙ ap (λ (k : ℕ). folder_after old here.moments k) (sym is))
+                inr (folder ∙ sym (told_folder OfHost old now session marks clean commands (ends told) here) ∙ ap (λ (k : ℕ). folder_after old here.moments k) (sym is))
             | inr earlier ↦ inl (later_read old k last (omega (arith, answers, earlier.1)))
           ],
           tt,
@@ -209,14 +209,14 @@ module _ (Reached : Scene → Type 0) (tells : Tells) (old now : Scene) (session
             added = told_here ∙ ap (λ (ms : List Snapshot). last ∷ ms) here.added;
             safe = (moment, moments_now told (told_line told));
             spared = spared;
-            steps = stretches_on Reached names old here.moments (last ∷ []) (turns told) new.folder_faults (λ n most. (inr refl, tt)) same steps;
+            steps = stretches_on OfHost names old here.moments (last ∷ []) (turns told) new.folder_faults (λ n most. (inr refl, tt)) same steps;
           }
           | inr left ↦ record { moments = here.moments; added = left.trace ∙ here.added; safe = moments_now told (told_line told); spared = spared; steps = steps }
         ]
 
     -- a part of it was written
     pub line_cut : (new : Scene) → ChangesOutput now new → (IsTrue tells.folder → IsAdded WroteOutput [] now new) → (IsTrue tells.output → (n : ℕ) × (new.output ≡ now.output ++ take n line)) → HasRisen now.out_faults new.out_faults
-        → RunsStress Reached tells count old new ending.OutputFault marks
+        → RunsStress OfHost tells count old new ending.OutputFault marks
     line_cut new frame added wrote rose =
         let only = only_output now new frame in
         let before = turn.keeps.counts in
@@ -273,7 +273,7 @@ module _ (Reached : Scene → Type 0) (tells : Tells) (old now : Scene) (session
         long_line : length old.output < length (old.output ++ told_line told)
         long_line = omega (arith, some, ap (λ (l : List ℕ). length l) (line_is told), length-append old.output (told_line told))
 
-        mid_safe : IsStressSafe Reached names old mid (stress_text old) (turns told) (told_line told)
+        mid_safe : IsStressSafe OfHost names old mid (stress_text old) (turns told) (told_line told)
         mid_safe = put_safe mid frame added told (length (told_line told)) (mid_output ∙ ap (λ (l : List ℕ). old.output ++ l) (sym (take_all (length (told_line told)) (told_line told) (omega arith))))
 
         works : Works names None (RecoversOrNone names (recoverable syncs)) mid new
@@ -306,7 +306,7 @@ module _ (Reached : Scene → Type 0) (tells : Tells) (old now : Scene) (session
         all_behind k most =
             Each-weaker OfRemoval (IsBehind old k) (λ m inside. inl (later_written old k m (omega (arith, long_line, ap (λ (l : List ℕ). length l) (inside.output ∙ works.output ∙ mid_output))))) works.moments.added works.moments.each
 
-        end_safe : IsStressSafe Reached names old new (stress_text old) (turns told) (told_line told)
+        end_safe : IsStressSafe OfHost names old new (stress_text old) (turns told) (told_line told)
         end_safe =
             let was = mid_safe in
             record {
@@ -315,8 +315,8 @@ module _ (Reached : Scene → Type 0) (tells : Tells) (old now : Scene) (session
               safe = Each-append (IsStressMoment names old (stress_text old) (turns told) (told_line told)) works.moments.added was.moments
                   (Each-weaker OfRemoval (IsStressMoment names old (stress_text old) (turns told) (told_line told)) removal works.moments.added works.moments.each) was.safe;
               spared = same_then (is_foreign names) old.folder mid.folder new.folder was.spared works.spared;
-              steps = stretches_later Reached names old (works.moments.added ++ was.moments) (turns told) mid.folder_faults new.folder_faults finishes.later
-                  (stretches_on Reached names old was.moments works.moments.added (turns told) mid.folder_faults all_behind same_folders was.steps);
+              steps = stretches_later OfHost names old (works.moments.added ++ was.moments) (turns told) mid.folder_faults new.folder_faults finishes.later
+                  (stretches_on OfHost names old was.moments works.moments.added (turns told) mid.folder_faults all_behind same_folders was.steps);
             }
 
         stressed : HasStressed count old new (did_of commands (ends told)) (told_line told)
@@ -332,14 +332,14 @@ module _ (Reached : Scene → Type 0) (tells : Tells) (old now : Scene) (session
         ]
 
       -- the removal failed
-      pub removal_fails : HasRisen mid.folder_faults new.folder_faults → RunsStress Reached tells count old new ending.FolderFault marks
+      pub removal_fails : HasRisen mid.folder_faults new.folder_faults → RunsStress OfHost tells count old new ending.FolderFault marks
       removal_fails rose = record {
         told = λ told. record {
           did = did_of commands (ends told);
           kept = kept told;
           answered = inr (inr (stressed told));
           safe = λ free. end_safe told;
-          failed = rose_last folder_count old mid new (λ m calm. calm.folder) (finishes.last told.folder) rose (counted told);
+          failed = rose_last folder_count old mid new (λ m no_fault. no_fault.folder) (finishes.last told.folder) rose (counted told);
           looks = λ early. absurd (true≢false (sym early));
         };
         swap = λ told same. absurd (cc);
@@ -352,7 +352,7 @@ module _ (Reached : Scene → Type 0) (tells : Tells) (old now : Scene) (session
       }
 
       -- all is done
-      pub stress_ends : (IsTrue tells.folder → IsFresh (names_of session) new.folder) → RunsStress Reached tells count old new (if clean then ending.Done else ending.WithErrors) marks
+      pub stress_ends : (IsTrue tells.folder → IsFresh (names_of session) new.folder) → RunsStress OfHost tells count old new (if clean then ending.Done else ending.WithErrors) marks
       stress_ends gone = by_clean clean (λ told. (turn.told told).1.errors)
         where
           ends_as : (b : Bool) → ((told : TellsStress tells) → b ≡ not (Rattle.vs_session.specs.Session.any_error (opened_file old stress_name).state commands (ends told))) → (told : TellsStress tells)
@@ -364,7 +364,7 @@ module _ (Reached : Scene → Type 0) (tells : Tells) (old now : Scene) (session
           }
 
           by_clean : (b : Bool) → ((told : TellsStress tells) → b ≡ not (Rattle.vs_session.specs.Session.any_error (opened_file old stress_name).state commands (ends told)))
-              → RunsStress Reached tells count old new (if b then ending.Done else ending.WithErrors) marks
+              → RunsStress OfHost tells count old new (if b then ending.Done else ending.WithErrors) marks
           by_clean true errors = record {
             told = λ told. record { did = did_of commands (ends told); kept = kept told; answered = ends_as true errors told; safe = λ free. end_safe told; failed = tt; looks = λ early. absurd (true≢false (sym early)) };
             swap = λ told same. absurd (cc);
@@ -387,7 +387,7 @@ module _ (Reached : Scene → Type 0) (tells : Tells) (old now : Scene) (session
           }
 
 -- the ending that `?` hands on
-pub stress_ending : (Reached : Scene → Type 0) (tells : Tells) (count : ℕ) (old new : Scene) (marks : List Mark) (r : Result Ending Ending) (one last : Ending) → IsErrAnd r (λ e. e ≡ one) → one ≡ last → RunsStress Reached tells count old new last marks
-    → RunsStress Reached tells count old new (ending_in r) marks
-stress_ending Reached tells count old new marks (Ok e) one last is same runs = absurd is
-stress_ending Reached tells count old new marks (Err e) one last is same runs = subst (λ (x : Ending). RunsStress Reached tells count old new x marks) (sym (is ∙ same)) runs
+pub stress_ending : (OfHost : Scene → Type 0) (tells : Tells) (count : ℕ) (old new : Scene) (marks : List Mark) (r : Result Ending Ending) (one last : Ending) → IsErrAnd r (λ e. e ≡ one) → one ≡ last → RunsStress OfHost tells count old new last marks
+    → RunsStress OfHost tells count old new (ending_in r) marks
+stress_ending OfHost tells count old new marks (Ok e) one last is same runs = absurd is
+stress_ending OfHost tells count old new marks (Err e) one last is same runs = subst (λ (x : Ending). RunsStress OfHost tells count old new x marks) (sym (is ∙ same)) runs

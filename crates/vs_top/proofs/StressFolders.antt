@@ -63,9 +63,9 @@ folder_now start now n (m ∷ older) first last added each =
     let same : m ≡ last.newest = ap (λ (ms : List Snapshot). get_or ms 0 m) (sym added ∙ last.is) in
     ap (λ (b : Bool). if b then m.folder else folder_after start older n) each.0 ∙ ap (λ (m : Snapshot). m.folder) same ∙ last.folder
 
-pub told_folder : (Reached : Scene → Type 0) (old now : Scene) (session : Session) (marks : List Mark) (clean : Bool) (commands : List Instruction) (ends : List Ended) (here : StressTold Reached old now session marks clean commands ends)
+pub told_folder : (OfHost : Scene → Type 0) (old now : Scene) (session : Session) (marks : List Mark) (clean : Bool) (commands : List Instruction) (ends : List Ended) (here : StressTold OfHost old now session marks clean commands ends)
     → folder_after old here.moments (length (turns_of (opened_file old stress_name).state commands ends)) ≡ now.folder
-told_folder Reached old now session marks clean commands ends here =
+told_folder OfHost old now session marks clean commands ends here =
     let turns = turns_of (opened_file old stress_name).state commands ends in
     folder_now old now (length turns) here.moments here.newest_at_start here.newest here.added
     (Each-weaker (IsBeforeLine (names_of_file stress_name) old (stress_text old) turns) (λ m. is_up_to old (length turns) m ≡ true)
@@ -74,10 +74,10 @@ told_folder Reached old now session marks clean commands ends here =
 -- ---- the counts
 
 -- moments behind the commands change nothing
-pub counts_on : (Reached : Scene → Type 0) (start : Scene) (older newer : List Snapshot) (n count : ℕ) → Each (IsBehind start n) newer → HasCount Reached start older n count → HasCount Reached start (newer ++ older) n count
-counts_on Reached start older newer n count behind has = record {
+pub counts_on : (OfHost : Scene → Type 0) (start : Scene) (older newer : List Snapshot) (n count : ℕ) → Each (IsBehind start n) newer → HasCount OfHost start older n count → HasCount OfHost start (newer ++ older) n count
+counts_on OfHost start older newer n count behind has = record {
   scene = has.scene;
-  reached = has.reached;
+  of_host = has.of_host;
   later = newer ++ has.later;
   earlier = has.earlier;
   moments_are = ap (λ (ms : List Snapshot). newer ++ ms) has.moments_are ∙ sym (append_assoc newer has.later has.earlier);
@@ -88,9 +88,9 @@ counts_on Reached start older newer n count behind has = record {
 }
 
 -- where no moment is behind them, the count is that of now
-pub counts_now : (Reached : Scene → Type 0) (start now : Scene) (n : ℕ) (moments : List Snapshot) → Reached now → now.trace ≡ moments ++ start.trace → Each (λ m. is_up_to start n m ≡ true) moments
-    → HasCount Reached start moments n now.folder_faults
-counts_now Reached start now n moments reached added each = record { scene = now; reached = reached; later = []; earlier = moments; moments_are = refl; later_are = tt; earlier_are = each; trace = added; is = refl }
+pub counts_now : (OfHost : Scene → Type 0) (start now : Scene) (n : ℕ) (moments : List Snapshot) → OfHost now → now.trace ≡ moments ++ start.trace → Each (λ m. is_up_to start n m ≡ true) moments
+    → HasCount OfHost start moments n now.folder_faults
+counts_now OfHost start now n moments of_host added each = record { scene = now; of_host = of_host; later = []; earlier = moments; moments_are = refl; later_are = tt; earlier_are = each; trace = added; is = refl }
 
 -- ---- the steps
 
@@ -122,27 +122,27 @@ steps_push names f C k before all more n (one ∷ turns) turn is steps counted e
 -- ---- the stretches
 
 -- with moments that are behind all commands
-pub stretches_on : (Reached : Scene → Type 0) (names : Names) (start : Scene) (older newer : List Snapshot) (turns : List Turn) (all : ℕ) → ((n : ℕ) → n ≤ length turns → Each (IsBehind start n) newer)
-    → ((n : ℕ) → 0 ≤ n → n ≤ 0 + length turns → folder_after start older n ≡ folder_after start (newer ++ older) n) → HasStretches Reached names start older turns all → HasStretches Reached names start (newer ++ older) turns all
-stretches_on Reached names start older newer turns all behind same was = record {
+pub stretches_on : (OfHost : Scene → Type 0) (names : Names) (start : Scene) (older newer : List Snapshot) (turns : List Turn) (all : ℕ) → ((n : ℕ) → n ≤ length turns → Each (IsBehind start n) newer)
+    → ((n : ℕ) → 0 ≤ n → n ≤ 0 + length turns → folder_after start older n ≡ folder_after start (newer ++ older) n) → HasStretches OfHost names start older turns all → HasStretches OfHost names start (newer ++ older) turns all
+stretches_on OfHost names start older newer turns all behind same was = record {
   before = was.before;
-  counted = counts_on Reached start older newer 0 was.before (behind 0 (omega arith)) was.counted;
+  counted = counts_on OfHost start older newer 0 was.before (behind 0 (omega arith)) was.counted;
   since = was.since;
-  each = steps_as names (folder_after start older) (folder_after start (newer ++ older)) (HasCount Reached start older) (HasCount Reached start (newer ++ older)) 0 was.before all turns same
-      (λ n count least most has. counts_on Reached start older newer n count (behind n (omega (arith, most))) has) was.each;
+  each = steps_as names (folder_after start older) (folder_after start (newer ++ older)) (HasCount OfHost start older) (HasCount OfHost start (newer ++ older)) 0 was.before all turns same
+      (λ n count least most has. counts_on OfHost start older newer n count (behind n (omega (arith, most))) has) was.each;
 }
 
-pub stretches_later : (Reached : Scene → Type 0) (names : Names) (start : Scene) (moments : List Snapshot) (turns : List Turn) (all more : ℕ) → all ≤ more → HasStretches Reached names start moments turns all
-    → HasStretches Reached names start moments turns more
-stretches_later Reached names start moments turns all more later was =
-    record { before = was.before; counted = was.counted; since = was.since; each = steps_later names (folder_after start moments) (HasCount Reached start moments) 0 was.before all more turns later was.each }
+pub stretches_later : (OfHost : Scene → Type 0) (names : Names) (start : Scene) (moments : List Snapshot) (turns : List Turn) (all more : ℕ) → all ≤ more → HasStretches OfHost names start moments turns all
+    → HasStretches OfHost names start moments turns more
+stretches_later OfHost names start moments turns all more later was =
+    record { before = was.before; counted = was.counted; since = was.since; each = steps_later names (folder_after start moments) (HasCount OfHost start moments) 0 was.before all more turns later was.each }
 
-pub stretches_push : (Reached : Scene → Type 0) (names : Names) (start : Scene) (moments : List Snapshot) (turns : List Turn) (turn : Turn) (all more : ℕ) → HasStretches Reached names start moments turns all
-    → HasCount Reached start moments (length turns + 1) more → HasEnds names turn (folder_after start moments (length turns)) (folder_after start moments (length turns + 1)) all more
-    → HasStretches Reached names start moments (turns ++ turn ∷ []) more
-stretches_push Reached names start moments turns turn all more was counted ends = record {
+pub stretches_push : (OfHost : Scene → Type 0) (names : Names) (start : Scene) (moments : List Snapshot) (turns : List Turn) (turn : Turn) (all more : ℕ) → HasStretches OfHost names start moments turns all
+    → HasCount OfHost start moments (length turns + 1) more → HasEnds names turn (folder_after start moments (length turns)) (folder_after start moments (length turns + 1)) all more
+    → HasStretches OfHost names start moments (turns ++ turn ∷ []) more
+stretches_push OfHost names start moments turns turn all more was counted ends = record {
   before = was.before;
   counted = was.counted;
   since = was.since;
-  each = steps_push names (folder_after start moments) (HasCount Reached start moments) 0 was.before all more (length turns) turns turn (omega arith) was.each counted ends;
+  each = steps_push names (folder_after start moments) (HasCount OfHost start moments) 0 was.before all more (length turns) turns turn (omega arith) was.each counted ends;
 }

@@ -38,23 +38,23 @@ one_count words a b first second =
     let same : first.0 ≡ second.0 = same_second (codes "stress") first.0 (codes "stress") second.0 (sym first.1 ∙ second.1) in
     sym first.2.says ∙ ap (λ (word : List ℕ). digits_value 10 word) same ∙ second.2.says
 
-pub never_usage : (Reached : Scene → Type 0) (tells : Tells) (count : ℕ) (old new : Scene) (end : Ending) (marks : List Mark) → RunsStress Reached tells count old new end marks → end ≡ ending.Usage → ⊥
-never_usage Reached tells count old new end marks runs is = subst (λ (e : Ending). CountsBy e (counts_of old) (counts_of new)) is runs.counts
+pub never_usage : (OfHost : Scene → Type 0) (tells : Tells) (count : ℕ) (old new : Scene) (end : Ending) (marks : List Mark) → RunsStress OfHost tells count old new end marks → end ≡ ending.Usage → ⊥
+never_usage OfHost tells count old new end marks runs is = subst (λ (e : Ending). CountsBy e (counts_of old) (counts_of new)) is runs.counts
 
-pub stress_through : (Reached : Scene → Type 0) (tells : Tells) (count : ℕ) (old new : Scene) (end : Ending) (marks : List Mark) → RunsStress Reached tells count old new end marks → IsStressUnhindered tells old new → IsThrough end
-stress_through Reached tells count old new ending.Done marks runs free = tt
-stress_through Reached tells count old new ending.WithErrors marks runs free = tt
-stress_through Reached tells count old new ending.Usage marks runs free = runs.counts
-stress_through Reached tells count old new ending.SwapFound marks runs free = free.free (runs.swap free.told.folder refl)
-stress_through Reached tells count old new ending.NoSwap marks runs free = runs.counts
-stress_through Reached tells count old new ending.ScriptFault marks runs free = (runs.told free.told).answered
-stress_through Reached tells count old new ending.OutputFault marks runs free = free.no_out_fault runs.counts.0
-stress_through Reached tells count old new ending.FolderFault marks runs free = free.no_folder_fault runs.counts.0
-stress_through Reached tells count old new ending.NoMemory marks runs free = tt
-stress_through Reached tells count old new ending.Encrypted marks runs free = runs.counts
-stress_through Reached tells count old new ending.NotSwap marks runs free = runs.counts
-stress_through Reached tells count old new (ending.TextLimit size) marks runs free = passes_no_limit (content_of old stress_name) size free.file (runs.file free.told.folder)
-stress_through Reached tells count old new ending.ScriptTooLong marks runs free = (runs.told free.told).answered
+pub stress_through : (OfHost : Scene → Type 0) (tells : Tells) (count : ℕ) (old new : Scene) (end : Ending) (marks : List Mark) → RunsStress OfHost tells count old new end marks → IsStressUnhindered tells old new → IsThrough end
+stress_through OfHost tells count old new ending.Done marks runs free = tt
+stress_through OfHost tells count old new ending.WithErrors marks runs free = tt
+stress_through OfHost tells count old new ending.Usage marks runs free = runs.counts
+stress_through OfHost tells count old new ending.SwapFound marks runs free = free.free (runs.swap free.told.folder refl)
+stress_through OfHost tells count old new ending.NoSwap marks runs free = runs.counts
+stress_through OfHost tells count old new ending.ScriptFault marks runs free = (runs.told free.told).answered
+stress_through OfHost tells count old new ending.OutputFault marks runs free = free.no_out_fault runs.counts.0
+stress_through OfHost tells count old new ending.FolderFault marks runs free = free.no_folder_fault runs.counts.0
+stress_through OfHost tells count old new ending.NoMemory marks runs free = tt
+stress_through OfHost tells count old new ending.Encrypted marks runs free = runs.counts
+stress_through OfHost tells count old new ending.NotSwap marks runs free = runs.counts
+stress_through OfHost tells count old new (ending.TextLimit size) marks runs free = passes_no_limit (content_of old stress_name) size free.file (runs.file free.told.folder)
+stress_through OfHost tells count old new ending.ScriptTooLong marks runs free = (runs.told free.told).answered
 
-pub stress_marks : (Reached : Scene → Type 0) (tells : Tells) (count : ℕ) (old new : Scene) (end : Ending) (marks : List Mark) → RunsStress Reached tells count old new end marks → IsStressUnhindered tells old new → All IsThroughMark marks
-stress_marks Reached tells count old new end marks runs free = λ k d within. through_outcome (get_or marks k d).outcome (λ is. free.no_folder_fault (runs.causes k d within is))
+pub stress_marks : (OfHost : Scene → Type 0) (tells : Tells) (count : ℕ) (old new : Scene) (end : Ending) (marks : List Mark) → RunsStress OfHost tells count old new end marks → IsStressUnhindered tells old new → All IsThroughMark marks
+stress_marks OfHost tells count old new end marks runs free = λ k d within. through_outcome (get_or marks k d).outcome (λ is. free.no_folder_fault (runs.causes k d within is))

@@ -35,7 +35,7 @@ use Rattle.vs_top.proofs.StressFolders.{before_line, counts_now}
 abbrev names : Names
 names = names_of_file stress_name
 
-module _ (Reached : Scene → Type 0) (tells : Tells) (old new : Scene) (acts : Acts tells (Opens stress_name) old new) (reached : Reached new) where
+module _ (OfHost : Scene → Type 0) (tells : Tells) (old new : Scene) (acts : Acts tells (Opens stress_name) old new) (of_host : OfHost new) where
   before : (free : HasSwap names old.folder → ⊥) → (m : Snapshot) → Inside old (Opens stress_name old.folder) m → IsBeforeLine names old (stress_text old) [] m
   before free m inside = record { spared = inside.folder.spared; recovers = inl (record { answered = inside.answered; written = inside.output; recovers = inside.folder.safe free }) }
 
@@ -44,12 +44,12 @@ module _ (Reached : Scene → Type 0) (tells : Tells) (old new : Scene) (acts : 
   up_to_none free m inside = before_line names old (stress_text old) [] 0 (omega arith) m (before free m inside)
 
   -- and the count of the calls that failed is that of the host
-  first_count : (moments : List Snapshot) → new.trace ≡ moments ++ old.trace → Each (λ m. is_up_to old 0 m ≡ true) moments → HasStretches Reached names old moments [] new.folder_faults
-  first_count moments added each = record { before = new.folder_faults; counted = counts_now Reached old new 0 moments reached added each; since = acts.later; each = omega arith }
+  first_count : (moments : List Snapshot) → new.trace ≡ moments ++ old.trace → Each (λ m. is_up_to old 0 m ≡ true) moments → HasStretches OfHost names old moments [] new.folder_faults
+  first_count moments added each = record { before = new.folder_faults; counted = counts_now OfHost old new 0 moments of_host added each; since = acts.later; each = omega arith }
 
   -- it was not opened
   module _ (count : ℕ) (marks : List Mark) (none : marks ≡ []) where
-    stress_none : (end : Ending) → TellsStress tells → StressedBy end count old new marks did_none → FailedBy end old new → (IsTrue (is_early end) → Looks old new) → HasStress Reached count old new end marks
+    stress_none : (end : Ending) → TellsStress tells → StressedBy end count old new marks did_none → FailedBy end old new → (IsTrue (is_early end) → Looks old new) → HasStress OfHost count old new end marks
     stress_none end told answered failed looks = record {
       did = did_none;
       kept = kept_none stress_name old marks none;
@@ -76,7 +76,7 @@ module _ (Reached : Scene → Type 0) (tells : Tells) (old new : Scene) (acts : 
     pub stress_open_fails : (error : OpenErr) → (error ≡ opening.Failed → HasRisen old.folder_faults new.folder_faults) → IsQuiet old.folder_faults new.folder_faults (error ≡ opening.Failed)
         → ((size : ℕ) → error ≡ opening.TextLimit size → IsTooLarge tells size (content_of old stress_name)) → (error ≡ opening.SwapFound → IsTrue tells.folder → HasSwap names old.folder)
         → (IsTrue tells.folder → HasSwap names old.folder → (error ≡ opening.SwapFound) ⊎ (error ≡ opening.Failed) ⊎ (error ≡ opening.NoMemory))
-        → (IsTrue tells.folder → HasSwap names old.folder → OnlyLooks tells old new) → ((error ≡ opening.Failed → ⊥) → OnlyLooks tells old new) → RunsStress Reached tells count old new (open_ending error) marks
+        → (IsTrue tells.folder → HasSwap names old.folder → OnlyLooks tells old new) → ((error ≡ opening.Failed → ⊥) → OnlyLooks tells old new) → RunsStress OfHost tells count old new (open_ending error) marks
     stress_open_fails opening.SwapFound failed quiet limit swap barred barred_looks looks = record {
       told = λ told. stress_none ending.SwapFound told (record { none = none; output = output_same }) tt (λ early. (looks (λ is. absurd (cc))).runs told.folder);
       swap = λ told is. swap refl told;
@@ -89,7 +89,7 @@ module _ (Reached : Scene → Type 0) (tells : Tells) (old new : Scene) (acts : 
     }
     stress_open_fails opening.Failed failed quiet limit swap barred barred_looks looks = record {
       told = λ told. stress_none ending.FolderFault told (inl (record { none = none; output = output_same }))
-          (rose_last folder_count old old new (λ m calm. calm.folder) (acts.last told.folder) (failed refl) (counted_none folder_count old)) (λ early. absurd (true≢false (sym early)));
+          (rose_last folder_count old old new (λ m no_fault. no_fault.folder) (acts.last told.folder) (failed refl) (counted_none folder_count old)) (λ early. absurd (true≢false (sym early)));
       swap = λ told is. absurd (cc);
       barred = λ told has. only_looked tells old new ending.FolderFault marks tt none (barred_looks told has) told;
       file = λ told. tt;
@@ -122,7 +122,7 @@ module _ (Reached : Scene → Type 0) (tells : Tells) (old new : Scene) (acts : 
   -- it was opened
   pub stress_opened : (session : Session) → names_of session ≡ names → (IsTrue tells.folder → HasSwap names old.folder → ⊥) → (IsTrue tells.folder → FileFits (content_of old stress_name))
       → (IsTrue tells.folder → Fits session new.folder (opened_file old stress_name).state (opened (stress_text old))) → (IsTrue tells.folder → HasNewest old) → (IsTrue tells.folder → HasNewest new)
-      → IsStressTurn Reached tells old new session [] true []
+      → IsStressTurn OfHost tells old new session [] true []
   stress_opened session same free file fits newest_at_start newest = record {
     told = λ told.
         let runs = acts.runs told.folder in (

@@ -63,9 +63,9 @@ no_work state found acknowledged lacks parsed plain = refl
 pub writes_none : (state : SessionState) (instruction : Instruction) (ended : Ended) → writes_files instruction.parsed ≡ false → (turn_of state instruction ended).write ≡ None
 writes_none state instruction ended plain = no_work state ended.found ended.acknowledged (lacks_name state.options.write state.name ended.found) instruction.parsed plain
 
-module _ (Reached : Scene → Type 0) (tells : Tells) (old now new : Scene) (session after : Session) (marks : List Mark) (clean : Bool) (request : Request) (mark : Mark) (reply : Answer) (instruction : Instruction) (commands : List Instruction)
-    (step : HasStepped tells now new session after request mark reply) (newest : IsTrue tells.folder → HasNewest new) (reached : Reached new) (meant : IsRequest request instruction) (plain : writes_files instruction.parsed ≡ false) (turn : IsStressTurn Reached tells old now session marks clean commands) where
-  module _ (told : TellsStress tells) (ends : List Ended) (here : StressTold Reached old now session marks clean commands ends) where
+module _ (OfHost : Scene → Type 0) (tells : Tells) (old now new : Scene) (session after : Session) (marks : List Mark) (clean : Bool) (request : Request) (mark : Mark) (reply : Answer) (instruction : Instruction) (commands : List Instruction)
+    (step : HasStepped tells now new session after request mark reply) (newest : IsTrue tells.folder → HasNewest new) (of_host : OfHost new) (meant : IsRequest request instruction) (plain : writes_files instruction.parsed ≡ false) (turn : IsStressTurn OfHost tells old now session marks clean commands) where
+  module _ (told : TellsStress tells) (ends : List Ended) (here : StressTold OfHost old now session marks clean commands ends) where
     abbrev names : Names
     names = names_of_file stress_name
 
@@ -143,7 +143,7 @@ module _ (Reached : Scene → Type 0) (tells : Tells) (old now new : Scene) (ses
         (λ m inside. inl (later_read old n m (omega (arith, inside.answered, long_now, most)))) newer works.moments.each))
 
     found_folder : now.folder ≡ folder_after old moments (length turns)
-    found_folder = sym (told_folder Reached old now session marks clean commands ends here) ∙ same_before (length turns) (omega arith) (omega arith)
+    found_folder = sym (told_folder OfHost old now session marks clean commands ends here) ∙ same_before (length turns) (omega arith) (omega arith)
 
     left_folder : new.folder ≡ folder_after old moments (length turns + 1)
     left_folder =
@@ -169,13 +169,13 @@ module _ (Reached : Scene → Type 0) (tells : Tells) (old now new : Scene) (ses
         Each-weaker (IsBeforeLine names old (stress_text old) (turns ++ last)) (λ m. is_up_to old (length turns + 1) m ≡ true)
         (before_line names old (stress_text old) (turns ++ last) (length turns + 1) (omega (arith, length-append turns last))) moments safe
 
-    steps : HasStretches Reached names old moments (turns ++ one ∷ []) new.folder_faults
+    steps : HasStretches OfHost names old moments (turns ++ one ∷ []) new.folder_faults
     steps =
-        stretches_push Reached names old moments turns one now.folder_faults new.folder_faults
-        (stretches_on Reached names old here.moments newer turns now.folder_faults behind_before same_before here.steps)
-        (counts_now Reached old new (length turns + 1) moments reached added all_up_to) ends_here
+        stretches_push OfHost names old moments turns one now.folder_faults new.folder_faults
+        (stretches_on OfHost names old here.moments newer turns now.folder_faults behind_before same_before here.steps)
+        (counts_now OfHost old new (length turns + 1) moments of_host added all_up_to) ends_here
 
-    told_on : StressTold Reached old new after (marks ++ mark ∷ []) (clean && (is_done mark.outcome && not reply.is_error)) commands' ends'
+    told_on : StressTold OfHost old new after (marks ++ mark ∷ []) (clean && (is_done mark.outcome && not reply.is_error)) commands' ends'
     told_on =
         let last : List Ended = ended ∷ [] in
         let more : List Instruction = instruction ∷ [] in
@@ -194,7 +194,7 @@ module _ (Reached : Scene → Type 0) (tells : Tells) (old now new : Scene) (ses
           added = added;
           safe = subst (λ (ts : List Turn). Each (IsBeforeLine names old (stress_text old) ts) moments) (sym turns_are) safe;
           spared = same_then (is_foreign names) old.folder now.folder new.folder here.spared works.spared;
-          steps = subst (λ (ts : List Turn). HasStretches Reached names old moments ts new.folder_faults) (sym turns_are) steps;
+          steps = subst (λ (ts : List Turn). HasStretches OfHost names old moments ts new.folder_faults) (sym turns_are) steps;
           newest_at_start = here.newest_at_start;
           newest = newest told.folder;
           output = works.output ∙ here.output;
@@ -203,7 +203,7 @@ module _ (Reached : Scene → Type 0) (tells : Tells) (old now new : Scene) (ses
         }
 
   -- over any host
-  pub turn_on : IsStressTurn Reached tells old new after (marks ++ mark ∷ []) (clean && (is_done mark.outcome && not reply.is_error)) (commands ++ instruction ∷ [])
+  pub turn_on : IsStressTurn OfHost tells old new after (marks ++ mark ∷ []) (clean && (is_done mark.outcome && not reply.is_error)) (commands ++ instruction ∷ [])
   turn_on =
       let before = turn.keeps.counts in
       record {

@@ -57,9 +57,9 @@ pub record DoesNothing (words : List (List ℕ)) (old new : Scene) (end : Ending
 
 -- What the arguments ask for was done: in their mode with the file of their name, or in the stress mode with their number.
 abbrev pub Does : (Scene → Type 0) → Tells → List (List ℕ) → Scene → Scene → Ending → List Mark → Type 0
-Does Reached tells words old new end marks =
+Does OfHost tells words old new end marks =
     ((mode : Mode) × (name : List ℕ) × IsForm words mode name × Performs mode tells name old new end marks)
-    ⊎ ((count : ℕ) × IsStress words count × RunsStress Reached tells count old new end marks)
+    ⊎ ((count : ℕ) × IsStress words count × RunsStress OfHost tells count old new end marks)
     ⊎ DoesNothing words old new end marks
 
 -- A folder that is told has swap files of the file that give a text.

@@ -8,6 +8,7 @@ use Rattle.vs_host.specs.Trace.{Snapshot}
 use Rattle.vs_host.specs.World.{Tells, Scene, content_of}
 use Rattle.vs_host.specs.declared.names.Names.{Names}
 use Rattle.vs_disk.specs.Runs.{Looks}
+use Rattle.vs_pair.specs.Pair.{Rises}
 use Rattle.vs_text.specs.Text.{lines_of}
 use Rattle.vs_text.specs.Limits.{IsWithinLimits}
 use Rattle.vs_excmd.specs.Request.{Instruction}
@@ -17,7 +18,7 @@ use Rattle.vs_script.specs.Script.{commands_of}
 use Rattle.vs_machine.specs.Replies.{opening_of}
 use Rattle.vs_machine.specs.declared.command.Mark.{Mark}
 use Rattle.vs_machine.specs.declared.command.Outcome.TheVariants as outcome
-use Rattle.vs_safety.specs.Texts.{Sync, IsBetween}
+use Rattle.vs_safety.specs.Texts.{Sync}
 use Rattle.vs_safety.specs.Turns.{Closing, NotBegun, LastSync, Quits, Ran, after_turns, opened as first_sync, preserved_line, quit_line}
 use Rattle.vs_safety.specs.Stretches.{IsFirst}
 use Rattle.vs_safety.specs.Safety.{IsCrashSafe}
@@ -27,7 +28,7 @@ use Rattle.vs_session.specs.declared.session.Session.{Session}
 use Rattle.vs_session.specs.Session.{SessionState, Ended, HasFound, is_fault, accepts_quit, sync_in, state_after, states_after, turns_of, replies_of, any_error}
 use Rattle.vs_session.specs.Open.{PassesLimit}
 use Rattle.vs_session.specs.Opened.{Opened, opened, text_in}
-use Rattle.vs_session.specs.Fits.{Fits, HasSwap, names_of}
+use Rattle.vs_session.specs.Fits.{Fits, HasSwap, HasSyncs, names_of}
 use Rattle.vs_top.specs.declared.ending.Ending.{Ending}
 use Rattle.vs_top.specs.declared.ending.Ending.TheVariants as ending
 
@@ -93,8 +94,15 @@ abbrev pub answered_at : Opened → Scene → Did → ℕ
 answered_at file old did = length old.output + length (written file did.commands did.ends)
 
 -- no call on the folder has failed since the last reply was whole
-abbrev pub IsCalm : Opened → Scene → Scene → Did → Type 0
-IsCalm file old new did = HasSince (answered_at file old did) old new (λ m. new.folder_faults ≡ m.folder_faults)
+abbrev pub HasNoFaultSince : Opened → Scene → Scene → Did → Type 0
+HasNoFaultSince file old new did = HasSince (answered_at file old did) old new (λ m. new.folder_faults ≡ m.folder_faults)
+
+-- The sync at the script's end was made since the last reply was whole: some swap file stands in every image with a generation above each
+-- that stood in some image then.
+abbrev pub HasRisenSince : Closing → Opened → Scene → Scene → Did → Type 0
+HasRisenSince NotBegun file old new did = ⊤
+HasRisenSince (LastSync sync) file old new did = HasSince (answered_at file old did) old new (λ m. Rises (names_of_file file.name) m.folder new.folder)
+HasRisenSince Quits file old new did = ⊤
 
 -- These commands were answered, the opening reply and their replies were written, and the run did not begin to close. Since then nothing
 -- has changed in the folder, and no call on it failed.
@@ -131,7 +139,8 @@ pub record AnswersAll (errors : Bool) (file : Opened) (old new : Scene) (did : D
   pub closes : Closes true file old new did
   pub output : new.output ≡ old.output ++ (written file did.commands did.ends ++ closing_line did.closing)
   pub errors_are : refuses_any file did.commands did.ends ≡ errors
-  pub calm : IsCalm file old new did
+  pub no_fault : HasNoFaultSince file old new did
+  pub risen : HasRisenSince did.closing file old new did
 
 -- It answered the commands that were whole in what was taken of the script.
 pub record AnswersTaken (file : Opened) (old new : Scene) (did : Did) : Type 0 where
@@ -173,7 +182,8 @@ pub record IsCutLast (file : Opened) (old new : Scene) (did : Did) : Type 0 wher
   pub closes : Closes true file old new did
   pub count : ℕ
   pub output : new.output ≡ old.output ++ (written file did.commands did.ends ++ take count (closing_line did.closing))
-  pub calm : IsCalm file old new did
+  pub no_fault : HasNoFaultSince file old new did
+  pub risen : HasRisenSince did.closing file old new did
 
 -- The last sync or the removal failed, and the last line was not written.
 pub record FailsToClose (file : Opened) (old new : Scene) (did : Did) : Type 0 where
@@ -205,11 +215,10 @@ AnsweredBy ending.ScriptTooLong file old new marks did = AnswersLimit file old n
 -- ---- the swap files that it leaves
 
 -- What stands after these syncs, by how a run closed. Before it closes some session is in this state and fits the folder, so that both
--- swap files are there. After the sync at the script's end one of them stands for the last acknowledged sync, and the other one is not
--- there or not open, or stands for another of them. An accepted quit leaves none.
+-- swap files are there. After the sync at the script's end some session fits it with that sync, too. An accepted quit leaves none.
 abbrev pub StandsAfter : Names → SessionState → List Sync → Closing → Disk → Type 0
 StandsAfter names state syncs NotBegun folder = (session : Session) × (names_of session ≡ names) × Fits session folder state syncs
-StandsAfter names state syncs (LastSync sync) folder = IsBetween names (sync ∷ syncs) folder
+StandsAfter names state syncs (LastSync sync) folder = HasSyncs names (sync ∷ syncs) folder
 StandsAfter names state syncs Quits folder = ⊤
 
 -- the syncs after the commands that a run answered

@@ -112,11 +112,11 @@ IsSceneOf {H} scene_of scene = (host : H) × (scene ≡ scene_of host)
 abbrev pub IsBehind : Scene → ℕ → Snapshot → Type 0
 IsBehind start n moment = (is_up_to start n moment ≡ false) ⊎ (moment.kind ≡ WroteOutput)
 
--- After so many commands, and before any call of the next one, so many calls on the folder had failed: a host that was reached counts
--- them, and its trace has the moments up to there and no other.
-pub record HasCount (Reached : Scene → Type 0) (start : Scene) (moments : List Snapshot) (n count : ℕ) : Type 0 where
+-- After so many commands, and before any call of the next one, so many calls on the folder had failed: some host of the type counts them,
+-- and its trace has the moments up to there and no other.
+pub record HasCount (OfHost : Scene → Type 0) (start : Scene) (moments : List Snapshot) (n count : ℕ) : Type 0 where
   pub scene : Scene
-  pub reached : Reached scene
+  pub of_host : OfHost scene
   pub later : List Snapshot
   pub earlier : List Snapshot
   pub moments_are : moments ≡ later ++ earlier
@@ -140,11 +140,11 @@ HasSteps names folder counts k before (turn ∷ turns) all =
     (after : ℕ) × counts (k + 1) after × HasEnds names turn (folder k) (folder (k + 1)) before after × HasSteps names folder counts (k + 1) after turns all
 
 -- The commands from the first on, each in its own stretch of these moments.
-pub record HasStretches (Reached : Scene → Type 0) (names : Names) (start : Scene) (moments : List Snapshot) (turns : List Turn) (all : ℕ) : Type 0 where
+pub record HasStretches (OfHost : Scene → Type 0) (names : Names) (start : Scene) (moments : List Snapshot) (turns : List Turn) (all : ℕ) : Type 0 where
   pub before : ℕ
-  pub counted : HasCount Reached start moments 0 before
+  pub counted : HasCount OfHost start moments 0 before
   pub since : start.folder_faults ≤ before
-  pub each : HasSteps names (folder_after start moments) (HasCount Reached start moments) 0 before turns all
+  pub each : HasSteps names (folder_after start moments) (HasCount OfHost start moments) 0 before turns all
 
 -- ---- the moments
 
@@ -188,27 +188,27 @@ pub record IsStressMoment (names : Names) (start : Scene) (text : Text) (turns :
   pub recovers : IsAtOpening names start text moment ⊎ IsAtCommand names start text turns moment ⊎ IsAtLine names start text turns line moment ⊎ IsAtRemoval names start text turns line moment
 
 -- So it is at each moment from one scene to another, for the commands and the line that follows them.
-pub record IsStressSafe (Reached : Scene → Type 0) (names : Names) (start now : Scene) (text : Text) (turns : List Turn) (line : List ℕ) : Type 0 where
+pub record IsStressSafe (OfHost : Scene → Type 0) (names : Names) (start now : Scene) (text : Text) (turns : List Turn) (line : List ℕ) : Type 0 where
   pub moments : List Snapshot
   pub added : now.trace ≡ moments ++ start.trace
   pub safe : Each (IsStressMoment names start text turns line) moments
   pub spared : SameAt (is_foreign names) start.folder now.folder
-  pub steps : HasStretches Reached names start moments turns now.folder_faults
+  pub steps : HasStretches OfHost names start moments turns now.folder_faults
 
 -- ---- a run
 
 -- What it did, over a host that tells: its commands and how they ended.
-pub record HasStress (Reached : Scene → Type 0) (count : ℕ) (old new : Scene) (end : Ending) (marks : List Mark) : Type 0 where
+pub record HasStress (OfHost : Scene → Type 0) (count : ℕ) (old new : Scene) (end : Ending) (marks : List Mark) : Type 0 where
   pub did : Did
   pub kept : KeepsMarks (opened_file old stress_name) marks did
   pub answered : StressedBy end count old new marks did
-  pub safe : (HasSwap (names_of_file stress_name) old.folder → ⊥) → IsStressSafe Reached (names_of_file stress_name) old new (stress_text old) (stress_turns old did) (stress_line count old did)
+  pub safe : (HasSwap (names_of_file stress_name) old.folder → ⊥) → IsStressSafe OfHost (names_of_file stress_name) old new (stress_text old) (stress_turns old did) (stress_line count old did)
   pub failed : FailedBy end old new
   pub looks : IsTrue (is_early end) → Looks old new
 
--- What the stress mode does, by its ending, where these scenes may be reached. The script is not read.
-pub record RunsStress (Reached : Scene → Type 0) (tells : Tells) (count : ℕ) (old new : Scene) (end : Ending) (marks : List Mark) : Type 0 where
-  pub told : TellsStress tells → HasStress Reached count old new end marks
+-- What the stress mode does, by its ending, where these are the scenes of the hosts of a type. The script is not read.
+pub record RunsStress (OfHost : Scene → Type 0) (tells : Tells) (count : ℕ) (old new : Scene) (end : Ending) (marks : List Mark) : Type 0 where
+  pub told : TellsStress tells → HasStress OfHost count old new end marks
   pub swap : IsTrue tells.folder → end ≡ ending.SwapFound → HasSwap (names_of_file stress_name) old.folder
   pub barred : IsTrue tells.folder → HasSwap (names_of_file stress_name) old.folder → IsBarred old new end marks
   pub file : IsTrue tells.folder → HasFile end (content_of old stress_name)

@@ -19,7 +19,7 @@ use Rattle.vs_top.specs.Stress.{TellsStress, HasStretches, IsBeforeLine, stress_
 use Rattle.vs_top.specs.Turns.{KeepsOpenFile}
 
 -- These commands were answered, and nothing was written.
-pub record StressTold (Reached : Scene → Type 0) (old now : Scene) (session : Session) (marks : List Mark) (clean : Bool) (commands : List Instruction) (ends : List Ended) : Type 0 where
+pub record StressTold (OfHost : Scene → Type 0) (old now : Scene) (session : Session) (marks : List Mark) (clean : Bool) (commands : List Instruction) (ends : List Ended) : Type 0 where
   pub one_each : length ends ≡ length commands
   pub marks_are : marks ≡ map (λ ended. ended.mark) ends
   pub are_answered : AreAnswered (opened_file old stress_name).state commands ends
@@ -30,7 +30,7 @@ pub record StressTold (Reached : Scene → Type 0) (old now : Scene) (session : 
   pub added : now.trace ≡ moments ++ old.trace
   pub safe : Each (IsBeforeLine (names_of_file stress_name) old (stress_text old) (turns_of (opened_file old stress_name).state commands ends)) moments
   pub spared : SameAt (is_foreign (names_of_file stress_name)) old.folder now.folder
-  pub steps : HasStretches Reached (names_of_file stress_name) old moments (turns_of (opened_file old stress_name).state commands ends) now.folder_faults
+  pub steps : HasStretches OfHost (names_of_file stress_name) old moments (turns_of (opened_file old stress_name).state commands ends) now.folder_faults
   pub newest_at_start : HasNewest old
   pub newest : HasNewest now
   pub output : now.output ≡ old.output
@@ -38,16 +38,16 @@ pub record StressTold (Reached : Scene → Type 0) (old now : Scene) (session : 
   pub counted : IsCounted output_count old now
 
 -- over any host
-pub record IsStressTurn (Reached : Scene → Type 0) (tells : Tells) (old now : Scene) (session : Session) (marks : List Mark) (clean : Bool) (commands : List Instruction) : Type 0 where
-  pub told : TellsStress tells → (ends : List Ended) × StressTold Reached old now session marks clean commands ends
+pub record IsStressTurn (OfHost : Scene → Type 0) (tells : Tells) (old now : Scene) (session : Session) (marks : List Mark) (clean : Bool) (commands : List Instruction) : Type 0 where
+  pub told : TellsStress tells → (ends : List Ended) × StressTold OfHost old now session marks clean commands ends
   pub keeps : KeepsOpenFile tells stress_name old now session marks
   pub script : now.script ≡ old.script
   pub times : IsTrue tells.clock → now.answers ≡ old.answers ++ map (λ mark. mark.at) marks
 
 -- There was no memory for more than the first of the commands.
-pub record StopsStress (Reached : Scene → Type 0) (tells : Tells) (count : ℕ) (old now : Scene) (session : Session) (marks : List Mark) : Type 0 where
+pub record StopsStress (OfHost : Scene → Type 0) (tells : Tells) (count : ℕ) (old now : Scene) (session : Session) (marks : List Mark) : Type 0 where
   pub commands : List Instruction
   pub rest : List Instruction
   pub first : stress_commands count ≡ commands ++ rest
   pub clean : Bool
-  pub turn : IsStressTurn Reached tells old now session marks clean commands
+  pub turn : IsStressTurn OfHost tells old now session marks clean commands

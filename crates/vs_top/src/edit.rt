@@ -7,13 +7,15 @@ ghost use Rattle.vs_host.specs.Trace.{WroteOutput};
 ghost use Rattle.vs_host.specs.World.{ChangesFolder, ChangesOutput, Scene};
 ghost use Rattle.vs_disk.specs.Runs.{FailsLast};
 ghost use Rattle.vs_pair.specs.Acts.{NoneFails};
+ghost use Rattle.vs_pair.specs.Pair.{Rises};
 ghost use Rattle.vs_pair.specs.Steps.{IsFresh};
 ghost use Rattle.vs_machine.specs.Machine.{is_done};
 ghost use Rattle.vs_top.specs.Ending.{ending_in};
 ghost use Rattle.vs_safety.specs.Safety.{IsAdded, Stepped};
 ghost use Rattle.vs_safety.specs.Texts.{Sync};
 ghost use Rattle.vs_safety.specs.Turns.{last_turn, preserved_line, quit_line};
-ghost use Rattle.vs_session.specs.Fits.{Fits, FitsUndo, Leaves, generation_of, names_of};
+ghost use Rattle.vs_session.specs.Calls.{FitsFolder};
+ghost use Rattle.vs_session.specs.Fits.{Fits, FitsUndo, HasSyncs, Leaves, generation_of, names_of};
 ghost use Rattle.vs_session.specs.Session.{SessionState, sync_in};
 ghost use Rattle.vs_top.specs.Run.{RunsEdit};
 ghost use Rattle.vs_top.specs.Turns.{IsAtClose, IsOpened};
@@ -80,12 +82,15 @@ fn last_line(how: End) -> Reply
 // Ends the session.
 pub(crate) fn finish<H: Host>(session: Session, host: &mut H, how: End) -> Result<(), Ending>
     requires room { generation_of session < 2 ^ 63 }
-    requires fits { IsTrue (H.tells).folder → (state : SessionState) × (syncs : List Sync) × Fits session (H.scene host.old).folder state syncs }
+    requires fits { FitsFolder H.tells session (H.scene host.old).folder }
     ensures sync { how ≡ End.Sync → IsTrue (H.tells).folder → (state : SessionState) (syncs : List Sync) → Fits session (H.scene host.old).folder state syncs
         → Stepped (names_of session) syncs (last_turn (sync_in state (is_ok result))) (H.scene host.old) (H.scene host.new) }
     ensures quit { how ≡ End.Quit → IsTrue (H.tells).folder → (state : SessionState) (syncs : List Sync) → Fits session (H.scene host.old).folder state syncs
         → Leaves (names_of session) syncs (H.scene host.old) (H.scene host.new) }
     ensures gone { how ≡ End.Quit → OnOk result (IsTrue (H.tells).folder → IsFresh (names_of session) (H.scene host.new).folder) }
+    ensures fits { how ≡ End.Sync → IsTrue (H.tells).folder → (state : SessionState) (syncs : List Sync) → Fits session (H.scene host.old).folder state syncs
+        → HasSyncs (names_of session) (sync_in state (is_ok result) ∷ syncs) (H.scene host.new).folder }
+    ensures rises { how ≡ End.Sync → OnOk result (IsTrue (H.tells).folder → Rises (names_of session) (H.scene host.old).folder (H.scene host.new).folder) }
     ensures last { IsTrue (H.tells).folder → FailsLast (H.scene host.old) (H.scene host.new) }
     ensures none { OnOk result (NoneFails H.tells (H.scene host.old) (H.scene host.new)) }
     ensures cause { HasCause (H.scene host.old).folder_faults (H.scene host.new).folder_faults (IsErr result) }
@@ -101,7 +106,7 @@ pub(crate) fn finish<H: Host>(session: Session, host: &mut H, how: End) -> Resul
 // Ends the session at the script's end or at an accepted quit, and writes the last line.
 fn close<H: Host>(session: Session, host: &mut H, how: End, clean: bool) -> Result<Ending, Ending>
     requires room { generation_of session < 2 ^ 63 }
-    requires fits { IsTrue (H.tells).folder → (state : SessionState) × (syncs : List Sync) × Fits session (H.scene host.old).folder state syncs }
+    requires fits { FitsFolder H.tells session (H.scene host.old).folder }
     ensures { (name : List ℕ) (old : Scene) (marks : List Mark) → IsAtClose H.tells name old (H.scene host.old) session marks how clean
         → RunsEdit H.tells name old (H.scene host.new) (ending_in result) marks }
 {
@@ -121,7 +126,7 @@ fn serve<H: Host>(
     requires generation { generation_of session ≤ 2 }
     requires undo { FitsUndo session }
     requires clock { IsTrue (H.tells).clock → length (H.scene host.old).answers < 2 ^ 62 }
-    requires fits { IsTrue (H.tells).folder → (state : SessionState) × (syncs : List Sync) × Fits session (H.scene host.old).folder state syncs }
+    requires fits { FitsFolder H.tells session (H.scene host.old).folder }
     ensures { (name : List ℕ) (old : Scene) → IsOpened H.tells name old (H.scene host.old) session
         → RunsEdit H.tells name old (H.scene host.new) (ending_in result) marks.new.items }
 {

@@ -4,6 +4,7 @@ ghost use Rattle.vs_exparse.specs.Command.{result_of};
 ghost use Rattle.vs_excmd.specs.Request.{Instruction, IsFormed, IsRequest};
 ghost use Rattle.vs_host.specs.World.{Scene};
 ghost use Rattle.vs_safety.specs.Texts.{Sync};
+ghost use Rattle.vs_session.specs.Calls.{FitsFolder};
 ghost use Rattle.vs_session.specs.Fits.{Fits, FitsUndo, generation_of};
 ghost use Rattle.vs_session.specs.Session.{SessionState, quits, writes_files};
 ghost use Rattle.vs_stress.specs.Commands.{stress_commands};
@@ -37,7 +38,7 @@ fn answer<H: Host>(
     requires clock { IsTrue (H.tells).clock → length (H.scene host.old).answers < 2 ^ 63 }
     requires room { generation_of session.old < 2 ^ 63 }
     requires undo { FitsUndo session.old }
-    requires fits { IsTrue (H.tells).folder → (state : SessionState) × (syncs : List Sync) × Fits session.old (H.scene host.old).folder state syncs }
+    requires fits { FitsFolder H.tells session.old (H.scene host.old).folder }
     ensures ok { IfOk result (λ after. (old : Scene) (commands : List Instruction) (instruction : Instruction) → IsRequest request.now instruction
         → IsStressTurn (IsSceneOf H.scene) H.tells old (H.scene host.old) session.old marks.old.items clean commands
         → IsStressTurn (IsSceneOf H.scene) H.tells old (H.scene host.new) session.new marks.new.items after (commands ++ instruction ∷ [])) }
@@ -72,13 +73,13 @@ fn answer_all<H: Host>(
     requires generation { generation_of session.old ≤ 2 }
     requires undo { FitsUndo session.old }
     requires clock { IsTrue (H.tells).clock → length (H.scene host.old).answers < 2 ^ 62 }
-    requires fits { IsTrue (H.tells).folder → (state : SessionState) × (syncs : List Sync) × Fits session.old (H.scene host.old).folder state syncs }
+    requires fits { FitsFolder H.tells session.old (H.scene host.old).folder }
     ensures ok { IfOk result (λ clean. (old : Scene) → IsStressTurn (IsSceneOf H.scene) H.tells old (H.scene host.old) session.old [] true []
         → IsStressTurn (IsSceneOf H.scene) H.tells old (H.scene host.new) session.new marks.new.items clean (stress_commands count)) }
     ensures err { IfErr result (λ ending. (ending ≡ Ending.NoMemory) × ((old : Scene) → IsStressTurn (IsSceneOf H.scene) H.tells old (H.scene host.old) session.old [] true []
         → StopsStress (IsSceneOf H.scene) H.tells count old (H.scene host.new) session.new marks.new.items)) }
     ensures room { generation_of session.new ≤ 100003 }
-    ensures fits { IsTrue (H.tells).folder → (state : SessionState) × (syncs : List Sync) × Fits session.new (H.scene host.new).folder state syncs }
+    ensures fits { FitsFolder H.tells session.new (H.scene host.new).folder }
 {
     let mut clean = true;
     'commands: for number in 0..count {
@@ -97,7 +98,7 @@ fn close<H: Host>(
     clean: bool,
 ) -> Result<Ending, Ending>
     requires room { generation_of session < 2 ^ 63 }
-    requires fits { IsTrue (H.tells).folder → (state : SessionState) × (syncs : List Sync) × Fits session (H.scene host.old).folder state syncs }
+    requires fits { FitsFolder H.tells session (H.scene host.old).folder }
     ensures { (old : Scene) (marks : List Mark) → IsStressTurn (IsSceneOf H.scene) H.tells old (H.scene host.old) session marks clean (stress_commands count)
         → RunsStress (IsSceneOf H.scene) H.tells count old (H.scene host.new) (ending_in result) marks }
 {
