@@ -50,7 +50,8 @@ pub(crate) fn desk_with(alloc: Global, files: &[(&str, &[u8])]) -> Result<TextDe
     Ok(TextDesk { folder, text })
 }
 
-fn names_of(alloc: Global, name: &str) -> Result<Names, Fail>
+/// The names that go with the file of this name.
+pub(crate) fn names_of(alloc: Global, name: &str) -> Result<Names, Fail>
     ensures { IfOk result AreNames }
 {
     match Names::of(alloc, name) {
@@ -111,6 +112,20 @@ pub(crate) fn always(
             if !allowed.iter().any(|it| *it == bytes.as_slice()) {
                 return Ok(false);
             }
+        }
+    }
+    Ok(true)
+}
+
+/// Whether each image has these bytes under these names; `-` stands for no file.
+pub(crate) fn are_always(
+    alloc: Global,
+    host: &MemHost,
+    files: &[(&str, &[u8])],
+) -> Result<bool, Fail> {
+    for (name, bytes) in files {
+        if !always(alloc, host, name, &[*bytes])? {
+            return Ok(false);
         }
     }
     Ok(true)

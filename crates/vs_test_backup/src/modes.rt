@@ -3,13 +3,12 @@ ghost use Rattle.std.specs.Prelude.{IfOk};
 ghost use Rattle.vs_edit.specs.Texts.{AreSound};
 
 use crate::desk::{TextDesk, store_of};
-use crate::fixture::{NEW, OLD, options, write_to};
+use crate::fixture::{NEW, OLD, names_of, options, write_to};
 use crate::watched::{PRIVATE, USUAL, Watched};
 use std::alloc::Global;
 use std::process::Abort;
 use std::test::Fail;
 use vs_backup::CopyMode;
-use vs_host::Names;
 use vs_memory::MemHost;
 use vs_ubind::store;
 
@@ -39,74 +38,74 @@ fn desk_over(alloc: Global) -> Result<TextDesk<Watched>, Fail>
 
 // Whether files got these mode bits, in this order.
 fn has_modes(folder: &Watched, expected: &[(&str, u32)]) -> bool {
-    if folder.modes.len() != expected.len() {
-        return false;
-    }
-    for (at, (name, mode)) in expected.iter().enumerate() {
-        let (known, found) = &folder.modes[at];
-        if known.as_str() != *name || found != mode {
-            return false;
-        }
-    }
-    true
+    folder.modes.len() == expected.len()
+        && folder
+            .modes
+            .iter()
+            .zip(expected.iter())
+            .all(|(got, want)| got.0.as_str() == want.0 && got.1 == want.1)
 }
+
+// Whether a write with a backup succeeds, and files get these mode bits.
+fn gives_modes(
+    alloc: Global,
+    desk: &mut TextDesk<Watched>,
+    copy: CopyMode,
+    expected: &[(&str, u32)],
+) -> Result<bool, Fail>
+    requires { AreSound desk.old.text }
+{
+    let answer = write_to(alloc, desk, "f", &options(true, true, copy))?;
+    Ok(answer == Ok(4) && has_modes(&desk.folder, expected))
+}
+
+const COPIED: [(&str, u32); 4] = [
+    ("f", OLD_MODE),
+    ("f~.vsnew", PRIVATE),
+    ("f~.vsnew", OLD_MODE),
+    ("f~", OLD_MODE),
+];
+
+const MOVED: [(&str, u32); 4] = [
+    ("f", OLD_MODE),
+    ("f~", OLD_MODE),
+    ("f", PRIVATE),
+    ("f", OLD_MODE),
+];
 
 #[test]
 fn a_backup_and_its_file_have_the_mode_of_the_old_file(rt: HostRuntime) -> Result<(), Fail> {
     let alloc = rt.alloc();
     let mut copying = desk_over(alloc)?;
-    let answer = write_to(
-        alloc,
-        &mut copying,
-        "f",
-        &options(true, true, CopyMode::Yes),
-    )?;
-    assert!(rt; answer == Ok(4));
-    let copied = [
-        ("f", OLD_MODE),
-        ("f~.vsnew", PRIVATE),
-        ("f~.vsnew", OLD_MODE),
-        ("f~", OLD_MODE),
-    ];
-    assert!(rt; has_modes(&copying.folder, &copied));
-
+    assert!(rt; gives_modes(alloc, &mut copying, CopyMode::Yes, &COPIED)?);
     let mut moving = desk_over(alloc)?;
-    let answer = write_to(alloc, &mut moving, "f", &options(true, true, CopyMode::No))?;
-    assert!(rt; answer == Ok(4));
-    let moved = [
-        ("f", OLD_MODE),
-        ("f~", OLD_MODE),
-        ("f", PRIVATE),
-        ("f", OLD_MODE),
-    ];
-    assert!(rt; has_modes(&moving.folder, &moved));
+    assert!(rt; gives_modes(alloc, &mut moving, CopyMode::No, &MOVED)?);
     Ok(())
 }
+
+const MADE: [(&str, u32); 2] = [("f.vsnew", USUAL), ("f", USUAL)];
 
 #[test]
 fn a_file_that_was_not_there_is_as_the_system_makes_it(rt: HostRuntime) -> Result<(), Fail> {
     let alloc = rt.alloc();
     let mut desk = desk(alloc)?;
-    let answer = write_to(alloc, &mut desk, "f", &options(true, true, CopyMode::No))?;
-    assert!(rt; answer == Ok(4));
-    assert!(rt; has_modes(&desk.folder, &[("f.vsnew", USUAL), ("f", USUAL)]));
+    assert!(rt; gives_modes(alloc, &mut desk, CopyMode::No, &MADE)?);
     Ok(())
 }
+
+const FILED: [(&str, u32); 4] = [
+    ("f", OLD_MODE),
+    (".f.un~.vsnew", PRIVATE),
+    (".f.un~.vsnew", OLD_MODE),
+    (".f.un~", OLD_MODE),
+];
 
 #[test]
 fn an_undo_file_has_the_mode_of_its_text_file(rt: HostRuntime) -> Result<(), Fail> {
     let alloc = rt.alloc();
     let mut folder = desk_over(alloc)?.folder;
-    let Ok(names) = Names::of(alloc, "f") else {
-        return Err(Fail::new("the name is not allowed"));
-    };
+    let names = names_of(alloc, "f")?;
     assert!(rt; store(&mut folder, &names, NEW).is_ok());
-    let expected = [
-        ("f", OLD_MODE),
-        (".f.un~.vsnew", PRIVATE),
-        (".f.un~.vsnew", OLD_MODE),
-        (".f.un~", OLD_MODE),
-    ];
-    assert!(rt; has_modes(&folder, &expected));
+    assert!(rt; has_modes(&folder, &FILED));
     Ok(())
 }

@@ -1,9 +1,9 @@
 // The names of backups.
-ghost use Rattle.std.specs.Prelude.{◌≤◌, IfOk};
+ghost use Rattle.std.specs.Prelude.{◌<◌, ◌≤◌, IfOk};
 ghost use Rattle.vs_edit.specs.Texts.{AreSound};
 
 use crate::desk::TextDesk;
-use crate::fixture::{KEEPS, NEW, OLD, PREFIXES, always, desk_with, options, write_to};
+use crate::fixture::{KEEPS, NEW, OLD, PREFIXES, always, are_always, desk_with, options, write_to};
 use std::alloc::Global;
 use std::process::Abort;
 use std::test::Fail;
@@ -29,15 +29,26 @@ fn desk_with_taken(alloc: Global, taken: usize) -> Result<TextDesk<MemHost>, Fai
     desk_with(alloc, &files)
 }
 
+// Whether the image of this choice has under these names what they had.
+fn keeps_theirs(
+    alloc: Global,
+    host: &MemHost,
+    choice: &Choice,
+    taken: &[&str],
+) -> Result<bool, Fail> {
+    let image = host.image(alloc, choice, Vec::new(alloc))?;
+    Ok(
+        taken
+            .iter()
+            .all(|name| image.file(name) == Some(b"old".as_slice())),
+    )
+}
+
 // Whether each image has under these names what they had.
 fn keep_theirs(alloc: Global, host: &MemHost, taken: &[&str]) -> Result<bool, Fail> {
     for names in PREFIXES {
         for keep in KEEPS {
-            let image = host.image(alloc, &Choice { names, keep }, Vec::new(alloc))?;
-            if !taken
-                .iter()
-                .all(|name| image.file(name) == Some(b"old".as_slice()))
-            {
+            if !keeps_theirs(alloc, host, &Choice { names, keep }, taken)? {
                 return Ok(false);
             }
         }
@@ -45,34 +56,42 @@ fn keep_theirs(alloc: Global, host: &MemHost, taken: &[&str]) -> Result<bool, Fa
     Ok(true)
 }
 
+// Whether the file is renamed to the first name that is free, where so many are taken, and all others keep theirs.
+fn takes_first_free(alloc: Global, taken: usize) -> Result<bool, Fail>
+    requires { taken < 27 }
+{
+    let mut desk = desk_with_taken(alloc, taken)?;
+    desk.folder.stop_after(taken as u64 + 5);
+    let _ = write_to(alloc, &mut desk, "1", &options(false, true, CopyMode::No))?;
+    let host = &desk.folder;
+    let moved = host.file("1").is_none() && host.file(BACKUPS[taken]) == Some(OLD);
+    Ok(moved && keep_theirs(alloc, host, &BACKUPS[..taken])?)
+}
+
 // The file is looked for, then each name up to the first free one; two syncs, and the file is renamed.
 #[test]
 fn the_first_free_name_is_that_of_the_backup(rt: HostRuntime) -> Result<(), Fail> {
     let alloc = rt.alloc();
     for taken in 0..27 {
-        let mut desk = desk_with_taken(alloc, taken)?;
-        desk.folder.stop_after(taken as u64 + 5);
-        let _ = write_to(alloc, &mut desk, "1", &options(false, true, CopyMode::No))?;
-        assert!(rt; desk.folder.file("1").is_none());
-        assert!(rt;
-            desk.folder.file(BACKUPS[taken]) == Some(OLD),
-            "{taken} are taken"
-        );
-        assert!(rt; keep_theirs(alloc, &desk.folder, &BACKUPS[..taken])?);
+        assert!(rt; takes_first_free(alloc, taken)?, "{taken} are taken");
     }
     Ok(())
+}
+
+// Whether a write is refused after it looked at the file and all names, and leaves all as it was.
+fn finds_no_name(alloc: Global, copy: CopyMode) -> Result<bool, Fail> {
+    let mut desk = desk_with_taken(alloc, 27)?;
+    let answer = write_to(alloc, &mut desk, "1", &options(false, true, copy))?;
+    let host = &desk.folder;
+    let stands = always(alloc, host, "1", &[OLD])? && keep_theirs(alloc, host, &BACKUPS)?;
+    Ok(answer == Err(WriteErr::NoBackupName) && host.calls() == 28 && stands)
 }
 
 #[test]
 fn no_file_is_written_where_no_name_is_free(rt: HostRuntime) -> Result<(), Fail> {
     let alloc = rt.alloc();
     for copy in [CopyMode::Yes, CopyMode::No] {
-        let mut desk = desk_with_taken(alloc, 27)?;
-        let answer = write_to(alloc, &mut desk, "1", &options(false, true, copy))?;
-        assert!(rt; answer == Err(WriteErr::NoBackupName));
-        assert_eq!(rt; desk.folder.calls(), 28);
-        assert!(rt; always(alloc, &desk.folder, "1", &[OLD])?);
-        assert!(rt; keep_theirs(alloc, &desk.folder, &BACKUPS)?);
+        assert!(rt; finds_no_name(alloc, copy)?);
     }
     Ok(())
 }
@@ -83,10 +102,24 @@ fn a_backup_that_is_kept_replaces_the_older_one(rt: HostRuntime) -> Result<(), F
     let mut desk = desk_with_taken(alloc, 27)?;
     let answer = write_to(alloc, &mut desk, "1", &options(true, true, CopyMode::No))?;
     assert!(rt; answer == Ok(4));
-    assert!(rt; always(alloc, &desk.folder, "1", &[NEW])?);
-    assert!(rt; always(alloc, &desk.folder, "1~", &[OLD])?);
+    assert!(rt; are_always(alloc, &desk.folder, &[("1", NEW), ("1~", OLD)])?);
     assert!(rt; keep_theirs(alloc, &desk.folder, &BACKUPS[1..])?);
     Ok(())
+}
+
+// Whether the file is renamed to this backup after so many calls, where the name for a backup is taken.
+fn is_backup(
+    alloc: Global,
+    name: &str,
+    taken: &str,
+    backup: &str,
+    calls: u64,
+) -> Result<bool, Fail> {
+    let mut desk = desk_with(alloc, &[(name, OLD), (taken, b"old")])?;
+    desk.folder.stop_after(calls);
+    let _ = write_to(alloc, &mut desk, name, &options(false, true, CopyMode::No))?;
+    let host = &desk.folder;
+    Ok(host.file(backup) == Some(OLD) && host.file(taken) == Some(b"old".as_slice()))
 }
 
 // The letter stands in the place of the last byte of the name.
@@ -98,14 +131,7 @@ fn the_letter_goes_into_the_name(rt: HostRuntime) -> Result<(), Fail> {
         (".rc", ".rc~", ".rz~", 6),
         ("z", "z~", "y~", 7),
     ] {
-        let mut desk = desk_with(alloc, &[(name, OLD), (taken, b"old")])?;
-        desk.folder.stop_after(calls);
-        let _ = write_to(alloc, &mut desk, name, &options(false, true, CopyMode::No))?;
-        assert!(rt; desk.folder.file(backup) == Some(OLD), "{backup}");
-        assert!(rt;
-            desk.folder.file(taken) == Some(b"old".as_slice()),
-            "{taken}"
-        );
+        assert!(rt; is_backup(alloc, name, taken, backup, calls)?, "{backup}");
     }
     Ok(())
 }

@@ -1,3 +1,4 @@
+use crate::damage::overwrite;
 use std::alloc::{AllocError, Global};
 use std::process::Abort;
 use std::test::Fail;
@@ -5,7 +6,7 @@ use vs_data::*;
 
 // One more line, where what `insert` requires holds.
 fn put(rt: &impl Abort, view: &mut DataView, block: &mut [u8], at: u32, line: &[u8]) {
-    assert_eq!(rt; DataView::read(block), Ok(*view));
+    assert!(rt; DataView::read(block) == Ok(*view));
     assert!(rt; view.text_end <= 1 << 31);
     assert!(rt; at <= view.count);
     assert!(rt; view.fits(line.len()));
@@ -22,8 +23,8 @@ fn put_all(
     more: DataView,
     lines: &[u8],
 ) {
-    assert_eq!(rt; DataView::read(block), Ok(*view));
-    assert_eq!(rt; DataView::read(lines), Ok(more));
+    assert!(rt; DataView::read(block) == Ok(*view));
+    assert!(rt; DataView::read(lines) == Ok(more));
     assert!(rt; view.text_end <= 1 << 31);
     assert!(rt; at <= view.count);
     assert!(rt; more.text_start <= more.text_end);
@@ -34,7 +35,7 @@ fn put_all(
 }
 
 fn take_out(rt: &impl Abort, view: &mut DataView, block: &mut [u8], at: u32) {
-    assert_eq!(rt; DataView::read(block), Ok(*view));
+    assert!(rt; DataView::read(block) == Ok(*view));
     assert!(rt; view.text_end <= 1 << 31);
     assert!(rt; at < view.count);
     view.remove(block, at);
@@ -47,19 +48,19 @@ fn split(
     from: u32,
     other: &mut [u8],
 ) -> DataView {
-    assert_eq!(rt; DataView::read(block), Ok(*view));
+    assert!(rt; DataView::read(block) == Ok(*view));
     assert!(rt; from <= view.count);
-    assert_eq!(rt; block.len(), 4096);
-    assert_eq!(rt; other.len(), 4096);
+    assert!(rt; block.len() == 4096);
+    assert!(rt; other.len() == 4096);
     view.split_into(block, from, other)
 }
 
 fn lines_are(rt: &impl Abort, view: &DataView, block: &[u8], lines: &[&[u8]]) {
-    assert_eq!(rt; DataView::read(block), Ok(*view));
-    assert_eq!(rt; view.count as usize, lines.len());
+    assert!(rt; DataView::read(block) == Ok(*view));
+    assert!(rt; view.count as usize == lines.len());
     for at in 0..view.count {
-        assert!(rt; (at as usize) < lines.len());
-        assert_eq!(rt; view.line(block, at), lines[at as usize], "line {at}");
+        let line = view.line(block, at);
+        assert!(rt; lines.get(at as usize) == Some(&line), "line {at}");
     }
 }
 
@@ -173,6 +174,28 @@ fn splits_at_each_line(rt: HostRuntime) -> Result<(), Fail> {
     Ok(())
 }
 
+// A block of two lines in which these bytes stand at the place.
+fn spoilt(
+    rt: &impl Abort,
+    alloc: Global,
+    place: usize,
+    bytes: &[u8],
+) -> Result<Vec<u8>, AllocError> {
+    let (mut block, _) = page(rt, alloc, &[b"ab", b"c"])?;
+    overwrite(rt, block.as_mut_slice(), place, bytes);
+    Ok(block)
+}
+
+// Whether the block is refused, and its bounds are unless the index is at fault.
+fn is_refused(block: &[u8], refusal: DataErr) -> bool {
+    let bounds = DataView::bounds(block);
+    let bounds_agree = match refusal {
+        DataErr::BadIndex(_) => bounds.is_ok(),
+        _ => bounds == Err(refusal),
+    };
+    bounds_agree && DataView::read(block) == Err(refusal)
+}
+
 #[test]
 fn refuses_hostile_blocks(rt: HostRuntime) -> Result<(), Fail> {
     let cases: [(&str, usize, &[u8], DataErr); 17] = [
@@ -250,17 +273,10 @@ fn refuses_hostile_blocks(rt: HostRuntime) -> Result<(), Fail> {
         ),
     ];
     for (name, place, bytes, refusal) in cases {
-        let (mut block, _) = page(&rt, rt.alloc(), &[b"ab", b"c"])?;
-        assert!(rt; place < block.len() && bytes.len() <= block.len() - place);
-        block[place..place + bytes.len()].copy_from_slice(bytes);
-        assert_eq!(rt; DataView::read(block.as_slice()), Err(refusal), "{name}");
-        let bounds = DataView::bounds(block.as_slice());
-        match refusal {
-            DataErr::BadIndex(_) => assert!(rt; bounds.is_ok(), "{name}"),
-            _ => assert_eq!(rt; bounds, Err(refusal), "{name}"),
-        }
+        let block = spoilt(&rt, rt.alloc(), place, bytes)?;
+        assert!(rt; is_refused(block.as_slice(), refusal), "{name}");
     }
-    assert_eq!(rt; DataView::read(b"ad"), Err(DataErr::BadId));
+    assert!(rt; DataView::read(b"ad") == Err(DataErr::BadId));
     Ok(())
 }
 
@@ -270,8 +286,8 @@ fn passes_over_mark_bits(rt: HostRuntime) -> Result<(), Fail> {
     assert!(rt; block.len() > 27);
     block[27] = 0x80;
     lines_are(&rt, &view, block.as_slice(), &[b"ab", b"c"]);
-    assert_eq!(rt; DataView::bounds(block.as_slice()), Ok(view));
+    assert!(rt; DataView::bounds(block.as_slice()) == Ok(view));
     assert!(rt; 0 < view.count);
-    assert_eq!(rt; view.start(block.as_slice(), 0), 4093);
+    assert!(rt; view.start(block.as_slice(), 0) == 4093);
     Ok(())
 }

@@ -1,6 +1,8 @@
 ghost use Rattle.std.specs.Prelude.{◌≡◌, Ok, length};
 ghost use Rattle.vs_ptr.specs.Blocks.{view_in};
 
+use crate::damage::overwrite;
+use std::process::Abort;
 use vs_ptr::*;
 
 /// The counts of a header.
@@ -22,13 +24,13 @@ fn one_page(block: i64, lines: i64) -> PtrEntry {
 fn fresh_blocks_allow_what_fits(rt: HostRuntime) {
     let mut page = [0xee_u8; 4096];
     let view = PtrView::fresh(&mut page);
-    assert_eq!(rt; view, counts(0, 127));
-    assert_eq!(rt; PtrView::read(&page), Ok(view));
+    assert!(rt; view == counts(0, 127));
+    assert!(rt; PtrView::read(&page) == Ok(view));
 
     let mut smallest = [0xee_u8; 1048];
     let view = PtrView::fresh(&mut smallest);
-    assert_eq!(rt; view, counts(0, 32));
-    assert_eq!(rt; PtrView::read(&smallest), Ok(view));
+    assert!(rt; view == counts(0, 32));
+    assert!(rt; PtrView::read(&smallest) == Ok(view));
 }
 
 /// The bytes are written by hand from the tables of docs/FORMATS.md, "Pointer blocks"; the first row is its worked case.
@@ -62,11 +64,17 @@ fn entries_stand_as_the_table_says(rt: HostRuntime) {
         let mut block = [0xee_u8; 1048];
         let mut view = PtrView::fresh(&mut block);
         view.insert(&mut block, 0, &entry);
-        for (at, byte) in written.iter().enumerate() {
-            assert_eq!(rt; block.get(at), Some(byte), "byte {at}");
-        }
-        assert_eq!(rt; view.entry(&block, 0), entry);
+        assert!(rt; block.starts_with(&written));
+        assert!(rt; view.entry(&block, 0) == entry);
     }
+}
+
+/// What so many bytes that begin with this header, and are else 0, are read as.
+fn reading(rt: &impl Abort, header: &[u8], len: usize) -> Result<PtrView, PtrErr> {
+    let mut block = [0u8; 4096];
+    overwrite(rt, &mut block, 0, header);
+    assert!(rt; len <= 4096);
+    PtrView::read(&block[..len])
 }
 
 #[test]
@@ -119,10 +127,7 @@ fn hostile_blocks_are_refused_by_name(rt: HostRuntime) {
         ),
     ];
     for (name, header, len, answer) in rows {
-        let mut block = [0u8; 4096];
-        block[..8].copy_from_slice(&header);
-        assert!(rt; len <= 4096);
-        assert_eq!(rt; PtrView::read(&block[..len]), answer, "{name}");
+        assert!(rt; reading(&rt, &header, len) == answer, "{name}");
     }
 }
 
@@ -134,14 +139,14 @@ fn hostile_numbers_are_read_as_they_stand(rt: HostRuntime) {
         \xfe\xff\xff\xff\xff\xff\xff\xff\
         \xfd\xff\xff\xff\xee\xee\xee\xee";
     let view = PtrView::read(&block).expect(&rt, "a block of one entry");
-    assert_eq!(rt; view.count, 1);
+    assert!(rt; view.count == 1);
     let entry = PtrEntry {
         block: -1,
         lines: -9_223_372_036_854_775_808,
         old: -2,
         pages: -3,
     };
-    assert_eq!(rt; view.entry(&block, 0), entry);
+    assert!(rt; view.entry(&block, 0) == entry);
 }
 
 /// Makes `block` a pointer block with the entries of the blocks 2, 3 and 4, in this order.
@@ -161,10 +166,10 @@ fn fill(block: &mut [u8]) -> PtrView
 fn entries_stand_where_they_were_inserted(rt: HostRuntime) {
     let mut block = [0u8; 1048];
     let view = fill(&mut block);
-    assert_eq!(rt; PtrView::read(&block), Ok(counts(3, 32)));
-    assert_eq!(rt; view.entry(&block, 0), one_page(2, 10));
-    assert_eq!(rt; view.entry(&block, 1), one_page(3, 20));
-    assert_eq!(rt; view.entry(&block, 2), one_page(4, 30));
+    assert!(rt; PtrView::read(&block) == Ok(counts(3, 32)));
+    assert!(rt; view.entry(&block, 0) == one_page(2, 10));
+    assert!(rt; view.entry(&block, 1) == one_page(3, 20));
+    assert!(rt; view.entry(&block, 2) == one_page(4, 30));
 }
 
 #[test]
@@ -172,9 +177,9 @@ fn entries_close_up_after_a_removal(rt: HostRuntime) {
     let mut block = [0u8; 1048];
     let mut view = fill(&mut block);
     view.remove(&mut block, 1);
-    assert_eq!(rt; PtrView::read(&block), Ok(counts(2, 32)));
-    assert_eq!(rt; view.entry(&block, 0), one_page(2, 10));
-    assert_eq!(rt; view.entry(&block, 1), one_page(4, 30));
+    assert!(rt; PtrView::read(&block) == Ok(counts(2, 32)));
+    assert!(rt; view.entry(&block, 0) == one_page(2, 10));
+    assert!(rt; view.entry(&block, 1) == one_page(4, 30));
 }
 
 #[test]
@@ -182,11 +187,11 @@ fn lines_are_added_to_one_entry(rt: HostRuntime) {
     let mut block = [0u8; 1048];
     let mut view = fill(&mut block);
     let entry = view.entry(&block, 1);
-    assert_eq!(rt; entry.lines, 20);
+    assert!(rt; entry.lines == 20);
     view.add_lines(&mut block, 1, -25);
-    assert_eq!(rt; view.entry(&block, 0), one_page(2, 10));
-    assert_eq!(rt; view.entry(&block, 1), one_page(3, -5));
-    assert_eq!(rt; view.entry(&block, 2), one_page(4, 30));
+    assert!(rt; view.entry(&block, 0) == one_page(2, 10));
+    assert!(rt; view.entry(&block, 1) == one_page(3, -5));
+    assert!(rt; view.entry(&block, 2) == one_page(4, 30));
 }
 
 #[test]
@@ -195,9 +200,9 @@ fn a_split_moves_the_later_entries(rt: HostRuntime) {
     let mut other = [0xee_u8; 1048];
     let mut view = fill(&mut block);
     let moved = view.split_into(&mut block, 1, &mut other);
-    assert_eq!(rt; PtrView::read(&block), Ok(counts(1, 32)));
-    assert_eq!(rt; PtrView::read(&other), Ok(counts(2, 32)));
-    assert_eq!(rt; view.entry(&block, 0), one_page(2, 10));
-    assert_eq!(rt; moved.entry(&other, 0), one_page(3, 20));
-    assert_eq!(rt; moved.entry(&other, 1), one_page(4, 30));
+    assert!(rt; PtrView::read(&block) == Ok(counts(1, 32)));
+    assert!(rt; PtrView::read(&other) == Ok(counts(2, 32)));
+    assert!(rt; view.entry(&block, 0) == one_page(2, 10));
+    assert!(rt; moved.entry(&other, 0) == one_page(3, 20));
+    assert!(rt; moved.entry(&other, 1) == one_page(4, 30));
 }

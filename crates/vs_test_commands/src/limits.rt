@@ -47,7 +47,10 @@ fn lines_grow_to_their_limit(rt: HostRuntime) -> Result<(), Fail> {
         (&[1_048_576], b"s/\\Vx/xx/g", Err(ExErr::E486)),
     ];
     for (lengths, line, want) in rows {
-        assert_eq!(rt; outcome(&rt, rt.alloc(), lengths, line)?, *want, "{line:?}");
+        assert!(rt;
+            outcome(&rt, rt.alloc(), lengths, line)? == *want,
+            "{line:?}"
+        );
     }
     Ok(())
 }
@@ -68,28 +71,13 @@ fn appended(alloc: Global, block: &Block, line: u32) -> Result<Outcome, StoreErr
 #[test]
 fn blocks_that_are_too_large_are_refused(rt: HostRuntime) -> Result<(), Fail> {
     let alloc = rt.alloc();
-    assert_eq!(rt;
-        appended(alloc, &Block::TooLong, 1),
-        Ok(Err(ExErr::LineTooLong))
-    );
-    assert_eq!(rt; appended(alloc, &Block::TooLong, 2), Ok(Err(ExErr::E16)));
-    assert_eq!(rt;
-        appended(alloc, &Block::TooMany, 1),
-        Ok(Err(ExErr::TextFull))
-    );
-    assert_eq!(rt;
-        appended(alloc, &Block::NoMemory, 1),
-        Err(StoreErr::NoMemory)
-    );
-    assert_eq!(rt;
-        appended(alloc, &Block::Lines(Vec::new(alloc)), 1),
-        Ok(Ok(None))
-    );
+    assert!(rt; appended(alloc, &Block::TooLong, 1) == Ok(Err(ExErr::LineTooLong)));
+    assert!(rt; appended(alloc, &Block::TooLong, 2) == Ok(Err(ExErr::E16)));
+    assert!(rt; appended(alloc, &Block::TooMany, 1) == Ok(Err(ExErr::TextFull)));
+    assert!(rt; appended(alloc, &Block::NoMemory, 1) == Err(StoreErr::NoMemory));
+    assert!(rt; appended(alloc, &Block::Lines(Vec::new(alloc)), 1) == Ok(Ok(None)));
     let mut lines = Vec::new(alloc);
     lines.push(line_of(alloc, 9, 1_048_577)?)?;
-    assert_eq!(rt;
-        appended(alloc, &Block::Lines(lines), 1),
-        Ok(Err(ExErr::LineTooLong))
-    );
+    assert!(rt; appended(alloc, &Block::Lines(lines), 1) == Ok(Err(ExErr::LineTooLong)));
     Ok(())
 }

@@ -305,25 +305,19 @@ fn lines_of_the_greatest_length(rt: HostRuntime) -> Result<(), Fail> {
     let alloc = rt.alloc();
     let most = 1_048_576;
     let line = filled(alloc, b"", b'+', most)?;
-    assert_eq!(rt;
-        parse(&line),
-        printed(Range::One(address!(Base::Current, 1_048_576)))
-    );
+    assert!(rt; parse(&line) == printed(Range::One(address!(Base::Current, 1_048_576))));
     let line = filled(alloc, b"", b'9', most)?;
-    assert_eq!(rt;
-        parse(&line),
-        printed(Range::One(address!(Base::Number(2_147_483_647), 0)))
-    );
+    assert!(rt; parse(&line) == printed(Range::One(address!(Base::Number(2_147_483_647), 0))));
     let line = filled(alloc, b"s/\\V", b'\\', most)?;
     let pattern = filled(alloc, b"", b'\\', most - 4)?;
-    assert_eq!(rt; parse(&line), substitution(&pattern, b""));
+    assert!(rt; parse(&line) == substitution(&pattern, b""));
     let line = filled(alloc, b"s/\\Va/", b'&', most)?;
     let replacement = filled(alloc, b"", b'&', most - 6)?;
-    assert_eq!(rt; parse(&line), substitution(b"a", &replacement));
+    assert!(rt; parse(&line) == substitution(b"a", &replacement));
     let line = filled(alloc, b"", b'x', most)?;
-    assert_eq!(rt; parse(&line).err(), Some(ExErr::E492));
+    assert!(rt; parse(&line).err() == Some(ExErr::E492));
     let line = filled(alloc, b"p", b' ', most)?;
-    assert_eq!(rt; parse(&line), printed(Range::Absent));
+    assert!(rt; parse(&line) == printed(Range::Absent));
     Ok(())
 }
 
@@ -332,29 +326,29 @@ fn longer_lines(rt: HostRuntime) -> Result<(), Fail> {
     let alloc = rt.alloc();
     let more = 1_048_577;
     let line = filled(alloc, b"", b'+', more)?;
-    assert_eq!(rt; parse(&line).err(), Some(ExErr::LineTooLong));
+    assert!(rt; parse(&line).err() == Some(ExErr::LineTooLong));
     let line = filled(alloc, b"2nosuch! ", b'x', more)?;
-    assert_eq!(rt; parse(&line).err(), Some(ExErr::LineTooLong));
+    assert!(rt; parse(&line).err() == Some(ExErr::LineTooLong));
     let line = filled(alloc, b" \"", b'x', more)?;
-    assert_eq!(rt; is_nothing(&line), true);
+    assert!(rt; is_nothing(&line));
     let line = filled(alloc, b"", b':', more)?;
-    assert_eq!(rt; is_nothing(&line), true);
+    assert!(rt; is_nothing(&line));
     let line = print_after_colons(alloc, more)?;
-    assert_eq!(rt; is_nothing(&line), true);
+    assert!(rt; is_nothing(&line));
     let line = print_after_colons(alloc, more - 1)?;
-    assert_eq!(rt; parse(&line).err(), Some(ExErr::LineTooLong));
+    assert!(rt; parse(&line).err() == Some(ExErr::LineTooLong));
     Ok(())
 }
 
 #[test]
 fn names_match_one_row(rt: HostRuntime) -> Result<(), Fail> {
-    assert_eq!(rt; NAMES.no_clash(), true);
-    assert_eq!(rt; NAMES.find(b"undol"), Some(16));
-    assert_eq!(rt; NAMES.find(b"rundo"), Some(22));
-    assert_eq!(rt; NAMES.find(b""), None);
+    assert!(rt; NAMES.no_clash());
+    assert!(rt; NAMES.find(b"undol") == Some(16));
+    assert!(rt; NAMES.find(b"rundo") == Some(22));
+    assert!(rt; NAMES.find(b"").is_none());
     let mut clashing = NAMES;
     clashing.shortest[16] = 4;
-    assert_eq!(rt; clashing.no_clash(), false);
+    assert!(rt; !clashing.no_clash());
     Ok(())
 }
 

@@ -53,7 +53,7 @@ fn commands_of_the_text_have_their_place(rt: HostRuntime) -> Result<(), Fail> {
             lines: Span { first, last },
             to,
         });
-        assert_eq!(rt; place_of(&command, lines, cursor), want);
+        assert!(rt; place_of(&command, lines, cursor) == want);
     }
     Ok(())
 }
@@ -67,25 +67,16 @@ fn at(line: u32) -> Range {
 
 #[test]
 fn commands_that_print_have_their_lines(rt: HostRuntime) -> Result<(), Fail> {
-    assert_eq!(rt;
-        shown(Range::Absent, None, 6, 5),
-        Ok(Span { first: 5, last: 5 })
-    );
-    assert_eq!(rt;
-        shown(Range::Absent, Some(3), 6, 5),
-        Ok(Span { first: 5, last: 6 })
-    );
-    assert_eq!(rt;
-        shown(Range::All, None, 6, 1),
-        Ok(Span { first: 1, last: 6 })
-    );
-    assert_eq!(rt; shown(at(0), None, 6, 5), Ok(Span { first: 1, last: 1 }));
-    assert_eq!(rt; shown(Range::All, None, 0, 0), Err(ExErr::E16));
-    assert_eq!(rt; number_shown(Range::Absent, 6, 2), Ok(6));
-    assert_eq!(rt; number_shown(at(2), 6, 5), Ok(2));
-    assert_eq!(rt; number_shown(at(0), 6, 5), Ok(0));
-    assert_eq!(rt; number_shown(Range::Absent, 0, 0), Ok(0));
-    assert_eq!(rt; number_shown(Range::All, 0, 0), Ok(0));
-    assert_eq!(rt; number_shown(at(1), 0, 0), Err(ExErr::E16));
+    assert!(rt; shown(Range::Absent, None, 6, 5) == Ok(Span { first: 5, last: 5 }));
+    assert!(rt; shown(Range::Absent, Some(3), 6, 5) == Ok(Span { first: 5, last: 6 }));
+    assert!(rt; shown(Range::All, None, 6, 1) == Ok(Span { first: 1, last: 6 }));
+    assert!(rt; shown(at(0), None, 6, 5) == Ok(Span { first: 1, last: 1 }));
+    assert!(rt; shown(Range::All, None, 0, 0) == Err(ExErr::E16));
+    assert!(rt; number_shown(Range::Absent, 6, 2) == Ok(6));
+    assert!(rt; number_shown(at(2), 6, 5) == Ok(2));
+    assert!(rt; number_shown(at(0), 6, 5) == Ok(0));
+    assert!(rt; number_shown(Range::Absent, 0, 0) == Ok(0));
+    assert!(rt; number_shown(Range::All, 0, 0) == Ok(0));
+    assert!(rt; number_shown(at(1), 0, 0) == Err(ExErr::E16));
     Ok(())
 }

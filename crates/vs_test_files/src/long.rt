@@ -24,10 +24,10 @@ fn long_text(alloc: Global) -> Result<Vec<u8>, Fail> {
     Ok(text)
 }
 
-// A number with its lowest byte first.
-fn number(page: &[u8], from: usize, to: usize) -> Option<usize> {
+// The number of so many bytes at a place, with its lowest byte first.
+fn number(page: &[u8], at: usize, size: usize) -> Option<usize> {
     let mut value: u64 = 0;
-    for byte in page.get(from..to)?.iter().rev() {
+    for byte in page.get(at..at.saturating_add(size))?.iter().rev() {
         value = value.wrapping_mul(256).wrapping_add(u64::from(*byte));
     }
     Some(value as usize)
@@ -42,12 +42,26 @@ struct Entry {
 }
 
 fn entry_at(page: &[u8], index: usize) -> Option<Entry> {
-    let at = index.checked_mul(32)?.checked_add(8)?;
+    let at = index.saturating_mul(32);
     Some(Entry {
-        block: number(page, at, at.checked_add(8)?)?,
-        lines: number(page, at.checked_add(8)?, at.checked_add(16)?)?,
-        pages: number(page, at.checked_add(24)?, at.checked_add(28)?)?,
+        block: number(page, at.saturating_add(8), 8)?,
+        lines: number(page, at.saturating_add(16), 8)?,
+        pages: number(page, at.saturating_add(32), 4)?,
     })
+}
+
+// A line of the text, without its newline.
+fn line_at(text: &[u8], line: usize) -> Option<&[u8]> {
+    let at = line.saturating_mul(LINE_SIZE);
+    text.get(at..at.saturating_add(LINE_SIZE - 1))
+}
+
+// Whether a data block has this line, with a zero byte after it, from one place to another.
+fn has_line(page: &[u8], start: usize, end: usize, line: &[u8]) -> bool {
+    match page.get(start..end) {
+        Some(stored) => stored.strip_suffix(b"\0".as_slice()) == Some(line),
+        None => false,
+    }
 }
 
 // The line after those of a data block whose first line is this one, where each is that of the text.
@@ -55,25 +69,24 @@ fn after_data(page: &[u8], text: &[u8], first: usize) -> Option<usize> {
     if !page.starts_with(b"ad") {
         return None;
     }
-    let mut end = number(page, 12, 16)?;
-    let count = number(page, 16, 24)?;
-    for index in 0..count {
-        let at = index.checked_mul(4)?.checked_add(24)?;
-        let start = number(page, at, at.checked_add(4)?)?;
-        let line = first.checked_add(index)?.checked_mul(LINE_SIZE)?;
-        let (zero, stored) = page.get(start..end)?.split_last()?;
-        if *zero != 0 || stored != text.get(line..line.checked_add(LINE_SIZE - 1)?)? {
+    let mut end = number(page, 12, 4)?;
+    let after = first.checked_add(number(page, 16, 8)?)?;
+    let mut place: usize = 24;
+    for index in first..after {
+        let start = number(page, place, 4)?;
+        if !has_line(page, start, end, line_at(text, index)?) {
             return None;
         }
         end = start;
+        place = place.saturating_add(4);
     }
-    first.checked_add(count)
+    Some(after)
 }
 
 // The line after those of a pointer block whose entries lead to data blocks of one page.
 fn after_pointers(file: &[u8], block: &[u8], text: &[u8], first: usize) -> Option<usize> {
     let mut line = first;
-    for index in 0..number(block, 2, 4)? {
+    for index in 0..number(block, 2, 2)? {
         let entry = entry_at(block, index)?;
         let after = after_data(page(file, entry.block)?, text, line)?;
         if entry.pages != 1 || after != line.checked_add(entry.lines)? {
@@ -88,7 +101,7 @@ fn after_pointers(file: &[u8], block: &[u8], text: &[u8], first: usize) -> Optio
 fn lines_of(file: &[u8], text: &[u8]) -> Option<usize> {
     let root = page(file, 1)?;
     let mut line = 0;
-    for index in 0..number(root, 2, 4)? {
+    for index in 0..number(root, 2, 2)? {
         let entry = entry_at(root, index)?;
         let block = page(file, entry.block)?;
         let after = after_pointers(file, block, text, line)?;

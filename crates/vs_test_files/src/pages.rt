@@ -1,5 +1,6 @@
 // Pages of a swap file, and a run that leaves one.
 use std::alloc::Global;
+use std::ops::Range;
 use std::test::Fail;
 use vs_memory::MemHost;
 use vs_top::run;
@@ -21,15 +22,21 @@ pub const PAGE_0: [(usize, &[u8]); 11] = [
     (1040, &[0]),
 ];
 
+fn words_of(alloc: Global, words: [&str; 2]) -> Result<Vec<String>, Fail> {
+    let mut list = Vec::new(alloc);
+    for word in words {
+        list.push(String::from_str(alloc, word)?)?;
+    }
+    Ok(list)
+}
+
 /// The host after `edit f` over this file with an empty script.
 pub(crate) fn after_edit(alloc: Global, file: Option<&[u8]>) -> Result<MemHost, Fail> {
     let mut host = MemHost::new(alloc, Vec::new(alloc))?;
     if let Some(bytes) = file {
         host.put(alloc, "f", Vec::from_slice(alloc, bytes)?)?;
     }
-    let mut words = Vec::new(alloc);
-    words.push(String::from_str(alloc, "edit")?)?;
-    words.push(String::from_str(alloc, "f")?)?;
+    let words = words_of(alloc, ["edit", "f"])?;
     let report = run(alloc, words.as_slice(), &mut host);
     if report.status == 0 {
         return Ok(host);
@@ -43,6 +50,17 @@ pub(crate) fn page(file: &[u8], at: usize) -> Option<&[u8]> {
     file.get(start..start.checked_add(PAGE_SIZE)?)
 }
 
+// Whether these bytes stand at the place.
+fn has(page: &[u8], at: usize, bytes: &[u8]) -> bool {
+    page.get(at..).is_some_and(|rest| rest.starts_with(bytes))
+}
+
+// Whether each byte at these places is 0.
+fn is_unused(page: &[u8], places: Range<usize>) -> bool {
+    page.get(places)
+        .is_some_and(|bytes| bytes.iter().all(|byte| *byte == 0))
+}
+
 /// Whether a page has these bytes at these places, and zeros elsewhere.
 pub(crate) fn is_page(page: Option<&[u8]>, parts: &[(usize, &[u8])]) -> bool {
     let Some(page) = page else {
@@ -50,22 +68,10 @@ pub(crate) fn is_page(page: Option<&[u8]>, parts: &[(usize, &[u8])]) -> bool {
     };
     let mut end = 0;
     for (at, bytes) in parts {
-        let Some(gap) = page.get(end..*at) else {
-            return false;
-        };
-        if gap.iter().any(|byte| *byte != 0) {
-            return false;
-        }
-        let Some(rest) = page.get(*at..) else {
-            return false;
-        };
-        if !rest.starts_with(bytes) {
+        if !is_unused(page, end..*at) || !has(page, *at, bytes) {
             return false;
         }
         end = at.saturating_add(bytes.len());
     }
-    match page.get(end..) {
-        Some(rest) => rest.iter().all(|byte| *byte == 0),
-        None => false,
-    }
+    is_unused(page, end..page.len())
 }

@@ -5,20 +5,27 @@ use std::alloc::Global;
 use std::process::Abort;
 use std::test::Fail;
 
+fn calls_of(alloc: Global, mode: &str) -> Result<u64, Fail> {
+    let mut host = host_with(alloc, Some(open(3, &[b"a"])), Some(open(2, &[b"a"])))?;
+    let _ = answers(alloc, &mut host, [mode, "f"], 0, b"")?;
+    Ok(host.calls())
+}
+
+/// Whether a mode over two swap files ends with the status and no output where the call fails, and makes none after it.
+fn ends_with(alloc: Global, mode: &str, call: u64, status: u8) -> Result<bool, Fail> {
+    let mut host = host_with(alloc, Some(open(3, &[b"a"])), Some(open(2, &[b"a"])))?;
+    host.fail_call(alloc, call)?;
+    let ended = answers(alloc, &mut host, [mode, "f"], status, b"")?;
+    Ok(ended && host.calls() == call && others_are_left(&host))
+}
+
 /// Runs a mode over two swap files with each of its calls failing, the last of which is the write. Says how many there are.
 fn fail_each(alloc: Global, mode: &str) -> Result<u64, Fail> {
-    let mut whole = host_with(alloc, Some(open(3, &[b"a"])), Some(open(2, &[b"a"])))?;
-    let _ = answers(alloc, &mut whole, [mode, "f"], 0, b"")?;
-    let calls = whole.calls();
+    let calls = calls_of(alloc, mode)?;
     for call in 1..calls.saturating_add(1) {
-        let mut host = host_with(alloc, Some(open(3, &[b"a"])), Some(open(2, &[b"a"])))?;
-        host.fail_call(alloc, call)?;
         let status = if call == calls { 6 } else { 7 };
-        if !answers(alloc, &mut host, [mode, "f"], status, b"")? {
-            return Err(Fail::new("another status, or an output"));
-        }
-        if host.calls() != call || !others_are_left(&host) {
-            return Err(Fail::new("a call after the one that failed"));
+        if !ends_with(alloc, mode, call, status)? {
+            return Err(Fail::new("another status, an output or a call after the one that failed"));
         }
     }
     Ok(calls)

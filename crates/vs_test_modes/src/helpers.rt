@@ -29,6 +29,14 @@ pub(crate) fn host_with(
     Ok(host)
 }
 
+fn words_of(alloc: Global, words: [&str; 2]) -> Result<Vec<String>, Fail> {
+    let mut list = Vec::new(alloc);
+    for word in words {
+        list.push(String::from_str(alloc, word)?)?;
+    }
+    Ok(list)
+}
+
 /// Whether these words end with the status, and this is the whole output.
 pub(crate) fn answers(
     alloc: Global,
@@ -40,10 +48,7 @@ pub(crate) fn answers(
     requires answers { host.old.answers ≡ [] }
     requires settled { (folder_of host.old).pending ≡ [] }
 {
-    let mut list = Vec::new(alloc);
-    for word in words {
-        list.push(String::from_str(alloc, word)?)?;
-    }
+    let list = words_of(alloc, words)?;
     let report = run(alloc, list.as_slice(), host);
     Ok(report.status == status && report.marks.is_empty() && host.output() == output)
 }

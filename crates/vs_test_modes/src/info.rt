@@ -1,8 +1,20 @@
 // What `info` says of each kind of swap file.
 use crate::bytes::{Swap, open};
 use crate::helpers::{answers, host_with};
+use std::alloc::Global;
 use std::process::Abort;
 use std::test::Fail;
+
+/// Whether `info f` over these swap files says these lines.
+fn says(
+    alloc: Global,
+    swp: Option<Swap<'_>>,
+    swo: Option<Swap<'_>>,
+    lines: &[u8],
+) -> Result<bool, Fail> {
+    let mut host = host_with(alloc, swp, swo)?;
+    answers(alloc, &mut host, ["info", "f"], 0, lines)
+}
 
 #[test]
 fn both_files_of_the_text_without_lines_stand(rt: HostRuntime) -> Result<(), Fail> {
@@ -25,7 +37,6 @@ fn both_files_of_the_text_without_lines_stand(rt: HostRuntime) -> Result<(), Fai
 
 #[test]
 fn each_kind_of_file_has_its_words(rt: HostRuntime) -> Result<(), Fail> {
-    let alloc = rt.alloc();
     let encrypted = Swap {
         identifier: b"bC",
         ..open(1, &[b"a"])
@@ -34,16 +45,13 @@ fn each_kind_of_file_has_its_words(rt: HostRuntime) -> Result<(), Fail> {
         identifier: &[0, 0],
         ..open(2, &[b"a"])
     };
-    let mut host = host_with(alloc, Some(encrypted), Some(closed))?;
-    assert!(rt;
-        answers(
-            alloc,
-            &mut host,
-            ["info", "f"],
-            0,
-            b".f.swp: encrypted\n.f.swo: closed\n"
-        )?
-    );
+    let lines = b".f.swp: encrypted\n.f.swo: closed\n";
+    assert!(rt; says(rt.alloc(), Some(encrypted), Some(closed), lines)?);
+    Ok(())
+}
+
+#[test]
+fn other_page_sizes_have_their_words(rt: HostRuntime) -> Result<(), Fail> {
     let no_page_size = Swap {
         page_size: 60_000,
         ..open(1, &[b"a"])
@@ -53,45 +61,31 @@ fn each_kind_of_file_has_its_words(rt: HostRuntime) -> Result<(), Fail> {
         tag: &[],
         ..open(0, &[b"a"])
     };
-    let mut host = host_with(alloc, Some(no_page_size), Some(of_vim))?;
-    assert!(rt;
-        answers(
-            alloc,
-            &mut host,
-            ["info", "f"],
-            0,
-            b".f.swp: no swap file\n.f.swo: not standing, page size 8192\n"
-        )?
-    );
+    let lines = b".f.swp: no swap file\n.f.swo: not standing, page size 8192\n";
+    assert!(rt; says(rt.alloc(), Some(no_page_size), Some(of_vim), lines)?);
     Ok(())
 }
 
 #[test]
 fn a_root_that_names_itself_does_not_stand(rt: HostRuntime) -> Result<(), Fail> {
-    let alloc = rt.alloc();
     let own = Swap {
         block: 1,
         ..open(1, &[b"a"])
     };
-    let mut host = host_with(alloc, Some(own), None)?;
-    assert!(rt;
-        answers(
-            alloc,
-            &mut host,
-            ["info", "f"],
-            0,
-            b".f.swp: not standing, page size 4096\n"
-        )?
-    );
+    let lines = b".f.swp: not standing, page size 4096\n";
+    assert!(rt; says(rt.alloc(), Some(own), None, lines)?);
     Ok(())
+}
+
+/// Whether there is nothing to say of the swap files of a file, where this one is the other file of `f`.
+fn is_silent(alloc: Global, swo: Option<Swap<'_>>, name: &str) -> Result<bool, Fail> {
+    let mut host = host_with(alloc, None, swo)?;
+    answers(alloc, &mut host, ["info", name], 4, b"")
 }
 
 #[test]
 fn without_a_swap_file_nothing_is_said(rt: HostRuntime) -> Result<(), Fail> {
-    let alloc = rt.alloc();
-    let mut host = host_with(alloc, None, None)?;
-    assert!(rt; answers(alloc, &mut host, ["info", "f"], 4, b"")?);
-    let mut host = host_with(alloc, None, Some(open(1, &[b"a"])))?;
-    assert!(rt; answers(alloc, &mut host, ["info", "g"], 4, b"")?);
+    assert!(rt; is_silent(rt.alloc(), None, "f")?);
+    assert!(rt; is_silent(rt.alloc(), Some(open(1, &[b"a"])), "g")?);
     Ok(())
 }

@@ -83,91 +83,132 @@ fn left(
     }
 }
 
+/// A call on a folder.
+#[derive(Clone, Copy)]
+enum Call {
+    Create(&'static str),
+    Write(&'static str, u64, &'static [u8]),
+    Cut(&'static str, u64),
+    Sync(&'static str),
+    Rename(&'static str, &'static str),
+    Remove(&'static str),
+}
+
+/// Whether the call succeeded.
+fn play(host: &mut MemHost, call: Call) -> Result<bool, Fail> {
+    match call {
+        Call::Create(name) => create(host, name),
+        Call::Write(name, at, piece) => write(host, name, at, piece),
+        Call::Cut(name, len) => cut(host, name, len),
+        Call::Sync(name) => sync(host, name),
+        Call::Rename(from, to) => rename(host, from, to),
+        Call::Remove(name) => remove(host, name),
+    }
+}
+
+/// Whether each of these calls succeeded.
+fn succeed(host: &mut MemHost, calls: &[Call]) -> Result<bool, Fail> {
+    for call in calls {
+        if !play(host, *call)? {
+            return Ok(false);
+        }
+    }
+    Ok(true)
+}
+
+/// How many changes of names are kept, what is kept of a file, its name, and what the image has there; `-` where it has no file.
+type Left = (u32, Keep, &'static str, &'static [u8]);
+
+/// Whether the images have this.
+fn are_left(alloc: Global, host: &MemHost, images: &[Left]) -> Result<bool, Fail> {
+    for (names, keep, name, bytes) in images {
+        if left(host, alloc, *names, *keep, name)?.as_slice() != *bytes {
+            return Ok(false);
+        }
+    }
+    Ok(true)
+}
+
+const TORN: [Left; 3] = [
+    (0, Keep::Read, "f", b"abXY"),
+    (0, Keep::Synced, "f", b"abc"),
+    (0, Keep::Byte(b'?'), "f", b"ab??"),
+];
+
+const TORN_AND_SYNCED: [Left; 2] = [
+    (0, Keep::Synced, "f", b"abXY"),
+    (0, Keep::Byte(b'?'), "f", b"abXY"),
+];
+
 #[test]
 fn a_torn_write_has_its_old_bytes_or_any(rt: HostRuntime) -> Result<(), Fail> {
     let alloc = rt.alloc();
     let mut host = host_with(alloc, "f", b"abc")?;
     assert!(rt; write(&mut host, "f", 2, b"XY")?);
-    assert_eq!(rt;
-        left(&host, alloc, 0, Keep::Read, "f")?.as_slice(),
-        b"abXY".as_slice()
-    );
-    assert_eq!(rt;
-        left(&host, alloc, 0, Keep::Synced, "f")?.as_slice(),
-        b"abc".as_slice()
-    );
-    assert_eq!(rt;
-        left(&host, alloc, 0, Keep::Byte(b'?'), "f")?.as_slice(),
-        b"ab??".as_slice()
-    );
+    assert!(rt; are_left(alloc, &host, &TORN)?);
     assert!(rt; sync(&mut host, "f")?);
-    assert_eq!(rt;
-        left(&host, alloc, 0, Keep::Synced, "f")?.as_slice(),
-        b"abXY".as_slice()
-    );
-    assert_eq!(rt;
-        left(&host, alloc, 0, Keep::Byte(b'?'), "f")?.as_slice(),
-        b"abXY".as_slice()
-    );
+    assert!(rt; are_left(alloc, &host, &TORN_AND_SYNCED)?);
     Ok(())
 }
+
+const CUT: [Left; 3] = [
+    (0, Keep::Read, "f", b"aX"),
+    (0, Keep::Synced, "f", b"abcd"),
+    (0, Keep::Byte(b'?'), "f", b"a?"),
+];
 
 #[test]
 fn bytes_that_were_cut_come_back(rt: HostRuntime) -> Result<(), Fail> {
     let alloc = rt.alloc();
     let mut host = host_with(alloc, "f", b"abcd")?;
-    assert!(rt; cut(&mut host, "f", 1)?);
-    assert!(rt; write(&mut host, "f", 1, b"X")?);
-    assert_eq!(rt;
-        left(&host, alloc, 0, Keep::Read, "f")?.as_slice(),
-        b"aX".as_slice()
-    );
-    assert_eq!(rt;
-        left(&host, alloc, 0, Keep::Synced, "f")?.as_slice(),
-        b"abcd".as_slice()
-    );
-    assert_eq!(rt;
-        left(&host, alloc, 0, Keep::Byte(b'?'), "f")?.as_slice(),
-        b"a?".as_slice()
-    );
+    assert!(rt; succeed(&mut host, &[Call::Cut("f", 1), Call::Write("f", 1, b"X")])?);
+    assert!(rt; are_left(alloc, &host, &CUT)?);
     Ok(())
 }
+
+const REPLACE: [Call; 3] = [
+    Call::Create("new"),
+    Call::Write("new", 0, b"2"),
+    Call::Rename("new", "old"),
+];
+
+const REPLACED: [Left; 8] = [
+    (0, Keep::Read, "old", b"1"),
+    (0, Keep::Read, "new", b"-"),
+    (1, Keep::Read, "old", b"1"),
+    (1, Keep::Read, "new", b"2"),
+    (2, Keep::Read, "old", b"2"),
+    (2, Keep::Read, "new", b"-"),
+    (9, Keep::Read, "old", b"2"),
+    (9, Keep::Read, "new", b"-"),
+];
+
+const REPLACED_FOR_GOOD: [Left; 2] = [(0, Keep::Read, "old", b"2"), (0, Keep::Synced, "old", b"")];
+
+const REMOVED: [Left; 2] = [(0, Keep::Read, "old", b"2"), (1, Keep::Read, "old", b"-")];
 
 #[test]
 fn a_rename_is_kept_once_names_are_synced(rt: HostRuntime) -> Result<(), Fail> {
     let alloc = rt.alloc();
     let mut host = host_with(alloc, "old", b"1")?;
-    assert!(rt; create(&mut host, "new")?);
-    assert!(rt; write(&mut host, "new", 0, b"2")?);
-    assert!(rt; rename(&mut host, "new", "old")?);
-    for (names, old, new) in [
-        (0, b"1", b"-"),
-        (1, b"1", b"2"),
-        (2, b"2", b"-"),
-        (9, b"2", b"-"),
-    ] {
-        let under_old = left(&host, alloc, names, Keep::Read, "old")?;
-        let under_new = left(&host, alloc, names, Keep::Read, "new")?;
-        assert_eq!(rt; under_old.as_slice(), old.as_slice(), "{names} changes");
-        assert_eq!(rt; under_new.as_slice(), new.as_slice(), "{names} changes");
-    }
+    assert!(rt; succeed(&mut host, &REPLACE)?);
+    assert!(rt; are_left(alloc, &host, &REPLACED)?);
     assert!(rt; host.sync_names().is_ok());
-    assert_eq!(rt;
-        left(&host, alloc, 0, Keep::Read, "old")?.as_slice(),
-        b"2".as_slice()
-    );
-    assert_eq!(rt; left(&host, alloc, 0, Keep::Synced, "old")?.len(), 0);
+    assert!(rt; are_left(alloc, &host, &REPLACED_FOR_GOOD)?);
     assert!(rt; remove(&mut host, "old")?);
-    assert_eq!(rt;
-        left(&host, alloc, 0, Keep::Read, "old")?.as_slice(),
-        b"2".as_slice()
-    );
-    assert_eq!(rt;
-        left(&host, alloc, 1, Keep::Read, "old")?.as_slice(),
-        b"-".as_slice()
-    );
+    assert!(rt; are_left(alloc, &host, &REMOVED)?);
     Ok(())
 }
+
+// The first call is planned to fail, and all after the second.
+const PLANNED: [(Call, bool); 4] = [
+    (Call::Write("f", 0, b"X"), false),
+    (Call::Write("f", 1, b"Y"), true),
+    (Call::Write("f", 2, b"Z"), false),
+    (Call::Sync("f"), false),
+];
+
+const AS_PLANNED: [Left; 2] = [(0, Keep::Read, "f", b"aYc"), (0, Keep::Synced, "f", b"abc")];
 
 #[test]
 fn planned_calls_fail_and_change_nothing(rt: HostRuntime) -> Result<(), Fail> {
@@ -175,22 +216,11 @@ fn planned_calls_fail_and_change_nothing(rt: HostRuntime) -> Result<(), Fail> {
     let mut host = host_with(alloc, "f", b"abc")?;
     host.fail_call(alloc, 1)?;
     host.stop_after(2);
-    assert!(rt; !write(&mut host, "f", 0, b"X")?);
-    assert!(rt; write(&mut host, "f", 1, b"Y")?);
-    assert!(rt; !write(&mut host, "f", 2, b"Z")?);
-    assert!(rt; !sync(&mut host, "f")?);
-    assert_eq!(rt;
-        (host.calls(), host.writes("f"), host.writes("g")),
-        (4, 3, 0)
-    );
-    assert_eq!(rt;
-        left(&host, alloc, 0, Keep::Read, "f")?.as_slice(),
-        b"aYc".as_slice()
-    );
-    assert_eq!(rt;
-        left(&host, alloc, 0, Keep::Synced, "f")?.as_slice(),
-        b"abc".as_slice()
-    );
+    for (call, succeeds) in PLANNED {
+        assert!(rt; play(&mut host, call)? == succeeds);
+    }
+    assert!(rt; host.calls() == 4 && host.writes("f") == 3 && host.writes("g") == 0);
+    assert!(rt; are_left(alloc, &host, &AS_PLANNED)?);
     Ok(())
 }
 
@@ -200,15 +230,15 @@ fn script_output_and_clock_are_played(rt: HostRuntime) -> Result<(), Fail> {
     let mut host = MemHost::new(alloc, Vec::from_slice(alloc, b"q\n")?)?;
     host.put(alloc, "f", Vec::from_slice(alloc, b"abc")?)?;
     host.set_clock(5);
-    assert_eq!(rt; host.now(), 5);
+    assert!(rt; host.now() == 5);
     let mut into = [0; 2];
-    assert_eq!(rt; host.read(&mut into)?, 2);
-    assert_eq!(rt; &into, b"q\n");
+    assert!(rt; host.read(&mut into)? == 2);
+    assert!(rt; &into == b"q\n");
     assert!(rt; host.write(b"reply\n").is_ok());
-    assert_eq!(rt; host.output(), b"reply\n".as_slice());
+    assert!(rt; host.output() == b"reply\n".as_slice());
     assert!(rt; host.has("f")? && !host.has("g")?);
-    assert_eq!(rt; read(&mut host, "f", &mut into)?, 3);
-    assert_eq!(rt; &into, b"ab");
+    assert!(rt; read(&mut host, "f", &mut into)? == 3);
+    assert!(rt; &into == b"ab");
     Ok(())
 }
 
@@ -223,7 +253,7 @@ fn many_calls_cost_what_they_touch(rt: HostRuntime) -> Result<(), Fail> {
             assert!(rt; sync(&mut host, "f")?);
         }
     }
-    assert_eq!(rt; host.writes("f"), 10_000);
-    assert_eq!(rt; left(&host, alloc, 0, Keep::Synced, "f")?.len(), 1_048_576);
+    assert!(rt; host.writes("f") == 10_000);
+    assert!(rt; left(&host, alloc, 0, Keep::Synced, "f")?.len() == 1_048_576);
     Ok(())
 }

@@ -1,6 +1,7 @@
 // The bytes of both swap files of the text without lines, place by place.
 use crate::life::start_empty;
 use crate::stops::empty_folder;
+use std::alloc::Global;
 use std::process::Abort;
 use std::test::Fail;
 
@@ -39,42 +40,24 @@ const PAGE_2: [(usize, &[u8]); 6] = [
     (24, &[0xff, 0x0f]),
 ];
 
-// Whether the page is there and has these bytes at these places, and zeros elsewhere.
-fn is_page(page: Option<&[u8]>, parts: &[(usize, &[u8])]) -> bool {
-    let Some(page) = page else {
-        return false;
-    };
-    let mut end = 0;
-    for (at, bytes) in parts {
-        let Some(gap) = page.get(end..*at) else {
-            return false;
-        };
-        if gap.iter().any(|byte| *byte != 0) {
-            return false;
-        }
-        let Some(rest) = page.get(*at..) else {
-            return false;
-        };
-        if !rest.starts_with(bytes) {
-            return false;
-        }
-        end = at.saturating_add(bytes.len());
+// A page with these bytes at these places, each after those before it, and zeros elsewhere.
+fn add_page(bytes: &mut Vec<u8>, parts: &[(usize, &[u8])]) -> Result<(), Fail> {
+    let start = bytes.len();
+    for (at, part) in parts {
+        bytes.resize(start.saturating_add(*at), 0)?;
+        bytes.extend_from_slice(part)?;
     }
-    match page.get(end..) {
-        Some(rest) => rest.iter().all(|byte| *byte == 0),
-        None => false,
-    }
+    bytes.resize(start.saturating_add(4096), 0)?;
+    Ok(())
 }
 
-// Whether these are the three pages of a swap file with this page 0.
-fn is_swap_file(file: Option<&[u8]>, page_0: &[(usize, &[u8])]) -> bool {
-    let Some(file) = file else {
-        return false;
-    };
-    file.len() == 12_288
-        && is_page(file.get(..4096), page_0)
-        && is_page(file.get(4096..8192), &PAGE_1)
-        && is_page(file.get(8192..), &PAGE_2)
+// The three pages of a swap file with this page 0.
+fn swap_file(alloc: Global, page_0: &[(usize, &[u8])]) -> Result<Vec<u8>, Fail> {
+    let mut bytes = Vec::new(alloc);
+    add_page(&mut bytes, page_0)?;
+    add_page(&mut bytes, &PAGE_1)?;
+    add_page(&mut bytes, &PAGE_2)?;
+    Ok(bytes)
 }
 
 #[test]
@@ -82,9 +65,11 @@ fn the_files_of_the_text_without_lines_have_these_bytes(rt: HostRuntime) -> Resu
     let alloc = rt.alloc();
     let mut host = empty_folder(alloc, 0, u64::MAX)?;
     assert!(rt; start_empty(alloc, &mut host)?);
-    assert!(rt; is_swap_file(host.file(".f.swp"), &PAGE_0));
-    let mut second = PAGE_0;
-    second[9] = (1032, &[2]);
-    assert!(rt; is_swap_file(host.file(".f.swo"), &second));
+    let first = swap_file(alloc, &PAGE_0)?;
+    assert!(rt; host.file(".f.swp") == Some(first.as_slice()));
+    let mut page_0 = PAGE_0;
+    page_0[9] = (1032, &[2]);
+    let second = swap_file(alloc, &page_0)?;
+    assert!(rt; host.file(".f.swo") == Some(second.as_slice()));
     Ok(())
 }

@@ -40,19 +40,24 @@ pub(crate) fn start_pages<F: Folder>(alloc: Global, host: &mut F) -> Result<Opti
     }
 }
 
+// Whether the pages are there, and have this byte throughout.
+fn are_filled(pages: Option<&[u8]>, byte: u8) -> bool {
+    match pages {
+        Some(bytes) => bytes.iter().all(|it| *it == byte),
+        None => false,
+    }
+}
+
 // Whether the file is an open swap file with this text on page 2, and zeros on all other pages.
 fn is_whole(file: Option<&[u8]>, text: u8) -> bool {
     let Some(file) = file else {
         return false;
     };
-    if file.len() != PAGES * PAGE_SIZE || Zero::read(file).is_err() {
-        return false;
-    }
-    file[PAGE_SIZE..2 * PAGE_SIZE].iter().all(|byte| *byte == 0)
-        && file[2 * PAGE_SIZE..3 * PAGE_SIZE]
-            .iter()
-            .all(|byte| *byte == text)
-        && file[3 * PAGE_SIZE..].iter().all(|byte| *byte == 0)
+    file.len() == PAGES * PAGE_SIZE
+        && Zero::read(file).is_ok()
+        && are_filled(file.get(PAGE_SIZE..2 * PAGE_SIZE), 0)
+        && are_filled(file.get(2 * PAGE_SIZE..3 * PAGE_SIZE), text)
+        && are_filled(file.get(3 * PAGE_SIZE..), 0)
 }
 
 // A sync writes the identifier twice, page 0, and the one run that has the page that changed.
@@ -66,8 +71,7 @@ fn a_sync_after_one_changed_page_writes_one_run(rt: HostRuntime) -> Result<(), F
     assert!(rt; sync_text(alloc, &mut pair, &mut host, 1)?);
     assert!(rt; sync_text(alloc, &mut pair, &mut host, 2)?);
     assert!(rt; sync_text(alloc, &mut pair, &mut host, 3)?);
-    assert_eq!(rt; host.writes(".f.swp"), 8);
-    assert_eq!(rt; host.writes(".f.swo"), 4);
+    assert!(rt; host.writes(".f.swp") == 8 && host.writes(".f.swo") == 4);
     assert!(rt; is_whole(host.file(".f.swp"), 3));
     assert!(rt; is_whole(host.file(".f.swo"), 2));
     Ok(())

@@ -53,11 +53,11 @@ fn open_text(bytes: &[u8]) -> Result<Option<(u64, u8)>, Fail> {
     if bytes.len() != 3 * PAGE_SIZE {
         return Err(Fail::new("an open file that is not whole"));
     }
-    let text = bytes[2 * PAGE_SIZE];
-    if bytes[2 * PAGE_SIZE..].iter().all(|byte| *byte == text) {
-        return Ok(Some((pair.generation, text)));
+    let page = bytes.get(2 * PAGE_SIZE..).ok_or("it has page 2")?;
+    match page.first() {
+        Some(text) if page.iter().all(|byte| byte == text) => Ok(Some((pair.generation, *text))),
+        _ => Err(Fail::new("an open file with a torn page")),
     }
-    Err(Fail::new("an open file with a torn page"))
 }
 
 fn text_under(image: &MemHost, name: &str) -> Result<Option<(u64, u8)>, Fail> {
@@ -97,6 +97,18 @@ fn is_allowed(life: &Life, text: Option<u8>, over: bool) -> bool {
     }
 }
 
+// Whether a stop after this life may leave this image.
+fn may_leave(
+    alloc: Global,
+    host: &MemHost,
+    life: &Life,
+    over: bool,
+    choice: &Choice,
+) -> Result<bool, Fail> {
+    let image = host.image(alloc, choice, Vec::new(alloc))?;
+    Ok(is_allowed(life, recovered(&image)?, over))
+}
+
 fn check_images(
     alloc: Global,
     host: &MemHost,
@@ -106,8 +118,7 @@ fn check_images(
 ) -> Result<(), Fail> {
     for names in PREFIXES {
         for keep in keeps {
-            let image = host.image(alloc, &Choice { names, keep: *keep }, Vec::new(alloc))?;
-            if !is_allowed(life, recovered(&image)?, over) {
+            if !may_leave(alloc, host, life, over, &Choice { names, keep: *keep })? {
                 return Err(Fail::new("a text that may not be recovered"));
             }
         }
@@ -121,9 +132,22 @@ fn a_life_without_faults_ends_without_files(rt: HostRuntime) -> Result<(), Fail>
     let mut host = empty_folder(alloc, 0, CALLS)?;
     let life = live(alloc, &mut host)?;
     assert!(rt; life.ended && life.synced == [true, true]);
-    assert_eq!(rt; host.calls(), CALLS);
+    assert!(rt; host.calls() == CALLS);
     assert!(rt; host.file(".f.swp").is_none() && host.file(".f.swo").is_none());
     Ok(())
+}
+
+// Checks what a life leaves in which this call fails, and each one after `stop`.
+fn check_life(
+    alloc: Global,
+    failing: u64,
+    stop: u64,
+    over: bool,
+    keeps: &[Keep],
+) -> Result<(), Fail> {
+    let mut host = empty_folder(alloc, failing, stop)?;
+    let life = live(alloc, &mut host)?;
+    check_images(alloc, &host, &life, over, keeps)
 }
 
 #[test]
@@ -131,9 +155,7 @@ fn each_stop_leaves_a_text_that_may_be_recovered(rt: HostRuntime) -> Result<(), 
     let alloc = rt.alloc();
     let keeps = every_keep(alloc)?;
     for calls in 0..=CALLS {
-        let mut host = empty_folder(alloc, 0, calls)?;
-        let life = live(alloc, &mut host)?;
-        check_images(alloc, &host, &life, calls > CALLS - 3, &keeps)?;
+        check_life(alloc, 0, calls, calls > CALLS - 3, &keeps)?;
     }
     Ok(())
 }
@@ -144,9 +166,7 @@ fn each_fault_leaves_a_text_that_may_be_recovered(rt: HostRuntime) -> Result<(),
     let keeps = every_keep(alloc)?;
     for failing in 1..=CALLS {
         for calls in failing..=CALLS {
-            let mut host = empty_folder(alloc, failing, calls)?;
-            let life = live(alloc, &mut host)?;
-            check_images(alloc, &host, &life, calls > START, &keeps)?;
+            check_life(alloc, failing, calls, calls > START, &keeps)?;
         }
     }
     Ok(())

@@ -52,18 +52,51 @@ fn add_head(bytes: &mut Vec<u8>, mark: &[u8], generation: u8, flags: u8) -> Resu
     add_parts(bytes, &parts)
 }
 
+// The parts, one after the other.
+fn add_all(bytes: &mut Vec<u8>, parts: &[&[u8]]) -> Result<(), Fail> {
+    for part in parts {
+        bytes.extend_from_slice(part)?;
+    }
+    Ok(())
+}
+
+fn add_entry(bytes: &mut Vec<u8>, entry: &Entry) -> Result<(), Fail> {
+    let (block, pages, lines) = entry;
+    let parts: [&[u8]; 5] = [
+        &block.to_le_bytes(),
+        &lines.to_le_bytes(),
+        &[0; 8],
+        &pages.to_le_bytes(),
+        &[0; 4],
+    ];
+    add_all(bytes, &parts)
+}
+
 fn add_pointers(bytes: &mut Vec<u8>, entries: &[Entry]) -> Result<(), Fail> {
-    let start = bytes.len();
+    let end = bytes.len().saturating_add(4096);
     let count = u8::try_from(entries.len()).unwrap_or(0);
     bytes.extend_from_slice(&[b't', b'p', count, 0, 127, 0, 0, 0])?;
-    for (block, pages, lines) in entries {
-        bytes.extend_from_slice(&block.to_le_bytes())?;
-        bytes.extend_from_slice(&lines.to_le_bytes())?;
-        bytes.extend_from_slice(&[0; 8])?;
-        bytes.extend_from_slice(&pages.to_le_bytes())?;
-        bytes.extend_from_slice(&[0; 4])?;
+    for entry in entries {
+        add_entry(bytes, entry)?;
     }
-    bytes.resize(start.saturating_add(4096), 0)?;
+    bytes.resize(end, 0)?;
+    Ok(())
+}
+
+// The first bytes of a data block: where its text begins and ends, and where each line does.
+fn add_places(bytes: &mut Vec<u8>, text: u32, end: u32, count: u32) -> Result<(), Fail> {
+    let parts: [&[u8]; 4] = [
+        b"ad\0\0\0\0\0\0",
+        &text.to_le_bytes(),
+        &end.to_le_bytes(),
+        &u64::from(count).to_le_bytes(),
+    ];
+    add_all(bytes, &parts)?;
+    let mut place = end;
+    for _ in 0..count {
+        place = place.saturating_sub(2);
+        bytes.extend_from_slice(&place.to_le_bytes())?;
+    }
     Ok(())
 }
 
@@ -72,15 +105,7 @@ fn add_lines(bytes: &mut Vec<u8>, pages: u32, lines: &[u8]) -> Result<(), Fail> 
     let count = u32::try_from(lines.len()).unwrap_or(0);
     let end = pages.saturating_mul(4096);
     let text = end.saturating_sub(count.saturating_mul(2));
-    bytes.extend_from_slice(b"ad\0\0\0\0\0\0")?;
-    bytes.extend_from_slice(&text.to_le_bytes())?;
-    bytes.extend_from_slice(&end.to_le_bytes())?;
-    bytes.extend_from_slice(&u64::from(count).to_le_bytes())?;
-    let mut place = end;
-    for _line in lines {
-        place = place.saturating_sub(2);
-        bytes.extend_from_slice(&place.to_le_bytes())?;
-    }
+    add_places(bytes, text, end, count)?;
     bytes.resize(start.saturating_add(text as usize), 0)?;
     for line in lines.iter().rev() {
         bytes.extend_from_slice(&[*line, 0])?;

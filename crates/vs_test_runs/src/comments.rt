@@ -20,14 +20,19 @@ pub struct Comments {
     folder_faults: u64,
 }
 
+/// A comment of 65,535 bytes and its end.
+fn comment(alloc: Global) -> Result<Vec<u8>, Fail> {
+    let mut line = Vec::from_slice(alloc, b"\"")?;
+    line.resize(65_535, b'x')?;
+    line.push(b'\n')?;
+    Ok(line)
+}
+
 impl Comments {
-    /// A comment of 65,535 bytes and its end, 16,384 times, and these bytes after it.
+    /// A comment of 65,536 bytes, 16,384 times, and these bytes after it.
     pub(crate) fn of_a_gibibyte(alloc: Global, tail: &[u8]) -> Result<Comments, Fail> {
-        let mut line = Vec::from_slice(alloc, b"\"")?;
-        line.resize(65_535, b'x')?;
-        line.push(b'\n')?;
         Ok(Comments {
-            line,
+            line: comment(alloc)?,
             left: 16_384,
             tail: Vec::from_slice(alloc, tail)?,
             output: Vec::new(alloc),

@@ -1,9 +1,11 @@
 // The replies to each kind of command, and the statuses 0, 1 and 2.
 use crate::helpers::{arguments_of, edit_f, host_with};
+use std::alloc::Global;
+use std::process::Abort;
 use std::test::Fail;
+use vs_machine::{Mark, Outcome};
 use vs_top::run;
 
-#[derive(Clone, Copy)]
 struct Case {
     shows: &'static str,
     file: Option<&'static [u8]>,
@@ -152,20 +154,30 @@ const CASES: [Case; 17] = [
     },
 ];
 
+fn is_answered(alloc: Global, case: &Case) -> Result<bool, Fail> {
+    let mut host = host_with(alloc, case.file, case.script)?;
+    let report = edit_f(alloc, &mut host)?;
+    Ok(
+        report.status == case.status
+            && report.marks.len() == case.marks
+            && host.output() == case.output
+            && host.file("f") == case.file,
+    )
+}
+
 #[test]
 fn replies_are_those_of_the_manual(rt: HostRuntime) -> Result<(), Fail> {
-    let alloc = rt.alloc();
     for case in &CASES {
         let shows = case.shows;
-        let mut host = host_with(alloc, case.file, case.script)?;
-        let report = edit_f(alloc, &mut host)?;
-        assert_eq!(rt; host.output(), case.output, "{shows}");
-        assert_eq!(rt; report.status, case.status, "{shows}");
-        assert_eq!(rt; report.marks.len(), case.marks, "{shows}");
-        assert!(rt; host.file("f") == case.file, "{shows}");
+        assert!(rt; is_answered(rt.alloc(), case)?, "{shows}");
     }
     Ok(())
 }
+
+const DONE: [Mark; 1] = [Mark {
+    outcome: Outcome::Done,
+    at: 1_000_000_007,
+}];
 
 #[test]
 fn marks_have_the_time_of_the_clock(rt: HostRuntime) -> Result<(), Fail> {
@@ -173,44 +185,58 @@ fn marks_have_the_time_of_the_clock(rt: HostRuntime) -> Result<(), Fail> {
     let mut host = host_with(alloc, Some(b"a\n"), b"%p\n")?;
     host.set_clock(1_000_000_007);
     let report = edit_f(alloc, &mut host)?;
-    assert_eq!(rt; report.marks.len(), 1);
-    assert_eq!(rt; report.marks[0].at, 1_000_000_007);
+    assert!(rt; report.marks.as_slice() == DONE.as_slice());
     Ok(())
+}
+
+const LONGEST: &str =
+    "n23456789a123456789b123456789c123456789d123456789e123456789f123456789g123456789h123456789i123456789j123456789k123456789l123456789m123456789n123456789o123456789p123456789q123456789r123456789s123456789t";
+
+const TOO_LONG: &str =
+    "n23456789a123456789b123456789c123456789d123456789e123456789f123456789g123456789h123456789i123456789j123456789k123456789l123456789m123456789n123456789o123456789p123456789q123456789r123456789s123456789tu";
+
+const REFUSED: [&[&str]; 12] = [
+    &[],
+    &["edit"],
+    &["edit", "f", "g"],
+    &["Edit", "f"],
+    &["edit", ""],
+    &["edit", "a/b"],
+    &["edit", "x.vsnew"],
+    &["edit", "."],
+    &["edit", ".."],
+    &["edit", "a b"],
+    &["edit", "a\x7f"],
+    &["edit", TOO_LONG],
+];
+
+/// Whether these arguments end a run with the status of usage, before any call.
+fn is_usage(alloc: Global, arguments: &[&str]) -> Result<bool, Fail> {
+    let list = arguments_of(alloc, arguments)?;
+    let mut host = host_with(alloc, None, b"%p\n")?;
+    let report = run(alloc, list.as_slice(), &mut host);
+    Ok(report.status == 2 && host.calls() == 0 && report.marks.is_empty())
 }
 
 #[test]
 fn other_arguments_are_usage_without_a_call(rt: HostRuntime) -> Result<(), Fail> {
-    let alloc = rt.alloc();
-    let longest =
-        "n23456789a123456789b123456789c123456789d123456789e123456789f123456789g123456789h123456789i123456789j123456789k123456789l123456789m123456789n123456789o123456789p123456789q123456789r123456789s123456789t";
-    let too_long =
-        "n23456789a123456789b123456789c123456789d123456789e123456789f123456789g123456789h123456789i123456789j123456789k123456789l123456789m123456789n123456789o123456789p123456789q123456789r123456789s123456789tu";
-    let refused: [&[&str]; 12] = [
-        &[],
-        &["edit"],
-        &["edit", "f", "g"],
-        &["Edit", "f"],
-        &["edit", ""],
-        &["edit", "a/b"],
-        &["edit", "x.vsnew"],
-        &["edit", "."],
-        &["edit", ".."],
-        &["edit", "a b"],
-        &["edit", "a\x7f"],
-        &["edit", too_long],
-    ];
-    for arguments in refused {
-        let mut host = host_with(alloc, None, b"%p\n")?;
-        let list = arguments_of(alloc, arguments)?;
-        let report = run(alloc, list.as_slice(), &mut host);
-        assert_eq!(rt; report.status, 2);
-        assert_eq!(rt; host.calls(), 0);
-        assert_eq!(rt; report.marks.len(), 0);
+    for arguments in REFUSED {
+        assert!(rt; is_usage(rt.alloc(), arguments)?);
     }
-    for name in [longest, "f", "...", ".vsnew.x", "~!"] {
-        let mut host = host_with(alloc, None, b"")?;
-        let list = arguments_of(alloc, &["edit", name])?;
-        assert_eq!(rt; run(alloc, list.as_slice(), &mut host).status, 0, "{name}");
+    Ok(())
+}
+
+/// Whether a run over a file of this name comes to its end.
+fn is_edited(alloc: Global, name: &str) -> Result<bool, Fail> {
+    let list = arguments_of(alloc, &["edit", name])?;
+    let mut host = host_with(alloc, None, b"")?;
+    Ok(run(alloc, list.as_slice(), &mut host).status == 0)
+}
+
+#[test]
+fn other_names_are_edited(rt: HostRuntime) -> Result<(), Fail> {
+    for name in [LONGEST, "f", "...", ".vsnew.x", "~!"] {
+        assert!(rt; is_edited(rt.alloc(), name)?, "{name}");
     }
     Ok(())
 }

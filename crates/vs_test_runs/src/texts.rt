@@ -1,5 +1,7 @@
 // The commands of the text, on texts that are written out.
 use crate::helpers::{edit_f, host_with};
+use std::alloc::Global;
+use std::process::Abort;
 use std::test::Fail;
 
 struct Case {
@@ -41,15 +43,17 @@ const CASES: [Case; 4] = [
     },
 ];
 
+fn is_answered(alloc: Global, case: &Case) -> Result<bool, Fail> {
+    let mut host = host_with(alloc, Some(case.file), case.script)?;
+    let report = edit_f(alloc, &mut host)?;
+    Ok(report.status == case.status && host.output() == case.output)
+}
+
 #[test]
 fn commands_of_the_text_have_their_replies(rt: HostRuntime) -> Result<(), Fail> {
-    let alloc = rt.alloc();
     for case in &CASES {
         let shows = case.shows;
-        let mut host = host_with(alloc, Some(case.file), case.script)?;
-        let report = edit_f(alloc, &mut host)?;
-        assert_eq!(rt; host.output(), case.output, "{shows}");
-        assert_eq!(rt; report.status, case.status, "{shows}");
+        assert!(rt; is_answered(rt.alloc(), case)?, "{shows}");
     }
     Ok(())
 }

@@ -87,8 +87,8 @@ fn a_long_line_is_kept_no_further(rt: HostRuntime) -> Result<(), Fail> {
         (Some(ExErr::LineTooLong), Held::Absent),
         (None, Held::Absent),
     ];
-    assert_eq!(rt; read.commands.as_slice(), want.as_slice());
-    assert_eq!(rt; read.end, None);
+    assert!(rt; read.commands.as_slice() == want.as_slice());
+    assert!(rt; read.end.is_none());
     Ok(())
 }
 
@@ -107,7 +107,7 @@ fn a_long_line_of_a_block_is_named(rt: HostRuntime) -> Result<(), Fail> {
         (None, Held::TooLong),
         (None, Held::Absent),
     ];
-    assert_eq!(rt; read.commands.as_slice(), want.as_slice());
+    assert!(rt; read.commands.as_slice() == want.as_slice());
     Ok(())
 }
 
@@ -129,11 +129,11 @@ fn a_block_that_is_too_large_is_read_to_its_end(rt: HostRuntime) -> Result<(), F
     let mut source = many_lines(alloc, Vec::from_slice(alloc, b".\np\n")?)?;
     let read = read_all(alloc, &mut source)?;
     let want = [(None, Held::Lines(4_000_000)), (None, Held::Absent)];
-    assert_eq!(rt; read.commands.as_slice(), want.as_slice());
+    assert!(rt; read.commands.as_slice() == want.as_slice());
     let mut source = many_lines(alloc, Vec::from_slice(alloc, b"\n.\np\n")?)?;
     let read = read_all(alloc, &mut source)?;
     let want = [(None, Held::TooMany), (None, Held::Absent)];
-    assert_eq!(rt; read.commands.as_slice(), want.as_slice());
+    assert!(rt; read.commands.as_slice() == want.as_slice());
     Ok(())
 }
 
@@ -153,8 +153,8 @@ fn a_script_has_a_gibibyte_and_no_more(rt: HostRuntime) -> Result<(), Fail> {
             at: 0,
         };
         let read = read_all(alloc, &mut source)?;
-        assert_eq!(rt; read.commands.len(), 0);
-        assert_eq!(rt; read.end, end);
+        assert!(rt; read.commands.is_empty());
+        assert!(rt; read.end == end);
     }
     Ok(())
 }

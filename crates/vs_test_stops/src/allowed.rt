@@ -38,6 +38,27 @@ fn take_synced<'o, 'a>(
     Ok(after(output, b"device fault\n").ok_or("another reply")?)
 }
 
+// Takes the replies to these commands off an output, as far as it goes. Nothing is left where it ended before the last of them.
+fn take_replies<'o, 'a>(
+    output: &'o [u8],
+    turns: &'a [Turn],
+    texts: &mut Vec<&'a [u8]>,
+) -> Result<Option<&'o [u8]>, Fail> {
+    let mut rest = output;
+    for turn in turns {
+        let whole = !rest.is_empty();
+        if turn.syncs {
+            rest = take_synced(rest, turn, texts)?;
+        } else if whole {
+            rest = after(rest, &turn.reply).ok_or("another reply")?;
+        }
+        if !whole {
+            return Ok(None);
+        }
+    }
+    Ok(Some(rest))
+}
+
 /// What may be recovered where a run over the file, with these commands and `q!`, wrote this output and no more.
 pub(crate) fn allowed_after<'a>(
     alloc: Global,
@@ -49,18 +70,10 @@ pub(crate) fn allowed_after<'a>(
     if output.is_empty() {
         return Ok(Allowed { texts, none: true });
     }
-    let mut rest = after(output, OPENING).ok_or("another opening")?;
-    for turn in turns {
-        let whole = !rest.is_empty();
-        if turn.syncs {
-            rest = take_synced(rest, turn, &mut texts)?;
-        } else if whole {
-            rest = after(rest, &turn.reply).ok_or("another reply")?;
-        }
-        if !whole {
-            return Ok(Allowed { texts, none: false });
-        }
-    }
+    let opened = after(output, OPENING).ok_or("another opening")?;
+    let Some(rest) = take_replies(opened, turns, &mut texts)? else {
+        return Ok(Allowed { texts, none: false });
+    };
     if rest == b"quit\n".as_slice() {
         texts.clear();
     } else if !rest.is_empty() {

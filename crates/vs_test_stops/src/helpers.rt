@@ -19,14 +19,20 @@ pub(crate) fn host_with(alloc: Global, file: Option<&[u8]>, script: &[u8]) -> Re
     Ok(host)
 }
 
+pub(crate) fn words_of(alloc: Global, words: [&str; 2]) -> Result<Vec<String>, Fail> {
+    let mut list = Vec::new(alloc);
+    for word in words {
+        list.push(String::from_str(alloc, word)?)?;
+    }
+    Ok(list)
+}
+
 /// Runs `edit f`.
 pub(crate) fn edit_f(alloc: Global, host: &mut MemHost) -> Result<Report, Fail>
     requires clock { host.old.answers ≡ [] }
     requires settled { (folder_of host.old).pending ≡ [] }
 {
-    let mut words = Vec::new(alloc);
-    words.push(String::from_str(alloc, "edit")?)?;
-    words.push(String::from_str(alloc, "f")?)?;
+    let words = words_of(alloc, ["edit", "f"])?;
     Ok(run(alloc, words.as_slice(), host))
 }
 

@@ -1,6 +1,6 @@
 // A `preserve` that is stopped after each of its calls, and what `recover` writes then.
-use crate::helpers::after_run;
-use crate::recovery::{KEEPS, PREFIXES};
+use crate::helpers::{after_run, words_of};
+use crate::recovery::{KEEPS, choices_of};
 use std::alloc::Global;
 use std::process::Abort;
 use std::test::Fail;
@@ -25,9 +25,7 @@ fn recovers(
     files: &[&'static [u8]],
 ) -> Result<bool, Fail> {
     let mut image = host.image(alloc, choice, Vec::new(alloc))?;
-    let mut words = Vec::new(alloc);
-    words.push(String::from_str(alloc, "recover")?)?;
-    words.push(String::from_str(alloc, "f")?)?;
+    let words = words_of(alloc, ["recover", "f"])?;
     let report = run(alloc, words.as_slice(), &mut image);
     Ok(report.status == 0 && files.iter().any(|file| *file == image.output()))
 }
@@ -38,15 +36,16 @@ fn find_lost(
     host: &MemHost,
     files: &[&'static [u8]],
 ) -> Result<Option<Choice>, Fail> {
-    for keep in KEEPS {
-        for names in PREFIXES {
-            let choice = Choice { names, keep };
-            if !recovers(alloc, host, &choice, files)? {
-                return Ok(Some(choice));
-            }
+    for choice in &choices_of(alloc, &KEEPS)? {
+        if !recovers(alloc, host, choice, files)? {
+            return Ok(Some(*choice));
         }
     }
     Ok(None)
+}
+
+fn after_stop(alloc: Global, stop: u64) -> Result<MemHost, Fail> {
+    after_run(alloc, b"a\n", SCRIPT, 0, stop)
 }
 
 #[test]
@@ -55,12 +54,18 @@ fn a_preserve_that_is_stopped_leaves_the_text_before_it_or_its_own(
 ) -> Result<(), Fail> {
     let alloc = rt.alloc();
     for stop in BEFORE..=BEFORE + SYNC {
-        let host = after_run(alloc, b"a\n", SCRIPT, 0, stop)?;
+        let host = after_stop(alloc, stop)?;
         let lost = find_lost(alloc, &host, &[b"a\n", b"a\nb\n"])?;
         assert!(rt; lost.is_none(), "{stop} calls: {lost:?}");
     }
-    let host = after_run(alloc, b"a\n", SCRIPT, 0, BEFORE + SYNC + 1)?;
-    assert_eq!(rt; host.output(), REPLIES);
+    Ok(())
+}
+
+#[test]
+fn a_preserve_that_is_through_leaves_its_own_text(rt: HostRuntime) -> Result<(), Fail> {
+    let alloc = rt.alloc();
+    let host = after_stop(alloc, BEFORE + SYNC + 1)?;
+    assert!(rt; host.output() == REPLIES);
     let lost = find_lost(alloc, &host, &[b"a\nb\n"])?;
     assert!(rt; lost.is_none(), "{lost:?}");
     Ok(())

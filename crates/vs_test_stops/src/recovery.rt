@@ -33,8 +33,19 @@ pub(crate) fn every_keep(alloc: Global) -> Result<Vec<Keep>, Fail> {
 /// The calls that remove the swap files, and the one for the last line.
 pub const CLOSING: u64 = 3 + 1;
 
-/// As many name changes as are pending at once in a run: two files made, and two renamed.
-pub const PREFIXES: [u32; 5] = [0, 1, 2, 3, 4];
+// As many name changes as are pending at once in a run: two files made, and two renamed.
+const PREFIXES: [u32; 5] = [0, 1, 2, 3, 4];
+
+/// What a stop may leave, by what is kept of each file and of the pending changes of names.
+pub(crate) fn choices_of(alloc: Global, keeps: &[Keep]) -> Result<Vec<Choice>, Fail> {
+    let mut choices = Vec::new(alloc);
+    for keep in keeps {
+        for names in PREFIXES {
+            choices.push(Choice { names, keep: *keep })?;
+        }
+    }
+    Ok(choices)
+}
 
 fn is_allowed(allowed: &Allowed<'_>, chosen: &Result<Chosen, RecErr>) -> bool {
     match chosen {
@@ -42,6 +53,17 @@ fn is_allowed(allowed: &Allowed<'_>, chosen: &Result<Chosen, RecErr>) -> bool {
         Err(RecErr::NoSwap) => allowed.none,
         Ok(Chosen::Salvage(_)) | Err(_) => false,
     }
+}
+
+fn gives_allowed(
+    alloc: Global,
+    host: &MemHost,
+    names: &Names,
+    choice: &Choice,
+    allowed: &Allowed<'_>,
+) -> Result<bool, Fail> {
+    let mut image = host.image(alloc, choice, Vec::new(alloc))?;
+    Ok(is_allowed(allowed, &choose(alloc, &mut image, names)))
 }
 
 // An image of which something else is recovered, where there is one.
@@ -52,35 +74,38 @@ fn find_wrong(
     keeps: &[Keep],
 ) -> Result<Option<Choice>, Fail> {
     let names = Names::of(alloc, "f").ok().ok_or("the name is allowed")?;
-    for keep in keeps {
-        for prefix in PREFIXES {
-            let choice = Choice {
-                names: prefix,
-                keep: *keep,
-            };
-            let mut image = host.image(alloc, &choice, Vec::new(alloc))?;
-            if !is_allowed(allowed, &choose(alloc, &mut image, &names)) {
-                return Ok(Some(choice));
-            }
+    for choice in &choices_of(alloc, keeps)? {
+        if !gives_allowed(alloc, host, &names, choice, allowed)? {
+            return Ok(Some(*choice));
         }
     }
     Ok(None)
 }
 
-/// The image of a stop of which something else is recovered than is allowed, where there is one.
-pub(crate) fn find_wrong_of(
+// The number of calls after which all replies are whole and no swap file has been removed, where a run quits.
+fn closing_of(host: &MemHost) -> Option<u64> {
+    if host.output().ends_with(b"quit\n") {
+        host.calls().checked_sub(CLOSING)
+    } else {
+        None
+    }
+}
+
+// The image of a stop of a run in which a call fails of which something else is recovered than is allowed, where there is one.
+fn find_wrong_image(
     alloc: Global,
-    host: &MemHost,
     story: &Story,
+    failing: u64,
+    stop: u64,
     closing: bool,
     keeps: &[Keep],
 ) -> Result<Option<Choice>, Fail> {
+    let host = after_run(alloc, FILE, &story.script, failing, stop)?;
     let mut allowed = allowed_after(alloc, &story.turns, host.output())?;
-    // all replies are whole, and nothing has been removed
     if closing {
         allowed.none = false;
     }
-    find_wrong(alloc, host, &allowed, keeps)
+    find_wrong(alloc, &host, &allowed, keeps)
 }
 
 /// A stop of a run in which this call fails, where none does if it is 0, of which something else is recovered, where there is one.
@@ -91,12 +116,10 @@ pub(crate) fn find_wrong_stop(
     keeps: &[Keep],
 ) -> Result<Option<(u64, Choice)>, Fail> {
     let whole = after_run(alloc, FILE, &story.script, failing, u64::MAX)?;
-    let calls = whole.calls();
-    let quits = whole.output().ends_with(b"quit\n");
-    for stop in failing..=calls {
-        let host = after_run(alloc, FILE, &story.script, failing, stop)?;
-        let closing = quits && calls - stop == CLOSING;
-        if let Some(choice) = find_wrong_of(alloc, &host, story, closing, keeps)? {
+    let closing = closing_of(&whole);
+    for stop in failing..=whole.calls() {
+        let closes = closing == Some(stop);
+        if let Some(choice) = find_wrong_image(alloc, story, failing, stop, closes, keeps)? {
             return Ok(Some((stop, choice)));
         }
     }

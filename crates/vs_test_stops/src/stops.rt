@@ -118,9 +118,9 @@ const CALLS: u64 = 20 + 1 + 1 + 7 * 7 + 32 + CLOSING;
 fn the_run_comes_to_its_end(rt: HostRuntime) -> Result<(), Fail> {
     let alloc = rt.alloc();
     let story = Story::of(alloc, STORY)?;
-    assert_eq!(rt; story.turns.len(), 32);
+    assert!(rt; story.turns.len() == 32);
     let host = after_run(alloc, FILE, &story.script, 0, u64::MAX)?;
-    assert_eq!(rt; host.calls(), CALLS);
+    assert!(rt; host.calls() == CALLS);
     assert!(rt; host.file(".f.swp").is_none() && host.file(".f.swo").is_none());
     Ok(())
 }

@@ -26,13 +26,18 @@ fn splice_if_allowed<S: LineStore>(
     Ok(true)
 }
 
-// A line for each byte: the byte, up to four times.
+// The byte, up to four times.
+fn line_of(alloc: Global, byte: u8) -> Result<Line, AllocError> {
+    let mut line = vec![in alloc; byte; byte as usize % 5]?;
+    from_stored(&mut line);
+    Ok(Line::from_vec(line))
+}
+
+// A line for each byte.
 fn lines_of(alloc: Global, bytes: &[u8]) -> Result<Vec<Line>, AllocError> {
     let mut lines = Vec::new(alloc);
     for byte in bytes {
-        let mut line = vec![in alloc; *byte; *byte as usize % 5]?;
-        from_stored(&mut line);
-        lines.push(Line::from_vec(line))?;
+        lines.push(line_of(alloc, *byte)?)?;
     }
     Ok(lines)
 }
@@ -74,13 +79,13 @@ fn assert_has<S: LineStore>(
     let want = Text::of(lines_of(alloc, bytes)?);
     let file = write_text(alloc, &want)?;
     let found = text_of(alloc, store)?;
-    assert_eq!(rt; write_text(alloc, &found)?.as_slice(), file.as_slice());
+    assert!(rt; write_text(alloc, &found)?.as_slice() == file.as_slice());
     let count = store.len();
-    assert_eq!(rt; count, bytes.len() as u64);
+    assert!(rt; count == bytes.len() as u64);
     let mut copied = Vec::new(alloc);
     store.copy_lines(alloc, 0, count, &mut copied)?;
-    assert_eq!(rt; copied.as_slice(), file.as_slice());
-    assert_eq!(rt; store.bytes(), file.len() as u64);
+    assert!(rt; copied.as_slice() == file.as_slice());
+    assert!(rt; store.bytes() == file.len() as u64);
     Ok(())
 }
 
@@ -152,27 +157,30 @@ fn change<S: LineStore>(alloc: Global, store: &mut S) -> Result<(), StoreErr>
     Ok(())
 }
 
+// Changes a store of which one call fails, and again when it was rolled back.
+fn fail_once(rt: &impl Abort, alloc: Global, fails_at: u64) -> Result<(), StoreErr> {
+    let mut inner = VecStore::new(alloc)?;
+    let lines = lines_of(alloc, b"abc")?;
+    assert!(rt; splice_if_allowed(alloc, &mut inner, 0, 0, &lines)?);
+    inner.commit();
+    let mut store = FailingStore::new(inner, fails_at);
+    let fails = fails_at != 0;
+    assert!(rt;
+        change(alloc, &mut store).is_err() == fails,
+        "call {fails_at}"
+    );
+    assert!(rt; store.faults == u64::from(fails), "call {fails_at}");
+    store.rollback();
+    assert_has(rt, alloc, &mut store.store, b"abc")?;
+    change(alloc, &mut store)?;
+    store.commit();
+    assert_has(rt, alloc, &mut store.store, b"axyc")
+}
+
 #[test]
 fn fails_the_call_that_is_named(rt: HostRuntime) -> Result<(), Fail> {
-    let alloc = rt.alloc();
     for fails_at in 0..6 {
-        let mut inner = VecStore::new(alloc)?;
-        let lines = lines_of(alloc, b"abc")?;
-        assert!(rt; splice_if_allowed(alloc, &mut inner, 0, 0, &lines)?);
-        inner.commit();
-        let mut store = FailingStore::new(inner, fails_at);
-        let fails = fails_at != 0;
-        assert_eq!(rt;
-            change(alloc, &mut store).is_err(),
-            fails,
-            "call {fails_at}"
-        );
-        assert_eq!(rt; store.faults, u64::from(fails), "call {fails_at}");
-        store.rollback();
-        assert_has(&rt, alloc, &mut store.store, b"abc")?;
-        change(alloc, &mut store)?;
-        store.commit();
-        assert_has(&rt, alloc, &mut store.store, b"axyc")?;
+        fail_once(&rt, rt.alloc(), fails_at)?;
     }
     Ok(())
 }

@@ -30,22 +30,29 @@ fn store_of(alloc: Global, bytes: &[u8]) -> Result<VecStore, Fail>
     }
 }
 
+// The digest of a text, in the digits that end an output.
+fn digits_of(alloc: Global, file: &[u8]) -> Result<Vec<u8>, Fail> {
+    let mut store = store_of(alloc, file)?;
+    let Ok(bytes) = digest(alloc, &mut store) else {
+        return Err(Fail::new("there is no memory for the digest"));
+    };
+    let mut digits = hex::encode(alloc, bytes)?.into_bytes();
+    digits.push(b'\n')?;
+    Ok(digits)
+}
+
+fn ends_with(alloc: Global, number: &str, digits: &[u8]) -> Result<bool, Fail> {
+    let mut host = host_with(alloc, None)?;
+    let report = stressed(alloc, &mut host, number)?;
+    Ok(report.status == 0 && host.output().ends_with(digits))
+}
+
 #[test]
 fn the_digest_is_that_of_the_lines(rt: HostRuntime) -> Result<(), Fail> {
     let alloc = rt.alloc();
     for (number, file) in TEXTS {
-        let mut store = store_of(alloc, file)?;
-        let Ok(bytes) = digest(alloc, &mut store) else {
-            return Err(Fail::new("there is no memory for the digest"));
-        };
-        let mut expected = hex::encode(alloc, bytes)?.into_bytes();
-        expected.push(b'\n')?;
-        let mut host = host_with(alloc, None)?;
-        let report = stressed(alloc, &mut host, number)?;
-        assert!(rt;
-            report.status == 0 && host.output().ends_with(&expected),
-            "{number}"
-        );
+        let digits = digits_of(alloc, file)?;
+        assert!(rt; ends_with(alloc, number, &digits)?, "{number}");
     }
     Ok(())
 }

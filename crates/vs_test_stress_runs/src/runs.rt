@@ -31,14 +31,20 @@ pub(crate) fn host_with(alloc: Global, file: Option<(&str, &[u8])>) -> Result<Me
     Ok(host)
 }
 
+fn words_of(alloc: Global, words: [&str; 2]) -> Result<Vec<String>, Fail> {
+    let mut list = Vec::new(alloc);
+    for word in words {
+        list.push(String::from_str(alloc, word)?)?;
+    }
+    Ok(list)
+}
+
 /// The report of `stress` with this argument.
 pub(crate) fn stressed(alloc: Global, host: &mut MemHost, number: &str) -> Result<Report, Fail>
     requires answers { host.old.answers ≡ [] }
     requires settled { (folder_of host.old).pending ≡ [] }
 {
-    let mut words = Vec::new(alloc);
-    words.push(String::from_str(alloc, "stress")?)?;
-    words.push(String::from_str(alloc, number)?)?;
+    let words = words_of(alloc, ["stress", number])?;
     Ok(run(alloc, words.as_slice(), host))
 }
 
@@ -58,20 +64,22 @@ fn is_line(output: &[u8], line: &[u8]) -> bool {
         && digits.iter().all(|byte| byte.is_ascii_digit() || (b'a'..=b'f').contains(byte))
 }
 
+// Whether the command ends with the line, and leaves neither its file nor swap files.
+fn is_through(alloc: Global, number: &str, line: &[u8]) -> Result<bool, Fail> {
+    let mut host = host_with(alloc, None)?;
+    let report = stressed(alloc, &mut host, number)?;
+    Ok(
+        report.status == 0
+            && is_line(host.output(), line)
+            && has_no_swap_file(&host)
+            && host.file("stress.vs").is_none(),
+    )
+}
+
 #[test]
 fn the_line_has_the_numbers(rt: HostRuntime) -> Result<(), Fail> {
-    let alloc = rt.alloc();
     for (number, line) in LINES {
-        let mut host = host_with(alloc, None)?;
-        let report = stressed(alloc, &mut host, number)?;
-        assert!(rt;
-            report.status == 0 && is_line(host.output(), line),
-            "{number}"
-        );
-        assert!(rt;
-            has_no_swap_file(&host) && host.file("stress.vs").is_none(),
-            "{number}"
-        );
+        assert!(rt; is_through(rt.alloc(), number, line)?, "{number}");
     }
     Ok(())
 }
@@ -85,25 +93,28 @@ fn each_command_has_a_mark(rt: HostRuntime) -> Result<(), Fail> {
     Ok(())
 }
 
+// Whether the command ends with the status, writes nothing and has no mark.
+fn is_refused(
+    alloc: Global,
+    file: Option<(&str, &[u8])>,
+    number: &str,
+    status: u8,
+) -> Result<bool, Fail> {
+    let mut host = host_with(alloc, file)?;
+    let report = stressed(alloc, &mut host, number)?;
+    Ok(report.status == status && host.output().is_empty() && report.marks.is_empty())
+}
+
 #[test]
 fn other_numbers_are_usage(rt: HostRuntime) -> Result<(), Fail> {
-    let alloc = rt.alloc();
     for number in OTHERS {
-        let mut host = host_with(alloc, None)?;
-        let report = stressed(alloc, &mut host, number)?;
-        assert!(rt;
-            report.status == 2 && host.output().is_empty() && report.marks.is_empty(),
-            "{number}"
-        );
+        assert!(rt; is_refused(rt.alloc(), None, number, 2)?, "{number}");
     }
     Ok(())
 }
 
 #[test]
 fn a_swap_file_bars_it(rt: HostRuntime) -> Result<(), Fail> {
-    let alloc = rt.alloc();
-    let mut host = host_with(alloc, Some((".stress.vs.swo", b"x")))?;
-    let report = stressed(alloc, &mut host, "1")?;
-    assert!(rt; report.status == 3 && host.output().is_empty() && report.marks.is_empty());
+    assert!(rt; is_refused(rt.alloc(), Some((".stress.vs.swo", b"x")), "1", 3)?);
     Ok(())
 }

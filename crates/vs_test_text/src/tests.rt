@@ -34,6 +34,10 @@ fn lines_read(alloc: Global, file: &[u8]) -> Result<usize, TextErr> {
     }
 }
 
+fn are_lines(lines: &[Line], want: &[&[u8]]) -> bool {
+    lines.len() == want.len() && lines.iter().zip(want).all(|(line, it)| line.bytes() == *it)
+}
+
 // The answer for a file that is cut at two places.
 fn read_in_three(alloc: Global, file: &[u8], start: usize, end: usize) -> Result<Text, TextErr>
     requires order { start ≤ end }
@@ -65,12 +69,9 @@ fn reads_and_writes_files(rt: HostRuntime) -> Result<(), Fail> {
     ];
     for (file, lines, written) in cases {
         let text = read_text(alloc, file)?;
-        assert_eq!(rt; text.len(), lines.len(), "in {file:?}");
-        for (line, want) in text.lines().iter().zip(lines) {
-            assert_eq!(rt; line.bytes(), *want, "in {file:?}");
-        }
+        assert!(rt; are_lines(text.lines(), lines), "in {file:?}");
         let bytes = write_text(alloc, &text)?;
-        assert_eq!(rt; bytes.as_slice(), written, "in {file:?}");
+        assert!(rt; bytes.as_slice() == written, "in {file:?}");
     }
     Ok(())
 }
@@ -92,9 +93,8 @@ fn cuts_do_not_matter(rt: HostRuntime) -> Result<(), Fail> {
             for start in 0..=end {
                 let text = read_in_three(alloc, file, start, end)?;
                 let bytes = write_text(alloc, &text)?;
-                assert_eq!(rt;
-                    bytes.as_slice(),
-                    want.as_slice(),
+                assert!(rt;
+                    bytes.as_slice() == want.as_slice(),
                     "{file:?} cut at {start} and {end}"
                 );
             }
@@ -102,9 +102,8 @@ fn cuts_do_not_matter(rt: HostRuntime) -> Result<(), Fail> {
         for size in 1..=file.len() {
             let text = take_in_pieces(alloc, file, size)?;
             let bytes = write_text(alloc, &text)?;
-            assert_eq!(rt;
-                bytes.as_slice(),
-                want.as_slice(),
+            assert!(rt;
+                bytes.as_slice() == want.as_slice(),
                 "{file:?} in pieces of {size}"
             );
         }
@@ -118,10 +117,7 @@ fn three_lines_in_two_pieces(rt: HostRuntime) -> Result<(), Fail> {
     let lines: [&[u8]; 3] = [b"a", b"b", b"c"];
     for cut in 0..=5 {
         let text = read_in_three(alloc, b"a\nb\nc", cut, cut)?;
-        assert_eq!(rt; text.len(), 3, "cut at {cut}");
-        for (line, want) in text.lines().iter().zip(lines) {
-            assert_eq!(rt; line.bytes(), want, "cut at {cut}");
-        }
+        assert!(rt; are_lines(text.lines(), &lines), "cut at {cut}");
     }
     Ok(())
 }
@@ -131,18 +127,11 @@ fn hands_over_the_lines_that_have_ended(rt: HostRuntime) -> Result<(), Fail> {
     let alloc = rt.alloc();
     let mut reader = TextReader::new(alloc)?;
     reader.feed(alloc, b"ab\nc")?;
-    let first = reader.take_lines();
-    assert_eq!(rt; first.len(), 1);
-    assert_eq!(rt; first[0].bytes(), b"ab".as_slice());
+    assert!(rt; are_lines(&reader.take_lines(), &[b"ab"]));
     assert!(rt; reader.take_lines().is_empty());
     reader.feed(alloc, b"d\n\ne")?;
-    let second = reader.take_lines();
-    assert_eq!(rt; second.len(), 2);
-    assert_eq!(rt; second[0].bytes(), b"cd".as_slice());
-    assert!(rt; second[1].bytes().is_empty());
-    let rest = reader.end()?;
-    assert_eq!(rt; rest.len(), 1);
-    assert_eq!(rt; rest.lines()[0].bytes(), b"e".as_slice());
+    assert!(rt; are_lines(&reader.take_lines(), &[b"cd", b""]));
+    assert!(rt; are_lines(reader.end()?.lines(), &[b"e"]));
     Ok(())
 }
 
@@ -154,10 +143,10 @@ fn answers_an_error_again(rt: HostRuntime) -> Result<(), Fail> {
     reader.feed(alloc, &long)?;
     reader.feed(alloc, b"ab")?;
     let error = Err(TextErr::LineTooLong(1_048_578));
-    assert_eq!(rt; reader.feed(alloc, b"\n"), error);
-    assert_eq!(rt; reader.feed(alloc, b"a\n"), error);
+    assert!(rt; reader.feed(alloc, b"\n") == error);
+    assert!(rt; reader.feed(alloc, b"a\n") == error);
     assert!(rt; reader.take_lines().is_empty());
-    assert_eq!(rt; reader.end().err(), error.err());
+    assert!(rt; reader.end().err() == error.err());
     Ok(())
 }
 
@@ -165,24 +154,15 @@ fn answers_an_error_again(rt: HostRuntime) -> Result<(), Fail> {
 fn limits_the_length_of_a_line(rt: HostRuntime) -> Result<(), Fail> {
     let alloc = rt.alloc();
     let mut bytes = filled(alloc, b'a', MAX_LINE_BYTES)?;
-    assert_eq!(rt; lines_read(alloc, &bytes), Ok(1));
-    assert_eq!(rt; line_of(alloc, &bytes)?.bytes(), bytes.as_slice());
+    assert!(rt; lines_read(alloc, &bytes) == Ok(1));
+    assert!(rt; line_of(alloc, &bytes)?.bytes() == bytes.as_slice());
     bytes.push(b'a')?;
-    assert_eq!(rt;
-        lines_read(alloc, &bytes),
-        Err(TextErr::LineTooLong(1_048_577))
-    );
-    assert_eq!(rt;
-        line_of(alloc, &bytes).err(),
-        Some(TextErr::LineTooLong(1_048_577))
-    );
+    assert!(rt; lines_read(alloc, &bytes) == Err(TextErr::LineTooLong(1_048_577)));
+    assert!(rt; line_of(alloc, &bytes).err() == Some(TextErr::LineTooLong(1_048_577)));
     bytes.extend_from_slice(b"\n\n")?;
     let longer = filled(alloc, b'b', MAX_LINE_BYTES + 2)?;
     bytes.extend_from_slice(&longer)?;
-    assert_eq!(rt;
-        lines_read(alloc, &bytes),
-        Err(TextErr::LineTooLong(1_048_577))
-    );
+    assert!(rt; lines_read(alloc, &bytes) == Err(TextErr::LineTooLong(1_048_577)));
     Ok(())
 }
 
@@ -190,15 +170,12 @@ fn limits_the_length_of_a_line(rt: HostRuntime) -> Result<(), Fail> {
 fn limits_the_number_of_lines(rt: HostRuntime) -> Result<(), Fail> {
     let alloc = rt.alloc();
     let mut file = filled(alloc, b'\n', MAX_LINES)?;
-    assert_eq!(rt; lines_read(alloc, &file), Ok(4_000_000));
+    assert!(rt; lines_read(alloc, &file) == Ok(4_000_000));
     file.push(b'a')?;
-    assert_eq!(rt; lines_read(alloc, &file), Err(TextErr::TextFull(4_000_001)));
+    assert!(rt; lines_read(alloc, &file) == Err(TextErr::TextFull(4_000_001)));
     let long = filled(alloc, b'a', MAX_LINE_BYTES)?;
     file.extend_from_slice(&long)?;
-    assert_eq!(rt;
-        lines_read(alloc, &file),
-        Err(TextErr::LineTooLong(1_048_577))
-    );
+    assert!(rt; lines_read(alloc, &file) == Err(TextErr::LineTooLong(1_048_577)));
     Ok(())
 }
 
@@ -211,14 +188,11 @@ fn limits_the_number_of_bytes(rt: HostRuntime) -> Result<(), Fail> {
             *end = b'\n';
         }
     }
-    assert_eq!(rt; lines_read(alloc, &file), Ok(256));
+    assert!(rt; lines_read(alloc, &file) == Ok(256));
     if let Some(end) = file.last_mut() {
         *end = b'a';
     }
-    assert_eq!(rt;
-        lines_read(alloc, &file),
-        Err(TextErr::TextFull(268_435_457))
-    );
+    assert!(rt; lines_read(alloc, &file) == Err(TextErr::TextFull(268_435_457)));
     Ok(())
 }
 
@@ -230,14 +204,11 @@ fn keeps_lines(rt: HostRuntime) -> Result<(), Fail> {
     let line = line_of(alloc, b"\x00\xff")?;
     text.push(line.clone()?)?;
     let bytes = line.into_vec();
-    assert_eq!(rt; bytes.as_slice(), b"\x00\xff".as_slice());
+    assert!(rt; bytes.as_slice() == b"\x00\xff".as_slice());
     text.push(line_of(alloc, b"d")?)?;
-    assert_eq!(rt; text.len(), 2);
+    assert!(rt; text.len() == 2);
     let whole = Text::of(text.into_lines());
-    assert_eq!(rt;
-        write_text(alloc, &whole)?.as_slice(),
-        b"\x00\xff\nd\n".as_slice()
-    );
+    assert!(rt; write_text(alloc, &whole)?.as_slice() == b"\x00\xff\nd\n".as_slice());
     Ok(())
 }
 
@@ -245,7 +216,7 @@ fn keeps_lines(rt: HostRuntime) -> Result<(), Fail> {
 fn stores_lines(rt: HostRuntime) {
     let mut line = [0, 1, 255, 0, 13];
     to_stored(&mut line);
-    assert_eq!(rt; line, [10, 1, 255, 10, 13]);
+    assert!(rt; line == [10, 1, 255, 10, 13]);
     from_stored(&mut line);
-    assert_eq!(rt; line, [0, 1, 255, 0, 13]);
+    assert!(rt; line == [0, 1, 255, 0, 13]);
 }

@@ -116,7 +116,7 @@ fn faults_after(alloc: Global, damage: Damage) -> Result<u64, StoreErr> {
 fn each_damaged_page_is_a_fault(rt: HostRuntime) -> Result<(), Fail> {
     for (kind, damage) in DAMAGES {
         let faults = faults_after(rt.alloc(), damage)?;
-        assert_eq!(rt; faults, 1, "{kind}");
+        assert!(rt; faults == 1, "{kind}");
     }
     Ok(())
 }
@@ -205,7 +205,7 @@ fn a_damaged_block_of_several_pages_is_a_fault(rt: HostRuntime) -> Result<(), Fa
     for (kind, size, patch) in rows {
         for alone in [true, false] {
             let faults = faults_of_a_line(rt.alloc(), size, 3, patch, alone)?;
-            assert_eq!(rt; faults, 1, "{kind}");
+            assert!(rt; faults == 1, "{kind}");
         }
     }
     Ok(())
@@ -258,7 +258,7 @@ fn numbers_that_the_pages_do_not_have_are_a_fault(rt: HostRuntime) -> Result<(),
     for (kind, height, bytes, old, size) in NUMBERS {
         let most = MAX_TEXT_BYTES.min(bytes);
         let faults = faults_of_a_splice(rt.alloc(), height, most, old, size.min(20))?;
-        assert_eq!(rt; faults, 1, "{kind}");
+        assert!(rt; faults == 1, "{kind}");
     }
     Ok(())
 }

@@ -44,9 +44,9 @@ fn lines_are_counted_where_the_sum_fits(rt: HostRuntime) {
 fn an_entry_gives_way_to_others(rt: HostRuntime) -> Result<(), Fail> {
     let all = replace_entry(rt.alloc(), &ENTRIES, 1, &[ENTRIES[2], ENTRIES[0]])?;
     let blocks = [2, 3, 2, 3];
-    assert_eq!(rt; all.len(), 4);
+    assert!(rt; all.len() == 4);
     for (entry, block) in all.iter().zip(blocks) {
-        assert_eq!(rt; entry.block, block);
+        assert!(rt; entry.block == block);
     }
     Ok(())
 }

@@ -50,8 +50,8 @@ fn assert_same<S: LineStore, T: LineStore>(
     ensures tree { S.valid tree.new }
     ensures plain { T.valid plain.new }
 {
-    assert_eq!(rt; tree.len(), plain.len());
-    assert_eq!(rt; tree.bytes(), plain.bytes());
+    assert!(rt; tree.len() == plain.len());
+    assert!(rt; tree.bytes() == plain.bytes());
     let want = file_of(alloc, plain)?;
     // The texts are too long to be shown.
     let same = file_of(alloc, tree)?.as_slice() == want.as_slice();
@@ -80,8 +80,8 @@ fn play_all<S: LineStore, T: LineStore>(
             plain.rollback();
             refused = refused.saturating_add(1);
         }
-        assert_eq!(rt; tree.len(), plain.len(), "call {call}");
-        assert_eq!(rt; tree.bytes(), plain.bytes(), "call {call}");
+        assert!(rt; tree.len() == plain.len(), "call {call}");
+        assert!(rt; tree.bytes() == plain.bytes(), "call {call}");
         if call % 50 == 0 && assert_same(rt, alloc, tree, plain).is_err() {
             refused = refused.saturating_add(1);
         }

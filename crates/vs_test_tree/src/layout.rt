@@ -53,13 +53,13 @@ fn lines_take_the_pages_that_the_layout_says(rt: HostRuntime) -> Result<(), Fail
             pages: memory,
         };
         assert!(rt; push_line(alloc, &mut store, size)?);
-        assert_eq!(rt; store.pages.count(), count, "{size} bytes");
-        assert_eq!(rt; store.len(), 1);
+        assert!(rt; store.pages.count() == count, "{size} bytes");
+        assert!(rt; store.len() == 1);
         let mut line = Vec::new(alloc);
         if store.len() == 1 {
             store.line(alloc, 0, &mut line)?;
         }
-        assert_eq!(rt; line.len() as u64, size);
+        assert!(rt; line.len() as u64 == size);
     }
     Ok(())
 }
@@ -109,21 +109,21 @@ fn the_root_grows_after_127_blocks(rt: HostRuntime) -> Result<(), Fail> {
         pages,
     };
     assert!(rt; push_lines(alloc, &mut store, 127, 4_067)?);
-    assert_eq!(rt; store.tree.present.height, 1);
-    assert_eq!(rt; store.pages.count(), 2 + 127);
+    assert!(rt; store.tree.present.height == 1);
+    assert!(rt; store.pages.count() == 2 + 127);
     let top = root_entry(store.len());
-    assert_eq!(rt; load_entries(alloc, &mut store.pages, top)?.len(), 127);
+    assert!(rt; load_entries(alloc, &mut store.pages, top)?.len() == 127);
 
     assert!(rt; push_line(alloc, &mut store, 4_067)?);
-    assert_eq!(rt; store.tree.present.height, 2);
-    assert_eq!(rt; store.pages.count(), 2 + 2 + 128);
+    assert!(rt; store.tree.present.height == 2);
+    assert!(rt; store.pages.count() == 2 + 2 + 128);
     let top = root_entry(store.len());
     let root = load_entries(alloc, &mut store.pages, top)?;
-    assert_eq!(rt; count_lines(&root), Some(128));
-    assert_eq!(rt; count_single_lines(alloc, &mut store.pages, &root)?, 128);
+    assert!(rt; count_lines(&root) == Some(128));
+    assert!(rt; count_single_lines(alloc, &mut store.pages, &root)? == 128);
 
     store.rollback();
-    assert_eq!(rt; store.len(), 0);
-    assert_eq!(rt; store.pages.count(), 3);
+    assert!(rt; store.len() == 0);
+    assert!(rt; store.pages.count() == 3);
     Ok(())
 }

@@ -78,7 +78,7 @@ impl Twins {
         if self.store.has(at, pages) {
             let bytes = filled(self.alloc, pages, first)?;
             self.store.touch(self.alloc, at, pages, &bytes)?;
-            assert_eq!(rt; self.put(at, pages, first)?, 0);
+            assert!(rt; self.put(at, pages, first)? == 0);
         }
         Ok(())
     }
@@ -86,7 +86,7 @@ impl Twins {
     fn grow(&mut self, rt: &impl Abort, pages: u32) -> Result<(), Fail> {
         let at = self.store.grow(self.alloc, pages)?;
         for i in 0..pages as u64 {
-            assert_eq!(rt; self.put(at + i, 1, 0)?, 1);
+            assert!(rt; self.put(at + i, 1, 0)? == 1);
         }
         Ok(())
     }
@@ -116,9 +116,9 @@ impl Twins {
     }
 
     fn check(&mut self, rt: &impl Abort, at: u64) -> Result<(), Fail> {
-        assert_eq!(rt; self.store.count(), self.map.len() as u64);
+        assert!(rt; self.store.count() == self.map.len() as u64);
         let byte = byte_at(&mut self.store, self.alloc, at)?;
-        assert_eq!(rt; byte, self.map.get(&at).copied(), "page {at}");
+        assert!(rt; byte == self.map.get(&at).copied(), "page {at}");
         Ok(())
     }
 }
@@ -176,9 +176,9 @@ fn gives_numbers_again(rt: HostRuntime) -> Result<(), Fail> {
     let alloc = rt.alloc();
     let mut store = MemPages::new(alloc)?;
     for (first, pages) in [(3, 1), (4, 2), (6, 5)] {
-        assert_eq!(rt; growths(&mut store, alloc, pages)?, [first; 4]);
+        assert!(rt; growths(&mut store, alloc, pages)? == [first; 4]);
     }
-    assert_eq!(rt; store.count(), 11);
+    assert!(rt; store.count() == 11);
     Ok(())
 }
 
@@ -209,21 +209,21 @@ fn marks_what_a_commit_changed(rt: HostRuntime) -> Result<(), Fail> {
     let mut store = MemPages::new(alloc)?;
     fill_page(&mut store, alloc, 1, 9)?;
     store.commit_marked(5);
-    assert_eq!(rt; marks(&store), [0, 5, 0, 0, 0]);
+    assert!(rt; marks(&store) == [0, 5, 0, 0, 0]);
     store.grow(alloc, 2)?;
     fill_page(&mut store, alloc, 2, 8)?;
     store.rollback();
     store.commit_marked(6);
-    assert_eq!(rt; marks(&store), [0, 5, 0, 0, 0]);
+    assert!(rt; marks(&store) == [0, 5, 0, 0, 0]);
     store.grow(alloc, 1)?;
     fill_page(&mut store, alloc, 1, 8)?;
     store.commit_marked(7);
-    assert_eq!(rt; marks(&store), [0, 7, 0, 7, 0]);
+    assert!(rt; marks(&store) == [0, 7, 0, 7, 0]);
     if store.has(3, 1) {
         store.free(alloc, 3, 1)?;
     }
     store.commit();
-    assert_eq!(rt; marks(&store), [0, 7, 0, u64::MAX, 0]);
+    assert!(rt; marks(&store) == [0, 7, 0, u64::MAX, 0]);
     Ok(())
 }
 
@@ -279,8 +279,8 @@ fn rehearse_on_new<P: Pages>(rt: &impl Abort, store: &mut P, alloc: Global) -> R
     let bytes = filled(alloc, 2, 7)?;
     let mut read = Vec::new(alloc);
     rehearse(store, alloc, at, 2, &bytes, &mut read)?;
-    assert_eq!(rt; read.as_slice(), bytes.as_slice());
-    assert_eq!(rt; store.count(), before);
+    assert!(rt; read.as_slice() == bytes.as_slice());
+    assert!(rt; store.count() == before);
     Ok(())
 }
 
@@ -321,12 +321,12 @@ fn fails_at_the_chosen_call(rt: HostRuntime) -> Result<(), Fail> {
     let mut store = FailingPages::<false>::new(MemPages::new(alloc)?);
     for (call, byte, count) in [(1, 0, 3), (2, 9, 3), (3, 9, 3), (4, 9, 4)] {
         let seen = seen_after(&mut store, alloc, call)?;
-        assert_eq!(rt; seen, (Err(PageErr::Failed), Some(byte), count, call));
+        assert!(rt; seen == (Err(PageErr::Failed), Some(byte), count, call));
         store.rollback();
     }
     each_kind(&mut store, alloc)?;
-    assert_eq!(rt; store.free(alloc, 2, 2), Err(PageErr::Failed));
+    assert!(rt; store.free(alloc, 2, 2) == Err(PageErr::Failed));
     store.damaged();
-    assert_eq!(rt; store.faults, 6);
+    assert!(rt; store.faults == 6);
     Ok(())
 }

@@ -1,18 +1,17 @@
 // Histories that are taken with a text, or refused at it (docs/FORMATS.md, "Undo file").
-ghost use Rattle.std.specs.Prelude.{OnOk};
+ghost use Rattle.std.specs.Prelude.{IfOk, OnOk};
 ghost use Rattle.vs_undo.specs.Moves.{IsReady};
 ghost use Rattle.vs_ufile.specs.Decode.{KeepsRules};
 ghost use Rattle.vs_ufile.specs.Values.{history_of};
 
-use crate::digests::store_of;
-use crate::histories::{Editor, append, begin, data_of, go_to};
-use crate::trees::{CHANGES, editor_with_branches, put, read};
+use crate::histories::{Editor, Step, editor_after, file_of, go_to};
+use crate::trees::{CHANGES, branches_file, put, read};
 use std::alloc::Global;
 use std::process::Abort;
 use std::test::Fail;
 use vs_edit::LineStore;
 use vs_ubind::{BindErr, bind};
-use vs_ufile::{FileHistory, encode};
+use vs_ufile::FileHistory;
 
 // The bytes of the text of a store.
 fn bytes_of<S: LineStore>(alloc: Global, store: &mut S) -> Result<Vec<u8>, Fail>
@@ -47,30 +46,36 @@ fn take<S: LineStore>(
 #[test]
 fn a_tree_is_taken_with_its_text_and_moved_in(rt: HostRuntime) -> Result<(), Fail> {
     let alloc = rt.alloc();
-    let mut editor = editor_with_branches(alloc)?;
-    let bytes = encode(alloc, &data_of(alloc, &mut editor, false)?)?;
-    let history = read(alloc, &bytes)?;
-    let mut other = begin(alloc, store_of(alloc, b"a\nc\n")?)?;
-    take(alloc, &history, &mut other)?;
-    go_to(alloc, &mut other, 2)?;
-    let found = bytes_of(alloc, &mut other.text)?;
+    let file = branches_file(alloc)?;
+    let history = read(alloc, &file)?;
+    let mut editor = editor_after(alloc, b"a\nc\n", &[])?;
+    take(alloc, &history, &mut editor)?;
+    go_to(alloc, &mut editor, 2)?;
+    let found = bytes_of(alloc, &mut editor.text)?;
     assert!(rt; found.as_slice() == b"a\nb\n".as_slice());
     Ok(())
+}
+
+// One line, and then none again.
+const UNDONE: [Step; 2] = [Step::Append(b"a\n", 11), Step::GoTo(0)];
+
+// Whether the history is taken with this text.
+fn is_taken(alloc: Global, history: &FileHistory, text: &[u8]) -> Result<bool, Fail>
+    requires { KeepsRules (history_of history.now) }
+{
+    let mut editor = editor_after(alloc, text, &[])?;
+    Ok(bind(alloc, history, &mut editor.text).is_ok())
 }
 
 // The text without lines and that of one empty line have one digest.
 #[test]
 fn a_history_of_no_lines_is_taken_with_one_empty_line(rt: HostRuntime) -> Result<(), Fail> {
     let alloc = rt.alloc();
-    let mut editor = begin(alloc, store_of(alloc, b"")?)?;
-    append(alloc, &mut editor, b"a\n", 11)?;
-    go_to(alloc, &mut editor, 0)?;
-    let bytes = encode(alloc, &data_of(alloc, &mut editor, false)?)?;
-    let history = read(alloc, &bytes)?;
-    for text in [b"".as_slice(), b"\n"] {
-        let mut other = begin(alloc, store_of(alloc, text)?)?;
-        assert!(rt; bind(alloc, &history, &mut other.text).is_ok());
-    }
+    let mut editor = editor_after(alloc, b"", &UNDONE)?;
+    let file = file_of(alloc, &mut editor)?;
+    let history = read(alloc, &file)?;
+    assert!(rt; is_taken(alloc, &history, b"")?);
+    assert!(rt; is_taken(alloc, &history, b"\n")?);
     Ok(())
 }
 
@@ -132,23 +137,45 @@ const CASES: [Case; 6] = [
     ),
 ];
 
+// The file with these numbers in the place of its own.
+fn changed_history(
+    alloc: Global,
+    file: &[u8],
+    changes: &[(usize, u32)],
+) -> Result<FileHistory, Fail>
+    ensures { IfOk result (λ history. KeepsRules (history_of history)) }
+{
+    let mut changed = Vec::from_slice(alloc, file)?;
+    for (at, number) in changes {
+        put(&mut changed, *at, *number);
+    }
+    read(alloc, &changed)
+}
+
+// Whether the history is refused so, and the text stays as it was.
+fn is_refused(
+    alloc: Global,
+    history: &FileHistory,
+    text: &[u8],
+    wanted: Wanted,
+) -> Result<bool, Fail>
+    requires { KeepsRules (history_of history.now) }
+{
+    let mut editor = editor_after(alloc, text, &[])?;
+    let Err(error) = bind(alloc, history, &mut editor.text) else {
+        return Ok(false);
+    };
+    let found = bytes_of(alloc, &mut editor.text)?;
+    Ok(found.as_slice() == text && is_wanted(wanted, error))
+}
+
 #[test]
 fn a_history_that_is_not_of_the_text_is_refused(rt: HostRuntime) -> Result<(), Fail> {
     let alloc = rt.alloc();
-    let mut editor = editor_with_branches(alloc)?;
-    let bytes = encode(alloc, &data_of(alloc, &mut editor, false)?)?;
+    let file = branches_file(alloc)?;
     for (name, changes, text, wanted) in CASES {
-        let mut changed = Vec::from_slice(alloc, &bytes)?;
-        for (at, number) in changes {
-            put(&mut changed, *at, *number);
-        }
-        let mut other = begin(alloc, store_of(alloc, text)?)?;
-        match bind(alloc, &read(alloc, &changed)?, &mut other.text) {
-            Ok(_) => assert!(rt; false, "{name}"),
-            Err(error) => assert!(rt; is_wanted(wanted, error), "{name}"),
-        }
-        let found = bytes_of(alloc, &mut other.text)?;
-        assert!(rt; found.as_slice() == text, "{name}");
+        let history = changed_history(alloc, &file, changes)?;
+        assert!(rt; is_refused(alloc, &history, text, wanted)?, "{name}");
     }
     Ok(())
 }

@@ -45,13 +45,23 @@ fn names_of(alloc: Global, name: &str) -> Result<Names, Fail>
     }
 }
 
+// Whether the image of this choice has one of these under the name of the undo file.
+fn has_one_of(
+    alloc: Global,
+    folder: &MemHost,
+    choice: &Choice,
+    allowed: &[Option<&[u8]>],
+) -> Result<bool, Fail> {
+    let image = folder.image(alloc, choice, Vec::new(alloc))?;
+    let found = image.file(".f.un~");
+    Ok(allowed.iter().any(|it| *it == found))
+}
+
 // Whether each image has one of these under the name of the undo file.
 fn always(alloc: Global, folder: &MemHost, allowed: &[Option<&[u8]>]) -> Result<bool, Fail> {
     for names in 0..5 {
         for keep in KEEPS {
-            let image = folder.image(alloc, &Choice { names, keep }, Vec::new(alloc))?;
-            let found = image.file(".f.un~");
-            if !allowed.iter().any(|it| *it == found) {
+            if !has_one_of(alloc, folder, &Choice { names, keep }, allowed)? {
                 return Ok(false);
             }
         }
@@ -59,19 +69,42 @@ fn always(alloc: Global, folder: &MemHost, allowed: &[Option<&[u8]>]) -> Result<
     Ok(true)
 }
 
+// Whether what is stored in the folder of these files is the undo file for good, and is fetched.
+fn is_kept(alloc: Global, files: &[(&str, &[u8])], names: &Names) -> Result<bool, Fail>
+    requires { AreNames names.now }
+{
+    let mut folder = folder_with(alloc, files)?;
+    let stored = store(&mut folder, names, NEW).is_ok()
+        && folder.file(".f.un~.vsnew").is_none()
+        && always(alloc, &folder, &[Some(NEW)])?;
+    let bytes = fetch(alloc, &mut folder, names).ok().ok_or("it is read")?;
+    Ok(stored && bytes.as_slice() == NEW)
+}
+
 #[test]
 fn what_is_stored_is_fetched(rt: HostRuntime) -> Result<(), Fail> {
     let alloc = rt.alloc();
     let names = names_of(alloc, "f")?;
     for files in FOLDERS {
-        let mut folder = folder_with(alloc, files)?;
-        assert!(rt; store(&mut folder, &names, NEW).is_ok());
-        assert!(rt; always(alloc, &folder, &[Some(NEW)])?);
-        assert!(rt; folder.file(".f.un~.vsnew").is_none());
-        let bytes = fetch(alloc, &mut folder, &names).ok().ok_or("it is read")?;
-        assert!(rt; bytes.as_slice() == NEW);
+        assert!(rt; is_kept(alloc, files, &names)?);
     }
     Ok(())
+}
+
+// Whether a stop after so many calls leaves the old undo file or the new one.
+fn stops_well(
+    alloc: Global,
+    files: &[(&str, &[u8])],
+    names: &Names,
+    calls: u64,
+) -> Result<bool, Fail>
+    requires { AreNames names.now }
+{
+    let old = folder_with(alloc, files)?;
+    let mut folder = folder_with(alloc, files)?;
+    folder.stop_after(calls);
+    let _ = store(&mut folder, names, NEW);
+    always(alloc, &folder, &[old.file(".f.un~"), Some(NEW)])
 }
 
 #[test]
@@ -79,18 +112,18 @@ fn each_stop_leaves_the_old_undo_file_or_the_new_one(rt: HostRuntime) -> Result<
     let alloc = rt.alloc();
     let names = names_of(alloc, "f")?;
     for files in FOLDERS {
-        let old = folder_with(alloc, files)?;
         for calls in 0..=CALLS {
-            let mut folder = folder_with(alloc, files)?;
-            folder.stop_after(calls);
-            let _ = store(&mut folder, &names, NEW);
-            assert!(rt;
-                always(alloc, &folder, &[old.file(".f.un~"), Some(NEW)])?,
-                "{calls} calls"
-            );
+            assert!(rt; stops_well(alloc, files, &names, calls)?, "{calls} calls");
         }
     }
     Ok(())
+}
+
+// A folder with these files, in which this call fails.
+fn failing_folder(alloc: Global, files: &[(&str, &[u8])], call: u64) -> Result<MemHost, Fail> {
+    let mut folder = folder_with(alloc, files)?;
+    folder.fail_call(alloc, call)?;
+    Ok(folder)
 }
 
 #[test]
@@ -98,10 +131,10 @@ fn a_fault_stops_the_storing_at_once(rt: HostRuntime) -> Result<(), Fail> {
     let alloc = rt.alloc();
     let names = names_of(alloc, "f")?;
     for failing in 1..CALLS {
-        let mut folder = folder_with(alloc, &[])?;
-        folder.fail_call(alloc, failing)?;
+        let mut folder = failing_folder(alloc, &[], failing)?;
+        let stored = store(&mut folder, &names, NEW);
         assert!(rt;
-            store(&mut folder, &names, NEW).is_err() && folder.calls() == failing,
+            stored.is_err() && folder.calls() == failing,
             "call {failing}"
         );
     }
@@ -114,13 +147,17 @@ fn what_is_not_there_is_not_fetched(rt: HostRuntime) -> Result<(), Fail> {
     let names = names_of(alloc, "f")?;
     let mut folder = folder_with(alloc, &[])?;
     assert!(rt; fetch(alloc, &mut folder, &names).err() == Some(FetchErr::NoFile));
+    Ok(())
+}
+
+#[test]
+fn what_cannot_be_read_is_not_fetched(rt: HostRuntime) -> Result<(), Fail> {
+    let alloc = rt.alloc();
+    let names = names_of(alloc, "f")?;
     for failing in 1..=3 {
-        let mut folder = folder_with(alloc, &[(".f.un~", b"old history")])?;
-        folder.fail_call(alloc, failing)?;
-        assert!(rt;
-            fetch(alloc, &mut folder, &names).err() == Some(FetchErr::Failed),
-            "call {failing}"
-        );
+        let mut folder = failing_folder(alloc, &[(".f.un~", b"old history")], failing)?;
+        let fetched = fetch(alloc, &mut folder, &names).err();
+        assert!(rt; fetched == Some(FetchErr::Failed), "call {failing}");
     }
     Ok(())
 }

@@ -1,33 +1,32 @@
 // Trees that the data of undo files stands for, of files with one number changed (docs/FORMATS.md, "Undo file").
 ghost use Rattle.std.specs.Prelude.{IfOk};
-ghost use Rattle.vs_undo.specs.Moves.{IsReady};
 ghost use Rattle.vs_ufile.specs.Decode.{KeepsRules};
 ghost use Rattle.vs_ufile.specs.Values.{history_of};
 
-use crate::digests::store_of;
-use crate::histories::{Editor, append, begin, data_of, go_to};
+use crate::histories::{Step, editor_after, file_of};
 use std::alloc::Global;
 use std::process::Abort;
 use std::test::Fail;
-use vs_edit::{LineStore, VecStore};
 use vs_ubind::parts_of;
-use vs_ufile::{FileHistory, decode, encode};
+use vs_ufile::{FileHistory, decode};
 use vs_undo::Parts;
 
 // Changes 1 and 2, one after the other, and 3 and 4 beside 2; then back to 3. Change 4 has save number 1. The chain is 3, 4, 2.
-pub(crate) fn editor_with_branches(alloc: Global) -> Result<Editor<VecStore>, Fail>
-    ensures { IfOk result (λ editor. IsReady ⟦<VecStore as LineStore>⟧ editor.tree editor.text) }
-{
-    let mut editor = begin(alloc, store_of(alloc, b"")?)?;
-    append(alloc, &mut editor, b"a\n", 11)?;
-    append(alloc, &mut editor, b"b\n", 12)?;
-    go_to(alloc, &mut editor, 1)?;
-    append(alloc, &mut editor, b"c\n", 13)?;
-    go_to(alloc, &mut editor, 1)?;
-    append(alloc, &mut editor, b"d\n", 14)?;
-    let _ = editor.tree.mark_write();
-    go_to(alloc, &mut editor, 3)?;
-    Ok(editor)
+const BRANCHES: [Step; 8] = [
+    Step::Append(b"a\n", 11),
+    Step::Append(b"b\n", 12),
+    Step::GoTo(1),
+    Step::Append(b"c\n", 13),
+    Step::GoTo(1),
+    Step::Append(b"d\n", 14),
+    Step::Write,
+    Step::GoTo(3),
+];
+
+// The bytes of the undo file of that tree.
+pub(crate) fn branches_file(alloc: Global) -> Result<Vec<u8>, Fail> {
+    let mut editor = editor_after(alloc, b"", &BRANCHES)?;
+    file_of(alloc, &mut editor)
 }
 
 // The file that these bytes are.
@@ -133,16 +132,21 @@ fn is_tree(parts: &Parts, rows: &[Row], state: [u64; 3]) -> bool {
     changes && parts.root_child == 1 && [parts.current, parts.last, parts.last_save] == state
 }
 
+// The tree of the file, with this number in the place of its own.
+fn changed_tree(alloc: Global, file: &[u8], at: usize, number: u32) -> Result<Parts, Fail> {
+    let mut changed = Vec::from_slice(alloc, file)?;
+    put(&mut changed, at, number);
+    let history = read(alloc, &changed)?;
+    Ok(parts_of(alloc, &history)?)
+}
+
 #[test]
 fn each_number_of_a_file_counts_as_the_format_says(rt: HostRuntime) -> Result<(), Fail> {
     let alloc = rt.alloc();
-    let mut editor = editor_with_branches(alloc)?;
-    let bytes = encode(alloc, &data_of(alloc, &mut editor, false)?)?;
-    assert!(rt; bytes.len() == END);
+    let file = branches_file(alloc)?;
+    assert!(rt; file.len() == END);
     for (name, at, number, rows, state) in CASES {
-        let mut changed = Vec::from_slice(alloc, &bytes)?;
-        put(&mut changed, at, number);
-        let parts = parts_of(alloc, &read(alloc, &changed)?)?;
+        let parts = changed_tree(alloc, &file, at, number)?;
         assert!(rt; is_tree(&parts, rows, state), "{name}");
     }
     Ok(())

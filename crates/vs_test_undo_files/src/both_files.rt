@@ -1,33 +1,39 @@
 // Runs with `w` and the option `undofile`: what both files hold, and what a stop or a fault at each call leaves of them.
-use crate::helpers::{KEEPS, PREFIXES, host_of, marks_of};
+use crate::helpers::{choices_of, edit_f, host_of};
 use crate::undo_files::{OLD, after_run, calls_of, has_both, undo_file};
 use std::alloc::Global;
+use std::ops::Range;
 use std::process::Abort;
 use std::test::Fail;
 use vs_machine::Outcome;
 use vs_memory::{Choice, MemHost};
+use vs_top::Report;
+use vs_ufile::FileHistory;
 
 const SCRIPT: &[u8] = b"set undofile\n$a\nb\n.\n$a\nc\n.\nu\nw\nq!\n";
 
 const REPLIES: &[u8] =
     b"\"f\" 1L, 2B\nundofile\nchange 1, 2 lines\nchange 2, 3 lines\nat 1, 2 lines\n\"f\" 2L, 4B written\nquit\n";
 
+// Whether the first of two changes was current at the first save, and the other one at none.
+fn has_save(history: &FileHistory) -> bool {
+    match history.changes.as_slice() {
+        [first, second] => history.last_save == 1 && (first.save, second.save) == (1, 0),
+        _ => false,
+    }
+}
+
 #[test]
 fn a_write_stores_the_history_with_its_save_number(rt: HostRuntime) -> Result<(), Fail> {
     let alloc = rt.alloc();
     let mut host = host_of(alloc, &[("f", b"a\n")], SCRIPT)?;
-    let (status, _) = marks_of(alloc, &mut host)?;
-    assert_eq!(rt; status, 0);
-    assert_eq!(rt; host.output(), REPLIES);
+    let report = edit_f(alloc, &mut host)?;
+    assert!(rt; report.status == 0 && host.output() == REPLIES);
     assert!(rt; host.file("f") == NEW);
     let Some(history) = undo_file(alloc, &host)? else {
         return Err(Fail::new("there is no undo file"));
     };
-    assert!(rt; has_both(&history), "{history:?}");
-    assert_eq!(rt; history.last_save, 1);
-    assert_eq!(rt; history.changes.len(), 2);
-    let saves = (history.changes[0].save, history.changes[1].save);
-    assert_eq!(rt; saves, (1, 0));
+    assert!(rt; has_both(&history) && has_save(&history), "{history:?}");
     Ok(())
 }
 
@@ -40,23 +46,41 @@ fn is_whole(image: &MemHost) -> bool {
     image.file("f") == old || image.file("f") == NEW || image.file("f~") == old
 }
 
-// An image in which the undo file is neither the older one nor that of the history beside the new file, or the edited file and its
-// backup are torn.
+// Whether the edited file or its backup is whole, and the undo file is the older one, or that of the history beside the new file.
+fn are_whole(alloc: Global, image: &MemHost) -> Result<bool, Fail> {
+    if !is_whole(image) {
+        return Ok(false);
+    }
+    if image.file(".f.un~") == Some(OLD) {
+        return Ok(true);
+    }
+    match undo_file(alloc, image)? {
+        Some(history) => Ok(has_both(&history) && image.file("f") == NEW),
+        None => Ok(false),
+    }
+}
+
+// An image in which they are something else.
 fn find_torn(alloc: Global, host: &MemHost) -> Result<Option<Choice>, Fail> {
-    for keep in KEEPS {
-        for names in PREFIXES {
-            let choice = Choice { names, keep };
-            let image = host.image(alloc, &choice, Vec::new(alloc))?;
-            if !is_whole(&image) {
-                return Ok(Some(choice));
-            }
-            if image.file(".f.un~") == Some(OLD) {
-                continue;
-            }
-            match undo_file(alloc, &image)? {
-                Some(history) if has_both(&history) && image.file("f") == NEW => {}
-                _ => return Ok(Some(choice)),
-            }
+    for choice in &choices_of(alloc)? {
+        let image = host.image(alloc, choice, Vec::new(alloc))?;
+        if !are_whole(alloc, &image)? {
+            return Ok(Some(*choice));
+        }
+    }
+    Ok(None)
+}
+
+// One of these stops of a run in which the call `failing` fails, which leaves something else.
+fn find_stop(
+    alloc: Global,
+    failing: u64,
+    stops: Range<u64>,
+) -> Result<Option<(u64, Choice)>, Fail> {
+    for stop in stops {
+        let host = after_run(alloc, SCRIPT, failing, stop)?;
+        if let Some(choice) = find_torn(alloc, &host)? {
+            return Ok(Some((stop, choice)));
         }
     }
     Ok(None)
@@ -65,11 +89,9 @@ fn find_torn(alloc: Global, host: &MemHost) -> Result<Option<Choice>, Fail> {
 #[test]
 fn each_stop_leaves_whole_files(rt: HostRuntime) -> Result<(), Fail> {
     let alloc = rt.alloc();
-    for stop in 0..=calls_of(alloc, SCRIPT)? {
-        let host = after_run(alloc, SCRIPT, 0, stop)?;
-        let torn = find_torn(alloc, &host)?;
-        assert!(rt; torn.is_none(), "{stop} calls: {torn:?}");
-    }
+    let calls = calls_of(alloc, SCRIPT)?;
+    let torn = find_stop(alloc, 0, 0..calls.saturating_add(1))?;
+    assert!(rt; torn.is_none(), "{torn:?}");
     Ok(())
 }
 
@@ -78,13 +100,11 @@ const BEFORE: &[u8] = b"set undofile\n$a\nb\n.\n$a\nc\n.\nu\n";
 
 // A call after that sync which fails, and a stop after it, which leave something else.
 fn find_fault(alloc: Global) -> Result<Option<(u64, u64)>, Fail> {
-    let calls = calls_of(alloc, SCRIPT)?;
-    for failing in calls_of(alloc, BEFORE)?..=calls {
-        for stop in failing..=calls {
-            let host = after_run(alloc, SCRIPT, failing, stop)?;
-            if find_torn(alloc, &host)?.is_some() {
-                return Ok(Some((failing, stop)));
-            }
+    let start = calls_of(alloc, BEFORE)?;
+    let end = calls_of(alloc, SCRIPT)?.saturating_add(1);
+    for failing in start..end {
+        if let Some((stop, _)) = find_stop(alloc, failing, failing..end)? {
+            return Ok(Some((failing, stop)));
         }
     }
     Ok(None)
@@ -100,12 +120,24 @@ fn each_fault_leaves_whole_files(rt: HostRuntime) -> Result<(), Fail> {
 const UNSTORED: &[u8] =
     b"\"f\" 1L, 2B\nundofile\n\"f\" 1L, 2B written, no undo file\nFile preserved\n";
 
-// A run over `f` in which the call `failing` fails: its status, its marks and the host.
-fn with_fault(alloc: Global, failing: u64) -> Result<(u8, Vec<Outcome>, MemHost), Fail> {
+// A run over `f` in which the call `failing` fails.
+fn with_fault(alloc: Global, failing: u64) -> Result<(Report, MemHost), Fail> {
     let mut host = host_of(alloc, &[("f", b"a\n")], b"set undofile\nw\n")?;
     host.fail_call(alloc, failing)?;
-    let (status, marks) = marks_of(alloc, &mut host)?;
-    Ok((status, marks, host))
+    let report = edit_f(alloc, &mut host)?;
+    Ok((report, host))
+}
+
+// Whether the status and the marks say that the undo file is not stored.
+fn is_told(report: &Report) -> bool {
+    match report.marks.as_slice() {
+        [first, second] => {
+            report.status == 1
+                && first.outcome == Outcome::Done
+                && second.outcome == Outcome::NoUndo
+        }
+        _ => false,
+    }
 }
 
 // A look at the temporary name, and the calls that make, write, sync and rename the file and sync the names.
@@ -116,18 +148,17 @@ fn an_undo_file_that_is_not_stored_is_said_so(rt: HostRuntime) -> Result<(), Fai
     let alloc = rt.alloc();
     let mut unstored: u64 = 0;
     for failing in 1..=calls_of(alloc, b"set undofile\nw\n")? {
-        let (status, marks, host) = with_fault(alloc, failing)?;
-        if host.output() != UNSTORED {
-            continue;
-        }
-        unstored = unstored.saturating_add(1);
-        assert_eq!(rt; status, 1);
-        assert!(rt; matches!(marks.as_slice(), [Outcome::Done, Outcome::NoUndo]));
-        assert!(rt; host.file("f") == Some(b"a\n".as_slice()));
-        if unstored < CALLS {
-            assert!(rt; host.file(".f.un~").is_none(), "call {failing}");
+        let (report, host) = with_fault(alloc, failing)?;
+        if host.output() == UNSTORED {
+            unstored = unstored.saturating_add(1);
+            let stored = host.file(".f.un~").is_some();
+            assert!(rt;
+                is_told(&report) && (!stored || CALLS <= unstored),
+                "call {failing}"
+            );
+            assert!(rt; host.file("f") == Some(b"a\n".as_slice()), "call {failing}");
         }
     }
-    assert_eq!(rt; unstored, CALLS);
+    assert!(rt; unstored == CALLS, "{unstored} calls");
     Ok(())
 }

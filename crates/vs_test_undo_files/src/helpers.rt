@@ -5,15 +5,14 @@ ghost use Rattle.vs_memory.specs.Memory.{folder_of};
 use std::alloc::Global;
 use std::test::Fail;
 use vs_host::Host;
-use vs_machine::Outcome;
-use vs_memory::{Keep, MemHost};
+use vs_memory::{Choice, Keep, MemHost};
 use vs_top::{Report, run};
 
-/// A stop leaves these bytes where a file was changed and not synced.
-pub const KEEPS: [Keep; 3] = [Keep::Read, Keep::Synced, Keep::Byte(b'?')];
+// A stop leaves these bytes where a file was changed and not synced.
+const KEEPS: [Keep; 3] = [Keep::Read, Keep::Synced, Keep::Byte(b'?')];
 
-/// As many changes of names as are pending at once in a write, and all of them.
-pub const PREFIXES: [u32; 6] = [0, 1, 2, 3, 4, u32::MAX];
+// As many changes of names as are pending at once in a write, and all of them.
+const PREFIXES: [u32; 6] = [0, 1, 2, 3, 4, u32::MAX];
 
 fn put(alloc: Global, host: &mut MemHost, name: &str, bytes: &[u8]) -> Result<(), Fail>
     ensures { host.new ≡ record host.old { base = host.new.base } }
@@ -41,34 +40,30 @@ pub(crate) fn host_of(
     Ok(host)
 }
 
-// Runs `edit f`.
-fn run_f<H: Host>(alloc: Global, host: &mut H) -> Result<Report, Fail>
+fn words_of(alloc: Global, words: [&str; 2]) -> Result<Vec<String>, Fail> {
+    let mut list = Vec::new(alloc);
+    for word in words {
+        list.push(String::from_str(alloc, word)?)?;
+    }
+    Ok(list)
+}
+
+/// Runs `edit f`.
+pub(crate) fn edit_f<H: Host>(alloc: Global, host: &mut H) -> Result<Report, Fail>
     requires clock { IsTrue (H.tells).clock → (H.scene host.old).answers ≡ [] }
     requires settled { IsTrue (H.tells).folder → (H.scene host.old).folder.pending ≡ [] }
 {
-    let mut words = Vec::new(alloc);
-    words.push(String::from_str(alloc, "edit")?)?;
-    words.push(String::from_str(alloc, "f")?)?;
+    let words = words_of(alloc, ["edit", "f"])?;
     Ok(run(alloc, words.as_slice(), host))
 }
 
-/// Runs `edit f`, and gives its exit status.
-pub(crate) fn edit_f<H: Host>(alloc: Global, host: &mut H) -> Result<u8, Fail>
-    requires clock { IsTrue (H.tells).clock → (H.scene host.old).answers ≡ [] }
-    requires settled { IsTrue (H.tells).folder → (H.scene host.old).folder.pending ≡ [] }
-{
-    Ok(run_f(alloc, host)?.status)
-}
-
-/// Runs `edit f`, and gives its exit status and how its commands ended.
-pub(crate) fn marks_of<H: Host>(alloc: Global, host: &mut H) -> Result<(u8, Vec<Outcome>), Fail>
-    requires clock { IsTrue (H.tells).clock → (H.scene host.old).answers ≡ [] }
-    requires settled { IsTrue (H.tells).folder → (H.scene host.old).folder.pending ≡ [] }
-{
-    let report = run_f(alloc, host)?;
-    let mut outcomes = Vec::new(alloc);
-    for mark in &report.marks {
-        outcomes.push(mark.outcome)?;
+/// What a stop may leave, by what is kept of each file and of the pending changes of names.
+pub(crate) fn choices_of(alloc: Global) -> Result<Vec<Choice>, Fail> {
+    let mut choices = Vec::new(alloc);
+    for keep in KEEPS {
+        for names in PREFIXES {
+            choices.push(Choice { names, keep })?;
+        }
     }
-    Ok((report.status, outcomes))
+    Ok(choices)
 }

@@ -5,18 +5,25 @@ use std::process::Abort;
 use std::test::Fail;
 use vs_memory::MemHost;
 
+// Whether a run over these files and this script ends with status 1 and this output.
+fn is_refused(
+    alloc: Global,
+    files: &[(&str, &[u8])],
+    script: &[u8],
+    output: &[u8],
+) -> Result<bool, Fail> {
+    let mut host = host_of(alloc, files, script)?;
+    let report = edit_f(alloc, &mut host)?;
+    Ok(report.status == 1 && host.output() == output)
+}
+
+const OPTIONS: &[u8] =
+    b"\"f\" [New]\nbackup\nnowritebackup\nbackupcopy=yes\nE474: Invalid argument\nE518: Unknown option\nno undo file\nquit\n";
+
 #[test]
 fn the_replies_of_a_script_without_an_undo_file(rt: HostRuntime) -> Result<(), Fail> {
-    let alloc = rt.alloc();
     let script = b"set bk\nset nowb\nset bkc=yes\nset bkc=maybe\nset tw=3\nrundo\nq\n";
-    let mut host = host_of(alloc, &[], script)?;
-    assert_eq!(rt; edit_f(alloc, &mut host)?, 1);
-    let mut all = Vec::from_slice(
-        alloc,
-        b"\"f\" [New]\nbackup\nnowritebackup\nbackupcopy=yes\n",
-    )?;
-    all.extend_from_slice(b"E474: Invalid argument\nE518: Unknown option\nno undo file\nquit\n")?;
-    assert_eq!(rt; host.output(), all.as_slice());
+    assert!(rt; is_refused(rt.alloc(), &[], script, OPTIONS)?);
     Ok(())
 }
 
@@ -25,24 +32,32 @@ const REPLIES: &[u8] =
 
 #[test]
 fn over_changes_no_state_counts_as_written_until_a_write(rt: HostRuntime) -> Result<(), Fail> {
-    let alloc = rt.alloc();
     let script = b"$a\nb\n.\nwundo\nrundo\nundo 0\nq\nw\nq\n";
-    let mut host = host_of(alloc, &[("f", b"a\n")], script)?;
-    assert_eq!(rt; edit_f(alloc, &mut host)?, 1);
-    assert_eq!(rt; host.output(), REPLIES);
+    assert!(rt; is_refused(rt.alloc(), &[("f", b"a\n")], script, REPLIES)?);
     Ok(())
 }
 
-// The host after a run over the file `f`, and after it a run of another script over what the first one left.
-fn after_both(alloc: Global, f: &[u8], first: &[u8], second: &[u8]) -> Result<(u8, MemHost), Fail> {
-    let mut host = host_of(alloc, &[("f", f)], first)?;
+// What a run over the file `f` leaves.
+fn first_run(alloc: Global, f: &[u8], script: &[u8]) -> Result<MemHost, Fail> {
+    let mut host = host_of(alloc, &[("f", f)], script)?;
     edit_f(alloc, &mut host)?;
-    let (Some(f), Some(undo)) = (host.file("f"), host.file(".f.un~")) else {
+    Ok(host)
+}
+
+// Whether a run of another script over both files that this one left ends so.
+fn second_run(
+    alloc: Global,
+    first: &MemHost,
+    script: &[u8],
+    status: u8,
+    output: &[u8],
+) -> Result<bool, Fail> {
+    let (Some(f), Some(undo)) = (first.file("f"), first.file(".f.un~")) else {
         return Err(Fail::new("the first run left no undo file"));
     };
-    let mut next = host_of(alloc, &[("f", f), (".f.un~", undo)], second)?;
-    let status = edit_f(alloc, &mut next)?;
-    Ok((status, next))
+    let mut host = host_of(alloc, &[("f", f), (".f.un~", undo)], script)?;
+    let report = edit_f(alloc, &mut host)?;
+    Ok(report.status == status && host.output() == output)
 }
 
 const CHANGES: &[u8] = b"$a\nb\n.\nw\nwundo\nq\n";
@@ -78,15 +93,21 @@ const SECOND: [(&str, &[u8], u8, &[u8]); 4] = [
 /// Scripts that leave the same history, once by `wundo` and once by `w` itself.
 const FIRST: [&[u8]; 2] = [CHANGES, b"set undofile\n$a\nb\n.\nw\nq\n"];
 
+// Whether the second script answers so after each of the first ones.
+fn is_answered(alloc: Global, script: &[u8], status: u8, output: &[u8]) -> Result<bool, Fail> {
+    for first in FIRST {
+        let host = first_run(alloc, b"a\n", first)?;
+        if !second_run(alloc, &host, script, status, output)? {
+            return Ok(false);
+        }
+    }
+    Ok(true)
+}
+
 #[test]
 fn a_second_run_takes_the_history_with_its_text(rt: HostRuntime) -> Result<(), Fail> {
-    let alloc = rt.alloc();
-    for first in FIRST {
-        for (name, script, status, output) in SECOND {
-            let (ended, host) = after_both(alloc, b"a\n", first, script)?;
-            assert!(rt; host.output() == output, "{name}");
-            assert_eq!(rt; ended, status);
-        }
+    for (name, script, status, output) in SECOND {
+        assert!(rt; is_answered(rt.alloc(), script, status, output)?, "{name}");
     }
     Ok(())
 }
@@ -104,20 +125,15 @@ fn lines_of(alloc: Global, count: u32) -> Result<Vec<u8>, Fail> {
 const SUBSTITUTES: &[u8] =
     b"1s/\\Va/b/\n2s/\\Va/b/\n3s/\\Va/b/\n4s/\\Va/b/\n5s/\\Va/b/\n6s/\\Va/b/\n7s/\\Va/b/\n8s/\\Va/b/\nw\nwundo\nq\n";
 
+const ALL_CHANGES: &[u8] =
+    b"\"f\" 100L, 4100B\nundo file read, at 8, 8 changes\nat 0, 100 lines\naaaaaaaaaaaaaaaaaaaaaaaaaaaaaaaaaaaaaaaa\nquit\n";
+
 #[test]
 fn a_second_run_goes_back_over_all_changes(rt: HostRuntime) -> Result<(), Fail> {
     let alloc = rt.alloc();
     let f = lines_of(alloc, 100)?;
-    let (status, host) = after_both(alloc, &f, SUBSTITUTES, b"rundo\nundo 0\n1p\nq!\n")?;
-    assert_eq!(rt; status, 0);
-    let mut all = Vec::from_slice(
-        alloc,
-        b"\"f\" 100L, 4100B\nundo file read, at 8, 8 changes\n",
-    )?;
-    all.extend_from_slice(b"at 0, 100 lines\n")?;
-    all.extend_from_slice(&[b'a'; 40])?;
-    all.extend_from_slice(b"\nquit\n")?;
-    assert_eq!(rt; host.output(), all.as_slice());
+    let host = first_run(alloc, &f, SUBSTITUTES)?;
+    assert!(rt; second_run(alloc, &host, b"rundo\nundo 0\n1p\nq!\n", 0, ALL_CHANGES)?);
     Ok(())
 }
 
@@ -142,19 +158,17 @@ const REFUSED: [(&[u8], &[u8]); 5] = [
     ),
 ];
 
-// What a run with `rundo` writes over two lines and this undo file.
-fn output_with(alloc: Global, undo: &[u8]) -> Result<MemHost, Fail> {
+// Whether a run with `rundo` over two lines and this undo file has this output.
+fn has_output(alloc: Global, undo: &[u8], output: &[u8]) -> Result<bool, Fail> {
     let mut host = host_of(alloc, &[("f", b"a\nb\n"), (".f.un~", undo)], b"rundo\nq\n")?;
     edit_f(alloc, &mut host)?;
-    Ok(host)
+    Ok(host.output() == output)
 }
 
 #[test]
 fn an_undo_file_is_refused_with_its_cause(rt: HostRuntime) -> Result<(), Fail> {
-    let alloc = rt.alloc();
     for (undo, output) in REFUSED {
-        let host = output_with(alloc, undo)?;
-        assert_eq!(rt; host.output(), output);
+        assert!(rt; has_output(rt.alloc(), undo, output)?, "{undo:?}");
     }
     Ok(())
 }

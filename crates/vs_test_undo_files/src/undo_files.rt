@@ -1,6 +1,7 @@
 // Runs with `wundo`: what the undo file holds, and what a stop or a fault at each call leaves of it.
-use crate::helpers::{KEEPS, PREFIXES, edit_f, host_of};
+use crate::helpers::{choices_of, edit_f, host_of};
 use std::alloc::Global;
+use std::ops::Range;
 use std::process::Abort;
 use std::test::Fail;
 use vs_memory::{Choice, MemHost};
@@ -39,22 +40,26 @@ pub(crate) fn undo_file(alloc: Global, host: &MemHost) -> Result<Option<FileHist
 
 /// Whether an undo file has the two changes of the script, of which the first is current.
 pub(crate) fn has_both(history: &FileHistory) -> bool {
-    let changes = history.changes.as_slice();
-    if history.digest != TWO_LINES || history.lines != 2 || changes.len() != 2 {
+    if history.digest != TWO_LINES || history.lines != 2 {
         return false;
     }
     let numbers = (history.last, history.current, history.current_head);
-    numbers == (2, 1, 2)
-        && (changes[0].number, changes[0].next) == (1, 0)
-        && (changes[1].number, changes[1].next) == (2, 1)
+    match history.changes.as_slice() {
+        [first, second] => {
+            numbers == (2, 1, 2)
+                && (first.number, first.next) == (1, 0)
+                && (second.number, second.next) == (2, 1)
+        }
+        _ => false,
+    }
 }
 
 #[test]
 fn wundo_stores_the_history_at_its_text(rt: HostRuntime) -> Result<(), Fail> {
     let alloc = rt.alloc();
     let mut host = host_of(alloc, &[("f", b"a\n")], STORED)?;
-    assert_eq!(rt; edit_f(alloc, &mut host)?, 0);
-    assert_eq!(rt; host.output(), REPLIES);
+    let report = edit_f(alloc, &mut host)?;
+    assert!(rt; report.status == 0 && host.output() == REPLIES);
     let Some(history) = undo_file(alloc, &host)? else {
         return Err(Fail::new("there is no undo file"));
     };
@@ -64,22 +69,31 @@ fn wundo_stores_the_history_at_its_text(rt: HostRuntime) -> Result<(), Fail> {
     Ok(())
 }
 
+// The undo file of the text without lines.
+fn empty_file(alloc: Global) -> Result<Vec<u8>, Fail> {
+    let parts: [&[u8]; 5] = [
+        b"Vim\x9fUnDo\xe5\x00\x02",
+        &NO_LINES,
+        &[0, 0, 0, 1],
+        &[0; 44],
+        &[4, 1, 0, 0, 0, 0, 0, 0xe7, 0xaa],
+    ];
+    let mut bytes = Vec::new(alloc);
+    for part in parts {
+        bytes.extend_from_slice(part)?;
+    }
+    Ok(bytes)
+}
+
 #[test]
 fn the_undo_file_of_the_text_without_lines_has_100_bytes(rt: HostRuntime) -> Result<(), Fail> {
     let alloc = rt.alloc();
     let mut host = host_of(alloc, &[], b"wundo\nq\n")?;
-    assert_eq!(rt; edit_f(alloc, &mut host)?, 0);
-    assert_eq!(rt;
-        host.output(),
-        b"\"f\" [New]\nundo file written\nquit\n".as_slice()
-    );
-    let mut bytes = Vec::from_slice(alloc, b"Vim\x9fUnDo\xe5\x00\x02")?;
-    bytes.extend_from_slice(&NO_LINES)?;
-    bytes.extend_from_slice(&[0, 0, 0, 1])?;
-    bytes.extend_from_slice(&[0; 44])?;
-    bytes.extend_from_slice(&[4, 1, 0, 0, 0, 0, 0, 0xe7, 0xaa])?;
-    assert_eq!(rt; bytes.len(), 100);
-    assert!(rt; host.file(".f.un~") == Some(bytes.as_slice()));
+    let report = edit_f(alloc, &mut host)?;
+    let output = b"\"f\" [New]\nundo file written\nquit\n".as_slice();
+    assert!(rt; report.status == 0 && host.output() == output);
+    let bytes = empty_file(alloc)?;
+    assert!(rt; bytes.len() == 100 && host.file(".f.un~") == Some(bytes.as_slice()));
     Ok(())
 }
 
@@ -99,24 +113,41 @@ pub(crate) fn after_run(
 
 /// How many calls a run makes.
 pub(crate) fn calls_of(alloc: Global, script: &[u8]) -> Result<u64, Fail> {
-    let mut host = host_of(alloc, &[("f", b"a\n"), (".f.un~", OLD)], script)?;
-    edit_f(alloc, &mut host)?;
-    Ok(host.calls())
+    Ok(after_run(alloc, script, 0, u64::MAX)?.calls())
 }
 
-// An image in which the undo file is neither the older one nor that of the history.
+// Whether the undo file of an image is the older one, or that of the history.
+fn has_undo_file(alloc: Global, image: &MemHost) -> Result<bool, Fail> {
+    if image.file(".f.un~") == Some(OLD) {
+        return Ok(true);
+    }
+    match undo_file(alloc, image)? {
+        Some(history) => Ok(has_both(&history)),
+        None => Ok(false),
+    }
+}
+
+// An image in which the undo file is something else.
 fn find_torn(alloc: Global, host: &MemHost) -> Result<Option<Choice>, Fail> {
-    for keep in KEEPS {
-        for names in PREFIXES {
-            let choice = Choice { names, keep };
-            let image = host.image(alloc, &choice, Vec::new(alloc))?;
-            if image.file(".f.un~") == Some(OLD) {
-                continue;
-            }
-            match undo_file(alloc, &image)? {
-                Some(history) if has_both(&history) => {}
-                _ => return Ok(Some(choice)),
-            }
+    for choice in &choices_of(alloc)? {
+        let image = host.image(alloc, choice, Vec::new(alloc))?;
+        if !has_undo_file(alloc, &image)? {
+            return Ok(Some(*choice));
+        }
+    }
+    Ok(None)
+}
+
+// One of these stops of a run in which the call `failing` fails, which leaves something else.
+fn find_stop(
+    alloc: Global,
+    failing: u64,
+    stops: Range<u64>,
+) -> Result<Option<(u64, Choice)>, Fail> {
+    for stop in stops {
+        let host = after_run(alloc, STORED, failing, stop)?;
+        if let Some(choice) = find_torn(alloc, &host)? {
+            return Ok(Some((stop, choice)));
         }
     }
     Ok(None)
@@ -125,23 +156,18 @@ fn find_torn(alloc: Global, host: &MemHost) -> Result<Option<Choice>, Fail> {
 #[test]
 fn each_stop_leaves_the_older_undo_file_or_the_new_one(rt: HostRuntime) -> Result<(), Fail> {
     let alloc = rt.alloc();
-    for stop in 0..=calls_of(alloc, STORED)? {
-        let host = after_run(alloc, STORED, 0, stop)?;
-        let torn = find_torn(alloc, &host)?;
-        assert!(rt; torn.is_none(), "{stop} calls: {torn:?}");
-    }
+    let calls = calls_of(alloc, STORED)?;
+    let torn = find_stop(alloc, 0, 0..calls.saturating_add(1))?;
+    assert!(rt; torn.is_none(), "{torn:?}");
     Ok(())
 }
 
 // A call that fails, and a stop after it, which leave something else.
 fn find_fault(alloc: Global) -> Result<Option<(u64, u64)>, Fail> {
-    let calls = calls_of(alloc, STORED)?;
-    for failing in 1..=calls {
-        for stop in failing..=calls {
-            let host = after_run(alloc, STORED, failing, stop)?;
-            if find_torn(alloc, &host)?.is_some() {
-                return Ok(Some((failing, stop)));
-            }
+    let end = calls_of(alloc, STORED)?.saturating_add(1);
+    for failing in 1..end {
+        if let Some((stop, _)) = find_stop(alloc, failing, failing..end)? {
+            return Ok(Some((failing, stop)));
         }
     }
     Ok(None)

@@ -13,34 +13,11 @@ pub const OLD: &[u8] = b"a\n";
 
 pub const NEW: &[u8] = b"a\nx\n";
 
-/// A stop leaves these bytes where a file was changed and not synced.
-pub const KEEPS: [Keep; 3] = [Keep::Read, Keep::Synced, Keep::Byte(b'?')];
+// A stop leaves these bytes where a file was changed and not synced.
+const KEEPS: [Keep; 3] = [Keep::Read, Keep::Synced, Keep::Byte(b'?')];
 
-/// As many changes of names as are pending at once in a write, and all of them.
-pub const PREFIXES: [u32; 6] = [0, 1, 2, 3, 4, u32::MAX];
-
-/// A host with the file `f` and the backup `f~`, where they are there, and a script.
-pub(crate) fn host_with(
-    alloc: Global,
-    f: Option<&[u8]>,
-    backup: Option<&[u8]>,
-    script: &[u8],
-) -> Result<MemHost, Fail>
-    ensures answers { IfOk result (λ host. host.answers ≡ []) }
-    ensures settled { IfOk result (λ host. (folder_of host).pending ≡ []) }
-{
-    let mut host = MemHost::new(alloc, Vec::from_slice(alloc, script)?)?;
-    if let Some(bytes) = f {
-        host.put(alloc, "f", Vec::from_slice(alloc, bytes)?)?;
-    }
-    if let Some(bytes) = backup {
-        if host.file("f~").is_some() {
-            return Err(Fail::new("the backup is there"));
-        }
-        host.put(alloc, "f~", Vec::from_slice(alloc, bytes)?)?;
-    }
-    Ok(host)
-}
+// As many changes of names as are pending at once in a write, and all of them.
+const PREFIXES: [u32; 6] = [0, 1, 2, 3, 4, u32::MAX];
 
 fn put(alloc: Global, host: &mut MemHost, name: &str, bytes: &[u8]) -> Result<(), Fail>
     ensures { host.new ≡ record host.old { base = host.new.base } }
@@ -68,14 +45,20 @@ pub(crate) fn host_of(
     Ok(host)
 }
 
+fn words_of(alloc: Global, words: [&str; 2]) -> Result<Vec<String>, Fail> {
+    let mut list = Vec::new(alloc);
+    for word in words {
+        list.push(String::from_str(alloc, word)?)?;
+    }
+    Ok(list)
+}
+
 /// Runs `edit f`, and gives its exit status.
 pub(crate) fn edit_f<H: Host>(alloc: Global, host: &mut H) -> Result<u8, Fail>
     requires clock { IsTrue (H.tells).clock → (H.scene host.old).answers ≡ [] }
     requires settled { IsTrue (H.tells).folder → (H.scene host.old).folder.pending ≡ [] }
 {
-    let mut words = Vec::new(alloc);
-    words.push(String::from_str(alloc, "edit")?)?;
-    words.push(String::from_str(alloc, "f")?)?;
+    let words = words_of(alloc, ["edit", "f"])?;
     Ok(run(alloc, words.as_slice(), host).status)
 }
 
@@ -86,15 +69,26 @@ pub struct Image {
     pub host: MemHost,
 }
 
+// Adds the images with this kept of each file, by what is kept of the pending changes of names.
+fn push_images(
+    alloc: Global,
+    host: &MemHost,
+    keep: Keep,
+    images: &mut Vec<Image>,
+) -> Result<(), Fail> {
+    for names in PREFIXES {
+        let choice = Choice { names, keep };
+        let host = host.image(alloc, &choice, Vec::new(alloc))?;
+        images.push(Image { choice, host })?;
+    }
+    Ok(())
+}
+
 /// The images of a folder, by what is kept of each file and of the pending changes of names.
 pub(crate) fn images_of(alloc: Global, host: &MemHost) -> Result<Vec<Image>, Fail> {
     let mut images = Vec::new(alloc);
     for keep in KEEPS {
-        for names in PREFIXES {
-            let choice = Choice { names, keep };
-            let host = host.image(alloc, &choice, Vec::new(alloc))?;
-            images.push(Image { choice, host })?;
-        }
+        push_images(alloc, host, keep, &mut images)?;
     }
     Ok(images)
 }

@@ -2,6 +2,7 @@
 use crate::helpers::{Image, NEW, OLD, edit_f, host_of, images_of};
 use crate::watched::Watched;
 use std::alloc::Global;
+use std::ops::Range;
 use std::process::Abort;
 use std::test::Fail;
 use vs_memory::{Choice, MemHost};
@@ -43,6 +44,10 @@ fn stopped(alloc: Global, before: &Before<'_>, script: &[u8], stop: u64) -> Resu
     Ok(host)
 }
 
+fn has_all(host: &MemHost, files: &[(&str, &[u8])]) -> bool {
+    files.iter().all(|file| host.file(file.0) == Some(file.1))
+}
+
 // An image in which one of these files is not there with its bytes.
 fn find_changed(
     alloc: Global,
@@ -50,10 +55,8 @@ fn find_changed(
     files: &[(&str, &[u8])],
 ) -> Result<Option<Choice>, Fail> {
     for image in &images_of(alloc, host)? {
-        for (name, bytes) in files {
-            if image.host.file(name) != Some(*bytes) {
-                return Ok(Some(image.choice));
-            }
+        if !has_all(&image.host, files) {
+            return Ok(Some(image.choice));
         }
     }
     Ok(None)
@@ -74,19 +77,48 @@ fn find_lost(alloc: Global, host: &Watched) -> Result<Option<Choice>, Fail> {
     Ok(None)
 }
 
+// One of these stops of a run that renames the file, after which an image has lost the backup.
+fn find_loss(
+    alloc: Global,
+    before: &Before<'_>,
+    stops: Range<u64>,
+) -> Result<Option<(u64, Choice)>, Fail> {
+    for stop in stops {
+        let host = stopped(alloc, before, RENAMING, stop)?;
+        if let Some(choice) = find_lost(alloc, &host)? {
+            return Ok(Some((stop, choice)));
+        }
+    }
+    Ok(None)
+}
+
 #[test]
 fn a_renamed_file_stays_until_it_is_removed(rt: HostRuntime) -> Result<(), Fail> {
     let alloc = rt.alloc();
     for before in [FREE, TAKEN] {
         let whole = stopped(alloc, &before, RENAMING, u64::MAX)?;
         assert!(rt; 0 < whole.renamed && whole.renamed < whole.removed);
-        for stop in whole.renamed..whole.removed {
-            let host = stopped(alloc, &before, RENAMING, stop)?;
-            let lost = find_lost(alloc, &host)?;
-            assert!(rt; lost.is_none(), "{stop} calls: {lost:?}");
-        }
+        let lost = find_loss(alloc, &before, whole.renamed..whole.removed)?;
+        assert!(rt; lost.is_none(), "{lost:?}");
     }
     Ok(())
+}
+
+// One of these stops of a run after which an image has not each of these files with its bytes.
+fn find_change(
+    alloc: Global,
+    before: &Before<'_>,
+    script: &[u8],
+    stops: Range<u64>,
+    files: &[(&str, &[u8])],
+) -> Result<Option<(u64, Choice)>, Fail> {
+    for stop in stops {
+        let host = stopped(alloc, before, script, stop)?;
+        if let Some(choice) = find_changed(alloc, &host.inner, files)? {
+            return Ok(Some((stop, choice)));
+        }
+    }
+    Ok(None)
 }
 
 // From the moment before the file is cut on.
@@ -96,44 +128,39 @@ fn a_copy_stays_while_the_file_is_overwritten(rt: HostRuntime) -> Result<(), Fai
     for before in [FREE, TAKEN] {
         let whole = stopped(alloc, &before, COPYING, u64::MAX)?;
         assert!(rt; 0 < whole.cut && whole.cut < whole.removed);
-        for stop in whole.cut - 1..whole.removed {
-            let host = stopped(alloc, &before, COPYING, stop)?;
-            let lost = find_changed(alloc, &host.inner, &[(before.backup, OLD)])?;
-            assert!(rt; lost.is_none(), "{stop} calls: {lost:?}");
-        }
+        let stops = whole.cut - 1..whole.removed;
+        let lost = find_change(alloc, &before, COPYING, stops, &[(before.backup, OLD)])?;
+        assert!(rt; lost.is_none(), "{lost:?}");
     }
     Ok(())
+}
+
+// Whether each image after a run has the new bytes in the file, and the backup is gone.
+fn is_written(alloc: Global, before: &Before<'_>, script: &[u8]) -> Result<bool, Fail> {
+    let whole = stopped(alloc, before, script, u64::MAX)?;
+    let lost = find_changed(alloc, &whole.inner, &[("f", NEW)])?;
+    Ok(lost.is_none() && whole.inner.file(before.backup).is_none())
 }
 
 #[test]
 fn the_file_is_written_and_its_backup_gone(rt: HostRuntime) -> Result<(), Fail> {
     let alloc = rt.alloc();
     for script in [RENAMING, COPYING] {
-        for before in [FREE, TAKEN] {
-            let whole = stopped(alloc, &before, script, u64::MAX)?;
-            let lost = find_changed(alloc, &whole.inner, &[("f", NEW)])?;
-            assert!(rt; lost.is_none(), "{lost:?}");
-            assert!(rt; whole.inner.file(before.backup).is_none());
-        }
+        assert!(rt; is_written(alloc, &FREE, script)?);
+        assert!(rt; is_written(alloc, &TAKEN, script)?);
     }
     Ok(())
 }
 
-// A stop of a run over these files after which one of those that are listed is not there with its bytes in each image.
+// A stop of a run over these files after which an image has not each of those that are listed with its bytes.
 fn find_stop(
     alloc: Global,
     before: &Before<'_>,
     script: &[u8],
     files: &[(&str, &[u8])],
 ) -> Result<Option<(u64, Choice)>, Fail> {
-    let whole = stopped(alloc, before, script, u64::MAX)?;
-    for stop in 0..=whole.inner.calls() {
-        let host = stopped(alloc, before, script, stop)?;
-        if let Some(choice) = find_changed(alloc, &host.inner, files)? {
-            return Ok(Some((stop, choice)));
-        }
-    }
-    Ok(None)
+    let calls = stopped(alloc, before, script, u64::MAX)?.inner.calls();
+    find_change(alloc, before, script, 0..calls.saturating_add(1), files)
 }
 
 #[test]
@@ -158,6 +185,11 @@ fn all_taken(alloc: Global) -> Result<Vec<(&'static str, &'static [u8])>, Fail> 
 const NO_FREE_NAME: &[u8] =
     b"no free backup name\nE37: No write since last change (add ! to override)\nFile preserved\n";
 
+fn has_no_free_name(alloc: Global, before: &Before<'_>, script: &[u8]) -> Result<bool, Fail> {
+    let whole = stopped(alloc, before, script, u64::MAX)?;
+    Ok(whole.inner.output().ends_with(NO_FREE_NAME))
+}
+
 #[test]
 fn no_file_changes_where_no_name_is_free(rt: HostRuntime) -> Result<(), Fail> {
     let alloc = rt.alloc();
@@ -167,8 +199,7 @@ fn no_file_changes_where_no_name_is_free(rt: HostRuntime) -> Result<(), Fail> {
         backup: "f~",
     };
     for script in [RENAMING, COPYING] {
-        let whole = stopped(alloc, &before, script, u64::MAX)?;
-        assert!(rt; whole.inner.output().ends_with(NO_FREE_NAME));
+        assert!(rt; has_no_free_name(alloc, &before, script)?);
         let changed = find_stop(alloc, &before, script, before.files)?;
         assert!(rt; changed.is_none(), "{changed:?}");
     }

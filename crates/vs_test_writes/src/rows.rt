@@ -1,25 +1,24 @@
 // Runs with writes: what they answer, and the file and its backup afterwards.
-use crate::helpers::{edit_f, host_with};
+use crate::helpers::{edit_f, host_of};
+use std::alloc::Global;
 use std::process::Abort;
 use std::test::Fail;
 
 struct Case {
     shows: &'static str,
-    f: Option<&'static [u8]>,
-    // The bytes of `f~` before, where it is there, and afterwards.
-    older: Option<&'static [u8]>,
+    before: &'static [(&'static str, &'static [u8])],
     script: &'static [u8],
     output: &'static [u8],
     status: u8,
     written: &'static [u8],
+    // The bytes of `f~` afterwards, where it is there.
     backup: Option<&'static [u8]>,
 }
 
 const CASES: [Case; 9] = [
     Case {
         shows: "a text is written as it was read",
-        f: Some(b"a\x00b\n"),
-        older: None,
+        before: &[("f", b"a\x00b\n")],
         script: b"w\nq\n",
         output: b"\"f\" 1L, 4B\n\"f\" 1L, 4B written\nquit\n",
         status: 0,
@@ -28,8 +27,7 @@ const CASES: [Case; 9] = [
     },
     Case {
         shows: "writes have numbers, by which moves count",
-        f: Some(b"a\n"),
-        older: None,
+        before: &[("f", b"a\n")],
         script: b"$a\nb\n.\n$a\nc\n.\nw\nu\nw\nearlier 1f\nearlier 1f\nlater 1f\nq!\n",
         output: b"\"f\" 1L, 2B\nchange 1, 2 lines\nchange 2, 3 lines\n\"f\" 3L, 6B written\nat 1, 2 lines\n\"f\" 2L, 4B written\nat 2, 3 lines\nat 0, 1 lines\nat 2, 3 lines\nquit\n",
         status: 0,
@@ -38,8 +36,7 @@ const CASES: [Case; 9] = [
     },
     Case {
         shows: "q is refused until the text is written",
-        f: Some(b"a\n"),
-        older: None,
+        before: &[("f", b"a\n")],
         script: b"$a\nx\n.\nq\nw\nq\n",
         output: b"\"f\" 1L, 2B\nchange 1, 2 lines\nE37: No write since last change (add ! to override)\n\"f\" 2L, 4B written\nquit\n",
         status: 1,
@@ -48,8 +45,7 @@ const CASES: [Case; 9] = [
     },
     Case {
         shows: "options are answered in full",
-        f: Some(b"a\n"),
-        older: None,
+        before: &[("f", b"a\n")],
         script: b"set bk\nset nowb\nset bkc=yes\nset bkc=maybe\nset tw=3\nq\n",
         output: b"\"f\" 1L, 2B\nbackup\nnowritebackup\nbackupcopy=yes\nE474: Invalid argument\nE518: Unknown option\nquit\n",
         status: 1,
@@ -58,8 +54,7 @@ const CASES: [Case; 9] = [
     },
     Case {
         shows: "without backups the file is written over",
-        f: Some(b"a\n"),
-        older: None,
+        before: &[("f", b"a\n")],
         script: b"set nowb\n$a\nx\n.\nw\nq\n",
         output: b"\"f\" 1L, 2B\nnowritebackup\nchange 1, 2 lines\n\"f\" 2L, 4B written\nquit\n",
         status: 0,
@@ -68,8 +63,7 @@ const CASES: [Case; 9] = [
     },
     Case {
         shows: "a backup that is kept replaces an older one",
-        f: Some(b"a\n"),
-        older: Some(b"old"),
+        before: &[("f", b"a\n"), ("f~", b"old")],
         script: b"set bk\n$a\nx\n.\nw\nq\n",
         output: b"\"f\" 1L, 2B\nbackup\nchange 1, 2 lines\n\"f\" 2L, 4B written\nquit\n",
         status: 0,
@@ -78,8 +72,7 @@ const CASES: [Case; 9] = [
     },
     Case {
         shows: "a backup that is not kept replaces none",
-        f: Some(b"a\n"),
-        older: Some(b"old"),
+        before: &[("f", b"a\n"), ("f~", b"old")],
         script: b"set bkc=no\n$a\nx\n.\nw\nq\n",
         output: b"\"f\" 1L, 2B\nbackupcopy=no\nchange 1, 2 lines\n\"f\" 2L, 4B written\nquit\n",
         status: 0,
@@ -88,8 +81,7 @@ const CASES: [Case; 9] = [
     },
     Case {
         shows: "a copied backup is removed",
-        f: Some(b"a\n"),
-        older: None,
+        before: &[("f", b"a\n")],
         script: b"set bkc=yes\n$a\nx\n.\nw\nq\n",
         output: b"\"f\" 1L, 2B\nbackupcopy=yes\nchange 1, 2 lines\n\"f\" 2L, 4B written\nquit\n",
         status: 0,
@@ -98,8 +90,7 @@ const CASES: [Case; 9] = [
     },
     Case {
         shows: "a new file is made by a write",
-        f: None,
-        older: None,
+        before: &[],
         script: b"0a\nx\n.\nw\nq\n",
         output: b"\"f\" [New]\nchange 1, 1 lines\n\"f\" 1L, 2B written\nquit\n",
         status: 0,
@@ -108,17 +99,22 @@ const CASES: [Case; 9] = [
     },
 ];
 
+fn is_answered(alloc: Global, case: &Case) -> Result<bool, Fail> {
+    let mut host = host_of(alloc, case.before, case.script)?;
+    let status = edit_f(alloc, &mut host)?;
+    Ok(
+        status == case.status
+            && host.output() == case.output
+            && host.file("f") == Some(case.written)
+            && host.file("f~") == case.backup,
+    )
+}
+
 #[test]
 fn writes_have_their_replies_and_leave_file_and_backup(rt: HostRuntime) -> Result<(), Fail> {
-    let alloc = rt.alloc();
     for case in &CASES {
         let shows = case.shows;
-        let mut host = host_with(alloc, case.f, case.older, case.script)?;
-        let status = edit_f(alloc, &mut host)?;
-        assert_eq!(rt; host.output(), case.output, "{shows}");
-        assert_eq!(rt; status, case.status, "{shows}");
-        assert!(rt; host.file("f") == Some(case.written), "{shows}");
-        assert!(rt; host.file("f~") == case.backup, "{shows}");
+        assert!(rt; is_answered(rt.alloc(), case)?, "{shows}");
     }
     Ok(())
 }

@@ -16,42 +16,63 @@ fn start(alloc: Global) -> Result<Editor<FailingStore<VecStore>>, AllocError>
     begin(alloc, FailingStore::new(VecStore::new(alloc)?, 0))
 }
 
-// Five changes on one another, and a second child of the first.
-fn grow<S: LineStore>(rt: &impl Abort, alloc: Global, editor: &mut Editor<S>) -> Result<(), Fail>
+// Whether six changes on one another, and then a move to the first, have their numbers.
+fn grow<S: LineStore>(alloc: Global, editor: &mut Editor<S>) -> Result<bool, Fail>
     requires { IsReady S.LineStore editor.old.tree editor.old.text }
     ensures { IsReady S.LineStore editor.new.tree editor.new.text }
 {
     for line in 0..6 {
-        assert_eq!(rt;
-            take(alloc, editor, Step::Change(line, 0, 1, b'a'))?,
-            line + 1
-        );
+        if take(alloc, editor, Step::Change(line, 0, 1, b'a'))? != line + 1 {
+            return Ok(false);
+        }
     }
-    assert_eq!(rt; take(alloc, editor, Step::Goto(1))?, 1);
-    Ok(())
+    Ok(take(alloc, editor, Step::Goto(1))? == 1)
+}
+
+// A move over five changes, in which this call of the store fails.
+fn move_failing(
+    alloc: Global,
+    editor: &mut Editor<FailingStore<VecStore>>,
+    call: u64,
+) -> Result<u64, UndoErr>
+    requires { IsReady ⟦<FailingStore<VecStore> as LineStore>⟧ editor.old.tree editor.old.text }
+    ensures { IsReady ⟦<FailingStore<VecStore> as LineStore>⟧ editor.new.tree editor.new.text }
+{
+    editor.text.calls = 0;
+    editor.text.fails_at = call;
+    let moved = take(alloc, editor, Step::Goto(6));
+    editor.text.fails_at = 0;
+    moved
+}
+
+// Whether this is the current state, and its text.
+fn is_at<S: LineStore>(
+    alloc: Global,
+    editor: &mut Editor<S>,
+    state: u64,
+    file: &[u8],
+) -> Result<bool, Fail>
+    requires { IsReady S.LineStore editor.old.tree editor.old.text }
+    ensures { IsReady S.LineStore editor.new.tree editor.new.text }
+{
+    let found = file_of(alloc, editor)?;
+    Ok(editor.tree.current() == state && found.as_slice() == file)
 }
 
 // Whether a move over five changes has this call of the store. Where that fails, all is as before, and the move then succeeds.
 fn fails_once(rt: &impl Abort, alloc: Global, call: u64) -> Result<bool, Fail> {
     let mut editor = start(alloc)?;
-    grow(rt, alloc, &mut editor)?;
+    assert!(rt; grow(alloc, &mut editor)?);
     let leaves = editor.tree.leaves(alloc)?;
-    editor.text.calls = 0;
-    editor.text.fails_at = call;
-    let moved = take(alloc, &mut editor, Step::Goto(6));
-    editor.text.fails_at = 0;
+    let moved = move_failing(alloc, &mut editor, call);
     if moved == Ok(6) {
         return Ok(false);
     }
-    assert_eq!(rt; moved, Err(UndoErr::Failed));
-    assert_eq!(rt; editor.tree.current(), 1);
-    assert_eq!(rt; file_of(alloc, &mut editor)?.as_slice(), b"a\n".as_slice());
-    assert_eq!(rt; editor.tree.leaves(alloc)?.as_slice(), leaves.as_slice());
-    assert_eq!(rt; take(alloc, &mut editor, Step::Goto(6))?, 6);
-    assert_eq!(rt;
-        file_of(alloc, &mut editor)?.as_slice(),
-        b"a\na\na\na\na\na\n".as_slice()
-    );
+    assert!(rt; moved == Err(UndoErr::Failed));
+    assert!(rt; is_at(alloc, &mut editor, 1, b"a\n")?);
+    assert!(rt; editor.tree.leaves(alloc)?.as_slice() == leaves.as_slice());
+    assert!(rt; take(alloc, &mut editor, Step::Goto(6))? == 6);
+    assert!(rt; is_at(alloc, &mut editor, 6, b"a\na\na\na\na\na\n")?);
     Ok(true)
 }
 

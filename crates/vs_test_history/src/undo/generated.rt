@@ -316,11 +316,10 @@ fn play<S: LineStore>(
     let lines = plain.file(alloc)?.len() as u64 / 2;
     let step = next_step(numbers, lines, plain.last());
     let wanted = plain.take(alloc, step);
-    assert_eq!(rt; take(alloc, editor, step), wanted, "{step:?}");
-    assert_eq!(rt; editor.tree.current(), plain.current, "{step:?}");
-    assert_eq!(rt;
-        file_of(alloc, editor)?.as_slice(),
-        plain.file(alloc)?.as_slice(),
+    assert!(rt; take(alloc, editor, step) == wanted, "{step:?}");
+    assert!(rt; editor.tree.current() == plain.current, "{step:?}");
+    assert!(rt;
+        file_of(alloc, editor)?.as_slice() == plain.file(alloc)?.as_slice(),
         "{step:?}"
     );
     Ok(())
@@ -349,7 +348,7 @@ fn follow<S: LineStore + Drop>(rt: &impl Abort, alloc: Global, text: S) -> Resul
     let mut plain = Plain::new(alloc)?;
     play_all(rt, alloc, &mut editor, &mut plain)?;
     let leaves = editor.tree.leaves(alloc)?;
-    assert_eq!(rt; leaves.as_slice(), plain.leaves(alloc)?.as_slice());
+    assert!(rt; leaves.as_slice() == plain.leaves(alloc)?.as_slice());
     Ok(())
 }
 
