@@ -1,5 +1,6 @@
 pub mod Images
 pub mod Runs
+pub mod Quiet
 pub mod Steps
 pub mod Others
 pub mod Parts

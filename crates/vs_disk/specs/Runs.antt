@@ -1,8 +1,8 @@
 -- What a call does that is lent a folder, at each of its moments and at its end.
-use Rattle.std.specs.Prelude.{◌≡◌, ◌≤◌, List, ◌++◌, length}
+use Rattle.std.specs.Prelude.{◌≡◌, ◌≤◌, ◌+◌, ℕ, List, ◌++◌, length, IsTrue}
 use Rattle.vs_host.specs.Disk.{Disk}
 use Rattle.vs_host.specs.Trace.{Snapshot, Each, GoesOn}
-use Rattle.vs_host.specs.World.{Scene}
+use Rattle.vs_host.specs.World.{Tells, Scene}
 
 -- A snapshot of a call that works on the folder alone: output, clock and the other counts are as when it began, and the
 -- folder has P.
@@ -42,3 +42,12 @@ pub record Quiet (old new : Scene) : Type 0 where
   pub script : new.script_faults ≡ old.script_faults
   pub out : new.out_faults ≡ old.out_faults
   pub folder : new.folder_faults ≡ old.folder_faults
+
+-- No call on the folder failed, and where it is told, no call on the host.
+pub record NoneFails (tells : Tells) (old new : Scene) : Type 0 where
+  pub faults : new.folder_faults ≡ old.folder_faults
+  pub quiet : IsTrue tells.folder → Quiet old new
+
+-- Where the folder is told, at most so many calls were made on the host.
+pub record CallsAtMost (tells : Tells) (old new : Scene) (most : ℕ) : Type 0 where
+  pub calls : IsTrue tells.folder → length new.trace ≤ length old.trace + most

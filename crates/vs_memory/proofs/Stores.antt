@@ -11,13 +11,14 @@ use Rattle.std.specs.declared.result.Result.{Result}
 use Rattle.std.proofs.lemmas.List.{length-map, map-set, get_or-set_other}
 use Rattle.std.proofs.lemmas.Grind.{common_steps, get_or-set_at}
 use Rattle.vs_host.specs.File.{File, synced_file}
-use Rattle.vs_host.specs.Disk.{Disk, Name, Directory, after_changes, changed_names, names_of}
+use Rattle.vs_host.specs.Disk.{Name, Directory, after_changes, changed_names, names_of}
 use Rattle.vs_host.specs.Disk as Disks
 use Rattle.vs_memory.specs.declared.names.NameChange.{NameChange}
 use Rattle.vs_memory.specs.declared.names.NameChange.TheVariants.{Create}
 use Rattle.vs_memory.specs.declared.file.MemFile.{MemFile}
 use Rattle.vs_memory.specs.Replay.{with_put}
 use Rattle.vs_memory.specs.Folders.{disk_of, file_of, file_at, change_of, no_names, on_number, on_file, with_file, with_change, with_names}
+use Rattle.vs_memory.specs.Images.{names_after}
 
 -- the names after all changes, synced or not
 pub split_names : (pending : ℕ) (all : List Disks.Change) → after_changes (take pending all) (after_changes (drop pending all) no_names) ≡ after_changes all no_names
@@ -25,7 +26,7 @@ split_names zero all = refl
 split_names (suc pending) [] = refl
 split_names (suc pending) (change ∷ all) = ap (λ (names : Directory). changed_names change names) (split_names pending all)
 
-pub names_now : (changes : List NameChange) (pending : ℕ) (files : List MemFile) → names_of (disk_of changes pending files) ≡ after_changes (map change_of (reverse changes)) no_names
+pub names_now : (changes : List NameChange) (pending : ℕ) (files : List MemFile) → names_of (disk_of changes pending files) ≡ names_after changes
 names_now changes pending files = split_names pending (map change_of (reverse changes))
 
 pub pushed : (changes : List NameChange) (change : NameChange) → map change_of (reverse (changes ++ change ∷ [])) ≡ change_of change ∷ map change_of (reverse changes)
@@ -41,7 +42,7 @@ one_change changes pending files change = λ i. record {
 }
 
 -- Where the name leads.
-pub leads : (changes : List NameChange) (pending : ℕ) (files : List MemFile) (name : Name) (at : Option ℕ) → at ≡ after_changes (map change_of (reverse changes)) no_names name → at ≡ names_of (disk_of changes pending files) name
+pub leads : (changes : List NameChange) (pending : ℕ) (files : List MemFile) (name : Name) (at : Option ℕ) → at ≡ names_after changes name → at ≡ names_of (disk_of changes pending files) name
 leads changes pending files name at is = is ∙ sym (ap (λ (f : Directory). f name) (names_now changes pending files))
 
 same_or_not : (a b : ℕ) → (a ≡ b) ⊎ (a ≢ b)
@@ -169,6 +170,6 @@ put_file changes pending files name kept bytes is = λ i. record {
   pending = [];
 }
   where
-    synced_names : after_changes (map change_of (reverse (changes ++ Create name (length files) ∷ []))) no_names ≡ changed_names (Disks.Creates (string_bytes name) (length files)) (names_of (disk_of changes pending files))
+    synced_names : names_after (changes ++ Create name (length files) ∷ []) ≡ changed_names (Disks.Creates (string_bytes name) (length files)) (names_of (disk_of changes pending files))
     synced_names = ap (λ (cs : List Disks.Change). after_changes cs no_names) (pushed changes (Create name (length files)))
         ∙ ap (λ (names : Directory). changed_names (Disks.Creates (string_bytes name) (length files)) names) (sym (names_now changes pending files))

@@ -1,6 +1,6 @@
 // A file in memory.
 ghost use Rattle.std.specs.Prelude.{◌≡◌, ◌≤◌, [], length, take, drop, OnOk, OnErr, IfOk};
-ghost use Rattle.vs_host.specs.File.{put, written, cut_to, synced_file};
+ghost use Rattle.vs_host.specs.File.{put, synced_file, Writes, Cuts, Syncs};
 ghost use Rattle.vs_memory.specs.Folders.{file_of};
 
 use std::alloc::{AllocError, Global};
@@ -72,7 +72,7 @@ impl MemFile {
     /// Writes a piece.
     pub fn write_at(&mut self, alloc: Global, at: usize, piece: &[u8]) -> Result<(), AllocError>
         requires { at ≤ length self.old.bytes.items }
-        ensures ok { OnOk result (file_of self.new ≡ written at piece.now (file_of self.old)) }
+        ensures ok { OnOk result (Writes at piece.now (file_of self.old) (file_of self.new)) }
         ensures err { OnErr result (file_of self.new ≡ file_of self.old) }
     {
         let size = self.bytes.len();
@@ -90,7 +90,7 @@ impl MemFile {
     /// Takes away the bytes from `len` on.
     pub fn cut(&mut self, alloc: Global, len: usize) -> Result<(), AllocError>
         requires { len ≤ length self.old.bytes.items }
-        ensures ok { OnOk result (file_of self.new ≡ cut_to len (file_of self.old)) }
+        ensures ok { OnOk result (Cuts len (file_of self.old) (file_of self.new)) }
         ensures err { OnErr result (file_of self.new ≡ file_of self.old) }
     {
         let size = self.bytes.len();
@@ -104,7 +104,7 @@ impl MemFile {
 
     /// Syncs the file.
     pub fn sync(&mut self)
-        ensures { file_of self.new ≡ synced_file (file_of self.old).bytes }
+        ensures { Syncs (file_of self.old) (file_of self.new) }
     {
         self.changed.clear();
         self.least = self.bytes.len();

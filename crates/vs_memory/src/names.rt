@@ -1,7 +1,7 @@
 // The name changes of a folder in memory.
-ghost use Rattle.std.specs.Prelude.{◌≡◌, ◌<◌, ℕ, reverse, map, All, IfSome};
-ghost use Rattle.vs_host.specs.Disk.{after_changes};
-ghost use Rattle.vs_memory.specs.Folders.{change_of, no_names, IsBelow};
+ghost use Rattle.std.specs.Prelude.{◌≡◌, ◌<◌, ℕ, All, IfSome};
+ghost use Rattle.vs_memory.specs.Folders.{IsBelow};
+ghost use Rattle.vs_memory.specs.Images.{names_after};
 
 /// A change of the names. The file that was made has this number.
 #[derive(Drop)]
@@ -14,7 +14,7 @@ pub enum NameChange {
 /// The number of the file that a name leads to after these changes: goes back over them, and over a rename from the new name
 /// to the old one.
 pub fn number_of(changes: &[NameChange], name: &str) -> Option<usize>
-    ensures value { result ≡ after_changes (map change_of (reverse changes.now)) no_names name.now }
+    ensures value { result ≡ names_after changes.now name.now }
     ensures below { (made : ℕ) → All (IsBelow made) changes.now → IfSome result (λ number. number < made) }
 {
     let mut name = name;

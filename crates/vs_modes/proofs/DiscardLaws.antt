@@ -5,7 +5,7 @@ use Rattle.vs_host.specs.Disk.{Disk}
 use Rattle.vs_host.specs.declared.names.Names.{Names}
 use Rattle.vs_host.specs.World.{Tells, Scene}
 use Rattle.vs_pair.specs.Acts.{Acts}
-use Rattle.vs_pair.specs.Acts.{NoneFails as FolderQuiet}
+use Rattle.vs_disk.specs.Runs.{NoneFails as FolderQuiet}
 use Rattle.vs_pair.specs.Steps.{IsFresh}
 use Rattle.vs_modes.specs.declared.error.ModeErr.{ModeErr}
 use Rattle.vs_modes.specs.declared.error.ModeErr.TheVariants as refusal

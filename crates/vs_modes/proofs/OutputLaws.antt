@@ -7,7 +7,7 @@ use Rattle.vs_host.specs.Trace.{Kind, Snapshot, GoesOn, WroteOutput}
 use Rattle.vs_host.specs.World.{Tells, Scene, IsTold, ChangesOutput, snapshot_of}
 use Rattle.vs_disk.specs.Runs.{Quiet}
 use Rattle.vs_disk.proofs.Runs.{fails_none, fails_call, quiet_none, quiet_call, goes_none, goes_then, goes_weaker}
-use Rattle.vs_pair.proofs.Acts.{last_then}
+use Rattle.vs_disk.proofs.Quiet.{last_then}
 use Rattle.vs_modes.specs.Moments.{Proceeds, IsSame}
 use Rattle.vs_modes.specs.Output.{WritesPart, Outputs, NoneFails}
 

@@ -9,7 +9,8 @@ use Rattle.vs_disk.proofs.Steps.{at_name, newest_names, older_names, settled}
 use Rattle.vs_disk.proofs.Others.{same_none, same_then}
 use Rattle.vs_pair.specs.Pair.{is_apart, is_swap}
 use Rattle.vs_pair.specs.Steps.{IsFresh}
-use Rattle.vs_pair.specs.Acts.{Acts, NoneFails}
+use Rattle.vs_disk.specs.Runs.{NoneFails}
+use Rattle.vs_pair.specs.Acts.{Acts}
 use Rattle.vs_pair.specs.declared.side.Side.TheVariants.{Swp, Swo}
 use Rattle.vs_pair.proofs.Acts.{acts_as, acts_then}
 use Rattle.vs_pair.proofs.FitLemmas.{side_outside}

@@ -4,7 +4,8 @@ ghost use Rattle.vs_faults.specs.Faults.{HasCause};
 ghost use Rattle.vs_host.specs.Disk.{names_of};
 ghost use Rattle.vs_host.specs.Names.{is_allowed, names_of_file};
 ghost use Rattle.vs_host.specs.World.{content_of};
-ghost use Rattle.vs_pair.specs.Acts.{Acts, NoneFails};
+ghost use Rattle.vs_disk.specs.Runs.{NoneFails};
+ghost use Rattle.vs_pair.specs.Acts.{Acts};
 ghost use Rattle.vs_pair.specs.Steps.{IsFresh};
 ghost use Rattle.vs_modes.specs.Discard.{Discards, MayRemove, RunsDiscard, discard_line, is_any_there};
 

@@ -1,9 +1,10 @@
 // `recover`: the text of the swap files, on the output.
-ghost use Rattle.std.specs.Prelude.{◌≡◌, ◌≢◌, ◌≤◌, IfOk, IfErr, IsTrue, Err};
-ghost use Rattle.vs_faults.specs.Faults.{HasRisen};
+ghost use Rattle.std.specs.Prelude.{◌≢◌, IfOk, IfErr, IsTrue, Err, IsErrOf};
+ghost use Rattle.vs_faults.specs.Faults.{HasCause};
 ghost use Rattle.vs_host.specs.Names.{is_allowed, names_of_file};
 ghost use Rattle.vs_host.specs.World.{content_of};
-ghost use Rattle.vs_recover.specs.Reading.{NoneFails, Reads};
+ghost use Rattle.vs_disk.specs.Runs.{NoneFails};
+ghost use Rattle.vs_recover.specs.Reading.{Reads};
 ghost use Rattle.vs_swap.specs.Recovery.{Recovered};
 ghost use Rattle.vs_modes.specs.Recover.{RefusesRecover, RunsRecover};
 
@@ -17,8 +18,7 @@ use vs_recover::{Chosen, FileText, choose};
 fn read_text<F: Folder>(alloc: Global, host: &mut F, names: &Names) -> Result<FileText, ModeErr>
     ensures text { IfOk result (λ text. IsTrue F.tells.folder → Recovered (content_of (F.scene host.old) names.now.swp) (content_of (F.scene host.old) names.now.swo) text) }
     ensures refused { IfErr result (λ why. IsTrue F.tells.folder → RefusesRecover (content_of (F.scene host.old) names.now.swp) (content_of (F.scene host.old) names.now.swo) why) }
-    ensures later { (F.scene host.old).folder_faults ≤ (F.scene host.new).folder_faults }
-    ensures failed { result ≡ Err ModeErr.FolderFailed → HasRisen (F.scene host.old).folder_faults (F.scene host.new).folder_faults }
+    ensures cause { HasCause (F.scene host.old).folder_faults (F.scene host.new).folder_faults (IsErrOf result ModeErr.FolderFailed) }
     ensures output { result ≢ Err ModeErr.OutputFailed }
     ensures reads { Reads F.tells (F.scene host.old) (F.scene host.new) }
     ensures none { result ≢ Err ModeErr.FolderFailed → NoneFails F.tells (F.scene host.old) (F.scene host.new) }

@@ -1,7 +1,8 @@
 // The syncs of a text, and the end of its swap files.
 ghost use Rattle.std.specs.Prelude.{◌≡◌, ◌+◌, ◌<◌, ◌^◌, ◌∷◌, List, IsErr, IsTrue, OnErr, OnOk};
 ghost use Rattle.vs_faults.specs.Faults.{HasCause};
-ghost use Rattle.vs_pair.specs.Acts.{Acts, NoneFails};
+ghost use Rattle.vs_disk.specs.Runs.{NoneFails};
+ghost use Rattle.vs_pair.specs.Acts.{Acts};
 ghost use Rattle.vs_pair.specs.Pair.{Rises};
 ghost use Rattle.vs_pair.specs.Steps.{IsAbsent};
 ghost use Rattle.vs_safety.specs.Texts.{Text, Sync, begun};

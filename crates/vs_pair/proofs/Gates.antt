@@ -13,7 +13,8 @@ use Rattle.vs_swap.specs.Files.{page_in}
 use Rattle.vs_pages.specs.Memory.{committed_of}
 use Rattle.vs_pages.specs.declared.memory.MemPages.{MemPages}
 use Rattle.vs_pair.specs.declared.written.Written.{Written}
-use Rattle.vs_pair.specs.Acts.{Acts, NoneFails}
+use Rattle.vs_disk.specs.Runs.{NoneFails}
+use Rattle.vs_pair.specs.Acts.{Acts}
 use Rattle.vs_pair.specs.Swap.{Body, HasBody, Holds, IsOpen, HasMark, ChangesMark, KeepsMark, KeepsLength, Lengthens, WritesBody, Fits, CloseStep, Closes, SyncStep, FailedSync, open_mark, closed_mark, zeros_page}
 use Rattle.vs_pair.specs.Swap.FailedSync.{InClosing, InWriting, InOpening}
 use Rattle.vs_pair.specs.Stale.{HasFresh, Keeps, is_stale}

@@ -12,7 +12,8 @@ use Rattle.vs_disk.proofs.Steps.{at_name, differ, itself, newest_names, older_na
 use Rattle.vs_disk.proofs.Others.{same_none, same_then, file_outside, create_outside, rename_outside, remove_outside}
 use Rattle.vs_pair.specs.Swap.{Body, Holds, IsMade, WritesBody, open_mark}
 use Rattle.vs_host.specs.World.{Tells, Scene}
-use Rattle.vs_pair.specs.Acts.{Acts, NoneFails}
+use Rattle.vs_disk.specs.Runs.{NoneFails}
+use Rattle.vs_pair.specs.Acts.{Acts}
 use Rattle.std.specs.Prelude.{IsSomeAnd}
 use Rattle.vs_pages.specs.declared.memory.MemPages.{MemPages}
 use Rattle.vs_pair.specs.Stale.{HasFresh, nothing}

@@ -19,7 +19,8 @@ use Rattle.vs_pages.specs.declared.memory.MemPages.{MemPages}
 use Rattle.vs_pair.specs.declared.gate.Gate.TheVariants.{Open}
 use Rattle.vs_pair.specs.declared.side.Side.{Side}
 use Rattle.vs_pair.specs.declared.side.Side.TheVariants.{Swp, Swo}
-use Rattle.vs_pair.specs.Acts.{Acts, NoneFails}
+use Rattle.vs_disk.specs.Runs.{NoneFails}
+use Rattle.vs_pair.specs.Acts.{Acts}
 use Rattle.vs_pair.specs.Swap.{Synced, Body, body_of, Holds, HasLength, IsMade}
 use Rattle.vs_pair.specs.Pair.{Image, Known, name_of, temporary_of, is_foreign, is_swap, is_pair_name, RecoversOrNone, IsFit}
 use Rattle.vs_pair.specs.Steps.{IsAbsent, MayHold, is_neither, Makes, IsFresh, Starting, BothMoved}

@@ -1,19 +1,16 @@
 -- The pages of a pair while the pair and the folder are lent to a store.
-use Rattle.std.specs.Prelude.{◌≡◌, ◌⊎◌, List, IsTrue}
+use Rattle.std.specs.Prelude.{◌≡◌, ◌⊎◌, IsTrue}
 use Rattle.vs_host.specs.Disk.{Disk}
 use Rattle.vs_pages.specs.Changes.{KeepsMarks}
 use Rattle.vs_host.specs.World.{Tells, Scene, ReadsFolder}
 use Rattle.vs_disk.specs.Runs.{Looks}
 use Rattle.vs_pair.specs.declared.pair.SwapPair.{SwapPair}
-use Rattle.vs_pair.specs.Swap.{Synced}
-use Rattle.vs_pair.specs.Pair.{known_of, IsFit}
+use Rattle.vs_pair.specs.Pair.{known_of, HasFit}
 use Rattle.vs_pair.specs.Steps.{IsFresh}
 
 -- The pair was not started and no image has a swap file, or it was started and fits the folder.
 abbrev pub IsReady : SwapPair → Disk → Type 0
-IsReady pair disk =
-    ((pair.files.generation ≡ 0) × IsFresh pair.files.names disk)
-    ⊎ ((newest : Synced) × (begun : List Synced) × (past : List Synced) × IsFit (known_of pair) disk newest begun past)
+IsReady pair disk = ((pair.files.generation ≡ 0) × IsFresh pair.files.names disk) ⊎ HasFit (known_of pair) disk
 
 -- The swap files are as they were known, each page whose change was committed is marked with their generation or more, and the folder
 -- was only looked at. The pages are kept in memory, so one that is told was not even asked.

@@ -169,6 +169,10 @@ pub record IsFit (files : Known) (disk : Disk) (newest : Synced) (begun past : L
   pub older_marked : files.older_has.mark ≤ files.generation
   pub bound : files.generation ≤ 2 ^ 63
 
+-- the pair fits the folder with some last acknowledged sync, and some before and after it
+abbrev pub HasFit : Known → Disk → Type 0
+HasFit files disk = (newest : Synced) × (begun : List Synced) × (past : List Synced) × IsFit files disk newest begun past
+
 -- While a sync writes: all other names are spared, and in each image the files offer the newest sync, this one, or one that was
 -- begun since the newest.
 pub record Syncing (files : Known) (sync : Synced) (old new : Disk) : Type 0 where

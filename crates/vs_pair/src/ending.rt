@@ -1,10 +1,10 @@
 // The end of a pair.
-ghost use Rattle.std.specs.Prelude.{◌≤◌, ◌∷◌, List, OnOk, IsErr, IsTrue};
+ghost use Rattle.std.specs.Prelude.{◌≤◌, OnOk, IsErr, IsTrue};
 ghost use Rattle.vs_faults.specs.Faults.{HasCause};
-ghost use Rattle.vs_pair.specs.Acts.{Acts, NoneFails};
-ghost use Rattle.vs_pair.specs.Pair.{IsFit, known_of};
+ghost use Rattle.vs_disk.specs.Runs.{NoneFails};
+ghost use Rattle.vs_pair.specs.Acts.{Acts};
+ghost use Rattle.vs_pair.specs.Pair.{HasFit, known_of};
 ghost use Rattle.vs_pair.specs.Steps.{Ending, IsAbsent};
-ghost use Rattle.vs_pair.specs.Swap.{Synced};
 
 use crate::SwapPair;
 use crate::side::swap_name;
@@ -14,7 +14,7 @@ impl SwapPair {
     /// Removes both files, that of the last acknowledged sync after the other one. After an error the files that are left stay.
     pub fn end<F: Folder>(self, host: &mut F) -> Result<(), Failed>
         requires started { 2 ≤ self.files.generation }
-        requires fits { IsTrue F.tells.folder → (newest : Synced) × (begun : List Synced) × (past : List Synced) × IsFit (known_of self) (F.scene host.old).folder newest begun past }
+        requires fits { IsTrue F.tells.folder → HasFit (known_of self) (F.scene host.old).folder }
         ensures acts { Acts F.tells (Ending (known_of self)) (F.scene host.old) (F.scene host.new) }
         ensures gone { OnOk result (IsTrue F.tells.folder → IsAbsent self.files.names.swp (F.scene host.new).folder × IsAbsent self.files.names.swo (F.scene host.new).folder) }
         ensures none { OnOk result (NoneFails F.tells (F.scene host.old) (F.scene host.new)) }

@@ -6,7 +6,8 @@ ghost use Rattle.vs_host.specs.Disk.{names_of};
 ghost use Rattle.vs_disk.specs.Images.{FileHas};
 ghost use Rattle.vs_disk.specs.Names.{SameAt};
 ghost use Rattle.vs_pages.specs.Memory.{committed_of};
-ghost use Rattle.vs_pair.specs.Acts.{Acts, NoneFails};
+ghost use Rattle.vs_disk.specs.Runs.{NoneFails};
+ghost use Rattle.vs_pair.specs.Acts.{Acts};
 ghost use Rattle.vs_pair.specs.Swap.{IsMade};
 ghost use Rattle.vs_pair.specs.Steps.{IsAbsent, Makes, is_not};
 

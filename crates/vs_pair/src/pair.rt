@@ -2,12 +2,13 @@
 ghost use Rattle.std.specs.Prelude.{◌≡◌, ◌+◌, ◌<◌, ◌≤◌, ◌^◌, ◌∷◌, [], ℕ, List, None, OnOk, OnErr, IfOk, IsErr, IsTrue};
 ghost use Rattle.vs_faults.specs.Faults.{HasCause};
 ghost use Rattle.vs_host.specs.Disk.{ChangesFile};
-ghost use Rattle.vs_host.specs.Names.{AreNames, is_allowed, names_of_file};
+ghost use Rattle.vs_host.specs.Names.{is_allowed, names_of_file};
 ghost use Rattle.vs_pages.specs.Maps.{first_pages};
 ghost use Rattle.vs_pages.specs.Memory.{committed_of, present_of};
-ghost use Rattle.vs_pair.specs.Acts.{Acts, CallsAtMost, NoneFails};
+ghost use Rattle.vs_disk.specs.Runs.{CallsAtMost, NoneFails};
+ghost use Rattle.vs_pair.specs.Acts.{Acts};
 ghost use Rattle.vs_pair.specs.Swap.{Lengthens, Synced, page_zero};
-ghost use Rattle.vs_pair.specs.Pair.{IsFit, Syncing, IsTextOf, Rises, name_of, other_side};
+ghost use Rattle.vs_pair.specs.Pair.{IsFit, HasFit, Syncing, IsTextOf, Rises, name_of, other_side};
 ghost use Rattle.vs_pair.specs.Stale.{IsEnd, stale_below};
 
 use crate::head::page_zero;
@@ -63,7 +64,7 @@ impl SwapPair {
     pub fn sync<F: Folder>(&mut self, host: &mut F, head: &Head) -> Result<(), Failed>
         requires started { 2 ≤ self.old.files.generation }
         requires room { self.old.files.generation < 2 ^ 63 }
-        requires fits { IsTrue F.tells.folder → (newest : Synced) × (begun : List Synced) × (past : List Synced) × IsFit (known_of self.old) (F.scene host.old).folder newest begun past }
+        requires fits { IsTrue F.tells.folder → HasFit (known_of self.old) (F.scene host.old).folder }
 
         ensures acts { Acts F.tells (Syncing (known_of self.old) (sync_of self.old head.now)) (F.scene host.old) (F.scene host.new) }
         ensures ok { OnOk result (IsTrue F.tells.folder → (newest : Synced) (begun past : List Synced) → IsFit (known_of self.old) (F.scene host.old).folder newest begun past

@@ -1,7 +1,8 @@
 // The start of a pair.
 ghost use Rattle.std.specs.Prelude.{◌≡◌, ◌∷◌, [], None, OnOk, OnErr, IsErr, IsTrue};
 ghost use Rattle.vs_faults.specs.Faults.{HasCause};
-ghost use Rattle.vs_pair.specs.Acts.{Acts, NoneFails};
+ghost use Rattle.vs_disk.specs.Runs.{NoneFails};
+ghost use Rattle.vs_pair.specs.Acts.{Acts};
 ghost use Rattle.vs_pair.specs.Pair.{IsFit, known_of, name_of, temporary_of, sync_with};
 ghost use Rattle.vs_pair.specs.Steps.{BothEnd, BothMoved, IsAbsent, IsFresh, Makes, Starting};
 ghost use Rattle.vs_pair.specs.Swap.{IsMade, body_of};

@@ -1,11 +1,12 @@
 // How one swap file is written: its gate is closed, then the pages are written after it, then the gate is opened.
-ghost use Rattle.std.specs.Prelude.{◌≡◌, ◌≢◌, ◌≤◌, ◌+◌, ◌*◌, ◌^◌, ℕ, true, false, length, OnOk, OnErr, IsErr, IsTrue};
+ghost use Rattle.std.specs.Prelude.{◌≡◌, ◌≢◌, ◌≤◌, ◌+◌, ◌*◌, ◌^◌, ℕ, length, OnOk, OnErr, IsErr, IsTrue};
 ghost use Rattle.vs_faults.specs.Faults.{HasCause};
 ghost use Rattle.vs_host.specs.File.{Leaves, put};
-ghost use Rattle.vs_host.specs.Disk.{ChangesFile, Name};
+ghost use Rattle.vs_host.specs.Disk.{ChangesFile};
 ghost use Rattle.vs_disk.specs.Images.{FileHas, KeepsImages};
 ghost use Rattle.vs_pages.specs.Memory.{committed_of};
-ghost use Rattle.vs_pair.specs.Acts.{Acts, CallsAtMost, NoneFails};
+ghost use Rattle.vs_disk.specs.Runs.{CallsAtMost, NoneFails};
+ghost use Rattle.vs_pair.specs.Acts.{Acts};
 ghost use Rattle.vs_pair.specs.Stale.{HasFresh, IsEnd, Keeps, stale_below};
 ghost use Rattle.vs_pair.specs.Writes.{HasRun, page_or_zeros};
 ghost use Rattle.vs_pair.specs.Swap.{Body, Holds, HasMark, ChangesMark, KeepsMark, KeepsLength, Lengthens, WritesBody, Fits, CloseStep, Closes, SyncStep, FailedSync, open_mark};

@@ -1,47 +1,19 @@
 -- How reading goes on: after a part in which no call failed, one part more.
-use Rattle.std.proofs.Common.{◌≡◌, ◌≢◌, Err, Ok, ℕ, ◌+◌, ◌≤◌, List, ◌++◌, length, Option, Some, None, Result, IsTrue, IsSome, is_some, true, inl, inr, refl, sym, ◌∙◌, ap, subst, append_assoc, arith}
+use Rattle.std.proofs.Common.{◌≡◌, ◌≢◌, Err, Ok, ℕ, List, Option, Some, None, Result, IsTrue, IsSome, is_some, true, refl, sym, ◌∙◌, ap, subst}
 use Rattle.std.specs.Prelude.{IsErrAnd, IsSomeAnd, IfSome}
 use Rattle.vs_host.specs.Disk.{Name}
-use Rattle.vs_host.specs.Trace.{Kind, Snapshot}
+use Rattle.vs_host.specs.Trace.{Kind}
 use Rattle.vs_host.specs.World.{Tells, Scene, IsTold, ReadsFolder, content_of}
-use Rattle.vs_disk.specs.Runs.{HasNoFault, FailsLast, Quiet}
-use Rattle.vs_disk.proofs.Runs.{reads_change, starts, one_look, looks_on, fails_none, fails_call, quiet_none, quiet_call, goes_then, goes_weaker, Each-append, Each-weaker}
+use Rattle.vs_disk.specs.Runs.{NoneFails}
+use Rattle.vs_disk.proofs.Quiet.{last_then, none_then}
+use Rattle.vs_disk.proofs.Runs.{reads_change, starts, one_look, looks_on, fails_none, fails_call}
 use Rattle.vs_recover.specs.declared.error.Fault.{Fault}
 use Rattle.vs_recover.specs.declared.error.Fault.TheVariants as fault
 use Rattle.vs_recover.specs.declared.error.RecErr.{RecErr}
 use Rattle.vs_recover.specs.declared.error.RecErr.TheVariants as error
 use Rattle.vs_recover.specs.Faults.{error_of}
 use Rattle.vs_recover.specs.Files.{IsFile}
-use Rattle.vs_recover.specs.Reading.{CallsAtMost, Reads, NoneFails, IsThere}
-
--- ---- no call failed
-
-pub none_fails : (tells : Tells) (scene : Scene) → NoneFails tells scene scene
-none_fails tells scene = record { faults = refl; quiet = λ told. quiet_none scene }
-
-no_fault_as : (start old : Scene) → Quiet start old → (m : Snapshot) → HasNoFault old m → HasNoFault start m
-no_fault_as start old quiet m none = record { script = none.script ∙ quiet.script; out = none.out ∙ quiet.out; folder = none.folder ∙ quiet.folder }
-
-quiet_then : (old mid new : Scene) → Quiet old mid → Quiet mid new → Quiet old new
-quiet_then old mid new first second = record {
-  moments = goes_then (HasNoFault old) old.trace mid.trace new.trace first.moments (goes_weaker (HasNoFault mid) (HasNoFault old) (no_fault_as old mid first) mid.trace new.trace second.moments);
-  script = second.script ∙ first.script;
-  out = second.out ∙ first.out;
-  folder = second.folder ∙ first.folder;
-}
-
-pub none_then : {tells : Tells} {old mid new : Scene} → NoneFails tells old mid → NoneFails tells mid new → NoneFails tells old new
-none_then {tells} {old} {mid} {new} first second = record {
-  faults = second.faults ∙ first.faults;
-  quiet = λ told. quiet_then old mid new (first.quiet told) (second.quiet told);
-}
-
-pub none_call : (tells : Tells) (kind : Kind) (names : List Name) {T E : Type 0} (result : Result T E) (old new : Scene) → ReadsFolder old new → (IsTrue tells.folder → IsTold kind names result old new)
-    → new.folder_faults ≡ old.folder_faults → NoneFails tells old new
-none_call tells kind names result old new frame told same = record {
-  faults = same;
-  quiet = λ tells_it. quiet_call kind names result old old new (quiet_none old) (told tells_it) (ap (λ (s : Scene). s.script_faults) frame) (ap (λ (s : Scene). s.out_faults) frame) same;
-}
+use Rattle.vs_recover.specs.Reading.{Reads, IsThere}
 
 -- ---- reading
 
@@ -58,40 +30,12 @@ reads_call tells kind names result old new frame told = record {
   last = λ tells_it. fails_call kind names result old new (told tells_it);
 }
 
-last_then : (old mid new : Scene) → Quiet old mid → FailsLast mid new → FailsLast old new
-last_then old mid new quiet fails = record {
-  last = fails.last;
-  earlier = fails.earlier ++ quiet.moments.added;
-  one = fails.one;
-  is = fails.is ∙ ap (λ (ms : List Snapshot). fails.last ++ ms) (ap (λ (ms : List Snapshot). fails.earlier ++ ms) quiet.moments.is ∙ sym (append_assoc fails.earlier quiet.moments.added old.trace));
-  quiet = Each-append (HasNoFault old) fails.earlier quiet.moments.added (Each-weaker (HasNoFault mid) (HasNoFault old) (no_fault_as old mid quiet) fails.earlier fails.quiet) quiet.moments.each;
-}
-
 pub reads_on : {tells : Tells} {old mid new : Scene} → NoneFails tells old mid → Reads tells old mid → Reads tells mid new → Reads tells old new
 reads_on {tells} {old} {mid} {new} none first second = record {
   frame = frame_then old mid new first.frame second.frame;
   looks = λ told. looks_on old mid new (reads_change old mid first.frame) (first.looks told) (second.looks told);
   last = λ told. last_then old mid new (none.quiet told) (second.last told);
 }
-
--- ---- how many calls
-
-longer : {T E : Type 0} (kind : Kind) (names : List Name) (result : Result T E) (old new : Scene) → IsTold kind names result old new → length new.trace ≤ length old.trace + 1
-longer kind names result old new (inl told) = omega (arith, ap length told)
-longer kind names result old new (inr left) = omega (arith, ap length left.1.trace)
-
-pub no_calls : (tells : Tells) (scene : Scene) (most : ℕ) → CallsAtMost tells scene scene most
-no_calls tells scene most = λ told. omega arith
-
-pub one_call : (tells : Tells) (kind : Kind) (names : List Name) {T E : Type 0} (result : Result T E) (old new : Scene) → (IsTrue tells.folder → IsTold kind names result old new) → CallsAtMost tells old new 1
-one_call tells kind names result old new is = λ told. longer kind names result old new (is told)
-
--- more calls after others
-pub calls_then : (tells : Tells) (old mid new : Scene) (a b most : ℕ) → CallsAtMost tells old mid a → CallsAtMost tells mid new b → a + b ≤ most → CallsAtMost tells old new most
-calls_then tells old mid new a b most first second le = λ told. omega (arith, first told, second told, le)
-
-pub calls_within : (tells : Tells) (old new : Scene) (a most : ℕ) → CallsAtMost tells old new a → a ≤ most → CallsAtMost tells old new most
-calls_within tells old new a most calls le = λ told. omega (arith, calls told, le)
 
 -- ---- the file that is read
 
@@ -140,7 +84,7 @@ was_refused found (Err x) e f was is refused = let same : x ≡ f = cc in was �
 -- after a part in which no call failed, one part more that had no memory
 pub memory_then : {tells : Tells} {old mid new : Scene} {T U : Type 0} (found : Result T Fault) (result : Result U Fault) (e : Fault) → NoneFails tells old mid → (found ≡ Err fault.NoMemory → NoneFails tells mid new)
     → found ≡ Err e → IsErrAnd result (λ x. x ≡ e) → result ≡ Err fault.NoMemory → NoneFails tells old new
-memory_then found result e first second was is refused = none_then first (second (was_refused found result e fault.NoMemory was is refused))
+memory_then found result e first second was is refused = none_then _ _ _ _ first (second (was_refused found result e fault.NoMemory was is refused))
 
 -- what a call says of each refusal but a failed call, from what it says of each fault
 pub unless_failed : {T : Type 0} (P : Type 0) (found : Result T Fault) (f : Fault) (why : RecErr) → found ≡ Err f → why ≡ error_of f → (found ≡ Err fault.NoMemory → P) → why ≢ error.Failed → P

@@ -1,23 +1,14 @@
 -- What a call says of a folder that it only reads.
-use Rattle.std.specs.Prelude.{◌≡◌, ℕ, ◌+◌, ◌-◌, ◌/◌, ◌≤◌, length, List, Option, Some, None, IsTrue, IsSomeAnd}
+use Rattle.std.specs.Prelude.{ℕ, ◌-◌, ◌/◌, length, List, Option, Some, None, IsTrue, IsSomeAnd}
 use Rattle.vs_host.specs.Disk.{Name}
 use Rattle.vs_host.specs.World.{Tells, Scene, ReadsFolder, content_of}
-use Rattle.vs_disk.specs.Runs.{Looks, FailsLast, Quiet}
+use Rattle.vs_disk.specs.Runs.{Looks, FailsLast}
 
 -- The folder was only read: where it is told, it is the same at each moment, and no call on the host but the last one failed.
 pub record Reads (tells : Tells) (old new : Scene) : Type 0 where
   pub frame : ReadsFolder old new
   pub looks : IsTrue tells.folder → Looks old new
   pub last : IsTrue tells.folder → FailsLast old new
-
--- No call on the host failed.
-pub record NoneFails (tells : Tells) (old new : Scene) : Type 0 where
-  pub faults : new.folder_faults ≡ old.folder_faults
-  pub quiet : IsTrue tells.folder → Quiet old new
-
--- Where the folder is told, at most so many calls were made on the host.
-abbrev pub CallsAtMost : Tells → Scene → Scene → ℕ → Type 0
-CallsAtMost tells old new most = IsTrue tells.folder → length new.trace ≤ length old.trace + most
 
 -- how many whole pages of a file follow its page 0
 abbrev pub blocks_of : Option (List ℕ) → ℕ

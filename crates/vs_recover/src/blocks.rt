@@ -1,6 +1,6 @@
 // Blocks of a swap file, read through the folder.
-ghost use Rattle.std.specs.Prelude.{◌≡◌, ◌≤◌, ◌<◌, ◌+◌, ◌*◌, ◌/◌, ◌^◌, ◌&&◌, nat_eq, ◌++◌, Some, ℕ, List, Bool, IfOk, OnOk, IfSome, IsTrue, Err, length};
-ghost use Rattle.vs_faults.specs.Faults.{HasRisen};
+ghost use Rattle.std.specs.Prelude.{◌≡◌, ◌≤◌, ◌<◌, ◌*◌, ◌/◌, ◌^◌, ◌&&◌, nat_eq, Some, ℕ, List, IfOk, OnOk, IfSome, IsTrue, Err, length, IsErrOf};
+ghost use Rattle.vs_faults.specs.Faults.{HasCause};
 ghost use Rattle.vs_pages.specs.Maps.{pages_at};
 ghost use Rattle.vs_data.specs.Blocks.{lines_in};
 ghost use Rattle.vs_tree_shape.specs.Places.{lines_below};
@@ -9,7 +9,8 @@ ghost use Rattle.vs_swap.specs.Entries.{pointer_in, swap_points};
 ghost use Rattle.vs_swap.specs.Files.{pages_in, swap_format};
 ghost use Rattle.vs_recover.specs.Files.{IsFile, Gives, Extends, plain};
 ghost use Rattle.vs_recover.specs.Levels.{are_wide, fitting_lines, fitting_points, points_at, lines_at};
-ghost use Rattle.vs_recover.specs.Reading.{CallsAtMost, IsThere, NoneFails, Reads};
+ghost use Rattle.vs_disk.specs.Runs.{CallsAtMost, NoneFails};
+ghost use Rattle.vs_recover.specs.Reading.{IsThere, Reads};
 
 use crate::calls::read_part;
 use crate::{Fault, FileText};
@@ -33,8 +34,7 @@ pub fn load_pages<F: Folder>(
     requires count { IsThere F.tells (F.scene host.old) name.now (λ file. count ≡ length file / 4096) }
     ensures value { IfOk result (λ found. (file : List ℕ) → IsFile F.tells (F.scene host.old) name.now file → Gives (pages_at (pages_in file) block pages) found) }
     ensures size { IfOk result (λ found. IfSome found (λ bytes. length bytes.items ≡ 4096 * pages)) }
-    ensures later { (F.scene host.old).folder_faults ≤ (F.scene host.new).folder_faults }
-    ensures failed { result ≡ Err Fault.Failed → HasRisen (F.scene host.old).folder_faults (F.scene host.new).folder_faults }
+    ensures cause { HasCause (F.scene host.old).folder_faults (F.scene host.new).folder_faults (IsErrOf result Fault.Failed) }
     ensures memory { result ≡ Err Fault.NoMemory → NoneFails F.tells (F.scene host.old) (F.scene host.new) }
     ensures reads { Reads F.tells (F.scene host.old) (F.scene host.new) }
     ensures none { OnOk result (NoneFails F.tells (F.scene host.old) (F.scene host.new)) }
@@ -91,8 +91,7 @@ pub fn load_entries<F: Folder>(
     requires bound { count < 2 ^ 52 }
     requires count { IsThere F.tells (F.scene host.old) name.now (λ file. count ≡ length file / 4096) }
     ensures value { IfOk result (λ found. (file : List ℕ) → IsFile F.tells (F.scene host.old) name.now file → Gives (read_by swap_points (pages_at (pages_in file) block 1)) found) }
-    ensures later { (F.scene host.old).folder_faults ≤ (F.scene host.new).folder_faults }
-    ensures failed { result ≡ Err Fault.Failed → HasRisen (F.scene host.old).folder_faults (F.scene host.new).folder_faults }
+    ensures cause { HasCause (F.scene host.old).folder_faults (F.scene host.new).folder_faults (IsErrOf result Fault.Failed) }
     ensures memory { result ≡ Err Fault.NoMemory → NoneFails F.tells (F.scene host.old) (F.scene host.new) }
     ensures reads { Reads F.tells (F.scene host.old) (F.scene host.new) }
     ensures none { OnOk result (NoneFails F.tells (F.scene host.old) (F.scene host.new)) }
@@ -165,8 +164,7 @@ pub fn load_points<F: Folder>(
     requires count { IsThere F.tells (F.scene host.old) name.now (λ file. count ≡ length file / 4096) }
     ensures value { IfOk result (λ found. (file : List ℕ) → IsFile F.tells (F.scene host.old) name.now file → Gives (points_at swap_format (pages_in file) entry.now) found) }
     ensures wide { IfOk result (λ found. IfSome found (λ entries. IsTrue (are_wide entries.items))) }
-    ensures later { (F.scene host.old).folder_faults ≤ (F.scene host.new).folder_faults }
-    ensures failed { result ≡ Err Fault.Failed → HasRisen (F.scene host.old).folder_faults (F.scene host.new).folder_faults }
+    ensures cause { HasCause (F.scene host.old).folder_faults (F.scene host.new).folder_faults (IsErrOf result Fault.Failed) }
     ensures memory { result ≡ Err Fault.NoMemory → NoneFails F.tells (F.scene host.old) (F.scene host.new) }
     ensures reads { Reads F.tells (F.scene host.old) (F.scene host.new) }
     ensures none { OnOk result (NoneFails F.tells (F.scene host.old) (F.scene host.new)) }
@@ -209,8 +207,7 @@ pub fn load_lines<F: Folder>(
     requires count { IsThere F.tells (F.scene host.old) name.now (λ file. count ≡ length file / 4096) }
     ensures value { IfOk result (λ done. (file : List ℕ) → IsFile F.tells (F.scene host.old) name.now file
         → Extends (plain (lines_at swap_format (pages_in file) entry.now)) lines.old lines.new done) }
-    ensures later { (F.scene host.old).folder_faults ≤ (F.scene host.new).folder_faults }
-    ensures failed { result ≡ Err Fault.Failed → HasRisen (F.scene host.old).folder_faults (F.scene host.new).folder_faults }
+    ensures cause { HasCause (F.scene host.old).folder_faults (F.scene host.new).folder_faults (IsErrOf result Fault.Failed) }
     ensures memory { result ≡ Err Fault.NoMemory → NoneFails F.tells (F.scene host.old) (F.scene host.new) }
     ensures reads { Reads F.tells (F.scene host.old) (F.scene host.new) }
     ensures none { OnOk result (NoneFails F.tells (F.scene host.old) (F.scene host.new)) }

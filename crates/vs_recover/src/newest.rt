@@ -1,9 +1,10 @@
 // The text of the newer of two swap files that stand.
-ghost use Rattle.std.specs.Prelude.{◌≡◌, ◌≤◌, ◌+◌, IfOk, OnOk, IsTrue, Err};
-ghost use Rattle.vs_faults.specs.Faults.{HasRisen};
+ghost use Rattle.std.specs.Prelude.{◌≡◌, ◌+◌, IfOk, OnOk, IsTrue, Err, IsErrOf};
+ghost use Rattle.vs_faults.specs.Faults.{HasCause};
 ghost use Rattle.vs_host.specs.World.{content_of};
 ghost use Rattle.vs_recover.specs.Choices.{IsOpening, IsStanding, Recovers, StandsInTurn, generation_in, generation_of, is_newer, text_of};
-ghost use Rattle.vs_recover.specs.Reading.{CallsAtMost, NoneFails, Reads, blocks_of};
+ghost use Rattle.vs_disk.specs.Runs.{CallsAtMost, NoneFails};
+ghost use Rattle.vs_recover.specs.Reading.{Reads, blocks_of};
 
 use crate::calls::has_file;
 use crate::image::{Image, Opening, read_open, read_opening};
@@ -19,8 +20,7 @@ pub fn find_opening<F: Folder>(
     name: &str,
 ) -> Result<Option<Opening>, Fault>
     ensures opening { IfOk result (λ found. IsTrue F.tells.folder → IsOpening (content_of (F.scene host.old) name.now) found) }
-    ensures later { (F.scene host.old).folder_faults ≤ (F.scene host.new).folder_faults }
-    ensures failed { result ≡ Err Fault.Failed → HasRisen (F.scene host.old).folder_faults (F.scene host.new).folder_faults }
+    ensures cause { HasCause (F.scene host.old).folder_faults (F.scene host.new).folder_faults (IsErrOf result Fault.Failed) }
     ensures memory { result ≡ Err Fault.NoMemory → NoneFails F.tells (F.scene host.old) (F.scene host.new) }
     ensures reads { Reads F.tells (F.scene host.old) (F.scene host.new) }
     ensures none { OnOk result (NoneFails F.tells (F.scene host.old) (F.scene host.new)) }
@@ -92,8 +92,7 @@ fn read_text<F: Folder>(
 ) -> Result<Option<FileText>, Fault>
     requires opening { IsTrue F.tells.folder → IsOpening (content_of (F.scene host.old) name.now) opening.now }
     ensures text { IfOk result (λ found. IsTrue F.tells.folder → IsStanding (content_of (F.scene host.old) name.now) found) }
-    ensures later { (F.scene host.old).folder_faults ≤ (F.scene host.new).folder_faults }
-    ensures failed { result ≡ Err Fault.Failed → HasRisen (F.scene host.old).folder_faults (F.scene host.new).folder_faults }
+    ensures cause { HasCause (F.scene host.old).folder_faults (F.scene host.new).folder_faults (IsErrOf result Fault.Failed) }
     ensures memory { result ≡ Err Fault.NoMemory → NoneFails F.tells (F.scene host.old) (F.scene host.new) }
     ensures reads { Reads F.tells (F.scene host.old) (F.scene host.new) }
     ensures none { OnOk result (NoneFails F.tells (F.scene host.old) (F.scene host.new)) }
@@ -123,8 +122,7 @@ fn read_in_turn<F: Folder>(
     requires first { IsTrue F.tells.folder → IsOpening (content_of (F.scene host.old) first.now) first_opening.now }
     requires second { IsTrue F.tells.folder → IsOpening (content_of (F.scene host.old) second.now) second_opening.now }
     ensures text { IfOk result (λ found. IsTrue F.tells.folder → StandsInTurn (content_of (F.scene host.old) first.now) (content_of (F.scene host.old) second.now) found) }
-    ensures later { (F.scene host.old).folder_faults ≤ (F.scene host.new).folder_faults }
-    ensures failed { result ≡ Err Fault.Failed → HasRisen (F.scene host.old).folder_faults (F.scene host.new).folder_faults }
+    ensures cause { HasCause (F.scene host.old).folder_faults (F.scene host.new).folder_faults (IsErrOf result Fault.Failed) }
     ensures memory { result ≡ Err Fault.NoMemory → NoneFails F.tells (F.scene host.old) (F.scene host.new) }
     ensures reads { Reads F.tells (F.scene host.old) (F.scene host.new) }
     ensures none { OnOk result (NoneFails F.tells (F.scene host.old) (F.scene host.new)) }
@@ -150,8 +148,7 @@ pub fn read_newer<F: Folder>(
     requires swp { IsTrue F.tells.folder → IsOpening (content_of (F.scene host.old) swp.now) swp_opening.now }
     requires swo { IsTrue F.tells.folder → IsOpening (content_of (F.scene host.old) swo.now) swo_opening.now }
     ensures text { IfOk result (λ found. IsTrue F.tells.folder → Recovers (content_of (F.scene host.old) swp.now) (content_of (F.scene host.old) swo.now) found) }
-    ensures later { (F.scene host.old).folder_faults ≤ (F.scene host.new).folder_faults }
-    ensures failed { result ≡ Err Fault.Failed → HasRisen (F.scene host.old).folder_faults (F.scene host.new).folder_faults }
+    ensures cause { HasCause (F.scene host.old).folder_faults (F.scene host.new).folder_faults (IsErrOf result Fault.Failed) }
     ensures memory { result ≡ Err Fault.NoMemory → NoneFails F.tells (F.scene host.old) (F.scene host.new) }
     ensures reads { Reads F.tells (F.scene host.old) (F.scene host.new) }
     ensures none { OnOk result (NoneFails F.tells (F.scene host.old) (F.scene host.new)) }

@@ -1,11 +1,12 @@
 // What page 0 and block 1 of the swap files read as.
-ghost use Rattle.std.specs.Prelude.{◌≡◌, ◌≤◌, ℕ, List, IfOk, OnOk, IsTrue, Err, length, take};
-ghost use Rattle.vs_faults.specs.Faults.{HasRisen};
+ghost use Rattle.std.specs.Prelude.{◌≡◌, ℕ, List, IfOk, OnOk, IsTrue, Err, length, take, IsErrOf};
+ghost use Rattle.vs_faults.specs.Faults.{HasCause};
 ghost use Rattle.vs_host.specs.World.{content_of};
 ghost use Rattle.vs_zero.specs.Zero.{reading_of};
 ghost use Rattle.vs_recover.specs.Choices.{IsOpening, refused_root, root_in, root_of, root_reads};
 ghost use Rattle.vs_recover.specs.Files.{IsFile};
-ghost use Rattle.vs_recover.specs.Reading.{CallsAtMost, IsThere, NoneFails, Reads};
+ghost use Rattle.vs_disk.specs.Runs.{CallsAtMost, NoneFails};
+ghost use Rattle.vs_recover.specs.Reading.{IsThere, Reads};
 
 use crate::Fault;
 use crate::calls::read_part;
@@ -40,8 +41,7 @@ fn reads_root<F: Folder>(
 ) -> Result<bool, Fault>
     requires len { IsThere F.tells (F.scene host.old) name.now (λ file. len ≡ length file) }
     ensures value { IfOk result (λ reads. (file : List ℕ) → IsFile F.tells (F.scene host.old) name.now file → reads ≡ root_reads file size) }
-    ensures later { (F.scene host.old).folder_faults ≤ (F.scene host.new).folder_faults }
-    ensures failed { result ≡ Err Fault.Failed → HasRisen (F.scene host.old).folder_faults (F.scene host.new).folder_faults }
+    ensures cause { HasCause (F.scene host.old).folder_faults (F.scene host.new).folder_faults (IsErrOf result Fault.Failed) }
     ensures memory { result ≡ Err Fault.NoMemory → NoneFails F.tells (F.scene host.old) (F.scene host.new) }
     ensures reads { Reads F.tells (F.scene host.old) (F.scene host.new) }
     ensures none { OnOk result (NoneFails F.tells (F.scene host.old) (F.scene host.new)) }
@@ -78,8 +78,7 @@ fn opened_root<F: Folder>(
     requires len { IsThere F.tells (F.scene host.old) name.now (λ file. opening.now.len ≡ length file) }
     requires zero { (file : List ℕ) → IsFile F.tells (F.scene host.old) name.now file → opening.now.zero ≡ reading_of (take 4096 file) }
     ensures root { IfOk result (λ root. (file : List ℕ) → IsFile F.tells (F.scene host.old) name.now file → root ≡ root_in file (reading_of (take 4096 file))) }
-    ensures later { (F.scene host.old).folder_faults ≤ (F.scene host.new).folder_faults }
-    ensures failed { result ≡ Err Fault.Failed → HasRisen (F.scene host.old).folder_faults (F.scene host.new).folder_faults }
+    ensures cause { HasCause (F.scene host.old).folder_faults (F.scene host.new).folder_faults (IsErrOf result Fault.Failed) }
     ensures memory { result ≡ Err Fault.NoMemory → NoneFails F.tells (F.scene host.old) (F.scene host.new) }
     ensures reads { Reads F.tells (F.scene host.old) (F.scene host.new) }
     ensures none { OnOk result (NoneFails F.tells (F.scene host.old) (F.scene host.new)) }
@@ -104,8 +103,7 @@ fn read_root<F: Folder>(
 ) -> Result<Root, Fault>
     requires opening { IsTrue F.tells.folder → IsOpening (content_of (F.scene host.old) name.now) opening.now }
     ensures root { IfOk result (λ root. IsTrue F.tells.folder → root ≡ root_of (content_of (F.scene host.old) name.now)) }
-    ensures later { (F.scene host.old).folder_faults ≤ (F.scene host.new).folder_faults }
-    ensures failed { result ≡ Err Fault.Failed → HasRisen (F.scene host.old).folder_faults (F.scene host.new).folder_faults }
+    ensures cause { HasCause (F.scene host.old).folder_faults (F.scene host.new).folder_faults (IsErrOf result Fault.Failed) }
     ensures memory { result ≡ Err Fault.NoMemory → NoneFails F.tells (F.scene host.old) (F.scene host.new) }
     ensures reads { Reads F.tells (F.scene host.old) (F.scene host.new) }
     ensures none { OnOk result (NoneFails F.tells (F.scene host.old) (F.scene host.new)) }
@@ -137,8 +135,7 @@ pub fn read_roots<F: Folder>(
     requires swo { IsTrue F.tells.folder → IsOpening (content_of (F.scene host.old) swo.now) swo_opening.now }
     ensures swp { IfOk result (λ roots. IsTrue F.tells.folder → roots.swp ≡ root_of (content_of (F.scene host.old) swp.now)) }
     ensures swo { IfOk result (λ roots. IsTrue F.tells.folder → roots.swo ≡ root_of (content_of (F.scene host.old) swo.now)) }
-    ensures later { (F.scene host.old).folder_faults ≤ (F.scene host.new).folder_faults }
-    ensures failed { result ≡ Err Fault.Failed → HasRisen (F.scene host.old).folder_faults (F.scene host.new).folder_faults }
+    ensures cause { HasCause (F.scene host.old).folder_faults (F.scene host.new).folder_faults (IsErrOf result Fault.Failed) }
     ensures memory { result ≡ Err Fault.NoMemory → NoneFails F.tells (F.scene host.old) (F.scene host.new) }
     ensures reads { Reads F.tells (F.scene host.old) (F.scene host.new) }
     ensures none { OnOk result (NoneFails F.tells (F.scene host.old) (F.scene host.new)) }

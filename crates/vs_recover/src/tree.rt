@@ -1,9 +1,10 @@
 // The tree of a swap file.
-ghost use Rattle.std.specs.Prelude.{◌≡◌, ◌≤◌, ◌<◌, ◌-◌, ◌/◌, ◌^◌, ℕ, List, IfOk, Err, length, OnOk};
-ghost use Rattle.vs_faults.specs.Faults.{HasRisen};
+ghost use Rattle.std.specs.Prelude.{◌≡◌, ◌<◌, ◌-◌, ◌/◌, ◌^◌, ℕ, List, IfOk, Err, length, OnOk, IsErrOf};
+ghost use Rattle.vs_faults.specs.Faults.{HasCause};
 ghost use Rattle.vs_swap.specs.Files.{pages_in};
 ghost use Rattle.vs_recover.specs.Files.{IsFile, Walked};
-ghost use Rattle.vs_recover.specs.Reading.{CallsAtMost, IsThere, NoneFails, Reads};
+ghost use Rattle.vs_disk.specs.Runs.{CallsAtMost, NoneFails};
+ghost use Rattle.vs_recover.specs.Reading.{IsThere, Reads};
 
 use crate::blocks::{are_wide, load_entries};
 use crate::levels::{Below, read_level};
@@ -22,8 +23,7 @@ pub fn read_tree<F: Folder>(
     requires bound { count < 2 ^ 52 }
     requires count { IsThere F.tells (F.scene host.old) name.now (λ file. count ≡ length file / 4096) }
     ensures value { IfOk result (λ found. (file : List ℕ) → IsFile F.tells (F.scene host.old) name.now file → Walked (pages_in file) found) }
-    ensures later { (F.scene host.old).folder_faults ≤ (F.scene host.new).folder_faults }
-    ensures failed { result ≡ Err Fault.Failed → HasRisen (F.scene host.old).folder_faults (F.scene host.new).folder_faults }
+    ensures cause { HasCause (F.scene host.old).folder_faults (F.scene host.new).folder_faults (IsErrOf result Fault.Failed) }
     ensures memory { result ≡ Err Fault.NoMemory → NoneFails F.tells (F.scene host.old) (F.scene host.new) }
     ensures reads { Reads F.tells (F.scene host.old) (F.scene host.new) }
     ensures none { OnOk result (NoneFails F.tells (F.scene host.old) (F.scene host.new)) }

@@ -8,7 +8,7 @@ use Rattle.vs_undo.specs.History.{History}
 use Rattle.vs_ufile.specs.Decode.{IsUndoFile, IsWellFormed}
 use Rattle.vs_ufile.specs.Values as file
 use Rattle.vs_ufile.specs.Writing.{IsWritten}
-use Rattle.vs_ubind.specs.Bound.{IsBound, IsFiled}
+use Rattle.vs_ubind.specs.Bound.{IsDataOf}
 use Rattle.vs_safety.specs.Texts.{Text}
 use Rattle.vs_safety.specs.Writes.{State}
 
@@ -18,9 +18,8 @@ pub record IsUndoOf (text : Text) (history : History) (bytes : List ℕ) : Type 
   pub contents : file.History
   pub formed : IsWellFormed contents
   pub file : IsUndoFile contents bytes
-  pub bound : IsBound contents text history
   pub written : IsWritten contents bytes
-  pub filed : IsFiled contents text history
+  pub made : IsDataOf contents text history
 
 -- The name of the undo file has one of this text and this history in each image, and no image has a file under its temporary name.
 abbrev pub HasUndo : Names → Text → History → Disk → Type 0

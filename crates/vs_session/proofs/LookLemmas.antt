@@ -8,11 +8,13 @@ use Rattle.vs_host.specs.Names.{names_of_file}
 use Rattle.vs_host.specs.World.{Tells, Scene, IsTold, ReadsFolder}
 use Rattle.vs_host.specs.declared.names.Names.{Names}
 use Rattle.vs_disk.proofs.Others.{same_none}
-use Rattle.vs_pair.specs.Acts.{Acts, NoneFails}
+use Rattle.vs_disk.specs.Runs.{NoneFails}
+use Rattle.vs_pair.specs.Acts.{Acts}
 use Rattle.vs_pair.specs.Pair.{Image, NoneThere, is_foreign}
 use Rattle.vs_pair.specs.Steps.{IsAbsent, IsFresh}
 use Rattle.vs_pair.proofs.Calls.{look_acts, look_none}
-use Rattle.vs_pair.proofs.Acts.{acts_none, acts_as, acts_on, acts_then, none_fails, none_then}
+use Rattle.vs_disk.proofs.Quiet.{none_fails, none_then}
+use Rattle.vs_pair.proofs.Acts.{acts_none, acts_as, acts_on, acts_then}
 use Rattle.vs_text.specs.Text.{lines_of}
 use Rattle.vs_text.specs.Limits.{IsWithinLimits}
 use Rattle.vs_safety.specs.Texts.{Text}

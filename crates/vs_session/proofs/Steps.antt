@@ -393,6 +393,20 @@ answers_from state syncs instruction before after mark reply old mid new clock i
           record { began = storing.began; before = storing.before; since = storing.since; counted = counted_before old mid.answers storing.before storing.began.folder_faults storing.counted; calls = storing.calls; last = storing.last; failed = storing.failed };
     }
 
+-- ---- what a call answered
+
+pub when_ok : {T E : Type 0} (result : Result T E) (A : Type 0) → is_ok result ≡ true → OnOk result A → A
+when_ok (Ok value) A ok a = a
+when_ok (Err why) A ok a = absurd (true≢false (sym ok))
+
+pub when_err : {T E : Type 0} (result : Result T E) (A : Type 0) → is_ok result ≡ false → OnErr result A → A
+when_err (Ok value) A not_ok a = absurd (true≢false not_ok)
+when_err (Err why) A not_ok a = a
+
+pub not_ok : {T E : Type 0} (result : Result T E) → is_ok result ≡ false → IsErr result
+not_ok (Ok value) is = absurd (true≢false is)
+not_ok (Err why) is = refl
+
 -- ---- the last sync
 
 module _ (names : Names) (session : Session) (state : SessionState) (syncs : List Sync) (old new : Scene) (is : names_of session ≡ names) (fits : Fits session old.folder state syncs) (frame : ChangesFolder old new)

@@ -8,17 +8,17 @@ use Rattle.vs_host.specs.Disk.{Disk, Name}
 use Rattle.vs_host.specs.Names.{AreNames, temporary}
 use Rattle.vs_host.specs.World.{Scene, ChangesFolder, ReadsFolder}
 use Rattle.vs_host.specs.declared.names.Names.{Names}
-use Rattle.vs_disk.specs.Images.{HoldsBytes, MayLeave, Takes}
+use Rattle.vs_disk.specs.Images.{Takes}
 use Rattle.vs_disk.specs.Runs.{Inside, Runs, Looks}
 use Rattle.vs_disk.proofs.Runs.{goes_weaker, reads_change, runs_as, runs_then}
-use Rattle.vs_pair.specs.Pair.{is_swap, is_foreign}
+use Rattle.vs_pair.specs.Pair.{is_swap}
 use Rattle.vs_pair.specs.declared.side.Side.{Side}
 use Rattle.vs_pair.specs.declared.side.Side.TheVariants.{Swp, Swo}
 use Rattle.vs_pair.specs.Pair.{name_of}
 use Rattle.vs_pair.proofs.FitLemmas.{at_side}
 use Rattle.vs_exparse.specs.Command.Command.{WriteUndo}
 use Rattle.vs_excmd.specs.Request.{Instruction}
-use Rattle.vs_backup.specs.Works.{IsOutside, Spares as SparesNames, two_names}
+use Rattle.vs_backup.specs.Works.{Spares as SparesNames, IsOutside, two_names}
 use Rattle.vs_backup.proofs.Frames.{spares_none}
 use Rattle.vs_backup.proofs.NamesApart.{temporary_apart}
 use Rattle.vs_edit.specs.declared.store.StoreErr.{StoreErr}
@@ -26,7 +26,7 @@ use Rattle.vs_undo.specs.History.{History}
 use Rattle.vs_ufile.specs.Decode.{IsUndoFile, IsWellFormed}
 use Rattle.vs_ufile.specs.Values as file
 use Rattle.vs_ufile.specs.Writing.{IsWritten}
-use Rattle.vs_ubind.specs.Bound.{IsBound, IsFiled}
+use Rattle.vs_ubind.specs.Bound.{IsDataOf}
 use Rattle.vs_options.specs.declared.setting.Options.{Options}
 use Rattle.vs_machine.specs.Machine as machine
 use Rattle.vs_machine.specs.Machine.{State, took_effect, current_of}
@@ -35,9 +35,8 @@ use Rattle.vs_machine.specs.declared.command.Mark.{Mark}
 use Rattle.vs_machine.specs.declared.command.Outcome.{Outcome}
 use Rattle.vs_machine.specs.declared.command.Outcome.TheVariants.{Done, NoMemory, Fault, NoUndo}
 use Rattle.vs_safety.specs.Texts.{Sync, Text, Recovers, recoverable}
-use Rattle.vs_safety.specs.Undo.{HasUndo, IsUndoOf, UndoWrite, HasStored}
-use Rattle.vs_safety.specs.Writes.{state_now}
-use Rattle.vs_safety.specs.FileWork.{FileWork, UndoFile, Keeps}
+use Rattle.vs_safety.specs.Undo.{HasUndo, IsUndoOf, UndoWrite}
+use Rattle.vs_safety.specs.FileWork.{UndoFile}
 use Rattle.vs_safety.specs.Safety.{IsUnderWay, Spares, Works}
 use Rattle.vs_paged.specs.Fits as folder
 use Rattle.vs_paged.proofs.SyncLemmas.{fits_kept, fits_recovers}
@@ -53,14 +52,13 @@ use Rattle.vs_session.proofs.Steps.{assemble, between_synced, no_history, unread
 -- ---- the bytes
 
 pub undo_of_bytes : (text : Text) (history : History) (contents : file.History) (bytes : List ℕ) → IsWellFormed contents → ((more : List ℕ) → IsUndoFile contents (bytes ++ more)) → IsWritten contents bytes
-    → IsBound contents text history → IsFiled contents text history → IsUndoOf text history bytes
-undo_of_bytes text history contents bytes formed file written bound filed = record {
+    → IsDataOf contents text history → IsUndoOf text history bytes
+undo_of_bytes text history contents bytes formed file written made = record {
   contents = contents;
   formed = formed;
   file = subst (λ (b : List ℕ). IsUndoFile contents b) (append-nil bytes) (file []);
-  bound = bound;
   written = written;
-  filed = filed;
+  made = made;
 }
 
 -- ---- the calls

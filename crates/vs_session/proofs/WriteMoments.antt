@@ -1,6 +1,6 @@
 -- What a write did to the file and its backup: at each moment after the sync of its command, and in the end.
-use Rattle.std.proofs.Common.{◌≡◌, ◌⊎◌, inl, inr, ℕ, ◌≤◌, Bool, true, false, ◌&&◌, ◌||◌, not, length, List, [], Option, Some, None, Result, Ok, Err, IfOk, OnOk, OnErr, is_ok, refl, sym, ◌∙◌, ap, subst, arith}
-use Rattle.std.specs.Prelude.{is_some, is_none, IsSome, IsErrOf}
+use Rattle.std.proofs.Common.{◌≡◌, inl, inr, ℕ, ◌≤◌, Bool, true, false, ◌&&◌, ◌||◌, not, length, List, [], Option, Some, None, Result, Ok, Err, IfOk, OnOk, OnErr, is_ok, refl, sym, ◌∙◌, ap, subst}
+use Rattle.std.specs.Prelude.{is_some, is_none, IsSome}
 use Rattle.std.proofs.lemmas.Bool.{true≢false, cases_Bool}
 use Rattle.vs_faults.specs.Faults.{HasRisen}
 use Rattle.vs_host.specs.Disk.{Disk, Name, IsFolder, names_of, names_at, content_in}
@@ -23,11 +23,11 @@ use Rattle.vs_backup.specs.declared.errors.WriteErr.TheVariants as error
 use Rattle.vs_backup.specs.declared.errors.Place.TheVariants as place
 use Rattle.vs_backup.specs.Backups.{WorksOn, IsNoName, backs_up, backup_of, copies}
 use Rattle.vs_backup.specs.Works.{LeadsTo, Narrowed, SparesOthers, two_names}
-use Rattle.vs_backup.specs.Writing.{BeginsWhole, FindsNoName, Places, IsUnseen, IsWhole, MayLackNew, OldIn, WritesFresh, WritesInPlace, WritesNew, WritesPlain, WritesWith, nowhere}
+use Rattle.vs_backup.specs.Writing.{BeginsWhole, FindsNoName, Places, IsWhole, MayLackNew, OldIn, WritesFresh, WritesPlain, WritesWith, nowhere}
 use Rattle.vs_backup.proofs.Frames.{absent_now}
 use Rattle.vs_backup.proofs.Kept.{may_leave_now}
 use Rattle.vs_safety.specs.Texts.{Text}
-use Rattle.vs_safety.specs.Writes.{Write, State, AreForeign, Avoids, HasWritten, IsWholeIn, state_now}
+use Rattle.vs_safety.specs.Writes.{Write, AreForeign, Avoids, HasWritten, IsWholeIn, state_now}
 use Rattle.vs_safety.specs.FileWork.{EditedFile, Keeps}
 use Rattle.vs_paged.proofs.SyncLemmas.{on_ok_as}
 use Rattle.vs_desk.specs.Still.{IsStill}
@@ -35,7 +35,7 @@ use Rattle.vs_desk.specs.Writes.{WritesFile}
 use Rattle.vs_desk.proofs.Left.{goes_both}
 use Rattle.vs_desk.proofs.Stillness.{still_apart, still_settled, still_lasts}
 use Rattle.vs_session.specs.Session.{lacks_name}
-use Rattle.vs_session.proofs.Steps.{apart_foreign, risen_since}
+use Rattle.vs_session.proofs.Steps.{apart_foreign, risen_since, when_err, when_ok}
 use Rattle.vs_session.proofs.FileWrites.{both_true, none_is, not_true, goes_all, backup_named, file_same, backup_same, works_same, narrowed_takes, narrowed_untouched, place_same, takes_backup, takes_old, untouched_old, untouched_then}
 
 abbrev ok_size : ℕ → Result ℕ WriteErr
@@ -141,21 +141,19 @@ module _ (names : Names) (are : AreNames names) (options : WriteOptions) (text :
     spares_since a = others a.inside (λ name is on. a.avoids name is (works_same names are old mid.folder same options name on))
         (still_apart a.inside mid.folder folder (still_lasts a.inside a.start mid.folder (since_mid a) (still_settled a.inside a.start a.settled)))
 
-    apart_moments : (Q : Snapshot → Type 0) → GoesOn Q mid.trace new.trace → GoesOn (λ m. (a : Apart) → SameAt a.inside old m.folder) mid.trace new.trace
-    apart_moments Q base = goes_all Apart (λ a m. SameAt a.inside old m.folder) Q mid.trace new.trace base
-        (λ a. goes_weaker (Inside mid (SameAt a.inside mid.folder)) (λ m. SameAt a.inside old m.folder) (λ m inside. same_then a.inside old mid.folder m.folder (apart_mid a) inside.folder) mid.trace new.trace
-        (spares_apart a).moments)
-
-    since_moments : (Q : Snapshot → Type 0) → GoesOn Q mid.trace new.trace → GoesOn (λ m. (a : Since) → SameAt a.inside a.start m.folder) mid.trace new.trace
-    since_moments Q base = goes_all Since (λ a m. SameAt a.inside a.start m.folder) Q mid.trace new.trace base
-        (λ a. goes_weaker (Inside mid (SameAt a.inside mid.folder)) (λ m. SameAt a.inside a.start m.folder) (λ m inside. same_then a.inside a.start mid.folder m.folder (since_mid a) inside.folder) mid.trace new.trace
-        (spares_since a).moments)
+    -- at each moment, for each set of such a kind
+    spared_moments : (Set : Type 0) (inside : Set → Name → Bool) (start : Set → Disk) → ((a : Set) → SameAt (inside a) (start a) mid.folder) → ((a : Set) → Runs (SameAt (inside a)) mid new)
+        → (Q : Snapshot → Type 0) → GoesOn Q mid.trace new.trace → GoesOn (λ m. (a : Set) → SameAt (inside a) (start a) m.folder) mid.trace new.trace
+    spared_moments Set inside start before runs Q base = goes_all Set (λ a m. SameAt (inside a) (start a) m.folder) Q mid.trace new.trace base
+        (λ a. goes_weaker (Inside mid (SameAt (inside a) mid.folder)) (λ m. SameAt (inside a) (start a) m.folder) (λ m here. same_then (inside a) (start a) mid.folder m.folder (before a) here.folder) mid.trace new.trace
+        (runs a).moments)
 
     pub keeps_moments : (Q : Snapshot → Type 0) → GoesOn Q mid.trace new.trace → GoesOn (λ m. Keeps names (Some (EditedFile write)) old m.folder) mid.trace new.trace
     keeps_moments Q base =
         goes_weaker (λ m. ((a : Apart) → SameAt a.inside old m.folder) × ((a : Since) → SameAt a.inside a.start m.folder)) (λ m. Keeps names (Some (EditedFile write)) old m.folder)
         (λ m both. keeps_of m.folder both.0 both.1) mid.trace new.trace
-        (goes_both (λ m. (a : Apart) → SameAt a.inside old m.folder) (λ m. (a : Since) → SameAt a.inside a.start m.folder) mid.trace new.trace (apart_moments Q base) (since_moments Q base))
+        (goes_both (λ m. (a : Apart) → SameAt a.inside old m.folder) (λ m. (a : Since) → SameAt a.inside a.start m.folder) mid.trace new.trace
+        (spared_moments Apart (λ a. a.inside) (λ a. old) apart_mid spares_apart Q base) (spared_moments Since (λ a. a.inside) (λ a. a.start) since_mid spares_since Q base))
 
     pub keeps_now : Keeps names (Some (EditedFile write)) old new.folder
     keeps_now = keeps_of new.folder (λ a. same_then a.inside old mid.folder new.folder (apart_mid a) (spares_apart a).now)
@@ -371,14 +369,6 @@ module _ (names : Names) (are : AreNames names) (options : WriteOptions) (text :
           let taken : backup_of options names.file old ≡ None = sym (backup_same names are old mid.folder same options) ∙ lacking.taken refl in
           λ i. ((not (lacking.off i) && lacking.on i) && there i) && is_none (taken i)
 
-      ok_only : (A : Type 0) (r : Result ℕ WriteErr) → is_ok r ≡ true → OnOk r A → A
-      ok_only A (Ok size) ok a = a
-      ok_only A (Err why) ok a = absurd (true≢false (sym ok))
-
-      err_only : (A : Type 0) (r : Result ℕ WriteErr) → is_ok r ≡ false → OnErr r A → A
-      err_only A (Ok size) not_ok a = absurd (true≢false not_ok)
-      err_only A (Err why) not_ok a = a
-
       holds : (r : Result ℕ WriteErr) → IfOk r (λ size. (size ≡ length bytes) × HoldsBytes names.file bytes new.folder) → OnOk r (HoldsBytes names.file bytes new.folder)
       holds (Ok size) is = is.1
       holds (Err why) is = tt
@@ -386,11 +376,11 @@ module _ (names : Names) (are : AreNames names) (options : WriteOptions) (text :
       pub has_written : HasWritten names write (is_ok result) (record { folder = old; faults = from }) (state_now new)
       has_written = record {
         found = refl;
-        written = λ done. ok_only (HoldsBytes names.file bytes new.folder) result done (holds result facts.written);
-        kept = λ was backup done on is made. ok_only (HoldsBytes backup was new.folder) result done (facts.kept was backup on is made);
-        gone = λ backup done off is made. ok_only ((HasRisen from new.folder_faults → ⊥) → (lost : ℕ) → names_at new.folder lost backup ≡ None) result done (facts.gone backup off is made);
-        not_written = λ was not_done is. err_only (MayLackNew names.file was new.folder) result not_done (facts.not_written was is);
-        absent = λ not_done gone. err_only (MayLeave new.folder names.file None) result not_done (facts.absent gone);
+        written = λ done. when_ok result (HoldsBytes names.file bytes new.folder) done (holds result facts.written);
+        kept = λ was backup done on is made. when_ok result (HoldsBytes backup was new.folder) done (facts.kept was backup on is made);
+        gone = λ backup done off is made. when_ok result ((HasRisen from new.folder_faults → ⊥) → (lost : ℕ) → names_at new.folder lost backup ≡ None) done (facts.gone backup off is made);
+        not_written = λ was not_done is. when_err result (MayLackNew names.file was new.folder) not_done (facts.not_written was is);
+        absent = λ not_done gone. when_err result (MayLeave new.folder names.file None) not_done (facts.absent gone);
       }
 
       -- where no name is free, nothing is done

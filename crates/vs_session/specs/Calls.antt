@@ -1,21 +1,27 @@
 -- What a call on a session requires of it, and how the session goes on over the call.
-use Rattle.std.specs.Prelude.{◌≡◌, ◌≤◌, ◌+◌, ℕ, List, IsTrue}
+use Rattle.std.specs.Prelude.{◌≡◌, ◌≤◌, ◌+◌, ◌∷◌, ℕ, Bool, true, false, List, IsTrue}
 use Rattle.vs_faults.specs.Faults.{HasCause}
 use Rattle.vs_host.specs.Disk.{Disk}
 use Rattle.vs_host.specs.World.{Tells, Scene, ChangesFolder, ReadsFolder}
-use Rattle.vs_disk.specs.Runs.{FailsLast, Looks, Runs}
+use Rattle.vs_disk.specs.Runs.{FailsLast, Looks, Runs, NoneFails}
+use Rattle.vs_pair.specs.Pair.{Rises}
+use Rattle.vs_pair.specs.Steps.{IsFresh}
 use Rattle.vs_excmd.specs.Request.{Instruction, IsRequest}
 use Rattle.vs_excmd.specs.declared.request.Request.{Request}
 use Rattle.vs_undo.specs.History.{History}
 use Rattle.vs_machine.specs.declared.command.Mark.{Mark}
+use Rattle.vs_safety.specs.Safety.{Stepped}
 use Rattle.vs_safety.specs.Texts.{Sync, Text}
+use Rattle.vs_safety.specs.Turns.{last_turn}
 use Rattle.vs_safety.specs.Undo.{IsUndoOf}
 use Rattle.vs_ubind.specs.Storing.{StoresBy}
 use Rattle.vs_session.specs.declared.session.Session.{Session}
 use Rattle.vs_session.specs.declared.session.Step.{Step}
-use Rattle.vs_session.specs.Session.{SessionState, carried}
+use Rattle.vs_session.specs.declared.ending.End.{End}
+use Rattle.vs_session.specs.declared.ending.End.TheVariants as end
+use Rattle.vs_session.specs.Session.{SessionState, carried, sync_in}
 use Rattle.vs_session.specs.Stores.{StoresUndo}
-use Rattle.vs_session.specs.Fits.{Fits, FitsUndo, IsStep, SameFile, generation_of, names_of}
+use Rattle.vs_session.specs.Fits.{Fits, FitsUndo, HasSyncs, IsStep, Leaves, SameFile, generation_of, names_of}
 
 -- Where the folder is told, the session is in some state, and the folder has the swap files that some syncs made.
 abbrev pub FitsFolder : Tells → Session → Disk → Type 0
@@ -71,6 +77,19 @@ pub record GoesOnSyncing (Failed : Type 0) (before after : Session) (old new : S
   pub generation : generation_of after ≤ generation_of before + 1
   pub undo : FitsUndo after
   pub cause : HasCause old.folder_faults new.folder_faults Failed
+
+-- What the end of a session leaves, done or failed. The last sync steps from the syncs before to itself, and some session with these
+-- names fits the folder after it; a quit leaves what the syncs allow, and no swap file where it is done. No call but the last one failed.
+pub record Finishes (tells : Tells) (session : Session) (old new : Scene) (how : End) (done : Bool) : Type 0 where
+  pub sync : how ≡ end.Sync → IsTrue tells.folder → (state : SessionState) (syncs : List Sync) → Fits session old.folder state syncs → Stepped (names_of session) syncs (last_turn (sync_in state done)) old new
+  pub fits : how ≡ end.Sync → IsTrue tells.folder → (state : SessionState) (syncs : List Sync) → Fits session old.folder state syncs → HasSyncs (names_of session) (sync_in state done ∷ syncs) new.folder
+  pub rises : done ≡ true → how ≡ end.Sync → IsTrue tells.folder → Rises (names_of session) old.folder new.folder
+  pub quit : how ≡ end.Quit → IsTrue tells.folder → (state : SessionState) (syncs : List Sync) → Fits session old.folder state syncs → Leaves (names_of session) syncs old new
+  pub gone : done ≡ true → how ≡ end.Quit → IsTrue tells.folder → IsFresh (names_of session) new.folder
+  pub last : IsTrue tells.folder → FailsLast old new
+  pub none : done ≡ true → NoneFails tells old new
+  pub frame : ChangesFolder old new
+  pub cause : HasCause old.folder_faults new.folder_faults (done ≡ false)
 
 -- These bytes were stored as the undo file of the session, as far as the calls went: where they are the undo file of a text and a
 -- history, a stop leaves what was there before or them whole. No call was made but those of the storing, none but the last one failed,

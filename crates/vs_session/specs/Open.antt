@@ -4,7 +4,8 @@ use Rattle.std.specs.declared.option.Option.{Option}
 use Rattle.std.specs.declared.result.Result.{Result}
 use Rattle.vs_faults.specs.Faults.{HasCause, IsQuiet}
 use Rattle.vs_host.specs.World.{Tells, Scene, ReadsFolder}
-use Rattle.vs_pair.specs.Acts.{Acts, NoneFails}
+use Rattle.vs_disk.specs.Runs.{NoneFails}
+use Rattle.vs_pair.specs.Acts.{Acts}
 use Rattle.vs_text.specs.Text.{lines_of}
 use Rattle.vs_text.specs.Limits.{IsRefusal, IsWithinLimits}
 use Rattle.vs_text.specs.declared.TheConstants.{MAX_LINE_BYTES}

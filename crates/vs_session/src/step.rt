@@ -1,7 +1,8 @@
 // One step of a session.
-ghost use Rattle.std.specs.Prelude.{◌≡◌, ◌≢◌, ◌+◌, ◌<◌, ◌≤◌, ◌^◌, ◌∷◌, ℕ, List, None, true, false, IsErr, IsTrue, OnErr, OnOk, length};
+ghost use Rattle.std.specs.Prelude.{◌≡◌, ◌≢◌, ◌+◌, ◌<◌, ◌≤◌, ◌^◌, ◌∷◌, List, None, true, false, IsErr, IsTrue, OnErr, OnOk, length};
 ghost use Rattle.vs_faults.specs.Faults.{HasCause};
-ghost use Rattle.vs_pair.specs.Acts.{Acts, NoneFails};
+ghost use Rattle.vs_disk.specs.Runs.{NoneFails};
+ghost use Rattle.vs_pair.specs.Acts.{Acts};
 ghost use Rattle.vs_pair.specs.Pair.{Rises};
 ghost use Rattle.vs_exparse.specs.Command.{command_of, result_of};
 ghost use Rattle.vs_excmd.specs.Request.{Instruction, IsFormed, IsRequest};
@@ -10,7 +11,7 @@ ghost use Rattle.vs_machine.specs.declared.command.Mark.{Mark};
 ghost use Rattle.vs_safety.specs.Texts.{Sync};
 ghost use Rattle.vs_paged.specs.Fits.{Syncing};
 ghost use Rattle.vs_session.specs.Calls.{AnswersRequest, CarriesRequest, FitsFolder, GoesOnReading, GoesOnSyncing, IsUsable};
-ghost use Rattle.vs_session.specs.Fits.{Fits, FitsUndo, IsFault, IsMarkedAt, IsStep, IsTimed, SameFile, StepsIn, generation_of, names_of};
+ghost use Rattle.vs_session.specs.Fits.{Fits, FitsUndo, IsFault, IsMarkedAt, IsTimed, SameFile, StepsIn, generation_of, names_of};
 ghost use Rattle.vs_session.specs.Session.{SessionState, after_sync, answered, begins_after, carried, counted, is_fault, is_move, is_rundo, is_saved, is_write, is_wundo, options_set, own_reply, quits, sync_in, uses_files};
 
 use crate::answering::answer_text;

@@ -2,7 +2,7 @@
 ghost use Rattle.std.specs.Prelude.{◌≡◌, IfOk, IsErrOf, IsTrue, List};
 ghost use Rattle.vs_ufile.specs.Decode.{IsWellFormed};
 ghost use Rattle.vs_ufile.specs.Values.{history_of};
-ghost use Rattle.vs_ubind.specs.Bound.{IsBound, IsFiled, history_next};
+ghost use Rattle.vs_ubind.specs.Bound.{IsDataOf, history_next};
 ghost use Rattle.vs_machine.specs.Machine.{State};
 ghost use Rattle.vs_safety.specs.Texts.{Sync};
 ghost use Rattle.vs_safety.specs.Undo.{IsUndoOf};
@@ -33,10 +33,8 @@ fn unbind_in<F: Folder>(
     save_next: bool,
 ) -> Result<FileHistory, StoreErr>
     requires lent { IsLentWithUndo F.tells pair.old tree.old history.now (F.scene host.old).folder }
-    ensures bound { IfOk result (λ contents. IsTrue F.tells.folder → (state : State) → Stands pair.old.pages tree.old history.now state
-        → IsBound (history_of contents) state.text (history_next save_next state.history)) }
-    ensures filed { IfOk result (λ contents. IsTrue F.tells.folder → (state : State) → Stands pair.old.pages tree.old history.now state
-        → IsFiled (history_of contents) state.text (history_next save_next state.history)) }
+    ensures made { IfOk result (λ contents. IsTrue F.tells.folder → (state : State) → Stands pair.old.pages tree.old history.now state
+        → IsDataOf (history_of contents) state.text (history_next save_next state.history)) }
     ensures formed { IfOk result (λ contents. IsWellFormed (history_of contents)) }
     ensures stands { IsTrue F.tells.folder → (state : State) → Stands pair.old.pages tree.old history.now state → Stands pair.new.pages tree.new history.now state }
     ensures kept { KeepsLentWithUndo F.tells (IsErrOf result StoreErr.Failed) pair.old pair.new tree.new history.now (F.scene host.old) (F.scene host.new) }
@@ -57,10 +55,8 @@ fn unbind_text<F: Folder>(
     save_next: bool,
 ) -> Result<FileHistory, StoreErr>
     requires fits { FitsWithUndo F.tells text.old history.now (F.scene host.old).folder }
-    ensures bound { IfOk result (λ contents. IsTrue F.tells.folder → (state : State) (syncs : List Sync) → FitsState text.old history.now (F.scene host.old).folder state syncs
-        → IsBound (history_of contents) state.text (history_next save_next state.history)) }
-    ensures filed { IfOk result (λ contents. IsTrue F.tells.folder → (state : State) (syncs : List Sync) → FitsState text.old history.now (F.scene host.old).folder state syncs
-        → IsFiled (history_of contents) state.text (history_next save_next state.history)) }
+    ensures made { IfOk result (λ contents. IsTrue F.tells.folder → (state : State) (syncs : List Sync) → FitsState text.old history.now (F.scene host.old).folder state syncs
+        → IsDataOf (history_of contents) state.text (history_next save_next state.history)) }
     ensures formed { IfOk result (λ contents. IsWellFormed (history_of contents)) }
     ensures fits { IsTrue F.tells.folder → (state : State) (syncs : List Sync) → FitsState text.old history.now (F.scene host.old).folder state syncs
         → FitsState text.new history.now (F.scene host.new).folder state syncs }

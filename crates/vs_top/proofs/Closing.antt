@@ -1,28 +1,27 @@
 -- How a run closes: the last sync or the removal, and the last line, each with what it answers and the promise.
-use Rattle.std.proofs.Common.{◌≡◌, ◌⊎◌, inl, inr, ℕ, ◌≤◌, ◌<◌, ◌+◌, Bool, true, false, not, if◌then◌else◌, List, [], ◌∷◌, ◌++◌, length, take, map, All, Option, Some, None, IsTrue, IsErrAnd, Ok, Err, refl, sym, ap, subst, ◌∙◌, append_assoc, append-nil, arith}
+use Rattle.std.proofs.Common.{◌≡◌, inl, inr, ℕ, ◌≤◌, ◌+◌, Bool, true, false, not, if◌then◌else◌, List, [], ◌∷◌, ◌++◌, length, take, All, Option, None, IsTrue, IsErrAnd, Ok, Err, refl, sym, ap, subst, ◌∙◌, append_assoc, arith}
 use Rattle.std.proofs.lemmas.Bool.{true≢false}
 use Rattle.std.proofs.lemmas.List.{length-append, take_all}
 use Rattle.vs_faults.specs.Faults.{HasRisen}
-use Rattle.vs_faults.proofs.Causes.{risen_before, risen_after}
+use Rattle.vs_faults.proofs.Causes.{risen_after}
 use Rattle.vs_host.specs.Disk.{Disk, Name, IsImage, IsImageOf}
 use Rattle.vs_host.specs.Names.{names_of_file}
 use Rattle.vs_host.specs.Trace.{WroteOutput, Snapshot}
-use Rattle.vs_host.specs.World.{Tells, Scene, ChangesFolder, ChangesOutput, content_of, snapshot_of}
+use Rattle.vs_host.specs.World.{Tells, Scene, ChangesOutput, snapshot_of}
 use Rattle.vs_host.specs.declared.names.Names.{Names}
-use Rattle.vs_disk.specs.Runs.{FailsLast}
 use Rattle.vs_pair.specs.Pair.{Image, NoneThere, Rises}
 use Rattle.vs_pair.specs.Steps.{IsAbsent, IsFresh}
 use Rattle.vs_excmd.specs.Request.{Instruction}
 use Rattle.vs_script.specs.Ahead.{script_limit}
 use Rattle.vs_machine.specs.declared.command.Mark.{Mark}
 use Rattle.vs_safety.specs.Texts.{Sync, RecoversOrNone, recoverable}
-use Rattle.vs_safety.specs.Turns.{Turn, Closing, NotBegun, LastSync, Quits, last_turn, after_turns, opened, preserved_line, quit_line}
+use Rattle.vs_safety.specs.Turns.{Turn, Closing, LastSync, Quits, last_turn, after_turns, opened, preserved_line, quit_line}
 use Rattle.vs_safety.specs.Safety.{IsCrashSafe, IsAdded, Works, Writes, Stepped}
-use Rattle.vs_safety.specs.Going.{Going, Stepping, Halted}
+use Rattle.vs_safety.specs.Going.{Stepping}
 use Rattle.vs_safety.specs.Stretches.{IsFirst}
 use Rattle.vs_safety.specs.Writes.{State}
-use Rattle.vs_safety.specs.Causes.{IsCounted, RoseLast, output_count, folder_count}
-use Rattle.vs_safety.proofs.Going.{going_steps, going_halts, reply_written, reply_cut, stepping_halts}
+use Rattle.vs_safety.specs.Causes.{IsCounted, output_count, folder_count}
+use Rattle.vs_safety.proofs.Going.{going_steps, reply_cut, stepping_halts}
 use Rattle.vs_safety.proofs.Endings.{halted_safe, quit_stops, quit_written}
 use Rattle.vs_safety.proofs.Causes.{rose_at, rose_last}
 use Rattle.vs_safety.proofs.Moments.{first_stays}
@@ -30,8 +29,9 @@ use Rattle.vs_session.specs.declared.session.Session.{Session}
 use Rattle.vs_session.specs.declared.ending.End.{End}
 use Rattle.vs_session.specs.declared.ending.End.TheVariants as end
 use Rattle.vs_session.specs.Session.{SessionState, Ended, sync_in, states_after, turns_of}
-use Rattle.vs_session.specs.Fits.{Fits, HasSyncs, Leaves, HasSwap, names_of}
-use Rattle.vs_top.specs.Run.{TellsRun, Did, KeepsMarks, HasSince, HasNoFaultSince, HasRisenSince, KeepsSwap, Closes, AnswersAll, IsCutLast, HasRun, RunsEdit, Counts, answered_at, counts_of, OnlyFolder, FaultHasCause, IsTimed, opened_file, ran_of, written, closing_line}
+use Rattle.vs_session.specs.Calls.{Finishes}
+use Rattle.vs_session.specs.Fits.{HasSyncs, HasSwap}
+use Rattle.vs_top.specs.Run.{TellsRun, Did, KeepsMarks, HasSince, HasNoFaultSince, HasRisenSince, KeepsSwap, Closes, AnswersAll, HasRun, RunsEdit, answered_at, counts_of, OnlyFolder, FaultHasCause, IsTimed, opened_file, ran_of, written, closing_line}
 use Rattle.vs_top.specs.Turns.{text_at, opening_at, Told, KeepsOpenFile, StopsAt, IsAtClose}
 use Rattle.vs_top.specs.declared.ending.Ending.{Ending}
 use Rattle.vs_top.specs.Ending.{ending_in}
@@ -45,17 +45,6 @@ absent_image name disk absent image whole = subst (λ (o : Option ℕ). IsImageO
 
 pub fresh_image : (names : Names) (disk : Disk) → IsFresh names disk → (image : Image) → IsImage disk image → NoneThere names image
 fresh_image names disk fresh image whole = (absent_image names.swp disk fresh.no_swp image whole, absent_image names.swo disk fresh.no_swo image whole)
-
--- the end of a session, which answered Ok or not
-pub record Finishes (tells : Tells) (session : Session) (now mid : Scene) (how : End) (ok : Bool) : Type 0 where
-  pub sync : how ≡ end.Sync → IsTrue tells.folder → (state : SessionState) (syncs : List Sync) → Fits session now.folder state syncs → Stepped (names_of session) syncs (last_turn (sync_in state ok)) now mid
-  pub quit : how ≡ end.Quit → IsTrue tells.folder → (state : SessionState) (syncs : List Sync) → Fits session now.folder state syncs → Leaves (names_of session) syncs now mid
-  pub no_fault : ok ≡ true → mid.folder_faults ≡ now.folder_faults
-  pub fits : how ≡ end.Sync → IsTrue tells.folder → (state : SessionState) (syncs : List Sync) → Fits session now.folder state syncs → HasSyncs (names_of session) (sync_in state ok ∷ syncs) mid.folder
-  pub rises : ok ≡ true → how ≡ end.Sync → IsTrue tells.folder → Rises (names_of session) now.folder mid.folder
-  pub last : IsTrue tells.folder → FailsLast now mid
-  pub later : now.folder_faults ≤ mid.folder_faults
-  pub frame : ChangesFolder now mid
 
 -- how it closed
 abbrev closing_of : End → Bool → SessionState → Closing
@@ -139,7 +128,7 @@ module _ (tells : Tells) (name : List ℕ) (old now mid : Scene) (session : Sess
 
   -- and no call has failed
   no_fault : (how : End) (new : Scene) (newer : List Snapshot) → new.trace ≡ newer ++ now.trace → new.folder_faults ≡ mid.folder_faults → Finishes tells session now mid how true → HasNoFaultSince (opened_file old name) old new (did how true)
-  no_fault how new newer is faults finishes = since how true new newer is (λ m. new.folder_faults ≡ m.folder_faults) (faults ∙ finishes.no_fault refl ∙ sym same_faults)
+  no_fault how new newer is faults finishes = since how true new newer is (λ m. new.folder_faults ≡ m.folder_faults) (faults ∙ (finishes.none refl).faults ∙ sym same_faults)
 
   -- and the last sync was made
   risen : (how : End) (new : Scene) (newer : List Snapshot) → new.trace ≡ newer ++ now.trace → new.folder ≡ mid.folder → Finishes tells session now mid how true
@@ -172,13 +161,13 @@ module _ (tells : Tells) (name : List ℕ) (old now mid : Scene) (session : Sess
   failed_safe end.Quit finishes = quit_stops names old now (text_at old name) (opening_at old name) turns here.going mid (removal false finishes)
 
   -- the last line was written in part, or whole
-  cut_safe : (how : End) (new : Scene) (n : ℕ) → Finishes tells session now mid how true → (how ≡ end.Quit → IsFresh (names_of session) mid.folder) → Writes n (closing_line (closing_of how true state)) mid new → IsCrashSafe names old new (ran_of name old (did how true))
-  cut_safe end.Sync new n finishes gone writes =
+  cut_safe : (how : End) (new : Scene) (n : ℕ) → Finishes tells session now mid how true → Writes n (closing_line (closing_of how true state)) mid new → IsCrashSafe names old new (ran_of name old (did how true))
+  cut_safe end.Sync new n finishes writes =
       halted_safe names old new (ran_of name old (did end.Sync true)) refl
       (reply_cut names old (text_at old name) (opening_at old name) mid new turns (last_turn (sync_in state true)) (omega arith) (stepping true finishes) n writes)
-  cut_safe end.Quit new n finishes gone writes =
+  cut_safe end.Quit new n finishes writes =
       quit_written names old now (text_at old name) (opening_at old name) turns here.going mid (removal true finishes) new n writes
-      (fresh_image names mid.folder (subst (λ (k : Names). IsFresh k mid.folder) keeps.names (gone refl)))
+      (fresh_image names mid.folder (subst (λ (k : Names). IsFresh k mid.folder) keeps.names (finishes.gone refl refl told.folder)))
 
   -- the count of the output up to the last line
   counted : (how : End) → Finishes tells session now mid how true → IsCounted output_count old mid
@@ -201,9 +190,9 @@ module _ (tells : Tells) (name : List ℕ) (old now mid : Scene) (session : Sess
     looks = λ early. absurd (true≢false (sym early));
   }
 
-  pub run_cut : (how : End) (new : Scene) (n : ℕ) → StopsAt how (opened_file old name) old now commands ends → Finishes tells session now mid how true → (how ≡ end.Quit → IsFresh (names_of session) mid.folder)
+  pub run_cut : (how : End) (new : Scene) (n : ℕ) → StopsAt how (opened_file old name) old now commands ends → Finishes tells session now mid how true
       → Writes n (closing_line (closing_of how true state)) mid new → new.script ≡ mid.script → HasRisen mid.out_faults new.out_faults → HasRun name old new ending.OutputFault marks
-  run_cut how new n stops finishes gone writes script rose = record {
+  run_cut how new n stops finishes writes script rose = record {
     did = did how true;
     kept = kept how true;
     answered = inr (record {
@@ -213,7 +202,7 @@ module _ (tells : Tells) (name : List ℕ) (old now mid : Scene) (session : Sess
       risen = risen how new (more_new how true new finishes writes.added).0 (more_new how true new finishes writes.added).1 writes.folder finishes;
       output = writes.output ∙ ap (λ (l : List ℕ). l ++ take n (closing_line (closing_of how true state))) (mid_output how true finishes) ∙ append_assoc old.output (written (opened_file old name) commands ends) (take n (closing_line (closing_of how true state)));
     });
-    safe = λ free. cut_safe how new n finishes gone writes;
+    safe = λ free. cut_safe how new n finishes writes;
     left = left how true new writes.folder finishes;
     failed = rose_at output_count old mid new WroteOutput [] writes.added rose (counted how finishes);
     looks = λ early. absurd (true≢false (sym early));
@@ -229,14 +218,14 @@ module _ (tells : Tells) (name : List ℕ) (old now mid : Scene) (session : Sess
     errors_are = flip_clean clean _ here.errors;
   }
 
-  pub run_ends : (how : End) (new : Scene) → StopsAt how (opened_file old name) old now commands ends → Finishes tells session now mid how true → (how ≡ end.Quit → IsFresh (names_of session) mid.folder)
+  pub run_ends : (how : End) (new : Scene) → StopsAt how (opened_file old name) old now commands ends → Finishes tells session now mid how true
       → Writes (length (closing_line (closing_of how true state))) (closing_line (closing_of how true state)) mid new → new.script ≡ mid.script → HasRun name old new (if clean then ending.Done else ending.WithErrors) marks
-  run_ends how new stops finishes gone writes script =
+  run_ends how new stops finishes writes script =
       let line : List ℕ = closing_line (closing_of how true state) in
       by_clean clean name old new marks (did how true) (kept how true)
       (all_answered how new stops finishes (writes.output ∙ ap (λ (l : List ℕ). mid.output ++ l) (take_all (length line) line (omega arith))) script writes.faults writes.folder writes.added)
       (left how true new writes.folder finishes)
-      (λ free. cut_safe how new (length line) finishes gone writes)
+      (λ free. cut_safe how new (length line) finishes writes)
 
 -- ---- over any host
 
@@ -247,7 +236,7 @@ module _ (tells : Tells) (name : List ℕ) (old now mid : Scene) (session : Sess
   -- the last sync or the removal failed
   pub close_fails : Finishes tells session now mid how false → HasRisen now.folder_faults mid.folder_faults → RunsEdit tells name old mid ending.FolderFault marks
   close_fails finishes rose =
-      let only : OnlyFolder (counts_of now) (counts_of mid) = only_folder now mid finishes.frame finishes.later in
+      let only : OnlyFolder (counts_of now) (counts_of mid) = only_folder now mid finishes.frame finishes.cause.later in
       record {
         told = λ told. let here = at.told told in run_fails tells name old now mid session marks clean told at.keeps here.0 here.1 here.2 how here.3 finishes rose;
         swap = λ told is. absurd (cc);
@@ -255,23 +244,23 @@ module _ (tells : Tells) (name : List ℕ) (old now mid : Scene) (session : Sess
         file = λ told. tt;
         taken = λ told. omega (arith, at.taken told, ap (λ (s : Scene). length s.script) finishes.frame);
         counts = (risen_after at.keeps.counts.later rose, only_then (counts_of old) (counts_of now) (counts_of mid) at.keeps.counts only);
-        causes = causes_on (counts_of old) (counts_of now) (counts_of mid) marks finishes.later at.keeps.causes;
+        causes = causes_on (counts_of old) (counts_of now) (counts_of mid) marks finishes.cause.later at.keeps.causes;
         times = times_on mid (ap (λ (s : Scene). s.answers) finishes.frame);
       }
 
   -- the last line was written in part
-  pub close_cut : (new : Scene) → Finishes tells session now mid how true → (how ≡ end.Quit → IsTrue tells.folder → IsFresh (names_of session) mid.folder) → ChangesOutput mid new
+  pub close_cut : (new : Scene) → Finishes tells session now mid how true → ChangesOutput mid new
       → (IsTrue tells.output → (n : ℕ) × (new.output ≡ mid.output ++ take n (line_of how))) → (IsTrue tells.folder → IsAdded WroteOutput [] mid new) → HasRisen mid.out_faults new.out_faults
       → RunsEdit tells name old new ending.OutputFault marks
-  close_cut new finishes gone frame wrote added rose =
-      let only : OnlyFolder (counts_of old) (counts_of mid) = only_then (counts_of old) (counts_of now) (counts_of mid) at.keeps.counts (only_folder now mid finishes.frame finishes.later) in
+  close_cut new finishes frame wrote added rose =
+      let only : OnlyFolder (counts_of old) (counts_of mid) = only_then (counts_of old) (counts_of now) (counts_of mid) at.keeps.counts (only_folder now mid finishes.frame finishes.cause.later) in
       let after : OnlyFolder (counts_of mid) (record (counts_of new) { output = mid.out_faults }) = only_output mid new frame in
       let faults : new.folder_faults ≡ mid.folder_faults = ap (λ (s : Scene). s.folder_faults) frame in
       record {
         told = λ told.
             let here = at.told told in
             let cut = wrote told.output in
-            run_cut tells name old now mid session marks clean told at.keeps here.0 here.1 here.2 how new cut.0 here.3 finishes (λ is. gone is told.folder)
+            run_cut tells name old now mid session marks clean told at.keeps here.0 here.1 here.2 how new cut.0 here.3 finishes
             (record { output = cut.1 ∙ ap (λ (l : List ℕ). mid.output ++ take cut.0 l) (line_is how true _); folder = ap (λ (s : Scene). s.folder) frame; faults = faults; added = added told.folder })
             (ap (λ (s : Scene). s.script) frame) rose;
         swap = λ told is. absurd (cc);
@@ -282,23 +271,23 @@ module _ (tells : Tells) (name : List ℕ) (old now mid : Scene) (session : Sess
           subst (λ (k : ℕ). HasRisen k new.out_faults) only.output rose,
           record { script = after.script ∙ only.script; output = refl; later = omega (arith, only.later, faults) },
         );
-        causes = causes_on (counts_of old) (counts_of now) (counts_of new) marks (omega (arith, finishes.later, faults)) at.keeps.causes;
+        causes = causes_on (counts_of old) (counts_of now) (counts_of new) marks (omega (arith, finishes.cause.later, faults)) at.keeps.causes;
         times = times_on new (ap (λ (s : Scene). s.answers) frame ∙ ap (λ (s : Scene). s.answers) finishes.frame);
       }
 
   -- and whole
-  pub close_ends : (new : Scene) → Finishes tells session now mid how true → (how ≡ end.Quit → IsTrue tells.folder → IsFresh (names_of session) mid.folder) → ChangesOutput mid new
+  pub close_ends : (new : Scene) → Finishes tells session now mid how true → ChangesOutput mid new
       → (IsTrue tells.output → new.output ≡ mid.output ++ line_of how) → (IsTrue tells.folder → IsAdded WroteOutput [] mid new) → new.out_faults ≡ mid.out_faults
       → RunsEdit tells name old new (if clean then ending.Done else ending.WithErrors) marks
-  close_ends new finishes gone frame wrote added quiet =
+  close_ends new finishes frame wrote added quiet =
       let faults : new.folder_faults ≡ mid.folder_faults = ap (λ (s : Scene). s.folder_faults) frame in
-      let only : OnlyFolder (counts_of old) (counts_of mid) = only_then (counts_of old) (counts_of now) (counts_of mid) at.keeps.counts (only_folder now mid finishes.frame finishes.later) in
+      let only : OnlyFolder (counts_of old) (counts_of mid) = only_then (counts_of old) (counts_of now) (counts_of mid) at.keeps.counts (only_folder now mid finishes.frame finishes.cause.later) in
       by_ending clean
       (record { script = ap (λ (s : Scene). s.script_faults) frame ∙ only.script; output = quiet ∙ only.output; later = omega (arith, only.later, faults) })
       (λ told.
       let here = at.told told in
       let line : List ℕ = closing_line (closing_of how true (states_after (opened_file old name).state here.0 here.1)) in
-      run_ends tells name old now mid session marks clean told at.keeps here.0 here.1 here.2 how new here.3 finishes (λ is. gone is told.folder)
+      run_ends tells name old now mid session marks clean told at.keeps here.0 here.1 here.2 how new here.3 finishes
       (record {
         output = wrote told.output ∙ ap (λ (l : List ℕ). mid.output ++ l) (line_is how true _ ∙ sym (take_all (length line) line (omega arith)));
         folder = ap (λ (s : Scene). s.folder) frame;
@@ -307,7 +296,7 @@ module _ (tells : Tells) (name : List ℕ) (old now mid : Scene) (session : Sess
       })
       (ap (λ (s : Scene). s.script) frame))
       (λ told. omega (arith, at.taken told, ap (λ (s : Scene). length s.script) finishes.frame, ap (λ (s : Scene). length s.script) frame))
-      (causes_on (counts_of old) (counts_of now) (counts_of new) marks (omega (arith, finishes.later, faults)) at.keeps.causes)
+      (causes_on (counts_of old) (counts_of now) (counts_of new) marks (omega (arith, finishes.cause.later, faults)) at.keeps.causes)
       (times_on new (ap (λ (s : Scene). s.answers) frame ∙ ap (λ (s : Scene). s.answers) finishes.frame))
     where
       by_ending : (clean : Bool) → OnlyFolder (counts_of old) (counts_of new) → (TellsRun tells → HasRun name old new (if clean then ending.Done else ending.WithErrors) marks)

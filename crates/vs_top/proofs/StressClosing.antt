@@ -1,11 +1,10 @@
 -- The end of the stress mode: the summary, the line with it, and the removal.
-use Rattle.std.proofs.Common.{◌≡◌, ℕ, ◌≤◌, ◌<◌, ◌++◌, Bool, if◌then◌else◌, List, [], length, take, IsTrue, refl, sym, ap, subst, ◌∙◌, append-nil, arith}
+use Rattle.std.proofs.Common.{◌≡◌, ℕ, ◌≤◌, ◌<◌, ◌++◌, Bool, true, if◌then◌else◌, List, [], length, take, IsTrue, refl, sym, ap, subst, ◌∙◌, append-nil, arith}
 use Rattle.vs_faults.specs.Faults.{HasRisen}
 use Rattle.vs_host.specs.Trace.{WroteOutput}
 use Rattle.vs_host.specs.World.{Tells, Scene, ChangesOutput, ReadsFolder}
 use Rattle.vs_edit.specs.declared.store.StoreErr.{StoreErr}
 use Rattle.vs_edit.specs.declared.store.StoreErr.TheVariants as store
-use Rattle.vs_pair.specs.Steps.{IsFresh}
 use Rattle.vs_machine.specs.declared.command.Mark.{Mark}
 use Rattle.vs_safety.specs.Texts.{Sync}
 use Rattle.vs_safety.specs.Safety.{IsAdded}
@@ -13,6 +12,7 @@ use Rattle.vs_session.specs.declared.session.Session.{Session}
 use Rattle.vs_session.specs.declared.ending.End.TheVariants as end
 use Rattle.vs_session.specs.declared.summary.Summary.{Summary}
 use Rattle.vs_session.specs.Session.{SessionState, Ended}
+use Rattle.vs_session.specs.Calls.{Finishes}
 use Rattle.vs_session.specs.Fits.{Fits, names_of}
 use Rattle.vs_session.specs.Summary.{summary_of}
 use Rattle.vs_stress.specs.Arguments.{summary_line}
@@ -22,7 +22,6 @@ use Rattle.vs_top.specs.Run.{Did}
 use Rattle.vs_top.specs.Stress.{TellsStress, RunsStress, stress_line, stress_state, stress_syncs}
 use Rattle.vs_top.specs.StressTurns.{IsStressTurn}
 use Rattle.vs_top.specs.declared.ending.Ending.TheVariants as ending
-use Rattle.vs_top.proofs.Closing.{Finishes}
 use Rattle.vs_top.proofs.StressEnds.{did_of, line_cut, no_memory, no_summary, removal_fails, still_ends, stress_ends, turn_still}
 
 -- What asking a session for its summary did.
@@ -85,5 +84,5 @@ module _ (OfHost : Scene → Type 0) (tells : Tells) (count : ℕ) (old now new 
       close_left rose = removal_fails OfHost tells old new after marks clean (stress_commands count) after_summary count refl line some line_is mid last frame added wrote quiet ok finishes rose
 
       -- all was done
-      pub close_ends : (IsTrue tells.folder → IsFresh (names_of after) last.folder) → RunsStress OfHost tells count old last (if clean then ending.Done else ending.WithErrors) marks
-      close_ends gone = stress_ends OfHost tells old new after marks clean (stress_commands count) after_summary count refl line some line_is mid last frame added wrote quiet ok finishes gone
+      pub close_ends : ok ≡ true → RunsStress OfHost tells count old last (if clean then ending.Done else ending.WithErrors) marks
+      close_ends done = stress_ends OfHost tells old new after marks clean (stress_commands count) after_summary count refl line some line_is mid last frame added wrote quiet ok finishes done

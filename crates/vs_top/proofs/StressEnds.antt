@@ -29,6 +29,7 @@ use Rattle.vs_session.specs.declared.session.Session.{Session}
 use Rattle.vs_session.specs.declared.ending.End.TheVariants as end
 use Rattle.vs_session.specs.declared.open.OpenErr.TheVariants as opening
 use Rattle.vs_session.specs.Session.{SessionState, Ended, states_after, turns_of}
+use Rattle.vs_session.specs.Calls.{Finishes}
 use Rattle.vs_session.specs.Fits.{Fits, names_of}
 use Rattle.vs_stress.specs.Commands.{stress_commands}
 use Rattle.vs_top.specs.Ending.{ending_in}
@@ -37,7 +38,6 @@ use Rattle.vs_top.specs.Stress.{TellsStress, HasStress, HasStressed, HasStretche
 use Rattle.vs_top.specs.StressTurns.{IsStressTurn}
 use Rattle.vs_top.specs.declared.ending.Ending.{Ending}
 use Rattle.vs_top.specs.declared.ending.Ending.TheVariants as ending
-use Rattle.vs_top.proofs.Closing.{Finishes}
 use Rattle.vs_top.proofs.Counting.{all_counted, causes_on, only_folder, only_output, only_then}
 use Rattle.vs_top.proofs.Pushes.{flip_clean}
 use Rattle.vs_top.proofs.StressFolders.{folders_on, later_read, later_written, stretches_later, stretches_on, told_folder}
@@ -252,10 +252,10 @@ module _ (OfHost : Scene → Type 0) (tells : Tells) (old now : Scene) (session 
       only_mid =
           let before = turn.keeps.counts in
           let first : OnlyFolder (counts_of now) (counts_of mid) = record { script = ap (λ (s : Scene). s.script_faults) frame; output = quiet; later = omega (arith, ap (λ (s : Scene). s.folder_faults) frame) } in
-          only_then (counts_of old) (counts_of mid) (counts_of new) (only_then (counts_of old) (counts_of now) (counts_of mid) before first) (only_folder mid new finishes.frame finishes.later)
+          only_then (counts_of old) (counts_of mid) (counts_of new) (only_then (counts_of old) (counts_of now) (counts_of mid) before first) (only_folder mid new finishes.frame finishes.cause.later)
 
       causes_new : All (FaultHasCause (counts_of old) (counts_of new)) marks
-      causes_new = causes_on (counts_of old) (counts_of now) (counts_of new) marks (omega (arith, ap (λ (s : Scene). s.folder_faults) frame, finishes.later)) turn.keeps.causes
+      causes_new = causes_on (counts_of old) (counts_of now) (counts_of new) marks (omega (arith, ap (λ (s : Scene). s.folder_faults) frame, finishes.cause.later)) turn.keeps.causes
 
       times_new : IsTrue tells.clock → IsTimed old new marks
       times_new told = all_times old new marks (ap (λ (s : Scene). s.answers) finishes.frame ∙ ap (λ (s : Scene). s.answers) frame ∙ turn.times told)
@@ -315,7 +315,7 @@ module _ (OfHost : Scene → Type 0) (tells : Tells) (old now : Scene) (session 
               safe = Each-append (IsStressMoment names old (stress_text old) (turns told) (told_line told)) works.moments.added was.moments
                   (Each-weaker OfRemoval (IsStressMoment names old (stress_text old) (turns told) (told_line told)) removal works.moments.added works.moments.each) was.safe;
               spared = same_then (is_foreign names) old.folder mid.folder new.folder was.spared works.spared;
-              steps = stretches_later OfHost names old (works.moments.added ++ was.moments) (turns told) mid.folder_faults new.folder_faults finishes.later
+              steps = stretches_later OfHost names old (works.moments.added ++ was.moments) (turns told) mid.folder_faults new.folder_faults finishes.cause.later
                   (stretches_on OfHost names old was.moments works.moments.added (turns told) mid.folder_faults all_behind same_folders was.steps);
             }
 
@@ -352,15 +352,15 @@ module _ (OfHost : Scene → Type 0) (tells : Tells) (old now : Scene) (session 
       }
 
       -- all is done
-      pub stress_ends : (IsTrue tells.folder → IsFresh (names_of session) new.folder) → RunsStress OfHost tells count old new (if clean then ending.Done else ending.WithErrors) marks
-      stress_ends gone = by_clean clean (λ told. (turn.told told).1.errors)
+      pub stress_ends : ok ≡ true → RunsStress OfHost tells count old new (if clean then ending.Done else ending.WithErrors) marks
+      stress_ends done = by_clean clean (λ told. (turn.told told).1.errors)
         where
           ends_as : (b : Bool) → ((told : TellsStress tells) → b ≡ not (Rattle.vs_session.specs.Session.any_error (opened_file old stress_name).state commands (ends told))) → (told : TellsStress tells)
               → StressEnds (not b) count old new (did_of commands (ends told))
           ends_as b errors told = record {
             stressed = stressed told;
             errors_are = flip_clean b _ (errors told);
-            gone = subst (λ (n : Names). IsFresh n new.folder) turn.keeps.names (gone told.folder);
+            gone = subst (λ (n : Names). IsFresh n new.folder) turn.keeps.names (finishes.gone done refl told.folder);
           }
 
           by_clean : (b : Bool) → ((told : TellsStress tells) → b ≡ not (Rattle.vs_session.specs.Session.any_error (opened_file old stress_name).state commands (ends told)))

@@ -4,19 +4,13 @@ ghost use Rattle.std.specs.Vec.{vec_capacity};
 ghost use Rattle.vs_host.specs.Names.{is_allowed};
 ghost use Rattle.vs_faults.specs.Faults.{HasCause, IsQuiet};
 ghost use Rattle.vs_host.specs.Trace.{WroteOutput};
-ghost use Rattle.vs_host.specs.World.{ChangesFolder, ChangesOutput, Scene};
-ghost use Rattle.vs_disk.specs.Runs.{FailsLast};
-ghost use Rattle.vs_pair.specs.Acts.{NoneFails};
-ghost use Rattle.vs_pair.specs.Pair.{Rises};
-ghost use Rattle.vs_pair.specs.Steps.{IsFresh};
+ghost use Rattle.vs_host.specs.World.{ChangesOutput, Scene};
 ghost use Rattle.vs_machine.specs.Machine.{is_done};
 ghost use Rattle.vs_top.specs.Ending.{ending_in};
-ghost use Rattle.vs_safety.specs.Safety.{IsAdded, Stepped};
-ghost use Rattle.vs_safety.specs.Texts.{Sync};
-ghost use Rattle.vs_safety.specs.Turns.{last_turn, preserved_line, quit_line};
-ghost use Rattle.vs_session.specs.Calls.{FitsFolder};
-ghost use Rattle.vs_session.specs.Fits.{Fits, FitsUndo, HasSyncs, Leaves, generation_of, names_of};
-ghost use Rattle.vs_session.specs.Session.{SessionState, sync_in};
+ghost use Rattle.vs_safety.specs.Safety.{IsAdded};
+ghost use Rattle.vs_safety.specs.Turns.{preserved_line, quit_line};
+ghost use Rattle.vs_session.specs.Calls.{Finishes, FitsFolder};
+ghost use Rattle.vs_session.specs.Fits.{FitsUndo, generation_of};
 ghost use Rattle.vs_top.specs.Run.{RunsEdit};
 ghost use Rattle.vs_top.specs.Turns.{IsAtClose, IsOpened};
 
@@ -83,19 +77,8 @@ fn last_line(how: End) -> Reply
 pub(crate) fn finish<H: Host>(session: Session, host: &mut H, how: End) -> Result<(), Ending>
     requires room { generation_of session < 2 ^ 63 }
     requires fits { FitsFolder H.tells session (H.scene host.old).folder }
-    ensures sync { how ≡ End.Sync → IsTrue (H.tells).folder → (state : SessionState) (syncs : List Sync) → Fits session (H.scene host.old).folder state syncs
-        → Stepped (names_of session) syncs (last_turn (sync_in state (is_ok result))) (H.scene host.old) (H.scene host.new) }
-    ensures quit { how ≡ End.Quit → IsTrue (H.tells).folder → (state : SessionState) (syncs : List Sync) → Fits session (H.scene host.old).folder state syncs
-        → Leaves (names_of session) syncs (H.scene host.old) (H.scene host.new) }
-    ensures gone { how ≡ End.Quit → OnOk result (IsTrue (H.tells).folder → IsFresh (names_of session) (H.scene host.new).folder) }
-    ensures fits { how ≡ End.Sync → IsTrue (H.tells).folder → (state : SessionState) (syncs : List Sync) → Fits session (H.scene host.old).folder state syncs
-        → HasSyncs (names_of session) (sync_in state (is_ok result) ∷ syncs) (H.scene host.new).folder }
-    ensures rises { how ≡ End.Sync → OnOk result (IsTrue (H.tells).folder → Rises (names_of session) (H.scene host.old).folder (H.scene host.new).folder) }
-    ensures last { IsTrue (H.tells).folder → FailsLast (H.scene host.old) (H.scene host.new) }
-    ensures none { OnOk result (NoneFails H.tells (H.scene host.old) (H.scene host.new)) }
-    ensures cause { HasCause (H.scene host.old).folder_faults (H.scene host.new).folder_faults (IsErr result) }
+    ensures finishes { Finishes H.tells session (H.scene host.old) (H.scene host.new) how (is_ok result) }
     ensures fault { IfErr result (λ ending. ending ≡ Ending.FolderFault) }
-    ensures frame { ChangesFolder (H.scene host.old) (H.scene host.new) }
 {
     match session.finish(host, how) {
         Ok(()) => Ok(()),

@@ -5,9 +5,9 @@ use Rattle.vs_host.specs.Disk.{Disk, Name}
 use Rattle.vs_host.specs.Trace.{Kind}
 use Rattle.vs_host.specs.World.{Tells, Scene, IsTold, ChangesFolder, ReadsFolder}
 use Rattle.vs_disk.specs.Images.{Changes, Takes}
-use Rattle.vs_disk.specs.Runs.{Runs}
+use Rattle.vs_disk.specs.Runs.{Runs, NoneFails}
 use Rattle.vs_disk.proofs.Runs.{runs_as}
-use Rattle.vs_pair.specs.Acts.{Acts, NoneFails}
+use Rattle.vs_pair.specs.Acts.{Acts}
 use Rattle.vs_pair.proofs.Acts.{acts_as, acts_on}
 use Rattle.vs_pair.proofs.Calls.{either_acts, look_acts}
 use Rattle.vs_backup.specs.Works.{ChangesOne, IsAlone, Spares, one_name, two_names}

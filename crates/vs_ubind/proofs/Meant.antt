@@ -16,7 +16,7 @@ use Rattle.vs_ufile.specs.Values as file
 use Rattle.vs_ufile.specs.Descent.{IsLastUsed}
 use Rattle.vs_ufile.specs.Tree.{link, IsChange}
 use Rattle.vs_ubind.specs.Digest.{digest_of}
-use Rattle.vs_ubind.specs.Bound.{history_next, IsBound, IsFiled}
+use Rattle.vs_ubind.specs.Bound.{history_next, IsDataOf}
 use Rattle.vs_ubind.specs.Meaning.{entries_in, flagged, last_flag, taken, IsKeptSave, Means, StandsFor}
 use Rattle.vs_ubind.specs.Unbound.{filed, filed_change, filed_entry, flag_of, used_within, with_next}
 use Rattle.vs_ubind.proofs.Chains.{child_index, none}
@@ -144,22 +144,34 @@ history_on : (next : Bool) (parts : Parts) (text : List (List ℕ)) (history : H
 history_on false parts text history is = is
 history_on true parts text history is = marked_history parts text history is
 
-pub bound_next : (next : Bool) (contents : file.History) (digest : List ℕ) (count lines : ℕ) (parts : Parts) (text : List (List ℕ)) (history : History) → IsSound parts → contents ≡ filed digest count (with_next next parts)
-    → digest ≡ digest_of text → count ≡ max 1 lines → length text ≡ lines → IsHistory parts text history → IsBound contents text (history_next next history)
-bound_next next contents digest count lines parts text history sound is digest_is count_is long tells = record {
-  digest = ap (λ (d : file.History). d.digest) is ∙ digest_is;
-  lines = ap (λ (d : file.History). d.lines) is ∙ (count_is ∙ (ap (λ n. max 1 n) (sym long) ∙ sym (stored_count text)));
-  tree = with_next next parts;
-  sound = sound_next next parts sound;
-  means = subst (λ d. Means d (with_next next parts)) (sym is) (means_next next digest count parts sound);
-  is = history_on next parts text history tells;
+-- data that is filed from the tree, with the text's digest and number of lines, is that of the tree's history
+pub data_next : (next : Bool) (contents : file.History) (digest : List ℕ) (count lines : ℕ) (parts : Parts) (text : List (List ℕ)) (history : History) → IsSound parts → contents ≡ filed digest count (with_next next parts)
+    → digest ≡ digest_of text → count ≡ max 1 lines → length text ≡ lines → IsHistory parts text history → IsDataOf contents text (history_next next history)
+data_next next contents digest count lines parts text history sound is digest_is count_is long tells = record {
+  bound = record {
+    digest = ap (λ (d : file.History). d.digest) is ∙ digest_is;
+    lines = ap (λ (d : file.History). d.lines) is ∙ stored_lines;
+    tree = tree;
+    sound = sound_then;
+    means = subst (λ d. Means d tree) (sym is) (means_next next digest count parts sound);
+    is = tells_then;
+  };
+  filed = record {
+    tree = tree;
+    sound = sound_then;
+    is = tells_then;
+    fields = is ∙ (ap (λ d. filed d count tree) digest_is ∙ ap (λ n. filed (digest_of text) n tree) stored_lines);
+  };
 }
+  where
+    tree : Parts
+    tree = with_next next parts
 
-pub filed_next : (next : Bool) (contents : file.History) (digest : List ℕ) (count lines : ℕ) (parts : Parts) (text : List (List ℕ)) (history : History) → IsSound parts → contents ≡ filed digest count (with_next next parts)
-    → digest ≡ digest_of text → count ≡ max 1 lines → length text ≡ lines → IsHistory parts text history → IsFiled contents text (history_next next history)
-filed_next next contents digest count lines parts text history sound is digest_is count_is long tells = record {
-  tree = with_next next parts;
-  sound = sound_next next parts sound;
-  is = history_on next parts text history tells;
-  fields = is ∙ (ap (λ d. filed d count (with_next next parts)) digest_is ∙ ap (λ n. filed (digest_of text) n (with_next next parts)) (count_is ∙ (ap (λ n. max 1 n) (sym long) ∙ sym (stored_count text))));
-}
+    sound_then : IsSound tree
+    sound_then = sound_next next parts sound
+
+    tells_then : IsHistory tree text (history_next next history)
+    tells_then = history_on next parts text history tells
+
+    stored_lines : count ≡ length (stored text)
+    stored_lines = count_is ∙ (ap (λ n. max 1 n) (sym long) ∙ sym (stored_count text))

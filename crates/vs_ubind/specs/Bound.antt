@@ -25,6 +25,11 @@ pub record IsFiled (contents : file.History) (text : List (List ℕ)) (history :
   pub is : IsHistory tree text history
   pub fields : contents ≡ filed (digest_of text) (length (stored text)) tree
 
+-- The data of a tree with this history at this text: what a reader takes from it, and what a writer gives each field.
+pub record IsDataOf (contents : file.History) (text : List (List ℕ)) (history : History) : Type 0 where
+  pub bound : IsBound contents text history
+  pub filed : IsFiled contents text history
+
 -- the history, or the history after the next write
 abbrev pub history_next : Bool → History → History
 history_next false history = history

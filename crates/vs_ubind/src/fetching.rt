@@ -2,7 +2,8 @@
 ghost use Rattle.std.specs.Prelude.{◌≡◌, ◌⊎◌, None, Some, IfOk, IsErrOf, IsTrue, OnOk};
 ghost use Rattle.vs_faults.specs.Faults.{HasCause};
 ghost use Rattle.vs_host.specs.World.{ReadsFolder, content_of};
-ghost use Rattle.vs_pair.specs.Acts.{Acts, NoneFails};
+ghost use Rattle.vs_disk.specs.Runs.{NoneFails};
+ghost use Rattle.vs_pair.specs.Acts.{Acts};
 
 use std::alloc::{AllocError, AllocFailed, Global};
 use vs_host::{Failed, Folder, Names};

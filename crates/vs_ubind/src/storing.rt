@@ -7,8 +7,8 @@ ghost use Rattle.vs_host.specs.File.{Syncs};
 ghost use Rattle.vs_host.specs.Trace.{Synced};
 ghost use Rattle.vs_host.specs.World.{ChangesFolder, IsTold, content_of};
 ghost use Rattle.vs_disk.specs.Images.{HoldsBytes, IsSynced, Takes};
-ghost use Rattle.vs_disk.specs.Runs.{Runs};
-ghost use Rattle.vs_pair.specs.Acts.{Acts, NoneFails};
+ghost use Rattle.vs_disk.specs.Runs.{Runs, NoneFails};
+ghost use Rattle.vs_pair.specs.Acts.{Acts};
 ghost use Rattle.vs_backup.specs.Works.{IsAlone, IsGone, Spares, one_name, two_names};
 ghost use Rattle.vs_ubind.specs.Storing.{CallsOn, StoresBy};
 

@@ -6,7 +6,7 @@ ghost use Rattle.vs_undo.specs.History.{History, IsHistory};
 ghost use Rattle.vs_undo.specs.Moves.{IsReady};
 ghost use Rattle.vs_ufile.specs.Decode.{IsWellFormed};
 ghost use Rattle.vs_ufile.specs.Values.{history_of};
-ghost use Rattle.vs_ubind.specs.Bound.{history_next, IsBound, IsFiled};
+ghost use Rattle.vs_ubind.specs.Bound.{history_next, IsDataOf};
 ghost use Rattle.vs_ubind.specs.Digest.{digest_of};
 ghost use Rattle.vs_ubind.specs.Meaning.{Means};
 ghost use Rattle.vs_ubind.specs.Unbound.{filed, with_next};
@@ -30,10 +30,8 @@ pub fn unbind<S: LineStore>(
     ensures digest { IfOk result (λ contents. (lines : List (List ℕ)) → (S.shows text.old).present.Is lines → contents.digest ≡ digest_of lines) }
     ensures contents { IfOk result (λ contents. history_of contents ≡ filed contents.digest (max 1 (S.shows text.old).present.lines) (with_next save_next tree.now)) }
     ensures means { IfOk result (λ contents. Means (history_of contents) (with_next save_next tree.now)) }
-    ensures bound { IfOk result (λ contents. (lines : List (List ℕ)) (history : History) → (S.shows text.old).present.Is lines → IsHistory tree.now lines history
-        → IsBound (history_of contents) lines (history_next save_next history)) }
-    ensures filed { IfOk result (λ contents. (lines : List (List ℕ)) (history : History) → (S.shows text.old).present.Is lines → IsHistory tree.now lines history
-        → IsFiled (history_of contents) lines (history_next save_next history)) }
+    ensures made { IfOk result (λ contents. (lines : List (List ℕ)) (history : History) → (S.shows text.old).present.Is lines → IsHistory tree.now lines history
+        → IsDataOf (history_of contents) lines (history_next save_next history)) }
     ensures formed { IfOk result (λ contents. IsWellFormed (history_of contents)) }
     ensures kept { OnlyReads S.LineStore text.old text.new }
     ensures cause { HasCause (S.shows text.old).faults (S.shows text.new).faults (IsErrOf result StoreErr.Failed) }

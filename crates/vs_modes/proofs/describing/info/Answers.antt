@@ -29,7 +29,7 @@ returns-in_err-lines g c =
     subst (λ (n : Names). RunsInfo g.H.World.tells n s0 s1 c.from_residual-in_err-lines.result) c.in_ok-names.ensures.names
     (subst (λ (r : Ended). RunsInfo g.H.World.tells names s0 s1 r) (refused_as c.from_residual-in_err-lines.result (refusal_of why) c.from_residual-in_err-lines.ensures.1)
     (mode_refused IsSame (AreInfos (content_of s0 names.swp) (content_of s0 names.swo) names.swp names.swo) (RefusesInfo (content_of s0 names.swp) (content_of s0 names.swo)) g.H.World.tells s0 s1 (refusal_of why) (not_output why)
-    (λ is. c.info.ensures.failed (c.in_err-lines.was ∙ ap (λ (w : RecErr). Err w) (is_failed why is))) (λ not. (c.info.ensures.none (not_failed c.info.result why c.in_err-lines.was not)).faults) c.info.ensures.later (reads_change s0 s1 c.info.ensures.reads.frame) (reads_proceed g.H.World.tells s0 s1 c.info.ensures.reads)
+    (λ is. c.info.ensures.cause.risen (c.in_err-lines.was ∙ ap (λ (w : RecErr). Err w) (is_failed why is))) (λ not. (c.info.ensures.none (not_failed c.info.result why c.in_err-lines.was not)).faults) c.info.ensures.cause.later (reads_change s0 s1 c.info.ensures.reads.frame) (reads_proceed g.H.World.tells s0 s1 c.info.ensures.reads)
     (λ told. infos_refused (content_of s0 names.swp) (content_of s0 names.swo) names.swp names.swo why (c.in_err-lines.ensures.answer told))))
 
 pub returns : goal.returns

@@ -1,6 +1,6 @@
 use Rattle.vs_host.specs.Disk.{SyncsNames}
 use Rattle.vs_host.specs.Trace.{SyncedNames}
-use Rattle.vs_pair.proofs.Acts.{none_call, none_then}
+use Rattle.vs_disk.proofs.Quiet.{none_call, none_then}
 use Rattle.vs_pair.proofs.Calls.{either_acts}
 use Rattle.vs_modes.proofs.Removing.{first_acts, second_acts, last_acts, swp_inside, swo_inside}
 use Rattle.vs_modes.proofs.discarding.remove_both.Goals as goal

@@ -1,7 +1,8 @@
 use Rattle.std.proofs.Common.{inr, refl, subst}
 use Rattle.vs_host.specs.Disk.{Disk, ChangesNames, Removes}
 use Rattle.vs_host.specs.Trace.{Looked, Removed}
-use Rattle.vs_pair.proofs.Acts.{acts_then, none_call, none_then}
+use Rattle.vs_disk.proofs.Quiet.{none_call, none_then}
+use Rattle.vs_pair.proofs.Acts.{acts_then}
 use Rattle.vs_pair.proofs.Calls.{look_acts, look_none, either_acts}
 use Rattle.vs_modes.specs.Discard.{MayRemove}
 use Rattle.vs_modes.specs.Moments.{IsSame}

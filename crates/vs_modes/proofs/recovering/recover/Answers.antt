@@ -30,7 +30,7 @@ returns-in_err-text g c =
     (subst (λ (r : Ended). RunsRecover g.H.World.tells names s0 s1 r) (refused_as c.from_residual-in_err-text.result why c.from_residual-in_err-text.ensures.1)
     (mode_refused IsSame (IsRecovery (content_of s0 names.swp) (content_of s0 names.swo)) (RefusesRecover (content_of s0 names.swp) (content_of s0 names.swo)) g.H.World.tells s0 s1 why
     (λ is. c.read_text.ensures.output (is_err ∙ ap (λ (w : ModeErr). Err w) is))
-    (λ is. c.read_text.ensures.failed (is_err ∙ ap (λ (w : ModeErr). Err w) is)) (λ not. (c.read_text.ensures.none (other_error c.read_text.result why refusal.FolderFailed is_err not)).faults) c.read_text.ensures.later (reads_change s0 s1 c.read_text.ensures.reads.frame) (reads_proceed g.H.World.tells s0 s1 c.read_text.ensures.reads)
+    (λ is. c.read_text.ensures.cause.risen (is_err ∙ ap (λ (w : ModeErr). Err w) is)) (λ not. (c.read_text.ensures.none (other_error c.read_text.result why refusal.FolderFailed is_err not)).faults) c.read_text.ensures.cause.later (reads_change s0 s1 c.read_text.ensures.reads.frame) (reads_proceed g.H.World.tells s0 s1 c.read_text.ensures.reads)
     c.in_err-text.ensures.refused))
 
 pub returns : goal.returns

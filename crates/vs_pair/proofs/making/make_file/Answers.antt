@@ -5,7 +5,7 @@ use Rattle.vs_host.specs.Trace.{Created, Wrote, Renamed}
 use Rattle.vs_disk.proofs.Contents.{not_there}
 use Rattle.vs_pages.specs.Memory.{committed_of}
 use Rattle.vs_pair.specs.Swap.{IsMade, KeepsMark}
-use Rattle.vs_pair.proofs.Acts.{none_call, none_then}
+use Rattle.vs_disk.proofs.Quiet.{none_call, none_then}
 use Rattle.vs_pair.proofs.Calls.{write_acts, either_acts, is_there}
 use Rattle.vs_pair.proofs.MadeFiles.{clearing, creating, writing, renaming, making_begins, making_creates, making_writes, created, created_there, marked_new, new_fresh, whole_new, made_holds, renamed_has, renamed_gone}
 use Rattle.vs_pair.proofs.making.make_file.Goals as goal

@@ -1,10 +1,10 @@
 use Rattle.vs_host.specs.Disk.{ChangesFile}
 use Rattle.vs_disk.proofs.Steps.{same_file}
 use Rattle.vs_pair.specs.Swap.{CloseStep, Closes, KeepsLength}
-use Rattle.vs_pair.proofs.Acts.{acts_none, none_fails}
+use Rattle.vs_disk.proofs.Quiet.{none_fails, calls_none}
+use Rattle.vs_pair.proofs.Acts.{acts_none}
 use Rattle.vs_pair.proofs.Calls.{on_err_from}
 use Rattle.vs_pair.proofs.Gates.{not_closed, close_same, closes_same, length_same, close_acts, mark_closes}
-use Rattle.vs_pair.proofs.Bounds.{no_calls}
 use Rattle.vs_pair.proofs.writing.close_gate.Goals as goal
 
 pub returns-in-Closed-clause-acts : goal.returns-in-Closed-clause-acts
@@ -36,7 +36,7 @@ pub returns-in_ok-mark-in-Open-clause-closes : goal.returns-in_ok-mark-in-Open-c
 returns-in_ok-mark-in-Open-clause-closes g c told = mark_closes c.args.name.now c.args.gate.now _ _ (c.mark.ensures.acts.runs told).now (c.in_ok-mark-in-Open.ensures.marked told)
 
 pub returns-in-Closed-clause-calls : goal.returns-in-Closed-clause-calls
-returns-in-Closed-clause-calls g c = no_calls g.F.World.tells _ 2
+returns-in-Closed-clause-calls g c = calls_none g.F.World.tells _ 2
 
 pub returns-in_err-mark-in-Open-clause-calls : goal.returns-in_err-mark-in-Open-clause-calls
 returns-in_err-mark-in-Open-clause-calls g c = c.mark.ensures.calls

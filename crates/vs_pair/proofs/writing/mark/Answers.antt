@@ -1,11 +1,10 @@
 use Rattle.std.proofs.lemmas.Result.{on_ok_weaker, on_err_weaker}
 use Rattle.vs_host.specs.Trace.{Wrote, Synced}
 use Rattle.vs_pair.specs.Swap.{ChangesMark}
-use Rattle.vs_pair.proofs.Acts.{none_call, none_then}
+use Rattle.vs_disk.proofs.Quiet.{none_call, none_then, calls_one, calls_then, calls_within}
 use Rattle.vs_pair.proofs.Calls.{write_acts, sync_acts, acts_file, on_err_from}
 use Rattle.vs_pair.proofs.Marks.{mark_joins, write_mark, sync_mark, marked, mark_length, failed_write, failed_sync}
 use Rattle.std.proofs.Common.{arith}
-use Rattle.vs_pair.proofs.Bounds.{one_call, calls_then, calls_within}
 use Rattle.vs_pair.proofs.writing.mark.Goals as goal
 
 pub returns-in_err-write_at-clause-acts : goal.returns-in_err-write_at-clause-acts
@@ -43,8 +42,8 @@ returns-clause-none g c =
     c.sync.ensures.quiet
 
 pub returns-in_err-write_at-clause-calls : goal.returns-in_err-write_at-clause-calls
-returns-in_err-write_at-clause-calls g c = calls_within g.F.World.tells _ _ 1 2 (omega arith) (one_call g.F.World.tells Wrote _ c.write_at.result _ _ c.write_at.ensures.told)
+returns-in_err-write_at-clause-calls g c = calls_within g.F.World.tells _ _ 1 2 (omega arith) (calls_one g.F.World.tells Wrote _ c.write_at.result _ _ c.write_at.ensures.told)
 
 pub returns-clause-calls : goal.returns-clause-calls
 returns-clause-calls g c =
-    calls_then g.F.World.tells _ _ _ 1 1 2 (omega arith) (one_call g.F.World.tells Wrote _ c.write_at.result _ _ c.write_at.ensures.told) (one_call g.F.World.tells Synced _ c.sync.result _ _ c.sync.ensures.told)
+    calls_then g.F.World.tells _ _ _ 1 1 2 (omega arith) (calls_one g.F.World.tells Wrote _ c.write_at.result _ _ c.write_at.ensures.told) (calls_one g.F.World.tells Synced _ c.sync.result _ _ c.sync.ensures.told)

@@ -4,12 +4,11 @@ use Rattle.vs_host.specs.Disk.{ChangesFile}
 use Rattle.vs_pages.specs.Memory.{committed_of}
 use Rattle.vs_pair.specs.declared.gate.Gate.{Gate}
 use Rattle.vs_pair.specs.Swap.{Body, Fits, FailedSync}
-use Rattle.vs_pair.proofs.Acts.{none_then}
+use Rattle.vs_disk.proofs.Quiet.{none_then, calls_then, calls_within}
 use Rattle.vs_pair.proofs.Calls.{on_err_from, on_err_both}
 use Rattle.vs_pair.proofs.Gates.{ShutsWith, closing_acts, closing_failed, writing_acts, writing_failed, written_file, opening_acts, opening_failed, opened_file, grown_file, fresh_behind, still_there}
 use Rattle.std.proofs.Common.{◌+◌, arith}
 use Rattle.vs_pair.specs.Stale.{stale_below}
-use Rattle.vs_pair.proofs.Bounds.{calls_then, calls_within}
 use Rattle.vs_pair.proofs.writing.sync_file.Goals as goal
 
 pub close_gate-requires : goal.close_gate-requires

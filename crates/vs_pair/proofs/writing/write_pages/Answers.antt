@@ -4,11 +4,11 @@ use Rattle.std.proofs.lemmas.Result.{on_ok_weaker}
 use Rattle.vs_host.specs.Trace.{Wrote, Synced}
 use Rattle.vs_pages.specs.Memory.{committed_of}
 use Rattle.vs_pair.specs.Swap.{KeepsMark}
-use Rattle.vs_pair.proofs.Acts.{none_call, none_then}
+use Rattle.vs_disk.proofs.Quiet.{none_call, none_then, calls_one, calls_then, calls_within}
 use Rattle.vs_pair.proofs.Calls.{write_acts, sync_acts, acts_file, there_and, is_there}
 use Rattle.vs_pair.proofs.PageWrites.{keeps_joins, write_after, sync_after, has_first, has_passed, has_more, has_all, next_place, run_cut}
 use Rattle.vs_pair.specs.Stale.{stale_below}
-use Rattle.vs_pair.proofs.Bounds.{one_call, calls_then, calls_within, stale_up_to, one_more, least_end}
+use Rattle.vs_pair.proofs.Bounds.{stale_up_to, one_more, least_end}
 use Rattle.vs_pair.proofs.writing.write_pages.Goals as goal
 
 pub returns-in_err-write_at-clause-acts : goal.returns-in_err-write_at-clause-acts
@@ -19,7 +19,7 @@ pub runs-init : goal.runs-init
 runs-init g c = record {
   some = c.next_stale-at.ensures.later;
   within = c.next_stale-at.ensures.within;
-  calls = calls_within g.F.World.tells _ _ 1 _ (omega arith) (one_call g.F.World.tells Wrote _ c.write_at.result _ _ c.write_at.ensures.told);
+  calls = calls_within g.F.World.tells _ _ 1 _ (omega arith) (calls_one g.F.World.tells Wrote _ c.write_at.result _ _ c.write_at.ensures.told);
   stale = c.next_stale-at.ensures.stale;
   acts = write_acts g.F.World.tells c.args.name.now KeepsMark 2 _ (write_after 2 _ (omega arith)) c.write_at.result _ _ c.write_at.ensures.some c.write_at.ensures.cause c.write_at.ensures.told c.write_at.ensures.frame;
   none = none_call g.F.World.tells Wrote _ c.write_at.result _ _ c.write_at.ensures.frame c.write_at.ensures.told c.in_ok-write_at.ensures.quiet;
@@ -52,7 +52,7 @@ runs-preserved g c = record {
         one_more c.args.pages.now c.args.written.now c.runs.at c.next_stale-at-in-runs.result (c.runs.invariant.stale c.runs-test.true)
             (omega (arith, c.next_stale-at-in-runs.ensures.later, c.stale_run-count.ensures.some)),
       ))
-      c.runs.invariant.calls (one_call g.F.World.tells Wrote _ c.write_at-in-runs.result _ _ c.write_at-in-runs.ensures.told);
+      c.runs.invariant.calls (calls_one g.F.World.tells Wrote _ c.write_at-in-runs.result _ _ c.write_at-in-runs.ensures.told);
   stale = c.next_stale-at-in-runs.ensures.stale;
   acts = acts_file g.F.World.tells c.args.name.now KeepsMark KeepsMark KeepsMark (λ a b keeps. keeps) keeps_joins _ _ _ c.runs.invariant.none c.runs.invariant.acts
       (write_acts g.F.World.tells c.args.name.now KeepsMark _ _ (write_after _ _ (omega (arith, c.runs.invariant.some))) c.write_at-in-runs.result _ _ c.write_at-in-runs.ensures.some c.write_at-in-runs.ensures.cause
@@ -86,18 +86,18 @@ returns-clause-none g c =
     c.sync.ensures.quiet
 
 pub returns-in_err-write_at-clause-calls : goal.returns-in_err-write_at-clause-calls
-returns-in_err-write_at-clause-calls g c end is = calls_within g.F.World.tells _ _ 1 _ (omega arith) (one_call g.F.World.tells Wrote _ c.write_at.result _ _ c.write_at.ensures.told)
+returns-in_err-write_at-clause-calls g c end is = calls_within g.F.World.tells _ _ 1 _ (omega arith) (calls_one g.F.World.tells Wrote _ c.write_at.result _ _ c.write_at.ensures.told)
 
 pub returns-in_err-write_at-2-clause-calls : goal.returns-in_err-write_at-2-clause-calls
 returns-in_err-write_at-2-clause-calls g c end is =
     let le = least_end c.args.pages.now c.committed_end-end.result end c.committed_end-end.ensures.last is in
     calls_then g.F.World.tells _ _ _ (1 + stale_below c.args.pages.now c.args.written.now c.runs.at) 1 _
     (omega (arith, stale_up_to c.args.pages.now c.args.written.now c.runs.at end (omega (arith, le, is.some, c.runs.invariant.within)))) c.runs.invariant.calls
-    (one_call g.F.World.tells Wrote _ c.write_at-in-runs.result _ _ c.write_at-in-runs.ensures.told)
+    (calls_one g.F.World.tells Wrote _ c.write_at-in-runs.result _ _ c.write_at-in-runs.ensures.told)
 
 pub returns-clause-calls : goal.returns-clause-calls
 returns-clause-calls g c end is =
     let le = least_end c.args.pages.now c.committed_end-end.result end c.committed_end-end.ensures.last is in
     calls_then g.F.World.tells _ _ _ (1 + stale_below c.args.pages.now c.args.written.now c.runs.at) 1 _
     (omega (arith, stale_up_to c.args.pages.now c.args.written.now c.runs.at end (omega (arith, le, is.some, c.runs.invariant.within)))) c.runs.invariant.calls
-    (one_call g.F.World.tells Synced _ c.sync.result _ _ c.sync.ensures.told)
+    (calls_one g.F.World.tells Synced _ c.sync.result _ _ c.sync.ensures.told)

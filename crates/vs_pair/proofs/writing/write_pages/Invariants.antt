@@ -1,6 +1,7 @@
 use Rattle.std.proofs.Common.{◌≡◌, ◌<◌, ◌≤◌, ◌+◌, ◌-◌, max, true, IsTrue}
 use Rattle.vs_host.specs.Disk.{ChangesFile}
-use Rattle.vs_pair.specs.Acts.{Acts, CallsAtMost, NoneFails}
+use Rattle.vs_disk.specs.Runs.{CallsAtMost, NoneFails}
+use Rattle.vs_pair.specs.Acts.{Acts}
 use Rattle.vs_pair.specs.Stale.{is_stale, stale_below}
 use Rattle.vs_pair.specs.Swap.{KeepsMark}
 use Rattle.vs_pair.proofs.PageWrites.{SoFar}

@@ -1,6 +1,7 @@
 use Rattle.std.proofs.Common.{◌≡◌, ◌≤◌, ◌<◌, ◌+◌, ◌*◌, ◌/◌, length, arith, sym}
 use Rattle.vs_recover.proofs.PageLaws.{pages_loaded, pages_past}
-use Rattle.vs_recover.proofs.ReadingLaws.{no_calls, none_fails, reads_none}
+use Rattle.vs_disk.proofs.Quiet.{calls_none, none_fails}
+use Rattle.vs_recover.proofs.ReadingLaws.{reads_none}
 use Rattle.vs_recover.proofs.blocks.load_pages.Goals as goal
 use Rattle.vs_recover.proofs.ReadingLaws.{file_has, there_as}
 use Rattle.vs_recover.proofs.blocks.load_pages.Goals.{then-block-count-via-then-block-count, then-block-count-via-else-block-count+then-wanted-count}
@@ -41,10 +42,10 @@ pub returns-in_err-bytes-clause-reads : goal.returns-in_err-bytes-clause-reads
 returns-in_err-bytes-clause-reads g c = reads_none g.F.World.tells _
 
 pub returns-then-block-count-clause-calls : goal.returns-then-block-count-clause-calls
-returns-then-block-count-clause-calls g c = no_calls g.F.World.tells (g.F.World.scene c.args.host.now) 1
+returns-then-block-count-clause-calls g c = calls_none g.F.World.tells (g.F.World.scene c.args.host.now) 1
 
 pub returns-in_err-bytes-clause-calls : goal.returns-in_err-bytes-clause-calls
-returns-in_err-bytes-clause-calls g c = no_calls g.F.World.tells (g.F.World.scene c.args.host.now) 1
+returns-in_err-bytes-clause-calls g c = calls_none g.F.World.tells (g.F.World.scene c.args.host.now) 1
 
 pub returns-in_err-bytes-clause-memory : goal.returns-in_err-bytes-clause-memory
 returns-in_err-bytes-clause-memory g c = λ is. none_fails g.F.World.tells _

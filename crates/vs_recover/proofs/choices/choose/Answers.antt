@@ -10,4 +10,4 @@ returns-clause-answer g c = λ told.
     (subst (λ (b : List ℕ). IsChoice (content_of (g.F.World.scene c.args.host.now) c.as_str.result.now) (content_of (g.F.World.scene c.args.host.now) b) c.choose_of.result) c.as_str-2.ensures (c.choose_of.ensures.answer told))
 
 pub returns-clause-calls : goal.returns-clause-calls
-returns-clause-calls g c = λ told. omega (arith, c.choose_of.ensures.calls told, ap (λ (n : List ℕ). blocks_of (content_of (g.F.World.scene c.args.host.now) n)) c.as_str.ensures, ap (λ (n : List ℕ). blocks_of (content_of (g.F.World.scene c.args.host.now) n)) c.as_str-2.ensures)
+returns-clause-calls g c = record { calls = λ told. omega (arith, c.choose_of.ensures.calls.calls told, ap (λ (n : List ℕ). blocks_of (content_of (g.F.World.scene c.args.host.now) n)) c.as_str.ensures, ap (λ (n : List ℕ). blocks_of (content_of (g.F.World.scene c.args.host.now) n)) c.as_str-2.ensures) }

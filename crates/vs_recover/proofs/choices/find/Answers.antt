@@ -2,7 +2,8 @@ use Rattle.std.proofs.Common.{ap, subst, ◌∙◌, arith}
 use Rattle.vs_host.specs.World.{Scene, ReadsFolder, content_of}
 use Rattle.vs_recover.specs.Choices.{Recovers, root_of}
 use Rattle.vs_recover.proofs.ChoiceLaws.{opening_stays, recovers_was, blocks_stay}
-use Rattle.vs_recover.proofs.ReadingLaws.{frame_then, memory_then, none_then, reads_on}
+use Rattle.vs_disk.proofs.Quiet.{none_then}
+use Rattle.vs_recover.proofs.ReadingLaws.{frame_then, memory_then, reads_on}
 use Rattle.vs_recover.proofs.choices.find.Goals as goal
 
 pub read_newer-requires : goal.read_newer-requires
@@ -37,13 +38,13 @@ pub returns-in_err-second-clause-reads : goal.returns-in_err-second-clause-reads
 returns-in_err-second-clause-reads g c = reads_on c.in_ok-first.ensures.none c.find_opening.ensures.reads c.find_opening-2.ensures.reads
 
 pub returns-in_err-text-clause-memory : goal.returns-in_err-text-clause-memory
-returns-in_err-text-clause-memory g c = memory_then c.read_newer.result c.from_residual-in_err-text.result _ (none_then c.in_ok-first.ensures.none c.in_ok-second.ensures.none) c.read_newer.ensures.memory c.in_err-text.was c.from_residual-in_err-text.ensures.1
+returns-in_err-text-clause-memory g c = memory_then c.read_newer.result c.from_residual-in_err-text.result _ (none_then _ _ _ _ c.in_ok-first.ensures.none c.in_ok-second.ensures.none) c.read_newer.ensures.memory c.in_err-text.was c.from_residual-in_err-text.ensures.1
 
 pub returns-in_err-text-clause-reads : goal.returns-in_err-text-clause-reads
 returns-in_err-text-clause-reads g c = reads_on c.in_ok-first.ensures.none c.find_opening.ensures.reads (reads_on c.in_ok-second.ensures.none c.find_opening-2.ensures.reads c.read_newer.ensures.reads)
 
 pub returns-in_err-roots-clause-memory : goal.returns-in_err-roots-clause-memory
-returns-in_err-roots-clause-memory g c = memory_then c.read_roots.result c.from_residual-in_err-roots.result _ (none_then c.in_ok-first.ensures.none (none_then c.in_ok-second.ensures.none c.in_ok-text.ensures.none)) c.read_roots.ensures.memory c.in_err-roots.was c.from_residual-in_err-roots.ensures.1
+returns-in_err-roots-clause-memory g c = memory_then c.read_roots.result c.from_residual-in_err-roots.result _ (none_then _ _ _ _ c.in_ok-first.ensures.none (none_then _ _ _ _ c.in_ok-second.ensures.none c.in_ok-text.ensures.none)) c.read_roots.ensures.memory c.in_err-roots.was c.from_residual-in_err-roots.ensures.1
 
 pub returns-in_err-roots-clause-reads : goal.returns-in_err-roots-clause-reads
 returns-in_err-roots-clause-reads g c =
@@ -61,7 +62,7 @@ pub returns-in-Some-clause-reads : goal.returns-in-Some-clause-reads
 returns-in-Some-clause-reads g c = reads_on c.in_ok-first.ensures.none c.find_opening.ensures.reads (reads_on c.in_ok-second.ensures.none c.find_opening-2.ensures.reads c.read_newer.ensures.reads)
 
 pub returns-in-Some-clause-none : goal.returns-in-Some-clause-none
-returns-in-Some-clause-none g c = none_then c.in_ok-first.ensures.none (none_then c.in_ok-second.ensures.none c.in_ok-text.ensures.none)
+returns-in-Some-clause-none g c = none_then _ _ _ _ c.in_ok-first.ensures.none (none_then _ _ _ _ c.in_ok-second.ensures.none c.in_ok-text.ensures.none)
 
 pub returns-clause-found : goal.returns-clause-found
 returns-clause-found g c = λ told.
@@ -81,22 +82,22 @@ returns-clause-reads g c =
     reads_on c.in_ok-first.ensures.none c.find_opening.ensures.reads (reads_on c.in_ok-second.ensures.none c.find_opening-2.ensures.reads (reads_on c.in_ok-text.ensures.none c.read_newer.ensures.reads c.read_roots.ensures.reads))
 
 pub returns-clause-none : goal.returns-clause-none
-returns-clause-none g c = none_then c.in_ok-first.ensures.none (none_then c.in_ok-second.ensures.none (none_then c.in_ok-text.ensures.none c.in_ok-roots.ensures.none))
+returns-clause-none g c = none_then _ _ _ _ c.in_ok-first.ensures.none (none_then _ _ _ _ c.in_ok-second.ensures.none (none_then _ _ _ _ c.in_ok-text.ensures.none c.in_ok-roots.ensures.none))
 
 pub returns-in_err-first-clause-calls : goal.returns-in_err-first-clause-calls
-returns-in_err-first-clause-calls g c = λ told. omega (arith, c.find_opening.ensures.calls told)
+returns-in_err-first-clause-calls g c = record { calls = λ told. omega (arith, c.find_opening.ensures.calls.calls told) }
 
 pub returns-in_err-second-clause-calls : goal.returns-in_err-second-clause-calls
-returns-in_err-second-clause-calls g c = λ told. omega (arith, c.find_opening.ensures.calls told, c.find_opening-2.ensures.calls told)
+returns-in_err-second-clause-calls g c = record { calls = λ told. omega (arith, c.find_opening.ensures.calls.calls told, c.find_opening-2.ensures.calls.calls told) }
 
 pub returns-in_err-text-clause-calls : goal.returns-in_err-text-clause-calls
-returns-in_err-text-clause-calls g c = λ told. omega (arith, c.find_opening.ensures.calls told, c.find_opening-2.ensures.calls told, c.read_newer.ensures.calls told, blocks_stay (g.F.World.scene c.args.host.now) (g.F.World.scene c.find_opening-2.new.host) c.args.swp.now (frame_then (g.F.World.scene c.args.host.now) (g.F.World.scene c.find_opening.new.host) (g.F.World.scene c.find_opening-2.new.host) c.find_opening.ensures.reads.frame c.find_opening-2.ensures.reads.frame), blocks_stay (g.F.World.scene c.args.host.now) (g.F.World.scene c.find_opening-2.new.host) c.args.swo.now (frame_then (g.F.World.scene c.args.host.now) (g.F.World.scene c.find_opening.new.host) (g.F.World.scene c.find_opening-2.new.host) c.find_opening.ensures.reads.frame c.find_opening-2.ensures.reads.frame))
+returns-in_err-text-clause-calls g c = record { calls = λ told. omega (arith, c.find_opening.ensures.calls.calls told, c.find_opening-2.ensures.calls.calls told, c.read_newer.ensures.calls.calls told, blocks_stay (g.F.World.scene c.args.host.now) (g.F.World.scene c.find_opening-2.new.host) c.args.swp.now (frame_then (g.F.World.scene c.args.host.now) (g.F.World.scene c.find_opening.new.host) (g.F.World.scene c.find_opening-2.new.host) c.find_opening.ensures.reads.frame c.find_opening-2.ensures.reads.frame), blocks_stay (g.F.World.scene c.args.host.now) (g.F.World.scene c.find_opening-2.new.host) c.args.swo.now (frame_then (g.F.World.scene c.args.host.now) (g.F.World.scene c.find_opening.new.host) (g.F.World.scene c.find_opening-2.new.host) c.find_opening.ensures.reads.frame c.find_opening-2.ensures.reads.frame)) }
 
 pub returns-in-Some-clause-calls : goal.returns-in-Some-clause-calls
-returns-in-Some-clause-calls g c = λ told. omega (arith, c.find_opening.ensures.calls told, c.find_opening-2.ensures.calls told, c.read_newer.ensures.calls told, blocks_stay (g.F.World.scene c.args.host.now) (g.F.World.scene c.find_opening-2.new.host) c.args.swp.now (frame_then (g.F.World.scene c.args.host.now) (g.F.World.scene c.find_opening.new.host) (g.F.World.scene c.find_opening-2.new.host) c.find_opening.ensures.reads.frame c.find_opening-2.ensures.reads.frame), blocks_stay (g.F.World.scene c.args.host.now) (g.F.World.scene c.find_opening-2.new.host) c.args.swo.now (frame_then (g.F.World.scene c.args.host.now) (g.F.World.scene c.find_opening.new.host) (g.F.World.scene c.find_opening-2.new.host) c.find_opening.ensures.reads.frame c.find_opening-2.ensures.reads.frame))
+returns-in-Some-clause-calls g c = record { calls = λ told. omega (arith, c.find_opening.ensures.calls.calls told, c.find_opening-2.ensures.calls.calls told, c.read_newer.ensures.calls.calls told, blocks_stay (g.F.World.scene c.args.host.now) (g.F.World.scene c.find_opening-2.new.host) c.args.swp.now (frame_then (g.F.World.scene c.args.host.now) (g.F.World.scene c.find_opening.new.host) (g.F.World.scene c.find_opening-2.new.host) c.find_opening.ensures.reads.frame c.find_opening-2.ensures.reads.frame), blocks_stay (g.F.World.scene c.args.host.now) (g.F.World.scene c.find_opening-2.new.host) c.args.swo.now (frame_then (g.F.World.scene c.args.host.now) (g.F.World.scene c.find_opening.new.host) (g.F.World.scene c.find_opening-2.new.host) c.find_opening.ensures.reads.frame c.find_opening-2.ensures.reads.frame)) }
 
 pub returns-in_err-roots-clause-calls : goal.returns-in_err-roots-clause-calls
-returns-in_err-roots-clause-calls g c = λ told. omega (arith, c.find_opening.ensures.calls told, c.find_opening-2.ensures.calls told, c.read_newer.ensures.calls told, c.read_roots.ensures.calls told, blocks_stay (g.F.World.scene c.args.host.now) (g.F.World.scene c.find_opening-2.new.host) c.args.swp.now (frame_then (g.F.World.scene c.args.host.now) (g.F.World.scene c.find_opening.new.host) (g.F.World.scene c.find_opening-2.new.host) c.find_opening.ensures.reads.frame c.find_opening-2.ensures.reads.frame), blocks_stay (g.F.World.scene c.args.host.now) (g.F.World.scene c.find_opening-2.new.host) c.args.swo.now (frame_then (g.F.World.scene c.args.host.now) (g.F.World.scene c.find_opening.new.host) (g.F.World.scene c.find_opening-2.new.host) c.find_opening.ensures.reads.frame c.find_opening-2.ensures.reads.frame))
+returns-in_err-roots-clause-calls g c = record { calls = λ told. omega (arith, c.find_opening.ensures.calls.calls told, c.find_opening-2.ensures.calls.calls told, c.read_newer.ensures.calls.calls told, c.read_roots.ensures.calls.calls told, blocks_stay (g.F.World.scene c.args.host.now) (g.F.World.scene c.find_opening-2.new.host) c.args.swp.now (frame_then (g.F.World.scene c.args.host.now) (g.F.World.scene c.find_opening.new.host) (g.F.World.scene c.find_opening-2.new.host) c.find_opening.ensures.reads.frame c.find_opening-2.ensures.reads.frame), blocks_stay (g.F.World.scene c.args.host.now) (g.F.World.scene c.find_opening-2.new.host) c.args.swo.now (frame_then (g.F.World.scene c.args.host.now) (g.F.World.scene c.find_opening.new.host) (g.F.World.scene c.find_opening-2.new.host) c.find_opening.ensures.reads.frame c.find_opening-2.ensures.reads.frame)) }
 
 pub returns-clause-calls : goal.returns-clause-calls
-returns-clause-calls g c = λ told. omega (arith, c.find_opening.ensures.calls told, c.find_opening-2.ensures.calls told, c.read_newer.ensures.calls told, c.read_roots.ensures.calls told, blocks_stay (g.F.World.scene c.args.host.now) (g.F.World.scene c.find_opening-2.new.host) c.args.swp.now (frame_then (g.F.World.scene c.args.host.now) (g.F.World.scene c.find_opening.new.host) (g.F.World.scene c.find_opening-2.new.host) c.find_opening.ensures.reads.frame c.find_opening-2.ensures.reads.frame), blocks_stay (g.F.World.scene c.args.host.now) (g.F.World.scene c.find_opening-2.new.host) c.args.swo.now (frame_then (g.F.World.scene c.args.host.now) (g.F.World.scene c.find_opening.new.host) (g.F.World.scene c.find_opening-2.new.host) c.find_opening.ensures.reads.frame c.find_opening-2.ensures.reads.frame))
+returns-clause-calls g c = record { calls = λ told. omega (arith, c.find_opening.ensures.calls.calls told, c.find_opening-2.ensures.calls.calls told, c.read_newer.ensures.calls.calls told, c.read_roots.ensures.calls.calls told, blocks_stay (g.F.World.scene c.args.host.now) (g.F.World.scene c.find_opening-2.new.host) c.args.swp.now (frame_then (g.F.World.scene c.args.host.now) (g.F.World.scene c.find_opening.new.host) (g.F.World.scene c.find_opening-2.new.host) c.find_opening.ensures.reads.frame c.find_opening-2.ensures.reads.frame), blocks_stay (g.F.World.scene c.args.host.now) (g.F.World.scene c.find_opening-2.new.host) c.args.swo.now (frame_then (g.F.World.scene c.args.host.now) (g.F.World.scene c.find_opening.new.host) (g.F.World.scene c.find_opening-2.new.host) c.find_opening.ensures.reads.frame c.find_opening-2.ensures.reads.frame)) }

@@ -2,7 +2,8 @@ use Rattle.std.proofs.Common.{◌≡◌, arith, length, sym, subst, ◌∙◌}
 use Rattle.vs_recover.specs.Images.{IsImage}
 use Rattle.vs_recover.proofs.ChoiceLaws.{image_refused}
 use Rattle.vs_recover.proofs.PageLaws.{file_stays, file_was}
-use Rattle.vs_recover.proofs.ReadingLaws.{file_has, memory_then, none_then, reads_on, there_stays}
+use Rattle.vs_disk.proofs.Quiet.{none_then}
+use Rattle.vs_recover.proofs.ReadingLaws.{file_has, memory_then, reads_on, there_stays}
 use Rattle.vs_recover.proofs.image.find_image.Goals as goal
 
 pub read_open-requires : goal.read_open-requires
@@ -25,29 +26,33 @@ pub returns-in_ok-image-in-Ok-clause-reads : goal.returns-in_ok-image-in-Ok-clau
 returns-in_ok-image-in-Ok-clause-reads g c = reads_on c.in_ok-opening.ensures.none c.read_opening.ensures.reads c.read_open.ensures.reads
 
 pub returns-in_ok-image-in-Ok-clause-none : goal.returns-in_ok-image-in-Ok-clause-none
-returns-in_ok-image-in-Ok-clause-none g c = none_then c.in_ok-opening.ensures.none c.in_ok-image-in-Ok.ensures.none
+returns-in_ok-image-in-Ok-clause-none g c = none_then _ _ _ _ c.in_ok-opening.ensures.none c.in_ok-image-in-Ok.ensures.none
 
 pub returns-in-Err-clause-calls : goal.returns-in-Err-clause-calls
-returns-in-Err-clause-calls g c = λ file is told. omega (arith, c.read_opening.ensures.calls told)
+returns-in-Err-clause-calls g c = λ file is. record { calls = λ told. omega (arith, c.read_opening.ensures.calls.calls told) }
 
 pub returns-in_err-opening-clause-calls : goal.returns-in_err-opening-clause-calls
-returns-in_err-opening-clause-calls g c = λ file is told. omega (arith, c.read_opening.ensures.calls told)
+returns-in_err-opening-clause-calls g c = λ file is. record { calls = λ told. omega (arith, c.read_opening.ensures.calls.calls told) }
 
 pub returns-in_err-image-in-Ok-clause-calls : goal.returns-in_err-image-in-Ok-clause-calls
-returns-in_err-image-in-Ok-clause-calls g c = λ file is told. omega (
-  arith,
-  c.read_opening.ensures.calls told,
-  c.read_open.ensures.calls told,
-  file_has _ _ _ file _ c.in_ok-opening.ensures.len is,
-)
+returns-in_err-image-in-Ok-clause-calls g c = λ file is. record {
+  calls = λ told. omega (
+    arith,
+    c.read_opening.ensures.calls.calls told,
+    c.read_open.ensures.calls.calls told,
+    file_has _ _ _ file _ c.in_ok-opening.ensures.len is,
+  );
+}
 
 pub returns-in_ok-image-in-Ok-clause-calls : goal.returns-in_ok-image-in-Ok-clause-calls
-returns-in_ok-image-in-Ok-clause-calls g c = λ file is told. omega (
-  arith,
-  c.read_opening.ensures.calls told,
-  c.read_open.ensures.calls told,
-  file_has _ _ _ file _ c.in_ok-opening.ensures.len is,
-)
+returns-in_ok-image-in-Ok-clause-calls g c = λ file is. record {
+  calls = λ told. omega (
+    arith,
+    c.read_opening.ensures.calls.calls told,
+    c.read_open.ensures.calls.calls told,
+    file_has _ _ _ file _ c.in_ok-opening.ensures.len is,
+  );
+}
 
 pub returns-in_err-image-in-Ok-clause-memory : goal.returns-in_err-image-in-Ok-clause-memory
 returns-in_err-image-in-Ok-clause-memory g c = memory_then c.read_open.result c.from_residual-in_err-image-in-Ok.result _ c.in_ok-opening.ensures.none c.read_open.ensures.memory c.in_err-image-in-Ok.was c.from_residual-in_err-image-in-Ok.ensures.1

@@ -1,6 +1,7 @@
 use Rattle.std.proofs.Common.{◌≡◌, ◌≤◌, ◌+◌, length, arith, sym}
 use Rattle.vs_recover.proofs.PageLaws.{head_loaded}
-use Rattle.vs_recover.proofs.ReadingLaws.{file_has, none_fails, there_as}
+use Rattle.vs_disk.proofs.Quiet.{none_fails}
+use Rattle.vs_recover.proofs.ReadingLaws.{file_has, there_as}
 use Rattle.vs_recover.proofs.ReadingLaws.{reads_none}
 use Rattle.vs_recover.proofs.image.read_head.Goals as goal
 

@@ -2,7 +2,8 @@ use Rattle.std.proofs.Common.{◌≡◌, ◌/◌, length, arith, ap, sym, subst,
 use Rattle.vs_swap.specs.Files.{pages_in}
 use Rattle.vs_recover.specs.Files.{Walked}
 use Rattle.vs_recover.proofs.TextLaws.{not_sized, not_paired, not_walked, not_text, walked_stands}
-use Rattle.vs_recover.proofs.ReadingLaws.{none_fails, reads_none, there_as}
+use Rattle.vs_disk.proofs.Quiet.{none_fails}
+use Rattle.vs_recover.proofs.ReadingLaws.{reads_none, there_as}
 use Rattle.vs_recover.proofs.image.read_open.Goals as goal
 
 pub read_tree-requires : goal.read_tree-requires

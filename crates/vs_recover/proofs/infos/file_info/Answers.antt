@@ -1,7 +1,8 @@
 use Rattle.std.proofs.Common.{sym, ◌∙◌, string_bytes}
 use Rattle.vs_recover.proofs.PageLaws.{file_stays}
 use Rattle.vs_recover.proofs.ChoiceLaws.{found_file, info_absent, info_some}
-use Rattle.vs_recover.proofs.ReadingLaws.{frame_then, memory_then, none_then, reads_on, there_found}
+use Rattle.vs_disk.proofs.Quiet.{none_then}
+use Rattle.vs_recover.proofs.ReadingLaws.{frame_then, memory_then, reads_on, there_found}
 use Rattle.vs_recover.proofs.infos.file_info.Goals as goal
 
 pub find_image-requires : goal.find_image-requires
@@ -26,7 +27,7 @@ pub returns-clause-reads : goal.returns-clause-reads
 returns-clause-reads g c = reads_on c.in_ok-has_file.ensures.none c.has_file.ensures.reads c.find_image.ensures.reads
 
 pub returns-clause-none : goal.returns-clause-none
-returns-clause-none g c = none_then c.in_ok-has_file.ensures.none c.in_ok-image.ensures.none
+returns-clause-none g c = none_then _ _ _ _ c.in_ok-has_file.ensures.none c.in_ok-image.ensures.none
 
 pub returns-in_err-image-clause-frame : goal.returns-in_err-image-clause-frame
 returns-in_err-image-clause-frame g c = frame_then (g.F.World.scene c.args.host.now) (g.F.World.scene c.has_file.new.host) (g.F.World.scene c.find_image.new.host) c.has_file.ensures.reads.frame c.find_image.ensures.reads.frame
@@ -47,4 +48,4 @@ pub returns-in_err-image-clause-memory : goal.returns-in_err-image-clause-memory
 returns-in_err-image-clause-memory g c = memory_then c.find_image.result c.from_residual-in_err-image.result _ c.in_ok-has_file.ensures.none c.find_image.ensures.memory c.in_err-image.was c.from_residual-in_err-image.ensures.1
 
 pub returns-in_err-line-clause-memory : goal.returns-in_err-line-clause-memory
-returns-in_err-line-clause-memory g c = λ is. none_then c.in_ok-has_file.ensures.none c.in_ok-image.ensures.none
+returns-in_err-line-clause-memory g c = λ is. none_then _ _ _ _ c.in_ok-has_file.ensures.none c.in_ok-image.ensures.none

@@ -6,7 +6,8 @@ use Rattle.vs_recover.specs.Levels.{chained, lines_at}
 use Rattle.vs_recover.proofs.PageLaws.{file_stays, extends_none, extends_some}
 use Rattle.vs_recover.proofs.ChainLaws.{chain_stops, chain_add, chain_ends, plain_chain}
 use Rattle.vs_recover.proofs.MarkLaws.{wide_at}
-use Rattle.vs_recover.proofs.ReadingLaws.{memory_then, none_fails, none_then, reads_none, reads_on, there_stays}
+use Rattle.vs_disk.proofs.Quiet.{none_fails, none_then}
+use Rattle.vs_recover.proofs.ReadingLaws.{memory_then, reads_none, reads_on, there_stays}
 use Rattle.vs_recover.proofs.levels.gather_level.Goals as goal
 
 pub returns-then-not-branch-clause-value : goal.returns-then-not-branch-clause-value
@@ -24,10 +25,10 @@ loop-entry-preserved g c = record {
       let f : Entry → Option (List (List ℕ)) = λ e. plain (lines_at swap_format (pages_in file) e) in
       let some = extends_some _ _ _ _ c.if-not-branch.false (c.in_ok-load_lines.ensures.value file (file_stays _ _ _ _ file c.loop-entry.invariant.reads.frame is)) in
       chain_add f c.args.first c.args.others.now c.loop-entry.entry-index d c.loop-entry.lines c.load_lines.new.lines (omega arith) some (c.loop-entry.invariant.so file is);
-  later = omega (arith, c.in_ok-load_lines.ensures.later, c.loop-entry.invariant.later);
+  later = omega (arith, c.in_ok-load_lines.ensures.cause.later, c.loop-entry.invariant.later);
   reads = reads_on c.loop-entry.invariant.none c.loop-entry.invariant.reads c.load_lines.ensures.reads;
-  none = none_then c.loop-entry.invariant.none c.in_ok-load_lines.ensures.none;
-  calls = λ told. omega (arith, c.loop-entry.invariant.calls told, c.load_lines.ensures.calls told);
+  none = none_then _ _ _ _ c.loop-entry.invariant.none c.in_ok-load_lines.ensures.none;
+  calls = record { calls = λ told. omega (arith, c.loop-entry.invariant.calls.calls told, c.load_lines.ensures.calls.calls told) };
 }
 
 pub returns-clause-value : goal.returns-clause-value
@@ -42,7 +43,7 @@ loop-entry-init g c = record {
   later = omega arith;
   reads = reads_none g.F.World.tells _;
   none = none_fails g.F.World.tells _;
-  calls = λ told. omega arith;
+  calls = record { calls = λ told. omega arith };
 }
 
 pub load_lines-requires : goal.load_lines-requires
@@ -59,7 +60,7 @@ pub returns-then-not-branch-clause-reads : goal.returns-then-not-branch-clause-r
 returns-then-not-branch-clause-reads g c = reads_on c.loop-entry.invariant.none c.loop-entry.invariant.reads c.load_lines.ensures.reads
 
 pub returns-then-not-branch-clause-none : goal.returns-then-not-branch-clause-none
-returns-then-not-branch-clause-none g c = none_then c.loop-entry.invariant.none c.in_ok-load_lines.ensures.none
+returns-then-not-branch-clause-none g c = none_then _ _ _ _ c.loop-entry.invariant.none c.in_ok-load_lines.ensures.none
 
 pub returns-in_err-load_lines-clause-memory : goal.returns-in_err-load_lines-clause-memory
 returns-in_err-load_lines-clause-memory g c = memory_then c.load_lines.result c.from_residual.result _ c.loop-entry.invariant.none c.load_lines.ensures.memory c.in_err-load_lines.was c.from_residual.ensures.1

@@ -6,7 +6,8 @@ use Rattle.vs_recover.specs.Marks.{used_in}
 use Rattle.vs_recover.proofs.PageLaws.{file_stays, gives_none, gives_list, if_some}
 use Rattle.vs_recover.proofs.ChainLaws.{So, chain_stops, chain_more, chain_ends, no_clash, clash_first, clash_one, taken-append, wide-append}
 use Rattle.vs_recover.proofs.MarkLaws.{wide_at}
-use Rattle.vs_recover.proofs.ReadingLaws.{memory_then, none_fails, none_then, reads_none, reads_on, there_stays}
+use Rattle.vs_disk.proofs.Quiet.{none_fails, none_then}
+use Rattle.vs_recover.proofs.ReadingLaws.{memory_then, reads_none, reads_on, there_stays}
 use Rattle.vs_recover.proofs.levels.open_level.Goals as goal
 
 pub returns-then-not-mark_all-clause-clash : goal.returns-then-not-mark_all-clause-clash
@@ -29,7 +30,7 @@ loop-entry-init g c = record {
   later = omega arith;
   reads = reads_none g.F.World.tells _;
   none = none_fails g.F.World.tells _;
-  calls = λ told. omega arith;
+  calls = record { calls = λ told. omega arith };
 }
 
 pub load_points-requires : goal.load_points-requires
@@ -69,10 +70,10 @@ loop-entry-preserved g c =
         free = omega (arith, c.if-not-mark_all-2.ensures.free refl, c.loop-entry.invariant.marked.free, ap length c.deref-in-loop-entry.ensures.value, ap length items, length-append c.loop-entry.next.items c.in-Some.found.items);
         wide = ap (λ es. are_wide es) items ∙ wide-append c.loop-entry.next.items c.in-Some.found.items c.loop-entry.invariant.marked.wide (if_some _ c.in-Some.found _ c.in-Some.is c.in_ok-found.ensures.wide);
       };
-      later = omega (arith, c.in_ok-found.ensures.later, c.loop-entry.invariant.later);
+      later = omega (arith, c.in_ok-found.ensures.cause.later, c.loop-entry.invariant.later);
       reads = reads_on c.loop-entry.invariant.none c.loop-entry.invariant.reads c.load_points.ensures.reads;
-      none = none_then c.loop-entry.invariant.none c.in_ok-found.ensures.none;
-      calls = λ told. omega (arith, c.loop-entry.invariant.calls told, c.load_points.ensures.calls told);
+      none = none_then _ _ _ _ c.loop-entry.invariant.none c.in_ok-found.ensures.none;
+      calls = record { calls = λ told. omega (arith, c.loop-entry.invariant.calls.calls told, c.load_points.ensures.calls.calls told) };
     }
 
 pub returns-clause-next : goal.returns-clause-next
@@ -87,13 +88,13 @@ pub returns-in_default-clause-reads : goal.returns-in_default-clause-reads
 returns-in_default-clause-reads g c = reads_on c.loop-entry.invariant.none c.loop-entry.invariant.reads c.load_points.ensures.reads
 
 pub returns-in_default-clause-none : goal.returns-in_default-clause-none
-returns-in_default-clause-none g c = none_then c.loop-entry.invariant.none c.in_ok-found.ensures.none
+returns-in_default-clause-none g c = none_then _ _ _ _ c.loop-entry.invariant.none c.in_ok-found.ensures.none
 
 pub returns-then-not-mark_all-2-clause-reads : goal.returns-then-not-mark_all-2-clause-reads
 returns-then-not-mark_all-2-clause-reads g c = reads_on c.loop-entry.invariant.none c.loop-entry.invariant.reads c.load_points.ensures.reads
 
 pub returns-then-not-mark_all-2-clause-none : goal.returns-then-not-mark_all-2-clause-none
-returns-then-not-mark_all-2-clause-none g c = none_then c.loop-entry.invariant.none c.in_ok-found.ensures.none
+returns-then-not-mark_all-2-clause-none g c = none_then _ _ _ _ c.loop-entry.invariant.none c.in_ok-found.ensures.none
 
 pub returns-in_err-extend_from_slice-clause-reads : goal.returns-in_err-extend_from_slice-clause-reads
 returns-in_err-extend_from_slice-clause-reads g c = reads_on c.loop-entry.invariant.none c.loop-entry.invariant.reads c.load_points.ensures.reads
@@ -102,4 +103,4 @@ pub returns-in_err-found-clause-memory : goal.returns-in_err-found-clause-memory
 returns-in_err-found-clause-memory g c = memory_then c.load_points.result c.from_residual.result _ c.loop-entry.invariant.none c.load_points.ensures.memory c.in_err-found.was c.from_residual.ensures.1
 
 pub returns-in_err-extend_from_slice-clause-memory : goal.returns-in_err-extend_from_slice-clause-memory
-returns-in_err-extend_from_slice-clause-memory g c = λ is. none_then c.loop-entry.invariant.none c.in_ok-found.ensures.none
+returns-in_err-extend_from_slice-clause-memory g c = λ is. none_then _ _ _ _ c.loop-entry.invariant.none c.in_ok-found.ensures.none

@@ -1,5 +1,6 @@
 use Rattle.std.proofs.Common.{◌≤◌, ℕ, List}
-use Rattle.vs_recover.specs.Reading.{CallsAtMost, NoneFails, Reads}
+use Rattle.vs_disk.specs.Runs.{CallsAtMost, NoneFails}
+use Rattle.vs_recover.specs.Reading.{Reads}
 use Rattle.vs_swap.specs.Files.{pages_in, swap_format}
 use Rattle.vs_recover.specs.Files.{IsFile}
 use Rattle.vs_recover.specs.Levels.{points_at}

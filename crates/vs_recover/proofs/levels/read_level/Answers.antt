@@ -9,7 +9,8 @@ use Rattle.vs_recover.proofs.ChainLaws.{chained_first, plain_back, wide_rest}
 use Rattle.vs_recover.proofs.MarkLaws.{wide_at}
 use Rattle.vs_recover.proofs.PageLaws.{extends_none, extends_some, file_stays, gives_list, gives_none, if_none, if_some}
 use Rattle.vs_recover.proofs.WalkLaws.{level_clashes, level_gathered, level_opened, level_stops, level_unread, lines_gone, lines_of, pointers_alone, points_gone, points_of}
-use Rattle.vs_recover.proofs.ReadingLaws.{memory_then, none_then, reads_on, there_stays}
+use Rattle.vs_disk.proofs.Quiet.{none_then}
+use Rattle.vs_recover.proofs.ReadingLaws.{memory_then, reads_on, there_stays}
 use Rattle.vs_recover.proofs.levels.read_level.Goals as goal
 
 pub load_pages-requires : goal.load_pages-requires
@@ -113,16 +114,16 @@ pub returns-clause-reads : goal.returns-clause-reads
 returns-clause-reads g c = reads_on c.in_ok-bytes.ensures.none c.load_pages.ensures.reads c.gather_level.ensures.reads
 
 pub returns-in_default-3-clause-none : goal.returns-in_default-3-clause-none
-returns-in_default-3-clause-none g c = none_then c.in_ok-bytes.ensures.none c.in_ok-next.ensures.none
+returns-in_default-3-clause-none g c = none_then _ _ _ _ c.in_ok-bytes.ensures.none c.in_ok-next.ensures.none
 
 pub returns-in-Some-2-clause-none : goal.returns-in-Some-2-clause-none
-returns-in-Some-2-clause-none g c = none_then c.in_ok-bytes.ensures.none c.in_ok-next.ensures.none
+returns-in-Some-2-clause-none g c = none_then _ _ _ _ c.in_ok-bytes.ensures.none c.in_ok-next.ensures.none
 
 pub returns-in_default-4-clause-none : goal.returns-in_default-4-clause-none
-returns-in_default-4-clause-none g c = none_then c.in_ok-bytes.ensures.none c.in_ok-all.ensures.none
+returns-in_default-4-clause-none g c = none_then _ _ _ _ c.in_ok-bytes.ensures.none c.in_ok-all.ensures.none
 
 pub returns-clause-none : goal.returns-clause-none
-returns-clause-none g c = none_then c.in_ok-bytes.ensures.none c.in_ok-all.ensures.none
+returns-clause-none g c = none_then _ _ _ _ c.in_ok-bytes.ensures.none c.in_ok-all.ensures.none
 
 pub returns-in_err-next-clause-memory : goal.returns-in_err-next-clause-memory
 returns-in_err-next-clause-memory g c = memory_then c.open_level.result c.from_residual-in_err-next.result _ c.in_ok-bytes.ensures.none c.open_level.ensures.memory c.in_err-next.was c.from_residual-in_err-next.ensures.1

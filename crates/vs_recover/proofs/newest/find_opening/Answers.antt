@@ -1,7 +1,8 @@
 use Rattle.std.proofs.Common.{◌≡◌, length, sym, ◌∙◌, arith}
 use Rattle.vs_recover.proofs.ChoiceLaws.{found_file, opening_absent, opening_found}
 use Rattle.vs_recover.proofs.PageLaws.{file_stays}
-use Rattle.vs_recover.proofs.ReadingLaws.{memory_then, none_then, reads_on, there_found, there_was}
+use Rattle.vs_disk.proofs.Quiet.{none_then}
+use Rattle.vs_recover.proofs.ReadingLaws.{memory_then, reads_on, there_found, there_was}
 use Rattle.vs_recover.proofs.newest.find_opening.Goals as goal
 
 pub read_opening-requires : goal.read_opening-requires
@@ -26,16 +27,16 @@ pub returns-clause-reads : goal.returns-clause-reads
 returns-clause-reads g c = reads_on c.in_ok-has_file.ensures.none c.has_file.ensures.reads c.read_opening.ensures.reads
 
 pub returns-clause-none : goal.returns-clause-none
-returns-clause-none g c = none_then c.in_ok-has_file.ensures.none c.in_ok-opening.ensures.none
+returns-clause-none g c = none_then _ _ _ _ c.in_ok-has_file.ensures.none c.in_ok-opening.ensures.none
 
 pub returns-in_err-has_file-clause-calls : goal.returns-in_err-has_file-clause-calls
-returns-in_err-has_file-clause-calls g c = λ told. omega (arith, c.has_file.ensures.calls told)
+returns-in_err-has_file-clause-calls g c = record { calls = λ told. omega (arith, c.has_file.ensures.calls.calls told) }
 
 pub returns-then-not-branch-clause-calls : goal.returns-then-not-branch-clause-calls
-returns-then-not-branch-clause-calls g c = λ told. omega (arith, c.has_file.ensures.calls told)
+returns-then-not-branch-clause-calls g c = record { calls = λ told. omega (arith, c.has_file.ensures.calls.calls told) }
 
 pub returns-in_err-opening-clause-calls : goal.returns-in_err-opening-clause-calls
-returns-in_err-opening-clause-calls g c = λ told. omega (arith, c.has_file.ensures.calls told, c.read_opening.ensures.calls told)
+returns-in_err-opening-clause-calls g c = record { calls = λ told. omega (arith, c.has_file.ensures.calls.calls told, c.read_opening.ensures.calls.calls told) }
 
 pub returns-clause-calls : goal.returns-clause-calls
-returns-clause-calls g c = λ told. omega (arith, c.has_file.ensures.calls told, c.read_opening.ensures.calls told)
+returns-clause-calls g c = record { calls = λ told. omega (arith, c.has_file.ensures.calls.calls told, c.read_opening.ensures.calls.calls told) }

@@ -14,7 +14,7 @@ returns-clause-text g c = λ told.
     (newer_of _ _ _ _ c.generation_of.ensures c.generation_of-2.ensures (sym c.if-is_newer.ensures)) (c.in_ok-found-2.ensures.text told)
 
 pub returns-in_err-found-clause-calls : goal.returns-in_err-found-clause-calls
-returns-in_err-found-clause-calls g c = λ told. omega (arith, c.read_in_turn.ensures.calls told)
+returns-in_err-found-clause-calls g c = record { calls = λ told. omega (arith, c.read_in_turn.ensures.calls.calls told) }
 
 pub returns-then-is_newer-clause-calls : goal.returns-then-is_newer-clause-calls
-returns-then-is_newer-clause-calls g c = λ told. omega (arith, c.read_in_turn.ensures.calls told)
+returns-then-is_newer-clause-calls g c = record { calls = λ told. omega (arith, c.read_in_turn.ensures.calls.calls told) }

@@ -2,7 +2,8 @@ use Rattle.std.proofs.Common.{sym, subst, ◌∙◌, arith}
 use Rattle.vs_host.specs.World.{content_of}
 use Rattle.vs_recover.specs.Choices.{IsStanding}
 use Rattle.vs_recover.proofs.ChoiceLaws.{found_file, opening_len, opening_zero, stands_absent, text_found, text_refused, opening_blocks}
-use Rattle.vs_recover.proofs.ReadingLaws.{none_fails, reads_none, no_calls}
+use Rattle.vs_disk.proofs.Quiet.{none_fails, calls_none}
+use Rattle.vs_recover.proofs.ReadingLaws.{reads_none}
 use Rattle.vs_recover.proofs.newest.read_text.Goals as goal
 
 pub read_open-requires : goal.read_open-requires
@@ -36,13 +37,13 @@ returns-in_ok-image-in-Ok-clause-text g c = λ told.
     subst (λ v. IsStanding (content_of (g.F.World.scene c.args.host.now) c.args.name.now) v) (sym c.text_of.ensures) found
 
 pub returns-in_default-clause-calls : goal.returns-in_default-clause-calls
-returns-in_default-clause-calls g c = no_calls g.F.World.tells (g.F.World.scene c.args.host.now) _
+returns-in_default-clause-calls g c = calls_none g.F.World.tells (g.F.World.scene c.args.host.now) _
 
 pub returns-in-Err-clause-calls : goal.returns-in-Err-clause-calls
-returns-in-Err-clause-calls g c = no_calls g.F.World.tells (g.F.World.scene c.args.host.now) _
+returns-in-Err-clause-calls g c = calls_none g.F.World.tells (g.F.World.scene c.args.host.now) _
 
 pub returns-in_err-image-in-Ok-clause-calls : goal.returns-in_err-image-in-Ok-clause-calls
-returns-in_err-image-in-Ok-clause-calls g c = λ told. omega (arith, c.read_open.ensures.calls told, opening_blocks g.F.World.tells (g.F.World.scene c.args.host.now) c.args.name.now c.args.opening.now c.in-Some.opening c.in-Some.is c.requires.opening told)
+returns-in_err-image-in-Ok-clause-calls g c = record { calls = λ told. omega (arith, c.read_open.ensures.calls.calls told, opening_blocks g.F.World.tells (g.F.World.scene c.args.host.now) c.args.name.now c.args.opening.now c.in-Some.opening c.in-Some.is c.requires.opening told) }
 
 pub returns-in_ok-image-in-Ok-clause-calls : goal.returns-in_ok-image-in-Ok-clause-calls
-returns-in_ok-image-in-Ok-clause-calls g c = λ told. omega (arith, c.read_open.ensures.calls told, opening_blocks g.F.World.tells (g.F.World.scene c.args.host.now) c.args.name.now c.args.opening.now c.in-Some.opening c.in-Some.is c.requires.opening told)
+returns-in_ok-image-in-Ok-clause-calls g c = record { calls = λ told. omega (arith, c.read_open.ensures.calls.calls told, opening_blocks g.F.World.tells (g.F.World.scene c.args.host.now) c.args.name.now c.args.opening.now c.in-Some.opening c.in-Some.is c.requires.opening told) }

@@ -3,7 +3,8 @@ use Rattle.vs_zero.specs.declared.Zero.{Zero}
 use Rattle.vs_zero.specs.declared.ZeroErr.{ZeroErr}
 use Rattle.vs_recover.specs.Choices.{root_in}
 use Rattle.vs_recover.proofs.ChoiceLaws.{root_tree, root_no_tree}
-use Rattle.vs_recover.proofs.ReadingLaws.{none_fails, reads_none, no_calls}
+use Rattle.vs_disk.proofs.Quiet.{none_fails, calls_none}
+use Rattle.vs_recover.proofs.ReadingLaws.{reads_none}
 use Rattle.vs_recover.proofs.roots.opened_root.Goals as goal
 
 pub returns-in-Err-clause-root : goal.returns-in-Err-clause-root
@@ -25,4 +26,4 @@ returns-clause-root g c = λ file is.
     root_no_tree file c.in-Ok.zero c.in_ok-reads_root.field-0 (sym (c.requires.zero file is) ∙ c.in-Ok.is) (c.in_ok-reads_root.ensures.value file is) c.if-branch.false
 
 pub returns-in-Err-clause-calls : goal.returns-in-Err-clause-calls
-returns-in-Err-clause-calls g c = no_calls g.F.World.tells (g.F.World.scene c.args.host.now) 1
+returns-in-Err-clause-calls g c = calls_none g.F.World.tells (g.F.World.scene c.args.host.now) 1

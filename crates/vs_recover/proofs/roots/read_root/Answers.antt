@@ -1,5 +1,6 @@
 use Rattle.vs_recover.proofs.ChoiceLaws.{found_file, opening_len, opening_zero, root_absent, root_some}
-use Rattle.vs_recover.proofs.ReadingLaws.{none_fails, reads_none, no_calls}
+use Rattle.vs_disk.proofs.Quiet.{none_fails, calls_none}
+use Rattle.vs_recover.proofs.ReadingLaws.{reads_none}
 use Rattle.vs_recover.proofs.roots.read_root.Goals as goal
 
 pub opened_root-requires : goal.opened_root-requires
@@ -22,4 +23,4 @@ returns-clause-root g c = λ told. root_some _ c.in_ok-root.root c.args.opening.
     (λ file is. c.in_ok-root.ensures.root file (found_file g.F.World.tells (g.F.World.scene c.args.host.now) c.args.name.now file told is))
 
 pub returns-in_default-clause-calls : goal.returns-in_default-clause-calls
-returns-in_default-clause-calls g c = no_calls g.F.World.tells (g.F.World.scene c.args.host.now) 1
+returns-in_default-clause-calls g c = calls_none g.F.World.tells (g.F.World.scene c.args.host.now) 1

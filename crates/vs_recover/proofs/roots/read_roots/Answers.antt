@@ -2,7 +2,8 @@ use Rattle.std.proofs.Common.{ap, ◌∙◌, arith}
 use Rattle.vs_host.specs.World.{Scene, content_of}
 use Rattle.vs_recover.specs.Choices.{root_of}
 use Rattle.vs_recover.proofs.ChoiceLaws.{opening_stays}
-use Rattle.vs_recover.proofs.ReadingLaws.{memory_then, none_then, reads_on}
+use Rattle.vs_disk.proofs.Quiet.{none_then}
+use Rattle.vs_recover.proofs.ReadingLaws.{memory_then, reads_on}
 use Rattle.vs_recover.proofs.roots.read_roots.Goals as goal
 
 pub read_root-requires-2 : goal.read_root-requires-2
@@ -21,13 +22,13 @@ pub returns-clause-reads : goal.returns-clause-reads
 returns-clause-reads g c = reads_on c.in_ok-first.ensures.none c.read_root.ensures.reads c.read_root-2.ensures.reads
 
 pub returns-clause-none : goal.returns-clause-none
-returns-clause-none g c = none_then c.in_ok-first.ensures.none c.in_ok-second.ensures.none
+returns-clause-none g c = none_then _ _ _ _ c.in_ok-first.ensures.none c.in_ok-second.ensures.none
 
 pub returns-in_err-first-clause-calls : goal.returns-in_err-first-clause-calls
-returns-in_err-first-clause-calls g c = λ told. omega (arith, c.read_root.ensures.calls told)
+returns-in_err-first-clause-calls g c = record { calls = λ told. omega (arith, c.read_root.ensures.calls.calls told) }
 
 pub returns-in_err-second-clause-calls : goal.returns-in_err-second-clause-calls
-returns-in_err-second-clause-calls g c = λ told. omega (arith, c.read_root.ensures.calls told, c.read_root-2.ensures.calls told)
+returns-in_err-second-clause-calls g c = record { calls = λ told. omega (arith, c.read_root.ensures.calls.calls told, c.read_root-2.ensures.calls.calls told) }
 
 pub returns-clause-calls : goal.returns-clause-calls
-returns-clause-calls g c = λ told. omega (arith, c.read_root.ensures.calls told, c.read_root-2.ensures.calls told)
+returns-clause-calls g c = record { calls = λ told. omega (arith, c.read_root.ensures.calls.calls told, c.read_root-2.ensures.calls.calls told) }

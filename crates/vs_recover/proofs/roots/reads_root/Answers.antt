@@ -1,5 +1,6 @@
 use Rattle.std.proofs.Common.{◌≡◌, ◌≤◌, ◌+◌, length, arith}
-use Rattle.vs_recover.proofs.ReadingLaws.{none_fails, there_as, no_calls}
+use Rattle.vs_disk.proofs.Quiet.{none_fails, calls_none}
+use Rattle.vs_recover.proofs.ReadingLaws.{there_as}
 use Rattle.vs_recover.proofs.ReadingLaws.{reads_none}
 use Rattle.vs_recover.proofs.roots.reads_root.Goals as goal
 
@@ -22,7 +23,7 @@ pub returns-in_err-block-clause-memory : goal.returns-in_err-block-clause-memory
 returns-in_err-block-clause-memory g c = λ is. none_fails g.F.World.tells _
 
 pub returns-then-at-len-clause-calls : goal.returns-then-at-len-clause-calls
-returns-then-at-len-clause-calls g c = no_calls g.F.World.tells (g.F.World.scene c.args.host.now) 1
+returns-then-at-len-clause-calls g c = calls_none g.F.World.tells (g.F.World.scene c.args.host.now) 1
 
 pub returns-in_err-block-clause-calls : goal.returns-in_err-block-clause-calls
-returns-in_err-block-clause-calls g c = no_calls g.F.World.tells (g.F.World.scene c.args.host.now) 1
+returns-in_err-block-clause-calls g c = calls_none g.F.World.tells (g.F.World.scene c.args.host.now) 1

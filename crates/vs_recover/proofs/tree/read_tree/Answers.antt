@@ -12,7 +12,8 @@ use Rattle.vs_recover.proofs.MarkLaws.{used_most}
 use Rattle.vs_recover.proofs.PageLaws.{pages_past, file_stays, gives_none, gives_list, no_items}
 use Rattle.vs_recover.proofs.StageLaws.{stage_begins, stage_next, stage_ends, stage_stops, stage_empty, no_root, no_wide_root, no_first}
 use Rattle.vs_recover.proofs.WalkLaws.{found_at, marked_at, none_first}
-use Rattle.vs_recover.proofs.ReadingLaws.{file_has, memory_then, none_fails, none_then, reads_none, reads_on, there_stays}
+use Rattle.vs_disk.proofs.Quiet.{none_fails, none_then}
+use Rattle.vs_recover.proofs.ReadingLaws.{file_has, memory_then, reads_none, reads_on, there_stays}
 use Rattle.vs_recover.proofs.tree.read_tree.Goals as goal
 
 pub returns-then-count-lt2-clause-value : goal.returns-then-count-lt2-clause-value
@@ -42,10 +43,10 @@ levels-init g c = record {
       stage_begins file c.args.count _ c.in-Some.level.items (file_has _ _ _ file _ c.requires.count is) reads
       (λ k. c.if-not-mark_all.ensures.used refl k ∙ (ap (λ n. n + taken c.deref-2.result.now k) (c.in_ok-marks.ensures.used k) ∙ ap (λ es. first_used c.args.count k + taken es k) c.deref-2.ensures.value));
   wide = ap (λ es. are_wide es) (sym c.deref.ensures.value) ∙ sym c.if-not-are_wide.ensures;
-  later = omega (arith, c.in_ok-level.ensures.later);
+  later = omega (arith, c.in_ok-level.ensures.cause.later);
   reads = c.load_entries.ensures.reads;
   none = c.in_ok-level.ensures.none;
-  calls = λ told. omega (arith, c.load_entries.ensures.calls told, c.if-not-mark_all.ensures.free refl, c.in_ok-marks.ensures.free, ap length c.deref-2.ensures.value);
+  calls = λ told. omega (arith, c.load_entries.ensures.calls.calls told, c.if-not-mark_all.ensures.free refl, c.in_ok-marks.ensures.free, ap length c.deref-2.ensures.value);
 }
 
 pub read_level-requires : goal.read_level-requires
@@ -70,10 +71,10 @@ levels-preserved g c =
           stage_next (pages_in file) (λ k. used_in c.levels.marks k) _ c.levels.level.items c.in-Some-Entries.next.items (λ k. marked.used k)
           (ap (λ es. opened swap_format (pages_in file) es) (sym level) ∙ found) (c.levels.invariant.stage file is);
       wide = marked.wide;
-      later = omega (arith, c.in_ok-next.ensures.later, c.levels.invariant.later);
+      later = omega (arith, c.in_ok-next.ensures.cause.later, c.levels.invariant.later);
       reads = reads_on c.levels.invariant.none c.levels.invariant.reads c.read_level.ensures.reads;
-      none = none_then c.levels.invariant.none c.in_ok-next.ensures.none;
-      calls = λ told. omega (arith, c.levels.invariant.calls told, c.read_level.ensures.calls told, marked.free, ap length level);
+      none = none_then _ _ _ _ c.levels.invariant.none c.in_ok-next.ensures.none;
+      calls = λ told. omega (arith, c.levels.invariant.calls told, c.read_level.ensures.calls.calls told, marked.free, ap length level);
     }
 
 pub levels-smaller : goal.levels-smaller
@@ -120,13 +121,13 @@ pub returns-in-Some-Lines-clause-reads : goal.returns-in-Some-Lines-clause-reads
 returns-in-Some-Lines-clause-reads g c = reads_on c.levels.invariant.none c.levels.invariant.reads c.read_level.ensures.reads
 
 pub returns-in-Some-Lines-clause-none : goal.returns-in-Some-Lines-clause-none
-returns-in-Some-Lines-clause-none g c = none_then c.levels.invariant.none c.in_ok-next.ensures.none
+returns-in-Some-Lines-clause-none g c = none_then _ _ _ _ c.levels.invariant.none c.in_ok-next.ensures.none
 
 pub returns-in-None-clause-reads : goal.returns-in-None-clause-reads
 returns-in-None-clause-reads g c = reads_on c.levels.invariant.none c.levels.invariant.reads c.read_level.ensures.reads
 
 pub returns-in-None-clause-none : goal.returns-in-None-clause-none
-returns-in-None-clause-none g c = none_then c.levels.invariant.none c.in_ok-next.ensures.none
+returns-in-None-clause-none g c = none_then _ _ _ _ c.levels.invariant.none c.in_ok-next.ensures.none
 
 pub returns-in_err-next-clause-memory : goal.returns-in_err-next-clause-memory
 returns-in_err-next-clause-memory g c = memory_then c.read_level.result c.from_residual-in_err-next.result _ c.levels.invariant.none c.read_level.ensures.memory c.in_err-next.was c.from_residual-in_err-next.ensures.1

@@ -1,6 +1,7 @@
 use Rattle.std.proofs.Common.{◌≤◌, ℕ, ◌+◌, ◌-◌, List, length, IsTrue}
 use Rattle.std.specs.Prelude.{min}
-use Rattle.vs_recover.specs.Reading.{NoneFails, Reads}
+use Rattle.vs_disk.specs.Runs.{NoneFails}
+use Rattle.vs_recover.specs.Reading.{Reads}
 use Rattle.vs_swap.specs.Files.{pages_in}
 use Rattle.vs_recover.specs.Files.{IsFile}
 use Rattle.vs_recover.specs.Levels.{Stage, are_wide}

@@ -2,7 +2,7 @@ use Rattle.std.proofs.Common.{refl, [], ◌≡◌, ◌≤◌, ◌+◌, ◌++◌,
 use Rattle.vs_text.specs.Text.{lines_of}
 use Rattle.vs_text.specs.Limits.{IsWithinLimits}
 use Rattle.vs_session.proofs.OpenLemmas.{limit_of, same_content, piece_within, limit_in_piece, whole_read, limit_at_end, some_read, handed_back, handed_on, not_failed, never_failed, never_swap, never_swapped, ok_never, fed_next, err_is, ReadsFolder-trans}
-use Rattle.vs_pair.proofs.Acts.{none_fails, none_then}
+use Rattle.vs_disk.proofs.Quiet.{none_fails, none_then}
 use Rattle.vs_text.specs.Reader.{HasRead}
 use Rattle.vs_paged.specs.Pages.{Opening}
 use Rattle.vs_session.proofs.LookLemmas.{IsLook-ended, IsReading-calm, IsReading-none, IsReading-refused, KeepsToLimits-other, KeepsToLimits-refused, looks_none, looks_then}

@@ -2,7 +2,7 @@
 use Rattle.std.proofs.Common.{◌≡◌, ◌≤◌, ◌-◌, ℕ, List, Some, IsTrue, length, take, vec_len}
 use Rattle.vs_host.specs.World.{ReadsFolder, content_of}
 use Rattle.vs_text.specs.Reader.{HasRead}
-use Rattle.vs_pair.specs.Acts.{NoneFails}
+use Rattle.vs_disk.specs.Runs.{NoneFails}
 use Rattle.vs_session.specs.Open.{OnlyLooks}
 use Rattle.vs_session.proofs.reading.read_pieces.Given as goal
 

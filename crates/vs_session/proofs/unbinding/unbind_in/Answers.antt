@@ -15,13 +15,9 @@ unbind-requires g c =
       texts = stands_undo g.F.World.tells.folder c.args.pair.now.pages c.args.tree.now c.args.history.now c.requires.lent.stands;
     }
 
-pub returns-clause-bound : goal.returns-clause-bound
-returns-clause-bound g c =
-    if_ok_as c.unbind.result _ _ (λ contents bound told state stands. bound state.text state.history (told_text _ _ _ _ told stands.text) stands.history) c.unbind.ensures.bound
-
-pub returns-clause-filed : goal.returns-clause-filed
-returns-clause-filed g c =
-    if_ok_as c.unbind.result _ _ (λ contents filed told state stands. filed state.text state.history (told_text _ _ _ _ told stands.text) stands.history) c.unbind.ensures.filed
+pub returns-clause-made : goal.returns-clause-made
+returns-clause-made g c =
+    if_ok_as c.unbind.result _ _ (λ contents made told state stands. made state.text state.history (told_text _ _ _ _ told stands.text) stands.history) c.unbind.ensures.made
 
 pub returns-clause-stands : goal.returns-clause-stands
 returns-clause-stands g c told state stands =

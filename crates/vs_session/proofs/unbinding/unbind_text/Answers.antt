@@ -1,5 +1,4 @@
-use Rattle.std.proofs.Common.{◌≤◌, sym, ap, subst}
-use Rattle.vs_host.specs.World.{Scene}
+use Rattle.std.proofs.Common.{◌≤◌, sym, subst}
 use Rattle.vs_pair.specs.declared.files.SwapFiles.{SwapFiles}
 use Rattle.vs_session.proofs.StoreLemmas.{if_ok_as, fits_ready, state_left}
 use Rattle.vs_session.proofs.unbinding.unbind_text.Goals as goal
@@ -20,13 +19,9 @@ invariant_of-text g c = record {
   started = subst (λ (f : SwapFiles). 2 ≤ f.generation) (sym c.unbind_in.ensures.kept.keeps.files) c.args.text.now.started;
 }
 
-pub returns-clause-bound : goal.returns-clause-bound
-returns-clause-bound g c =
-    if_ok_as c.unbind_in.result _ _ (λ contents bound told state syncs fits. bound told state (record { text = fits.text.pages; history = fits.history })) c.unbind_in.ensures.bound
-
-pub returns-clause-filed : goal.returns-clause-filed
-returns-clause-filed g c =
-    if_ok_as c.unbind_in.result _ _ (λ contents filed told state syncs fits. filed told state (record { text = fits.text.pages; history = fits.history })) c.unbind_in.ensures.filed
+pub returns-clause-made : goal.returns-clause-made
+returns-clause-made g c =
+    if_ok_as c.unbind_in.result _ _ (λ contents made told state syncs fits. made told state (record { text = fits.text.pages; history = fits.history })) c.unbind_in.ensures.made
 
 pub returns-clause-fits : goal.returns-clause-fits
 returns-clause-fits g c told state syncs fits =

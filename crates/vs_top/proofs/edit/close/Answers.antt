@@ -1,13 +1,13 @@
 use Rattle.std.proofs.Common.{◌≡◌, ◌∙◌, ℕ, List, ◌++◌, take, refl, ap}
 use Rattle.vs_host.specs.World.{Scene}
-use Rattle.vs_top.proofs.Closing.{Finishes, close_fails, close_cut, close_ends, line_of, line_by, at_ending}
+use Rattle.vs_top.proofs.Closing.{close_fails, close_cut, close_ends, line_of, line_by, at_ending}
 use Rattle.vs_top.proofs.edit.close.Goals as goal
 
 pub returns-in_err-finish : goal.returns-in_err-finish
 returns-in_err-finish g c = λ name old marks at.
     at_ending g.H.World.tells name old (g.H.World.scene c.finish.new.host) marks c.from_residual.result _ _ c.from_residual.ensures.1 c.in_err-finish.ensures.fault
     (close_fails g.H.World.tells name old (g.H.World.scene c.args.host.now) (g.H.World.scene c.finish.new.host) c.args.session marks c.args.how c.args.clean at
-    (record { sync = c.in_err-finish.ensures.sync; quit = c.finish.ensures.quit; no_fault = λ ok. absurd (cc); fits = c.in_err-finish.ensures.fits; rises = λ ok. absurd (cc); last = c.finish.ensures.last; later = c.finish.ensures.cause.later; frame = c.finish.ensures.frame }) (c.in_err-finish.ensures.cause.risen refl))
+    c.in_err-finish.ensures.finishes (c.in_err-finish.ensures.finishes.cause.risen refl))
 
 pub returns-in_err-put : goal.returns-in_err-put
 returns-in_err-put g c = λ name old marks at.
@@ -16,8 +16,7 @@ returns-in_err-put g c = λ name old marks at.
     let line : c.last_line.result.bytes ≡ line_of c.args.how = line_by c.args.how c.last_line.result.bytes c.last_line.ensures.sync c.last_line.ensures.quit in
     at_ending g.H.World.tells name old new marks c.from_residual-in_err-put.result _ _ c.from_residual-in_err-put.ensures.1 c.in_err-put.ensures.out
     (close_cut g.H.World.tells name old (g.H.World.scene c.args.host.now) mid c.args.session marks c.args.how c.args.clean at new
-    (record { sync = c.in_ok-finish.ensures.sync; quit = c.finish.ensures.quit; no_fault = λ ok. c.in_ok-finish.ensures.none.faults; fits = c.in_ok-finish.ensures.fits; rises = λ ok. c.in_ok-finish.ensures.rises; last = c.finish.ensures.last; later = c.finish.ensures.cause.later; frame = c.finish.ensures.frame })
-    c.in_ok-finish.ensures.gone c.put.ensures.frame
+    c.in_ok-finish.ensures.finishes c.put.ensures.frame
     (λ told. let cut = c.in_err-put.ensures.err told in (cut.0, cut.1 ∙ ap (λ (l : List ℕ). mid.output ++ take cut.0 l) line)) c.put.ensures.added (c.in_err-put.ensures.cause.risen refl))
 
 pub returns : goal.returns
@@ -27,6 +26,5 @@ returns g c = λ name old marks at.
     let line : c.last_line.result.bytes ≡ line_of c.args.how = line_by c.args.how c.last_line.result.bytes c.last_line.ensures.sync c.last_line.ensures.quit in
     rw c.ending_of.ensures
     (close_ends g.H.World.tells name old (g.H.World.scene c.args.host.now) mid c.args.session marks c.args.how c.args.clean at new
-    (record { sync = c.in_ok-finish.ensures.sync; quit = c.finish.ensures.quit; no_fault = λ ok. c.in_ok-finish.ensures.none.faults; fits = c.in_ok-finish.ensures.fits; rises = λ ok. c.in_ok-finish.ensures.rises; last = c.finish.ensures.last; later = c.finish.ensures.cause.later; frame = c.finish.ensures.frame })
-    c.in_ok-finish.ensures.gone c.put.ensures.frame
+    c.in_ok-finish.ensures.finishes c.put.ensures.frame
     (λ told. c.in_ok-put.ensures.ok told ∙ ap (λ (l : List ℕ). mid.output ++ l) line) c.put.ensures.added (c.in_ok-put.ensures.quiet (λ is. absurd (cc))))

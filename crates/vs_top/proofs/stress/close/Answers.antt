@@ -49,7 +49,7 @@ returns-in_err-finish g c = λ old marks turn.
     (record { frame = c.summary.ensures.frame; later = c.summary.ensures.cause.later; still = c.summary.ensures.still; names = c.summary.ensures.file.names; fits = c.summary.ensures.fits })
     c.in_ok-summary.summary c.in_ok-summary.ensures.summary c.in_ok-line.line.items c.in_ok-line.ensures (g.H.World.scene c.put.new.host) (g.H.World.scene c.finish.new.host) c.put.ensures.frame c.put.ensures.added
     (λ told. c.in_ok-put.ensures.ok told ∙ ap (λ (r : Answer). (g.H.World.scene c.summary.new.host).output ++ r.bytes) c.printed.ensures) (c.in_ok-put.ensures.quiet (λ is. absurd (cc)))
-    _ (record { sync = c.in_err-finish.ensures.sync; quit = c.finish.ensures.quit; no_fault = λ ok. absurd (cc); fits = c.in_err-finish.ensures.fits; rises = λ ok. absurd (cc); last = c.finish.ensures.last; later = c.finish.ensures.cause.later; frame = c.finish.ensures.frame }) (c.in_err-finish.ensures.cause.risen refl))
+    _ c.in_err-finish.ensures.finishes (c.in_err-finish.ensures.finishes.cause.risen refl))
 
 pub returns : goal.returns
 returns g c = λ old marks turn.
@@ -58,4 +58,4 @@ returns g c = λ old marks turn.
     (record { frame = c.summary.ensures.frame; later = c.summary.ensures.cause.later; still = c.summary.ensures.still; names = c.summary.ensures.file.names; fits = c.summary.ensures.fits })
     c.in_ok-summary.summary c.in_ok-summary.ensures.summary c.in_ok-line.line.items c.in_ok-line.ensures (g.H.World.scene c.put.new.host) (g.H.World.scene c.finish.new.host) c.put.ensures.frame c.put.ensures.added
     (λ told. c.in_ok-put.ensures.ok told ∙ ap (λ (r : Answer). (g.H.World.scene c.summary.new.host).output ++ r.bytes) c.printed.ensures) (c.in_ok-put.ensures.quiet (λ is. absurd (cc)))
-    _ (record { sync = c.in_ok-finish.ensures.sync; quit = c.finish.ensures.quit; no_fault = λ ok. c.in_ok-finish.ensures.none.faults; fits = c.in_ok-finish.ensures.fits; rises = λ ok. c.in_ok-finish.ensures.rises; last = c.finish.ensures.last; later = c.finish.ensures.cause.later; frame = c.finish.ensures.frame }) (c.in_ok-finish.ensures.gone refl))
+    _ c.in_ok-finish.ensures.finishes refl)

@@ -1,7 +1,7 @@
 use Rattle.std.proofs.Common.{[], ◌∷◌}
 use Rattle.vs_host.specs.Trace.{Looked, Measured, Read}
 use Rattle.vs_host.specs.World.{Scene}
-use Rattle.vs_pair.proofs.Acts.{none_then}
+use Rattle.vs_disk.proofs.Quiet.{none_then}
 use Rattle.vs_pair.proofs.Calls.{look_none}
 use Rattle.vs_ubind.proofs.Calls.{looked_more, looked_once}
 use Rattle.vs_ubind.proofs.fetching.fetch.Goals as goal

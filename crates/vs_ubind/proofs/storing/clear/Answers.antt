@@ -4,7 +4,7 @@ use Rattle.std.proofs.lemmas.Result.{on_ok_weaker}
 use Rattle.vs_host.specs.Disk.{ChangesNames, Removes, content_in}
 use Rattle.vs_host.specs.Trace.{Looked, Removed}
 use Rattle.vs_host.specs.World.{Scene}
-use Rattle.vs_pair.proofs.Acts.{none_call, none_then}
+use Rattle.vs_disk.proofs.Quiet.{none_call, none_then}
 use Rattle.vs_pair.proofs.Calls.{look_acts, look_none, look_same}
 use Rattle.vs_backup.specs.Works.{Spares, one_name}
 use Rattle.vs_backup.proofs.Frames.{spares_none, spares_removed}

@@ -6,7 +6,7 @@ use Rattle.vs_host.specs.Trace.{Synced, Wrote}
 use Rattle.vs_host.specs.World.{Scene}
 use Rattle.vs_disk.specs.Images.{Changes}
 use Rattle.vs_disk.proofs.Contents.{synced_content}
-use Rattle.vs_pair.proofs.Acts.{none_call, none_then}
+use Rattle.vs_disk.proofs.Quiet.{none_call, none_then}
 use Rattle.vs_pair.proofs.Calls.{sync_acts, write_acts}
 use Rattle.vs_backup.specs.Works.{one_name}
 use Rattle.vs_backup.proofs.Frames.{alone_file}

@@ -3,7 +3,7 @@ use Rattle.std.proofs.lemmas.Result.{on_ok_weaker}
 use Rattle.vs_host.specs.Disk.{CreatesFile}
 use Rattle.vs_host.specs.Trace.{Created}
 use Rattle.vs_host.specs.World.{Scene}
-use Rattle.vs_pair.proofs.Acts.{none_call, none_then}
+use Rattle.vs_disk.proofs.Quiet.{none_call, none_then}
 use Rattle.vs_backup.specs.Works.{one_name}
 use Rattle.vs_backup.proofs.Frames.{spares_created, alone_created}
 use Rattle.vs_ubind.proofs.Calls.{spares_acts, spares_call}

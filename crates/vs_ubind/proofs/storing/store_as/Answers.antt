@@ -4,7 +4,7 @@ use Rattle.vs_host.specs.World.{Scene}
 use Rattle.vs_disk.specs.Images.{Takes}
 use Rattle.vs_disk.proofs.Runs.{runs_on}
 use Rattle.vs_disk.proofs.Contents.{takes_then}
-use Rattle.vs_pair.proofs.Acts.{none_then}
+use Rattle.vs_disk.proofs.Quiet.{none_then}
 use Rattle.vs_backup.specs.Works.{one_name, two_names}
 use Rattle.vs_backup.proofs.Calls.{synced_there}
 use Rattle.vs_ubind.proofs.Calls.{spares_acts, takes_one, wider_acts}

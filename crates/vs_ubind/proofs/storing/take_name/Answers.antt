@@ -1,4 +1,4 @@
-use Rattle.std.proofs.Common.{◌≡◌, inl, inr, [], ◌∷◌, IsTrue, Ok, refl, sym}
+use Rattle.std.proofs.Common.{◌≡◌, [], ◌∷◌, IsTrue, Ok, sym}
 use Rattle.std.proofs.lemmas.Bool.{true≢false}
 use Rattle.std.proofs.lemmas.Result.{on_ok_weaker}
 use Rattle.vs_host.specs.Disk.{ChangesNames, Renames, SyncsNames}
@@ -8,7 +8,7 @@ use Rattle.vs_host.specs.declared.traits.Failed.{Failed}
 use Rattle.vs_disk.specs.Images.{Takes}
 use Rattle.vs_disk.proofs.Runs.{one_call, call_on}
 use Rattle.vs_disk.proofs.Contents.{takes_renamed, takes_then}
-use Rattle.vs_pair.proofs.Acts.{none_call, none_then}
+use Rattle.vs_disk.proofs.Quiet.{none_call, none_then}
 use Rattle.vs_backup.specs.Works.{two_names}
 use Rattle.vs_backup.proofs.Frames.{either, spares_renamed, spares_synced, takes_spared, takes_same, settled_now, synced_renamed}
 use Rattle.vs_backup.proofs.Kept.{settled_holds}

@@ -4,7 +4,7 @@ use Rattle.vs_host.specs.Disk.{Name, ChangesNames, SyncsNames, Removes, content_
 use Rattle.vs_host.specs.Trace.{Removed, SyncedNames}
 use Rattle.vs_pair.specs.declared.side.Side.{Side}
 use Rattle.vs_pair.specs.Pair.{known_of, name_of, other_side}
-use Rattle.vs_pair.proofs.Acts.{none_call, none_then}
+use Rattle.vs_disk.proofs.Quiet.{none_call, none_then}
 use Rattle.vs_pair.proofs.Calls.{either_acts}
 use Rattle.vs_pair.proofs.MadeFiles.{gone_now}
 use Rattle.vs_pair.proofs.Ends.{first_acts, second_acts, names_acts, ending_acts, all_gone, older_there, newer_there}

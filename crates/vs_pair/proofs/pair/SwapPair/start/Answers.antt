@@ -4,7 +4,7 @@ use Rattle.vs_host.specs.Trace.{SyncedNames}
 use Rattle.vs_pair.specs.Pair.{sync_with}
 use Rattle.vs_pair.specs.Swap.{body_of}
 use Rattle.vs_pair.proofs.MadeFiles.{made_holds}
-use Rattle.vs_pair.proofs.Acts.{none_call, none_then}
+use Rattle.vs_disk.proofs.Quiet.{none_call, none_then}
 use Rattle.vs_pair.proofs.Calls.{either_acts}
 use Rattle.vs_pair.proofs.Starts.{making_first, making_second, second_absent, syncing_names, both_fit, both_end, both_moved}
 use Rattle.vs_pair.proofs.pair.SwapPair.start.Goals as goal
