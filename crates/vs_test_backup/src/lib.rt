@@ -1,4 +1,4 @@
-//! Tests of writing a file with its backup: what a stop or a fault at each call leaves, and the names of backups.
+//! Tests of writing a file with its backup: what a stop or a fault at each call leaves, the names of backups, and the options.
 #![tactic(auto)]
 
 pub mod desk;
@@ -8,6 +8,8 @@ mod fixture;
 mod modes;
 #[cfg(test)]
 mod names;
+#[cfg(test)]
+mod options;
 #[cfg(test)]
 mod pieces;
 #[cfg(test)]

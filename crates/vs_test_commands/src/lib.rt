@@ -1,8 +1,12 @@
-//! Tests of command lines, of where commands work and of what they do to a text, by the public calls of their crates.
+//! Tests of command lines and scripts, of where commands work and of what they do to a text, and of the machine over a store that fails.
 #![tactic(auto)]
 
 #[cfg(test)]
 mod commands;
+#[cfg(test)]
+mod failing;
+#[cfg(test)]
+mod hostile;
 #[cfg(test)]
 mod limits;
 #[cfg(test)]
@@ -11,3 +15,7 @@ mod parsing;
 mod places;
 #[cfg(test)]
 mod plans;
+#[cfg(test)]
+mod script_commands;
+#[cfg(test)]
+mod source;

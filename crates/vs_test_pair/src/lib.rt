@@ -1,4 +1,4 @@
-//! Tests of the swap pair: what a stop after each call leaves, and the bytes of its files.
+//! Tests of the swap pair and of a text in its pages: what a stop after each call leaves, and the bytes of the files.
 #![tactic(auto)]
 
 #[cfg(test)]
@@ -7,4 +7,7 @@ mod bytes;
 mod counts;
 pub mod life;
 #[cfg(test)]
+mod rows;
+#[cfg(test)]
 mod stops;
+pub mod written;

@@ -1,4 +1,4 @@
-//! Whole runs over a host in memory, against outputs that are written out.
+//! Whole runs over a host in memory, against outputs and swap files that are written out.
 #![tactic(auto)]
 
 #[cfg(test)]
@@ -9,6 +9,10 @@ mod faults;
 mod helpers;
 #[cfg(test)]
 mod limits;
+#[cfg(test)]
+mod long;
+#[cfg(test)]
+mod pages;
 #[cfg(test)]
 mod pieces;
 #[cfg(test)]

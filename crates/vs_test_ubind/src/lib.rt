@@ -1,4 +1,4 @@
-//! Tests of what binds a history to its text: the digest, and the undo file under its name.
+//! Tests of what binds a history to its text: the search for a change that does not fit, the digest, and the undo file under its name.
 #![tactic(auto)]
 
 #[cfg(test)]
@@ -9,5 +9,7 @@ mod digests;
 mod files;
 #[cfg(test)]
 mod histories;
+#[cfg(test)]
+mod misfits;
 #[cfg(test)]
 mod trees;

@@ -1,4 +1,4 @@
-// A host with files and a script, a run over it, and the images of what it leaves.
+// A host with files and a script, a run over it, and what a stop may leave.
 ghost use Rattle.std.specs.Prelude.{◌≡◌, [], IfOk, IsTrue};
 ghost use Rattle.vs_memory.specs.Memory.{folder_of};
 
@@ -6,7 +6,7 @@ use std::alloc::Global;
 use std::test::Fail;
 use vs_host::Host;
 use vs_memory::{Choice, Keep, MemHost};
-use vs_top::run;
+use vs_top::{Report, run};
 
 /// What the file has before a write, and what is written.
 pub const OLD: &[u8] = b"a\n";
@@ -53,42 +53,22 @@ fn words_of(alloc: Global, words: [&str; 2]) -> Result<Vec<String>, Fail> {
     Ok(list)
 }
 
-/// Runs `edit f`, and gives its exit status.
-pub(crate) fn edit_f<H: Host>(alloc: Global, host: &mut H) -> Result<u8, Fail>
+/// Runs `edit f`.
+pub(crate) fn edit_f<H: Host>(alloc: Global, host: &mut H) -> Result<Report, Fail>
     requires clock { IsTrue (H.tells).clock → (H.scene host.old).answers ≡ [] }
     requires settled { IsTrue (H.tells).folder → (H.scene host.old).folder.pending ≡ [] }
 {
     let words = words_of(alloc, ["edit", "f"])?;
-    Ok(run(alloc, words.as_slice(), host).status)
+    Ok(run(alloc, words.as_slice(), host))
 }
 
-/// An image of a folder, and the choice that made it.
-#[derive(Drop)]
-pub struct Image {
-    pub choice: Choice,
-    pub host: MemHost,
-}
-
-// Adds the images with this kept of each file, by what is kept of the pending changes of names.
-fn push_images(
-    alloc: Global,
-    host: &MemHost,
-    keep: Keep,
-    images: &mut Vec<Image>,
-) -> Result<(), Fail> {
-    for names in PREFIXES {
-        let choice = Choice { names, keep };
-        let host = host.image(alloc, &choice, Vec::new(alloc))?;
-        images.push(Image { choice, host })?;
-    }
-    Ok(())
-}
-
-/// The images of a folder, by what is kept of each file and of the pending changes of names.
-pub(crate) fn images_of(alloc: Global, host: &MemHost) -> Result<Vec<Image>, Fail> {
-    let mut images = Vec::new(alloc);
+/// What a stop may leave, by what is kept of each file and of the pending changes of names.
+pub(crate) fn choices_of(alloc: Global) -> Result<Vec<Choice>, Fail> {
+    let mut choices = Vec::new(alloc);
     for keep in KEEPS {
-        push_images(alloc, host, keep, &mut images)?;
+        for names in PREFIXES {
+            choices.push(Choice { names, keep })?;
+        }
     }
-    Ok(images)
+    Ok(choices)
 }

@@ -1,5 +1,5 @@
 // What each image has under the name of a backup, from one call of a write to another.
-use crate::helpers::{Image, NEW, OLD, edit_f, host_of, images_of};
+use crate::helpers::{NEW, OLD, choices_of, edit_f, host_of};
 use crate::watched::Watched;
 use std::alloc::Global;
 use std::ops::Range;
@@ -54,24 +54,26 @@ fn find_changed(
     host: &MemHost,
     files: &[(&str, &[u8])],
 ) -> Result<Option<Choice>, Fail> {
-    for image in &images_of(alloc, host)? {
-        if !has_all(&image.host, files) {
-            return Ok(Some(image.choice));
+    for choice in &choices_of(alloc)? {
+        let image = host.image(alloc, choice, Vec::new(alloc))?;
+        if !has_all(&image, files) {
+            return Ok(Some(*choice));
         }
     }
     Ok(None)
 }
 
 // Whether an image has the rename of the file. No change of names before it is pending, and the file has other bytes after it.
-fn has_rename(image: &Image) -> bool {
-    0 < image.choice.names || image.host.file("f") != Some(OLD)
+fn has_rename(choice: &Choice, image: &MemHost) -> bool {
+    0 < choice.names || image.file("f") != Some(OLD)
 }
 
 // An image that has the rename of the file, in which the backup has not its bytes.
 fn find_lost(alloc: Global, host: &Watched) -> Result<Option<Choice>, Fail> {
-    for image in &images_of(alloc, &host.inner)? {
-        if has_rename(image) && image.host.file(host.backup) != Some(OLD) {
-            return Ok(Some(image.choice));
+    for choice in &choices_of(alloc)? {
+        let image = host.inner.image(alloc, choice, Vec::new(alloc))?;
+        if has_rename(choice, &image) && image.file(host.backup) != Some(OLD) {
+            return Ok(Some(*choice));
         }
     }
     Ok(None)

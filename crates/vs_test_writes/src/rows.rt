@@ -101,7 +101,7 @@ const CASES: [Case; 9] = [
 
 fn is_answered(alloc: Global, case: &Case) -> Result<bool, Fail> {
     let mut host = host_of(alloc, case.before, case.script)?;
-    let status = edit_f(alloc, &mut host)?;
+    let status = edit_f(alloc, &mut host)?.status;
     Ok(
         status == case.status
             && host.output() == case.output
