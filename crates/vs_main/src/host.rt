@@ -12,8 +12,36 @@ use vs_host::{Clock, Failed, Folder, Host, Out, Script, World};
 /// A file that stays open, so that a file of many pages is opened once. It is closed before any name may lead to another file.
 #[derive(Drop)]
 struct OpenFile {
-    name: String,
+    /// Its name; `None` where there was no memory for it, and then the file is opened again for the next call.
+    name: Option<String>,
     file: File,
+    /// Whether its mode may have changed since it was opened, so that a sync of its bytes alone is not enough.
+    has_new_mode: bool,
+}
+
+impl OpenFile {
+    fn new(rt: &HostRuntime, name: &str, file: File) -> OpenFile {
+        OpenFile {
+            name: String::from_str(rt.alloc(), name).ok(),
+            file,
+            has_new_mode: false,
+        }
+    }
+
+    fn has_name(&self, name: &str) -> bool {
+        match &self.name {
+            Some(own) => own.as_str() == name,
+            None => false,
+        }
+    }
+
+    /// Syncs its bytes and how many they are, and its mode where that may have changed. Its times need not last.
+    fn sync(&self) -> io::Result<()> {
+        if self.has_new_mode {
+            return self.file.sync_all();
+        }
+        self.file.sync_data()
+    }
 }
 
 /// The real outside. It tells nothing of contents; each refusal of the system counts as a fault of the call. A name that no
@@ -154,18 +182,12 @@ fn sync_open(rt: &HostRuntime, name: &str) -> io::Result<()> {
 }
 
 /// The file of this name where it is the one that is open. Another one is closed.
-fn take_open(kept: &mut Option<OpenFile>, name: &str) -> Option<File> {
+fn take_open(kept: &mut Option<OpenFile>, name: &str) -> Option<OpenFile> {
     let open = kept.take()?;
-    if open.name.as_str() == name {
-        return Some(open.file);
+    if open.has_name(name) {
+        return Some(open);
     }
     None
-}
-
-/// A file to keep open, which has this name. Without memory it is closed.
-fn keep_open(rt: &HostRuntime, name: &str, file: File) -> Option<OpenFile> {
-    let name = String::from_str(rt.alloc(), name).ok()?;
-    Some(OpenFile { name, file })
 }
 
 impl RealHost {
@@ -180,24 +202,24 @@ impl RealHost {
     fn read_open(&mut self, name: &str, at: u64, into: &mut [u8]) -> io::Result<()>
         ensures frame { self.new ≡ record self.old { reading = self.new.reading } }
     {
-        let file = match take_open(&mut self.reading, name) {
-            Some(file) => file,
-            None => File::open(&self.rt, name)?,
+        let open = match take_open(&mut self.reading, name) {
+            Some(open) => open,
+            None => OpenFile::new(&self.rt, name, File::open(&self.rt, name)?),
         };
-        file.read_exact_at(into, at)?;
-        self.reading = keep_open(&self.rt, name, file);
+        open.file.read_exact_at(into, at)?;
+        self.reading = Some(open);
         Ok(())
     }
 
     fn write_open(&mut self, name: &str, at: u64, piece: &[u8]) -> io::Result<()>
         ensures frame { self.new ≡ record self.old { writing = self.new.writing } }
     {
-        let file = match take_open(&mut self.writing, name) {
-            Some(file) => file,
-            None => open_to_write(&self.rt, name)?,
+        let open = match take_open(&mut self.writing, name) {
+            Some(open) => open,
+            None => OpenFile::new(&self.rt, name, open_to_write(&self.rt, name)?),
         };
-        file.write_all_at(piece, at)?;
-        self.writing = keep_open(&self.rt, name, file);
+        open.file.write_all_at(piece, at)?;
+        self.writing = Some(open);
         Ok(())
     }
 
@@ -205,7 +227,7 @@ impl RealHost {
         ensures frame { self.new ≡ record self.old { writing = self.new.writing } }
     {
         match take_open(&mut self.writing, name) {
-            Some(file) => file.sync_all(),
+            Some(open) => open.sync(),
             None => sync_open(&self.rt, name),
         }
     }
@@ -247,6 +269,9 @@ impl Folder for RealHost {
     // A file whose mode cannot be set is still a file, so that is no fault.
     fn take_mode(&mut self, from: &str, to: &str) {
         let _ = copy_mode(&self.rt, from, to);
+        if let Some(open) = &mut self.writing {
+            open.has_new_mode = true;
+        }
     }
 
     fn len(&mut self, name: &str) -> Result<u64, Failed> {

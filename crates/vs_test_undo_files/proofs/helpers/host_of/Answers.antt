@@ -1,5 +1,0 @@
-use Rattle.vs_memory.proofs.Settled.{settled}
-use Rattle.vs_test_undo_files.proofs.helpers.host_of.Goals as goal
-
-pub returns-clause-settled : goal.returns-clause-settled
-returns-clause-settled c = settled c.loop-file.host.base c.loop-file.host.log c.loop-file.invariant.log
