@@ -4,42 +4,43 @@ ghost use Rattle.vs_edit.specs.Texts.{AreSound};
 
 use crate::desk::{TextDesk, store_of};
 use crate::fixture::{NEW, OLD, names_of, options, write_to};
-use crate::watched::{PRIVATE, USUAL, Watched};
+use crate::watched::{PRIVATE, Seen, USUAL, watched};
 use std::alloc::Global;
 use std::process::Abort;
 use std::test::Fail;
 use vs_backup::CopyMode;
 use vs_memory::MemHost;
+use vs_test_hosts::Watched;
 use vs_ubind::store;
 
 // The mode bits of the file that is written over.
 const OLD_MODE: u32 = 0o640;
 
 // A folder without files.
-fn desk(alloc: Global) -> Result<TextDesk<Watched>, Fail>
+fn desk(alloc: Global) -> Result<TextDesk<Watched<Seen>>, Fail>
     ensures { IfOk result (λ desk. AreSound desk.text) }
 {
     let text = store_of(alloc, NEW)?;
-    let folder = Watched::new(alloc, MemHost::new(alloc, Vec::new(alloc))?);
+    let folder = watched(alloc, MemHost::new(alloc, Vec::new(alloc))?);
     Ok(TextDesk { folder, text })
 }
 
 // A folder with a file.
-fn desk_over(alloc: Global) -> Result<TextDesk<Watched>, Fail>
+fn desk_over(alloc: Global) -> Result<TextDesk<Watched<Seen>>, Fail>
     ensures { IfOk result (λ desk. AreSound desk.text) }
 {
     let text = store_of(alloc, NEW)?;
     let mut inner = MemHost::new(alloc, Vec::new(alloc))?;
     inner.put(alloc, "f", Vec::from_slice(alloc, OLD)?)?;
-    let mut folder = Watched::new(alloc, inner);
-    folder.note("f", OLD_MODE);
+    let mut folder = watched(alloc, inner);
+    folder.watch.note("f", OLD_MODE);
     Ok(TextDesk { folder, text })
 }
 
 // Whether files got these mode bits, in this order.
-fn has_modes(folder: &Watched, expected: &[(&str, u32)]) -> bool {
-    folder.modes.len() == expected.len()
-        && folder
+fn has_modes(seen: &Seen, expected: &[(&str, u32)]) -> bool {
+    seen.modes.len() == expected.len()
+        && seen
             .modes
             .iter()
             .zip(expected.iter())
@@ -49,14 +50,14 @@ fn has_modes(folder: &Watched, expected: &[(&str, u32)]) -> bool {
 // Whether a write with a backup succeeds, and files get these mode bits.
 fn gives_modes(
     alloc: Global,
-    desk: &mut TextDesk<Watched>,
+    desk: &mut TextDesk<Watched<Seen>>,
     copy: CopyMode,
     expected: &[(&str, u32)],
 ) -> Result<bool, Fail>
     requires { AreSound desk.old.text }
 {
     let answer = write_to(alloc, desk, "f", &options(true, true, copy))?;
-    Ok(answer == Ok(4) && has_modes(&desk.folder, expected))
+    Ok(answer == Ok(4) && has_modes(&desk.folder.watch, expected))
 }
 
 const COPIED: [(&str, u32); 4] = [
@@ -106,6 +107,6 @@ fn an_undo_file_has_the_mode_of_its_text_file(rt: HostRuntime) -> Result<(), Fai
     let mut folder = desk_over(alloc)?.folder;
     let names = names_of(alloc, "f")?;
     assert!(rt; store(&mut folder, &names, NEW).is_ok());
-    assert!(rt; has_modes(&folder, &FILED));
+    assert!(rt; has_modes(&folder.watch, &FILED));
     Ok(())
 }

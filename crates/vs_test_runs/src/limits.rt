@@ -5,6 +5,7 @@ use crate::pieces::Pieces;
 use std::alloc::Global;
 use std::process::Abort;
 use std::test::Fail;
+use vs_test_hosts::Watched;
 
 const LONGEST: usize = 1_048_576;
 
@@ -63,9 +64,9 @@ fn script_with(alloc: Global, size: usize) -> Result<Vec<u8>, Fail> {
 fn is_answered(alloc: Global, size: usize, output: &[u8]) -> Result<bool, Fail> {
     let script = script_with(alloc, size)?;
     let inner = host_with(alloc, Some(b"a\n"), script.as_slice())?;
-    let mut host = Pieces {
+    let mut host = Watched {
         inner,
-        size: 65_536,
+        watch: Pieces { size: 65_536 },
     };
     let report = edit_f(alloc, &mut host)?;
     Ok(host.inner.output() == output && report.marks.len() == 2)

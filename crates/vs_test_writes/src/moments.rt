@@ -1,11 +1,12 @@
 // What each image has under the name of a backup, from one call of a write to another.
 use crate::helpers::{NEW, OLD, choices_of, edit_f, host_of};
-use crate::watched::Watched;
+use crate::watched::{Calls, watched};
 use std::alloc::Global;
 use std::ops::Range;
 use std::process::Abort;
 use std::test::Fail;
 use vs_memory::{Choice, MemHost};
+use vs_test_hosts::Watched;
 
 const OLDER: &[u8] = b"older\n";
 
@@ -37,8 +38,13 @@ const TAKEN: Before<'static> = Before {
 };
 
 // The host after a run in which each call after `stop` fails.
-fn stopped(alloc: Global, before: &Before<'_>, script: &[u8], stop: u64) -> Result<Watched, Fail> {
-    let mut host = Watched::new(host_of(alloc, before.files, script)?, before.backup);
+fn stopped(
+    alloc: Global,
+    before: &Before<'_>,
+    script: &[u8],
+    stop: u64,
+) -> Result<Watched<Calls>, Fail> {
+    let mut host = watched(host_of(alloc, before.files, script)?, before.backup);
     host.inner.stop_after(stop);
     edit_f(alloc, &mut host)?;
     Ok(host)
@@ -69,10 +75,10 @@ fn has_rename(choice: &Choice, image: &MemHost) -> bool {
 }
 
 // An image that has the rename of the file, in which the backup has not its bytes.
-fn find_lost(alloc: Global, host: &Watched) -> Result<Option<Choice>, Fail> {
+fn find_lost(alloc: Global, host: &Watched<Calls>) -> Result<Option<Choice>, Fail> {
     for choice in &choices_of(alloc)? {
         let image = host.inner.image(alloc, choice, Vec::new(alloc))?;
-        if has_rename(choice, &image) && image.file(host.backup) != Some(OLD) {
+        if has_rename(choice, &image) && image.file(host.watch.backup) != Some(OLD) {
             return Ok(Some(*choice));
         }
     }
@@ -99,8 +105,8 @@ fn a_renamed_file_stays_until_it_is_removed(rt: HostRuntime) -> Result<(), Fail>
     let alloc = rt.alloc();
     for before in [FREE, TAKEN] {
         let whole = stopped(alloc, &before, RENAMING, u64::MAX)?;
-        assert!(rt; 0 < whole.renamed && whole.renamed < whole.removed);
-        let lost = find_loss(alloc, &before, whole.renamed..whole.removed)?;
+        assert!(rt; 0 < whole.watch.renamed && whole.watch.renamed < whole.watch.removed);
+        let lost = find_loss(alloc, &before, whole.watch.renamed..whole.watch.removed)?;
         assert!(rt; lost.is_none(), "{lost:?}");
     }
     Ok(())
@@ -129,8 +135,8 @@ fn a_copy_stays_while_the_file_is_overwritten(rt: HostRuntime) -> Result<(), Fai
     let alloc = rt.alloc();
     for before in [FREE, TAKEN] {
         let whole = stopped(alloc, &before, COPYING, u64::MAX)?;
-        assert!(rt; 0 < whole.cut && whole.cut < whole.removed);
-        let stops = whole.cut - 1..whole.removed;
+        assert!(rt; 0 < whole.watch.cut && whole.watch.cut < whole.watch.removed);
+        let stops = whole.watch.cut - 1..whole.watch.removed;
         let lost = find_change(alloc, &before, COPYING, stops, &[(before.backup, OLD)])?;
         assert!(rt; lost.is_none(), "{lost:?}");
     }

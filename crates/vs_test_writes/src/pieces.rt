@@ -1,9 +1,10 @@
 // A long file is read and written in pieces.
 use crate::helpers::{edit_f, host_of};
-use crate::watched::Watched;
+use crate::watched::{Calls, watched};
 use std::alloc::Global;
 use std::process::Abort;
 use std::test::Fail;
+use vs_test_hosts::Watched;
 
 // 100,000 lines of forty bytes and their ends.
 fn many_lines(alloc: Global) -> Result<Vec<u8>, Fail> {
@@ -17,16 +18,16 @@ fn many_lines(alloc: Global) -> Result<Vec<u8>, Fail> {
 }
 
 // The host after a run over this text.
-fn after_run(alloc: Global, text: &[u8], script: &[u8]) -> Result<Watched, Fail> {
+fn after_run(alloc: Global, text: &[u8], script: &[u8]) -> Result<Watched<Calls>, Fail> {
     let inner = host_of(alloc, &[("f", text)], script)?;
-    let mut host = Watched::new(inner, "f~");
+    let mut host = watched(inner, "f~");
     edit_f(alloc, &mut host)?;
     Ok(host)
 }
 
 // Whether a run came to its end with this output, left this text in the file, and no call on a file asked for more than 65,536 bytes.
-fn is_in_pieces(host: &Watched, output: &[u8], text: &[u8]) -> bool {
-    host.inner.output() == output && host.inner.file("f") == Some(text) && host.most <= 65_536
+fn is_in_pieces(host: &Watched<Calls>, output: &[u8], text: &[u8]) -> bool {
+    host.inner.output() == output && host.inner.file("f") == Some(text) && host.watch.most <= 65_536
 }
 
 #[test]
@@ -35,9 +36,9 @@ fn a_renamed_file_takes_no_call_of_more_than_65536_bytes(rt: HostRuntime) -> Res
     let host = after_run(rt.alloc(), &text, b"set bkc=no\nw\nq\n")?;
     let output = b"\"f\" 100000L, 4100000B\nbackupcopy=no\n\"f\" 100000L, 4100000B written\nquit\n";
     assert!(rt;
-        0 < host.renamed && is_in_pieces(&host, output, &text),
+        0 < host.watch.renamed && is_in_pieces(&host, output, &text),
         "{} bytes",
-        host.most
+        host.watch.most
     );
     Ok(())
 }
@@ -49,9 +50,9 @@ fn a_copied_file_takes_no_call_of_more_than_65536_bytes(rt: HostRuntime) -> Resu
     let output =
         b"\"f\" 100000L, 4100000B\nbackupcopy=yes\n\"f\" 100000L, 4100000B written\nquit\n";
     assert!(rt;
-        0 < host.cut && is_in_pieces(&host, output, &text),
+        0 < host.watch.cut && is_in_pieces(&host, output, &text),
         "{} bytes",
-        host.most
+        host.watch.most
     );
     Ok(())
 }
