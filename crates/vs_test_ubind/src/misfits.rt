@@ -1,104 +1,35 @@
 // Trees that are tried over their own text and over others.
-ghost use Rattle.std.specs.Prelude.{IfOk};
-ghost use Rattle.vs_edit.specs.Texts.{AreSound};
-ghost use Rattle.vs_undo.specs.Moves.{IsReady};
-
+use crate::histories::{Step, editor_after};
 use std::alloc::{AllocError, Global};
 use std::process::Abort;
 use std::test::Fail;
-use vs_edit::{LineStore, VecStore, allows_splice};
 use vs_entries::Entry;
 use vs_outward::first_misfit;
-use vs_text::{Line, Text, from_stored, read_text};
-use vs_undo::{UndoTree, change};
-
-#[derive(Drop)]
-struct Editor<S> {
-    tree: UndoTree,
-    text: S,
-}
-
-fn store_of(alloc: Global, bytes: &[u8]) -> Result<VecStore, Fail>
-    ensures { IfOk result AreSound }
-{
-    let text = read_text(alloc, bytes).ok().ok_or("it is a text")?;
-    let mut store = VecStore::new(alloc)?;
-    if !allows_splice(&store, 0, 0, text.lines()) {
-        return Err(Fail::new("there is no room for the text"));
-    }
-    match store.splice(alloc, 0, 0, text.lines()) {
-        Ok(()) => Ok(store),
-        Err(_) => Err(Fail::new("there is no memory for the text")),
-    }
-}
-
-// A history of one state, which is the text of the store.
-fn begin<S: LineStore + Drop>(alloc: Global, text: S) -> Result<Editor<S>, AllocError>
-    requires { S.valid text }
-    ensures { IfOk result (λ editor. IsReady S.LineStore editor.tree editor.text) }
-{
-    let mut text = text;
-    text.commit();
-    let tree = UndoTree::new(alloc)?;
-    Ok(Editor { tree, text })
-}
-
-// Puts a line behind the last one.
-fn append<S: LineStore>(alloc: Global, editor: &mut Editor<S>, line: &[u8]) -> Result<(), Fail>
-    requires { IsReady S.LineStore editor.old.tree editor.old.text }
-    ensures { IsReady S.LineStore editor.new.tree editor.new.text }
-{
-    let new = read_text(alloc, line).ok().ok_or("it is a line")?;
-    let top = editor.text.len();
-    if !allows_splice(&editor.text, top, 0, new.lines()) {
-        return Err(Fail::new("there is no room for the line"));
-    }
-    let changed = change(
-        alloc,
-        &mut editor.tree,
-        &mut editor.text,
-        top,
-        0,
-        new.lines(),
-        7,
-    );
-    changed.ok().ok_or("there is memory for the change")?;
-    Ok(())
-}
-
-fn go_to<S: LineStore>(alloc: Global, editor: &mut Editor<S>, number: u64) -> Result<(), Fail>
-    requires { IsReady S.LineStore editor.old.tree editor.old.text }
-    ensures { IsReady S.LineStore editor.new.tree editor.new.text }
-{
-    let moved = editor.tree.goto(alloc, &mut editor.text, number);
-    moved.ok().ok_or("the state is kept")?;
-    Ok(())
-}
+use vs_text::{Line, Text, from_stored};
+use vs_undo::UndoTree;
 
 // The least change that does not fit the text of a file.
 fn misfit_over(alloc: Global, tree: &UndoTree, bytes: &[u8]) -> Result<Option<u64>, Fail> {
-    let mut other = begin(alloc, store_of(alloc, bytes)?)?;
+    let mut other = editor_after(alloc, bytes, &[])?;
     let found = first_misfit(alloc, tree.parts(), &mut other.text);
     Ok(found.ok().ok_or("there is memory for the search")?)
 }
 
 // Changes 1 and 2 put lines behind line 2, one after the other; change 3 does so beside them, and 4 after 3. The text is that of
 // state 0.
-fn two_branches(alloc: Global) -> Result<UndoTree, Fail> {
-    let mut editor = begin(alloc, store_of(alloc, b"a\nb\n")?)?;
-    append(alloc, &mut editor, b"c\n")?;
-    append(alloc, &mut editor, b"d\n")?;
-    go_to(alloc, &mut editor, 0)?;
-    append(alloc, &mut editor, b"e\n")?;
-    append(alloc, &mut editor, b"f\n")?;
-    go_to(alloc, &mut editor, 0)?;
-    Ok(editor.tree)
-}
+const TWO_BRANCHES: [Step; 6] = [
+    Step::Append(b"c\n", 7),
+    Step::Append(b"d\n", 7),
+    Step::GoTo(0),
+    Step::Append(b"e\n", 7),
+    Step::Append(b"f\n", 7),
+    Step::GoTo(0),
+];
 
 #[test]
 fn a_tree_fits_its_text_and_not_a_shorter_one(rt: HostRuntime) -> Result<(), Fail> {
     let alloc = rt.alloc();
-    let tree = two_branches(alloc)?;
+    let tree = editor_after(alloc, b"a\nb\n", &TWO_BRANCHES)?.tree;
     assert!(rt; misfit_over(alloc, &tree, b"a\nb\n")? == None);
     assert!(rt; misfit_over(alloc, &tree, b"a\n")? == Some(1));
     Ok(())
