@@ -8,10 +8,9 @@ ghost use Rattle.vs_undo.specs.Numbers.{numbers};
 ghost use Rattle.vs_undo.specs.Sound.{child_of};
 ghost use Rattle.vs_ubind.specs.Passing.{alt_next_of, alt_prev_of, is_other, AreFirst, AreLast};
 
-use crate::linking::child_of;
 use std::alloc::{AllocError, Global};
 use std::collections::BTreeMap;
-use vs_undo::{Node, Parts};
+use vs_undo::{Node, Parts, last_child};
 
 // Passes a change: the child last used is not kept.
 fn pass(parts: &Parts, passed: &mut BTreeMap<u64, u64>, node: &Node) -> Result<(), AllocError>
@@ -19,7 +18,7 @@ fn pass(parts: &Parts, passed: &mut BTreeMap<u64, u64>, node: &Node) -> Result<(
     ensures { OnOk result ((state none : ℕ) → unwrap_or (get nat_cmp passed.new state) none
         ≡ (if is_other parts.now state node.now then node.now.number else unwrap_or (get nat_cmp passed.old state) none)) }
 {
-    if node.number == child_of(parts, node.parent) {
+    if node.number == last_child(parts, node.parent) {
         return Ok(());
     }
     passed.insert(node.parent, node.number)?;
@@ -56,7 +55,7 @@ fn alt_next_of(
     ensures { result ≡ (if node.now.number == child_of parts.now node.now.parent then unwrap_or (get nat_cmp greatest.now node.now.parent) 0
         else unwrap_or (get nat_cmp passed.now node.now.parent) 0) }
 {
-    if node.number == child_of(parts, node.parent) {
+    if node.number == last_child(parts, node.parent) {
         passed_of(greatest, node.parent, 0)
     } else {
         passed_of(passed, node.parent, 0)
@@ -69,7 +68,7 @@ fn alt_prev_of(parts: &Parts, passed: &BTreeMap<u64, u64>, node: &Node) -> u64
     ensures { result ≡ (if node.now.number == child_of parts.now node.now.parent then 0
         else unwrap_or (get nat_cmp passed.now node.now.parent) (child_of parts.now node.now.parent)) }
 {
-    let first = child_of(parts, node.parent);
+    let first = last_child(parts, node.parent);
     if node.number == first {
         0
     } else {

@@ -11,12 +11,12 @@ ghost use Rattle.vs_ubind.specs.Passing.{alt_next_of, alt_prev_of};
 ghost use Rattle.vs_ubind.specs.Unbound.{filed, filed_entry, flag_of, last_save_of, save_of, saved_change, with_next};
 
 use crate::chaining::{alt_nexts, alt_prevs};
-use crate::linking::{child_of, newest_of, time_of};
+use crate::linking::{newest_of, time_of};
 use std::alloc::{AllocError, Global};
 use vs_entries::Entry;
 use vs_text::Line;
 use vs_ufile::{FileChange, FileEntry, FileHistory};
-use vs_undo::{MAX_SAVE, Node, Parts};
+use vs_undo::{MAX_SAVE, Node, Parts, last_child};
 
 /// A number in the four bytes that a file has for it, where those of a tree at its text have room.
 pub(crate) fn narrow(number: u64) -> Result<u32, AllocError>
@@ -175,7 +175,7 @@ pub(crate) fn file_tree(
         lines,
         oldest: narrow(parts.root_child)?,
         newest: narrow(newest_of(parts))?,
-        current_head: narrow(child_of(parts, parts.current))?,
+        current_head: narrow(last_child(parts, parts.current))?,
         heads: narrow(changes.len() as u64)?,
         last: narrow(parts.last)?,
         current: narrow(parts.current)?,

@@ -22,7 +22,7 @@ pub use error::UndoErr;
 pub use leaves::Leaf;
 pub use parts::{Entries, Node, Nodes, Parts};
 pub use tree::UndoTree;
-pub use way::{find, path_between, way_of};
+pub use way::{find, last_child, path_between, way_of};
 
 /// The greatest number that a new change gets.
 pub const MAX_NUMBER: u64 = 2_000_000_000;

@@ -50,7 +50,7 @@ pub(crate) fn parent(nodes: &[Node], number: u64) -> Option<u64>
 }
 
 /// The child last used of a state, or 0.
-pub(crate) fn last_child(parts: &Parts, number: u64) -> u64
+pub fn last_child(parts: &Parts, number: u64) -> u64
     requires { IsStrictlyIncreasing (numbers parts.now.nodes) }
     ensures { result ≡ child_of parts.now number }
 {

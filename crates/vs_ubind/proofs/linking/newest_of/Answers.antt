@@ -10,5 +10,5 @@ used-preserved c =
     let most = length parts.nodes - (c.used._passed + 1) in
     let count : length c.nodes-count.result.now ≡ length parts.nodes = ap length c.nodes-count.ensures in
     let left : length parts.nodes - c.used._passed ≡ suc most = omega (arith, count, c.used-test.true) in
-    let other : (c.child_of-child.result == 0) ≡ false = let not = c.if-child-eq0.false in grind (arith, nat_tests) in
-    sym (used_on most parts c.used.at c.child_of-child.result c.child_of-child.ensures other) ∙ (ap (λ n. used_within n parts c.used.at) (sym left) ∙ c.used.invariant)
+    let other : (c.last_child-child.result == 0) ≡ false = let not = c.if-child-eq0.false in grind (arith, nat_tests) in
+    sym (used_on most parts c.used.at c.last_child-child.result c.last_child-child.ensures other) ∙ (ap (λ n. used_within n parts c.used.at) (sym left) ∙ c.used.invariant)
