@@ -10,18 +10,7 @@ use std::process::Abort;
 use std::test::Fail;
 use vs_backup::CopyMode;
 use vs_memory::MemHost;
-use vs_test_hosts::Watched;
-
-// 100,000 lines of forty bytes and their ends.
-fn many_lines(alloc: Global) -> Result<Vec<u8>, Fail> {
-    let mut bytes = vec![in alloc; b'a'; 4_100_000]?;
-    for line in bytes.chunks_mut(41) {
-        if let Some(last) = line.last_mut() {
-            *last = b'\n';
-        }
-    }
-    Ok(bytes)
-}
+use vs_test_hosts::{Watched, many_lines};
 
 // A folder with this file, over which the same text is written.
 fn desk_over(alloc: Global, bytes: &[u8]) -> Result<TextDesk<Watched<Seen>>, Fail>

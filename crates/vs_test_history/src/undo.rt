@@ -27,14 +27,15 @@ enum Step {
     Write,
 }
 
+/// A tree over its text.
 #[derive(Drop)]
-struct Editor<S> {
-    tree: UndoTree,
-    text: S,
+pub struct Editor<S> {
+    pub tree: UndoTree,
+    pub text: S,
 }
 
-// A history of one state, which is the text of the store.
-fn begin<S: LineStore + Drop>(alloc: Global, text: S) -> Result<Editor<S>, AllocError>
+/// A history of one state, which is the text of the store.
+pub(crate) fn begin<S: LineStore + Drop>(alloc: Global, text: S) -> Result<Editor<S>, AllocError>
     requires { S.valid text }
     ensures { IfOk result (λ editor. IsReady S.LineStore editor.tree editor.text) }
 {

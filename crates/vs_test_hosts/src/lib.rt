@@ -1,6 +1,8 @@
-//! A host in memory whose calls are watched, which tests of several crates share.
+//! A host in memory whose calls are watched, and a long text, which tests of several crates share.
 #![tactic(auto)]
 
+mod lines;
 mod watched;
 
+pub use lines::many_lines;
 pub use watched::{Watch, Watched};

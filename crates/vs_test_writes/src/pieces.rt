@@ -4,18 +4,7 @@ use crate::watched::{Calls, watched};
 use std::alloc::Global;
 use std::process::Abort;
 use std::test::Fail;
-use vs_test_hosts::Watched;
-
-// 100,000 lines of forty bytes and their ends.
-fn many_lines(alloc: Global) -> Result<Vec<u8>, Fail> {
-    let mut bytes = vec![in alloc; b'a'; 4_100_000]?;
-    for line in bytes.chunks_mut(41) {
-        if let Some(last) = line.last_mut() {
-            *last = b'\n';
-        }
-    }
-    Ok(bytes)
-}
+use vs_test_hosts::{Watched, many_lines};
 
 // The host after a run over this text.
 fn after_run(alloc: Global, text: &[u8], script: &[u8]) -> Result<Watched<Calls>, Fail> {

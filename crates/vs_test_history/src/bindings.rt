@@ -4,8 +4,9 @@ ghost use Rattle.vs_undo.specs.Moves.{IsReady};
 ghost use Rattle.vs_ufile.specs.Decode.{KeepsRules};
 ghost use Rattle.vs_ufile.specs.Values.{history_of};
 
-use crate::histories::{Editor, Step, editor_after, file_of, go_to};
+use crate::histories::{Step, editor_after, file_of, go_to};
 use crate::trees::{CHANGES, branches_file, put, read};
+use crate::undo::Editor;
 use std::alloc::Global;
 use std::process::Abort;
 use std::test::Fail;

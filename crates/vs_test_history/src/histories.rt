@@ -5,31 +5,15 @@ ghost use Rattle.vs_ufile.specs.Decode.{IsWellFormed};
 ghost use Rattle.vs_ufile.specs.Values.{history_of};
 
 use crate::digests::{EMPTY, store_of};
-use std::alloc::{AllocError, Global};
+use crate::undo::{Editor, begin};
+use std::alloc::Global;
 use std::process::Abort;
 use std::test::Fail;
 use vs_edit::{LineStore, VecStore, allows_splice};
 use vs_text::read_text;
 use vs_ubind::unbind;
 use vs_ufile::{FileHistory, encode};
-use vs_undo::{UndoTree, change};
-
-#[derive(Drop)]
-pub struct Editor<S> {
-    pub tree: UndoTree,
-    pub text: S,
-}
-
-// A history of one state, which is the text of the store.
-fn begin<S: LineStore + Drop>(alloc: Global, text: S) -> Result<Editor<S>, AllocError>
-    requires { S.valid text }
-    ensures { IfOk result (λ editor. IsReady S.LineStore editor.tree editor.text) }
-{
-    let mut text = text;
-    text.commit();
-    let tree = UndoTree::new(alloc)?;
-    Ok(Editor { tree, text })
-}
+use vs_undo::change;
 
 // Puts a line after the last one, at a time.
 fn append<S: LineStore>(
