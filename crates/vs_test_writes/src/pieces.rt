@@ -14,9 +14,9 @@ fn after_run(alloc: Global, text: &[u8], script: &[u8]) -> Result<Watched<Calls>
     Ok(host)
 }
 
-// Whether a run came to its end with this output, left this text in the file, and no call on a file asked for more than 65,536 bytes.
+// Whether a run came to its end with this output, left this text in the file, and the calls on files asked for 65,536 bytes at the most.
 fn is_in_pieces(host: &Watched<Calls>, output: &[u8], text: &[u8]) -> bool {
-    host.inner.output() == output && host.inner.file("f") == Some(text) && host.watch.most <= 65_536
+    host.inner.output() == output && host.inner.file("f") == Some(text) && host.watch.most == 65_536
 }
 
 #[test]
