@@ -5,13 +5,13 @@ use Rattle.vs_host.specs.Disk.{Disk}
 use Rattle.vs_host.specs.declared.names.Names.{Names}
 use Rattle.vs_host.specs.World.{Tells, Scene}
 use Rattle.vs_pair.specs.Acts.{Acts}
-use Rattle.vs_disk.specs.Runs.{NoneFails as FolderQuiet}
+use Rattle.vs_disk.specs.Runs.{NoneFails}
 use Rattle.vs_pair.specs.Steps.{IsFresh}
 use Rattle.vs_modes.specs.declared.error.ModeErr.{ModeErr}
 use Rattle.vs_modes.specs.declared.error.ModeErr.TheVariants as refusal
 use Rattle.vs_modes.specs.Discard.{Discards, RefusesDiscard, HasDiscarded, RunsDiscard, discard_line, is_any_there}
 use Rattle.vs_modes.specs.Modes.{Ended}
-use Rattle.vs_modes.specs.Output.{WritesPart, Outputs, NoneFails}
+use Rattle.vs_modes.specs.Output.{WritesPart, Outputs, NoWriteFails}
 use Rattle.vs_modes.proofs.Phases.{acts_proceed, mode_refused, mode_idle, mode_written}
 use Rattle.vs_modes.proofs.Removing.{discards_none}
 
@@ -33,8 +33,8 @@ module _ (tells : Tells) (names : Names) where
   has_discarded old new (Ok done) failed fresh = fresh
   has_discarded old new (Err why) failed fresh = subst (λ (e : ModeErr). HasDiscarded names tells (Err e) old new) (sym failed) fresh
 
-  pub discard_written : (old mid new : Scene) (found : Bool) (bytes : List ℕ) (result : Ended) → (IsTrue tells.folder → found ≡ is_any_there names old) → bytes ≡ discard_line found → Acts tells (Discards names) old mid → FolderQuiet tells old mid
-      → (IsTrue tells.folder → IsFresh names mid.folder) → Outputs tells mid new → HasCause mid.out_faults new.out_faults (IsErr result) → OnOk result (NoneFails tells mid new) → IfErr result (λ why. why ≡ refusal.OutputFailed)
+  pub discard_written : (old mid new : Scene) (found : Bool) (bytes : List ℕ) (result : Ended) → (IsTrue tells.folder → found ≡ is_any_there names old) → bytes ≡ discard_line found → Acts tells (Discards names) old mid → NoneFails tells old mid
+      → (IsTrue tells.folder → IsFresh names mid.folder) → Outputs tells mid new → HasCause mid.out_faults new.out_faults (IsErr result) → OnOk result (NoWriteFails tells mid new) → IfErr result (λ why. why ≡ refusal.OutputFailed)
       → OnOk result (IsTrue tells.output → new.output ≡ mid.output ++ bytes) → OnErr result (IsTrue tells.output → WritesPart bytes mid.output new.output) → RunsDiscard tells names old new result
   discard_written old mid new found bytes result value is acts quiet fresh outputs cause none failed ok err = record {
     runs = mode_written (Discards names) (λ bs. bs ≡ discard_line (is_any_there names old)) RefusesDiscard tells old mid new bytes result (λ told. is ∙ ap discard_line (value told)) acts.frame quiet.faults

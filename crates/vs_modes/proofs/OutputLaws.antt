@@ -9,7 +9,7 @@ use Rattle.vs_disk.specs.Runs.{Quiet}
 use Rattle.vs_disk.proofs.Runs.{fails_none, fails_call, quiet_none, quiet_call, goes_none, goes_then, goes_weaker}
 use Rattle.vs_disk.proofs.Quiet.{last_then}
 use Rattle.vs_modes.specs.Moments.{Proceeds, IsSame}
-use Rattle.vs_modes.specs.Output.{WritesPart, Outputs, NoneFails}
+use Rattle.vs_modes.specs.Output.{WritesPart, Outputs, NoWriteFails}
 
 -- ---- the moments
 
@@ -39,7 +39,7 @@ proceeds_then S T U old mid new weak joins quiet first second = record {
 
 -- ---- calls on the output
 
-pub none_call : (tells : Tells) (names : List Name) {T E : Type 0} (result : Result T E) (old new : Scene) → ChangesOutput old new → (IsTrue tells.folder → IsTold WroteOutput names result old new) → new.out_faults ≡ old.out_faults → NoneFails tells old new
+pub none_call : (tells : Tells) (names : List Name) {T E : Type 0} (result : Result T E) (old new : Scene) → ChangesOutput old new → (IsTrue tells.folder → IsTold WroteOutput names result old new) → new.out_faults ≡ old.out_faults → NoWriteFails tells old new
 none_call tells names result old new frame told same = record {
   faults = same;
   quiet = λ tells_it. quiet_call WroteOutput names result old old new (quiet_none old) (told tells_it) (ap (λ (s : Scene). s.script_faults) frame) same (ap (λ (s : Scene). s.folder_faults) frame);

@@ -1,18 +1,18 @@
 -- A mode from its two phases: it works on the folder, and then it writes.
-use Rattle.std.proofs.Common.{◌≡◌, ◌≢◌, ◌≤◌, ℕ, List, ◌++◌, Ok, Err, OnOk, OnErr, IfErr, IsErr, IsTrue, refl, sym, ◌∙◌, ap, subst}
+use Rattle.std.proofs.Common.{◌≡◌, ◌≢◌, ◌≤◌, ℕ, List, Result, ◌++◌, Ok, Err, OnOk, OnErr, IfErr, IsErr, IsTrue, refl, sym, ◌∙◌, ap, subst}
 use Rattle.std.specs.Result.{IsErrAnd}
 use Rattle.vs_faults.specs.Faults.{HasCause, HasRisen}
 use Rattle.vs_host.specs.Disk.{Disk}
 use Rattle.vs_host.specs.World.{Tells, Scene, ChangesFolder, ChangesOutput}
 use Rattle.vs_disk.specs.Runs.{Inside, Runs, FailsLast, Quiet}
-use Rattle.vs_disk.proofs.Runs.{goes_weaker}
+use Rattle.vs_disk.proofs.Runs.{goes_weaker, reads_change}
 use Rattle.vs_pair.specs.Acts.{Acts}
-use Rattle.vs_recover.specs.Reading.{Reads}
+use Rattle.vs_recover.specs.Reading.{ReadsAtMost}
 use Rattle.vs_modes.specs.declared.error.ModeErr.{ModeErr}
 use Rattle.vs_modes.specs.declared.error.ModeErr.TheVariants as refusal
 use Rattle.vs_modes.specs.Moments.{Proceeds, IsSame}
 use Rattle.vs_modes.specs.Modes.{Ended, LeavesAll, LeavesBy, AnswersBy, RunsMode}
-use Rattle.vs_modes.specs.Output.{WritesPart, Outputs, NoneFails}
+use Rattle.vs_modes.specs.Output.{WritesPart, Outputs, NoWriteFails}
 use Rattle.vs_modes.proofs.OutputLaws.{proceeds_none, proceeds_then}
 
 -- ---- work on the folder
@@ -23,9 +23,6 @@ runs_proceed step old new runs last = record {
   now = runs.now;
   last = last;
 }
-
-pub reads_proceed : (tells : Tells) (old new : Scene) → Reads tells old new → IsTrue tells.folder → Proceeds IsSame old new
-reads_proceed tells old new reads told = runs_proceed IsSame old new (reads.looks told) (reads.last told)
 
 pub acts_proceed : (tells : Tells) (step : Disk → Disk → Type 0) (old new : Scene) → Acts tells step old new → IsTrue tells.folder → Proceeds step old new
 acts_proceed tells step old new acts told = runs_proceed step old new (acts.runs told) (acts.last told)
@@ -89,7 +86,7 @@ module _ (step : Disk → Disk → Type 0) (Wanted : List ℕ → Type 0) (Refus
       written_frame old mid new first same second ∙ (λ i. record old { folder = new.folder; output = new.output; out_faults = none i; trace = new.trace })
 
   leaves_written : (old mid new : Scene) (result : Ended) → ChangesFolder old mid → mid.folder_faults ≡ old.folder_faults → ChangesOutput mid new → HasCause mid.out_faults new.out_faults (IsErr result)
-      → OnOk result (NoneFails tells mid new) → IfErr result (λ why. why ≡ refusal.OutputFailed) → LeavesBy result old new
+      → OnOk result (NoWriteFails tells mid new) → IfErr result (λ why. why ≡ refusal.OutputFailed) → LeavesBy result old new
   leaves_written old mid new (Ok done) first same second cause none failed = all_frame old mid new first same second none.faults
   leaves_written old mid new (Err why) first same second cause none failed =
       subst (λ (e : ModeErr). LeavesBy (Err e) old new) (sym failed)
@@ -103,7 +100,7 @@ module _ (step : Disk → Disk → Type 0) (Wanted : List ℕ → Type 0) (Refus
       (bytes, wanted, λ told. subst (λ (out : List ℕ). WritesPart bytes out new.output) same (err told))
 
   pub mode_written : (old mid new : Scene) (bytes : List ℕ) (result : Ended) → (IsTrue tells.folder → Wanted bytes) → ChangesFolder old mid → mid.folder_faults ≡ old.folder_faults
-      → (IsTrue tells.folder → Quiet old mid) → (IsTrue tells.folder → Proceeds step old mid) → Outputs tells mid new → HasCause mid.out_faults new.out_faults (IsErr result) → OnOk result (NoneFails tells mid new)
+      → (IsTrue tells.folder → Quiet old mid) → (IsTrue tells.folder → Proceeds step old mid) → Outputs tells mid new → HasCause mid.out_faults new.out_faults (IsErr result) → OnOk result (NoWriteFails tells mid new)
       → IfErr result (λ why. why ≡ refusal.OutputFailed) → OnOk result (IsTrue tells.output → new.output ≡ mid.output ++ bytes) → OnErr result (IsTrue tells.output → WritesPart bytes mid.output new.output)
       → RunsMode step Wanted Refused tells old new result
   mode_written old mid new bytes result wanted frame same quiet proceeds outputs cause none failed ok err = record {
@@ -111,3 +108,20 @@ module _ (step : Disk → Disk → Type 0) (Wanted : List ℕ → Type 0) (Refus
     proceeds = λ told. proceeds_then step IsSame step old mid new (λ d s. s) (λ d still. subst (λ (e : Disk). step old.folder e) (sym still) (proceeds told).now) (quiet told) (proceeds told) (outputs.proceeds told);
     answer = λ told. answers_written old mid new bytes result (wanted told) (ap (λ (s : Scene). s.output) frame) ok err failed;
   }
+
+-- ---- a mode that only reads before it writes
+
+module _ (Wanted : List ℕ → Type 0) (Refused : ModeErr → Type 0) (tells : Tells) where
+  reads_proceed : {T E : Type 0} {result : Result T E} {failed : E} {most : ℕ} (old new : Scene) → ReadsAtMost tells result failed old new most → IsTrue tells.folder → Proceeds IsSame old new
+  reads_proceed old new reads told = runs_proceed IsSame old new (reads.looks told) (reads.last told)
+
+  pub reading_refused : {T : Type 0} {most : ℕ} (old new : Scene) (why : ModeErr) → why ≢ refusal.OutputFailed → ReadsAtMost tells {T = T} {E = ModeErr} (Err why) refusal.FolderFailed old new most
+      → (IsTrue tells.folder → Refused why) → RunsMode IsSame Wanted Refused tells old new (Err why)
+  reading_refused old new why other reads refused =
+      mode_refused IsSame Wanted Refused tells old new why other (λ is. reads.cause.risen (ap (λ (e : ModeErr). Err e) is)) (λ not. (reads.none not).faults) reads.cause.later (reads_change old new reads.frame) (reads_proceed old new reads) refused
+
+  pub reading_written : {T E : Type 0} {x : T} {failed : E} {most : ℕ} (old mid new : Scene) (bytes : List ℕ) (result : Ended) → (IsTrue tells.folder → Wanted bytes) → ReadsAtMost tells {T = T} {E = E} (Ok x) failed old mid most
+      → Outputs tells mid new → HasCause mid.out_faults new.out_faults (IsErr result) → OnOk result (NoWriteFails tells mid new) → IfErr result (λ why. why ≡ refusal.OutputFailed)
+      → OnOk result (IsTrue tells.output → new.output ≡ mid.output ++ bytes) → OnErr result (IsTrue tells.output → WritesPart bytes mid.output new.output) → RunsMode IsSame Wanted Refused tells old new result
+  reading_written old mid new bytes result wanted reads outputs cause none failed ok err =
+      mode_written IsSame Wanted Refused tells old mid new bytes result wanted (reads_change old mid reads.frame) reads.none.faults reads.none.quiet (reads_proceed old mid reads) outputs cause none failed ok err

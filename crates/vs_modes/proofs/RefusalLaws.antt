@@ -2,9 +2,12 @@
 use Rattle.std.specs.Prelude.{IsErrAnd, Vec}
 use Rattle.std.specs.declared.alloc.Global.{Global}
 use Rattle.std.proofs.Common.{◌≡◌, ◌≢◌, ◌≤◌, length, ℕ, List, Option, Result, Ok, Err, ap, refl, sym, subst, ◌∙◌}
+use Rattle.vs_host.specs.World.{Tells, Scene}
 use Rattle.vs_recover.specs.declared.error.RecErr.{RecErr}
 use Rattle.vs_recover.specs.declared.error.RecErr.TheVariants as error
 use Rattle.vs_recover.specs.Infos.{IsInfos}
+use Rattle.vs_recover.specs.Reading.{ReadsAtMost}
+use Rattle.vs_recover.proofs.ReadingLaws.{err_is, reads_as}
 use Rattle.vs_modes.specs.declared.error.ModeErr.{ModeErr}
 use Rattle.vs_modes.specs.declared.error.ModeErr.TheVariants as refusal
 use Rattle.vs_modes.specs.Info.{AreInfos, RefusesInfo}
@@ -39,15 +42,9 @@ is_failed error.NotTree is = absurd (cc)
 is_failed error.Failed is = refl
 is_failed error.NoMemory is = absurd (cc)
 
--- a refusal other than this one
-pub other_error : {T : Type 0} (result : Result T ModeErr) (why other : ModeErr) → result ≡ Err why → why ≢ other → result ≢ Err other
-other_error result why other was not is = not (cc)
-
--- a refusal that is not that of a failed call
-pub not_failed : {T : Type 0} (result : Result T RecErr) (why : RecErr) → result ≡ Err why → refusal_of why ≢ refusal.FolderFailed → result ≢ Err error.Failed
-not_failed result why was not is = let failed : why ≡ error.Failed = cc in not (ap refusal_of failed)
-
--- what holds of each refusal to recover but a failed call holds of the refusal of a mode that it became
-pub none_unless : {T U : Type 0} (P : Type 0) (found : Result T RecErr) (result : Result U ModeErr) (why : RecErr) → found ≡ Err why → IsErrAnd result (λ e. e ≡ refusal_of why) → (found ≢ Err error.Failed → P) → result ≢ Err refusal.FolderFailed → P
-none_unless P found (Ok value) why was is none not = absurd is
-none_unless P found (Err e) why was is none not = none (not_failed found why was (λ failed. not (ap (λ (w : ModeErr). Err w) (is ∙ failed))))
+-- a reading that recovery refused, with the refusal of a mode that its refusal became
+pub reads_refused : {T U : Type 0} {found : Result T RecErr} {result : Result U ModeErr} {why : RecErr} {tells : Tells} {old new : Scene} {most : ℕ} → found ≡ Err why → IsErrAnd result (λ e. e ≡ refusal_of why)
+    → ReadsAtMost tells found error.Failed old new most → ReadsAtMost tells result refusal.FolderFailed old new most
+reads_refused {result} {why} was is reads =
+    let became = err_is result is in
+    reads_as (λ failed. let same : why ≡ error.Failed = cc in became ∙ ap (λ w. Err (refusal_of w)) same) (λ failed. was ∙ ap (λ w. Err w) (is_failed why (cc))) reads

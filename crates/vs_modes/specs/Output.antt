@@ -21,7 +21,7 @@ pub record Outputs (tells : Tells) (old new : Scene) : Type 0 where
   pub later : old.out_faults ≤ new.out_faults
   pub proceeds : IsTrue tells.folder → Proceeds IsSame old new
 
--- No call on the host failed.
-pub record NoneFails (tells : Tells) (old new : Scene) : Type 0 where
+-- No write failed, and where the folder is told, no call on the host.
+pub record NoWriteFails (tells : Tells) (old new : Scene) : Type 0 where
   pub faults : new.out_faults ≡ old.out_faults
   pub quiet : IsTrue tells.folder → Quiet old new

@@ -1,10 +1,8 @@
 // `recover`: the text of the swap files, on the output.
-ghost use Rattle.std.specs.Prelude.{◌≢◌, IfOk, IfErr, IsTrue, Err, IsErrOf};
-ghost use Rattle.vs_faults.specs.Faults.{HasCause};
+ghost use Rattle.std.specs.Prelude.{◌≢◌, ◌+◌, IfOk, IfErr, IsTrue, Err};
 ghost use Rattle.vs_host.specs.Names.{is_allowed, names_of_file};
 ghost use Rattle.vs_host.specs.World.{content_of};
-ghost use Rattle.vs_disk.specs.Runs.{NoneFails};
-ghost use Rattle.vs_recover.specs.Reading.{Reads};
+ghost use Rattle.vs_recover.specs.Reading.{ReadsAtMost, blocks_at};
 ghost use Rattle.vs_swap.specs.Recovery.{Recovered};
 ghost use Rattle.vs_modes.specs.Recover.{RefusesRecover, RunsRecover};
 
@@ -18,10 +16,9 @@ use vs_recover::{Chosen, FileText, choose};
 fn read_text<F: Folder>(alloc: Global, host: &mut F, names: &Names) -> Result<FileText, ModeErr>
     ensures text { IfOk result (λ text. IsTrue F.tells.folder → Recovered (content_of (F.scene host.old) names.now.swp) (content_of (F.scene host.old) names.now.swo) text) }
     ensures refused { IfErr result (λ why. IsTrue F.tells.folder → RefusesRecover (content_of (F.scene host.old) names.now.swp) (content_of (F.scene host.old) names.now.swo) why) }
-    ensures cause { HasCause (F.scene host.old).folder_faults (F.scene host.new).folder_faults (IsErrOf result ModeErr.FolderFailed) }
     ensures output { result ≢ Err ModeErr.OutputFailed }
-    ensures reads { Reads F.tells (F.scene host.old) (F.scene host.new) }
-    ensures none { result ≢ Err ModeErr.FolderFailed → NoneFails F.tells (F.scene host.old) (F.scene host.new) }
+    ensures reading { ReadsAtMost F.tells result ModeErr.FolderFailed (F.scene host.old) (F.scene host.new)
+        (8 + blocks_at (F.scene host.old) names.now.swp + blocks_at (F.scene host.old) names.now.swo) }
 {
     match choose(alloc, host, names)? {
         Chosen::Text(text) => Ok(text),

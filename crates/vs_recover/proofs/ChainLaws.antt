@@ -1,5 +1,5 @@
 -- What each element of a list gives, put together one after the other.
-use Rattle.std.proofs.Common.{◌≡◌, ℕ, ◌+◌, ◌<◌, ◌≤◌, List, [], ◌∷◌, ◌++◌, length, get_or, drop, slice_get, map, Option, Some, None, Bool, true, false, IsTrue, sym, refl, ap, ◌∙◌, arith, append_assoc, append-nil}
+use Rattle.std.proofs.Common.{◌≡◌, ℕ, ◌+◌, ◌<◌, ◌≤◌, List, [], ◌∷◌, ◌++◌, length, get_or, drop, slice_get, Option, Some, None, Bool, true, false, IsTrue, sym, refl, ap, ◌∙◌, arith, append_assoc, append-nil}
 use Rattle.std.specs.Prelude.{nat_le, ◌&&◌}
 use Rattle.std.proofs.lemmas.List.{at_drop_more, at_drop_all}
 use Rattle.std.proofs.lemmas.List.{map-append}
@@ -102,10 +102,6 @@ pub no_clash : (used : ℕ → ℕ) (o : Option (List Entry)) → o ≡ None →
 no_clash used o none = λ next is. absurd (cc)
 
 -- ---- lines in their plain form
-
--- a block's lines after others
-pub plain_after : (o : Option (List (List ℕ))) (found old new : List (List ℕ)) → o ≡ Some found → new ≡ old ++ map plain_line found → chained (Some old) (plain o) ≡ Some new
-plain_after o found old new is so = ap (λ p. chained (Some old) (plain p)) is ∙ ap (λ ys. Some ys) (sym so)
 
 pub plain_none : (o : Option (List (List ℕ))) → o ≡ None → plain o ≡ None
 plain_none o is = ap (λ p. plain p) is

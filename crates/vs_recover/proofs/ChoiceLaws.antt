@@ -1,6 +1,6 @@
 -- What two swap files give.
 use Rattle.std.proofs.Common.{◌≡◌, ℕ, ◌<◌, ◌≤◌, List, take, Option, Some, None, Result, Ok, Err, Bool, true, false, is_some, sym, refl, ap, subst, ◌∙◌, inl, inr, arith}
-use Rattle.std.specs.Prelude.{◌-◌, ◌/◌, IsSomeAnd, if◌then◌else◌, length, nat_eq, nat_lt}
+use Rattle.std.specs.Prelude.{IsSomeAnd, if◌then◌else◌, length, nat_eq, nat_lt}
 use Rattle.std.proofs.lemmas.Bool.Decides.{nat_tests}
 use Rattle.vs_zero.specs.declared.Zero.{Zero}
 use Rattle.vs_zero.specs.declared.ZeroErr.{ZeroErr}
@@ -18,7 +18,7 @@ use Rattle.vs_recover.specs.Faults.{error_of, IsFault}
 use Rattle.vs_recover.specs.declared.error.RecErr.{RecErr}
 use Rattle.vs_zero.specs.declared.ZeroErr.TheVariants as refusal
 use Rattle.vs_recover.specs.declared.image.Image.TheVariants.{Standing, Open, Closed, Encrypted, NoSwapFile}
-use Rattle.vs_host.specs.World.{Tells, Scene, ReadsFolder, content_of}
+use Rattle.vs_host.specs.World.{Tells, Scene, content_of}
 use Rattle.std.specs.Prelude.{IsTrue}
 use Rattle.vs_recover.specs.Images.{StandsNot}
 use Rattle.std.specs.Prelude.{codes, ◌++◌, ◌∷◌, []}
@@ -26,7 +26,7 @@ use Rattle.vs_recover.specs.declared.image.Image.{Image}
 use Rattle.vs_recover.specs.Images.{IsImage, refused_image}
 use Rattle.vs_recover.specs.Infos.{IsInfo, image_words}
 use Rattle.vs_recover.specs.Choices.{Recovers, NoneStands, StandsNowhere, StandsInTurn, IsFound, IsGeneration, IsOpening, IsStanding, IsRefusal, generation_at, generation_of, generation_said, is_newer, root_chosen, root_in, root_reads, root_of, text_of}
-use Rattle.vs_recover.specs.Reading.{IsThere, blocks_of}
+use Rattle.vs_recover.specs.Reading.{IsThere}
 
 -- a file whose page 0 does not read does not stand
 pub refused_not : (file : List ℕ) (why : ZeroErr) → reading_of (take 4096 file) ≡ Err why → StandsNot file
@@ -65,13 +65,6 @@ pub in_turn_second : (first second : Option (List ℕ)) (absent found : Option (
 in_turn_second first second absent None none nowhere is = (subst (λ f. IsStanding first f) none nowhere, is)
 in_turn_second first second absent (Some text) none nowhere is = inr (subst (λ f. IsStanding first f) none nowhere, is)
 
--- what is said of a file is said of it after a call that only reads
-pub standing_was : (tells : Tells) (old new : Scene) (name : List ℕ) (found : Option (List (List ℕ))) → ReadsFolder old new → IsStanding (content_of new name) found → IsStanding (content_of old name) found
-standing_was tells old new name found frame is = subst (λ (o : Option (List ℕ)). IsStanding o found) (ap (λ (s : Scene). content_of s name) frame) is
-
-pub recovers_was : (old new : Scene) (swp swo : List ℕ) (found : Option (List (List ℕ))) → ReadsFolder old new → Recovers (content_of new swp) (content_of new swo) found → Recovers (content_of old swp) (content_of old swo) found
-recovers_was old new swp swo found frame is = subst (λ (s : Scene). Recovers (content_of s swp) (content_of s swo) found) frame is
-
 pub newer_of : (a b c d : Option ℕ) {truth : Bool} → a ≡ c → b ≡ d → is_newer a b ≡ truth → is_newer c d ≡ truth
 newer_of a b c d first second is = ap (λ o. is_newer o d) (sym first) ∙ (ap (λ o. is_newer a o) (sym second) ∙ is)
 
@@ -84,9 +77,6 @@ opening_absent (Some file) not = absurd (cc)
 pub opening_found : (o : Option (List ℕ)) (opening : Opening) → is_some o ≡ true → IsSomeAnd o (λ file. opening.len ≡ length file) → ((file : List ℕ) → o ≡ Some file → opening.zero ≡ reading_of (take 4096 file)) → IsOpening o (Some opening)
 opening_found None opening there len reads = absurd (cc)
 opening_found (Some file) opening there len reads = (len, reads file refl)
-
-pub opening_stays : (tells : Tells) (old new : Scene) (name : List ℕ) (found : Option Opening) → ReadsFolder old new → (IsTrue tells.folder → IsOpening (content_of old name) found) → IsTrue tells.folder → IsOpening (content_of new name) found
-opening_stays tells old new name found frame opening told = subst (λ (o : Option (List ℕ)). IsOpening o found) (sym (ap (λ (s : Scene). content_of s name) frame)) (opening told)
 
 len_of : (o : Option (List ℕ)) (opening : Opening) → IsOpening o (Some opening) → IsSomeAnd o (λ file. opening.len ≡ length file)
 len_of None opening is = absurd is
@@ -102,18 +92,6 @@ opening_len tells scene name found opening some is told = len_of (content_of sce
 pub opening_zero : (tells : Tells) (scene : Scene) (name : List ℕ) (found : Option Opening) (opening : Opening) → found ≡ Some opening → (IsTrue tells.folder → IsOpening (content_of scene name) found)
     → (file : List ℕ) → IsFile tells scene name file → opening.zero ≡ reading_of (take 4096 file)
 opening_zero tells scene name found opening some is file there = zero_of (content_of scene name) opening file (subst (λ (f : Option Opening). IsOpening (content_of scene name) f) some (is there.told)) there.there
-
-blocks_are : (o : Option (List ℕ)) (opening : Opening) → IsOpening o (Some opening) → opening.len / 4096 - 1 ≡ blocks_of o
-blocks_are None opening is = absurd is
-blocks_are (Some file) opening is = ap (λ n. n / 4096 - 1) is.0
-
--- how many pages follow page 0, by the length that was read
-pub opening_blocks : (tells : Tells) (scene : Scene) (name : List ℕ) (found : Option Opening) (opening : Opening) → found ≡ Some opening → (IsTrue tells.folder → IsOpening (content_of scene name) found)
-    → IsTrue tells.folder → opening.len / 4096 - 1 ≡ blocks_of (content_of scene name)
-opening_blocks tells scene name found opening some is told = blocks_are (content_of scene name) opening (subst (λ (f : Option Opening). IsOpening (content_of scene name) f) some (is told))
-
-pub blocks_stay : (old new : Scene) (name : List ℕ) → ReadsFolder old new → blocks_of (content_of new name) ≡ blocks_of (content_of old name)
-blocks_stay old new name frame = ap (λ (s : Scene). blocks_of (content_of s name)) frame
 
 pub stands_absent : (o : Option (List ℕ)) (found : Option Opening) → found ≡ None → IsOpening o found → StandsNowhere o
 stands_absent None found none is = λ g t s. s
@@ -138,14 +116,6 @@ fault_refuses swp swo fault.NoMemory e is = subst (λ x. IsRefusal swp swo x) (s
 pub fault_is : (f : Fault) (e : RecErr) → e ≡ error_of f → IsFault e
 fault_is fault.Failed e is = subst IsFault (sym is) tt
 fault_is fault.NoMemory e is = subst IsFault (sym is) tt
-
-pub fault_failed : (f : Fault) → error_of f ≡ error.Failed → f ≡ fault.Failed
-fault_failed fault.Failed is = refl
-fault_failed fault.NoMemory is = absurd (cc)
-
--- an error that a fault became says that a call failed where the fault says so
-pub fault_said : {T : Type 0} (R : Type 0) (result : Result T Fault) (f : Fault) (e : RecErr) → result ≡ Err f → e ≡ error_of f → (result ≡ Err fault.Failed → R) → e ≡ error.Failed → R
-fault_said R result f e is became said failed = said (is ∙ ap (λ (x : Fault). Err x) (fault_failed f (sym became ∙ failed)))
 
 -- a refusal that the roots of the files give
 pub roots_refuse : (swp swo : Option (List ℕ)) (why : RecErr) → NoneStands swp swo → root_chosen (root_of swp) (root_of swo) ≡ Err why → IsRefusal swp swo why

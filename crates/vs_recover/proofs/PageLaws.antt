@@ -6,9 +6,8 @@ use Rattle.std.proofs.lemmas.Bool.Decides.{nat_tests}
 use Rattle.std.proofs.lemmas.List.{take_all}
 use Rattle.std.proofs.Math.Seq.{take-append_seam}
 use Rattle.vs_pages.specs.Maps.{joined, lacks, pages_at}
-use Rattle.vs_host.specs.World.{Tells, Scene, ReadsFolder, content_of}
 use Rattle.vs_swap.specs.Files.{page_in, pages_in}
-use Rattle.vs_recover.specs.Files.{IsFile, Gives, Extends}
+use Rattle.vs_recover.specs.Files.{Gives, Extends}
 use Rattle.vs_recover.specs.Levels.{chained}
 use Rattle.vs_tree_shape.specs.Trees.{read_by}
 use Rattle.std.specs.declared.alloc.Global.{Global}
@@ -66,13 +65,6 @@ pages_past file at (suc n) some lt = elim (cases_eq n 0) [
 
 pub lacks_past : (file : List ℕ) (n k : ℕ) → n ≡ length file / 4096 → n ≤ k → lacks (pages_in file k) ≡ 1
 lacks_past file n k is le = ap (λ o. lacks o) (page_gone file k (omega arith))
-
--- a call that reads the folder leaves the file
-pub file_stays : (tells : Tells) (old new : Scene) (name file : List ℕ) → ReadsFolder old new → IsFile tells old name file → IsFile tells new name file
-file_stays tells old new name file frame is = record { told = is.told; there = ap (λ (s : Scene). content_of s name) frame ∙ is.there }
-
-pub file_was : (tells : Tells) (old new : Scene) (name file : List ℕ) → ReadsFolder old new → IsFile tells new name file → IsFile tells old name file
-file_was tells old new name file frame is = record { told = is.told; there = sym (ap (λ (s : Scene). content_of s name) frame) ∙ is.there }
 
 pub if_some : {X : Type 0} (o : Option X) (x : X) (P : X → Type 0) → o ≡ Some x → IfSome o P → P x
 if_some None x P is h = absurd (cc)

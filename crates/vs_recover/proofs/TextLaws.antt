@@ -84,9 +84,6 @@ text_stands false (line ∷ lines) text clean is =
       sym (some_lines (length (map plain_line lines))) ∙ ap (λ (t : List (List ℕ)). length t == 0) e,
     )
 
-text_some : (line : List ℕ) (lines all : List (List ℕ)) → all ≡ line ∷ lines → text_in false all ≡ Some all
-text_some line lines all e = rw e refl
-
 -- a text is read from its stored form
 pub text_found : (empty : Bool) (text : List (List ℕ)) → IsText text → empty ≡ (length text == 0) → text_in empty (map plain_line (stored text)) ≡ Some text
 text_found empty [] is none = ap (λ b. text_in b ([] ∷ [])) none
@@ -137,6 +134,3 @@ not_text file fields pair lines reads paired walked none = λ g t s.
 
 pub refused : (file : List ℕ) (read : Result Zero ZeroErr) (e why : ZeroErr) → read ≡ reading_of (take 4096 file) → read ≡ Err e → e ≡ why → reading_of (take 4096 file) ≡ Err why
 refused file read e why is failed same = sym is ∙ (failed ∙ ap (λ (x : ZeroErr). Err x) same)
-
-pub opens : (file : List ℕ) (read : Result Zero ZeroErr) (fields : Zero) → read ≡ reading_of (take 4096 file) → read ≡ Ok fields → reading_of (take 4096 file) ≡ Ok fields
-opens file read fields is ok = sym is ∙ ok

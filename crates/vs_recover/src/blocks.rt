@@ -1,6 +1,5 @@
 // Blocks of a swap file, read through the folder.
-ghost use Rattle.std.specs.Prelude.{◌≡◌, ◌≤◌, ◌<◌, ◌*◌, ◌/◌, ◌^◌, ◌&&◌, nat_eq, Some, ℕ, List, IfOk, OnOk, IfSome, IsTrue, Err, length, IsErrOf};
-ghost use Rattle.vs_faults.specs.Faults.{HasCause};
+ghost use Rattle.std.specs.Prelude.{◌≡◌, ◌≤◌, ◌<◌, ◌*◌, ◌/◌, ◌^◌, ◌&&◌, nat_eq, ℕ, List, IfOk, IfSome, IsTrue, length};
 ghost use Rattle.vs_pages.specs.Maps.{pages_at};
 ghost use Rattle.vs_data.specs.Blocks.{lines_in};
 ghost use Rattle.vs_tree_shape.specs.Places.{lines_below};
@@ -9,8 +8,7 @@ ghost use Rattle.vs_swap.specs.Entries.{pointer_in, swap_points};
 ghost use Rattle.vs_swap.specs.Files.{pages_in, swap_format};
 ghost use Rattle.vs_recover.specs.Files.{IsFile, Gives, Extends, plain};
 ghost use Rattle.vs_recover.specs.Levels.{are_wide, fitting_lines, fitting_points, points_at, lines_at};
-ghost use Rattle.vs_disk.specs.Runs.{CallsAtMost, NoneFails};
-ghost use Rattle.vs_recover.specs.Reading.{IsThere, Reads};
+ghost use Rattle.vs_recover.specs.Reading.{IsThere, ReadsAtMost};
 
 use crate::calls::read_part;
 use crate::{Fault, FileText};
@@ -34,11 +32,7 @@ pub fn load_pages<F: Folder>(
     requires count { IsThere F.tells (F.scene host.old) name.now (λ file. count ≡ length file / 4096) }
     ensures value { IfOk result (λ found. (file : List ℕ) → IsFile F.tells (F.scene host.old) name.now file → Gives (pages_at (pages_in file) block pages) found) }
     ensures size { IfOk result (λ found. IfSome found (λ bytes. length bytes.items ≡ 4096 * pages)) }
-    ensures cause { HasCause (F.scene host.old).folder_faults (F.scene host.new).folder_faults (IsErrOf result Fault.Failed) }
-    ensures memory { result ≡ Err Fault.NoMemory → NoneFails F.tells (F.scene host.old) (F.scene host.new) }
-    ensures reads { Reads F.tells (F.scene host.old) (F.scene host.new) }
-    ensures none { OnOk result (NoneFails F.tells (F.scene host.old) (F.scene host.new)) }
-    ensures calls { CallsAtMost F.tells (F.scene host.old) (F.scene host.new) 1 }
+    ensures reading { ReadsAtMost F.tells result Fault.Failed (F.scene host.old) (F.scene host.new) 1 }
 {
     let wanted = u64::from(pages);
     if block >= count || wanted > count - block {
@@ -91,11 +85,7 @@ pub fn load_entries<F: Folder>(
     requires bound { count < 2 ^ 52 }
     requires count { IsThere F.tells (F.scene host.old) name.now (λ file. count ≡ length file / 4096) }
     ensures value { IfOk result (λ found. (file : List ℕ) → IsFile F.tells (F.scene host.old) name.now file → Gives (read_by swap_points (pages_at (pages_in file) block 1)) found) }
-    ensures cause { HasCause (F.scene host.old).folder_faults (F.scene host.new).folder_faults (IsErrOf result Fault.Failed) }
-    ensures memory { result ≡ Err Fault.NoMemory → NoneFails F.tells (F.scene host.old) (F.scene host.new) }
-    ensures reads { Reads F.tells (F.scene host.old) (F.scene host.new) }
-    ensures none { OnOk result (NoneFails F.tells (F.scene host.old) (F.scene host.new)) }
-    ensures calls { CallsAtMost F.tells (F.scene host.old) (F.scene host.new) 1 }
+    ensures reading { ReadsAtMost F.tells result Fault.Failed (F.scene host.old) (F.scene host.new) 1 }
 {
     let Some(bytes) = load_pages(alloc, host, name, count, block, 1)? else {
         return Ok(None);
@@ -164,11 +154,7 @@ pub fn load_points<F: Folder>(
     requires count { IsThere F.tells (F.scene host.old) name.now (λ file. count ≡ length file / 4096) }
     ensures value { IfOk result (λ found. (file : List ℕ) → IsFile F.tells (F.scene host.old) name.now file → Gives (points_at swap_format (pages_in file) entry.now) found) }
     ensures wide { IfOk result (λ found. IfSome found (λ entries. IsTrue (are_wide entries.items))) }
-    ensures cause { HasCause (F.scene host.old).folder_faults (F.scene host.new).folder_faults (IsErrOf result Fault.Failed) }
-    ensures memory { result ≡ Err Fault.NoMemory → NoneFails F.tells (F.scene host.old) (F.scene host.new) }
-    ensures reads { Reads F.tells (F.scene host.old) (F.scene host.new) }
-    ensures none { OnOk result (NoneFails F.tells (F.scene host.old) (F.scene host.new)) }
-    ensures calls { CallsAtMost F.tells (F.scene host.old) (F.scene host.new) 1 }
+    ensures reading { ReadsAtMost F.tells result Fault.Failed (F.scene host.old) (F.scene host.new) 1 }
 {
     let Some(bytes) = load_pages(alloc, host, name, count, entry.block, entry.pages)? else {
         return Ok(None);
@@ -207,11 +193,7 @@ pub fn load_lines<F: Folder>(
     requires count { IsThere F.tells (F.scene host.old) name.now (λ file. count ≡ length file / 4096) }
     ensures value { IfOk result (λ done. (file : List ℕ) → IsFile F.tells (F.scene host.old) name.now file
         → Extends (plain (lines_at swap_format (pages_in file) entry.now)) lines.old lines.new done) }
-    ensures cause { HasCause (F.scene host.old).folder_faults (F.scene host.new).folder_faults (IsErrOf result Fault.Failed) }
-    ensures memory { result ≡ Err Fault.NoMemory → NoneFails F.tells (F.scene host.old) (F.scene host.new) }
-    ensures reads { Reads F.tells (F.scene host.old) (F.scene host.new) }
-    ensures none { OnOk result (NoneFails F.tells (F.scene host.old) (F.scene host.new)) }
-    ensures calls { CallsAtMost F.tells (F.scene host.old) (F.scene host.new) 1 }
+    ensures reading { ReadsAtMost F.tells result Fault.Failed (F.scene host.old) (F.scene host.new) 1 }
 {
     let Some(bytes) = load_pages(alloc, host, name, count, entry.block, entry.pages)? else {
         return Ok(false);

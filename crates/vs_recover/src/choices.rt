@@ -1,10 +1,8 @@
 // Which text is recovered, or which swap file is salvaged.
-ghost use Rattle.std.specs.Prelude.{◌≡◌, ◌≢◌, ◌+◌, IfOk, OnOk, IsTrue, Err, IsErrOf};
-ghost use Rattle.vs_faults.specs.Faults.{HasCause};
+ghost use Rattle.std.specs.Prelude.{◌≡◌, ◌≢◌, ◌+◌, IfOk, IsTrue, Err};
 ghost use Rattle.vs_host.specs.World.{content_of};
 ghost use Rattle.vs_recover.specs.Choices.{IsChoice, IsFound, root_chosen};
-ghost use Rattle.vs_disk.specs.Runs.{CallsAtMost, NoneFails};
-ghost use Rattle.vs_recover.specs.Reading.{Reads, blocks_of};
+ghost use Rattle.vs_recover.specs.Reading.{ReadsAtMost, blocks_at};
 
 use crate::error::error_of;
 use crate::newest::{find_opening, read_newer};
@@ -58,11 +56,7 @@ pub enum Found {
 // The text of the newer file that stands, or else what page 0 and block 1 of both files read as.
 fn find<F: Folder>(alloc: Global, host: &mut F, swp: &str, swo: &str) -> Result<Found, Fault>
     ensures found { IfOk result (λ found. IsTrue F.tells.folder → IsFound (content_of (F.scene host.old) swp.now) (content_of (F.scene host.old) swo.now) found) }
-    ensures cause { HasCause (F.scene host.old).folder_faults (F.scene host.new).folder_faults (IsErrOf result Fault.Failed) }
-    ensures memory { result ≡ Err Fault.NoMemory → NoneFails F.tells (F.scene host.old) (F.scene host.new) }
-    ensures reads { Reads F.tells (F.scene host.old) (F.scene host.new) }
-    ensures none { OnOk result (NoneFails F.tells (F.scene host.old) (F.scene host.new)) }
-    ensures calls { CallsAtMost F.tells (F.scene host.old) (F.scene host.new) (8 + blocks_of (content_of (F.scene host.old) swp.now) + blocks_of (content_of (F.scene host.old) swo.now)) }
+    ensures reading { ReadsAtMost F.tells result Fault.Failed (F.scene host.old) (F.scene host.new) (8 + blocks_at (F.scene host.old) swp.now + blocks_at (F.scene host.old) swo.now) }
 {
     let first = find_opening(alloc, host, swp)?;
     let second = find_opening(alloc, host, swo)?;
@@ -76,10 +70,7 @@ fn find<F: Folder>(alloc: Global, host: &mut F, swp: &str, swo: &str) -> Result<
 // The text of the newer file that stands, or else the first file whose page 0 and block 1 read.
 fn choose_of<F: Folder>(alloc: Global, host: &mut F, swp: &str, swo: &str) -> Result<Chosen, RecErr>
     ensures answer { IsTrue F.tells.folder → IsChoice (content_of (F.scene host.old) swp.now) (content_of (F.scene host.old) swo.now) result }
-    ensures cause { HasCause (F.scene host.old).folder_faults (F.scene host.new).folder_faults (IsErrOf result RecErr.Failed) }
-    ensures reads { Reads F.tells (F.scene host.old) (F.scene host.new) }
-    ensures none { result ≢ Err RecErr.Failed → NoneFails F.tells (F.scene host.old) (F.scene host.new) }
-    ensures calls { CallsAtMost F.tells (F.scene host.old) (F.scene host.new) (8 + blocks_of (content_of (F.scene host.old) swp.now) + blocks_of (content_of (F.scene host.old) swo.now)) }
+    ensures reading { ReadsAtMost F.tells result RecErr.Failed (F.scene host.old) (F.scene host.new) (8 + blocks_at (F.scene host.old) swp.now + blocks_at (F.scene host.old) swo.now) }
 {
     let found = match find(alloc, host, swp, swo) {
         Ok(found) => found,
@@ -98,10 +89,7 @@ fn choose_of<F: Folder>(alloc: Global, host: &mut F, swp: &str, swo: &str) -> Re
 /// with at most four calls for each of the two names and one for each page that follows page 0 of its file.
 pub fn choose<F: Folder>(alloc: Global, host: &mut F, names: &Names) -> Result<Chosen, RecErr>
     ensures answer { IsTrue F.tells.folder → IsChoice (content_of (F.scene host.old) names.now.swp) (content_of (F.scene host.old) names.now.swo) result }
-    ensures cause { HasCause (F.scene host.old).folder_faults (F.scene host.new).folder_faults (IsErrOf result RecErr.Failed) }
-    ensures reads { Reads F.tells (F.scene host.old) (F.scene host.new) }
-    ensures none { result ≢ Err RecErr.Failed → NoneFails F.tells (F.scene host.old) (F.scene host.new) }
-    ensures calls { CallsAtMost F.tells (F.scene host.old) (F.scene host.new) (8 + blocks_of (content_of (F.scene host.old) names.now.swp) + blocks_of (content_of (F.scene host.old) names.now.swo)) }
+    ensures reading { ReadsAtMost F.tells result RecErr.Failed (F.scene host.old) (F.scene host.new) (8 + blocks_at (F.scene host.old) names.now.swp + blocks_at (F.scene host.old) names.now.swo) }
 {
     choose_of(alloc, host, names.swp.as_str(), names.swo.as_str())
 }

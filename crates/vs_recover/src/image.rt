@@ -1,13 +1,11 @@
 // What one swap file is.
-ghost use Rattle.std.specs.Prelude.{◌≡◌, ◌≢◌, ◌<◌, ◌+◌, ◌-◌, ◌/◌, ℕ, List, IfOk, IfErr, OnOk, IsTrue, IsSome, Ok, Err, length, max, take, IsErrOf};
-ghost use Rattle.vs_faults.specs.Faults.{HasCause};
+ghost use Rattle.std.specs.Prelude.{◌≡◌, ◌+◌, ◌-◌, ◌/◌, ℕ, List, IfOk, IfErr, IsTrue, IsSome, Ok, length, take};
 ghost use Rattle.vs_host.specs.World.{content_of};
 ghost use Rattle.vs_zero.specs.Zero.{reading_of};
 ghost use Rattle.vs_recover.specs.Faults.{IsFault};
 ghost use Rattle.vs_recover.specs.Files.{IsFile};
 ghost use Rattle.vs_recover.specs.Images.{IsImage, refused_image, text_in};
-ghost use Rattle.vs_disk.specs.Runs.{CallsAtMost, NoneFails};
-ghost use Rattle.vs_recover.specs.Reading.{IsThere, Reads};
+ghost use Rattle.vs_recover.specs.Reading.{IsThere, ReadsAtMost, blocks_at};
 
 use crate::calls::{file_len, read_part};
 use crate::error::error_of;
@@ -60,11 +58,7 @@ fn text_of(alloc: Global, lines: FileText, empty: bool) -> Option<FileText>
 fn read_head<F: Folder>(alloc: Global, host: &mut F, name: &str, len: u64) -> Result<Vec<u8>, Fault>
     requires len { IsThere F.tells (F.scene host.old) name.now (λ file. len ≡ length file) }
     ensures value { IfOk result (λ head. (file : List ℕ) → IsFile F.tells (F.scene host.old) name.now file → head.items ≡ take 4096 file) }
-    ensures cause { HasCause (F.scene host.old).folder_faults (F.scene host.new).folder_faults (IsErrOf result Fault.Failed) }
-    ensures memory { result ≡ Err Fault.NoMemory → NoneFails F.tells (F.scene host.old) (F.scene host.new) }
-    ensures reads { Reads F.tells (F.scene host.old) (F.scene host.new) }
-    ensures none { OnOk result (NoneFails F.tells (F.scene host.old) (F.scene host.new)) }
-    ensures calls { CallsAtMost F.tells (F.scene host.old) (F.scene host.new) 1 }
+    ensures reading { ReadsAtMost F.tells result Fault.Failed (F.scene host.old) (F.scene host.new) 1 }
 {
     let size = len.min(4096) as usize;
     let mut head = vec![in alloc; 0u8; size]?;
@@ -77,11 +71,7 @@ pub fn read_opening<F: Folder>(alloc: Global, host: &mut F, name: &str) -> Resul
     requires there { IsTrue F.tells.folder → IsSome (content_of (F.scene host.old) name.now) }
     ensures len { IfOk result (λ opening. IsThere F.tells (F.scene host.old) name.now (λ file. opening.len ≡ length file)) }
     ensures zero { IfOk result (λ opening. (file : List ℕ) → IsFile F.tells (F.scene host.old) name.now file → opening.zero ≡ reading_of (take 4096 file)) }
-    ensures cause { HasCause (F.scene host.old).folder_faults (F.scene host.new).folder_faults (IsErrOf result Fault.Failed) }
-    ensures memory { result ≡ Err Fault.NoMemory → NoneFails F.tells (F.scene host.old) (F.scene host.new) }
-    ensures reads { Reads F.tells (F.scene host.old) (F.scene host.new) }
-    ensures none { OnOk result (NoneFails F.tells (F.scene host.old) (F.scene host.new)) }
-    ensures calls { CallsAtMost F.tells (F.scene host.old) (F.scene host.new) 2 }
+    ensures reading { ReadsAtMost F.tells result Fault.Failed (F.scene host.old) (F.scene host.new) 2 }
 {
     let len = file_len(host, name)?;
     let head = read_head(alloc, host, name, len)?;
@@ -111,11 +101,7 @@ pub fn read_open<F: Folder>(
     requires len { IsThere F.tells (F.scene host.old) name.now (λ file. len ≡ length file) }
     requires zero { (file : List ℕ) → IsFile F.tells (F.scene host.old) name.now file → reading_of (take 4096 file) ≡ Ok zero.now }
     ensures image { IfOk result (λ image. (file : List ℕ) → IsFile F.tells (F.scene host.old) name.now file → IsImage file image) }
-    ensures cause { HasCause (F.scene host.old).folder_faults (F.scene host.new).folder_faults (IsErrOf result Fault.Failed) }
-    ensures memory { result ≡ Err Fault.NoMemory → NoneFails F.tells (F.scene host.old) (F.scene host.new) }
-    ensures reads { Reads F.tells (F.scene host.old) (F.scene host.new) }
-    ensures none { OnOk result (NoneFails F.tells (F.scene host.old) (F.scene host.new)) }
-    ensures calls { CallsAtMost F.tells (F.scene host.old) (F.scene host.new) (len / 4096 - 1) }
+    ensures reading { ReadsAtMost F.tells result Fault.Failed (F.scene host.old) (F.scene host.new) (len / 4096 - 1) }
 {
     let page_size = zero.page_size;
     if page_size != 4096 {
@@ -140,11 +126,7 @@ pub fn read_open<F: Folder>(
 pub fn find_image<F: Folder>(alloc: Global, host: &mut F, name: &str) -> Result<Image, Fault>
     requires there { IsTrue F.tells.folder → IsSome (content_of (F.scene host.old) name.now) }
     ensures image { IfOk result (λ image. (file : List ℕ) → IsFile F.tells (F.scene host.old) name.now file → IsImage file image) }
-    ensures cause { HasCause (F.scene host.old).folder_faults (F.scene host.new).folder_faults (IsErrOf result Fault.Failed) }
-    ensures memory { result ≡ Err Fault.NoMemory → NoneFails F.tells (F.scene host.old) (F.scene host.new) }
-    ensures reads { Reads F.tells (F.scene host.old) (F.scene host.new) }
-    ensures none { OnOk result (NoneFails F.tells (F.scene host.old) (F.scene host.new)) }
-    ensures calls { (file : List ℕ) → IsFile F.tells (F.scene host.old) name.now file → CallsAtMost F.tells (F.scene host.old) (F.scene host.new) (1 + max 1 (length file / 4096)) }
+    ensures reading { ReadsAtMost F.tells result Fault.Failed (F.scene host.old) (F.scene host.new) (2 + blocks_at (F.scene host.old) name.now) }
 {
     let opening = read_opening(alloc, host, name)?;
     match opening.zero {
@@ -156,16 +138,13 @@ pub fn find_image<F: Folder>(alloc: Global, host: &mut F, name: &str) -> Result<
     }
 }
 
-/// What the swap file of this name is; the file must be there. The folder is only read, with one call for the length and at most one for
-/// each page. `Failed` and `NoMemory` are the only errors.
+/// What the swap file of this name is; the file must be there. The folder is only read, with one call for the length, one for page 0
+/// and at most one for each page that follows it. `Failed` and `NoMemory` are the only errors.
 pub fn read_image<F: Folder>(alloc: Global, host: &mut F, swap: &str) -> Result<Image, RecErr>
     requires there { IsTrue F.tells.folder → IsSome (content_of (F.scene host.old) swap.now) }
     ensures image { IfOk result (λ image. (file : List ℕ) → IsFile F.tells (F.scene host.old) swap.now file → IsImage file image) }
     ensures refused { IfErr result IsFault }
-    ensures cause { HasCause (F.scene host.old).folder_faults (F.scene host.new).folder_faults (IsErrOf result RecErr.Failed) }
-    ensures reads { Reads F.tells (F.scene host.old) (F.scene host.new) }
-    ensures none { result ≢ Err RecErr.Failed → NoneFails F.tells (F.scene host.old) (F.scene host.new) }
-    ensures calls { (file : List ℕ) → IsFile F.tells (F.scene host.old) swap.now file → CallsAtMost F.tells (F.scene host.old) (F.scene host.new) (1 + max 1 (length file / 4096)) }
+    ensures reading { ReadsAtMost F.tells result RecErr.Failed (F.scene host.old) (F.scene host.new) (2 + blocks_at (F.scene host.old) swap.now) }
 {
     match find_image(alloc, host, swap) {
         Ok(image) => Ok(image),

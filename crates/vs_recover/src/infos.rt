@@ -1,10 +1,8 @@
 // What `info` says.
-ghost use Rattle.std.specs.Prelude.{◌≡◌, ◌≢◌, IfOk, IsTrue, Err, OnOk, string_bytes, codes, ◌++◌, ◌∷◌, [], IsErrOf};
-ghost use Rattle.vs_faults.specs.Faults.{HasCause};
-ghost use Rattle.vs_host.specs.World.{ReadsFolder, content_of};
+ghost use Rattle.std.specs.Prelude.{◌≡◌, ◌≢◌, ◌+◌, IfOk, IsTrue, Err, string_bytes, codes, ◌++◌, ◌∷◌, []};
+ghost use Rattle.vs_host.specs.World.{content_of};
 ghost use Rattle.vs_recover.specs.Infos.{IsInfo, IsInfos, image_words, standing_words};
-ghost use Rattle.vs_disk.specs.Runs.{NoneFails};
-ghost use Rattle.vs_recover.specs.Reading.{Reads};
+ghost use Rattle.vs_recover.specs.Reading.{ReadsAtMost, blocks_at};
 
 use crate::calls::has_file;
 use crate::error::error_of;
@@ -46,11 +44,7 @@ fn info_line(alloc: Global, name: &str, image: &Image) -> Result<String, AllocEr
 /// The line of `info` for the swap file under a name; nothing where it is not there.
 pub fn file_info<F: Folder>(alloc: Global, host: &mut F, name: &str) -> Result<String, Fault>
     ensures info { IfOk result (λ line. IsTrue F.tells.folder → IsInfo (content_of (F.scene host.old) name.now) name.now (string_bytes line)) }
-    ensures cause { HasCause (F.scene host.old).folder_faults (F.scene host.new).folder_faults (IsErrOf result Fault.Failed) }
-    ensures memory { result ≡ Err Fault.NoMemory → NoneFails F.tells (F.scene host.old) (F.scene host.new) }
-    ensures frame { ReadsFolder (F.scene host.old) (F.scene host.new) }
-    ensures reads { Reads F.tells (F.scene host.old) (F.scene host.new) }
-    ensures none { OnOk result (NoneFails F.tells (F.scene host.old) (F.scene host.new)) }
+    ensures reading { ReadsAtMost F.tells result Fault.Failed (F.scene host.old) (F.scene host.new) (3 + blocks_at (F.scene host.old) name.now) }
 {
     if !has_file(host, name)? {
         return Ok(String::new(alloc));
@@ -73,9 +67,7 @@ fn joined(first: &str, second: &str, alloc: Global) -> Result<Vec<u8>, Fault>
 // The lines of both swap files.
 fn info_of<F: Folder>(alloc: Global, host: &mut F, swp: &str, swo: &str) -> Result<Vec<u8>, RecErr>
     ensures answer { IsTrue F.tells.folder → IsInfos (content_of (F.scene host.old) swp.now) (content_of (F.scene host.old) swo.now) swp.now swo.now result }
-    ensures cause { HasCause (F.scene host.old).folder_faults (F.scene host.new).folder_faults (IsErrOf result RecErr.Failed) }
-    ensures reads { Reads F.tells (F.scene host.old) (F.scene host.new) }
-    ensures none { result ≢ Err RecErr.Failed → NoneFails F.tells (F.scene host.old) (F.scene host.new) }
+    ensures reading { ReadsAtMost F.tells result RecErr.Failed (F.scene host.old) (F.scene host.new) (6 + blocks_at (F.scene host.old) swp.now + blocks_at (F.scene host.old) swo.now) }
 {
     let first = match file_info(alloc, host, swp) {
         Ok(first) => first,
@@ -95,12 +87,11 @@ fn info_of<F: Folder>(alloc: Global, host: &mut F, swp: &str, swo: &str) -> Resu
 }
 
 /// One line for each swap file that is there, the first one's before that of the second: docs/COMMANDS.md, "Swap files". The
-/// folder is only read. The other errors are `Failed` and `NoMemory`.
+/// folder is only read, with at most three calls for each of the two names and one for each page that follows page 0 of its
+/// file. The other errors are `Failed` and `NoMemory`.
 pub fn info<F: Folder>(alloc: Global, host: &mut F, names: &Names) -> Result<Vec<u8>, RecErr>
     ensures answer { IsTrue F.tells.folder → IsInfos (content_of (F.scene host.old) names.now.swp) (content_of (F.scene host.old) names.now.swo) names.now.swp names.now.swo result }
-    ensures cause { HasCause (F.scene host.old).folder_faults (F.scene host.new).folder_faults (IsErrOf result RecErr.Failed) }
-    ensures reads { Reads F.tells (F.scene host.old) (F.scene host.new) }
-    ensures none { result ≢ Err RecErr.Failed → NoneFails F.tells (F.scene host.old) (F.scene host.new) }
+    ensures reading { ReadsAtMost F.tells result RecErr.Failed (F.scene host.old) (F.scene host.new) (6 + blocks_at (F.scene host.old) names.now.swp + blocks_at (F.scene host.old) names.now.swo) }
 {
     info_of(alloc, host, names.swp.as_str(), names.swo.as_str())
 }

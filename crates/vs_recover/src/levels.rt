@@ -1,12 +1,10 @@
 // The levels of a tree, from block 1 on.
-ghost use Rattle.std.specs.Prelude.{◌≡◌, ◌<◌, ◌+◌, ◌/◌, ◌^◌, ◌∷◌, ℕ, List, IfOk, IfSome, IfNone, IsTrue, Some, Err, length, OnOk, IsErrOf};
-ghost use Rattle.vs_faults.specs.Faults.{HasCause};
+ghost use Rattle.std.specs.Prelude.{◌≡◌, ◌<◌, ◌+◌, ◌/◌, ◌^◌, ◌∷◌, ℕ, List, IfOk, IfSome, IfNone, IsTrue, Some, length};
 ghost use Rattle.vs_swap.specs.Files.{pages_in, swap_format};
 ghost use Rattle.vs_recover.specs.Files.{IsFile, plain};
 ghost use Rattle.vs_recover.specs.Levels.{Clashes, are_wide, chained, opened, gathered};
 ghost use Rattle.vs_recover.specs.Marks.{used_in};
-ghost use Rattle.vs_disk.specs.Runs.{CallsAtMost, NoneFails};
-ghost use Rattle.vs_recover.specs.Reading.{IsThere, Reads};
+ghost use Rattle.vs_recover.specs.Reading.{IsThere, ReadsAtMost};
 ghost use Rattle.vs_recover.specs.Walks.{FindsBelow, IsMarked, MarksBelow};
 
 use crate::blocks::{load_lines, load_pages, load_points, read_lines, read_points};
@@ -44,11 +42,7 @@ fn open_level<F: Folder>(
     ensures marked { IfOk result (λ found. IfSome found (λ next. IsMarked marks.old marks.new next.items)) }
     ensures clash { IfOk result (λ found. IfNone found ((file : List ℕ) → IsFile F.tells (F.scene host.old) name.now file
         → Clashes (λ k. used_in marks.old k) (chained (Some points.items) (opened swap_format (pages_in file) others.now)))) }
-    ensures cause { HasCause (F.scene host.old).folder_faults (F.scene host.new).folder_faults (IsErrOf result Fault.Failed) }
-    ensures memory { result ≡ Err Fault.NoMemory → NoneFails F.tells (F.scene host.old) (F.scene host.new) }
-    ensures reads { Reads F.tells (F.scene host.old) (F.scene host.new) }
-    ensures none { OnOk result (NoneFails F.tells (F.scene host.old) (F.scene host.new)) }
-    ensures calls { CallsAtMost F.tells (F.scene host.old) (F.scene host.new) (length others.now) }
+    ensures reading { ReadsAtMost F.tells result Fault.Failed (F.scene host.old) (F.scene host.new) (length others.now) }
 {
     if !marks.mark_all(&points) {
         return Ok(None);
@@ -81,11 +75,7 @@ fn gather_level<F: Folder>(
     requires count { IsThere F.tells (F.scene host.old) name.now (λ file. count ≡ length file / 4096) }
     ensures value { IfOk result (λ found. (file : List ℕ) → IsFile F.tells (F.scene host.old) name.now file
         → chained (Some first) (plain (gathered swap_format (pages_in file) others.now)) ≡ found) }
-    ensures cause { HasCause (F.scene host.old).folder_faults (F.scene host.new).folder_faults (IsErrOf result Fault.Failed) }
-    ensures memory { result ≡ Err Fault.NoMemory → NoneFails F.tells (F.scene host.old) (F.scene host.new) }
-    ensures reads { Reads F.tells (F.scene host.old) (F.scene host.new) }
-    ensures none { OnOk result (NoneFails F.tells (F.scene host.old) (F.scene host.new)) }
-    ensures calls { CallsAtMost F.tells (F.scene host.old) (F.scene host.new) (length others.now) }
+    ensures reading { ReadsAtMost F.tells result Fault.Failed (F.scene host.old) (F.scene host.new) (length others.now) }
 {
     let mut lines = first;
     for entry in others {
@@ -113,11 +103,7 @@ pub fn read_level<F: Folder>(
     ensures found { IfOk result (λ found. (file : List ℕ) → IsFile F.tells (F.scene host.old) name.now file
         → FindsBelow (pages_in file) (λ k. used_in marks.old k) (first.now ∷ others.now) found) }
     ensures marked { IfOk result (MarksBelow marks.old marks.new) }
-    ensures cause { HasCause (F.scene host.old).folder_faults (F.scene host.new).folder_faults (IsErrOf result Fault.Failed) }
-    ensures memory { result ≡ Err Fault.NoMemory → NoneFails F.tells (F.scene host.old) (F.scene host.new) }
-    ensures reads { Reads F.tells (F.scene host.old) (F.scene host.new) }
-    ensures none { OnOk result (NoneFails F.tells (F.scene host.old) (F.scene host.new)) }
-    ensures calls { CallsAtMost F.tells (F.scene host.old) (F.scene host.new) (1 + length others.now) }
+    ensures reading { ReadsAtMost F.tells result Fault.Failed (F.scene host.old) (F.scene host.new) (1 + length others.now) }
 {
     let Some(bytes) = load_pages(alloc, host, name, count, first.block, first.pages)? else {
         return Ok(None);

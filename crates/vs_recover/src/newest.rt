@@ -1,10 +1,8 @@
 // The text of the newer of two swap files that stand.
-ghost use Rattle.std.specs.Prelude.{◌≡◌, ◌+◌, IfOk, OnOk, IsTrue, Err, IsErrOf};
-ghost use Rattle.vs_faults.specs.Faults.{HasCause};
+ghost use Rattle.std.specs.Prelude.{◌≡◌, ◌+◌, IfOk, IsTrue};
 ghost use Rattle.vs_host.specs.World.{content_of};
 ghost use Rattle.vs_recover.specs.Choices.{IsOpening, IsStanding, Recovers, StandsInTurn, generation_in, generation_of, is_newer, text_of};
-ghost use Rattle.vs_disk.specs.Runs.{CallsAtMost, NoneFails};
-ghost use Rattle.vs_recover.specs.Reading.{Reads, blocks_of};
+ghost use Rattle.vs_recover.specs.Reading.{ReadsAtMost, blocks_at};
 
 use crate::calls::has_file;
 use crate::image::{Image, Opening, read_open, read_opening};
@@ -20,11 +18,7 @@ pub fn find_opening<F: Folder>(
     name: &str,
 ) -> Result<Option<Opening>, Fault>
     ensures opening { IfOk result (λ found. IsTrue F.tells.folder → IsOpening (content_of (F.scene host.old) name.now) found) }
-    ensures cause { HasCause (F.scene host.old).folder_faults (F.scene host.new).folder_faults (IsErrOf result Fault.Failed) }
-    ensures memory { result ≡ Err Fault.NoMemory → NoneFails F.tells (F.scene host.old) (F.scene host.new) }
-    ensures reads { Reads F.tells (F.scene host.old) (F.scene host.new) }
-    ensures none { OnOk result (NoneFails F.tells (F.scene host.old) (F.scene host.new)) }
-    ensures calls { CallsAtMost F.tells (F.scene host.old) (F.scene host.new) 3 }
+    ensures reading { ReadsAtMost F.tells result Fault.Failed (F.scene host.old) (F.scene host.new) 3 }
 {
     if !has_file(host, name)? {
         return Ok(None);
@@ -92,11 +86,7 @@ fn read_text<F: Folder>(
 ) -> Result<Option<FileText>, Fault>
     requires opening { IsTrue F.tells.folder → IsOpening (content_of (F.scene host.old) name.now) opening.now }
     ensures text { IfOk result (λ found. IsTrue F.tells.folder → IsStanding (content_of (F.scene host.old) name.now) found) }
-    ensures cause { HasCause (F.scene host.old).folder_faults (F.scene host.new).folder_faults (IsErrOf result Fault.Failed) }
-    ensures memory { result ≡ Err Fault.NoMemory → NoneFails F.tells (F.scene host.old) (F.scene host.new) }
-    ensures reads { Reads F.tells (F.scene host.old) (F.scene host.new) }
-    ensures none { OnOk result (NoneFails F.tells (F.scene host.old) (F.scene host.new)) }
-    ensures calls { CallsAtMost F.tells (F.scene host.old) (F.scene host.new) (blocks_of (content_of (F.scene host.old) name.now)) }
+    ensures reading { ReadsAtMost F.tells result Fault.Failed (F.scene host.old) (F.scene host.new) (blocks_at (F.scene host.old) name.now) }
 {
     let Some(opening) = opening else {
         return Ok(None);
@@ -122,11 +112,7 @@ fn read_in_turn<F: Folder>(
     requires first { IsTrue F.tells.folder → IsOpening (content_of (F.scene host.old) first.now) first_opening.now }
     requires second { IsTrue F.tells.folder → IsOpening (content_of (F.scene host.old) second.now) second_opening.now }
     ensures text { IfOk result (λ found. IsTrue F.tells.folder → StandsInTurn (content_of (F.scene host.old) first.now) (content_of (F.scene host.old) second.now) found) }
-    ensures cause { HasCause (F.scene host.old).folder_faults (F.scene host.new).folder_faults (IsErrOf result Fault.Failed) }
-    ensures memory { result ≡ Err Fault.NoMemory → NoneFails F.tells (F.scene host.old) (F.scene host.new) }
-    ensures reads { Reads F.tells (F.scene host.old) (F.scene host.new) }
-    ensures none { OnOk result (NoneFails F.tells (F.scene host.old) (F.scene host.new)) }
-    ensures calls { CallsAtMost F.tells (F.scene host.old) (F.scene host.new) (blocks_of (content_of (F.scene host.old) first.now) + blocks_of (content_of (F.scene host.old) second.now)) }
+    ensures reading { ReadsAtMost F.tells result Fault.Failed (F.scene host.old) (F.scene host.new) (blocks_at (F.scene host.old) first.now + blocks_at (F.scene host.old) second.now) }
 {
     if let Some(text) = read_text(alloc, host, first, first_opening)? {
         return Ok(Some(text));
@@ -148,11 +134,7 @@ pub fn read_newer<F: Folder>(
     requires swp { IsTrue F.tells.folder → IsOpening (content_of (F.scene host.old) swp.now) swp_opening.now }
     requires swo { IsTrue F.tells.folder → IsOpening (content_of (F.scene host.old) swo.now) swo_opening.now }
     ensures text { IfOk result (λ found. IsTrue F.tells.folder → Recovers (content_of (F.scene host.old) swp.now) (content_of (F.scene host.old) swo.now) found) }
-    ensures cause { HasCause (F.scene host.old).folder_faults (F.scene host.new).folder_faults (IsErrOf result Fault.Failed) }
-    ensures memory { result ≡ Err Fault.NoMemory → NoneFails F.tells (F.scene host.old) (F.scene host.new) }
-    ensures reads { Reads F.tells (F.scene host.old) (F.scene host.new) }
-    ensures none { OnOk result (NoneFails F.tells (F.scene host.old) (F.scene host.new)) }
-    ensures calls { CallsAtMost F.tells (F.scene host.old) (F.scene host.new) (blocks_of (content_of (F.scene host.old) swp.now) + blocks_of (content_of (F.scene host.old) swo.now)) }
+    ensures reading { ReadsAtMost F.tells result Fault.Failed (F.scene host.old) (F.scene host.new) (blocks_at (F.scene host.old) swp.now + blocks_at (F.scene host.old) swo.now) }
 {
     if is_newer(generation_of(swp_opening), generation_of(swo_opening)) {
         let found = read_in_turn(alloc, host, swo, swo_opening, swp, swp_opening)?;

@@ -1,12 +1,10 @@
 // What page 0 and block 1 of the swap files read as.
-ghost use Rattle.std.specs.Prelude.{◌≡◌, ℕ, List, IfOk, OnOk, IsTrue, Err, length, take, IsErrOf};
-ghost use Rattle.vs_faults.specs.Faults.{HasCause};
+ghost use Rattle.std.specs.Prelude.{◌≡◌, ℕ, List, IfOk, IsTrue, length, take};
 ghost use Rattle.vs_host.specs.World.{content_of};
 ghost use Rattle.vs_zero.specs.Zero.{reading_of};
 ghost use Rattle.vs_recover.specs.Choices.{IsOpening, refused_root, root_in, root_of, root_reads};
 ghost use Rattle.vs_recover.specs.Files.{IsFile};
-ghost use Rattle.vs_disk.specs.Runs.{CallsAtMost, NoneFails};
-ghost use Rattle.vs_recover.specs.Reading.{IsThere, Reads};
+ghost use Rattle.vs_recover.specs.Reading.{IsThere, ReadsAtMost};
 
 use crate::Fault;
 use crate::calls::read_part;
@@ -41,11 +39,7 @@ fn reads_root<F: Folder>(
 ) -> Result<bool, Fault>
     requires len { IsThere F.tells (F.scene host.old) name.now (λ file. len ≡ length file) }
     ensures value { IfOk result (λ reads. (file : List ℕ) → IsFile F.tells (F.scene host.old) name.now file → reads ≡ root_reads file size) }
-    ensures cause { HasCause (F.scene host.old).folder_faults (F.scene host.new).folder_faults (IsErrOf result Fault.Failed) }
-    ensures memory { result ≡ Err Fault.NoMemory → NoneFails F.tells (F.scene host.old) (F.scene host.new) }
-    ensures reads { Reads F.tells (F.scene host.old) (F.scene host.new) }
-    ensures none { OnOk result (NoneFails F.tells (F.scene host.old) (F.scene host.new)) }
-    ensures calls { CallsAtMost F.tells (F.scene host.old) (F.scene host.new) 1 }
+    ensures reading { ReadsAtMost F.tells result Fault.Failed (F.scene host.old) (F.scene host.new) 1 }
 {
     let at = u64::from(size);
     if 2 * at > len {
@@ -78,11 +72,7 @@ fn opened_root<F: Folder>(
     requires len { IsThere F.tells (F.scene host.old) name.now (λ file. opening.now.len ≡ length file) }
     requires zero { (file : List ℕ) → IsFile F.tells (F.scene host.old) name.now file → opening.now.zero ≡ reading_of (take 4096 file) }
     ensures root { IfOk result (λ root. (file : List ℕ) → IsFile F.tells (F.scene host.old) name.now file → root ≡ root_in file (reading_of (take 4096 file))) }
-    ensures cause { HasCause (F.scene host.old).folder_faults (F.scene host.new).folder_faults (IsErrOf result Fault.Failed) }
-    ensures memory { result ≡ Err Fault.NoMemory → NoneFails F.tells (F.scene host.old) (F.scene host.new) }
-    ensures reads { Reads F.tells (F.scene host.old) (F.scene host.new) }
-    ensures none { OnOk result (NoneFails F.tells (F.scene host.old) (F.scene host.new)) }
-    ensures calls { CallsAtMost F.tells (F.scene host.old) (F.scene host.new) 1 }
+    ensures reading { ReadsAtMost F.tells result Fault.Failed (F.scene host.old) (F.scene host.new) 1 }
 {
     let zero = match opening.zero {
         Ok(zero) => zero,
@@ -103,11 +93,7 @@ fn read_root<F: Folder>(
 ) -> Result<Root, Fault>
     requires opening { IsTrue F.tells.folder → IsOpening (content_of (F.scene host.old) name.now) opening.now }
     ensures root { IfOk result (λ root. IsTrue F.tells.folder → root ≡ root_of (content_of (F.scene host.old) name.now)) }
-    ensures cause { HasCause (F.scene host.old).folder_faults (F.scene host.new).folder_faults (IsErrOf result Fault.Failed) }
-    ensures memory { result ≡ Err Fault.NoMemory → NoneFails F.tells (F.scene host.old) (F.scene host.new) }
-    ensures reads { Reads F.tells (F.scene host.old) (F.scene host.new) }
-    ensures none { OnOk result (NoneFails F.tells (F.scene host.old) (F.scene host.new)) }
-    ensures calls { CallsAtMost F.tells (F.scene host.old) (F.scene host.new) 1 }
+    ensures reading { ReadsAtMost F.tells result Fault.Failed (F.scene host.old) (F.scene host.new) 1 }
 {
     let Some(opening) = opening else {
         return Ok(Root::Absent);
@@ -135,11 +121,7 @@ pub fn read_roots<F: Folder>(
     requires swo { IsTrue F.tells.folder → IsOpening (content_of (F.scene host.old) swo.now) swo_opening.now }
     ensures swp { IfOk result (λ roots. IsTrue F.tells.folder → roots.swp ≡ root_of (content_of (F.scene host.old) swp.now)) }
     ensures swo { IfOk result (λ roots. IsTrue F.tells.folder → roots.swo ≡ root_of (content_of (F.scene host.old) swo.now)) }
-    ensures cause { HasCause (F.scene host.old).folder_faults (F.scene host.new).folder_faults (IsErrOf result Fault.Failed) }
-    ensures memory { result ≡ Err Fault.NoMemory → NoneFails F.tells (F.scene host.old) (F.scene host.new) }
-    ensures reads { Reads F.tells (F.scene host.old) (F.scene host.new) }
-    ensures none { OnOk result (NoneFails F.tells (F.scene host.old) (F.scene host.new)) }
-    ensures calls { CallsAtMost F.tells (F.scene host.old) (F.scene host.new) 2 }
+    ensures reading { ReadsAtMost F.tells result Fault.Failed (F.scene host.old) (F.scene host.new) 2 }
 {
     let first = read_root(alloc, host, swp, swp_opening)?;
     let second = read_root(alloc, host, swo, swo_opening)?;

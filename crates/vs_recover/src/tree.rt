@@ -1,10 +1,8 @@
 // The tree of a swap file.
-ghost use Rattle.std.specs.Prelude.{◌≡◌, ◌<◌, ◌-◌, ◌/◌, ◌^◌, ℕ, List, IfOk, Err, length, OnOk, IsErrOf};
-ghost use Rattle.vs_faults.specs.Faults.{HasCause};
+ghost use Rattle.std.specs.Prelude.{◌≡◌, ◌<◌, ◌-◌, ◌/◌, ◌^◌, ℕ, List, IfOk, length};
 ghost use Rattle.vs_swap.specs.Files.{pages_in};
 ghost use Rattle.vs_recover.specs.Files.{IsFile, Walked};
-ghost use Rattle.vs_disk.specs.Runs.{CallsAtMost, NoneFails};
-ghost use Rattle.vs_recover.specs.Reading.{IsThere, Reads};
+ghost use Rattle.vs_recover.specs.Reading.{IsThere, ReadsAtMost};
 
 use crate::blocks::{are_wide, load_entries};
 use crate::levels::{Below, read_level};
@@ -23,11 +21,7 @@ pub fn read_tree<F: Folder>(
     requires bound { count < 2 ^ 52 }
     requires count { IsThere F.tells (F.scene host.old) name.now (λ file. count ≡ length file / 4096) }
     ensures value { IfOk result (λ found. (file : List ℕ) → IsFile F.tells (F.scene host.old) name.now file → Walked (pages_in file) found) }
-    ensures cause { HasCause (F.scene host.old).folder_faults (F.scene host.new).folder_faults (IsErrOf result Fault.Failed) }
-    ensures memory { result ≡ Err Fault.NoMemory → NoneFails F.tells (F.scene host.old) (F.scene host.new) }
-    ensures reads { Reads F.tells (F.scene host.old) (F.scene host.new) }
-    ensures none { OnOk result (NoneFails F.tells (F.scene host.old) (F.scene host.new)) }
-    ensures calls { CallsAtMost F.tells (F.scene host.old) (F.scene host.new) (count - 1) }
+    ensures reading { ReadsAtMost F.tells result Fault.Failed (F.scene host.old) (F.scene host.new) (count - 1) }
 {
     if count < 2 {
         return Ok(None);

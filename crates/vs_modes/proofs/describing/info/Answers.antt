@@ -1,16 +1,15 @@
-use Rattle.std.proofs.Common.{Err, ap, ◌∙◌, refl, sym, subst}
+use Rattle.std.proofs.Common.{refl, sym, subst}
 use Rattle.vs_host.specs.declared.names.Names.{Names}
 use Rattle.vs_host.specs.Names.{names_of_file}
 use Rattle.vs_host.specs.World.{Scene, content_of}
-use Rattle.vs_disk.proofs.Runs.{reads_change}
 use Rattle.vs_recover.specs.declared.error.RecErr.{RecErr}
 use Rattle.vs_modes.specs.Refusals.{refusal_of}
 use Rattle.vs_modes.specs.declared.error.ModeErr.TheVariants as refusal
 use Rattle.vs_modes.specs.Info.{AreInfos, RefusesInfo, RunsInfo}
 use Rattle.vs_modes.specs.Modes.{Ended}
 use Rattle.vs_modes.specs.Moments.{IsSame}
-use Rattle.vs_modes.proofs.Phases.{refused_as, reads_proceed, mode_refused, mode_idle, mode_written}
-use Rattle.vs_modes.proofs.RefusalLaws.{infos_refused, infos_are, not_output, is_failed, not_failed}
+use Rattle.vs_modes.proofs.Phases.{failed_as, refused_as, mode_idle, reading_refused, reading_written}
+use Rattle.vs_modes.proofs.RefusalLaws.{infos_refused, infos_are, not_output, reads_refused}
 use Rattle.vs_modes.proofs.describing.info.Goals as goal
 
 pub returns-in_err-names : goal.returns-in_err-names
@@ -28,9 +27,8 @@ returns-in_err-lines g c =
     let why : RecErr = c.in_err-lines.field-0.0 in
     subst (λ (n : Names). RunsInfo g.H.World.tells n s0 s1 c.from_residual-in_err-lines.result) c.in_ok-names.ensures.names
     (subst (λ (r : Ended). RunsInfo g.H.World.tells names s0 s1 r) (refused_as c.from_residual-in_err-lines.result (refusal_of why) c.from_residual-in_err-lines.ensures.1)
-    (mode_refused IsSame (AreInfos (content_of s0 names.swp) (content_of s0 names.swo) names.swp names.swo) (RefusesInfo (content_of s0 names.swp) (content_of s0 names.swo)) g.H.World.tells s0 s1 (refusal_of why) (not_output why)
-    (λ is. c.info.ensures.cause.risen (c.in_err-lines.was ∙ ap (λ (w : RecErr). Err w) (is_failed why is))) (λ not. (c.info.ensures.none (not_failed c.info.result why c.in_err-lines.was not)).faults) c.info.ensures.cause.later (reads_change s0 s1 c.info.ensures.reads.frame) (reads_proceed g.H.World.tells s0 s1 c.info.ensures.reads)
-    (λ told. infos_refused (content_of s0 names.swp) (content_of s0 names.swo) names.swp names.swo why (c.in_err-lines.ensures.answer told))))
+    (reading_refused (AreInfos (content_of s0 names.swp) (content_of s0 names.swo) names.swp names.swo) (RefusesInfo (content_of s0 names.swp) (content_of s0 names.swo)) g.H.World.tells s0 s1 (refusal_of why) (not_output why)
+    (reads_refused {result = failed_as (refusal_of why)} refl refl c.in_err-lines.ensures.reading) (λ told. infos_refused (content_of s0 names.swp) (content_of s0 names.swo) names.swp names.swo why (c.in_err-lines.ensures.answer told))))
 
 pub returns : goal.returns
 returns g c =
@@ -39,6 +37,6 @@ returns g c =
     let s2 : Scene = g.H.World.scene c.write_bytes.new.out in
     let names : Names = c.in_ok-names.names in
     subst (λ (n : Names). RunsInfo g.H.World.tells n s0 s2 c.write_bytes.result) c.in_ok-names.ensures.names
-    (mode_written IsSame (AreInfos (content_of s0 names.swp) (content_of s0 names.swo) names.swp names.swo) (RefusesInfo (content_of s0 names.swp) (content_of s0 names.swo)) g.H.World.tells s0 s1 s2 c.deref.result.now c.write_bytes.result
-    (λ told. subst (AreInfos (content_of s0 names.swp) (content_of s0 names.swo) names.swp names.swo) (sym c.deref.ensures.value) (infos_are (content_of s0 names.swp) (content_of s0 names.swo) names.swp names.swo c.in_ok-lines.lines (c.in_ok-lines.ensures.answer told))) (reads_change s0 s1 c.info.ensures.reads.frame) (c.in_ok-lines.ensures.none (λ is. cc)).faults
-    (c.in_ok-lines.ensures.none (λ is. cc)).quiet (reads_proceed g.H.World.tells s0 s1 c.info.ensures.reads) c.write_bytes.ensures.outputs c.write_bytes.ensures.cause c.write_bytes.ensures.none c.write_bytes.ensures.failed c.write_bytes.ensures.ok c.write_bytes.ensures.err)
+    (reading_written (AreInfos (content_of s0 names.swp) (content_of s0 names.swo) names.swp names.swo) (RefusesInfo (content_of s0 names.swp) (content_of s0 names.swo)) g.H.World.tells s0 s1 s2 c.deref.result.now c.write_bytes.result
+    (λ told. subst (AreInfos (content_of s0 names.swp) (content_of s0 names.swo) names.swp names.swo) (sym c.deref.ensures.value) (infos_are (content_of s0 names.swp) (content_of s0 names.swo) names.swp names.swo c.in_ok-lines.lines (c.in_ok-lines.ensures.answer told)))
+    c.in_ok-lines.ensures.reading c.write_bytes.ensures.outputs c.write_bytes.ensures.cause c.write_bytes.ensures.none c.write_bytes.ensures.failed c.write_bytes.ensures.ok c.write_bytes.ensures.err)

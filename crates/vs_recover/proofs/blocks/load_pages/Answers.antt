@@ -1,9 +1,7 @@
 use Rattle.std.proofs.Common.{◌≡◌, ◌≤◌, ◌<◌, ◌+◌, ◌*◌, ◌/◌, length, arith, sym}
 use Rattle.vs_recover.proofs.PageLaws.{pages_loaded, pages_past}
-use Rattle.vs_disk.proofs.Quiet.{calls_none, none_fails}
-use Rattle.vs_recover.proofs.ReadingLaws.{reads_none}
+use Rattle.vs_recover.proofs.ReadingLaws.{file_has, no_memory, reads_none, there_as}
 use Rattle.vs_recover.proofs.blocks.load_pages.Goals as goal
-use Rattle.vs_recover.proofs.ReadingLaws.{file_has, there_as}
 use Rattle.vs_recover.proofs.blocks.load_pages.Goals.{then-block-count-via-then-block-count, then-block-count-via-else-block-count+then-wanted-count}
 
 pub returns-then-block-count-clause-value : goal.returns-then-block-count-clause-value
@@ -32,20 +30,8 @@ returns-clause-value g c = λ file is.
     let size : length c.deref_mut.result.now ≡ 4096 * c.args.pages = omega (arith, room, c.in_ok-bytes.ensures.len, c.from-wanted.ensures) in
     pages_loaded file c.read_part.new.into _ c.args.count c.args.block c.args.pages (length c.deref_mut.result.now) (c.args.block * 4096) c.in_ok-bytes.bytes.len n (omega arith) (omega arith) (omega arith) size (sym room) read
 
-pub returns-then-block-count-clause-reads : goal.returns-then-block-count-clause-reads
-returns-then-block-count-clause-reads g c = reads_none g.F.World.tells _
+pub returns-then-block-count-clause-reading : goal.returns-then-block-count-clause-reading
+returns-then-block-count-clause-reading g c = reads_none g.F.World.tells (λ is. cc)
 
-pub returns-then-block-count-clause-none : goal.returns-then-block-count-clause-none
-returns-then-block-count-clause-none g c = none_fails g.F.World.tells _
-
-pub returns-in_err-bytes-clause-reads : goal.returns-in_err-bytes-clause-reads
-returns-in_err-bytes-clause-reads g c = reads_none g.F.World.tells _
-
-pub returns-then-block-count-clause-calls : goal.returns-then-block-count-clause-calls
-returns-then-block-count-clause-calls g c = calls_none g.F.World.tells (g.F.World.scene c.args.host.now) 1
-
-pub returns-in_err-bytes-clause-calls : goal.returns-in_err-bytes-clause-calls
-returns-in_err-bytes-clause-calls g c = calls_none g.F.World.tells (g.F.World.scene c.args.host.now) 1
-
-pub returns-in_err-bytes-clause-memory : goal.returns-in_err-bytes-clause-memory
-returns-in_err-bytes-clause-memory g c = λ is. none_fails g.F.World.tells _
+pub returns-in_err-bytes-clause-reading : goal.returns-in_err-bytes-clause-reading
+returns-in_err-bytes-clause-reading g c = reads_none g.F.World.tells (no_memory _ c.from_residual.ensures.1)

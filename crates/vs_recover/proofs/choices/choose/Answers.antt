@@ -1,5 +1,4 @@
-use Rattle.vs_recover.specs.Reading.{blocks_of}
-use Rattle.std.proofs.Common.{List, ℕ, subst, arith, ap}
+use Rattle.std.proofs.Common.{List, ℕ, subst}
 use Rattle.vs_host.specs.World.{content_of}
 use Rattle.vs_recover.specs.Choices.{IsChoice}
 use Rattle.vs_recover.proofs.choices.choose.Goals as goal
@@ -8,6 +7,3 @@ pub returns-clause-answer : goal.returns-clause-answer
 returns-clause-answer g c = λ told.
     subst (λ (a : List ℕ). IsChoice (content_of (g.F.World.scene c.args.host.now) a) (content_of (g.F.World.scene c.args.host.now) c.args.names.now.swo) c.choose_of.result) c.as_str.ensures
     (subst (λ (b : List ℕ). IsChoice (content_of (g.F.World.scene c.args.host.now) c.as_str.result.now) (content_of (g.F.World.scene c.args.host.now) b) c.choose_of.result) c.as_str-2.ensures (c.choose_of.ensures.answer told))
-
-pub returns-clause-calls : goal.returns-clause-calls
-returns-clause-calls g c = record { calls = λ told. omega (arith, c.choose_of.ensures.calls.calls told, ap (λ (n : List ℕ). blocks_of (content_of (g.F.World.scene c.args.host.now) n)) c.as_str.ensures, ap (λ (n : List ℕ). blocks_of (content_of (g.F.World.scene c.args.host.now) n)) c.as_str-2.ensures) }

@@ -1,16 +1,11 @@
-use Rattle.std.proofs.Common.{List, ℕ, Option, Err, ap, sym, subst, ◌∙◌}
+use Rattle.std.proofs.Common.{List, ℕ, Option, sym, subst, ◌∙◌}
 use Rattle.vs_host.specs.World.{content_of}
-use Rattle.vs_recover.specs.declared.error.RecErr.{RecErr}
 use Rattle.vs_recover.specs.Choices.{IsFound}
 use Rattle.vs_recover.proofs.ChoiceLaws.{fault_refuses, roots_are, roots_refuse}
-use Rattle.vs_recover.proofs.ReadingLaws.{unless_failed}
 use Rattle.vs_recover.proofs.choices.choose_of.Goals as goal
 
 pub returns-in-Err-clause-answer : goal.returns-in-Err-clause-answer
 returns-in-Err-clause-answer g c = λ told. fault_refuses _ _ c.in-Err.fault c.error_of.result c.error_of.ensures
-
-pub returns-in-Err-clause-none : goal.returns-in-Err-clause-none
-returns-in-Err-clause-none g c = λ not. unless_failed _ c.find.result c.in-Err.fault c.error_of.result c.in-Err.is c.error_of.ensures c.find.ensures.memory (λ is. not (ap (λ (e : RecErr). Err e) is))
 
 pub returns-in-Text-clause-answer : goal.returns-in-Text-clause-answer
 returns-in-Text-clause-answer g c = λ told. subst (λ found. IsFound (content_of (g.F.World.scene c.args.host.now) c.args.swp.now) (content_of (g.F.World.scene c.args.host.now) c.args.swo.now) found) c.in-Text.is (c.in-Ok.ensures.found told)

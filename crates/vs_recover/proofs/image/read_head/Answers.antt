@@ -1,8 +1,6 @@
 use Rattle.std.proofs.Common.{◌≡◌, ◌≤◌, ◌+◌, length, arith, sym}
 use Rattle.vs_recover.proofs.PageLaws.{head_loaded}
-use Rattle.vs_disk.proofs.Quiet.{none_fails}
-use Rattle.vs_recover.proofs.ReadingLaws.{file_has, there_as}
-use Rattle.vs_recover.proofs.ReadingLaws.{reads_none}
+use Rattle.vs_recover.proofs.ReadingLaws.{file_has, no_memory, reads_none, there_as}
 use Rattle.vs_recover.proofs.image.read_head.Goals as goal
 
 pub read_part-requires : goal.read_part-requires
@@ -20,8 +18,5 @@ returns-clause-value g c = λ file is.
     let room : length c.deref_mut.result.now ≡ c.in_ok-head.head.len = omega (arith, c.deref_mut.ensures.len) in
     head_loaded file c.read_part.new.into _ c.args.len (length c.deref_mut.result.now) 0 c.in_ok-head.head.len n (omega (arith, room, c.in_ok-head.ensures.len, c.min-size.ensures)) (omega arith) (sym room) read
 
-pub returns-in_err-head-clause-reads : goal.returns-in_err-head-clause-reads
-returns-in_err-head-clause-reads g c = reads_none g.F.World.tells _
-
-pub returns-in_err-head-clause-memory : goal.returns-in_err-head-clause-memory
-returns-in_err-head-clause-memory g c = λ is. none_fails g.F.World.tells _
+pub returns-in_err-head-clause-reading : goal.returns-in_err-head-clause-reading
+returns-in_err-head-clause-reading g c = reads_none g.F.World.tells (no_memory _ c.from_residual.ensures.1)

@@ -1,33 +1,17 @@
-use Rattle.std.proofs.Common.{Err, ap}
-use Rattle.vs_recover.specs.declared.error.RecErr.{RecErr}
-use Rattle.vs_disk.proofs.Quiet.{none_then}
-use Rattle.vs_recover.proofs.ReadingLaws.{reads_on, unless_failed}
+use Rattle.std.proofs.Common.{Err, ap, arith}
+use Rattle.vs_recover.proofs.ReadingLaws.{blocks_stay, reads_ended, reads_ok, reads_refused, reads_then, fault_failed}
 use Rattle.vs_recover.proofs.infos.info_of.Goals as goal
 
-pub returns-in-Err-file_info-clause-reads : goal.returns-in-Err-file_info-clause-reads
-returns-in-Err-file_info-clause-reads g c = reads_on c.in-Ok.ensures.none c.file_info.ensures.reads c.file_info-2.ensures.reads
+pub returns-in-Err-file_info-clause-reading : goal.returns-in-Err-file_info-clause-reading
+returns-in-Err-file_info-clause-reading g c = reads_refused c.in-Err-file_info.is c.error_of-in-Err-file_info.ensures (omega (arith, blocks_stay c.in-Ok.ensures.reading c.args.swo.now)) (reads_then c.in-Ok.ensures.reading c.file_info-2.ensures.reading)
 
-pub returns-then-is_empty-2-clause-reads : goal.returns-then-is_empty-2-clause-reads
-returns-then-is_empty-2-clause-reads g c = reads_on c.in-Ok.ensures.none c.file_info.ensures.reads c.file_info-2.ensures.reads
+pub returns-then-is_empty-2-clause-reading : goal.returns-then-is_empty-2-clause-reading
+returns-then-is_empty-2-clause-reading g c = reads_ended (λ is. cc) (omega (arith, blocks_stay c.in-Ok.ensures.reading c.args.swo.now)) (reads_then c.in-Ok.ensures.reading c.in-Ok-file_info.ensures.reading)
 
-pub returns-in-Ok-joined-clause-reads : goal.returns-in-Ok-joined-clause-reads
-returns-in-Ok-joined-clause-reads g c = reads_on c.in-Ok.ensures.none c.file_info.ensures.reads c.file_info-2.ensures.reads
+pub returns-in-Ok-joined-clause-reading : goal.returns-in-Ok-joined-clause-reading
+returns-in-Ok-joined-clause-reading g c = reads_ok (omega (arith, blocks_stay c.in-Ok.ensures.reading c.args.swo.now)) (reads_then c.in-Ok.ensures.reading c.in-Ok-file_info.ensures.reading)
 
-pub returns-in-Ok-joined-clause-none : goal.returns-in-Ok-joined-clause-none
-returns-in-Ok-joined-clause-none g c = λ not. none_then _ _ _ _ c.in-Ok.ensures.none c.in-Ok-file_info.ensures.none
-
-pub returns-clause-reads : goal.returns-clause-reads
-returns-clause-reads g c = reads_on c.in-Ok.ensures.none c.file_info.ensures.reads c.file_info-2.ensures.reads
-
-pub returns-in-Err-clause-none : goal.returns-in-Err-clause-none
-returns-in-Err-clause-none g c = λ not. unless_failed _ c.file_info.result c.in-Err.fault c.error_of.result c.in-Err.is c.error_of.ensures c.file_info.ensures.memory (λ is. not (ap (λ (e : RecErr). Err e) is))
-
-pub returns-in-Err-file_info-clause-none : goal.returns-in-Err-file_info-clause-none
-returns-in-Err-file_info-clause-none g c = λ not. none_then _ _ _ _ c.in-Ok.ensures.none
-    (unless_failed _ c.file_info-2.result c.in-Err-file_info.fault c.error_of-in-Err-file_info.result c.in-Err-file_info.is c.error_of-in-Err-file_info.ensures c.file_info-2.ensures.memory (λ is. not (ap (λ (e : RecErr). Err e) is)))
-
-pub returns-then-is_empty-2-clause-none : goal.returns-then-is_empty-2-clause-none
-returns-then-is_empty-2-clause-none g c = λ not. none_then _ _ _ _ c.in-Ok.ensures.none c.in-Ok-file_info.ensures.none
-
-pub returns-clause-none : goal.returns-clause-none
-returns-clause-none g c = λ not. none_then _ _ _ _ c.in-Ok.ensures.none c.in-Ok-file_info.ensures.none
+pub returns-clause-reading : goal.returns-clause-reading
+returns-clause-reading g c =
+    let became = c.error_of-in-Err-joined.ensures in
+    reads_ended (λ is. c.in-Err-joined.ensures.failed (ap (λ f. Err f) (fault_failed c.in-Err-joined.fault (cc)))) (omega (arith, blocks_stay c.in-Ok.ensures.reading c.args.swo.now)) (reads_then c.in-Ok.ensures.reading c.in-Ok-file_info.ensures.reading)

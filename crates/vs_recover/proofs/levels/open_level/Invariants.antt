@@ -1,6 +1,7 @@
-use Rattle.std.proofs.Common.{◌≤◌, ℕ, List}
-use Rattle.vs_disk.specs.Runs.{CallsAtMost, NoneFails}
-use Rattle.vs_recover.specs.Reading.{Reads}
+use Rattle.std.proofs.Common.{ℕ, List, Ok}
+use Rattle.vs_recover.specs.declared.error.Fault.{Fault}
+use Rattle.vs_recover.specs.declared.error.Fault.TheVariants.{Failed}
+use Rattle.vs_recover.specs.Reading.{ReadsAtMost}
 use Rattle.vs_swap.specs.Files.{pages_in, swap_format}
 use Rattle.vs_recover.specs.Files.{IsFile}
 use Rattle.vs_recover.specs.Levels.{points_at}
@@ -12,8 +13,5 @@ abbrev pub invariant-loop-entry : goal.invariant-loop-entry
 invariant-loop-entry g l = record {
   so : (file : List ℕ) → IsFile g.F.World.tells (g.F.World.scene l.fn.host) l.name file → So (λ e. points_at swap_format (pages_in file) e) l.fn.points.items l.others l.entry-index l.next.items;
   marked : IsMarked l.fn.marks l.marks l.next.items;
-  later : (g.F.World.scene l.fn.host).folder_faults ≤ (g.F.World.scene l.host).folder_faults;
-  reads : Reads g.F.World.tells (g.F.World.scene l.fn.host) (g.F.World.scene l.host);
-  none : NoneFails g.F.World.tells (g.F.World.scene l.fn.host) (g.F.World.scene l.host);
-  calls : CallsAtMost g.F.World.tells (g.F.World.scene l.fn.host) (g.F.World.scene l.host) l.entry-index;
+  reading : ReadsAtMost g.F.World.tells {E = Fault} (Ok l.next) Failed (g.F.World.scene l.fn.host) (g.F.World.scene l.host) l.entry-index;
 }

@@ -7,10 +7,9 @@ use Rattle.vs_recover.specs.Levels.{chained, fitting_lines, lines_at, points_at}
 use Rattle.vs_recover.specs.Marks.{used_in}
 use Rattle.vs_recover.proofs.ChainLaws.{chained_first, plain_back, wide_rest}
 use Rattle.vs_recover.proofs.MarkLaws.{wide_at}
-use Rattle.vs_recover.proofs.PageLaws.{extends_none, extends_some, file_stays, gives_list, gives_none, if_none, if_some}
+use Rattle.vs_recover.proofs.PageLaws.{extends_none, extends_some, gives_list, gives_none, if_none, if_some}
 use Rattle.vs_recover.proofs.WalkLaws.{level_clashes, level_gathered, level_opened, level_stops, level_unread, lines_gone, lines_of, pointers_alone, points_gone, points_of}
-use Rattle.vs_disk.proofs.Quiet.{none_then}
-use Rattle.vs_recover.proofs.ReadingLaws.{memory_then, reads_on, there_stays}
+use Rattle.vs_recover.proofs.ReadingLaws.{file_stays, reads_ok, reads_passed, reads_then, there_stays}
 use Rattle.vs_recover.proofs.levels.read_level.Goals as goal
 
 pub load_pages-requires : goal.load_pages-requires
@@ -27,7 +26,7 @@ returns-in_default-3-clause-found g c = λ file is.
     let bytes : pages_at m c.args.first.now.block c.args.first.now.pages ≡ Some c.deref.result.now = gives_list _ _ c.in-Some.bytes c.in-Some.is (c.in_ok-bytes.ensures.value file is) ∙ ap (λ (bs : List ℕ). Some bs) (sym c.deref.ensures.value) in
     let fits = gives_list _ _ c.in-Some-2.points c.in-Some-2.is c.in_ok-points.ensures.value in
     let points : points_at swap_format m c.args.first.now ≡ Some c.in-Some-2.points.items = points_of m c.args.first.now c.deref.result.now bytes ∙ fits in
-    let here = file_stays _ _ _ _ file c.load_pages.ensures.reads.frame is in
+    let here = file_stays c.load_pages.ensures.reading is in
     level_clashes (pages_in file) (λ k. used_in c.args.marks.now k) c.args.first.now c.args.others.now c.in-Some-2.points.items points (pointers_alone m c.args.first.now c.deref.result.now c.in-Some-2.points.items bytes fits)
     (if_none _ _ c.in_default-3.is c.in_ok-next.ensures.clash file here)
 
@@ -37,7 +36,7 @@ returns-in-Some-2-clause-found g c = λ file is.
     let bytes : pages_at m c.args.first.now.block c.args.first.now.pages ≡ Some c.deref.result.now = gives_list _ _ c.in-Some.bytes c.in-Some.is (c.in_ok-bytes.ensures.value file is) ∙ ap (λ (bs : List ℕ). Some bs) (sym c.deref.ensures.value) in
     let fits = gives_list _ _ c.in-Some-2.points c.in-Some-2.is c.in_ok-points.ensures.value in
     let points : points_at swap_format m c.args.first.now ≡ Some c.in-Some-2.points.items = points_of m c.args.first.now c.deref.result.now bytes ∙ fits in
-    let here = file_stays _ _ _ _ file c.load_pages.ensures.reads.frame is in
+    let here = file_stays c.load_pages.ensures.reading is in
     level_opened (pages_in file) (λ k. used_in c.args.marks.now k) c.args.first.now c.args.others.now c.in-Some-2.points.items c.in-Some-3.next points (if_some _ c.in-Some-3.next _ c.in-Some-3.is c.in_ok-next.ensures.next file here)
 
 pub returns-then-not-branch-clause-found : goal.returns-then-not-branch-clause-found
@@ -60,7 +59,7 @@ returns-in_default-4-clause-found g c = λ file is.
     let read : chained (Some []) (plain (fitting_lines c.args.first.now (lines_in c.deref-2.result.now))) ≡ Some c.read_lines.new.lines =
     ap (λ xs. chained (Some xs) (plain (fitting_lines c.args.first.now (lines_in c.deref-2.result.now)))) (sym none) ∙ extends_some _ _ _ _ c.if-not-branch.false c.in_ok-read_lines.ensures.value in
     let lines : plain (lines_at swap_format m c.args.first.now) ≡ Some c.read_lines.new.lines = ap (λ o. plain o) same ∙ (sym (chained_first (plain (fitting_lines c.args.first.now (lines_in c.deref-2.result.now)))) ∙ read) in
-    let here = file_stays _ _ _ _ file c.load_pages.ensures.reads.frame is in
+    let here = file_stays c.load_pages.ensures.reading is in
     level_stops (pages_in file) (λ k. used_in c.args.marks.now k) c.args.first.now c.args.others.now c.read_lines.new.lines points lines (c.in_ok-all.ensures.value file here ∙ c.in_default-4.is)
 
 pub returns-clause-found : goal.returns-clause-found
@@ -74,7 +73,7 @@ returns-clause-found g c = λ file is.
     let read : chained (Some []) (plain (fitting_lines c.args.first.now (lines_in c.deref-2.result.now))) ≡ Some c.read_lines.new.lines =
     ap (λ xs. chained (Some xs) (plain (fitting_lines c.args.first.now (lines_in c.deref-2.result.now)))) (sym none) ∙ extends_some _ _ _ _ c.if-not-branch.false c.in_ok-read_lines.ensures.value in
     let lines : plain (lines_at swap_format m c.args.first.now) ≡ Some c.read_lines.new.lines = ap (λ o. plain o) same ∙ (sym (chained_first (plain (fitting_lines c.args.first.now (lines_in c.deref-2.result.now)))) ∙ read) in
-    let here = file_stays _ _ _ _ file c.load_pages.ensures.reads.frame is in
+    let here = file_stays c.load_pages.ensures.reading is in
     level_gathered (pages_in file) (λ k. used_in c.args.marks.now k) c.args.first.now c.args.others.now c.read_lines.new.lines c.in-Some-4.all lines (c.in_ok-all.ensures.value file here ∙ c.in-Some-4.is)
 
 pub open_level-requires : goal.open_level-requires
@@ -82,51 +81,33 @@ open_level-requires g c = record {
   points = if_some _ c.in-Some-2.points _ c.in-Some-2.is c.in_ok-points.ensures.wide;
   wide = wide_rest c.args.first.now c.args.others.now c.requires.wide;
   bound = c.requires.bound;
-  count = there_stays g.F.World.tells (g.F.World.scene c.args.host.now) (g.F.World.scene c.load_pages.new.host) c.args.name.now (λ file. c.args.count ≡ length file / 4096) c.load_pages.ensures.reads.frame c.requires.count;
+  count = there_stays c.load_pages.ensures.reading c.args.name.now (λ file. c.args.count ≡ length file / 4096) c.requires.count;
 }
 
 pub gather_level-requires : goal.gather_level-requires
 gather_level-requires g c = record {
   wide = wide_rest c.args.first.now c.args.others.now c.requires.wide;
   bound = c.requires.bound;
-  count = there_stays g.F.World.tells (g.F.World.scene c.args.host.now) (g.F.World.scene c.load_pages.new.host) c.args.name.now (λ file. c.args.count ≡ length file / 4096) c.load_pages.ensures.reads.frame c.requires.count;
+  count = there_stays c.load_pages.ensures.reading c.args.name.now (λ file. c.args.count ≡ length file / 4096) c.requires.count;
 }
 
 pub returns-in-Some-2-clause-marked : goal.returns-in-Some-2-clause-marked
 returns-in-Some-2-clause-marked g c = if_some _ c.in-Some-3.next _ c.in-Some-3.is c.in_ok-next.ensures.marked
 
-pub returns-in_err-next-clause-reads : goal.returns-in_err-next-clause-reads
-returns-in_err-next-clause-reads g c = reads_on c.in_ok-bytes.ensures.none c.load_pages.ensures.reads c.open_level.ensures.reads
+pub returns-in_err-next-clause-reading : goal.returns-in_err-next-clause-reading
+returns-in_err-next-clause-reading g c = reads_passed c.in_err-next.was c.from_residual-in_err-next.ensures.1 (omega arith) (reads_then c.in_ok-bytes.ensures.reading c.open_level.ensures.reading)
 
-pub returns-in_default-3-clause-reads : goal.returns-in_default-3-clause-reads
-returns-in_default-3-clause-reads g c = reads_on c.in_ok-bytes.ensures.none c.load_pages.ensures.reads c.open_level.ensures.reads
+pub returns-in_default-3-clause-reading : goal.returns-in_default-3-clause-reading
+returns-in_default-3-clause-reading g c = reads_ok (omega arith) (reads_then c.in_ok-bytes.ensures.reading c.in_ok-next.ensures.reading)
 
-pub returns-in-Some-2-clause-reads : goal.returns-in-Some-2-clause-reads
-returns-in-Some-2-clause-reads g c = reads_on c.in_ok-bytes.ensures.none c.load_pages.ensures.reads c.open_level.ensures.reads
+pub returns-in-Some-2-clause-reading : goal.returns-in-Some-2-clause-reading
+returns-in-Some-2-clause-reading g c = reads_ok (omega arith) (reads_then c.in_ok-bytes.ensures.reading c.in_ok-next.ensures.reading)
 
-pub returns-in_err-all-clause-reads : goal.returns-in_err-all-clause-reads
-returns-in_err-all-clause-reads g c = reads_on c.in_ok-bytes.ensures.none c.load_pages.ensures.reads c.gather_level.ensures.reads
+pub returns-in_err-all-clause-reading : goal.returns-in_err-all-clause-reading
+returns-in_err-all-clause-reading g c = reads_passed c.in_err-all.was c.from_residual-in_err-all.ensures.1 (omega arith) (reads_then c.in_ok-bytes.ensures.reading c.gather_level.ensures.reading)
 
-pub returns-in_default-4-clause-reads : goal.returns-in_default-4-clause-reads
-returns-in_default-4-clause-reads g c = reads_on c.in_ok-bytes.ensures.none c.load_pages.ensures.reads c.gather_level.ensures.reads
+pub returns-in_default-4-clause-reading : goal.returns-in_default-4-clause-reading
+returns-in_default-4-clause-reading g c = reads_ok (omega arith) (reads_then c.in_ok-bytes.ensures.reading c.in_ok-all.ensures.reading)
 
-pub returns-clause-reads : goal.returns-clause-reads
-returns-clause-reads g c = reads_on c.in_ok-bytes.ensures.none c.load_pages.ensures.reads c.gather_level.ensures.reads
-
-pub returns-in_default-3-clause-none : goal.returns-in_default-3-clause-none
-returns-in_default-3-clause-none g c = none_then _ _ _ _ c.in_ok-bytes.ensures.none c.in_ok-next.ensures.none
-
-pub returns-in-Some-2-clause-none : goal.returns-in-Some-2-clause-none
-returns-in-Some-2-clause-none g c = none_then _ _ _ _ c.in_ok-bytes.ensures.none c.in_ok-next.ensures.none
-
-pub returns-in_default-4-clause-none : goal.returns-in_default-4-clause-none
-returns-in_default-4-clause-none g c = none_then _ _ _ _ c.in_ok-bytes.ensures.none c.in_ok-all.ensures.none
-
-pub returns-clause-none : goal.returns-clause-none
-returns-clause-none g c = none_then _ _ _ _ c.in_ok-bytes.ensures.none c.in_ok-all.ensures.none
-
-pub returns-in_err-next-clause-memory : goal.returns-in_err-next-clause-memory
-returns-in_err-next-clause-memory g c = memory_then c.open_level.result c.from_residual-in_err-next.result _ c.in_ok-bytes.ensures.none c.open_level.ensures.memory c.in_err-next.was c.from_residual-in_err-next.ensures.1
-
-pub returns-in_err-all-clause-memory : goal.returns-in_err-all-clause-memory
-returns-in_err-all-clause-memory g c = memory_then c.gather_level.result c.from_residual-in_err-all.result _ c.in_ok-bytes.ensures.none c.gather_level.ensures.memory c.in_err-all.was c.from_residual-in_err-all.ensures.1
+pub returns-clause-reading : goal.returns-clause-reading
+returns-clause-reading g c = reads_ok (omega arith) (reads_then c.in_ok-bytes.ensures.reading c.in_ok-all.ensures.reading)

@@ -1,4 +1,4 @@
-use Rattle.std.proofs.Common.{sym, arith}
+use Rattle.std.proofs.Common.{sym}
 use Rattle.vs_recover.specs.Choices.{generation_of}
 use Rattle.vs_recover.proofs.ChoiceLaws.{first_recovers, newer_of, says_generation, second_recovers}
 use Rattle.vs_recover.proofs.newest.read_newer.Goals as goal
@@ -12,9 +12,3 @@ pub returns-clause-text : goal.returns-clause-text
 returns-clause-text g c = λ told.
     first_recovers _ _ (generation_of c.args.swp_opening.now) (generation_of c.args.swo_opening.now) _ (says_generation _ _ (c.requires.swp told)) (says_generation _ _ (c.requires.swo told))
     (newer_of _ _ _ _ c.generation_of.ensures c.generation_of-2.ensures (sym c.if-is_newer.ensures)) (c.in_ok-found-2.ensures.text told)
-
-pub returns-in_err-found-clause-calls : goal.returns-in_err-found-clause-calls
-returns-in_err-found-clause-calls g c = record { calls = λ told. omega (arith, c.read_in_turn.ensures.calls.calls told) }
-
-pub returns-then-is_newer-clause-calls : goal.returns-then-is_newer-clause-calls
-returns-then-is_newer-clause-calls g c = record { calls = λ told. omega (arith, c.read_in_turn.ensures.calls.calls told) }

@@ -3,19 +3,12 @@ use Rattle.vs_zero.specs.declared.Zero.{Zero}
 use Rattle.vs_zero.specs.declared.ZeroErr.{ZeroErr}
 use Rattle.vs_recover.specs.Choices.{root_in}
 use Rattle.vs_recover.proofs.ChoiceLaws.{root_tree, root_no_tree}
-use Rattle.vs_disk.proofs.Quiet.{none_fails, calls_none}
 use Rattle.vs_recover.proofs.ReadingLaws.{reads_none}
 use Rattle.vs_recover.proofs.roots.opened_root.Goals as goal
 
 pub returns-in-Err-clause-root : goal.returns-in-Err-clause-root
 returns-in-Err-clause-root g c = λ file is.
     c.refused_root.ensures ∙ ap (λ (z : Result Zero ZeroErr). root_in file z) (sym c.in-Err.is ∙ c.requires.zero file is)
-
-pub returns-in-Err-clause-reads : goal.returns-in-Err-clause-reads
-returns-in-Err-clause-reads g c = reads_none g.F.World.tells _
-
-pub returns-in-Err-clause-none : goal.returns-in-Err-clause-none
-returns-in-Err-clause-none g c = none_fails g.F.World.tells _
 
 pub returns-then-branch-clause-root : goal.returns-then-branch-clause-root
 returns-then-branch-clause-root g c = λ file is.
@@ -25,5 +18,5 @@ pub returns-clause-root : goal.returns-clause-root
 returns-clause-root g c = λ file is.
     root_no_tree file c.in-Ok.zero c.in_ok-reads_root.field-0 (sym (c.requires.zero file is) ∙ c.in-Ok.is) (c.in_ok-reads_root.ensures.value file is) c.if-branch.false
 
-pub returns-in-Err-clause-calls : goal.returns-in-Err-clause-calls
-returns-in-Err-clause-calls g c = calls_none g.F.World.tells (g.F.World.scene c.args.host.now) 1
+pub returns-in-Err-clause-reading : goal.returns-in-Err-clause-reading
+returns-in-Err-clause-reading g c = reads_none g.F.World.tells (λ is. cc)

@@ -1,5 +1,4 @@
 use Rattle.vs_recover.proofs.ChoiceLaws.{found_file, opening_len, opening_zero, root_absent, root_some}
-use Rattle.vs_disk.proofs.Quiet.{none_fails, calls_none}
 use Rattle.vs_recover.proofs.ReadingLaws.{reads_none}
 use Rattle.vs_recover.proofs.roots.read_root.Goals as goal
 
@@ -12,15 +11,9 @@ opened_root-requires g c = record {
 pub returns-in_default-clause-root : goal.returns-in_default-clause-root
 returns-in_default-clause-root g c = λ told. root_absent _ _ c.in_default.is (c.requires.opening told)
 
-pub returns-in_default-clause-reads : goal.returns-in_default-clause-reads
-returns-in_default-clause-reads g c = reads_none g.F.World.tells _
-
-pub returns-in_default-clause-none : goal.returns-in_default-clause-none
-returns-in_default-clause-none g c = none_fails g.F.World.tells _
-
 pub returns-clause-root : goal.returns-clause-root
 returns-clause-root g c = λ told. root_some _ c.in_ok-root.root c.args.opening.now c.in-Some.opening c.in-Some.is (c.requires.opening told)
     (λ file is. c.in_ok-root.ensures.root file (found_file g.F.World.tells (g.F.World.scene c.args.host.now) c.args.name.now file told is))
 
-pub returns-in_default-clause-calls : goal.returns-in_default-clause-calls
-returns-in_default-clause-calls g c = calls_none g.F.World.tells (g.F.World.scene c.args.host.now) 1
+pub returns-in_default-clause-reading : goal.returns-in_default-clause-reading
+returns-in_default-clause-reading g c = reads_none g.F.World.tells (λ is. cc)

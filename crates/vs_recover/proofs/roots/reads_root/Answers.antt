@@ -1,7 +1,5 @@
 use Rattle.std.proofs.Common.{◌≡◌, ◌≤◌, ◌+◌, length, arith}
-use Rattle.vs_disk.proofs.Quiet.{none_fails, calls_none}
-use Rattle.vs_recover.proofs.ReadingLaws.{there_as}
-use Rattle.vs_recover.proofs.ReadingLaws.{reads_none}
+use Rattle.vs_recover.proofs.ReadingLaws.{no_memory, reads_none, there_as}
 use Rattle.vs_recover.proofs.roots.reads_root.Goals as goal
 
 pub read_part-requires : goal.read_part-requires
@@ -13,17 +11,8 @@ read_part-requires g c =
           (λ file. c.from-at.result + length c.deref_mut.result.now ≤ length file) (λ file n. omega (arith, n, size, c.from-at.ensures)) c.requires.len;
     }
 
-pub returns-then-at-len-clause-reads : goal.returns-then-at-len-clause-reads
-returns-then-at-len-clause-reads g c = reads_none g.F.World.tells _
+pub returns-then-at-len-clause-reading : goal.returns-then-at-len-clause-reading
+returns-then-at-len-clause-reading g c = reads_none g.F.World.tells (λ is. cc)
 
-pub returns-in_err-block-clause-reads : goal.returns-in_err-block-clause-reads
-returns-in_err-block-clause-reads g c = reads_none g.F.World.tells _
-
-pub returns-in_err-block-clause-memory : goal.returns-in_err-block-clause-memory
-returns-in_err-block-clause-memory g c = λ is. none_fails g.F.World.tells _
-
-pub returns-then-at-len-clause-calls : goal.returns-then-at-len-clause-calls
-returns-then-at-len-clause-calls g c = calls_none g.F.World.tells (g.F.World.scene c.args.host.now) 1
-
-pub returns-in_err-block-clause-calls : goal.returns-in_err-block-clause-calls
-returns-in_err-block-clause-calls g c = calls_none g.F.World.tells (g.F.World.scene c.args.host.now) 1
+pub returns-in_err-block-clause-reading : goal.returns-in_err-block-clause-reading
+returns-in_err-block-clause-reading g c = reads_none g.F.World.tells (no_memory _ c.from_residual.ensures.1)

@@ -9,11 +9,10 @@ use Rattle.vs_recover.specs.Levels.{are_wide, taken, first_used, gathered, opene
 use Rattle.vs_recover.specs.Marks.{used_in}
 use Rattle.vs_recover.specs.Walks.{FindsBelow}
 use Rattle.vs_recover.proofs.MarkLaws.{used_most}
-use Rattle.vs_recover.proofs.PageLaws.{pages_past, file_stays, gives_none, gives_list, no_items}
+use Rattle.vs_recover.proofs.PageLaws.{pages_past, gives_none, gives_list, no_items}
 use Rattle.vs_recover.proofs.StageLaws.{stage_begins, stage_next, stage_ends, stage_stops, stage_empty, no_root, no_wide_root, no_first}
 use Rattle.vs_recover.proofs.WalkLaws.{found_at, marked_at, none_first}
-use Rattle.vs_disk.proofs.Quiet.{none_fails, none_then}
-use Rattle.vs_recover.proofs.ReadingLaws.{file_has, memory_then, reads_none, reads_on, there_stays}
+use Rattle.vs_recover.proofs.ReadingLaws.{file_has, file_stays, reads_ended, reads_none, reads_ok, reads_passed, reads_then, there_stays}
 use Rattle.vs_recover.proofs.tree.read_tree.Goals as goal
 
 pub returns-then-count-lt2-clause-value : goal.returns-then-count-lt2-clause-value
@@ -43,10 +42,8 @@ levels-init g c = record {
       stage_begins file c.args.count _ c.in-Some.level.items (file_has _ _ _ file _ c.requires.count is) reads
       (λ k. c.if-not-mark_all.ensures.used refl k ∙ (ap (λ n. n + taken c.deref-2.result.now k) (c.in_ok-marks.ensures.used k) ∙ ap (λ es. first_used c.args.count k + taken es k) c.deref-2.ensures.value));
   wide = ap (λ es. are_wide es) (sym c.deref.ensures.value) ∙ sym c.if-not-are_wide.ensures;
-  later = omega (arith, c.in_ok-level.ensures.cause.later);
-  reads = c.load_entries.ensures.reads;
-  none = c.in_ok-level.ensures.none;
-  calls = λ told. omega (arith, c.load_entries.ensures.calls.calls told, c.if-not-mark_all.ensures.free refl, c.in_ok-marks.ensures.free, ap length c.deref-2.ensures.value);
+  room = omega (arith, c.if-not-mark_all.ensures.free refl, c.in_ok-marks.ensures.free, ap length c.deref-2.ensures.value);
+  reading = reads_ended (λ is. cc) (omega (arith, c.if-not-mark_all.ensures.free refl, c.in_ok-marks.ensures.free, ap length c.deref-2.ensures.value)) c.in_ok-level.ensures.reading;
 }
 
 pub read_level-requires : goal.read_level-requires
@@ -55,7 +52,7 @@ read_level-requires g c =
     record {
       wide = ap (λ es. are_wide es) (sym all ∙ c.deref-in-levels.ensures.value) ∙ c.levels.invariant.wide;
       bound = c.requires.bound;
-      count = there_stays g.F.World.tells (g.F.World.scene c.args.host.now) (g.F.World.scene c.levels.host) c.args.name.now (λ file. c.args.count ≡ length file / 4096) c.levels.invariant.reads.frame c.requires.count;
+      count = there_stays c.levels.invariant.reading c.args.name.now (λ file. c.args.count ≡ length file / 4096) c.requires.count;
     }
 
 pub levels-preserved : goal.levels-preserved
@@ -65,16 +62,14 @@ levels-preserved g c =
     let marked = marked_at _ _ _ c.in-Some-Entries.next (c.in-Some-Entries.is ∙ ap (λ (b : Below). Some b) c.in-Some-Entries.field-0-is) c.in_ok-next.ensures.marked in
     record {
       stage = λ file is.
-          let here = file_stays _ _ _ _ file c.levels.invariant.reads.frame is in
+          let here = file_stays c.levels.invariant.reading is in
           let found : opened swap_format (pages_in file) (c.in-Some-split_first.first.now ∷ c.in-Some-split_first.others.now) ≡ Some c.in-Some-Entries.next.items =
           found_at (pages_in file) (λ k. used_in c.levels.marks k) (c.in-Some-split_first.first.now ∷ c.in-Some-split_first.others.now) _ c.in-Some-Entries.next (c.in-Some-Entries.is ∙ ap (λ (b : Below). Some b) c.in-Some-Entries.field-0-is) (c.in_ok-next.ensures.found file here) in
           stage_next (pages_in file) (λ k. used_in c.levels.marks k) _ c.levels.level.items c.in-Some-Entries.next.items (λ k. marked.used k)
           (ap (λ es. opened swap_format (pages_in file) es) (sym level) ∙ found) (c.levels.invariant.stage file is);
       wide = marked.wide;
-      later = omega (arith, c.in_ok-next.ensures.cause.later, c.levels.invariant.later);
-      reads = reads_on c.levels.invariant.none c.levels.invariant.reads c.read_level.ensures.reads;
-      none = none_then _ _ _ _ c.levels.invariant.none c.in_ok-next.ensures.none;
-      calls = λ told. omega (arith, c.levels.invariant.calls told, c.read_level.ensures.calls.calls told, marked.free, ap length level);
+      room = omega (arith, c.levels.invariant.room, marked.free);
+      reading = reads_ok (omega (arith, c.levels.invariant.room, marked.free, ap length level)) (reads_then c.levels.invariant.reading c.in_ok-next.ensures.reading);
     }
 
 pub levels-smaller : goal.levels-smaller
@@ -88,7 +83,7 @@ pub returns-in-Some-Lines-clause-value : goal.returns-in-Some-Lines-clause-value
 returns-in-Some-Lines-clause-value g c = λ file is.
     let all = (MatchOption-at_some _ _ _ c.in-Some-split_first.is c.split_first.ensures.cases).0 in
     let level : c.in-Some-split_first.first.now ∷ c.in-Some-split_first.others.now ≡ c.levels.level.items = sym all ∙ c.deref-in-levels.ensures.value in
-    let here = file_stays _ _ _ _ file c.levels.invariant.reads.frame is in
+    let here = file_stays c.levels.invariant.reading is in
     let found = subst (λ o. FindsBelow (pages_in file) (λ k. used_in c.levels.marks k) (c.in-Some-split_first.first.now ∷ c.in-Some-split_first.others.now) o) (c.in-Some-Lines.is ∙ ap (λ (b : Below). Some b) c.in-Some-Lines.field-0-is) (c.in_ok-next.ensures.found file here) in
     stage_ends (pages_in file) (λ k. used_in c.levels.marks k) c.levels.level.items c.in-Some-Lines.lines (λ k. used_most c.levels.marks k) (c.levels.invariant.stage file is)
     (ap (λ es. plain (gathered swap_format (pages_in file) es)) (sym level) ∙ found)
@@ -97,7 +92,7 @@ pub returns-in-None-clause-value : goal.returns-in-None-clause-value
 returns-in-None-clause-value g c = λ file is.
     let all = (MatchOption-at_some _ _ _ c.in-Some-split_first.is c.split_first.ensures.cases).0 in
     let level : c.in-Some-split_first.first.now ∷ c.in-Some-split_first.others.now ≡ c.levels.level.items = sym all ∙ c.deref-in-levels.ensures.value in
-    let here = file_stays _ _ _ _ file c.levels.invariant.reads.frame is in
+    let here = file_stays c.levels.invariant.reading is in
     let found : FindsBelow (pages_in file) (λ k. used_in c.levels.marks k) c.levels.level.items None =
     subst (λ es. FindsBelow (pages_in file) (λ k. used_in c.levels.marks k) es None) level
     (subst (λ o. FindsBelow (pages_in file) (λ k. used_in c.levels.marks k) (c.in-Some-split_first.first.now ∷ c.in-Some-split_first.others.now) o) c.in-None.is (c.in_ok-next.ensures.found file here)) in
@@ -108,26 +103,23 @@ returns-clause-value g c = λ file is.
     let none : length c.levels.level.items ≡ 0 = omega (arith, ap length (sym c.deref-in-levels.ensures.value), none_first _ _ c.in_default-split_first.is c.split_first.ensures.cases) in
     stage_empty (pages_in file) (λ k. used_in c.levels.marks k) c.levels.level.items c.new-2.result (λ k. used_most c.levels.marks k) (no_items _ none) c.new-2.ensures (c.levels.invariant.stage file is)
 
-pub returns-then-count-lt2-clause-reads : goal.returns-then-count-lt2-clause-reads
-returns-then-count-lt2-clause-reads g c = reads_none g.F.World.tells _
+pub returns-then-count-lt2-clause-reading : goal.returns-then-count-lt2-clause-reading
+returns-then-count-lt2-clause-reading g c = reads_none g.F.World.tells (λ is. cc)
 
-pub returns-then-count-lt2-clause-none : goal.returns-then-count-lt2-clause-none
-returns-then-count-lt2-clause-none g c = none_fails g.F.World.tells _
+pub returns-in_err-next-clause-reading : goal.returns-in_err-next-clause-reading
+returns-in_err-next-clause-reading g c =
+    let all = (MatchOption-at_some _ _ _ c.in-Some-split_first.is c.split_first.ensures.cases).0 in
+    let level : c.in-Some-split_first.first.now ∷ c.in-Some-split_first.others.now ≡ c.levels.level.items = sym all ∙ c.deref-in-levels.ensures.value in
+    reads_passed c.in_err-next.was c.from_residual-in_err-next.ensures.1 (omega (arith, c.levels.invariant.room, ap length level)) (reads_then c.levels.invariant.reading c.read_level.ensures.reading)
 
-pub returns-in_err-next-clause-reads : goal.returns-in_err-next-clause-reads
-returns-in_err-next-clause-reads g c = reads_on c.levels.invariant.none c.levels.invariant.reads c.read_level.ensures.reads
+pub returns-in-Some-Lines-clause-reading : goal.returns-in-Some-Lines-clause-reading
+returns-in-Some-Lines-clause-reading g c =
+    let all = (MatchOption-at_some _ _ _ c.in-Some-split_first.is c.split_first.ensures.cases).0 in
+    let level : c.in-Some-split_first.first.now ∷ c.in-Some-split_first.others.now ≡ c.levels.level.items = sym all ∙ c.deref-in-levels.ensures.value in
+    reads_ok (omega (arith, c.levels.invariant.room, ap length level)) (reads_then c.levels.invariant.reading c.in_ok-next.ensures.reading)
 
-pub returns-in-Some-Lines-clause-reads : goal.returns-in-Some-Lines-clause-reads
-returns-in-Some-Lines-clause-reads g c = reads_on c.levels.invariant.none c.levels.invariant.reads c.read_level.ensures.reads
-
-pub returns-in-Some-Lines-clause-none : goal.returns-in-Some-Lines-clause-none
-returns-in-Some-Lines-clause-none g c = none_then _ _ _ _ c.levels.invariant.none c.in_ok-next.ensures.none
-
-pub returns-in-None-clause-reads : goal.returns-in-None-clause-reads
-returns-in-None-clause-reads g c = reads_on c.levels.invariant.none c.levels.invariant.reads c.read_level.ensures.reads
-
-pub returns-in-None-clause-none : goal.returns-in-None-clause-none
-returns-in-None-clause-none g c = none_then _ _ _ _ c.levels.invariant.none c.in_ok-next.ensures.none
-
-pub returns-in_err-next-clause-memory : goal.returns-in_err-next-clause-memory
-returns-in_err-next-clause-memory g c = memory_then c.read_level.result c.from_residual-in_err-next.result _ c.levels.invariant.none c.read_level.ensures.memory c.in_err-next.was c.from_residual-in_err-next.ensures.1
+pub returns-in-None-clause-reading : goal.returns-in-None-clause-reading
+returns-in-None-clause-reading g c =
+    let all = (MatchOption-at_some _ _ _ c.in-Some-split_first.is c.split_first.ensures.cases).0 in
+    let level : c.in-Some-split_first.first.now ∷ c.in-Some-split_first.others.now ≡ c.levels.level.items = sym all ∙ c.deref-in-levels.ensures.value in
+    reads_ok (omega (arith, c.levels.invariant.room, ap length level)) (reads_then c.levels.invariant.reading c.in_ok-next.ensures.reading)

@@ -1,7 +1,8 @@
-use Rattle.std.proofs.Common.{◌≤◌, ℕ, ◌+◌, ◌-◌, List, length, IsTrue}
+use Rattle.std.proofs.Common.{◌≤◌, ℕ, ◌+◌, ◌-◌, List, length, IsTrue, Ok}
 use Rattle.std.specs.Prelude.{min}
-use Rattle.vs_disk.specs.Runs.{NoneFails}
-use Rattle.vs_recover.specs.Reading.{Reads}
+use Rattle.vs_recover.specs.declared.error.Fault.{Fault}
+use Rattle.vs_recover.specs.declared.error.Fault.TheVariants.{Failed}
+use Rattle.vs_recover.specs.Reading.{ReadsAtMost}
 use Rattle.vs_swap.specs.Files.{pages_in}
 use Rattle.vs_recover.specs.Files.{IsFile}
 use Rattle.vs_recover.specs.Levels.{Stage, are_wide}
@@ -12,10 +13,8 @@ abbrev pub invariant-levels : goal.invariant-levels
 invariant-levels g l = record {
   stage : (file : List ℕ) → IsFile g.F.World.tells (g.F.World.scene l.fn.host) l.name file → Stage (pages_in file) (λ k. used_in l.marks k) l.level.items;
   wide : IsTrue (are_wide l.level.items);
-  later : (g.F.World.scene l.fn.host).folder_faults ≤ (g.F.World.scene l.host).folder_faults;
-  reads : Reads g.F.World.tells (g.F.World.scene l.fn.host) (g.F.World.scene l.host);
-  none : NoneFails g.F.World.tells (g.F.World.scene l.fn.host) (g.F.World.scene l.host);
-  calls : IsTrue g.F.World.tells.folder → length (g.F.World.scene l.host).trace + (length l.level.items + free_in l.marks) ≤ length (g.F.World.scene l.fn.host).trace + (l.count - 1);
+  room : 1 + (length l.level.items + free_in l.marks) ≤ l.count;
+  reading : ReadsAtMost g.F.World.tells {E = Fault} (Ok l.level) Failed (g.F.World.scene l.fn.host) (g.F.World.scene l.host) (l.count - (1 + (length l.level.items + free_in l.marks)));
 }
 
 abbrev pub decreases-levels : goal.decreases-levels
