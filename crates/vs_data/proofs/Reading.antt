@@ -89,7 +89,7 @@ with_index-ok (Err refusal) bad view e = cc
 with_index-ok (Ok view') None view e = (e, refl)
 with_index-ok (Ok view') (Some line) view e = cc
 
-good_entries : (block : List ℕ) → first_bad block ≡ None → (line : ℕ) → line < count_in block → is_good_entry block line ≡ true
+pub good_entries : (block : List ℕ) → first_bad block ≡ None → (line : ℕ) → line < count_in block → is_good_entry block line ≡ true
 unfolding first_bad
 good_entries block e line within =
     good_from_not (is_good_entry block line) (passed_over _ 0 (count_in block) e line (omega arith) (omega arith))

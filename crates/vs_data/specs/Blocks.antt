@@ -50,10 +50,20 @@ end_at block (suc line) = start_at block line
 abbrev pub line_at : List ℕ → ℕ → List ℕ
 line_at block line = slice_range block (start_at block line) (end_at block line - 1)
 
+-- the number of zero bytes
+abbrev pub zeros_in : List ℕ → ℕ
+zeros_in bytes = sum_by (λ byte. if byte == 0 then 1 else 0) bytes
+
 -- the bytes from one place up to another are some, and the last and no other is zero
 unfoldable pub is_line : List ℕ → ℕ → ℕ → Bool
 is_line block start end =
     nat_lt start end && ((slice_index block (end - 1) == 0) && list_all (λ byte. not (byte == 0)) (slice_range block start (end - 1)))
+
+-- The lines lie one below the other from the text's end to its start, each of some bytes with a zero at their end.
+pub record EndsLines (block : List ℕ) : Type 0 where
+  pub order : (line : ℕ) → line < count_in block → start_at block line < end_at block line
+  pub zeros : (line : ℕ) → line < count_in block → slice_index block (end_at block line - 1) ≡ 0
+  pub start : end_at block (count_in block) ≡ text_start_in block
 
 -- the index entry is that of a line, and the last line begins where the text does
 abbrev pub is_good_entry : List ℕ → ℕ → Bool

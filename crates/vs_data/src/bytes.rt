@@ -2,14 +2,45 @@
 ghost use Rattle.std.specs.Prelude.{◌≡◌, ◌+◌, ◌-◌, ◌≤◌, ◌==◌, not, length};
 ghost use Rattle.std.specs.List.{list_all};
 ghost use Rattle.vs_bytes.specs.Fields.{field_at, with_field};
-ghost use Rattle.vs_data.specs.Blocks.{is_line};
+ghost use Rattle.vs_data.specs.Blocks.{is_line, zeros_in};
 
 use memchr::memchr;
+
+// How many bytes are counted together.
+const PART: usize = 240;
 
 fn has_no_zero(bytes: &[u8]) -> bool
     ensures { result ≡ list_all (λ byte. not (byte == 0)) bytes.now }
 {
     memchr(0, bytes).is_none()
+}
+
+// The number of zeros among bytes whose number fits a byte. So counted, many of them go through one instruction.
+fn count_in_byte(bytes: &[u8]) -> u8
+    requires { length bytes.now ≤ 255 }
+    ensures { result ≡ zeros_in bytes.now }
+{
+    let mut zeros = 0;
+    'bytes: for byte in bytes {
+        if *byte == 0 {
+            zeros += 1;
+        }
+    }
+    zeros
+}
+
+// The number of zeros.
+pub(crate) fn count_zeros(bytes: &[u8]) -> usize
+    ensures { result ≡ zeros_in bytes.now }
+{
+    let mut zeros = 0;
+    let mut rest = bytes;
+    'parts: while !rest.is_empty() {
+        let (part, after) = rest.split_at(rest.len().min(PART));
+        zeros += usize::from(count_in_byte(part));
+        rest = after;
+    }
+    zeros
 }
 
 // Whether the bytes from one place up to another are those of a line: some, of which the last and no other is zero.

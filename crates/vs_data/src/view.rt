@@ -2,9 +2,9 @@
 ghost use Rattle.std.specs.Prelude.{◌≡◌, ◌≢◌, ◌+◌, ◌<◌, ◌≤◌, ◌↔◌, IsTrue, IfOk, IsSomeAnd, OnErr, None, Some, Ok, length, slice_get};
 ghost use Rattle.std.specs.List.{All};
 ghost use Rattle.std.specs.Option.{option_and_then};
-ghost use Rattle.vs_data.specs.Blocks.{Measures, bounds_in, end_at, first_bad, free_space, is_good_entry, lines_in, start_at, view_in};
+ghost use Rattle.vs_data.specs.Blocks.{EndsLines, Measures, bounds_in, end_at, first_bad, free_space, is_good_entry, lines_in, start_at, view_in};
 
-use crate::bytes::is_line;
+use crate::bytes::{count_zeros, is_line};
 use crate::index::entry_place;
 use crate::{COUNT, DataErr, DataView, ID, INDEX, PLACE_BITS, TEXT_END, TEXT_START};
 use vs_bytes::{le_u16, le_u32, le_u64};
@@ -97,11 +97,43 @@ impl DataView {
         }
     }
 
+    // Whether the lines lie one below the other from the text's end to its start, each of some bytes with a zero at their end.
+    fn ends_lines(&self, block: &[u8]) -> bool
+        requires { bounds_in block.now ≡ Ok self.now }
+        ensures { IsTrue result ↔ EndsLines block.now }
+    {
+        let mut end = self.text_end;
+        'lines: for line in 0..self.count {
+            let start = self.start(block, line);
+            if start >= end || block[end as usize - 1] != 0 {
+                return false;
+            }
+            end = start;
+        }
+        end == self.text_start
+    }
+
+    // Whether each index entry is that of a line. Where the lines end with zeros, a text with one zero a line has no other, so
+    // no line is searched for one.
+    fn is_whole(&self, block: &[u8]) -> bool
+        requires { bounds_in block.now ≡ Ok self.now }
+        ensures { IsTrue result ↔ (first_bad block.now ≡ None) }
+    {
+        if !self.ends_lines(block) {
+            return false;
+        }
+        let text = &block[self.text_start as usize..self.text_end as usize];
+        count_zeros(text) == self.count as usize
+    }
+
     // The first line whose index entry is not that of a line.
     fn first_bad(&self, block: &[u8]) -> Option<u32>
         requires { bounds_in block.now ≡ Ok self.now }
         ensures { result ≡ first_bad block.now }
     {
+        if self.is_whole(block) {
+            return None;
+        }
         for line in 0..self.count {
             if !self.is_good(block, line) {
                 return Some(line);

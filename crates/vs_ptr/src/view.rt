@@ -105,6 +105,19 @@ impl PtrView {
         self.set_count(block, self.count - 1);
     }
 
+    /// Puts `entry` in place of the entry at place `at`, counted from 0. Its unused bytes are written as zeros
+    /// (docs/FORMATS.md, "Pointer blocks").
+    pub fn replace(&mut self, block: &mut [u8], at: u16, entry: &PtrEntry)
+        requires view { view_in block.old ≡ Ok self.old }
+        requires place { at < self.old.count }
+        ensures header { self.new ≡ self.old }
+        ensures view { view_in block.new ≡ Ok self.new }
+        ensures entries { entries_in block.new ≡ Some (slice_set (entries_of block.old) at entry.now) }
+        ensures bytes { HasBytes block.new (unused_of block.old) (slice_set (slots_of block.old) at (bytes_of_entry entry.now)) }
+    {
+        put_entry(block, at, entry);
+    }
+
     /// Adds `by`, which may be negative, to the line count of the entry at place `at`, counted from 0. Its unused
     /// bytes are written as zeros (docs/FORMATS.md, "Pointer blocks").
     pub fn add_lines(&mut self, block: &mut [u8], at: u16, by: i64)
@@ -119,7 +132,7 @@ impl PtrView {
             HasBytes block.new (unused_of block.old) (slice_set (slots_of block.old) at (bytes_of_entry (with_lines_added entry by)))) }
     {
         let entry = add_to_lines(self.entry(block, at), by);
-        put_entry(block, at, &entry);
+        self.replace(block, at, &entry);
     }
 
     /// Moves the entries from place `from` on, counted from 0, into `other`, which is made a pointer block of the same

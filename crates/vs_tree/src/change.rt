@@ -12,8 +12,10 @@ ghost use Rattle.vs_tree.specs.Calls.{DiffersBy, EditsTree, OfTree, StandsTree};
 use crate::Root;
 use std::alloc::Global;
 use vs_pages::{PageErr, Pages};
-use vs_tree_blocks::{Edit, Edited, Removed, edit_data, load_entries, write_pointers, write_root};
-use vs_tree_shape::{Entry, find_place, replace_entry};
+use vs_tree_blocks::{
+    Edit, Edited, Removed, edit_data, exchange_entry, exchange_in_root, load_pointers,
+};
+use vs_tree_shape::{Entry, find_place};
 
 // Edits the lines below the block that an entry leads to, whose data blocks lie `depth` levels below it.
 fn edit_below<P: Pages>(
@@ -42,11 +44,17 @@ fn edit_below<P: Pages>(
     if depth == 0 {
         return edit_data(alloc, pages, top, at, edit);
     }
-    let entries = load_entries(alloc, pages, top)?;
-    let place = find_place(&entries, at);
+    let pointers = load_pointers(alloc, pages, top)?;
+    let place = find_place(&pointers.entries, at);
     let below = edit_below(alloc, pages, depth - 1, place.entry, place.rest, edit)?;
-    let all = replace_entry(alloc, &entries, place.index, &below.entries)?;
-    let above = write_pointers(alloc, pages, top.block, all)?;
+    let above = exchange_entry(
+        alloc,
+        pages,
+        top.block,
+        pointers,
+        place.index,
+        &below.entries,
+    )?;
     Ok(Edited {
         entries: above,
         removed: below.removed,
@@ -85,8 +93,8 @@ pub fn edit_tree<P: Pages>(
         pages.damaged();
         return Err(PageErr::Failed);
     }
-    let entries = load_entries(alloc, pages, root.entry())?;
-    let place = find_place(&entries, at);
+    let pointers = load_pointers(alloc, pages, root.entry())?;
+    let place = find_place(&pointers.entries, at);
     let below = edit_below(
         alloc,
         pages,
@@ -95,8 +103,7 @@ pub fn edit_tree<P: Pages>(
         place.rest,
         edit,
     )?;
-    let all = replace_entry(alloc, &entries, place.index, &below.entries)?;
-    let more = write_root(alloc, pages, all)?;
+    let more = exchange_in_root(alloc, pages, pointers, place.index, &below.entries)?;
     Ok(EditedTree {
         root: Root {
             height: root.height + more,

@@ -1,9 +1,9 @@
 -- Entries as they are written are read back.
-use Rattle.std.proofs.Common.{◌≡◌, ℕ, zero, suc, ◌+◌, ◌<◌, ◌≤◌, List, [], ◌∷◌, ◌++◌, length, take, map, insert, get_or, slice_get, Option, Some, None, Bool, if◌then◌else◌, Ok, Err, sym, refl, ap, ◌∙◌, arith, length-take}
+use Rattle.std.proofs.Common.{◌≡◌, ℕ, zero, suc, ◌+◌, ◌<◌, ◌≤◌, List, [], ◌∷◌, ◌++◌, length, take, map, insert, get_or, slice_get, set, drop, Option, Some, None, Bool, if◌then◌else◌, Ok, Err, sym, refl, ap, ◌∙◌, arith, add-one, length-take}
 use Rattle.std.specs.List.{AllByRecursion}
 use Rattle.std.specs.Option.{option_and_then}
 use Rattle.std.proofs.lemmas.Grind.{common_steps}
-use Rattle.std.proofs.lemmas.List.{length-map, map-append}
+use Rattle.std.proofs.lemmas.List.{length-map, map-append, set_split}
 use Rattle.vs_ptr.specs.declared.PtrEntry.{PtrEntry}
 use Rattle.vs_ptr.specs.declared.PtrView.{PtrView}
 use Rattle.vs_ptr.specs.declared.PtrErr.{PtrErr}
@@ -11,6 +11,7 @@ use Rattle.vs_ptr.specs.Blocks.{view_in, entries_of, entries_in}
 use Rattle.vs_ptr.proofs.Headers.{header_from_view}
 use Rattle.vs_ptr.proofs.Reading.{entries_there, entries_refused, length-entries_of}
 use Rattle.vs_tree_shape.specs.declared.entries.Entry.{Entry}
+use Rattle.vs_tree_shape.specs.Places.{replaced}
 use Rattle.vs_tree_blocks.specs.Blocks.{FitsFields, entry_read, entries_read, before, points_in, ptr_of}
 
 pub each-at : {X : Type 0} (P : X → Type 0) (xs : List X) (i : ℕ) (d : X) → i < length xs → AllByRecursion P xs → P (get_or xs i d)
@@ -107,3 +108,49 @@ points_unread bytes view reads none = ap (λ o. option_and_then entries_read o) 
 pub points_refused : (bytes : List ℕ) (err : PtrErr) → view_in bytes ≡ Err err → points_in bytes ≡ None
 unfolding points_in
 points_refused bytes err reads = ap (λ o. option_and_then entries_read o) (entries_refused bytes err reads)
+
+-- ---- one entry put in place of another
+
+length_read : (es : List PtrEntry) (xs : List Entry) → entries_read es ≡ Some xs → length xs ≡ length es
+length_read [] xs is = let nil : [] ≡ xs = cc in sym (ap length nil)
+length_read (f ∷ es) xs is =
+    let b : Both (entry_read f) (entries_read es) xs = both_read (entry_read f) (entries_read es) xs is in
+    let rest = length_read es b.others b.others_are in
+    omega (arith, ap length b.all)
+
+points_of : (bytes : List ℕ) (view : PtrView) (xs : List Entry) → view_in bytes ≡ Ok view → points_in bytes ≡ Some xs → entries_read (entries_of bytes) ≡ Some xs
+unfolding points_in
+points_of bytes view xs reads is = sym (ap (λ o. option_and_then entries_read o) (entries_there bytes view reads)) ∙ is
+
+-- the header counts the entries
+pub points_counted : (bytes : List ℕ) (view : PtrView) (xs : List Entry) → view_in bytes ≡ Ok view → points_in bytes ≡ Some xs → length xs ≡ view.count
+points_counted bytes view xs reads is = length_read (entries_of bytes) xs (points_of bytes view xs reads is) ∙ length-entries_of bytes view reads
+
+set_read : (es : List PtrEntry) (xs : List Entry) (i : ℕ) (e : Entry) → FitsFields e → entries_read es ≡ Some xs → entries_read (set es i (ptr_of e)) ≡ Some (set xs i e)
+set_read [] xs i e fields is = let nil : [] ≡ xs = cc in ap (λ (ys : List Entry). Some (set ys i e)) nil
+set_read (f ∷ es) xs zero e fields is =
+    let b : Both (entry_read f) (entries_read es) xs = both_read (entry_read f) (entries_read es) xs is in
+    ap (λ o. before o (entries_read es)) (written_one e fields) ∙ ap (λ o. before (Some e) o) b.others_are ∙ sym (ap (λ (ys : List Entry). Some (set ys 0 e)) b.all)
+set_read (f ∷ es) xs (suc i) e fields is =
+    let b : Both (entry_read f) (entries_read es) xs = both_read (entry_read f) (entries_read es) xs is in
+    ap (λ o. before (entry_read f) o) (set_read es b.others i e fields b.others_are) ∙ ap (λ o. before o (Some (set b.others i e))) b.first_is ∙ sym (ap (λ (ys : List Entry). Some (set ys (suc i) e)) b.all)
+
+pub points_set : (old new : List ℕ) (view : PtrView) (xs : List Entry) (i : ℕ) (e : Entry) → FitsFields e → view_in old ≡ Ok view → points_in old ≡ Some xs → entries_in new ≡ Some (set (entries_of old) i (ptr_of e))
+    → points_in new ≡ Some (set xs i e)
+unfolding points_in
+points_set old new view xs i e fields reads was is = ap (λ o. option_and_then entries_read o) is ∙ set_read (entries_of old) xs i e fields (points_of old view xs reads was)
+
+-- where the entries are told, the bytes are read as a pointer block
+pub points_refute : (bytes : List ℕ) (err : PtrErr) (xs : List Entry) → view_in bytes ≡ Err err → points_in bytes ≡ Some xs → ⊥
+points_refute bytes err xs refused is = (let none = points_refused bytes err refused in cc)
+
+pub each-set : {X : Type 0} (P : X → Type 0) (xs : List X) (i : ℕ) (x : X) → AllByRecursion P xs → P x → AllByRecursion P (set xs i x)
+each-set P [] i x each here = tt
+each-set P (y ∷ xs) zero x each here = (here, each.1)
+each-set P (y ∷ xs) (suc i) x each here = (each.0, each-set P xs i x each.1 here)
+
+-- one entry in place of one is that entry put there
+pub replaced_one : (es by : List Entry) (i : ℕ) (d : Entry) → i < length es → length by ≡ 1 → set es i (get_or by 0 d) ≡ replaced es i by
+replaced_one es [] i d within one = absurd (omega arith)
+replaced_one es (e ∷ []) i d within one = set_split es i e within ∙ ap (λ n. take i es ++ e ∷ drop n es) (sym (add-one i))
+replaced_one es (e ∷ f ∷ by) i d within one = absurd (omega arith)

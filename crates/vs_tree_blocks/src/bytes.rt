@@ -9,7 +9,7 @@ use vs_ptr::{PtrEntry, PtrView};
 use vs_tree_shape::Entry;
 
 // The entry as a pointer block has it.
-fn to_ptr(entry: &Entry) -> PtrEntry
+pub fn to_ptr(entry: &Entry) -> PtrEntry
     requires { FitsFields entry.now }
     ensures { result ≡ ptr_of entry.now }
 {

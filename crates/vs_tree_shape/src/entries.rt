@@ -1,6 +1,6 @@
 // The entries of a pointer block.
-ghost use Rattle.std.specs.Prelude.{◌≡◌, ◌≤◌, ◌<◌, ◌+◌, ◌^◌, ◌++◌, ℕ, List, IfOk, SomeIff, length, take, drop};
-ghost use Rattle.vs_tree_shape.specs.Places.{IsPlace, lines_below};
+ghost use Rattle.std.specs.Prelude.{◌≡◌, ◌≤◌, ◌<◌, ◌+◌, ◌^◌, ℕ, List, IfOk, SomeIff, length, take};
+ghost use Rattle.vs_tree_shape.specs.Places.{IsPlace, lines_below, replaced};
 
 use std::alloc::{AllocError, Global};
 
@@ -62,7 +62,7 @@ pub fn replace_entry(
     by: &[Entry],
 ) -> Result<Vec<Entry>, AllocError>
     requires { index < length entries.now }
-    ensures { IfOk result (λ all. all.items ≡ take index entries.now ++ (by.now ++ drop (index + 1) entries.now)) }
+    ensures { IfOk result (λ all. all.items ≡ replaced entries.now index by.now) }
 {
     let mut all = Vec::with_capacity(alloc, entries.len().saturating_add(by.len()))?;
     all.extend_from_slice(&entries[..index])?;

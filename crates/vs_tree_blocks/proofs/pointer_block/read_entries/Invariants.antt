@@ -2,7 +2,7 @@ use Rattle.std.proofs.Common.{◌≡◌, Some, length, take}
 use Rattle.std.specs.List.{AllByRecursion}
 use Rattle.vs_ptr.specs.Blocks.{entries_of}
 use Rattle.vs_tree_blocks.specs.Blocks.{FitsFields, entries_read}
-use Rattle.vs_tree_blocks.proofs.pointers.read_entries.Given as goal
+use Rattle.vs_tree_blocks.proofs.pointer_block.read_entries.Given as goal
 
 abbrev pub invariant-loop-at : goal.invariant-loop-at
 invariant-loop-at l = record {

@@ -5,7 +5,7 @@ use Rattle.vs_tree_shape.proofs.Shapes.{each-append}
 use Rattle.vs_ptr.specs.Blocks.{entries_of}
 use Rattle.vs_tree_blocks.specs.Blocks.{FitsFields}
 use Rattle.vs_tree_blocks.proofs.EntriesLemmas.{few_entries, points_read, points_refused, points_unread, read_more, unread_none}
-use Rattle.vs_tree_blocks.proofs.pointers.read_entries.Goals as goal
+use Rattle.vs_tree_blocks.proofs.pointer_block.read_entries.Goals as goal
 
 pub returns-in_default : goal.returns-in_default
 returns-in_default c = points_refused c.args.bytes.now c.in_default.field-0 (sym c.in_default.ensures.answer)
