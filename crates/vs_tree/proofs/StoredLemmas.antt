@@ -12,7 +12,7 @@ use Rattle.vs_tree.specs.declared.texts.Extent.{Extent}
 use Rattle.vs_tree.specs.Texts.{HasText, tree_lines}
 use Rattle.std.proofs.lemmas.Bool.Decides.{nat_tests}
 use Rattle.vs_tree.specs.Runs.{HasTree, with_lines, run_of}
-use Rattle.vs_edit.proofs.SpliceLemmas.{splice_on, map-splice}
+use Rattle.vs_edit.proofs.SpliceLemmas.{map-splice}
 use Rattle.vs_tree.proofs.Rounds.{bytes_of-append}
 
 pub stored_some : (text : List (List ℕ)) → 0 < length text → stored text ≡ map stored_line text

@@ -1,5 +1,5 @@
 // Runs of lines, copied a data block at a time.
-ghost use Rattle.std.specs.Prelude.{◌≡◌, ◌≤◌, ◌<◌, ◌+◌, ◌-◌, ◌^◌, ◌++◌, ◌∷◌, [], All, Ok, IsErrOf, IfOk, OnOk, IsTrue, length, take, drop};
+ghost use Rattle.std.specs.Prelude.{◌≡◌, ◌≤◌, ◌<◌, ◌+◌, ◌-◌, ◌^◌, ◌++◌, ◌∷◌, [], All, Ok, IsErrOf, IfOk, OnOk, IsTrue, take, drop};
 ghost use Rattle.vs_faults.specs.Faults.{HasCause};
 ghost use Rattle.vs_pages.specs.Calls.{OnlyReads};
 ghost use Rattle.vs_data.specs.Blocks.{view_in};

@@ -1,5 +1,5 @@
 // The tree of a text, and the store that it makes with pages.
-ghost use Rattle.std.specs.Prelude.{◌≡◌, ◌≤◌, ◌<◌, ◌+◌, ◌*◌, ◌++◌, [], ℕ, List, All, IsErrOf, IfOk, OnOk, IsTrue, get_or, length, take, drop, refl};
+ghost use Rattle.std.specs.Prelude.{◌≡◌, ◌≤◌, ◌<◌, ◌+◌, ◌++◌, [], All, IsErrOf, IfOk, OnOk, IsTrue, get_or, length, take, drop, refl};
 ghost use Rattle.std.proofs.Common.{◌∙◌};
 ghost use Rattle.vs_faults.specs.Faults.{HasCause};
 ghost use Rattle.vs_pages.specs.Calls.{Continues, OnlyReads};

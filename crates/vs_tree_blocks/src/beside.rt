@@ -1,17 +1,15 @@
 // Runs of lines, put into blocks of their own beside or between others.
-ghost use Rattle.std.specs.Prelude.{◌≡◌, ◌≤◌, ◌<◌, ◌^◌, ◌∷◌, ◌⊎◌, [], Ok, IsErrOf, IfOk, OnOk, length};
+ghost use Rattle.std.specs.Prelude.{◌≡◌, ◌≤◌, ◌<◌, ◌^◌, ◌∷◌, ◌⊎◌, [], Ok, IsErrOf, IfOk, OnOk};
 ghost use Rattle.vs_faults.specs.Faults.{HasCause};
 ghost use Rattle.vs_pages.specs.Calls.{Continues};
-ghost use Rattle.vs_data.specs.Blocks.{view_in, space_of};
+ghost use Rattle.vs_data.specs.Blocks.{space_of};
 ghost use Rattle.vs_tree_blocks.specs.Cuts.{parted};
 ghost use Rattle.vs_tree_blocks.specs.Parts.{IsBlock, page_lines};
-ghost use Rattle.vs_tree_blocks.specs.Runs.{lines_within};
 ghost use Rattle.vs_tree_blocks.specs.Writes.{HasPage, IsThere, Touches, Writes};
 
-use crate::split::{Parts, split_bytes};
+use crate::split::{Page, Parts, split_page};
 use crate::{Run, add_block};
 use std::alloc::Global;
-use vs_data::DataView;
 use vs_pages::{PageErr, Pages};
 use vs_tree_shape::Entry;
 
@@ -46,27 +44,25 @@ pub fn put_between<P: Pages>(
     alloc: Global,
     pages: &mut P,
     block: u64,
-    view: DataView,
-    bytes: &[u8],
+    page: Page,
     at: u32,
     run: &Run,
 ) -> Result<Vec<Entry>, PageErr>
     requires valid { P.valid pages.old }
     requires block { block < 2 ^ 63 }
-    requires there { HasPage P.Pages pages.old block bytes.now }
-    requires size { length bytes.now ≡ 4096 }
-    requires view { view_in bytes.now ≡ Ok view }
-    requires some { 0 < view.count }
-    requires at { at ≤ view.count }
-    ensures wrote { IfOk result (λ entries. Writes P.Pages pages.old pages.new block (parted (lines_within bytes.now) at run.now) entries.items) }
+    requires there { HasPage P.Pages pages.old block page.bytes.items }
+    requires page { IsBlock page }
+    requires some { 0 < page.view.count }
+    requires at { at ≤ page.view.count }
+    ensures wrote { IfOk result (λ entries. Writes P.Pages pages.old pages.new block (parted (page_lines page) at run.now) entries.items) }
     ensures differs { OnOk result (space_of run.now ≤ 4072 → Touches P.Pages pages.old pages.new 3) }
     ensures kept { Continues P.Pages pages.old pages.new }
     ensures cause { HasCause (P.shows pages.old).faults (P.shows pages.new).faults (IsErrOf result PageErr.Failed) }
 {
-    if at == 0 || at == view.count {
-        return put_beside(alloc, pages, block, view, bytes, at, run);
+    if at == 0 || at == page.view.count {
+        return put_beside(alloc, pages, block, &page, at, run);
     }
-    let parts = split_bytes(alloc, view, bytes, at)?;
+    let parts = split_page(alloc, page, at)?;
     write_between(alloc, pages, block, &parts, run)
 }
 
@@ -75,28 +71,22 @@ fn put_beside<P: Pages>(
     alloc: Global,
     pages: &mut P,
     block: u64,
-    view: DataView,
-    bytes: &[u8],
+    page: &Page,
     at: u32,
     run: &Run,
 ) -> Result<Vec<Entry>, PageErr>
     requires valid { P.valid pages.old }
     requires block { block < 2 ^ 63 }
-    requires there { HasPage P.Pages pages.old block bytes.now }
-    requires size { length bytes.now ≡ 4096 }
-    requires view { view_in bytes.now ≡ Ok view }
-    requires some { 0 < view.count }
-    requires at { (at ≡ 0) ⊎ (at ≡ view.count) }
-    ensures wrote { IfOk result (λ entries. Writes P.Pages pages.old pages.new block (parted (lines_within bytes.now) at run.now) entries.items) }
+    requires there { HasPage P.Pages pages.old block page.now.bytes.items }
+    requires page { IsBlock page.now }
+    requires some { 0 < page.now.view.count }
+    requires at { (at ≡ 0) ⊎ (at ≡ page.now.view.count) }
+    ensures wrote { IfOk result (λ entries. Writes P.Pages pages.old pages.new block (parted (page_lines page.now) at run.now) entries.items) }
     ensures differs { OnOk result (space_of run.now ≤ 4072 → Touches P.Pages pages.old pages.new 1) }
     ensures kept { Continues P.Pages pages.old pages.new }
     ensures cause { HasCause (P.shows pages.old).faults (P.shows pages.new).faults (IsErrOf result PageErr.Failed) }
 {
-    let kept = Entry {
-        block,
-        pages: 1,
-        lines: u64::from(view.count),
-    };
+    let kept = page.entry(block);
     let new = run.add(alloc, pages)?;
     if at == 0 {
         return Ok(vec![in alloc; new, kept]?);

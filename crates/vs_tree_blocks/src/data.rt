@@ -4,18 +4,17 @@ ghost use Rattle.std.specs.List.{AllByRecursion};
 ghost use Rattle.vs_faults.specs.Faults.{HasCause};
 ghost use Rattle.vs_text.specs.Text.{bytes_of};
 ghost use Rattle.vs_pages.specs.Calls.{Continues};
-ghost use Rattle.vs_data.specs.Blocks.{view_in};
 ghost use Rattle.vs_tree_shape.specs.Changes.{HasLineBelow, splice};
 ghost use Rattle.vs_tree_shape.specs.Places.{lines_below};
 ghost use Rattle.vs_tree_blocks.specs.Blocks.{tree_format, FitsFields};
 ghost use Rattle.vs_tree_blocks.specs.Cuts.{part};
 ghost use Rattle.vs_tree_blocks.specs.Edits.{added_by, CutsBlock, EditsBelow, EditsFew, IsEdit, MayTake};
-ghost use Rattle.vs_tree_blocks.specs.Runs.{lines_within};
+ghost use Rattle.vs_tree_blocks.specs.Parts.{IsBlock, page_lines};
 ghost use Rattle.vs_tree_blocks.specs.Writes.{HasPage, Touches, Writes};
 
 use crate::long::edit_long;
 use crate::put::{put_run, write_whole};
-use crate::split::without_lines;
+use crate::split::{Page, without_lines};
 use crate::{Edit, Edited, Removed, load_data};
 use std::alloc::Global;
 use vs_data::DataView;
@@ -27,24 +26,23 @@ fn remove_lines<P: Pages>(
     alloc: Global,
     pages: &mut P,
     block: u64,
-    view: DataView,
-    bytes: &[u8],
+    page: Page,
     at: u32,
     count: u32,
 ) -> Result<Edited, PageErr>
     requires valid { P.valid pages.old }
     requires block { block < 2 ^ 63 }
-    requires there { HasPage P.Pages pages.old block bytes.now }
-    requires size { length bytes.now ≡ 4096 }
-    requires view { view_in bytes.now ≡ Ok view }
-    requires within { at + count ≤ view.count }
-    ensures wrote { IfOk result (λ after. Writes P.Pages pages.old pages.new block (part (splice (lines_within bytes.now) at count [])) after.entries.items) }
+    requires there { HasPage P.Pages pages.old block page.bytes.items }
+    requires page { IsBlock page }
+    requires within { at + count ≤ page.view.count }
+    ensures wrote { IfOk result (λ after. Writes P.Pages pages.old pages.new block (part (splice (page_lines page) at count [])) after.entries.items) }
     ensures gone { IfOk result (λ after. after.removed.lines ≡ count) }
-    ensures bytes { IfOk result (λ after. after.removed.bytes ≡ bytes_of (take count (drop at (lines_within bytes.now)))) }
+    ensures bytes { IfOk result (λ after. after.removed.bytes ≡ bytes_of (take count (drop at (page_lines page)))) }
     ensures differs { OnOk result (Touches P.Pages pages.old pages.new 1) }
     ensures kept { Continues P.Pages pages.old pages.new }
     ensures cause { HasCause (P.shows pages.old).faults (P.shows pages.new).faults (IsErrOf result PageErr.Failed) }
 {
+    let view = page.view;
     if count == view.count {
         pages.free(alloc, block, 1)?;
         let entries = Vec::new(alloc);
@@ -53,7 +51,7 @@ fn remove_lines<P: Pages>(
             removed: text_of(view),
         });
     }
-    let left = without_lines(alloc, view, bytes, at, count)?;
+    let left = without_lines(page, at, count);
     let entries = write_whole(alloc, pages, block, &left)?;
     Ok(Edited {
         entries,
@@ -105,20 +103,21 @@ pub fn edit_data<P: Pages>(
     let block = entry.block;
     let mut bytes = Vec::new(alloc);
     let view = load_data(alloc, pages, entry, &mut bytes)?;
+    let page = Page { view, bytes };
     let place = at as u32;
     match edit {
         Edit::Before(lines) => {
-            let entries = put_run(alloc, pages, block, view, &bytes, place, lines)?;
+            let entries = put_run(alloc, pages, block, page, place, lines)?;
             Ok(Edited::with(entries))
         }
         Edit::After(lines) => {
-            let entries = put_run(alloc, pages, block, view, &bytes, place + 1, lines)?;
+            let entries = put_run(alloc, pages, block, page, place + 1, lines)?;
             Ok(Edited::with(entries))
         }
         Edit::Remove(most) => {
             let left = view.count - place;
             let gone = u64::from(left).min(most) as u32;
-            remove_lines(alloc, pages, block, view, &bytes, place, gone)
+            remove_lines(alloc, pages, block, page, place, gone)
         }
     }
 }

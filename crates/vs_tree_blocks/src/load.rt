@@ -1,5 +1,5 @@
 // Data blocks, read from pages.
-ghost use Rattle.std.specs.Prelude.{◌≡◌, ◌≤◌, ◌<◌, ◌-◌, ◌*◌, ◌↔◌, [], Some, Ok, IsErrOf, IfOk, OnOk, IfSome, OnSome, IfNone, IsTrue, length, get_or};
+ghost use Rattle.std.specs.Prelude.{◌≡◌, ◌<◌, ◌-◌, ◌*◌, ◌↔◌, [], Some, Ok, IsErrOf, IfOk, OnOk, IfSome, OnSome, IfNone, IsTrue, length, get_or};
 ghost use Rattle.vs_faults.specs.Faults.{HasCause};
 ghost use Rattle.vs_pages.specs.Calls.{OnlyReads};
 ghost use Rattle.vs_pages.specs.Maps.{pages_at};

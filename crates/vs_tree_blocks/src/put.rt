@@ -1,18 +1,16 @@
 // Runs of lines, put into a data block of one page or into the halves of one.
-ghost use Rattle.std.specs.Prelude.{◌≡◌, ◌≤◌, ◌<◌, ◌-◌, ◌^◌, ◌∷◌, [], Ok, IsErrOf, IfOk, OnOk, length};
+ghost use Rattle.std.specs.Prelude.{◌≤◌, ◌<◌, ◌-◌, ◌^◌, ◌∷◌, [], Ok, IsErrOf, IfOk, OnOk};
 ghost use Rattle.vs_faults.specs.Faults.{HasCause};
 ghost use Rattle.vs_pages.specs.Calls.{Continues};
-ghost use Rattle.vs_data.specs.Blocks.{view_in, free_space, space_of};
+ghost use Rattle.vs_data.specs.Blocks.{free_space, space_of};
 ghost use Rattle.vs_tree_blocks.specs.Cuts.{blocks_with, split_with};
 ghost use Rattle.vs_tree_blocks.specs.Parts.{IsBlock, page_lines};
-ghost use Rattle.vs_tree_blocks.specs.Runs.{lines_within};
 ghost use Rattle.vs_tree_blocks.specs.Writes.{HasPage, IsThere, Touches, Writes};
 
 use crate::beside::put_between;
 use crate::split::{Page, Parts, choose_half, first_half, split_around};
 use crate::{Run, add_block};
 use std::alloc::Global;
-use vs_data::DataView;
 use vs_pages::{PageErr, Pages};
 use vs_tree_shape::Entry;
 
@@ -67,29 +65,27 @@ fn put_split<P: Pages>(
     alloc: Global,
     pages: &mut P,
     block: u64,
-    view: DataView,
-    bytes: &[u8],
+    page: Page,
     at: u32,
     run: &Run,
 ) -> Result<Vec<Entry>, PageErr>
     requires valid { P.valid pages.old }
     requires block { block < 2 ^ 63 }
-    requires there { HasPage P.Pages pages.old block bytes.now }
-    requires size { length bytes.now ≡ 4096 }
-    requires view { view_in bytes.now ≡ Ok view }
-    requires some { 0 < view.count }
-    requires at { at ≤ view.count }
-    requires full { free_space view < space_of run.now }
-    ensures wrote { IfOk result (λ entries. Writes P.Pages pages.old pages.new block (split_with (view.text_end - 24) (lines_within bytes.now) at run.now) entries.items) }
+    requires there { HasPage P.Pages pages.old block page.bytes.items }
+    requires page { IsBlock page }
+    requires some { 0 < page.view.count }
+    requires at { at ≤ page.view.count }
+    requires full { free_space page.view < space_of run.now }
+    ensures wrote { IfOk result (λ entries. Writes P.Pages pages.old pages.new block (split_with (page.view.text_end - 24) (page_lines page) at run.now) entries.items) }
     ensures differs { OnOk result (space_of run.now ≤ 4072 → Touches P.Pages pages.old pages.new 3) }
     ensures kept { Continues P.Pages pages.old pages.new }
     ensures cause { HasCause (P.shows pages.old).faults (P.shows pages.new).faults (IsErrOf result PageErr.Failed) }
 {
-    let half = first_half(view.count);
-    let Some(side) = choose_half(view, bytes, half, at, run) else {
-        return put_between(alloc, pages, block, view, bytes, at, run);
+    let half = first_half(page.view.count);
+    let Some(side) = choose_half(&page, half, at, run) else {
+        return put_between(alloc, pages, block, page, at, run);
     };
-    let parts = split_around(alloc, view, bytes, half, at, run, side)?;
+    let parts = split_around(alloc, page, half, at, run, side)?;
     write_parts(alloc, pages, block, &parts)
 }
 
@@ -98,26 +94,24 @@ pub fn put_run<P: Pages>(
     alloc: Global,
     pages: &mut P,
     block: u64,
-    view: DataView,
-    bytes: &[u8],
+    page: Page,
     at: u32,
     run: &Run,
 ) -> Result<Vec<Entry>, PageErr>
     requires valid { P.valid pages.old }
     requires block { block < 2 ^ 63 }
-    requires there { HasPage P.Pages pages.old block bytes.now }
-    requires size { length bytes.now ≡ 4096 }
-    requires view { view_in bytes.now ≡ Ok view }
-    requires some { 0 < view.count }
-    requires at { at ≤ view.count }
-    ensures wrote { IfOk result (λ entries. Writes P.Pages pages.old pages.new block (blocks_with (view.text_end - 24) (lines_within bytes.now) at run.now) entries.items) }
+    requires there { HasPage P.Pages pages.old block page.bytes.items }
+    requires page { IsBlock page }
+    requires some { 0 < page.view.count }
+    requires at { at ≤ page.view.count }
+    ensures wrote { IfOk result (λ entries. Writes P.Pages pages.old pages.new block (blocks_with (page.view.text_end - 24) (page_lines page) at run.now) entries.items) }
     ensures differs { OnOk result (space_of run.now ≤ 4072 → Touches P.Pages pages.old pages.new 3) }
     ensures kept { Continues P.Pages pages.old pages.new }
     ensures cause { HasCause (P.shows pages.old).faults (P.shows pages.new).faults (IsErrOf result PageErr.Failed) }
 {
-    if !run.fits(view) {
-        return put_split(alloc, pages, block, view, bytes, at, run);
+    if !run.fits(page.view) {
+        return put_split(alloc, pages, block, page, at, run);
     }
-    let page = run.put_into(alloc, view, bytes, at)?;
-    write_whole(alloc, pages, block, &page)
+    let whole = run.put_into(page, at);
+    write_whole(alloc, pages, block, &whole)
 }

@@ -3,12 +3,12 @@ ghost use Rattle.std.specs.Prelude.{◌≡◌, ◌≤◌, ◌<◌, ◌+◌, ◌*
 ghost use Rattle.std.specs.Prelude.{ℕ, List, IsTrue, length, false};
 ghost use Rattle.vs_faults.specs.Faults.{HasCause};
 ghost use Rattle.vs_pages.specs.Calls.{Continues};
-ghost use Rattle.vs_data.specs.Blocks.{lines_in, view_in, free_space, space_of};
+ghost use Rattle.vs_data.specs.Blocks.{lines_in, free_space, space_of};
 ghost use Rattle.vs_tree_shape.specs.Trees.{leaf};
 ghost use Rattle.vs_tree_shape.specs.Changes.{Replaces, splice};
 ghost use Rattle.vs_tree_blocks.specs.Blocks.{tree_format, FitsFields};
 ghost use Rattle.vs_tree_blocks.specs.Edits.{IsStored};
-ghost use Rattle.vs_tree_blocks.specs.Parts.{IsPage};
+ghost use Rattle.vs_tree_blocks.specs.Parts.{IsBlock, IsPage, page_lines};
 ghost use Rattle.vs_tree_blocks.specs.Runs.{lines_within, pages_of};
 ghost use Rattle.vs_tree_blocks.specs.Writes.{Touches};
 
@@ -109,27 +109,17 @@ impl Run {
         self.space() <= u64::from(view.text_start).saturating_sub(index)
     }
 
-    // A copy of a data block of one page, with the lines before its line `at`, or last where `at` is its count.
-    pub(crate) fn put_into(
-        &self,
-        alloc: Global,
-        view: DataView,
-        bytes: &[u8],
-        at: u32,
-    ) -> Result<Page, AllocError>
-        requires view { view_in bytes.now ≡ Ok view }
-        requires size { length bytes.now ≡ 4096 }
-        requires at { at ≤ view.count }
-        requires fits { space_of self.now ≤ free_space view }
-        ensures { IfOk result (IsPage (splice (lines_within bytes.now) at 0 self.now) view.text_end) }
+    // A data block of one page with the lines before its line `at`, or last where `at` is its count.
+    pub(crate) fn put_into(&self, page: Page, at: u32) -> Page
+        requires page { IsBlock page }
+        requires at { at ≤ page.view.count }
+        requires fits { space_of self.now ≤ free_space page.view }
+        ensures { IsPage (splice (page_lines page) at 0 self.now) page.view.text_end result }
     {
-        let mut now = Vec::from_slice(alloc, bytes)?;
-        let mut whole = view;
-        whole.insert_lines(&mut now, at, self.view, &self.bytes);
-        Ok(Page {
-            view: whole,
-            bytes: now,
-        })
+        let mut now = page;
+        now.view
+            .insert_lines(&mut now.bytes, at, self.view, &self.bytes);
+        now
     }
 
     /// Adds the lines as a data block of their own.

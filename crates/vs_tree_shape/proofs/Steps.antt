@@ -15,7 +15,7 @@ use Rattle.vs_pages.proofs.MapsLemmas.{one-same}
 use Rattle.vs_tree_shape.proofs.Sums.{total-append}
 use Rattle.vs_tree_shape.proofs.Shapes.{read_from, each-append, each-front, each-back, unused_each, each_kept, lacks_cases, room}
 use Rattle.vs_tree_shape.proofs.Walks.{Child, above_lines, child_of, lines_below_kids, lines_cut}
-use Rattle.vs_tree_shape.proofs.Splices.{take_past, drop_past, edited_mid, taken_mid, length_edited}
+use Rattle.vs_tree_shape.proofs.Splices.{take_past, drop_past, edited_mid, taken_mid}
 
 -- what the change of one child leaves of the trees below a block
 record Inside (c : Format) (m n : Map) (block at bytes : ℕ) (change : Change) (e : ℕ) (kids : List (Tree e)) (mid : List Entry) : Type 0 where

@@ -4,7 +4,7 @@ use Rattle.vs_tree_shape.proofs.Differences.{differs_then, differs_from}
 use Rattle.vs_tree_blocks.specs.Edits.{FitsPage}
 use Rattle.vs_tree.specs.declared.walk.Root.{Root}
 use Rattle.vs_tree.specs.Runs.{HasTree, with_lines, without_lines}
-use Rattle.vs_tree.proofs.Rounds.{all_out, last_out, bytes_last, bytes_kept, behind_new, without_none}
+use Rattle.vs_tree.proofs.Rounds.{all_out, last_out, bytes_last, bytes_kept}
 use Rattle.vs_tree.proofs.StoredLemmas.{bytes_of-with}
 use Rattle.vs_tree.proofs.runs.replace_all.Goals as goal
 

@@ -14,8 +14,8 @@ use Rattle.vs_tree_blocks.proofs.beside.put_between.Goals as goal
 pub returns-clause-wrote : goal.returns-clause-wrote
 returns-clause-wrote g c = if_ok_weaker c.write_between.result _ _
     (λ (entries : Vec Entry Global) wrote.
-    mid_written _ _ _ c.args.block c.args.at (lines_within c.args.bytes.now) c.args.run.now (page_lines c.in_ok-parts.parts.first) (page_lines c.in_ok-parts.parts.second) entries.items
-    (omega arith) (omega (arith, (told c.args.bytes.now c.args.view c.requires.view).count)) c.in_ok-parts.ensures.first.lines_are c.in_ok-parts.ensures.second.lines_are wrote)
+    mid_written _ _ _ c.args.block c.args.at (lines_within c.args.page.bytes.items) c.args.run.now (page_lines c.in_ok-parts.parts.first) (page_lines c.in_ok-parts.parts.second) entries.items
+    (omega arith) (omega (arith, (told c.args.page.bytes.items c.args.page.view c.requires.page.view_is).count)) c.in_ok-parts.ensures.first.lines_are c.in_ok-parts.ensures.second.lines_are wrote)
     c.write_between.ensures.wrote
 
 pub write_between-requires-clause-first : goal.write_between-requires-clause-first

@@ -1,4 +1,4 @@
-use Rattle.std.proofs.Common.{◌≡◌, ◌≤◌, ◌-◌, ℕ, ◌+◌, List, [], Some, length, take, drop, sym, ap, subst, ◌∙◌, arith, get_or}
+use Rattle.std.proofs.Common.{◌≡◌, ◌≤◌, ◌-◌, ℕ, ◌+◌, List, [], length, take, drop, sym, ap, subst, ◌∙◌, arith, get_or}
 use Rattle.vs_tree_shape.specs.Changes.{ReplacedBy, edited, splice}
 use Rattle.vs_tree_blocks.specs.declared.edit.Edit.{Edit}
 use Rattle.vs_tree_blocks.specs.declared.edit.Edited.{Edited}
@@ -14,7 +14,6 @@ use Rattle.vs_tree_blocks.proofs.Outcomes.{if_ok_weaker, if_ok_both}
 use Rattle.vs_tree_blocks.proofs.EditedLemmas.{none_taken, takes_some, removed}
 use Rattle.vs_text.specs.Text.{bytes_of}
 use Rattle.vs_pages.specs.Maps.{span}
-use Rattle.vs_data.specs.Blocks.{view_in}
 use Rattle.vs_tree_blocks.proofs.DataLemmas.{count_is, at_alone}
 use Rattle.vs_tree_shape.proofs.Walks.{above_lines}
 use Rattle.vs_tree_blocks.proofs.DataLemmas.{promise_page, promise_long}
@@ -38,42 +37,42 @@ returns-then-entry-ne1-clause-wrote g c = if_ok_weaker c.edit_long.result _ _
     promise_long _ _ c.args.entry c.args.at after.removed.bytes (change_of c.args.edit after.removed.lines) after.entries.items (alone_pages c.args.entry c.requires.fields c.if-entry-ne1.true) (wrote told))
     c.edit_long.ensures.wrote
 
-pub returns-in-Before-clause-wrote : goal.returns-in-Before-clause-wrote
-returns-in-Before-clause-wrote g c = λ told.
+pub returns-in_ok-entries-in-Before-clause-wrote : goal.returns-in_ok-entries-in-Before-clause-wrote
+returns-in_ok-entries-in-Before-clause-wrote g c = λ told.
     let place : c.args.at + 0 ≡ c.args.at = omega arith in
     let run = c.in-Before.lines.now in
     let none : c.with.result.removed.lines ≡ 0 = ap (λ (a : Edited). a.removed.lines) c.with.ensures in
     let P : Edited → List (List ℕ) → Type 0 = λ a lines. ReplacedBy tree_format (g.P.Pages.shows c.load_data.new.pages).present (g.P.Pages.shows c.put_run.new.pages).present (λ k. span c.args.entry.block 1 k) 0 (splice lines c.args.at 0 run) a.entries.items in
-    promise_page _ (g.P.Pages.shows c.load_data.new.pages).present _ c.args.entry c.args.at c.with.result.removed.bytes c.deref.result.now (change_of c.args.edit c.with.result.removed.lines) (λ lines. splice lines c.args.at 0 run) c.with.result.entries.items
-    (omega (arith, c.if-entry-ne1.false)) (c.load_data.ensures.kept.present told) (c.in_ok-view.ensures.loaded told ∙ ap (λ (b : List ℕ). Some b) (sym c.deref.ensures.value))
+    promise_page _ (g.P.Pages.shows c.load_data.new.pages).present _ c.args.entry c.args.at c.with.result.removed.bytes c.load_data.new.bytes.items (change_of c.args.edit c.with.result.removed.lines) (λ lines. splice lines c.args.at 0 run) c.with.result.entries.items
+    (omega (arith, c.if-entry-ne1.false)) (c.load_data.ensures.kept.present told) (c.in_ok-view.ensures.loaded told)
     (λ lines. ap (λ n. edited (change_of c.args.edit n) lines c.args.at) none ∙ ap (λ (e : Edit). edited (change_of e 0) lines c.args.at) c.in-Before.is ∙ ap (λ (k : ℕ). splice lines k 0 run) place)
-    (λ lines is. subst (λ (a : Edited). P a lines) (sym c.with.ensures) (put_lines _ _ _ c.args.entry.block c.deref.result.now (c.in_ok-view.view.text_end - 24) c.args.at run lines c.in_ok-entries-in-Before.entries.items told is (omega (arith, count_is c.deref.result.now c.in_ok-view.view lines (ap view_in c.deref.ensures.value ∙ c.in_ok-view.ensures.view) is, c.in_ok-view.ensures.count, c.requires.within)) c.in_ok-entries-in-Before.ensures.wrote))
+    (λ lines is. subst (λ (a : Edited). P a lines) (sym c.with.ensures) (put_lines _ _ _ c.args.entry.block c.load_data.new.bytes.items (c.in_ok-view.view.text_end - 24) c.args.at run lines c.in_ok-entries-in-Before.entries.items told is (omega (arith, count_is c.load_data.new.bytes.items c.in_ok-view.view lines c.in_ok-view.ensures.view is, c.in_ok-view.ensures.count, c.requires.within)) c.in_ok-entries-in-Before.ensures.wrote))
     (λ lines is lt. none_taken c.args.edit lines c.args.at c.in_ok-entries-in-Before.entries c.with.result c.with.ensures (omega (arith, lt, ap (λ (e : Edit). (change_of e 0).skip) c.in-Before.is)))
 
-pub returns-in-After-clause-wrote : goal.returns-in-After-clause-wrote
-returns-in-After-clause-wrote g c = λ told.
+pub returns-in_ok-entries-in-After-clause-wrote : goal.returns-in_ok-entries-in-After-clause-wrote
+returns-in_ok-entries-in-After-clause-wrote g c = λ told.
     let run = c.in-After.lines.now in
     let none : c.with-in-After.result.removed.lines ≡ 0 = ap (λ (a : Edited). a.removed.lines) c.with-in-After.ensures in
     let P : Edited → List (List ℕ) → Type 0 = λ a lines. ReplacedBy tree_format (g.P.Pages.shows c.load_data.new.pages).present (g.P.Pages.shows c.put_run-in-After.new.pages).present (λ k. span c.args.entry.block 1 k) 0 (splice lines (c.args.at + 1) 0 run) a.entries.items in
-    promise_page _ (g.P.Pages.shows c.load_data.new.pages).present _ c.args.entry c.args.at c.with-in-After.result.removed.bytes c.deref-in-After.result.now (change_of c.args.edit c.with-in-After.result.removed.lines) (λ lines. splice lines (c.args.at + 1) 0 run) c.with-in-After.result.entries.items
-    (omega (arith, c.if-entry-ne1.false)) (c.load_data.ensures.kept.present told) (c.in_ok-view.ensures.loaded told ∙ ap (λ (b : List ℕ). Some b) (sym c.deref-in-After.ensures.value))
+    promise_page _ (g.P.Pages.shows c.load_data.new.pages).present _ c.args.entry c.args.at c.with-in-After.result.removed.bytes c.load_data.new.bytes.items (change_of c.args.edit c.with-in-After.result.removed.lines) (λ lines. splice lines (c.args.at + 1) 0 run) c.with-in-After.result.entries.items
+    (omega (arith, c.if-entry-ne1.false)) (c.load_data.ensures.kept.present told) (c.in_ok-view.ensures.loaded told)
     (λ lines. ap (λ n. edited (change_of c.args.edit n) lines c.args.at) none ∙ ap (λ (e : Edit). edited (change_of e 0) lines c.args.at) c.in-After.is)
-    (λ lines is. subst (λ (a : Edited). P a lines) (sym c.with-in-After.ensures) (put_lines _ _ _ c.args.entry.block c.deref-in-After.result.now (c.in_ok-view.view.text_end - 24) (c.args.at + 1) run lines c.in_ok-entries-in-After.entries.items told is (omega (arith, count_is c.deref-in-After.result.now c.in_ok-view.view lines (ap view_in c.deref-in-After.ensures.value ∙ c.in_ok-view.ensures.view) is, c.in_ok-view.ensures.count, c.requires.within)) c.in_ok-entries-in-After.ensures.wrote))
+    (λ lines is. subst (λ (a : Edited). P a lines) (sym c.with-in-After.ensures) (put_lines _ _ _ c.args.entry.block c.load_data.new.bytes.items (c.in_ok-view.view.text_end - 24) (c.args.at + 1) run lines c.in_ok-entries-in-After.entries.items told is (omega (arith, count_is c.load_data.new.bytes.items c.in_ok-view.view lines c.in_ok-view.ensures.view is, c.in_ok-view.ensures.count, c.requires.within)) c.in_ok-entries-in-After.ensures.wrote))
     (λ lines is lt. none_taken c.args.edit lines c.args.at c.in_ok-entries-in-After.entries c.with-in-After.result c.with-in-After.ensures (omega (arith, lt, ap (λ (e : Edit). (change_of e 0).skip) c.in-After.is)))
 
-pub returns-clause-wrote : goal.returns-clause-wrote
-returns-clause-wrote g c =
+pub returns-in-Remove-clause-wrote : goal.returns-in-Remove-clause-wrote
+returns-in-Remove-clause-wrote g c =
     let count : ℕ = c.min-gone.result in
     let gone : Edited → Type 0 = λ after. after.removed.lines ≡ count in
-    let bytes : Edited → Type 0 = λ after. after.removed.bytes ≡ bytes_of (take count (drop c.args.at (lines_within c.deref-in-Remove.result.now))) in
+    let bytes : Edited → Type 0 = λ after. after.removed.bytes ≡ bytes_of (take count (drop c.args.at (lines_within c.load_data.new.bytes.items))) in
     if_ok_both c.remove_lines.result _ (λ after. gone after × bytes after) _
     (λ (after : Edited) wrote took told.
     let most = c.in-Remove.most in
-    promise_page _ (g.P.Pages.shows c.load_data.new.pages).present _ c.args.entry c.args.at after.removed.bytes c.deref-in-Remove.result.now (change_of c.args.edit after.removed.lines) (λ lines. splice lines c.args.at count []) after.entries.items
-    (omega (arith, c.if-entry-ne1.false)) (c.load_data.ensures.kept.present told) (c.in_ok-view.ensures.loaded told ∙ ap (λ (b : List ℕ). Some b) (sym c.deref-in-Remove.ensures.value))
+    promise_page _ (g.P.Pages.shows c.load_data.new.pages).present _ c.args.entry c.args.at after.removed.bytes c.load_data.new.bytes.items (change_of c.args.edit after.removed.lines) (λ lines. splice lines c.args.at count []) after.entries.items
+    (omega (arith, c.if-entry-ne1.false)) (c.load_data.ensures.kept.present told) (c.in_ok-view.ensures.loaded told)
     (λ lines. removed c.args.edit most lines c.args.at after.removed.lines count c.in-Remove.is took.0)
-    (λ lines is. removed_lines _ _ _ c.args.entry.block c.deref-in-Remove.result.now c.args.at count lines after.entries.items told is wrote)
-    (λ lines is lt. takes_some c.args.edit most lines c.args.at after.removed.lines count after.removed.bytes c.in-Remove.is took.0 (omega (arith, c.min-gone.ensures, c.from.ensures, count_is c.deref-in-Remove.result.now c.in_ok-view.view lines (ap view_in c.deref-in-Remove.ensures.value ∙ c.in_ok-view.ensures.view) is, c.requires.within, c.in_ok-view.ensures.count)) (took.1 ∙ ap (λ (ls : List (List ℕ)). bytes_of (take count (drop c.args.at ls))) (within_is c.deref-in-Remove.result.now lines is))))
+    (λ lines is. removed_lines _ _ _ c.args.entry.block c.load_data.new.bytes.items c.args.at count lines after.entries.items told is wrote)
+    (λ lines is lt. takes_some c.args.edit most lines c.args.at after.removed.lines count after.removed.bytes c.in-Remove.is took.0 (omega (arith, c.min-gone.ensures, c.from.ensures, count_is c.load_data.new.bytes.items c.in_ok-view.view lines c.in_ok-view.ensures.view is, c.requires.within, c.in_ok-view.ensures.count)) (took.1 ∙ ap (λ (ls : List (List ℕ)). bytes_of (take count (drop c.args.at ls))) (within_is c.load_data.new.bytes.items lines is))))
     c.remove_lines.ensures.wrote (if_ok_both c.remove_lines.result gone bytes _ (λ after a b. (a, b)) c.remove_lines.ensures.gone c.remove_lines.ensures.bytes)
 
 pub returns-then-entry-ne1-clause-differs : goal.returns-then-entry-ne1-clause-differs
@@ -85,74 +84,74 @@ returns-then-entry-ne1-clause-differs g c = on_ok_weaker c.edit_long.result
     differs_most _ _ 1 3 (omega arith) (few told a.tree.lines l.0 (subst (λ (k : ℕ). IsOnePageEdit c.args.edit (get_or a.tree.lines k [])) first slight)))
     c.edit_long.ensures.differs
 
-pub returns-clause-differs : goal.returns-clause-differs
-returns-clause-differs g c = on_ok_weaker c.remove_lines.result
+pub returns-in-Remove-clause-differs : goal.returns-in-Remove-clause-differs
+returns-in-Remove-clause-differs g c = on_ok_weaker c.remove_lines.result
     (λ few told a slight. differs_from _ (g.P.Pages.shows c.load_data.new.pages).present _ 1 3 (omega arith) (c.load_data.ensures.kept.present told) (few told))
     c.remove_lines.ensures.differs
 
-pub returns-in-Before-clause-blocks : goal.returns-in-Before-clause-blocks
-returns-in-Before-clause-blocks g c = λ told bytes read.
+pub returns-in_ok-entries-in-Before-clause-blocks : goal.returns-in_ok-entries-in-Before-clause-blocks
+returns-in_ok-entries-in-Before-clause-blocks g c = λ told bytes read.
     let run = c.in-Before.lines.now in
     with_blocks _ _ _ _ c.in_ok-entries-in-Before.entries c.with.result c.with.ensures
-    (cuts_as _ _ _ _ c.args.entry c.args.at c.args.edit c.with.result.removed.lines c.deref.result.now bytes (λ (b : List ℕ). blocks_with (room_in b) (lines_within b) c.args.at run) c.in_ok-entries-in-Before.entries.items told (c.load_data.ensures.kept.present told) (omega (arith, c.if-entry-ne1.false))
-    (c.in_ok-view.ensures.loaded told ∙ ap (λ (b : List ℕ). Some b) (sym c.deref.ensures.value)) read
+    (cuts_as _ _ _ _ c.args.entry c.args.at c.args.edit c.with.result.removed.lines c.load_data.new.bytes.items bytes (λ (b : List ℕ). blocks_with (room_in b) (lines_within b) c.args.at run) c.in_ok-entries-in-Before.entries.items told (c.load_data.ensures.kept.present told) (omega (arith, c.if-entry-ne1.false))
+    (c.in_ok-view.ensures.loaded told) read
     (λ b. ap (λ (e : Edit). blocks_after 1 b c.args.at e c.with.result.removed.lines) c.in-Before.is)
-    (written_room _ _ _ c.args.entry.block c.deref.result.now c.in_ok-view.view c.args.at run c.in_ok-entries-in-Before.entries.items (ap view_in c.deref.ensures.value ∙ c.in_ok-view.ensures.view) c.in_ok-entries-in-Before.ensures.wrote))
+    (written_room _ _ _ c.args.entry.block c.load_data.new.bytes.items c.in_ok-view.view c.args.at run c.in_ok-entries-in-Before.entries.items c.in_ok-view.ensures.view c.in_ok-entries-in-Before.ensures.wrote))
 
-pub returns-in-Before-clause-fields : goal.returns-in-Before-clause-fields
-returns-in-Before-clause-fields g c = with_fields c.in_ok-entries-in-Before.entries c.with.result c.with.ensures c.in_ok-entries-in-Before.ensures.wrote.fields
+pub returns-in_ok-entries-in-Before-clause-fields : goal.returns-in_ok-entries-in-Before-clause-fields
+returns-in_ok-entries-in-Before-clause-fields g c = with_fields c.in_ok-entries-in-Before.entries c.with.result c.with.ensures c.in_ok-entries-in-Before.ensures.wrote.fields
 
-pub returns-in-Before-clause-few : goal.returns-in-Before-clause-few
-returns-in-Before-clause-few g c = with_few c.in_ok-entries-in-Before.entries c.with.result c.with.ensures c.in_ok-entries-in-Before.ensures.wrote.few
+pub returns-in_ok-entries-in-Before-clause-few : goal.returns-in_ok-entries-in-Before-clause-few
+returns-in_ok-entries-in-Before-clause-few g c = with_few c.in_ok-entries-in-Before.entries c.with.result c.with.ensures c.in_ok-entries-in-Before.ensures.wrote.few
 
-pub returns-in-Before-clause-lines : goal.returns-in-Before-clause-lines
-returns-in-Before-clause-lines g c =
-    let t = header c.deref.result.now c.in_ok-view.view (ap view_in c.deref.ensures.value ∙ c.in_ok-view.ensures.view) in
-    let sum = cut_count (c.in_ok-view.view.text_end - 24) (lines_within c.deref.result.now) c.args.at c.in-Before.lines.now (omega (arith, t.count, c.in_ok-view.ensures.count, c.requires.within)) in
+pub returns-in_ok-entries-in-Before-clause-lines : goal.returns-in_ok-entries-in-Before-clause-lines
+returns-in_ok-entries-in-Before-clause-lines g c =
+    let t = header c.load_data.new.bytes.items c.in_ok-view.view c.in_ok-view.ensures.view in
+    let sum = cut_count (c.in_ok-view.view.text_end - 24) (lines_within c.load_data.new.bytes.items) c.args.at c.in-Before.lines.now (omega (arith, t.count, c.in_ok-view.ensures.count, c.requires.within)) in
     omega (arith, with_count c.in_ok-entries-in-Before.entries c.with.result c.with.ensures, c.in_ok-entries-in-Before.ensures.wrote.lines, sum, t.count, c.in_ok-view.ensures.count, ap added_by c.in-Before.is)
 
-pub returns-in-After-clause-blocks : goal.returns-in-After-clause-blocks
-returns-in-After-clause-blocks g c = λ told bytes read.
+pub returns-in_ok-entries-in-After-clause-blocks : goal.returns-in_ok-entries-in-After-clause-blocks
+returns-in_ok-entries-in-After-clause-blocks g c = λ told bytes read.
     let run = c.in-After.lines.now in
     with_blocks _ _ _ _ c.in_ok-entries-in-After.entries c.with-in-After.result c.with-in-After.ensures
-    (cuts_as _ _ _ _ c.args.entry c.args.at c.args.edit c.with-in-After.result.removed.lines c.deref-in-After.result.now bytes (λ (b : List ℕ). blocks_with (room_in b) (lines_within b) (c.args.at + 1) run) c.in_ok-entries-in-After.entries.items told (c.load_data.ensures.kept.present told) (omega (arith, c.if-entry-ne1.false))
-    (c.in_ok-view.ensures.loaded told ∙ ap (λ (b : List ℕ). Some b) (sym c.deref-in-After.ensures.value)) read
+    (cuts_as _ _ _ _ c.args.entry c.args.at c.args.edit c.with-in-After.result.removed.lines c.load_data.new.bytes.items bytes (λ (b : List ℕ). blocks_with (room_in b) (lines_within b) (c.args.at + 1) run) c.in_ok-entries-in-After.entries.items told (c.load_data.ensures.kept.present told) (omega (arith, c.if-entry-ne1.false))
+    (c.in_ok-view.ensures.loaded told) read
     (λ b. ap (λ (e : Edit). blocks_after 1 b c.args.at e c.with-in-After.result.removed.lines) c.in-After.is)
-    (written_room _ _ _ c.args.entry.block c.deref-in-After.result.now c.in_ok-view.view (c.args.at + 1) run c.in_ok-entries-in-After.entries.items (ap view_in c.deref-in-After.ensures.value ∙ c.in_ok-view.ensures.view) c.in_ok-entries-in-After.ensures.wrote))
+    (written_room _ _ _ c.args.entry.block c.load_data.new.bytes.items c.in_ok-view.view (c.args.at + 1) run c.in_ok-entries-in-After.entries.items c.in_ok-view.ensures.view c.in_ok-entries-in-After.ensures.wrote))
 
-pub returns-in-After-clause-fields : goal.returns-in-After-clause-fields
-returns-in-After-clause-fields g c = with_fields c.in_ok-entries-in-After.entries c.with-in-After.result c.with-in-After.ensures c.in_ok-entries-in-After.ensures.wrote.fields
+pub returns-in_ok-entries-in-After-clause-fields : goal.returns-in_ok-entries-in-After-clause-fields
+returns-in_ok-entries-in-After-clause-fields g c = with_fields c.in_ok-entries-in-After.entries c.with-in-After.result c.with-in-After.ensures c.in_ok-entries-in-After.ensures.wrote.fields
 
-pub returns-in-After-clause-few : goal.returns-in-After-clause-few
-returns-in-After-clause-few g c = with_few c.in_ok-entries-in-After.entries c.with-in-After.result c.with-in-After.ensures c.in_ok-entries-in-After.ensures.wrote.few
+pub returns-in_ok-entries-in-After-clause-few : goal.returns-in_ok-entries-in-After-clause-few
+returns-in_ok-entries-in-After-clause-few g c = with_few c.in_ok-entries-in-After.entries c.with-in-After.result c.with-in-After.ensures c.in_ok-entries-in-After.ensures.wrote.few
 
-pub returns-in-After-clause-lines : goal.returns-in-After-clause-lines
-returns-in-After-clause-lines g c =
-    let t = header c.deref-in-After.result.now c.in_ok-view.view (ap view_in c.deref-in-After.ensures.value ∙ c.in_ok-view.ensures.view) in
-    let sum = cut_count (c.in_ok-view.view.text_end - 24) (lines_within c.deref-in-After.result.now) (c.args.at + 1) c.in-After.lines.now (omega (arith, t.count, c.in_ok-view.ensures.count, c.requires.within)) in
+pub returns-in_ok-entries-in-After-clause-lines : goal.returns-in_ok-entries-in-After-clause-lines
+returns-in_ok-entries-in-After-clause-lines g c =
+    let t = header c.load_data.new.bytes.items c.in_ok-view.view c.in_ok-view.ensures.view in
+    let sum = cut_count (c.in_ok-view.view.text_end - 24) (lines_within c.load_data.new.bytes.items) (c.args.at + 1) c.in-After.lines.now (omega (arith, t.count, c.in_ok-view.ensures.count, c.requires.within)) in
     omega (arith, with_count c.in_ok-entries-in-After.entries c.with-in-After.result c.with-in-After.ensures, c.in_ok-entries-in-After.ensures.wrote.lines, sum, t.count, c.in_ok-view.ensures.count, ap added_by c.in-After.is)
 
-pub returns-clause-blocks : goal.returns-clause-blocks
-returns-clause-blocks g c =
+pub returns-in-Remove-clause-blocks : goal.returns-in-Remove-clause-blocks
+returns-in-Remove-clause-blocks g c =
     let count : ℕ = c.min-gone.result in
     if_ok_both c.remove_lines.result _ (λ after. after.removed.lines ≡ count) _
     (λ (after : Edited) wrote took told bytes read.
-    cuts_as _ _ _ _ c.args.entry c.args.at c.args.edit after.removed.lines c.deref-in-Remove.result.now bytes (λ (b : List ℕ). part (splice (lines_within b) c.args.at count [])) after.entries.items told (c.load_data.ensures.kept.present told) (omega (arith, c.if-entry-ne1.false))
-    (c.in_ok-view.ensures.loaded told ∙ ap (λ (b : List ℕ). Some b) (sym c.deref-in-Remove.ensures.value)) read
+    cuts_as _ _ _ _ c.args.entry c.args.at c.args.edit after.removed.lines c.load_data.new.bytes.items bytes (λ (b : List ℕ). part (splice (lines_within b) c.args.at count [])) after.entries.items told (c.load_data.ensures.kept.present told) (omega (arith, c.if-entry-ne1.false))
+    (c.in_ok-view.ensures.loaded told) read
     (λ b. ap (λ (e : Edit). blocks_after 1 b c.args.at e after.removed.lines) c.in-Remove.is ∙ ap (λ (k : ℕ). part (splice (lines_within b) c.args.at k [])) took)
     wrote)
     c.remove_lines.ensures.wrote c.remove_lines.ensures.gone
 
-pub returns-clause-fields : goal.returns-clause-fields
-returns-clause-fields g c = if_ok_weaker c.remove_lines.result _ _ (λ (after : Edited) wrote. wrote.fields) c.remove_lines.ensures.wrote
+pub returns-in-Remove-clause-fields : goal.returns-in-Remove-clause-fields
+returns-in-Remove-clause-fields g c = if_ok_weaker c.remove_lines.result _ _ (λ (after : Edited) wrote. wrote.fields) c.remove_lines.ensures.wrote
 
-pub returns-clause-few : goal.returns-clause-few
-returns-clause-few g c = if_ok_weaker c.remove_lines.result _ _ (λ (after : Edited) wrote. wrote.few) c.remove_lines.ensures.wrote
+pub returns-in-Remove-clause-few : goal.returns-in-Remove-clause-few
+returns-in-Remove-clause-few g c = if_ok_weaker c.remove_lines.result _ _ (λ (after : Edited) wrote. wrote.few) c.remove_lines.ensures.wrote
 
-pub returns-clause-lines : goal.returns-clause-lines
-returns-clause-lines g c =
-    let t = header c.deref-in-Remove.result.now c.in_ok-view.view (ap view_in c.deref-in-Remove.ensures.value ∙ c.in_ok-view.ensures.view) in
-    let ls = lines_within c.deref-in-Remove.result.now in
+pub returns-in-Remove-clause-lines : goal.returns-in-Remove-clause-lines
+returns-in-Remove-clause-lines g c =
+    let t = header c.load_data.new.bytes.items c.in_ok-view.view c.in_ok-view.ensures.view in
+    let ls = lines_within c.load_data.new.bytes.items in
     let within : c.args.at + c.min-gone.result ≤ length ls = omega (arith, c.min-gone.ensures, c.from.ensures, t.count, c.requires.within, c.in_ok-view.ensures.count) in
     if_ok_both c.remove_lines.result _ (λ after. after.removed.lines ≡ c.min-gone.result) _
     (λ (after : Edited) wrote took. omega (arith, wrote.lines, part_count (splice ls c.args.at c.min-gone.result []), length_splice ls [] c.args.at c.min-gone.result within, took, t.count, c.in_ok-view.ensures.count, within, ap added_by c.in-Remove.is))
