@@ -1,10 +1,13 @@
 -- How entries are cut into pointer blocks.
-use Rattle.std.specs.Prelude.{◌≡◌, ℕ, zero, suc, nat_le, if◌then◌else◌, List, [], ◌∷◌, length, map, take, drop, Some, IsTrue}
+use Rattle.std.specs.Prelude.{◌≡◌, ℕ, zero, suc, ◌+◌, nat_le, if◌then◌else◌, List, [], ◌∷◌, length, map, take, drop, Some, IsTrue}
 use Rattle.vs_pages.specs.Maps.{Map}
 use Rattle.vs_pages.specs.declared.pages.Pages.{Ghosts}
 use Rattle.vs_tree_shape.specs.declared.entries.Entry.{Entry}
+use Rattle.vs_tree_shape.specs.Changes.{pointer_entry}
+use Rattle.vs_tree_shape.specs.Places.{lines_below}
 use Rattle.vs_tree_blocks.specs.Blocks.{entries_at}
 use Rattle.vs_tree_blocks.specs.Cuts.{half_of}
+use Rattle.vs_tree_blocks.specs.Writes.{StandsOver}
 
 -- the first half of entries, rounded up, and the others
 abbrev pub halves_of : List Entry → List (List Entry)
@@ -32,6 +35,10 @@ pub record IsHalvedBelow (m : Map) (entries : List Entry) : Type 0 where
 abbrev pub HasRoot : Map → List Entry → ℕ → Type 0
 HasRoot m entries zero = entries_at m 1 ≡ Some entries
 HasRoot m entries (suc more) = IsHalvedBelow m entries
+
+-- Block 1 has the entries in place of its own, in a tree that is so many levels deeper.
+abbrev pub StandsAsRoot : {P : Type 0} → Ghosts P → P → P → List Entry → ℕ → Type 0
+StandsAsRoot g old new entries more = StandsOver g old new 1 (λ d. more + suc d) entries (pointer_entry 1 (lines_below entries) ∷ [])
 
 -- a tree is one level deeper where its root's entries are too many for one block
 abbrev pub levels_more : List Entry → ℕ

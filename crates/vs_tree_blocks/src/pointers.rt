@@ -7,7 +7,7 @@ ghost use Rattle.vs_tree_shape.specs.Places.{lines_below, replaced};
 ghost use Rattle.vs_tree_shape.specs.Changes.{pointer_entry};
 ghost use Rattle.vs_tree_blocks.specs.Blocks.{entries_at, FitsFields};
 ghost use Rattle.vs_tree_blocks.specs.Cuts.{half_of};
-ghost use Rattle.vs_tree_blocks.specs.Pointers.{HasRoot, IsHalvedBelow, Leads, halves_of, levels_more, pointer_blocks};
+ghost use Rattle.vs_tree_blocks.specs.Pointers.{HasRoot, IsHalvedBelow, Leads, StandsAsRoot, halves_of, levels_more, pointer_blocks};
 ghost use Rattle.vs_tree_blocks.specs.Writes.{IsThere, StandsOver, Touches};
 
 use crate::bytes::pointer_bytes;
@@ -220,7 +220,7 @@ pub fn write_root<P: Pages>(
     requires small { lines_below entries.items < 2 ^ 63 }
     requires fields { AllByRecursion FitsFields entries.items }
     requires few { length entries.items ≤ 254 }
-    ensures wrote { IfOk result (λ more. StandsOver P.Pages pages.old pages.new 1 (λ d. more + suc d) entries.items (pointer_entry 1 (lines_below entries.items) ∷ [])) }
+    ensures wrote { IfOk result (StandsAsRoot P.Pages pages.old pages.new entries.items) }
     ensures more { IfOk result (λ more. more ≤ 1) }
     ensures deeper { IfOk result (λ more. more ≡ levels_more entries.items) }
     ensures blocks { IfOk result (λ more. IsTrue P.tells → HasRoot (P.shows pages.new).present entries.items more) }
@@ -252,7 +252,7 @@ pub fn exchange_in_root<P: Pages>(
     requires small { lines_below (replaced old.entries.items index by.now) < 2 ^ 63 }
     requires fields { AllByRecursion FitsFields by.now }
     requires few { length by.now ≤ 3 }
-    ensures wrote { IfOk result (λ more. StandsOver P.Pages pages.old pages.new 1 (λ d. more + suc d) (replaced old.entries.items index by.now) (pointer_entry 1 (lines_below (replaced old.entries.items index by.now)) ∷ [])) }
+    ensures wrote { IfOk result (StandsAsRoot P.Pages pages.old pages.new (replaced old.entries.items index by.now)) }
     ensures more { IfOk result (λ more. more ≤ 1) }
     ensures deeper { IfOk result (λ more. more ≡ levels_more (replaced old.entries.items index by.now)) }
     ensures blocks { IfOk result (λ more. IsTrue P.tells → HasRoot (P.shows pages.new).present (replaced old.entries.items index by.now) more) }
