@@ -3,7 +3,7 @@ use Rattle.std.proofs.Common.{◌≡◌, ℕ, zero, suc, ◌+◌, ◌<◌, ◌�
 use Rattle.std.specs.List.{AllByRecursion}
 use Rattle.std.specs.Option.{option_and_then}
 use Rattle.std.proofs.lemmas.Grind.{common_steps}
-use Rattle.std.proofs.lemmas.List.{length-map, map-append, set_split}
+use Rattle.std.proofs.lemmas.List.{length-map, length-set, map-append, set_split}
 use Rattle.vs_ptr.specs.declared.PtrEntry.{PtrEntry}
 use Rattle.vs_ptr.specs.declared.PtrView.{PtrView}
 use Rattle.vs_ptr.specs.declared.PtrErr.{PtrErr}
@@ -149,8 +149,11 @@ each-set P [] i x each here = tt
 each-set P (y ∷ xs) zero x each here = (here, each.1)
 each-set P (y ∷ xs) (suc i) x each here = (each.0, each-set P xs i x each.1 here)
 
--- one entry in place of one is that entry put there
-pub replaced_one : (es by : List Entry) (i : ℕ) (d : Entry) → i < length es → length by ≡ 1 → set es i (get_or by 0 d) ≡ replaced es i by
-replaced_one es [] i d within one = absurd (omega arith)
-replaced_one es (e ∷ []) i d within one = set_split es i e within ∙ ap (λ n. take i es ++ e ∷ drop n es) (sym (add-one i))
-replaced_one es (e ∷ f ∷ by) i d within one = absurd (omega arith)
+pub set_as_long : (es now : List Entry) (i : ℕ) (e : Entry) → now ≡ set es i e → length now ≡ length es
+set_as_long es now i e is = ap length is ∙ length-set es i e
+
+-- one entry that was put in place of one
+pub replaced_one : (es by now : List Entry) (i : ℕ) (d : Entry) → now ≡ set es i (get_or by 0 d) → i < length es → length by ≡ 1 → now ≡ replaced es i by
+replaced_one es [] now i d is within one = absurd (omega arith)
+replaced_one es (e ∷ []) now i d is within one = is ∙ set_split es i e within ∙ ap (λ n. take i es ++ e ∷ drop n es) (sym (add-one i))
+replaced_one es (e ∷ f ∷ by) now i d is within one = absurd (omega arith)

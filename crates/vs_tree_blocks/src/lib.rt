@@ -17,12 +17,11 @@ mod run;
 mod split;
 
 pub use add::add_block;
-pub use bytes::pointer_bytes;
 pub use data::edit_data;
 pub use depths::has_one_list;
 pub use edit::{Edit, Edited, Removed};
 pub use first::write_first;
 pub use load::{load_data, load_line};
 pub use pointer_block::{PointerBlock, load_entries, load_pointers};
-pub use pointers::{exchange_entry, exchange_in_root, write_pointers, write_root};
+pub use pointers::{exchange_entry, exchange_in_root};
 pub use run::Run;

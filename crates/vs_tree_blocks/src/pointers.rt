@@ -102,9 +102,9 @@ fn write_two<P: Pages>(
     Ok(vec![in alloc; one, two]?)
 }
 
-/// Writes entries into the pointer block at page `block`, the second half of them into a new block where they are too
-/// many for one, and gives the entries that stand in place of the block's entry. Without entries the block is given back.
-pub fn write_pointers<P: Pages>(
+// Writes entries into the pointer block at page `block`, the second half of them into a new block where they are too
+// many for one, and gives the entries that stand in place of the block's entry. Without entries the block is given back.
+fn write_pointers<P: Pages>(
     alloc: Global,
     pages: &mut P,
     block: u64,
@@ -137,7 +137,8 @@ pub fn write_pointers<P: Pages>(
 }
 
 /// Writes the pointer block `old` to page `block` again, with other entries in place of one, and gives the entries that stand in
-/// place of the block's entry, as `write_pointers` does. Where one entry comes, the others are not written anew.
+/// place of the block's entry: two where there are too many for one block, and none where no entry is left, when the block is given
+/// back. Where one entry comes, the others are not written anew.
 pub fn exchange_entry<P: Pages>(
     alloc: Global,
     pages: &mut P,
@@ -208,13 +209,9 @@ fn write_top<P: Pages>(alloc: Global, pages: &mut P, block: &PointerBlock) -> Re
     pages.touch(alloc, 1, 1, &block.bytes)
 }
 
-/// Writes entries into block 1. Where they are too many, each half of them moves to a new block, and block 1 leads to
-/// these two alone. Gives the number of levels, 0 or 1, by which the tree is deeper then.
-pub fn write_root<P: Pages>(
-    alloc: Global,
-    pages: &mut P,
-    entries: Vec<Entry>,
-) -> Result<u64, PageErr>
+// Writes entries into block 1. Where they are too many, each half of them moves to a new block, and block 1 leads to
+// these two alone. Gives the number of levels, 0 or 1, by which the tree is deeper then.
+fn write_root<P: Pages>(alloc: Global, pages: &mut P, entries: Vec<Entry>) -> Result<u64, PageErr>
     requires valid { P.valid pages.old }
     requires there { IsThere P.Pages pages.old 1 }
     requires small { lines_below entries.items < 2 ^ 63 }
@@ -237,8 +234,9 @@ pub fn write_root<P: Pages>(
     Ok(0)
 }
 
-/// Writes block 1 again, with other entries in place of one, and gives the number of levels by which the tree is deeper then, as
-/// `write_root` does. Where one entry comes, the others are not written anew.
+/// Writes block 1 again, with other entries in place of one, and gives the number of levels, 0 or 1, by which the tree is deeper
+/// then: where there are too many, each half of them moves to a new block, and block 1 leads to these two alone. Where one entry
+/// comes, the others are not written anew.
 pub fn exchange_in_root<P: Pages>(
     alloc: Global,
     pages: &mut P,

@@ -14,7 +14,7 @@ use Rattle.vs_tree_blocks.proofs.pointers.exchange_in_root.Goals as goal
 pub returns-then-by-eq1-clause-wrote : goal.returns-then-by-eq1-clause-wrote
 returns-then-by-eq1-clause-wrote g c = λ told d kids below.
     let all : List Entry = replaced c.args.old.entries.items c.args.index c.args.by.now in
-    let is = c.put.ensures ∙ replaced_one c.args.old.entries.items c.args.by.now c.args.index _ c.requires.index c.if-by-eq1.true in
+    let is = replaced_one c.args.old.entries.items c.args.by.now c.put.new.self.entries.items c.args.index _ c.put.ensures c.requires.index c.if-by-eq1.true in
     let P : List Entry → Type 0 = λ es. StandsOver g.P.Pages c.args.pages.now c.write_top.new.pages 1 (λ i. suc i) es (pointer_entry 1 (lines_below es) ∷ []) in
     let less : suc d ≡ 0 + suc d = omega arith in
     let Q : ℕ → Type 0 = λ i. ReplacedBy tree_format (g.P.Pages.shows c.args.pages.now).present (g.P.Pages.shows c.write_top.new.pages).present (λ k. one 1 k + total (λ u. uses d u k) kids) i (flat_map (λ u. lines_of d u) kids) (pointer_entry 1 (lines_below all) ∷ []) in
@@ -22,5 +22,5 @@ returns-then-by-eq1-clause-wrote g c = λ told d kids below.
 
 pub returns-then-by-eq1-clause-blocks : goal.returns-then-by-eq1-clause-blocks
 returns-then-by-eq1-clause-blocks g c = λ told.
-    let is = c.put.ensures ∙ replaced_one c.args.old.entries.items c.args.by.now c.args.index _ c.requires.index c.if-by-eq1.true in
+    let is = replaced_one c.args.old.entries.items c.args.by.now c.put.new.self.entries.items c.args.index _ c.put.ensures c.requires.index c.if-by-eq1.true in
     c.in_ok-write_top.ensures.blocks told ∙ ap (λ (es : List Entry). Some es) is
