@@ -195,6 +195,17 @@ fn lines_are_added_to_one_entry(rt: HostRuntime) {
 }
 
 #[test]
+fn one_entry_is_put_in_place_of_another(rt: HostRuntime) {
+    let mut block = [0u8; 1048];
+    let mut view = fill(&mut block);
+    view.replace(&mut block, 1, &one_page(9, 25));
+    assert!(rt; PtrView::read(&block) == Ok(counts(3, 32)));
+    assert!(rt; view.entry(&block, 0) == one_page(2, 10));
+    assert!(rt; view.entry(&block, 1) == one_page(9, 25));
+    assert!(rt; view.entry(&block, 2) == one_page(4, 30));
+}
+
+#[test]
 fn a_split_moves_the_later_entries(rt: HostRuntime) {
     let mut block = [0u8; 1048];
     let mut other = [0xee_u8; 1048];
