@@ -1,7 +1,7 @@
 -- What is left of a script: what was read ahead, and what the host has left. How a reader takes lines of it.
-use Rattle.std.specs.Prelude.{ℕ, Bool, true, false, ◌==◌, if◌then◌else◌, List, [], ◌∷◌, ◌++◌, ◌≡◌, ◌+◌, ◌-◌, ◌<◌, ◌≤◌, length, take}
+use Rattle.std.specs.Prelude.{ℕ, Bool, true, false, ◌==◌, if◌then◌else◌, List, [], ◌∷◌, ◌++◌, ◌≡◌, ◌+◌, ◌-◌, ◌<◌, ◌≤◌, length, take, Result, IsTrue, OnOk}
 use Rattle.vs_exparse.specs.Bytes.{max_line_bytes}
-use Rattle.vs_host.specs.World.{Scene}
+use Rattle.vs_host.specs.World.{Tells, Scene}
 use Rattle.vs_script.specs.declared.reader.ScriptErr.{ScriptErr}
 use Rattle.vs_script.specs.declared.reader.ScriptErr.TheVariants as error
 use Rattle.vs_text.specs.Text.{lines_of}
@@ -44,6 +44,13 @@ bytes_left reader = length reader.bytes + (script_limit - reader.taken)
 -- each byte that was taken from the script counts, and no other
 abbrev pub CountsTaken : Ahead → Ahead → Scene → Scene → Type 0
 CountsTaken old new before after = new.taken + length after.script ≡ old.taken + length before.script
+
+-- A reader keeps track of the script. Where it saw the end, nothing is left. Its count is within the limit, and where the call
+-- succeeded it grew by just the bytes that were taken from the script.
+pub record KeepsTrack (tells : Tells) {T : Type 0} (result : Result T ScriptErr) (old new : Ahead) (before after : Scene) : Type 0 where
+  pub ended : IsTrue tells.script → HasSeen new after
+  pub limit : new.taken ≤ script_limit
+  pub counts : OnOk result (IsTrue tells.script → CountsTaken old new before after)
 
 -- the next line of those before, where there is one
 abbrev pub TakesLine : List (List ℕ) → Bool → List ℕ → List (List ℕ) → Type 0

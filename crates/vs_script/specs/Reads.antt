@@ -1,7 +1,10 @@
--- What the reads of a script add to the trace.
-use Rattle.std.specs.Prelude.{◌≡◌, ◌≤◌, List, ◌++◌, length}
+-- What the reads of a script add to the trace, and what a call says of them.
+use Rattle.std.specs.Prelude.{◌≡◌, ◌≤◌, List, ◌++◌, length, Result, IsTrue, IsErrOf, OnOk}
+use Rattle.vs_faults.specs.Faults.{HasCause, IsQuiet}
 use Rattle.vs_host.specs.Trace.{Snapshot, Each, GoesOn}
-use Rattle.vs_host.specs.World.{Scene}
+use Rattle.vs_host.specs.World.{Tells, Scene, ChangesScript}
+use Rattle.vs_script.specs.declared.reader.ScriptErr.{ScriptErr}
+use Rattle.vs_script.specs.declared.reader.ScriptErr.TheVariants as error
 
 -- A read that succeeded: folder, output and the counts of failed calls are those of the scene.
 pub record IsAsBefore (start : Scene) (snapshot : Snapshot) : Type 0 where
@@ -27,3 +30,13 @@ pub record ReadsOn (old new : Scene) : Type 0 where
   pub is : new.trace ≡ last ++ (earlier ++ old.trace)
   pub earlier_are : Each (IsAsBefore old) earlier
   pub last_is : Each (IsRead old) last
+
+-- Of the host only the script was read. The count of its faults has risen where the answer is that a read failed, and else is as
+-- before. Where the folder is told, the trace grew by reads alone, of which none but the last one failed, and none at all where the
+-- call succeeded.
+pub record ReadsScript (tells : Tells) {T : Type 0} (result : Result T ScriptErr) (old new : Scene) : Type 0 where
+  pub frame : ChangesScript old new
+  pub cause : HasCause old.script_faults new.script_faults (IsErrOf result error.Failed)
+  pub quiet : IsQuiet old.script_faults new.script_faults (IsErrOf result error.Failed)
+  pub all : OnOk result (IsTrue tells.folder → ReadsAll old new)
+  pub last : IsTrue tells.folder → ReadsOn old new

@@ -1,10 +1,8 @@
 // Reads a script line by line, in pieces as the host gives them.
-ghost use Rattle.std.specs.Prelude.{◌≡◌, ◌<◌, ◌≤◌, ◌+◌, ◌-◌, ◌++◌, ◌∷◌, [], length, MatchOption, take, drop, false, true, IsTrue, IfOk, OnOk, IfErr, IsErrOf, vec_len};
-ghost use Rattle.vs_faults.specs.Faults.{HasCause, IsQuiet};
-ghost use Rattle.vs_host.specs.World.{ChangesScript};
+ghost use Rattle.std.specs.Prelude.{◌≡◌, ◌<◌, ◌≤◌, ◌+◌, ◌-◌, ◌++◌, ◌∷◌, [], length, MatchOption, take, drop, false, true, IsTrue, IfOk, OnOk, IfErr, vec_len};
 ghost use Rattle.vs_text.specs.Text.{IsLine};
-ghost use Rattle.vs_script.specs.Reads.{ReadsAll, ReadsOn};
-ghost use Rattle.vs_script.specs.Ahead.{Ahead, script_limit, whole_lines, bytes_left, CountsTaken, HasSeen, IsLeft, ReadsLine, Stops};
+ghost use Rattle.vs_script.specs.Reads.{ReadsScript};
+ghost use Rattle.vs_script.specs.Ahead.{Ahead, script_limit, whole_lines, bytes_left, HasSeen, IsLeft, KeepsTrack, ReadsLine, Stops};
 
 use crate::line::LineBuffer;
 use memchr::memchr;
@@ -104,21 +102,15 @@ impl ScriptReader {
         requires ended { IsTrue (S.tells).script → HasSeen self.old (S.scene host.old) }
         ensures script { OnOk result (IsTrue (S.tells).script → (S.scene host.old).script ≡ self.new.bytes ++ (S.scene host.new).script) }
         ensures taken { OnOk result (self.new.taken ≡ self.old.taken + length self.new.bytes) }
-        ensures counts { OnOk result (IsTrue (S.tells).script → CountsTaken self.old self.new (S.scene host.old) (S.scene host.new)) }
-        ensures limit { self.new.taken ≤ script_limit }
         ensures more { IfOk result (λ more. IsTrue more → 0 < length self.new.bytes) }
         ensures none { result ≡ Ok false → self.new.bytes ≡ [] }
         ensures end { result ≡ Ok false → IsTrue (S.tells).script → (S.scene host.new).script ≡ [] }
-        ensures ended { IsTrue (S.tells).script → HasSeen self.new (S.scene host.new) }
+        ensures track { KeepsTrack S.tells result self.old self.new (S.scene host.old) (S.scene host.new) }
         ensures stops { IfErr result (λ error. IsTrue (S.tells).script →
             (self.old.ended ≡ false) × (self.new.taken ≡ self.old.taken) × IsLeft error (S.scene host.old).script self.new (S.scene host.new)) }
         ensures goes_on { OnOk result (self.new.ended ≡ false → self.old.ended ≡ false) }
         ensures at_end { result ≡ Ok false → self.new.ended ≡ true }
-        ensures cause { HasCause (S.scene host.old).script_faults (S.scene host.new).script_faults (IsErrOf result ScriptErr.Failed) }
-        ensures quiet { IsQuiet (S.scene host.old).script_faults (S.scene host.new).script_faults (IsErrOf result ScriptErr.Failed) }
-        ensures reads { OnOk result (IsTrue (S.tells).folder → ReadsAll (S.scene host.old) (S.scene host.new)) }
-        ensures last { IsTrue (S.tells).folder → ReadsOn (S.scene host.old) (S.scene host.new) }
-        ensures frame { ChangesScript (S.scene host.old) (S.scene host.new) }
+        ensures reads { ReadsScript S.tells result (S.scene host.old) (S.scene host.new) }
     {
         if self.ended {
             return Ok(false);
@@ -149,18 +141,12 @@ impl ScriptReader {
         requires ended { IsTrue (S.tells).script → HasSeen self.old (S.scene host.old) }
         ensures line { IfOk result (λ found. IsTrue (S.tells).script → ReadsLine found line.new self.old self.new (S.scene host.old) (S.scene host.new)) }
         ensures is_line { OnOk result (IsLine line.new) }
-        ensures ended { IsTrue (S.tells).script → HasSeen self.new (S.scene host.new) }
+        ensures track { KeepsTrack S.tells result self.old self.new (S.scene host.old) (S.scene host.new) }
         ensures stops { IfErr result (λ error. IsTrue (S.tells).script → Stops error whole_lines [] self.old self.new (S.scene host.old) (S.scene host.new)) }
-        ensures counts { OnOk result (IsTrue (S.tells).script → CountsTaken self.old self.new (S.scene host.old) (S.scene host.new)) }
         ensures end { result ≡ Ok false → IsTrue (S.tells).script → (S.scene host.new).script ≡ [] }
-        ensures limit { self.new.taken ≤ script_limit }
         ensures fewer { IfOk result (λ found. IsTrue found → bytes_left self.new < bytes_left self.old) }
         ensures left { OnOk result (bytes_left self.new ≤ bytes_left self.old) }
-        ensures cause { HasCause (S.scene host.old).script_faults (S.scene host.new).script_faults (IsErrOf result ScriptErr.Failed) }
-        ensures quiet { IsQuiet (S.scene host.old).script_faults (S.scene host.new).script_faults (IsErrOf result ScriptErr.Failed) }
-        ensures reads { OnOk result (IsTrue (S.tells).folder → ReadsAll (S.scene host.old) (S.scene host.new)) }
-        ensures last { IsTrue (S.tells).folder → ReadsOn (S.scene host.old) (S.scene host.new) }
-        ensures frame { ChangesScript (S.scene host.old) (S.scene host.new) }
+        ensures reads { ReadsScript S.tells result (S.scene host.old) (S.scene host.new) }
     {
         line.clear();
         'pieces: loop {

@@ -1,12 +1,10 @@
 // Reads a script command by command: docs/COMMANDS.md, "Scripts".
-ghost use Rattle.std.specs.Prelude.{◌≡◌, ◌<◌, ◌≤◌, [], None, false, true, IfOk, OnOk, IfErr, IsErrOf, IfSome, IsTrue};
-ghost use Rattle.vs_faults.specs.Faults.{HasCause, IsQuiet};
-ghost use Rattle.vs_host.specs.World.{ChangesScript};
+ghost use Rattle.std.specs.Prelude.{◌≡◌, ◌<◌, ◌≤◌, [], None, false, true, IfOk, OnOk, IfErr, IfSome, IsTrue};
 ghost use Rattle.vs_exparse.specs.Command.{Command};
 ghost use Rattle.vs_excmd.specs.Request.{IsFormed, is_absent};
 ghost use Rattle.vs_script.specs.Script.{HasHeadForm, IsKind, is_found, kind_of, whole_block};
-ghost use Rattle.vs_script.specs.Reads.{ReadsAll, ReadsOn};
-ghost use Rattle.vs_script.specs.Ahead.{script_limit, whole_lines, bytes_left, CountsTaken, HasSeen, Stops};
+ghost use Rattle.vs_script.specs.Reads.{ReadsScript};
+ghost use Rattle.vs_script.specs.Ahead.{whole_lines, bytes_left, HasSeen, KeepsTrack, Stops};
 ghost use Rattle.vs_script.specs.Requests.{FindsCommand, TakesBlock, TakesRequest, TakesNone, whole_commands};
 
 use crate::block::BlockLines;
@@ -28,17 +26,11 @@ impl ScriptReader {
         requires ended { IsTrue (S.tells).script → HasSeen self.old (S.scene host.old) }
         ensures block { IfOk result (λ block. IsTrue (S.tells).script → TakesBlock block self.old self.new (S.scene host.old) (S.scene host.new)) }
         ensures there { IfOk result (λ block. is_absent block ≡ false) }
-        ensures ended { IsTrue (S.tells).script → HasSeen self.new (S.scene host.new) }
+        ensures track { KeepsTrack S.tells result self.old self.new (S.scene host.old) (S.scene host.new) }
         ensures stops { IfErr result (λ error. IsTrue (S.tells).script → (command : Command) →
             Stops error (λ bytes. whole_block command [] (whole_lines bytes)) [] self.old self.new (S.scene host.old) (S.scene host.new)) }
-        ensures counts { OnOk result (IsTrue (S.tells).script → CountsTaken self.old self.new (S.scene host.old) (S.scene host.new)) }
-        ensures limit { self.new.taken ≤ script_limit }
         ensures left { OnOk result (bytes_left self.new ≤ bytes_left self.old) }
-        ensures cause { HasCause (S.scene host.old).script_faults (S.scene host.new).script_faults (IsErrOf result ScriptErr.Failed) }
-        ensures quiet { IsQuiet (S.scene host.old).script_faults (S.scene host.new).script_faults (IsErrOf result ScriptErr.Failed) }
-        ensures reads { OnOk result (IsTrue (S.tells).folder → ReadsAll (S.scene host.old) (S.scene host.new)) }
-        ensures last { IsTrue (S.tells).folder → ReadsOn (S.scene host.old) (S.scene host.new) }
-        ensures frame { ChangesScript (S.scene host.old) (S.scene host.new) }
+        ensures reads { ReadsScript S.tells result (S.scene host.old) (S.scene host.new) }
     {
         let mut lines = BlockLines::new(alloc);
         'lines: loop {
@@ -62,17 +54,11 @@ impl ScriptReader {
         ensures line { IfOk result (λ found. IsTrue (S.tells).script → FindsCommand (is_found found) line.new self.old self.new (S.scene host.old) (S.scene host.new)) }
         ensures kind { IfOk result (λ found. IsTrue (is_found found) → IsKind found (kind_of line.new)) }
         ensures form { IfOk result HasHeadForm }
-        ensures ended { IsTrue (S.tells).script → HasSeen self.new (S.scene host.new) }
+        ensures track { KeepsTrack S.tells result self.old self.new (S.scene host.old) (S.scene host.new) }
         ensures end { result ≡ Ok ScriptLine.NoCommand → IsTrue (S.tells).script → ((S.scene host.new).script ≡ []) × (self.new.ended ≡ true) }
         ensures stops { IfErr result (λ error. IsTrue (S.tells).script → Stops error whole_commands [] self.old self.new (S.scene host.old) (S.scene host.new)) }
-        ensures counts { OnOk result (IsTrue (S.tells).script → CountsTaken self.old self.new (S.scene host.old) (S.scene host.new)) }
-        ensures limit { self.new.taken ≤ script_limit }
         ensures fewer { IfOk result (λ found. IsTrue (is_found found) → bytes_left self.new < bytes_left self.old) }
-        ensures cause { HasCause (S.scene host.old).script_faults (S.scene host.new).script_faults (IsErrOf result ScriptErr.Failed) }
-        ensures quiet { IsQuiet (S.scene host.old).script_faults (S.scene host.new).script_faults (IsErrOf result ScriptErr.Failed) }
-        ensures reads { OnOk result (IsTrue (S.tells).folder → ReadsAll (S.scene host.old) (S.scene host.new)) }
-        ensures last { IsTrue (S.tells).folder → ReadsOn (S.scene host.old) (S.scene host.new) }
-        ensures frame { ChangesScript (S.scene host.old) (S.scene host.new) }
+        ensures reads { ReadsScript S.tells result (S.scene host.old) (S.scene host.new) }
     {
         'lines: while self.next_line(host, line)? {
             match line_kind(line.bytes()) {
@@ -100,16 +86,10 @@ impl ScriptReader {
             TakesRequest request self.old self.new (S.scene host.old) (S.scene host.new))) }
         ensures form { IfOk result (λ found. IfSome found (λ request. IsFormed request)) }
         ensures none { result ≡ Ok None → IsTrue (S.tells).script → TakesNone self.old self.new (S.scene host.old) (S.scene host.new) }
-        ensures ended { IsTrue (S.tells).script → HasSeen self.new (S.scene host.new) }
+        ensures track { KeepsTrack S.tells result self.old self.new (S.scene host.old) (S.scene host.new) }
         ensures stops { IfErr result (λ error. IsTrue (S.tells).script → Stops error whole_commands [] self.old self.new (S.scene host.old) (S.scene host.new)) }
-        ensures counts { OnOk result (IsTrue (S.tells).script → CountsTaken self.old self.new (S.scene host.old) (S.scene host.new)) }
-        ensures limit { self.new.taken ≤ script_limit }
         ensures fewer { IfOk result (λ found. IfSome found (λ request. bytes_left self.new < bytes_left self.old)) }
-        ensures cause { HasCause (S.scene host.old).script_faults (S.scene host.new).script_faults (IsErrOf result ScriptErr.Failed) }
-        ensures quiet { IsQuiet (S.scene host.old).script_faults (S.scene host.new).script_faults (IsErrOf result ScriptErr.Failed) }
-        ensures reads { OnOk result (IsTrue (S.tells).folder → ReadsAll (S.scene host.old) (S.scene host.new)) }
-        ensures last { IsTrue (S.tells).folder → ReadsOn (S.scene host.old) (S.scene host.new) }
-        ensures frame { ChangesScript (S.scene host.old) (S.scene host.new) }
+        ensures reads { ReadsScript S.tells result (S.scene host.old) (S.scene host.new) }
     {
         match self.next_command(host, line)? {
             ScriptLine::NoCommand => Ok(None),

@@ -1,5 +1,5 @@
 -- A command of a run: the step and its reply, whole or cut short, and an accepted quit.
-use Rattle.std.proofs.Common.{◌≡◌, inl, inr, ℕ, ◌≤◌, ◌<◌, ◌+◌, Bool, true, not, ◌&&◌, ◌||◌, List, [], ◌∷◌, ◌++◌, length, take, map, All, IsTrue, refl, sym, ap, subst, ◌∙◌, append_assoc, append-nil, arith}
+use Rattle.std.proofs.Common.{◌≡◌, inl, inr, ℕ, ◌≤◌, ◌<◌, ◌+◌, Bool, true, not, ◌&&◌, ◌||◌, List, [], ◌∷◌, ◌++◌, length, take, map, All, IsTrue, Ok, refl, sym, ap, subst, ◌∙◌, append_assoc, append-nil, arith}
 use Rattle.std.proofs.lemmas.Bool.{true≢false}
 use Rattle.std.proofs.lemmas.List.{take_all, length-append}
 use Rattle.std.proofs.lemmas.List.Elements.{All-nil, All-cons, All-append}
@@ -13,7 +13,8 @@ use Rattle.vs_host.specs.World.{Tells, Scene, ChangesOutput}
 use Rattle.vs_host.specs.declared.names.Names.{Names}
 use Rattle.vs_excmd.specs.Request.{Instruction, IsRequest}
 use Rattle.vs_excmd.specs.declared.request.Request.{Request}
-use Rattle.vs_script.specs.Ahead.{Ahead, CountsTaken, script_limit}
+use Rattle.vs_script.specs.Ahead.{Ahead, CountsTaken, KeepsTrack, script_limit}
+use Rattle.vs_script.specs.Reads.{ReadsScript}
 use Rattle.vs_script.specs.Requests.{TakesRequest, TakesNone}
 use Rattle.vs_machine.specs.Machine.{is_done}
 use Rattle.vs_machine.specs.Replies.{Answer}
@@ -38,7 +39,7 @@ use Rattle.vs_top.specs.Turns.{text_at, opening_at, Told, KeepsOpenFile, IsAtClo
 use Rattle.vs_top.specs.declared.ending.Ending.TheVariants as ending
 use Rattle.vs_top.proofs.Pushes.{replies_same, states_push, turns_push, none_push, errors_push, and_not, map_push}
 use Rattle.vs_top.proofs.Counting.{only_then, only_output, only_script, causes_on, counted_works, counted_reads, all_counted}
-use Rattle.vs_top.proofs.Turning.{reads_look, IsTurn, AfterOk}
+use Rattle.vs_top.proofs.Turning.{reads_look, IsTurn}
 use Rattle.vs_top.proofs.Reading.{fresh_reader, HasRead, read_on, read_in, read_within, done_is_all, all_ahead, counts_on, few_taken}
 
 -- commands that have no end yet have no reply
@@ -62,8 +63,9 @@ pub record HasStepped (tells : Tells) (read stepped : Scene) (session after : Se
 one_more : (commands : List Instruction) (ends : List Ended) (c : Instruction) (e : Ended) → length ends ≡ length commands → length (ends ++ e ∷ []) ≡ length (commands ++ c ∷ [])
 one_more commands ends c e same = omega (arith, same, length-append ends (e ∷ []), length-append commands (c ∷ []))
 
-module _ (tells : Tells) (name : List ℕ) (old now read stepped : Scene) (session session' : Session) (fresh reader reader' : Ahead) (marks : List Mark) (clean : Bool) (request : Request) (mark : Mark) (reply : Answer)
-    (ok : AfterOk tells reader reader' now read) (step : HasStepped tells read stepped session session' request mark reply) (some : 0 < length reply.bytes) where
+module _ {T : Type 0} {x : T} (tells : Tells) (name : List ℕ) (old now read stepped : Scene) (session session' : Session) (fresh reader reader' : Ahead) (marks : List Mark) (clean : Bool) (request : Request) (mark : Mark) (reply : Answer)
+    (reads : ReadsScript tells (Ok x) now read) (track : KeepsTrack tells (Ok x) reader reader' now read)
+    (step : HasStepped tells read stepped session session' request mark reply) (some : 0 < length reply.bytes) where
   module _ (told : TellsRun tells) (commands : List Instruction) (ends : List Ended) (here : Told name old now session marks clean commands ends) (had : HasRead fresh reader old now commands) (keeps : names_of session ≡ names_of_file name)
       (taken : TakesRequest request reader reader' now read) where
     abbrev names : Names
@@ -82,10 +84,10 @@ module _ (tells : Tells) (name : List ℕ) (old now read stepped : Scene) (sessi
     syncs = after_turns (opened (text_at old name)) turns
 
     looked : Going names old read (text_at old name) (opening_at old name) turns
-    looked = going_looks names old (text_at old name) (opening_at old name) now read turns (reads_look now read ok.after.frame (ok.after.reads told.folder)) here.going
+    looked = going_looks names old (text_at old name) (opening_at old name) now read turns (reads_look now read reads.frame (reads.last told.folder)) here.going
 
     answers : Answers state syncs taken.first session session' mark reply read stepped
-    answers = step.step told.folder state syncs taken.first (subst (λ (d : Disk). Fits session d state syncs) (sym (ap (λ (s : Scene). s.folder) ok.after.frame)) here.fits) taken.meant
+    answers = step.step told.folder state syncs taken.first (subst (λ (d : Disk). Fits session d state syncs) (sym (ap (λ (s : Scene). s.folder) reads.frame)) here.fits) taken.meant
 
     abbrev ended : Ended
     ended = answers.ended
@@ -165,7 +167,7 @@ module _ (tells : Tells) (name : List ℕ) (old now read stepped : Scene) (sessi
           );
           failed = rose_at output_count old stepped new WroteOutput [] writes.added rose
               (counted_works names turn.write _ old read stepped (ap (λ (s : Scene). s.out_faults) step.frame) (subst (λ (k : Names). Stepped k syncs (turn_of state taken.first ended) read stepped) keeps answers.stepped).works
-              (counted_reads old now read ok.after.frame ok.quiet (ok.all told.folder) here.counted).output);
+              (counted_reads old now read reads.frame (reads.quiet (λ is. cc)) (reads.all told.folder) here.counted).output);
           looks = λ early. absurd (true≢false (sym early));
         }
       where
@@ -217,7 +219,7 @@ module _ (tells : Tells) (name : List ℕ) (old now read stepped : Scene) (sessi
     script_same = ap (λ (s : Scene). s.script) frame ∙ ap (λ (s : Scene). s.script) step.frame
 
     counts_now : IsTrue tells.script → CountsTaken fresh reader' old read
-    counts_now told = counts_on fresh reader reader' old now read (turn.counts told) (ok.counts told)
+    counts_now told = counts_on fresh reader reader' old now read (turn.counts told) (track.counts told)
 
     faults : new.folder_faults ≡ stepped.folder_faults
     faults = ap (λ (s : Scene). s.folder_faults) frame
@@ -225,30 +227,30 @@ module _ (tells : Tells) (name : List ℕ) (old now read stepped : Scene) (sessi
     only_stepped : OnlyFolder (counts_of old) (counts_of stepped)
     only_stepped =
         let before = turn.keeps.counts in
-        let reads = only_script now read ok.after.frame in
+        let script = only_script now read reads.frame in
         record {
-          script = ap (λ (s : Scene). s.script_faults) step.frame ∙ ok.quiet ∙ before.script;
-          output = ap (λ (s : Scene). s.out_faults) step.frame ∙ reads.output ∙ before.output;
-          later = omega (arith, step.later, reads.later, before.later);
+          script = ap (λ (s : Scene). s.script_faults) step.frame ∙ reads.quiet (λ is. cc) ∙ before.script;
+          output = ap (λ (s : Scene). s.out_faults) step.frame ∙ script.output ∙ before.output;
+          later = omega (arith, step.later, script.later, before.later);
         }
 
     causes_now : All (FaultHasCause (counts_of old) (counts_of new)) marks'
     causes_now =
         let before = turn.keeps.counts in
-        let reads = only_script now read ok.after.frame in
+        let script = only_script now read reads.frame in
         subst (λ (l : List Mark). All (FaultHasCause (counts_of old) (counts_of new)) l) (sym kept)
         (All-append (FaultHasCause (counts_of old) (counts_of new)) marks (mark ∷ [])
-        (causes_on (counts_of old) (counts_of now) (counts_of new) marks (omega (arith, reads.later, step.later, faults)) turn.keeps.causes)
-        (All-cons (FaultHasCause (counts_of old) (counts_of new)) mark [] (λ is. risen_after (omega (arith, before.later, reads.later)) (risen_before (step.risen is) (omega (arith, faults)))) (All-nil (FaultHasCause (counts_of old) (counts_of new)))))
+        (causes_on (counts_of old) (counts_of now) (counts_of new) marks (omega (arith, script.later, step.later, faults)) turn.keeps.causes)
+        (All-cons (FaultHasCause (counts_of old) (counts_of new)) mark [] (λ is. risen_after (omega (arith, before.later, script.later)) (risen_before (step.risen is) (omega (arith, faults)))) (All-nil (FaultHasCause (counts_of old) (counts_of new)))))
 
     times_now : IsTrue tells.clock → new.answers ≡ old.answers ++ map (λ mark. mark.at) marks'
     times_now told =
-        ap (λ (s : Scene). s.answers) frame ∙ step.clock told ∙ ap (λ (l : List ℕ). l ++ mark.at ∷ []) (ap (λ (s : Scene). s.answers) ok.after.frame ∙ turn.times told)
+        ap (λ (s : Scene). s.answers) frame ∙ step.clock told ∙ ap (λ (l : List ℕ). l ++ mark.at ∷ []) (ap (λ (s : Scene). s.answers) reads.frame ∙ turn.times told)
         ∙ append_assoc old.answers (map (λ mark. mark.at) marks) (mark.at ∷ []) ∙ ap (λ (l : List ℕ). old.answers ++ l) (sym (map_push (λ (m : Mark). m.at) marks mark))
         ∙ ap (λ (l : List Mark). old.answers ++ map (λ mark. mark.at) l) (sym kept)
 
     taken_now : IsTrue tells.script → length old.script ≤ length new.script + script_limit
-    taken_now told = omega (arith, few_taken fresh reader' old read fresh_is (counts_now told) ok.after.limit, ap (λ (l : List ℕ). length l) script_same)
+    taken_now told = omega (arith, few_taken fresh reader' old read fresh_is (counts_now told) track.limit, ap (λ (l : List ℕ). length l) script_same)
 
     writes_of : (n : ℕ) → new.output ≡ stepped.output ++ take n reply.bytes → TellsRun tells → Writes n reply.bytes stepped new
     writes_of n output told = record { output = output; folder = ap (λ (s : Scene). s.folder) frame; faults = faults; added = added told.folder }
@@ -261,7 +263,7 @@ module _ (tells : Tells) (name : List ℕ) (old now read stepped : Scene) (sessi
               let here = turn.told told in
               let cut = wrote told.output in
               let t = taken told.script in
-              let within = read_within fresh reader' old read (here.0 ++ t.first ∷ []) fresh_is (read_on fresh reader reader' old now read here.0 request here.3 t) (ok.after.seen told.script) (counts_now told.script) ok.after.limit in
+              let within = read_within fresh reader' old read (here.0 ++ t.first ∷ []) fresh_is (read_on fresh reader reader' old now read here.0 request here.3 t) (track.ended told.script) (counts_now told.script) track.limit in
               run_cut told here.0 here.1 here.2 here.3 turn.keeps.names t new cut.0 marks' kept (writes_of cut.0 cut.1 told) rose within;
           swap = λ told is. absurd (cc);
           barred = λ told has. absurd (turn.keeps.free told has);
@@ -309,26 +311,27 @@ module _ (tells : Tells) (name : List ℕ) (old now read stepped : Scene) (sessi
 -- ---- where a run begins to close
 
 -- what is known after a read that succeeded
-told_read : (tells : Tells) (name : List ℕ) (old now read : Scene) (session : Session) (reader reader' : Ahead) (marks : List Mark) (clean : Bool) → AfterOk tells reader reader' now read → TellsRun tells → (commands : List Instruction) (ends : List Ended)
-    → Told name old now session marks clean commands ends → Told name old read session marks clean commands ends
-told_read tells name old now read session reader reader' marks clean ok told commands ends here = record {
+told_read : {T : Type 0} {x : T} (tells : Tells) (name : List ℕ) (old now read : Scene) (session : Session) (marks : List Mark) (clean : Bool) → ReadsScript tells (Ok x) now read
+    → TellsRun tells → (commands : List Instruction) (ends : List Ended) → Told name old now session marks clean commands ends → Told name old read session marks clean commands ends
+told_read tells name old now read session marks clean reads told commands ends here = record {
   one_each = here.one_each;
   marks_are = here.marks_are;
   are_answered = here.are_answered;
   errors = here.errors;
-  fits = subst (λ (d : Disk). Fits session d (states_after (opened_file old name).state commands ends) (after_turns (opened (text_at old name)) (turns_of (opened_file old name).state commands ends))) (sym (ap (λ (s : Scene). s.folder) ok.after.frame)) here.fits;
-  going = going_looks (names_of_file name) old (text_at old name) (opening_at old name) now read (turns_of (opened_file old name).state commands ends) (reads_look now read ok.after.frame (ok.after.reads told.folder)) here.going;
-  counted = counted_reads old now read ok.after.frame ok.quiet (ok.all told.folder) here.counted;
+  fits = subst (λ (d : Disk). Fits session d (states_after (opened_file old name).state commands ends) (after_turns (opened (text_at old name)) (turns_of (opened_file old name).state commands ends))) (sym (ap (λ (s : Scene). s.folder) reads.frame)) here.fits;
+  going = going_looks (names_of_file name) old (text_at old name) (opening_at old name) now read (turns_of (opened_file old name).state commands ends) (reads_look now read reads.frame (reads.last told.folder)) here.going;
+  counted = counted_reads old now read reads.frame (reads.quiet (λ is. cc)) (reads.all told.folder) here.counted;
 }
 
-keeps_read : (tells : Tells) (name : List ℕ) (old now read : Scene) (session : Session) (reader reader' : Ahead) (marks : List Mark) → AfterOk tells reader reader' now read → KeepsOpenFile tells name old now session marks → KeepsOpenFile tells name old read session marks
-keeps_read tells name old now read session reader reader' marks ok keeps =
-    let only = only_script now read ok.after.frame in
+keeps_read : {T : Type 0} {x : T} (tells : Tells) (name : List ℕ) (old now read : Scene) (session : Session) (marks : List Mark) → ReadsScript tells (Ok x) now read
+    → KeepsOpenFile tells name old now session marks → KeepsOpenFile tells name old read session marks
+keeps_read tells name old now read session marks reads keeps =
+    let only = only_script now read reads.frame in
     record {
       free = keeps.free;
       file = keeps.file;
       names = keeps.names;
-      counts = record { script = ok.quiet ∙ keeps.counts.script; output = only.output ∙ keeps.counts.output; later = omega (arith, only.later, keeps.counts.later) };
+      counts = record { script = reads.quiet (λ is. cc) ∙ keeps.counts.script; output = only.output ∙ keeps.counts.output; later = omega (arith, only.later, keeps.counts.later) };
       causes = causes_on (counts_of old) (counts_of now) (counts_of read) marks only.later keeps.causes;
     }
 
@@ -359,31 +362,32 @@ told_same name old read stepped session session' marks clean commands ends here 
     }
 
 -- at the script's end
-pub at_end : (tells : Tells) (name : List ℕ) (old now read : Scene) (session : Session) (fresh reader reader' : Ahead) (marks : List Mark) (clean : Bool) → fresh ≡ fresh_reader → AfterOk tells reader reader' now read
-    → (IsTrue tells.script → TakesNone reader reader' now read) → IsTurn tells name old now session fresh reader marks clean → IsAtClose tells name old read session marks end.Sync clean
-at_end tells name old now read session fresh reader reader' marks clean new ok none turn = record {
+pub at_end : {T : Type 0} {x : T} (tells : Tells) (name : List ℕ) (old now read : Scene) (session : Session) (fresh reader reader' : Ahead) (marks : List Mark) (clean : Bool) → fresh ≡ fresh_reader
+    → ReadsScript tells (Ok x) now read → KeepsTrack tells (Ok x) reader reader' now read → (IsTrue tells.script → TakesNone reader reader' now read) → IsTurn tells name old now session fresh reader marks clean → IsAtClose tells name old read session marks end.Sync clean
+at_end tells name old now read session fresh reader reader' marks clean new reads track none turn = record {
   told = λ told.
       let here = turn.told told in
-      (here.0, here.1, told_read tells name old now read session reader reader' marks clean ok told here.0 here.1 here.2, (done_is_all old now read fresh reader reader' here.0 new here.3 (none told.script), (none told.script).script));
-  keeps = keeps_read tells name old now read session reader reader' marks ok turn.keeps;
-  taken = λ told. few_taken fresh reader' old read new (counts_on fresh reader reader' old now read (turn.counts told) (ok.counts told)) ok.after.limit;
-  times = λ told. record { more = []; one = omega arith; is = ap (λ (s : Scene). s.answers) ok.after.frame ∙ turn.times told ∙ sym (append-nil (old.answers ++ map (λ mark. mark.at) marks)) };
+      (here.0, here.1, told_read tells name old now read session marks clean reads told here.0 here.1 here.2, (done_is_all old now read fresh reader reader' here.0 new here.3 (none told.script), (none told.script).script));
+  keeps = keeps_read tells name old now read session marks reads turn.keeps;
+  taken = λ told. few_taken fresh reader' old read new (counts_on fresh reader reader' old now read (turn.counts told) (track.counts told)) track.limit;
+  times = λ told. record { more = []; one = omega arith; is = ap (λ (s : Scene). s.answers) reads.frame ∙ turn.times told ∙ sym (append-nil (old.answers ++ map (λ mark. mark.at) marks)) };
 }
 
 -- at an accepted quit
-pub at_quit : (tells : Tells) (name : List ℕ) (old now read stepped : Scene) (session session' : Session) (fresh reader reader' : Ahead) (marks : List Mark) (clean : Bool) (request : Request) → fresh ≡ fresh_reader → AfterOk tells reader reader' now read
+pub at_quit : {T : Type 0} {x : T} (tells : Tells) (name : List ℕ) (old now read stepped : Scene) (session session' : Session) (fresh reader reader' : Ahead) (marks : List Mark) (clean : Bool) (request : Request) → fresh ≡ fresh_reader
+    → ReadsScript tells (Ok x) now read → KeepsTrack tells (Ok x) reader reader' now read
     → (IsTrue tells.script → TakesRequest request reader reader' now read) → IsTurn tells name old now session fresh reader marks clean
     → (IsTrue tells.folder → (state : SessionState) (syncs : List Sync) (instruction : Instruction) → Fits session read.folder state syncs → IsRequest request instruction
     → (accepts_quit state instruction ≡ true) × (session' ≡ session) × (stepped.trace ≡ read.trace) × (stepped.folder ≡ read.folder) × (stepped.folder_faults ≡ read.folder_faults))
     → StepsIn read stepped → read.folder_faults ≤ stepped.folder_faults → names_of session' ≡ names_of session → (IsTrue tells.clock → (at : ℕ) × (stepped.answers ≡ read.answers ++ at ∷ []))
     → IsAtClose tells name old stepped session' marks end.Quit clean
-at_quit tells name old now read stepped session session' fresh reader reader' marks clean request new ok taken turn step frame later names clock =
-    let keeps = keeps_read tells name old now read session reader reader' marks ok turn.keeps in
+at_quit tells name old now read stepped session session' fresh reader reader' marks clean request new reads track taken turn step frame later names clock =
+    let keeps = keeps_read tells name old now read session marks reads turn.keeps in
     record {
       told = λ told.
           let here = turn.told told in
           let t = taken told.script in
-          let there = told_read tells name old now read session reader reader' marks clean ok told here.0 here.1 here.2 in
+          let there = told_read tells name old now read session marks clean reads told here.0 here.1 here.2 in
           let done = step told.folder _ _ t.first there.fits t.meant in (
             here.0,
             here.1,
@@ -397,10 +401,10 @@ at_quit tells name old now read stepped session session' fresh reader reader' ma
         counts = only_then (counts_of old) (counts_of read) (counts_of stepped) keeps.counts (record { script = ap (λ (s : Scene). s.script_faults) frame; output = ap (λ (s : Scene). s.out_faults) frame; later = later });
         causes = causes_on (counts_of old) (counts_of read) (counts_of stepped) marks later keeps.causes;
       };
-      taken = λ told. omega (arith, few_taken fresh reader' old read new (counts_on fresh reader reader' old now read (turn.counts told) (ok.counts told)) ok.after.limit, ap (λ (s : Scene). length s.script) frame);
+      taken = λ told. omega (arith, few_taken fresh reader' old read new (counts_on fresh reader reader' old now read (turn.counts told) (track.counts told)) track.limit, ap (λ (s : Scene). length s.script) frame);
       times = λ told.
           let at = clock told in
-          record { more = at.0 ∷ []; one = omega arith; is = at.1 ∙ ap (λ (l : List ℕ). l ++ at.0 ∷ []) (ap (λ (s : Scene). s.answers) ok.after.frame ∙ turn.times told) };
+          record { more = at.0 ∷ []; one = omega arith; is = at.1 ∙ ap (λ (l : List ℕ). l ++ at.0 ∷ []) (ap (λ (s : Scene). s.answers) reads.frame ∙ turn.times told) };
     }
 
 -- a step that gave no answer was an accepted quit

@@ -1,5 +1,5 @@
 -- One turn of a run: a read of the script, a step and its reply, and what the run answered where it stops in one of these.
-use Rattle.std.proofs.Common.{◌≡◌, ◌⊎◌, inl, inr, ℕ, ◌≤◌, ◌<◌, ◌+◌, ◌^◌, Bool, true, false, not, ◌&&◌, List, [], ◌∷◌, ◌++◌, length, take, map, All, Option, Some, None, IsTrue, string_bytes, refl, sym, ap, subst, ◌∙◌, append_assoc, append-nil, arith}
+use Rattle.std.proofs.Common.{◌≡◌, ◌⊎◌, inl, inr, ℕ, ◌<◌, ◌+◌, ◌^◌, Bool, true, false, not, ◌&&◌, List, [], ◌∷◌, ◌++◌, length, take, map, All, Option, Some, None, IsTrue, OnOk, Result, Ok, Err, string_bytes, refl, sym, ap, subst, ◌∙◌, append_assoc, append-nil, arith}
 use Rattle.std.proofs.lemmas.Bool.{true≢false}
 use Rattle.std.proofs.lemmas.List.{take_all, length-append, length-map}
 use Rattle.std.proofs.lemmas.List.Elements.{All-nil, All-cons, All-append}
@@ -14,12 +14,11 @@ use Rattle.vs_host.specs.declared.names.Names.{Names}
 use Rattle.vs_disk.proofs.Runs.{Each-append, Each-weaker}
 use Rattle.vs_excmd.specs.Request.{Instruction, IsRequest}
 use Rattle.vs_excmd.specs.declared.request.Request.{Request}
-use Rattle.vs_script.specs.Ahead.{Ahead, HasSeen, CountsTaken, Stops, script_limit}
-use Rattle.vs_script.specs.Reads.{IsAsBefore, IsRead, ReadsAll, ReadsOn}
+use Rattle.vs_script.specs.Ahead.{Ahead, HasSeen, CountsTaken, KeepsTrack, Stops, script_limit}
+use Rattle.vs_script.specs.Reads.{IsAsBefore, IsRead, ReadsOn, ReadsScript}
 use Rattle.vs_script.specs.Requests.{TakesRequest, TakesNone, whole_commands}
 use Rattle.vs_script.specs.declared.reader.ScriptErr.{ScriptErr}
 use Rattle.vs_script.specs.declared.reader.ScriptErr.TheVariants as script_error
-use Rattle.vs_script.proofs.ReadLemmas.{reads_on}
 use Rattle.vs_machine.specs.Machine.{is_done}
 use Rattle.vs_machine.specs.Replies.{Answer}
 use Rattle.vs_machine.specs.declared.command.Mark.{Mark}
@@ -91,27 +90,13 @@ pub record IsTurn (tells : Tells) (name : List ℕ) (old now : Scene) (session :
   pub counts : IsTrue tells.script → CountsTaken fresh reader old now
   pub times : IsTrue tells.clock → now.answers ≡ old.answers ++ map (λ mark. mark.at) marks
 
--- What a read of the next request leaves, whatever it answers.
-pub record AfterRead (tells : Tells) (reader reader' : Ahead) (now read : Scene) : Type 0 where
-  pub limit : reader'.taken ≤ script_limit
-  pub seen : IsTrue tells.script → HasSeen reader' read
-  pub reads : IsTrue tells.folder → ReadsOn now read
-  pub frame : ChangesScript now read
-
--- and where it succeeded
-pub record AfterOk (tells : Tells) (reader reader' : Ahead) (now read : Scene) : Type 0 where
-  pub after : AfterRead tells reader reader' now read
-  pub quiet : read.script_faults ≡ now.script_faults
-  pub all : IsTrue tells.folder → ReadsAll now read
-  pub counts : IsTrue tells.script → CountsTaken reader reader' now read
-
 no_more : (now : Scene) (old : List ℕ) (marks : List Mark) → now.answers ≡ old ++ map (λ mark. mark.at) marks → now.answers ≡ (old ++ map (λ mark. mark.at) marks) ++ []
 no_more now old marks is = is ∙ sym (append-nil (old ++ map (λ mark. mark.at) marks))
 
 -- ---- the run stops after a read
 
-module _ (tells : Tells) (name : List ℕ) (old now read : Scene) (session : Session) (fresh reader reader' : Ahead) (marks : List Mark) (clean : Bool) (new : fresh ≡ fresh_reader)
-    (after : AfterRead tells reader reader' now read) where
+module _ {T : Type 0} {result : Result T ScriptErr} (tells : Tells) (name : List ℕ) (old now read : Scene) (session : Session) (fresh reader reader' : Ahead) (marks : List Mark) (clean : Bool) (new : fresh ≡ fresh_reader)
+    (reads : ReadsScript tells result now read) (track : KeepsTrack tells result reader reader' now read) where
   module _ (told : TellsRun tells) (commands : List Instruction) (ends : List Ended) (here : Told name old now session marks clean commands ends) (had : HasRead fresh reader old now commands) (same : names_of session ≡ names_of_file name) where
     abbrev turns : List Turn
     turns = turns_of (opened_file old name).state commands ends
@@ -123,7 +108,7 @@ module _ (tells : Tells) (name : List ℕ) (old now read : Scene) (session : Ses
     kept = record { one_each = here.one_each; marks_are = here.marks_are; are_answered = here.are_answered }
 
     looked : Going (names_of_file name) old read (text_at old name) (opening_at old name) turns
-    looked = going_looks (names_of_file name) old (text_at old name) (opening_at old name) now read turns (reads_look now read after.frame (after.reads told.folder)) here.going
+    looked = going_looks (names_of_file name) old (text_at old name) (opening_at old name) now read turns (reads_look now read reads.frame (reads.last told.folder)) here.going
 
     safe : IsCrashSafe (names_of_file name) old read (ran_of name old did)
     safe = halted_safe (names_of_file name) old read (ran_of name old did) refl (going_halts (names_of_file name) old (text_at old name) (opening_at old name) read turns looked)
@@ -148,7 +133,7 @@ module _ (tells : Tells) (name : List ℕ) (old now read : Scene) (session : Ses
 
     -- the session still fits the folder
     left : KeepsSwap (opened_file old name) did read.folder
-    left = (session, same, subst (λ (d : Disk). Fits session d (states_after (opened_file old name).state commands ends) (after_turns (opened (text_at old name)) turns)) (sym (ap (λ (s : Scene). s.folder) after.frame)) here.fits)
+    left = (session, same, subst (λ (d : Disk). Fits session d (states_after (opened_file old name).state commands ends) (after_turns (opened (text_at old name)) turns)) (sym (ap (λ (s : Scene). s.folder) reads.frame)) here.fits)
 
     run_fails : Stops script_error.Failed whole_commands [] reader reader' now read → HasRisen now.script_faults read.script_faults → HasRun name old read ending.ScriptFault marks
     run_fails stop rose =
@@ -159,7 +144,7 @@ module _ (tells : Tells) (name : List ℕ) (old now read : Scene) (session : Ses
           answered = record { taken = found.taken; script = found.script ∙ ap (λ (l : List ℕ). found.taken ++ l) (sym found.is_left); commands = found.whole; answered = answered };
           safe = λ free. safe;
           left = left;
-          failed = rose_reading old now read (after.reads told.folder) rose here.counted.script;
+          failed = rose_reading old now read (reads.last told.folder) rose here.counted.script;
           looks = λ early. absurd (true≢false (sym early));
         }
 
@@ -182,7 +167,7 @@ module _ (tells : Tells) (name : List ℕ) (old now read : Scene) (session : Ses
 
     run_no_memory : (request : Request) (taken : TakesRequest request reader reader' now read) → HasSeen reader' read → CountsTaken fresh reader' old read → HasRun name old read ending.NoMemory marks
     run_no_memory request taken seen counts =
-        let within = read_within fresh reader' old read (commands ++ taken.first ∷ []) new (read_on fresh reader reader' old now read commands request had taken) seen counts after.limit in
+        let within = read_within fresh reader' old read (commands ++ taken.first ∷ []) new (read_on fresh reader reader' old now read commands request had taken) seen counts track.limit in
         record {
           did = did;
           kept = kept;
@@ -195,16 +180,16 @@ module _ (tells : Tells) (name : List ℕ) (old now read : Scene) (session : Ses
 
   module _ (turn : IsTurn tells name old now session fresh reader marks clean) where
     times : IsTrue tells.clock → IsTimed old read marks
-    times told = record { more = []; one = omega arith; is = ap (λ (s : Scene). s.answers) after.frame ∙ turn.times told ∙ sym (append-nil (old.answers ++ map (λ mark. mark.at) marks)) }
+    times told = record { more = []; one = omega arith; is = ap (λ (s : Scene). s.answers) reads.frame ∙ turn.times told ∙ sym (append-nil (old.answers ++ map (λ mark. mark.at) marks)) }
 
     -- the reader stopped
-    pub reader_stopped : (error : ScriptErr) → (error ≡ script_error.Failed → HasRisen now.script_faults read.script_faults) → ((error ≡ script_error.Failed → ⊥) → read.script_faults ≡ now.script_faults)
-        → (IsTrue tells.script → Stops error whole_commands [] reader reader' now read) → RunsEdit tells name old read (script_ending error) marks
-    reader_stopped script_error.Failed failed quiet stops =
-        let only = only_script now read after.frame in
+    pub reader_stopped : (error : ScriptErr) → result ≡ Err error → (IsTrue tells.script → Stops error whole_commands [] reader reader' now read)
+        → RunsEdit tells name old read (script_ending error) marks
+    reader_stopped script_error.Failed was stops =
+        let only = only_script now read reads.frame in
         let before = turn.keeps.counts in
         record {
-          told = λ told. let here = turn.told told in run_fails told here.0 here.1 here.2 here.3 turn.keeps.names (stops told.script) (failed refl);
+          told = λ told. let here = turn.told told in run_fails told here.0 here.1 here.2 here.3 turn.keeps.names (stops told.script) (reads.cause.risen was);
           swap = λ told is. absurd (cc);
           barred = λ told has. absurd (turn.keeps.free told has);
           file = turn.keeps.file;
@@ -212,16 +197,16 @@ module _ (tells : Tells) (name : List ℕ) (old now read : Scene) (session : Ses
               let stop = stops told in
               few_taken fresh reader' old read new
               (counts_on fresh reader reader' old now read (turn.counts told)
-              (omega (arith, stop.count, ap (λ (l : List ℕ). length l) stop.script, length-append stop.fresh stop.left, ap (λ (l : List ℕ). length l) stop.is_left))) after.limit;
+              (omega (arith, stop.count, ap (λ (l : List ℕ). length l) stop.script, length-append stop.fresh stop.left, ap (λ (l : List ℕ). length l) stop.is_left))) track.limit;
           counts = (
-            subst (λ (k : ℕ). HasRisen k read.script_faults) before.script (failed refl),
+            subst (λ (k : ℕ). HasRisen k read.script_faults) before.script (reads.cause.risen was),
             record { script = refl; output = only.output ∙ before.output; later = omega (arith, only.later, before.later) },
           );
           causes = causes_on (counts_of old) (counts_of now) (counts_of read) marks only.later turn.keeps.causes;
           times = times;
         }
-    reader_stopped script_error.TooLong failed quiet stops =
-        let only = only_script now read after.frame in
+    reader_stopped script_error.TooLong was stops =
+        let only = only_script now read reads.frame in
         let before = turn.keeps.counts in
         record {
           told = λ told. let here = turn.told told in run_too_long told here.0 here.1 here.2 here.3 turn.keeps.names (stops told.script);
@@ -240,25 +225,26 @@ module _ (tells : Tells) (name : List ℕ) (old now read : Scene) (session : Ses
                 stop.is_left.1,
                 stop.is_left.2,
               );
-          counts = record { script = quiet (λ is. absurd (cc)) ∙ before.script; output = only.output ∙ before.output; later = omega (arith, only.later, before.later) };
+          counts = record { script = reads.quiet (λ is. absurd (cc)) ∙ before.script; output = only.output ∙ before.output; later = omega (arith, only.later, before.later) };
           causes = causes_on (counts_of old) (counts_of now) (counts_of read) marks only.later turn.keeps.causes;
           times = times;
         }
 
     -- there was no memory for a mark
-    pub no_memory_left : (request : Request) → AfterOk tells reader reader' now read → (IsTrue tells.script → TakesRequest request reader reader' now read) → RunsEdit tells name old read ending.NoMemory marks
-    no_memory_left request ok taken =
-        let only = only_script now read after.frame in
+    pub no_memory_left : {x : T} (request : Request) → result ≡ Ok x → (IsTrue tells.script → TakesRequest request reader reader' now read) → RunsEdit tells name old read ending.NoMemory marks
+    no_memory_left request was taken =
+        let counts : IsTrue tells.script → CountsTaken reader reader' now read = subst (λ r. OnOk r (IsTrue tells.script → CountsTaken reader reader' now read)) was track.counts in
+        let only = only_script now read reads.frame in
         let before = turn.keeps.counts in
         record {
           told = λ told.
               let here = turn.told told in
-              run_no_memory told here.0 here.1 here.2 here.3 turn.keeps.names request (taken told.script) (after.seen told.script) (counts_on fresh reader reader' old now read (turn.counts told.script) (ok.counts told.script));
+              run_no_memory told here.0 here.1 here.2 here.3 turn.keeps.names request (taken told.script) (track.ended told.script) (counts_on fresh reader reader' old now read (turn.counts told.script) (counts told.script));
           swap = λ told is. absurd (cc);
           barred = λ told has. absurd (turn.keeps.free told has);
           file = λ told. tt;
-          taken = λ told. few_taken fresh reader' old read new (counts_on fresh reader reader' old now read (turn.counts told) (ok.counts told)) after.limit;
-          counts = record { script = ok.quiet ∙ before.script; output = only.output ∙ before.output; later = omega (arith, only.later, before.later) };
+          taken = λ told. few_taken fresh reader' old read new (counts_on fresh reader reader' old now read (turn.counts told) (counts told)) track.limit;
+          counts = record { script = reads.quiet (λ is. absurd (cc)) ∙ before.script; output = only.output ∙ before.output; later = omega (arith, only.later, before.later) };
           causes = causes_on (counts_of old) (counts_of now) (counts_of read) marks only.later turn.keeps.causes;
           times = times;
         }

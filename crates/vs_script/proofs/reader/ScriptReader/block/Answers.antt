@@ -1,11 +1,21 @@
-use Rattle.std.proofs.Common.{◌≡◌, ◌∙◌, List, ℕ, [], false, true, arith}
+use Rattle.std.proofs.Common.{◌≡◌, List, ℕ, [], false, true, arith, refl}
 use Rattle.std.proofs.lemmas.Grind.{common_steps}
 use Rattle.vs_script.specs.Ahead.{whole_lines}
 use Rattle.vs_script.specs.Script.{is_dot, whole_block}
 use Rattle.vs_script.proofs.Going.{on_same_err}
-use Rattle.vs_script.proofs.Commands.{stops_line, block_goes_on, block_ends, block_dotted}
-use Rattle.vs_script.proofs.ReadLemmas.{reads_then, reads_end}
+use Rattle.vs_script.proofs.Commands.{stops_line, block_begins, block_goes_on, block_ends, block_dotted}
+use Rattle.vs_script.proofs.ReadLemmas.{reads_nothing, reads_ok, reads_then, reads_passed}
 use Rattle.vs_script.proofs.reader.ScriptReader.block.Goals as goal
+
+pub lines-init : goal.lines-init
+lines-init g c = record {
+  so_far = λ tells. block_begins c.new-lines.result c.args.self.now (g.S.World.scene c.args.host.now) c.new-lines.ensures.none;
+  counted = c.new-lines.ensures.counted;
+  ended = c.requires.ended;
+  counts = λ tells. refl;
+  left = omega arith;
+  reads = reads_nothing;
+}
 
 pub lines-preserved : goal.lines-preserved
 lines-preserved g c =
@@ -18,12 +28,10 @@ lines-preserved g c =
           (g.S.World.scene c.args.host.now) (g.S.World.scene c.lines.host) (g.S.World.scene c.next_line.new.host) (c.lines.invariant.so_far tells)
           (rw c.bytes-in-lines.ensures at c.with-lines.ensures.holds) found (c.in_ok-next_line.ensures.line tells) plain;
       counted = c.with-lines.ensures.counted;
-      ended = c.in_ok-next_line.ensures.ended;
-      counts = λ tells. grind (arith, common_steps, c.lines.invariant.counts tells, c.in_ok-next_line.ensures.counts tells);
+      ended = c.in_ok-next_line.ensures.track.ended;
+      counts = λ tells. grind (arith, common_steps, c.lines.invariant.counts tells, c.in_ok-next_line.ensures.track.counts tells);
       left = grind (arith, common_steps);
-      faults = c.in_ok-next_line.ensures.quiet (λ is. absurd (cc)) ∙ c.lines.invariant.faults;
-      reads = λ told. reads_then (g.S.World.scene c.args.host.now) (g.S.World.scene c.lines.host) (g.S.World.scene c.next_line.new.host) c.lines.invariant.frame c.lines.invariant.faults (c.lines.invariant.reads told) (c.in_ok-next_line.ensures.reads told);
-      frame = grind (arith, common_steps);
+      reads = reads_ok (reads_then c.lines.invariant.reads c.in_ok-next_line.ensures.reads);
     }
 
 pub returns-then-ends_block-clause-block : goal.returns-then-ends_block-clause-block
@@ -49,17 +57,11 @@ returns-in_err-next_line-clause-stops g c =
     stops_line _ (λ bytes. whole_block command [] (whole_lines bytes)) (whole_block command was.lines) c.args.self.now c.lines.self c.next_line.new.self
     (g.S.World.scene c.args.host.now) (g.S.World.scene c.lines.host) (g.S.World.scene c.next_line.new.host) (was.going stop.open_before command) stop)
 
-pub returns-in_err-next_line-clause-last : goal.returns-in_err-next_line-clause-last
-returns-in_err-next_line-clause-last g c = λ told. reads_end (g.S.World.scene c.args.host.now) (g.S.World.scene c.lines.host) (g.S.World.scene c.next_line.new.host) c.lines.invariant.frame c.lines.invariant.faults (c.lines.invariant.reads told) (c.next_line.ensures.last told)
+pub returns-in_err-next_line-clause-reads : goal.returns-in_err-next_line-clause-reads
+returns-in_err-next_line-clause-reads g c = reads_passed _ c.in_err-next_line.was c.from_residual.ensures.1 (reads_then c.lines.invariant.reads c.next_line.ensures.reads)
 
 pub returns-then-not-branch-clause-reads : goal.returns-then-not-branch-clause-reads
-returns-then-not-branch-clause-reads g c = λ told. reads_then (g.S.World.scene c.args.host.now) (g.S.World.scene c.lines.host) (g.S.World.scene c.next_line.new.host) c.lines.invariant.frame c.lines.invariant.faults (c.lines.invariant.reads told) (c.in_ok-next_line.ensures.reads told)
-
-pub returns-then-not-branch-clause-last : goal.returns-then-not-branch-clause-last
-returns-then-not-branch-clause-last g c = λ told. reads_end (g.S.World.scene c.args.host.now) (g.S.World.scene c.lines.host) (g.S.World.scene c.next_line.new.host) c.lines.invariant.frame c.lines.invariant.faults (c.lines.invariant.reads told) (c.next_line.ensures.last told)
+returns-then-not-branch-clause-reads g c = reads_ok (reads_then c.lines.invariant.reads c.in_ok-next_line.ensures.reads)
 
 pub returns-then-ends_block-clause-reads : goal.returns-then-ends_block-clause-reads
-returns-then-ends_block-clause-reads g c = λ told. reads_then (g.S.World.scene c.args.host.now) (g.S.World.scene c.lines.host) (g.S.World.scene c.next_line.new.host) c.lines.invariant.frame c.lines.invariant.faults (c.lines.invariant.reads told) (c.in_ok-next_line.ensures.reads told)
-
-pub returns-then-ends_block-clause-last : goal.returns-then-ends_block-clause-last
-returns-then-ends_block-clause-last g c = λ told. reads_end (g.S.World.scene c.args.host.now) (g.S.World.scene c.lines.host) (g.S.World.scene c.next_line.new.host) c.lines.invariant.frame c.lines.invariant.faults (c.lines.invariant.reads told) (c.next_line.ensures.last told)
+returns-then-ends_block-clause-reads g c = reads_ok (reads_then c.lines.invariant.reads c.in_ok-next_line.ensures.reads)

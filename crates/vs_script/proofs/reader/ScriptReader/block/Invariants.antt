@@ -1,6 +1,5 @@
-use Rattle.std.proofs.Common.{◌≡◌, ◌≤◌, IsTrue}
-use Rattle.vs_host.specs.World.{ChangesScript}
-use Rattle.vs_script.specs.Reads.{ReadsAll}
+use Rattle.std.proofs.Common.{◌≤◌, IsTrue, Ok}
+use Rattle.vs_script.specs.Reads.{ReadsScript}
 use Rattle.vs_script.specs.Ahead.{CountsTaken, HasSeen, bytes_left}
 use Rattle.vs_script.specs.Block.{IsCounted}
 use Rattle.vs_script.proofs.Commands.{InBlock}
@@ -13,9 +12,7 @@ invariant-lines g l = record {
   ended : IsTrue (g.S.World.tells).script → HasSeen l.self (g.S.World.scene l.host);
   counts : IsTrue (g.S.World.tells).script → CountsTaken l.initial.self l.self (g.S.World.scene l.initial.host) (g.S.World.scene l.host);
   left : bytes_left l.self ≤ bytes_left l.initial.self;
-  faults : (g.S.World.scene l.host).script_faults ≡ (g.S.World.scene l.initial.host).script_faults;
-  reads : IsTrue (g.S.World.tells).folder → ReadsAll (g.S.World.scene l.initial.host) (g.S.World.scene l.host);
-  frame : ChangesScript (g.S.World.scene l.initial.host) (g.S.World.scene l.host);
+  reads : ReadsScript g.S.World.tells (Ok l.lines) (g.S.World.scene l.initial.host) (g.S.World.scene l.host);
 }
 
 abbrev pub decreases-lines : goal.decreases-lines

@@ -1,10 +1,10 @@
-use Rattle.std.proofs.Common.{◌≡◌, ◌∙◌, List, ℕ, arith}
+use Rattle.std.proofs.Common.{◌≡◌, List, ℕ, arith, refl}
 use Rattle.std.proofs.lemmas.Grind.{common_steps}
 use Rattle.vs_script.specs.Requests.{whole_commands}
 use Rattle.vs_script.specs.Script.{NoCommand, kind_of, whole_of}
-use Rattle.vs_script.proofs.Going.{on_same_err}
+use Rattle.vs_script.proofs.Going.{goes_on_start, on_same_err}
 use Rattle.vs_script.proofs.Commands.{stops_line, passes_over, goes_over, finds_command, finds_none}
-use Rattle.vs_script.proofs.ReadLemmas.{reads_then, reads_end}
+use Rattle.vs_script.proofs.ReadLemmas.{reads_nothing, reads_ok, reads_then, reads_passed}
 use Rattle.vs_script.proofs.reader.ScriptReader.next_command.Goals as goal
 
 pub returns-in_err-next_line-clause-stops : goal.returns-in_err-next_line-clause-stops
@@ -14,6 +14,16 @@ returns-in_err-next_line-clause-stops g c =
     stops_line _ whole_commands whole_of c.args.self.now c.lines.self c.next_line.new.self
     (g.S.World.scene c.args.host.now) (g.S.World.scene c.lines.host) (g.S.World.scene c.next_line.new.host) (c.lines.invariant.going tells stop.open_before) stop)
 
+pub lines-init : goal.lines-init
+lines-init g c = record {
+  ahead = λ tells. refl;
+  ended = c.requires.ended;
+  going = λ tells. goes_on_start whole_commands c.args.self.now (g.S.World.scene c.args.host.now);
+  counts = λ tells. refl;
+  fewer = omega arith;
+  reads = reads_nothing;
+}
+
 pub lines-preserved : goal.lines-preserved
 lines-preserved g c =
     let kept : List ℕ = c.next_line.new.line in
@@ -22,15 +32,13 @@ lines-preserved g c =
       ahead = λ tells.
           passes_over c.in_ok-next_line.field-0 kept c.args.self.now c.lines.self c.next_line.new.self (g.S.World.scene c.args.host.now) (g.S.World.scene c.lines.host) (g.S.World.scene c.next_line.new.host)
           (c.lines.invariant.ahead tells) c.if-branch.true (c.in_ok-next_line.ensures.line tells) none;
-      ended = c.in_ok-next_line.ensures.ended;
+      ended = c.in_ok-next_line.ensures.track.ended;
       going = λ tells.
           goes_over c.in_ok-next_line.field-0 kept c.args.self.now c.lines.self c.next_line.new.self (g.S.World.scene c.args.host.now) (g.S.World.scene c.lines.host) (g.S.World.scene c.next_line.new.host)
           (c.lines.invariant.going tells) (c.in_ok-next_line.ensures.line tells) none;
-      counts = λ tells. grind (arith, common_steps, c.lines.invariant.counts tells, c.in_ok-next_line.ensures.counts tells);
+      counts = λ tells. grind (arith, common_steps, c.lines.invariant.counts tells, c.in_ok-next_line.ensures.track.counts tells);
       fewer = grind (arith, common_steps);
-      faults = c.in_ok-next_line.ensures.quiet (λ is. absurd (cc)) ∙ c.lines.invariant.faults;
-      reads = λ told. reads_then (g.S.World.scene c.args.host.now) (g.S.World.scene c.lines.host) (g.S.World.scene c.next_line.new.host) c.lines.invariant.frame c.lines.invariant.faults (c.lines.invariant.reads told) (c.in_ok-next_line.ensures.reads told);
-      frame = grind (arith, common_steps);
+      reads = reads_ok (reads_then c.lines.invariant.reads c.in_ok-next_line.ensures.reads);
     }
 
 pub returns-in-Alone-clause-line : goal.returns-in-Alone-clause-line
@@ -48,23 +56,14 @@ returns-clause-line g c = λ tells.
     finds_none c.in_ok-next_line.field-0 c.next_line.new.line c.args.self.now c.lines.self c.next_line.new.self (g.S.World.scene c.args.host.now) (g.S.World.scene c.lines.host) (g.S.World.scene c.next_line.new.host)
     (c.lines.invariant.ahead tells) c.if-branch.false (c.in_ok-next_line.ensures.line tells)
 
-pub returns-in_err-next_line-clause-last : goal.returns-in_err-next_line-clause-last
-returns-in_err-next_line-clause-last g c = λ told. reads_end (g.S.World.scene c.args.host.now) (g.S.World.scene c.lines.host) (g.S.World.scene c.next_line.new.host) c.lines.invariant.frame c.lines.invariant.faults (c.lines.invariant.reads told) (c.next_line.ensures.last told)
+pub returns-in_err-next_line-clause-reads : goal.returns-in_err-next_line-clause-reads
+returns-in_err-next_line-clause-reads g c = reads_passed _ c.in_err-next_line.was c.from_residual.ensures.1 (reads_then c.lines.invariant.reads c.next_line.ensures.reads)
 
 pub returns-in-Alone-clause-reads : goal.returns-in-Alone-clause-reads
-returns-in-Alone-clause-reads g c = λ told. reads_then (g.S.World.scene c.args.host.now) (g.S.World.scene c.lines.host) (g.S.World.scene c.next_line.new.host) c.lines.invariant.frame c.lines.invariant.faults (c.lines.invariant.reads told) (c.in_ok-next_line.ensures.reads told)
-
-pub returns-in-Alone-clause-last : goal.returns-in-Alone-clause-last
-returns-in-Alone-clause-last g c = λ told. reads_end (g.S.World.scene c.args.host.now) (g.S.World.scene c.lines.host) (g.S.World.scene c.next_line.new.host) c.lines.invariant.frame c.lines.invariant.faults (c.lines.invariant.reads told) (c.next_line.ensures.last told)
+returns-in-Alone-clause-reads g c = reads_ok (reads_then c.lines.invariant.reads c.in_ok-next_line.ensures.reads)
 
 pub returns-in-Head-clause-reads : goal.returns-in-Head-clause-reads
-returns-in-Head-clause-reads g c = λ told. reads_then (g.S.World.scene c.args.host.now) (g.S.World.scene c.lines.host) (g.S.World.scene c.next_line.new.host) c.lines.invariant.frame c.lines.invariant.faults (c.lines.invariant.reads told) (c.in_ok-next_line.ensures.reads told)
-
-pub returns-in-Head-clause-last : goal.returns-in-Head-clause-last
-returns-in-Head-clause-last g c = λ told. reads_end (g.S.World.scene c.args.host.now) (g.S.World.scene c.lines.host) (g.S.World.scene c.next_line.new.host) c.lines.invariant.frame c.lines.invariant.faults (c.lines.invariant.reads told) (c.next_line.ensures.last told)
+returns-in-Head-clause-reads g c = reads_ok (reads_then c.lines.invariant.reads c.in_ok-next_line.ensures.reads)
 
 pub returns-clause-reads : goal.returns-clause-reads
-returns-clause-reads g c = λ told. reads_then (g.S.World.scene c.args.host.now) (g.S.World.scene c.lines.host) (g.S.World.scene c.next_line.new.host) c.lines.invariant.frame c.lines.invariant.faults (c.lines.invariant.reads told) (c.in_ok-next_line.ensures.reads told)
-
-pub returns-clause-last : goal.returns-clause-last
-returns-clause-last g c = λ told. reads_end (g.S.World.scene c.args.host.now) (g.S.World.scene c.lines.host) (g.S.World.scene c.next_line.new.host) c.lines.invariant.frame c.lines.invariant.faults (c.lines.invariant.reads told) (c.next_line.ensures.last told)
+returns-clause-reads g c = reads_ok (reads_then c.lines.invariant.reads c.in_ok-next_line.ensures.reads)

@@ -1,10 +1,10 @@
-use Rattle.std.proofs.Common.{◌≡◌, ◌<◌, ◌+◌, ◌++◌, ◌∙◌, List, ℕ, false, length, take, drop, arith, ap, sym}
+use Rattle.std.proofs.Common.{◌≡◌, ◌<◌, ◌+◌, ◌++◌, ◌∙◌, List, ℕ, false, length, take, drop, arith, ap, refl, sym}
 use Rattle.std.proofs.lemmas.Grind.{common_steps}
 use Rattle.vs_text.specs.Text.{IsLine}
 use Rattle.vs_script.specs.Ahead.{Ahead, kept_of}
 use Rattle.vs_script.proofs.Going.{on_same_err}
-use Rattle.vs_script.proofs.Taking.{IsAtEnd, reads_line, reads_last, reads_none, line_stops, line_goes_on, line_is_kept, kept_is_shorter}
-use Rattle.vs_script.proofs.ReadLemmas.{reads_on, reads_then, reads_end}
+use Rattle.vs_script.proofs.Taking.{IsAtEnd, line_begins, reads_line, reads_last, reads_none, line_stops, line_goes_on, line_is_kept, kept_is_shorter}
+use Rattle.vs_script.proofs.ReadLemmas.{reads_nothing, reads_ok, reads_then, reads_passed}
 use Rattle.vs_script.proofs.reader.ScriptReader.next_line.Goals as goal
 
 pub returns-in-Some-clause-line : goal.returns-in-Some-clause-line
@@ -70,6 +70,16 @@ returns-then-not-branch-clause-fewer g c = λ found.
     let some : 0 < length c.add-in-pieces.new.self = grind (arith, common_steps) in
     grind (arith, common_steps, kept_is_shorter c.pieces.line c.pieces.self.bytes c.add-in-pieces.new.self kept, some)
 
+pub pieces-init : goal.pieces-init
+pieces-init g c = record {
+  so_far = λ tells. line_begins c.args.self.now (g.S.World.scene c.args.host.now) c.clear.new.self c.clear.ensures;
+  line = grind (arith, common_steps);
+  ended = c.requires.ended;
+  counts = λ tells. refl;
+  left = grind (arith, common_steps);
+  reads = reads_nothing;
+}
+
 pub pieces-preserved : goal.pieces-preserved
 pieces-preserved g c =
     let ahead_is : IsLine c.pieces.self.bytes = rw c.ahead-ahead.ensures.bytes at c.in_default.ensures in
@@ -80,28 +90,20 @@ pieces-preserved g c =
           (c.pieces.invariant.so_far tells) ahead_is (c.in_ok-refill.ensures.script tells) (c.in_ok-refill.ensures.taken ∙ ap (λ (a : Ahead). a.taken + length c.refill.new.self.bytes) c.skip-in-pieces.ensures)
           (λ open_after. sym (ap (λ (a : Ahead). a.ended) c.skip-in-pieces.ensures) ∙ c.in_ok-refill.ensures.goes_on open_after) kept;
       line = line_is_kept c.pieces.line c.pieces.self.bytes c.add-in-pieces.new.self c.pieces.invariant.line ahead_is kept;
-      ended = c.in_ok-refill.ensures.ended;
-      counts = λ tells. grind (arith, common_steps, c.pieces.invariant.counts tells, c.in_ok-refill.ensures.counts tells);
+      ended = c.in_ok-refill.ensures.track.ended;
+      counts = λ tells. grind (arith, common_steps, c.pieces.invariant.counts tells, c.in_ok-refill.ensures.track.counts tells);
       left = grind (arith, common_steps, kept_is_shorter c.pieces.line c.pieces.self.bytes c.add-in-pieces.new.self kept);
-      faults = c.in_ok-refill.ensures.quiet (λ is. absurd (cc)) ∙ c.pieces.invariant.faults;
-      reads = λ told. reads_then (g.S.World.scene c.args.host.now) (g.S.World.scene c.pieces.host) (g.S.World.scene c.refill.new.host) c.pieces.invariant.frame c.pieces.invariant.faults (c.pieces.invariant.reads told) (c.in_ok-refill.ensures.reads told);
-      frame = grind (arith, common_steps);
+      reads = reads_ok (reads_then c.pieces.invariant.reads c.in_ok-refill.ensures.reads);
     }
 
-pub returns-in-Some-clause-last : goal.returns-in-Some-clause-last
-returns-in-Some-clause-last g c = λ told. reads_on (g.S.World.scene c.args.host.now) (g.S.World.scene c.pieces.host) (c.pieces.invariant.reads told)
+pub returns-in-Some-clause-reads : goal.returns-in-Some-clause-reads
+returns-in-Some-clause-reads g c = reads_ok c.pieces.invariant.reads
 
-pub returns-in_err-refill-clause-last : goal.returns-in_err-refill-clause-last
-returns-in_err-refill-clause-last g c = λ told. reads_end (g.S.World.scene c.args.host.now) (g.S.World.scene c.pieces.host) (g.S.World.scene c.refill.new.host) c.pieces.invariant.frame c.pieces.invariant.faults (c.pieces.invariant.reads told) (c.refill.ensures.last told)
+pub returns-in_err-refill-clause-reads : goal.returns-in_err-refill-clause-reads
+returns-in_err-refill-clause-reads g c = reads_passed _ c.in_err-refill.was c.from_residual.ensures.1 (reads_then c.pieces.invariant.reads c.refill.ensures.reads)
 
 pub returns-then-is_empty-clause-reads : goal.returns-then-is_empty-clause-reads
-returns-then-is_empty-clause-reads g c = λ told. reads_then (g.S.World.scene c.args.host.now) (g.S.World.scene c.pieces.host) (g.S.World.scene c.refill.new.host) c.pieces.invariant.frame c.pieces.invariant.faults (c.pieces.invariant.reads told) (c.in_ok-refill.ensures.reads told)
-
-pub returns-then-is_empty-clause-last : goal.returns-then-is_empty-clause-last
-returns-then-is_empty-clause-last g c = λ told. reads_end (g.S.World.scene c.args.host.now) (g.S.World.scene c.pieces.host) (g.S.World.scene c.refill.new.host) c.pieces.invariant.frame c.pieces.invariant.faults (c.pieces.invariant.reads told) (c.refill.ensures.last told)
+returns-then-is_empty-clause-reads g c = reads_ok (reads_then c.pieces.invariant.reads c.in_ok-refill.ensures.reads)
 
 pub returns-then-not-branch-clause-reads : goal.returns-then-not-branch-clause-reads
-returns-then-not-branch-clause-reads g c = λ told. reads_then (g.S.World.scene c.args.host.now) (g.S.World.scene c.pieces.host) (g.S.World.scene c.refill.new.host) c.pieces.invariant.frame c.pieces.invariant.faults (c.pieces.invariant.reads told) (c.in_ok-refill.ensures.reads told)
-
-pub returns-then-not-branch-clause-last : goal.returns-then-not-branch-clause-last
-returns-then-not-branch-clause-last g c = λ told. reads_end (g.S.World.scene c.args.host.now) (g.S.World.scene c.pieces.host) (g.S.World.scene c.refill.new.host) c.pieces.invariant.frame c.pieces.invariant.faults (c.pieces.invariant.reads told) (c.refill.ensures.last told)
+returns-then-not-branch-clause-reads g c = reads_ok (reads_then c.pieces.invariant.reads c.in_ok-refill.ensures.reads)

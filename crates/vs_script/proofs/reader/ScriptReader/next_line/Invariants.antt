@@ -1,7 +1,6 @@
-use Rattle.std.proofs.Common.{◌≡◌, ◌≤◌, IsTrue, ◌+◌, ◌-◌, length}
-use Rattle.vs_host.specs.World.{ChangesScript}
+use Rattle.std.proofs.Common.{◌≤◌, IsTrue, Ok, ◌+◌, ◌-◌, length}
 use Rattle.vs_text.specs.Text.{IsLine}
-use Rattle.vs_script.specs.Reads.{ReadsAll}
+use Rattle.vs_script.specs.Reads.{ReadsScript}
 use Rattle.vs_script.specs.Ahead.{CountsTaken, HasSeen, bytes_left, script_limit}
 use Rattle.vs_script.proofs.Taking.{InLine}
 use Rattle.vs_script.proofs.reader.ScriptReader.next_line.Given as goal
@@ -13,9 +12,7 @@ invariant-pieces g l = record {
   ended : IsTrue (g.S.World.tells).script → HasSeen l.self (g.S.World.scene l.host);
   counts : IsTrue (g.S.World.tells).script → CountsTaken l.initial.self l.self (g.S.World.scene l.initial.host) (g.S.World.scene l.host);
   left : length l.line + bytes_left l.self ≤ bytes_left l.initial.self;
-  faults : (g.S.World.scene l.host).script_faults ≡ (g.S.World.scene l.initial.host).script_faults;
-  reads : IsTrue (g.S.World.tells).folder → ReadsAll (g.S.World.scene l.initial.host) (g.S.World.scene l.host);
-  frame : ChangesScript (g.S.World.scene l.initial.host) (g.S.World.scene l.host);
+  reads : ReadsScript g.S.World.tells (Ok l.line) (g.S.World.scene l.initial.host) (g.S.World.scene l.host);
 }
 
 abbrev pub decreases-pieces : goal.decreases-pieces

@@ -3,7 +3,7 @@ use Rattle.vs_exparse.specs.Command.{command_of, result_of}
 use Rattle.vs_script.specs.Script.{Alone, Head, kind_of}
 use Rattle.vs_script.proofs.Going.{on_same_err}
 use Rattle.vs_script.proofs.Commands.{alone_request, head_request, head_stops}
-use Rattle.vs_script.proofs.ReadLemmas.{reads_then, reads_end}
+use Rattle.vs_script.proofs.ReadLemmas.{reads_ok, reads_then, reads_passed}
 use Rattle.vs_script.proofs.reader.ScriptReader.next_request.Goals as goal
 
 pub returns-in-Alone-clause-request : goal.returns-in-Alone-clause-request
@@ -31,11 +31,18 @@ returns-in_ok-block-in-Head-clause-request g c = λ tells.
     (g.S.World.scene c.args.host.now) (g.S.World.scene c.next_command.new.host) (g.S.World.scene c.block.new.host)
     (rw c.in-Head.is at (c.in_ok-next_command.ensures.line tells)) kind taken (record { parsed = refl; block = taken.stands })
 
-pub returns-in_err-block-in-Head-clause-last : goal.returns-in_err-block-in-Head-clause-last
-returns-in_err-block-in-Head-clause-last g c = λ told. reads_end (g.S.World.scene c.args.host.now) (g.S.World.scene c.next_command.new.host) (g.S.World.scene c.block.new.host) c.next_command.ensures.frame (c.in_ok-next_command.ensures.quiet (λ is. absurd (cc))) (c.in_ok-next_command.ensures.reads told) (c.block.ensures.last told)
+pub returns-in_err-next_command-clause-reads : goal.returns-in_err-next_command-clause-reads
+returns-in_err-next_command-clause-reads g c = reads_passed _ c.in_err-next_command.was c.from_residual.ensures.1 c.next_command.ensures.reads
 
-pub returns-in_ok-block-in-Head-clause-last : goal.returns-in_ok-block-in-Head-clause-last
-returns-in_ok-block-in-Head-clause-last g c = λ told. reads_end (g.S.World.scene c.args.host.now) (g.S.World.scene c.next_command.new.host) (g.S.World.scene c.block.new.host) c.next_command.ensures.frame (c.in_ok-next_command.ensures.quiet (λ is. absurd (cc))) (c.in_ok-next_command.ensures.reads told) (c.block.ensures.last told)
+pub returns-in-NoCommand-clause-reads : goal.returns-in-NoCommand-clause-reads
+returns-in-NoCommand-clause-reads g c = reads_ok c.in_ok-next_command.ensures.reads
+
+pub returns-in-Alone-clause-reads : goal.returns-in-Alone-clause-reads
+returns-in-Alone-clause-reads g c = reads_ok c.in_ok-next_command.ensures.reads
+
+pub returns-in_err-block-in-Head-clause-reads : goal.returns-in_err-block-in-Head-clause-reads
+returns-in_err-block-in-Head-clause-reads g c =
+    reads_passed _ c.in_err-block-in-Head.was c.from_residual-in_err-block-in-Head.ensures.1 (reads_then c.in_ok-next_command.ensures.reads c.block.ensures.reads)
 
 pub returns-in_ok-block-in-Head-clause-reads : goal.returns-in_ok-block-in-Head-clause-reads
-returns-in_ok-block-in-Head-clause-reads g c = λ told. reads_then (g.S.World.scene c.args.host.now) (g.S.World.scene c.next_command.new.host) (g.S.World.scene c.block.new.host) c.next_command.ensures.frame (c.in_ok-next_command.ensures.quiet (λ is. absurd (cc))) (c.in_ok-next_command.ensures.reads told) (c.in_ok-block-in-Head.ensures.reads told)
+returns-in_ok-block-in-Head-clause-reads g c = reads_ok (reads_then c.in_ok-next_command.ensures.reads c.in_ok-block-in-Head.ensures.reads)
