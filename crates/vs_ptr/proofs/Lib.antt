@@ -3,3 +3,4 @@ pub mod Entries
 pub mod Headers
 pub mod Reading
 pub mod Slots
+pub mod Writing

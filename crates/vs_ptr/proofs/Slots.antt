@@ -78,7 +78,7 @@ slots_closed h w count m n block split room =
     rw (less, split) (closed h w m n block (rw split at room))
 
 -- a slot is written over
-slots_written : (h w count m n : ℕ) (block slot : List ℕ) → count ≡ m + suc n → length slot ≡ w → h + w * count ≤ length block
+pub slots_written : (h w count m n : ℕ) (block slot : List ℕ) → count ≡ m + suc n → length slot ≡ w → h + w * count ≤ length block
     → first_chunks w count (drop h (with_field block (h + w * m) slot)) ≡ set (first_chunks w count (drop h block)) m slot
 slots_written h w count m n block slot split wide room = rw split (written h w m n block slot wide (rw split at room))
 
@@ -109,10 +109,3 @@ pub slots_taken : (block : List ℕ) (view : PtrView) (count : ℕ) → IsHeader
 slots_taken block view count header within =
     let split : view.count ≡ count + (view.count - count) = omega arith in
     rw (slots_counted block view header, split) (sym (take-first_chunks 32 count (view.count - count) (drop 8 block)))
-
--- a slot of a block is written over
-pub slots_replaced : (old new slot : List ℕ) (view : PtrView) (at : ℕ) → IsHeader old view → IsHeader new view → at < view.count → length slot ≡ 32
-    → new ≡ with_field old (8 + 32 * at) slot → slots_of new ≡ set (slots_of old) at slot
-slots_replaced old new slot view at before after within wide written =
-    slots_counted new view after ∙ ap (λ bytes. first_chunks 32 view.count (drop 8 bytes)) written
-    ∙ slots_written 8 32 view.count at (view.count - suc at) old slot (omega arith) wide before.room ∙ ap (λ slots. set slots at slot) (sym (slots_counted old view before))

@@ -19,9 +19,10 @@ pub(crate) fn add_to_lines(entry: PtrEntry, by: i64) -> PtrEntry
     }
 }
 
-/// Where entry `at` begins, in bytes from the start of the block.
-pub(crate) fn place_of(at: u16) -> usize
-    ensures { result ≡ HEADER_LEN + ENTRY_LEN * at }
+/// Where the entry at place `at`, counted from 0, begins, in bytes from the start of the block (docs/FORMATS.md,
+/// "Pointer blocks").
+pub fn entry_place(at: u16) -> usize
+    ensures { result ≡ 8 + 32 * at }
 {
     HEADER_LEN + ENTRY_LEN * usize::from(at)
 }
@@ -54,6 +55,20 @@ pub(crate) fn write_entry(slot: &mut [u8], entry: &PtrEntry)
     put_le_i32(slot, 24, entry.pages);
 }
 
+impl PtrEntry {
+    /// The 32 bytes that stand for the entry in a pointer block (docs/FORMATS.md, "Pointer blocks"). Its unused bytes
+    /// are zeros.
+    pub fn to_bytes(&self) -> [u8; ENTRY_LEN]
+        ensures bytes { result ≡ bytes_of_entry self.now }
+        ensures len { length (bytes_of_entry self.now) ≡ 32 }
+        ensures reads_back { entry_of (bytes_of_entry self.now) ≡ self.now }
+    {
+        let mut slot = [0; ENTRY_LEN];
+        write_entry(&mut slot, self);
+        slot
+    }
+}
+
 /// Writes `entry` over the bytes at place `at`.
 pub(crate) fn put_entry(block: &mut [u8], at: u16, entry: &PtrEntry)
     requires { HEADER_LEN + ENTRY_LEN * (at + 1) ≤ length block.old }
@@ -62,7 +77,7 @@ pub(crate) fn put_entry(block: &mut [u8], at: u16, entry: &PtrEntry)
     ensures len { length (bytes_of_entry entry.now) ≡ ENTRY_LEN }
     ensures reads_back { entry_of (bytes_of_entry entry.now) ≡ entry.now }
 {
-    let start = place_of(at);
+    let start = entry_place(at);
     write_entry(&mut block[start..start + ENTRY_LEN], entry);
 }
 
@@ -75,8 +90,8 @@ pub(crate) fn insert_entry(block: &mut [u8], count: u16, at: u16, entry: &PtrEnt
         ≡ insert (first_chunks ENTRY_LEN count (drop HEADER_LEN block.old)) at (bytes_of_entry entry.now) }
     ensures reads_back { entry_of (bytes_of_entry entry.now) ≡ entry.now }
 {
-    let start = place_of(at);
-    block.copy_within(start..place_of(count), start + ENTRY_LEN);
+    let start = entry_place(at);
+    block.copy_within(start..entry_place(count), start + ENTRY_LEN);
     put_entry(block, at, entry);
 }
 
@@ -88,8 +103,8 @@ pub(crate) fn remove_entry(block: &mut [u8], count: u16, at: u16)
     ensures slots { first_chunks ENTRY_LEN (count - 1) (drop HEADER_LEN block.new)
         ≡ remove (first_chunks ENTRY_LEN count (drop HEADER_LEN block.old)) at }
 {
-    let start = place_of(at);
-    block.copy_within(start + ENTRY_LEN..place_of(count), start);
+    let start = entry_place(at);
+    block.copy_within(start + ENTRY_LEN..entry_place(count), start);
 }
 
 /// Copies the entries of `block` from place `from` up to `to` over the first ones of `other`.
@@ -101,7 +116,7 @@ pub(crate) fn copy_entries(block: &[u8], from: u16, to: u16, other: &mut [u8])
     ensures slots { first_chunks ENTRY_LEN (to - from) (drop HEADER_LEN other.new)
         ≡ drop from (first_chunks ENTRY_LEN to (drop HEADER_LEN block.now)) }
 {
-    let start = place_of(from);
-    let len = place_of(to) - start;
+    let start = entry_place(from);
+    let len = entry_place(to) - start;
     other[HEADER_LEN..HEADER_LEN + len].copy_from_slice(&block[start..start + len]);
 }

@@ -1,13 +1,18 @@
 //! Pointer blocks, the inner blocks of the line tree in a swap file. A pointer block is a list of entries, and
-//! each call here is one on that list.
+//! each call of [`PtrView`] is one on that list.
 //!
 //! A block is lent as its bytes, which may be any: [`PtrView::read`] answers whether they are a pointer block, and
 //! the other calls take the view that it gave. Places in a block's list are counted from 0. No call takes memory.
 //! The layout is that of docs/FORMATS.md, "Pointer blocks".
+//!
+//! To write an entry where the block is not lent, [`PtrEntry::to_bytes`] gives its bytes, and [`entry_place`] their
+//! place in the block.
 #![tactic(auto)]
 
 mod entry;
 mod view;
+
+pub use entry::entry_place;
 
 /// The bytes `tp` as a number, with which a pointer block begins.
 const IDENTIFIER: u16 = 0x7074;

@@ -6,7 +6,7 @@ ghost use Rattle.std.specs.Simd.{first_chunks};
 ghost use Rattle.vs_ptr.specs.Blocks.{bytes_of_entry, with_lines_added, slots_of, unused_of, HasBytes, entries_of, view_in, entries_in};
 
 use crate::entry::{
-    add_to_lines, copy_entries, insert_entry, place_of, put_entry, read_entry, remove_entry,
+    add_to_lines, copy_entries, entry_place, insert_entry, put_entry, read_entry, remove_entry,
 };
 use crate::{ENTRY_LEN, HEADER_LEN, IDENTIFIER, PtrEntry, PtrErr, PtrView};
 use vs_bytes::{le_u16, put_le_u16};
@@ -45,7 +45,7 @@ impl PtrView {
             count: le_u16(block, 2),
             most: le_u16(block, 4),
         };
-        if view.count > view.most || place_of(view.count) > block.len() {
+        if view.count > view.most || entry_place(view.count) > block.len() {
             return Err(PtrErr::BadCount(view.count));
         }
         Ok(view)
@@ -58,7 +58,7 @@ impl PtrView {
         requires place { at < self.now.count }
         ensures { slice_get (entries_of block.now) at ≡ Some result }
     {
-        let start = place_of(at);
+        let start = entry_place(at);
         read_entry(&block[start..start + ENTRY_LEN])
     }
 

@@ -69,6 +69,22 @@ fn entries_stand_as_the_table_says(rt: HostRuntime) {
     }
 }
 
+/// The bytes are written by hand from the table of an entry in docs/FORMATS.md, "Pointer blocks".
+#[test]
+fn an_entry_gives_the_bytes_of_the_table(rt: HostRuntime) {
+    let entry = PtrEntry {
+        block: -3,
+        lines: 70_000,
+        old: 0x1112_1314_1516_1718,
+        pages: 257,
+    };
+    let written = *b"\xfd\xff\xff\xff\xff\xff\xff\xff\
+        \x70\x11\x01\0\0\0\0\0\
+        \x18\x17\x16\x15\x14\x13\x12\x11\
+        \x01\x01\0\0\0\0\0\0";
+    assert!(rt; entry.to_bytes() == written);
+}
+
 /// What so many bytes that begin with this header, and are else 0, are read as.
 fn reading(rt: &impl Abort, header: &[u8], len: usize) -> Result<PtrView, PtrErr> {
     let mut block = [0u8; 4096];

@@ -15,9 +15,9 @@ pub returns : goal.returns
 returns c =
     let block = c.args.block.now in
     let at = c.args.at in
-    let start = c.place_of-start.result in
+    let start = c.entry_place-start.result in
     let width : start + 32 - start ≡ 32 = omega arith in
-    let here : field_at block (8 + 32 * at) 32 ≡ take (start + 32 - start) (drop start block) = rw (width, c.place_of-start.ensures) refl in
+    let here : field_at block (8 + 32 * at) 32 ≡ take (start + 32 - start) (drop start block) = rw (width, c.entry_place-start.ensures) refl in
     ap (λ entries. slice_get entries at) (entries_mapped block _ c.requires.view) ∙ slice_get-map entry_of (slots_of block) at
     ∙ ap (option_map entry_of) (slot_counted block c.args.self.now at (header_from_view _ _ c.requires.view) c.requires.place)
     ∙ ap (λ slot. Some (entry_of slot)) here
