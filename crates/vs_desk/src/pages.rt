@@ -61,12 +61,24 @@ impl<'p, 'h, F: Folder> Pages for FolderPages<'p, 'h, F> {
         self.pages.load(alloc, at, pages, into)
     }
 
+    fn page(&self, at: u64) -> Option<&[u8]> {
+        self.pages.page(at)
+    }
+
     fn touch(&mut self, alloc: Global, at: u64, pages: u32, bytes: &[u8]) -> Result<(), PageErr> {
         if !self.pages.has(at, pages) {
             self.host.damaged();
             return Err(PageErr::Failed);
         }
         self.pages.touch(alloc, at, pages, bytes)
+    }
+
+    fn patch(&mut self, alloc: Global, at: u64, from: usize, bytes: &[u8]) -> Result<(), PageErr> {
+        if !self.pages.has(at, 1) {
+            self.host.damaged();
+            return Err(PageErr::Failed);
+        }
+        self.pages.patch(alloc, at, from, bytes)
     }
 
     fn grow(&mut self, alloc: Global, pages: u32) -> Result<u64, PageErr> {

@@ -4,8 +4,9 @@ use Rattle.std.proofs.lemmas.Bool.{cases_eq}
 use Rattle.std.proofs.lemmas.List.{length-replicate}
 use Rattle.std.proofs.Math.Seq.{drop-nil}
 use Rattle.std.proofs.lemmas.Bool.Decides.{nat_tests}
+use Rattle.std.proofs.lemmas.Grind.{common_steps}
 use mathlib.Core.Path.{fun_ext}
-use Rattle.vs_pages.specs.Maps.{Map, put, lacks, one, total, span, joined, pages_at, put_pages, without, zeros, IsVacant, ArePages}
+use Rattle.vs_pages.specs.Maps.{Map, patched, put, lacks, one, total, span, joined, pages_at, put_pages, without, zeros, IsVacant, ArePages}
 
 -- one number
 
@@ -295,3 +296,10 @@ vacant-more m at n vacant none = λ k. elim (cases_eq k (at + n)) [
   | inl e ↦ omega (arith, span-most at (n + 1) k, ap (λ j. lacks (m j)) e, lacks-none (m (at + n)) none)
   | inr ne ↦ omega (arith, span-add at n 1 k, one-other (at + n) k ne, vacant k)
 ]
+
+-- a page that is written over as a whole
+pub patched-whole : (place : Option (List ℕ)) (bytes : List ℕ) → IsSome place → ((page : List ℕ) → place ≡ Some page → length page ≡ 4096) → length bytes ≡ 4096 → patched place 0 bytes ≡ Some bytes
+patched-whole None bytes there size whole = absurd (cc)
+patched-whole (Some page) bytes there size whole =
+    let none : drop (0 + length bytes) page ≡ [] = let long : length page ≡ 4096 = size page refl in grind (arith, common_steps) in
+    ap (λ (rest : List ℕ). Some (bytes ++ rest)) none ∙ ap (λ (b : List ℕ). Some b) (append-nil bytes)

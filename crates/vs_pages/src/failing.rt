@@ -13,7 +13,7 @@ use std::alloc::Global;
 /// With `TELLS` it promises its content, as [`MemPages`] does. Without it promises none, like a store over a device, and
 /// a call with pages that are not there fails too.
 ///
-/// The calls that may fail are `load`, `touch`, `grow` and `free`. A call that fails changes no page and raises the count of
+/// The calls that may fail are `load`, `touch`, `patch`, `grow` and `free`. No page is lent, so each that is read is loaded. A call that fails changes no page and raises the count of
 /// faults.
 #[derive(Drop)]
 pub struct FailingPages<const TELLS: bool> {
@@ -110,6 +110,11 @@ impl<const TELLS: bool> Pages for FailingPages<TELLS> {
     fn touch(&mut self, alloc: Global, at: u64, pages: u32, bytes: &[u8]) -> Result<(), PageErr> {
         self.count_call_on(at, pages)?;
         self.pages.touch(alloc, at, pages, bytes)
+    }
+
+    fn patch(&mut self, alloc: Global, at: u64, from: usize, bytes: &[u8]) -> Result<(), PageErr> {
+        self.count_call_on(at, 1)?;
+        self.pages.patch(alloc, at, from, bytes)
     }
 
     fn grow(&mut self, alloc: Global, pages: u32) -> Result<u64, PageErr> {

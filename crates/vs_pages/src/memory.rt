@@ -2,7 +2,7 @@
 ghost use Rattle.std.specs.Prelude.{◌≡◌, ◌+◌, ◌-◌, ◌*◌, ◌^◌, ◌<◌, ◌≤◌, ℕ, All, Some, None, IfOk, OnOk, OnErr, IsSome, IfSome, IsTrue, ◌↔◌, ◌⊎◌, length, option_map, vec_len};
 ghost use Rattle.std.specs.Ordering.{nat_cmp};
 ghost use Rattle.std.specs.BTreeMap.{get, btree_map_len};
-ghost use Rattle.vs_pages.specs.Maps.{put, pages_at, put_pages, without, zeros, first_pages, IsVacant};
+ghost use Rattle.vs_pages.specs.Maps.{patched, put, pages_at, put_pages, without, zeros, first_pages, IsVacant};
 ghost use Rattle.vs_pages.specs.Table.{bytes_of};
 
 mod store;
@@ -175,17 +175,27 @@ impl MemPages {
         self.table.replace(at, None)
     }
 
+    // Writes bytes over those of a page, from its byte `from` on.
+    fn patch_page(&mut self, at: u64, from: usize, bytes: &[u8])
+        requires there { IsSome (present_of self.old at) }
+        requires kept { IsKept self.old at }
+        requires within { from + length bytes.now ≤ 4096 }
+        ensures { IsStep self.old self.new (put (present_of self.old) at (patched (present_of self.old at) from bytes.now)) }
+    {
+        let Some(mut page) = self.take_page(at) else {
+            unreachable!()
+        };
+        page.patch(from, bytes);
+        self.set_page(at, Some(page));
+    }
+
     fn write_page(&mut self, at: u64, bytes: &[u8])
         requires there { IsSome (present_of self.old at) }
         requires kept { IsKept self.old at }
         requires size { length bytes.now ≡ 4096 }
         ensures { IsStep self.old self.new (put (present_of self.old) at (Some bytes.now)) }
     {
-        let Some(mut page) = self.take_page(at) else {
-            unreachable!()
-        };
-        page.write(bytes);
-        self.set_page(at, Some(page));
+        self.patch_page(at, 0, bytes);
     }
 
     fn write_pages(&mut self, at: u64, pages: u32, bytes: &[u8])

@@ -1,5 +1,6 @@
 // One page in memory.
-ghost use Rattle.std.specs.Prelude.{◌≡◌, IfOk, length};
+ghost use Rattle.std.specs.Prelude.{◌≡◌, ◌+◌, ◌≤◌, IfOk, length};
+ghost use Rattle.vs_bytes.specs.Fields.{with_field};
 ghost use Rattle.vs_pages.specs.Maps.{zeros};
 
 use crate::PAGE_SIZE;
@@ -28,11 +29,12 @@ impl Page {
         Ok(page)
     }
 
-    pub fn write(&mut self, bytes: &[u8])
-        requires { length bytes.now ≡ 4096 }
-        ensures { self.new.bytes.value ≡ bytes.now }
+    // Writes bytes over those from byte `from` on.
+    pub fn patch(&mut self, from: usize, bytes: &[u8])
+        requires { from + length bytes.now ≤ 4096 }
+        ensures { self.new.bytes.value ≡ with_field self.old.bytes.value from bytes.now }
     {
-        self.bytes.copy_from_slice(bytes);
+        self.bytes[from..from + bytes.len()].copy_from_slice(bytes);
     }
 
     pub fn as_slice(&self) -> &[u8]

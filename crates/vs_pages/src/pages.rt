@@ -1,8 +1,8 @@
 // What a store of pages promises.
-ghost use Rattle.std.specs.Prelude.{◌≡◌, ◌+◌, ◌*◌, ◌^◌, ◌<◌, ◌≤◌, Bool, Some, None, IfOk, OnOk, OnErr, IsErrOf, IsSome, IsTrue, ⊤, length};
+ghost use Rattle.std.specs.Prelude.{◌≡◌, ◌+◌, ◌*◌, ◌^◌, ◌<◌, ◌≤◌, Bool, Some, None, IfOk, OnOk, OnErr, IsErrOf, IfSome, IsSome, IsTrue, ⊤, length};
 ghost use Rattle.vs_faults.specs.Faults.{HasCause};
 ghost use Rattle.vs_pages.specs.State.{PageState, KeepsCommitted, KeepsPages};
-ghost use Rattle.vs_pages.specs.Maps.{pages_at, put_pages, without, zeros, IsVacant, HasPages, ArePages};
+ghost use Rattle.vs_pages.specs.Maps.{pages_at, patched, put, put_pages, without, zeros, IsVacant, HasPages, ArePages};
 
 use std::alloc::{AllocError, AllocFailed, Global};
 
@@ -77,12 +77,32 @@ pub trait Pages {
         ensures kept { KeepsPages tells shows valid stays self.old self.new }
         ensures cause { HasCause (shows self.old).faults (shows self.new).faults (IsErrOf result PageErr.Failed) };
 
+    /// Lends the bytes of a page to be read, where the store has them at hand. It takes no memory. Where it gives none, `load`
+    /// is the call to ask, which may reach below the store.
+    fn page(&self, at: u64) -> Option<&[u8]>
+        requires valid { valid self.now }
+        ensures size { IfSome result (λ bytes. length bytes.now ≡ 4096) }
+        ensures lent { IfSome result (λ bytes. IsTrue tells → (shows self.now).present at ≡ Some bytes.now) }
+    {
+        None
+    }
+
     /// Writes `pages` neighbouring pages from `at` on, which are there already.
     fn touch(&mut self, alloc: Global, at: u64, pages: u32, bytes: &[u8]) -> Result<(), PageErr>
         requires valid { valid self.old }
         requires there { IsTrue tells → IsSome (pages_at (shows self.old).present at pages) }
         requires size { length bytes.now ≡ 4096 * pages }
         ensures ok { OnOk result (IsTrue tells → (shows self.new).present ≡ put_pages (shows self.old).present at pages bytes.now) }
+        ensures err { OnErr result (IsTrue tells → (shows self.new).present ≡ (shows self.old).present) }
+        ensures kept { KeepsCommitted tells shows valid stays self.old self.new }
+        ensures cause { HasCause (shows self.old).faults (shows self.new).faults (IsErrOf result PageErr.Failed) };
+
+    /// Writes bytes over those of one page, which is there already, from its byte `from` on. All others of it stay.
+    fn patch(&mut self, alloc: Global, at: u64, from: usize, bytes: &[u8]) -> Result<(), PageErr>
+        requires valid { valid self.old }
+        requires there { IsTrue tells → IsSome ((shows self.old).present at) }
+        requires within { from + length bytes.now ≤ 4096 }
+        ensures ok { OnOk result (IsTrue tells → (shows self.new).present ≡ put (shows self.old).present at (patched ((shows self.old).present at) from bytes.now)) }
         ensures err { OnErr result (IsTrue tells → (shows self.new).present ≡ (shows self.old).present) }
         ensures kept { KeepsCommitted tells shows valid stays self.old self.new }
         ensures cause { HasCause (shows self.old).faults (shows self.new).faults (IsErrOf result PageErr.Failed) };

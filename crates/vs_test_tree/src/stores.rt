@@ -227,6 +227,27 @@ fn marks_what_a_commit_changed(rt: HostRuntime) -> Result<(), Fail> {
     Ok(())
 }
 
+// The last three bytes of a page that is lent.
+fn lent_end(store: &MemPages, at: u64) -> Option<[u8; 3]> {
+    let page = store.page(at)?;
+    Some([page[4093], page[4094], page[4095]])
+}
+
+#[test]
+fn lends_what_was_written_over(rt: HostRuntime) -> Result<(), Fail> {
+    let alloc = rt.alloc();
+    let mut store = MemPages::new(alloc)?;
+    if store.page(2).is_some() {
+        store.patch(alloc, 2, 4094, &[7, 8])?;
+    }
+    assert!(rt; lent_end(&store, 2) == Some([0, 7, 8]));
+    assert!(rt; lent_end(&store, 1) == Some([0, 0, 0]));
+    assert!(rt; lent_end(&store, 3).is_none());
+    store.rollback();
+    assert!(rt; lent_end(&store, 2) == Some([0, 0, 0]));
+    Ok(())
+}
+
 // Writes pages and reads them back into the buffer.
 fn write_and_load<P: Pages>(
     store: &mut P,
@@ -298,6 +319,7 @@ fn rehearses_on_each_store(rt: HostRuntime) -> Result<(), Fail> {
 fn each_kind(store: &mut FailingPages<false>, alloc: Global) -> Result<(), PageErr> {
     let bytes = filled(alloc, 1, 9)?;
     store.touch(alloc, 1, 1, &bytes)?;
+    store.patch(alloc, 1, PAGE_SIZE - 1, &[5])?;
     store.load(alloc, 1, 1, &mut Vec::new(alloc))?;
     let at = store.grow(alloc, 1)?;
     store.free(alloc, at, 1)
@@ -319,7 +341,7 @@ fn seen_after(
 fn fails_at_the_chosen_call(rt: HostRuntime) -> Result<(), Fail> {
     let alloc = rt.alloc();
     let mut store = FailingPages::<false>::new(MemPages::new(alloc)?);
-    for (call, byte, count) in [(1, 0, 3), (2, 9, 3), (3, 9, 3), (4, 9, 4)] {
+    for (call, byte, count) in [(1, 0, 3), (2, 9, 3), (3, 5, 3), (4, 5, 3), (5, 5, 4)] {
         let seen = seen_after(&mut store, alloc, call)?;
         assert!(rt; seen == (Err(PageErr::Failed), Some(byte), count, call));
         store.rollback();
@@ -327,6 +349,7 @@ fn fails_at_the_chosen_call(rt: HostRuntime) -> Result<(), Fail> {
     each_kind(&mut store, alloc)?;
     assert!(rt; store.free(alloc, 2, 2) == Err(PageErr::Failed));
     store.damaged();
-    assert!(rt; store.faults == 6);
+    assert!(rt; store.faults == 7);
+    assert!(rt; store.page(1).is_none());
     Ok(())
 }

@@ -1,8 +1,7 @@
 -- What calls leave of the tree and of the text in the pages of a store that tells them.
-use Rattle.std.specs.Prelude.{◌≡◌, ℕ, ◌+◌, ◌*◌, IsTrue, List, All, Some}
+use Rattle.std.specs.Prelude.{◌≡◌, ℕ, ◌+◌, ◌*◌, IsTrue, List, All}
 use Rattle.vs_pages.specs.declared.pages.Pages.{Ghosts}
 use Rattle.vs_text.specs.Limits.{IsShort}
-use Rattle.vs_data.specs.Blocks.{lines_in}
 use Rattle.vs_tree_shape.specs.declared.entries.Place.{Place}
 use Rattle.vs_tree_shape.specs.Paths.{HasLine}
 use Rattle.vs_tree_shape.specs.Trees.{HasLines}
@@ -40,10 +39,6 @@ OfPlace g s place Holds = IsTrue g.tells → (lines : List (List ℕ)) (at : ℕ
 -- what holds of the text with these numbers
 abbrev pub OfText : {P : Type 0} → Ghosts P → P → Extent → (List (List ℕ) → Type 0) → Type 0
 OfText g s extent Holds = IsTrue g.tells → (text : List (List ℕ)) → HasText (g.shows s).present extent text → Holds text
-
--- what holds of the lines of a data block in memory
-abbrev pub OfBlock : List ℕ → (List (List ℕ) → Type 0) → Type 0
-OfBlock bytes Holds = (lines : List (List ℕ)) → lines_in bytes ≡ Some lines → Holds lines
 
 -- all but so many pages are as they were
 abbrev pub DiffersBy : {P : Type 0} → Ghosts P → P → P → ℕ → Type 0

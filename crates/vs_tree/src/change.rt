@@ -13,9 +13,9 @@ use crate::Root;
 use std::alloc::Global;
 use vs_pages::{PageErr, Pages};
 use vs_tree_blocks::{
-    Edit, Edited, Removed, edit_data, exchange_entry, exchange_in_root, load_pointers,
+    Edit, Edited, Removed, edit_data, exchange_entry, exchange_in_root, find_below,
 };
-use vs_tree_shape::{Entry, find_place};
+use vs_tree_shape::Entry;
 
 // Edits the lines below the block that an entry leads to, whose data blocks lie `depth` levels below it.
 fn edit_below<P: Pages>(
@@ -44,17 +44,10 @@ fn edit_below<P: Pages>(
     if depth == 0 {
         return edit_data(alloc, pages, top, at, edit);
     }
-    let pointers = load_pointers(alloc, pages, top)?;
-    let place = find_place(&pointers.entries, at);
+    let mut buffer = Vec::new(alloc);
+    let place = find_below(alloc, pages, top, at, &mut buffer)?;
     let below = edit_below(alloc, pages, depth - 1, place.entry, place.rest, edit)?;
-    let above = exchange_entry(
-        alloc,
-        pages,
-        top.block,
-        pointers,
-        place.index,
-        &below.entries,
-    )?;
+    let above = exchange_entry(alloc, pages, top, place, &below.entries)?;
     Ok(Edited {
         entries: above,
         removed: below.removed,
@@ -93,8 +86,9 @@ pub fn edit_tree<P: Pages>(
         pages.damaged();
         return Err(PageErr::Failed);
     }
-    let pointers = load_pointers(alloc, pages, root.entry())?;
-    let place = find_place(&pointers.entries, at);
+    let top = root.entry();
+    let mut buffer = Vec::new(alloc);
+    let place = find_below(alloc, pages, top, at, &mut buffer)?;
     let below = edit_below(
         alloc,
         pages,
@@ -103,7 +97,7 @@ pub fn edit_tree<P: Pages>(
         place.rest,
         edit,
     )?;
-    let more = exchange_in_root(alloc, pages, pointers, place.index, &below.entries)?;
+    let more = exchange_in_root(alloc, pages, top, place, &below.entries)?;
     Ok(EditedTree {
         root: Root {
             height: root.height + more,

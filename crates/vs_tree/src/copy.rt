@@ -5,7 +5,8 @@ ghost use Rattle.vs_pages.specs.Calls.{OnlyReads};
 ghost use Rattle.vs_data.specs.Blocks.{view_in};
 ghost use Rattle.vs_text.specs.Text.{plain_line};
 ghost use Rattle.vs_text.specs.Limits.{IsShort};
-ghost use Rattle.vs_tree.specs.Calls.{OfBlock, OfPlace, OfTree, StandsAt, StandsShort};
+ghost use Rattle.vs_tree_blocks.specs.Writes.{OfBlock};
+ghost use Rattle.vs_tree.specs.Calls.{OfPlace, OfTree, StandsAt, StandsShort};
 ghost use Rattle.vs_tree.specs.Reads.{AddsLines, file_of_stored};
 
 use crate::{Root, walk_down};

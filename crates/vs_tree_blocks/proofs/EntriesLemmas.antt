@@ -1,5 +1,5 @@
 -- Entries as they are written are read back.
-use Rattle.std.proofs.Common.{◌≡◌, ℕ, zero, suc, ◌+◌, ◌<◌, ◌≤◌, List, [], ◌∷◌, ◌++◌, length, take, map, insert, get_or, slice_get, set, drop, Option, Some, None, Bool, if◌then◌else◌, Ok, Err, sym, refl, ap, ◌∙◌, arith, add-one, length-take}
+use Rattle.std.proofs.Common.{◌≡◌, ℕ, zero, suc, ◌+◌, ◌<◌, ◌≤◌, List, [], ◌∷◌, ◌++◌, length, take, map, insert, get_or, slice_get, set, drop, Option, Some, None, Result, Bool, if◌then◌else◌, Ok, Err, sym, refl, ap, ◌∙◌, arith, add-one, length-take}
 use Rattle.std.specs.List.{AllByRecursion}
 use Rattle.std.specs.Option.{option_and_then}
 use Rattle.std.proofs.lemmas.Grind.{common_steps}
@@ -11,7 +11,7 @@ use Rattle.vs_ptr.specs.Blocks.{view_in, entries_of, entries_in}
 use Rattle.vs_ptr.proofs.Headers.{header_from_view}
 use Rattle.vs_ptr.proofs.Reading.{entries_there, entries_refused, length-entries_of}
 use Rattle.vs_tree_shape.specs.declared.entries.Entry.{Entry}
-use Rattle.vs_tree_shape.specs.Places.{replaced}
+use Rattle.vs_tree_shape.specs.Places.{lines_below, replaced}
 use Rattle.vs_tree_blocks.specs.Blocks.{FitsFields, entry_read, entries_read, before, points_in, ptr_of}
 
 pub each-at : {X : Type 0} (P : X → Type 0) (xs : List X) (i : ℕ) (d : X) → i < length xs → AllByRecursion P xs → P (get_or xs i d)
@@ -118,9 +118,23 @@ length_read (f ∷ es) xs is =
     let rest = length_read es b.others b.others_are in
     omega (arith, ap length b.all)
 
-points_of : (bytes : List ℕ) (view : PtrView) (xs : List Entry) → view_in bytes ≡ Ok view → points_in bytes ≡ Some xs → entries_read (entries_of bytes) ≡ Some xs
+no_lines : (xs : List Entry) (n : ℕ) → length xs ≡ 0 → lines_below xs ≤ n
+no_lines [] n none = omega arith
+no_lines (x ∷ xs) n none = absurd (omega arith)
+
+pub points_of : (bytes : List ℕ) (view : PtrView) (xs : List Entry) → view_in bytes ≡ Ok view → points_in bytes ≡ Some xs → entries_read (entries_of bytes) ≡ Some xs
 unfolding points_in
 points_of bytes view xs reads is = sym (ap (λ o. option_and_then entries_read o) (entries_there bytes view reads)) ∙ is
+
+-- the lines below the first entries are no more than those below all
+pub part_below : (es : List PtrEntry) (k : ℕ) (all xs : List Entry) → entries_read es ≡ Some all → entries_read (take k es) ≡ Some xs → lines_below xs ≤ lines_below all
+part_below [] k all xs is part = let none : length xs ≡ 0 = length_read (take k []) xs part ∙ grind (arith, common_steps) in no_lines xs _ none
+part_below (f ∷ es) zero all xs is part = let none : length xs ≡ 0 = length_read [] xs part in no_lines xs _ none
+part_below (f ∷ es) (suc k) all xs is part =
+    let a : Both (entry_read f) (entries_read es) all = both_read (entry_read f) (entries_read es) all is in
+    let b : Both (entry_read f) (entries_read (take k es)) xs = both_read (entry_read f) (entries_read (take k es)) xs part in
+    let same : a.first ≡ b.first = cc in
+    omega (arith, ap (λ (e : Entry). e.lines) same, part_below es k a.others b.others a.others_are b.others_are, ap lines_below a.all, ap lines_below b.all)
 
 -- the header counts the entries
 pub points_counted : (bytes : List ℕ) (view : PtrView) (xs : List Entry) → view_in bytes ≡ Ok view → points_in bytes ≡ Some xs → length xs ≡ view.count
@@ -157,3 +171,19 @@ pub replaced_one : (es by now : List Entry) (i : ℕ) (d : Entry) → now ≡ se
 replaced_one es [] now i d is within one = absurd (omega arith)
 replaced_one es (e ∷ []) now i d is within one = is ∙ set_split es i e within ∙ ap (λ n. take i es ++ e ∷ drop n es) (sym (add-one i))
 replaced_one es (e ∷ f ∷ by) now i d is within one = absurd (omega arith)
+
+pub got_within : (es : List Entry) (i : ℕ) (e : Entry) → slice_get es i ≡ Some e → i < length es
+got_within [] i e got = absurd (cc)
+got_within (x ∷ es) zero e got = omega arith
+got_within (x ∷ es) (suc i) e got = omega (arith, got_within es i e got)
+
+-- the lines below one entry are among those below all, and another entry in its place has its own
+pub got_below : (es : List Entry) (i : ℕ) (e f : Entry) → slice_get es i ≡ Some e → (e.lines ≤ lines_below es) × (lines_below (set es i f) + e.lines ≡ lines_below es + f.lines)
+got_below [] i e f got = absurd (cc)
+got_below (x ∷ es) zero e f got = let same : x ≡ e = cc in let n : x.lines ≡ e.lines = ap (λ (y : Entry). y.lines) same in (omega (arith, n), omega (arith, n))
+got_below (x ∷ es) (suc i) e f got = let r = got_below es i e f got in (omega (arith, r.0), omega (arith, r.1))
+
+-- a page has room for 127 entries
+pub few_by : (bytes : List ℕ) (found : Result PtrView PtrErr) (es : List Entry) → view_in bytes ≡ found → points_in bytes ≡ Some es → length bytes ≡ 4096 → length es ≤ 127
+few_by bytes (Ok view) es reads points size = omega (arith, points_counted bytes view es reads points, (few_entries bytes view reads size).1)
+few_by bytes (Err err) es reads points size = absurd (points_refute bytes err es reads points)

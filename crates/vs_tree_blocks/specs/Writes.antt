@@ -3,6 +3,7 @@ use Rattle.std.specs.Prelude.{◌≡◌, ℕ, ◌+◌, ◌≤◌, IsTrue, List, 
 use Rattle.std.specs.List.{AllByRecursion, flat_map}
 use Rattle.vs_pages.specs.Maps.{Map, one, span, total, pages_at}
 use Rattle.vs_pages.specs.declared.pages.Pages.{Ghosts}
+use Rattle.vs_data.specs.Blocks.{lines_in}
 use Rattle.vs_tree_shape.specs.declared.entries.Entry.{Entry}
 use Rattle.vs_tree_shape.specs.Places.{lines_below}
 use Rattle.vs_tree_shape.specs.Trees.{Leaf, Tree, entry_of, lines_of, uses}
@@ -42,6 +43,10 @@ IsThere g s block = IsTrue g.tells → IsSome (pages_at (g.shows s).present bloc
 -- What holds of the lines of a data block, where the store tells them.
 abbrev pub OfLines : {P : Type 0} → Ghosts P → P → Entry → (List (List ℕ) → Type 0) → Type 0
 OfLines g s entry Holds = IsTrue g.tells → (lines : List (List ℕ)) → lines_at (g.shows s).present entry.block entry.pages ≡ Some lines → Holds lines
+
+-- what holds of the lines of a data block in memory
+abbrev pub OfBlock : List ℕ → (List (List ℕ) → Type 0) → Type 0
+OfBlock bytes Holds = (lines : List (List ℕ)) → lines_in bytes ≡ Some lines → Holds lines
 
 -- Trees with these lines stand in place of a data block.
 abbrev pub Leaves : {P : Type 0} → Ghosts P → P → P → Entry → List (List ℕ) → List Entry → Type 0

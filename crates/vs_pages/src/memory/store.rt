@@ -1,7 +1,7 @@
 // Pages in memory as a store of pages.
-ghost use Rattle.std.specs.Prelude.{◌≡◌, ◌+◌, ◌*◌, ◌^◌, ◌≤◌, ℕ, true, Some, IfOk, OnOk, OnErr, IsErrOf, IsSome, length};
+ghost use Rattle.std.specs.Prelude.{◌≡◌, ◌+◌, ◌*◌, ◌^◌, ◌≤◌, ℕ, true, Some, IfOk, OnOk, OnErr, IsErrOf, IfSome, IsSome, length, option_map};
 ghost use Rattle.vs_faults.specs.Faults.{HasCause};
-ghost use Rattle.vs_pages.specs.Maps.{pages_at, put_pages, without, zeros, IsVacant};
+ghost use Rattle.vs_pages.specs.Maps.{patched, pages_at, put, put_pages, without, zeros, IsVacant};
 ghost use Rattle.vs_pages.specs.Memory.{present_of, committed_of};
 ghost use Rattle.vs_pages.specs.Changes.{state_of, GoesOn, KeepsAllMarks, MarksOnly, OnlyRead};
 ghost use Rattle.vs_pages.specs.MemoryLaws.{are_present, are_committed};
@@ -46,6 +46,14 @@ impl Pages for MemPages {
         Ok(())
     }
 
+    // Each page is at hand.
+    fn page(&self, at: u64) -> Option<&[u8]>
+        ensures size { IfSome result (λ bytes. length bytes.now ≡ 4096) }
+        ensures lent { option_map (λ bytes. bytes.now) result ≡ present_of self.now at }
+    {
+        Some(self.table.page(at)?.as_slice())
+    }
+
     fn touch(&mut self, alloc: Global, at: u64, pages: u32, bytes: &[u8]) -> Result<(), PageErr>
         requires there { IsSome (pages_at (present_of self.old) at pages) }
         requires size { length bytes.now ≡ 4096 * pages }
@@ -57,6 +65,20 @@ impl Pages for MemPages {
     {
         self.keep_pages(alloc, at, pages)?;
         self.write_pages(at, pages, bytes);
+        Ok(())
+    }
+
+    fn patch(&mut self, alloc: Global, at: u64, from: usize, bytes: &[u8]) -> Result<(), PageErr>
+        requires there { IsSome (present_of self.old at) }
+        requires within { from + length bytes.now ≤ 4096 }
+        ensures ok { OnOk result (present_of self.new ≡ put (present_of self.old) at (patched (present_of self.old at) from bytes.now)) }
+        ensures err { OnErr result (present_of self.new ≡ present_of self.old) }
+        ensures kept { GoesOn self.old self.new }
+        ensures cause { HasCause 0 0 (IsErrOf result PageErr.Failed) }
+        ensures marks { MarksOnly at 1 self.old self.new }
+    {
+        self.keep_page(alloc, at)?;
+        self.patch_page(at, from, bytes);
         Ok(())
     }
 

@@ -3,14 +3,13 @@ use Rattle.std.proofs.lemmas.Result.{on_ok_weaker}
 use Rattle.vs_pages.specs.Maps.{Map}
 use Rattle.vs_tree_shape.specs.declared.entries.Entry.{Entry}
 use Rattle.vs_tree_shape.specs.Changes.{HasLineBelow, ChangesBelow}
-use Rattle.vs_tree_shape.specs.Places.{IsPlace, lines_below, replaced}
-use Rattle.vs_tree_shape.proofs.Walks.{place_each}
-use Rattle.vs_tree_shape.proofs.Steps.{above_down, above_entries, edited_pointers, pointers_there, pointers_read, counts_replaced, place_lines}
-use Rattle.vs_tree_blocks.specs.Blocks.{tree_format, FitsFields}
+use Rattle.vs_tree_shape.specs.Places.{lines_below, replaced}
+use Rattle.vs_tree_shape.proofs.Steps.{above_down, above_entries, edited_pointers, pointers_there}
+use Rattle.vs_tree_blocks.specs.Blocks.{tree_format}
 use Rattle.vs_tree_blocks.specs.Edits.{change_of, ChangesFew}
 use Rattle.vs_tree_blocks.specs.declared.edit.Edited.{Edited}
 use Rattle.vs_tree.proofs.Bounds.{few_below}
-use Rattle.vs_tree.proofs.ChangeLemmas.{promised, few_added}
+use Rattle.vs_tree.proofs.ChangeLemmas.{entries_kept, has_entry, promised, few_added}
 use Rattle.vs_tree.proofs.change.+edit_below.Goals as goal
 
 pub returns-then-depth-eq0-clause-wrote : goal.returns-then-depth-eq0-clause-wrote
@@ -19,34 +18,30 @@ returns-then-depth-eq0-clause-wrote g t c =
     let none : c.args.depth ≡ 0 = c.if-depth-eq0.true in
     subst P (sym none) c.edit_data.ensures.wrote
 
-pub load_pointers-requires-clause-there : goal.load_pointers-requires-clause-there
-load_pointers-requires-clause-there g t c = λ told. let e = above_entries _ _ c.args.top c.args.depth _ c.if-depth-eq0.false (c.requires.there told) in record { entries = e.0; reads = e.1; lines = e.2; single = e.3 }
-
-pub find_place-place-requires : goal.find_place-place-requires
-find_place-place-requires g t c = omega (arith, ap lines_below c.deref.ensures.value, c.in_ok-pointers.ensures.lines, c.requires.within)
+pub find_below-requires-clause-there : goal.find_below-requires-clause-there
+find_below-requires-clause-there g t c = λ told. let e = above_entries _ _ c.args.top c.args.depth _ c.if-depth-eq0.false (c.requires.there told) in record { entries = e.0; reads = e.1; lines = e.2; single = e.3 }
 
 pub edit_below-requires : goal.edit_below-requires
 edit_below-requires g t c = λ κs within.
-    let place = c.find_place-place.result in
-    let is = subst (λ (es : List Entry). IsPlace es c.args.at place) c.deref.ensures.value c.find_place-place.ensures in
-    let most = place_lines c.in_ok-pointers.pointers.entries.items c.args.at place is in (
+    let place = c.in_ok-place.place in (
       omega arith,
       (
         search rules,
         (
-          c.load_pointers.ensures.kept.valid,
+          c.find_below.ensures.kept.valid,
           (
-            place_each FitsFields c.in_ok-pointers.pointers.entries.items _ c.args.at place c.deref.ensures.value c.find_place-place.ensures c.in_ok-pointers.pointers.fields,
+            c.in_ok-place.ensures.fields,
             (
-              is.rest,
+              c.in_ok-place.ensures.within,
               (
-                omega (arith, most, c.in_ok-pointers.ensures.lines, c.requires.small),
+                omega (arith, c.in_ok-place.ensures.inside, c.requires.small),
                 (
                   c.requires.edit,
                   λ told.
-                      let here = above_down _ _ c.args.top c.args.depth _ c.in_ok-pointers.pointers.entries.items place c.if-depth-eq0.false (c.in_ok-pointers.ensures.entries told) is (c.requires.there told) in
+                      let of = c.in_ok-place.ensures.place told in
+                      let here = above_down _ _ c.args.top c.args.depth _ of.entries place c.if-depth-eq0.false of.reads of.is (c.requires.there told) in
                       let P : Map → Type 0 = λ m. HasLineBelow tree_format m place.entry (c.args.depth - 1) place.rest in
-                      subst P (sym (c.load_pointers.ensures.kept.present told)) here,
+                      subst P (sym (c.find_below.ensures.kept.present told)) here,
                 ),
               ),
             ),
@@ -57,34 +52,28 @@ edit_below-requires g t c = λ κs within.
 
 pub exchange_entry-requires-clause-there : goal.exchange_entry-requires-clause-there
 exchange_entry-requires-clause-there g t c = λ told.
-    let is = subst (λ (es : List Entry). IsPlace es c.args.at c.find_place-place.result) c.deref.ensures.value c.find_place-place.ensures in
-    let all : List Entry = replaced c.in_ok-pointers.pointers.entries.items c.find_place-place.result.index c.deref-2.result.now in
-    let mid = ap (λ (by : List Entry). replaced c.in_ok-pointers.pointers.entries.items c.find_place-place.result.index by) c.deref-2.ensures.value in
-    let promise = promised _ _ _ _ _ _ _ _ _ _ (c.load_pointers.ensures.kept.present told) refl (c.in_ok-below.ensures.wrote told) in
-    let r = pointers_there _ _ _ _ c.args.depth _ c.in_ok-below.below.removed.bytes (change_of c.args.edit c.in_ok-below.below.removed.lines) c.in_ok-pointers.pointers.entries.items c.in_ok-below.below.entries.items all c.find_place-place.result c.if-depth-eq0.false (c.in_ok-pointers.ensures.entries told) is mid promise (c.requires.there told) in
-    pointers_read _ _ (g.P.Pages.shows c.edit_below.new.pages).present _ c.args.depth _ c.if-depth-eq0.false (c.requires.there told) r
+    let of = c.in_ok-place.ensures.place told in
+    let all : List Entry = replaced of.entries c.in_ok-place.place.index c.in_ok-below.below.entries.items in
+    let promise = promised _ _ _ _ _ _ _ _ _ _ (c.find_below.ensures.kept.present told) refl (c.in_ok-below.ensures.wrote told) in
+    let same = pointers_there _ _ (g.P.Pages.shows c.edit_below.new.pages).present c.args.top c.args.depth _ c.in_ok-below.below.removed.bytes (change_of c.args.edit c.in_ok-below.below.removed.lines) of.entries c.in_ok-below.below.entries.items all c.in_ok-place.place c.if-depth-eq0.false of.reads of.is refl promise (c.requires.there told) in
+    let e = above_entries _ _ c.args.top c.args.depth _ c.if-depth-eq0.false (c.requires.there told) in
+    has_entry (g.P.Pages.shows c.args.pages.now).present (g.P.Pages.shows c.edit_below.new.pages).present c.args.top c.args.at c.in_ok-place.place of.entries (record { entries = e.0; reads = e.1; lines = e.2; single = e.3 }) of.reads of.is same
 
 pub exchange_entry-requires-clause-small : goal.exchange_entry-requires-clause-small
-exchange_entry-requires-clause-small g t c =
-    let is = subst (λ (es : List Entry). IsPlace es c.args.at c.find_place-place.result) c.deref.ensures.value c.find_place-place.ensures in
-    let all : List Entry = replaced c.in_ok-pointers.pointers.entries.items c.find_place-place.result.index c.deref-2.result.now in
-    let mid = ap (λ (by : List Entry). replaced c.in_ok-pointers.pointers.entries.items c.find_place-place.result.index by) c.deref-2.ensures.value in
-    omega (arith, (counts_replaced c.in_ok-pointers.pointers.entries.items c.in_ok-below.below.entries.items all c.args.at c.find_place-place.result is mid).0, c.in_ok-below.ensures.lines, c.in_ok-pointers.ensures.lines, c.requires.small, few_added c.args.edit c.requires.edit)
+exchange_entry-requires-clause-small g t c = omega (arith, ap lines_below c.deref.ensures.value, c.in_ok-below.ensures.lines, c.requires.small, few_added c.args.edit c.requires.edit)
 
 pub returns-clause-wrote : goal.returns-clause-wrote
 returns-clause-wrote g t c = λ told.
-    let is = subst (λ (es : List Entry). IsPlace es c.args.at c.find_place-place.result) c.deref.ensures.value c.find_place-place.ensures in
-    let all : List Entry = replaced c.in_ok-pointers.pointers.entries.items c.find_place-place.result.index c.deref-2.result.now in
-    let mid = ap (λ (by : List Entry). replaced c.in_ok-pointers.pointers.entries.items c.find_place-place.result.index by) c.deref-2.ensures.value in
-    let promise = promised _ _ _ _ _ _ _ _ _ _ (c.load_pointers.ensures.kept.present told) refl (c.in_ok-below.ensures.wrote told) in
-    edited_pointers _ _ _ _ _ c.args.depth _ c.in_ok-below.below.removed.bytes (change_of c.args.edit c.in_ok-below.below.removed.lines) c.in_ok-pointers.pointers.entries.items c.in_ok-below.below.entries.items all c.in_ok-above.above.items c.find_place-place.result c.if-depth-eq0.false (c.in_ok-pointers.ensures.entries told) is mid promise (c.in_ok-above.ensures.wrote told)
+    let of = c.in_ok-place.ensures.place told in
+    let all : List Entry = replaced of.entries c.in_ok-place.place.index c.deref.result.now in
+    let mid = ap (λ by. replaced of.entries c.in_ok-place.place.index by) c.deref.ensures.value in
+    let promise = promised _ _ _ _ _ _ _ _ _ _ (c.find_below.ensures.kept.present told) refl (c.in_ok-below.ensures.wrote told) in
+    let same = pointers_there _ _ (g.P.Pages.shows c.edit_below.new.pages).present c.args.top c.args.depth _ c.in_ok-below.below.removed.bytes (change_of c.args.edit c.in_ok-below.below.removed.lines) of.entries c.in_ok-below.below.entries.items all c.in_ok-place.place c.if-depth-eq0.false of.reads of.is mid promise (c.requires.there told) in
+    let now = entries_kept (g.P.Pages.shows c.args.pages.now).present (g.P.Pages.shows c.edit_below.new.pages).present c.args.top.block of.entries same of.reads in
+    edited_pointers _ _ _ _ _ c.args.depth _ c.in_ok-below.below.removed.bytes (change_of c.args.edit c.in_ok-below.below.removed.lines) of.entries c.in_ok-below.below.entries.items all c.in_ok-above.above.items c.in_ok-place.place c.if-depth-eq0.false of.reads of.is mid promise (c.in_ok-above.ensures.wrote told of.entries now told)
 
 pub returns-clause-lines : goal.returns-clause-lines
-returns-clause-lines g t c =
-    let is = subst (λ (es : List Entry). IsPlace es c.args.at c.find_place-place.result) c.deref.ensures.value c.find_place-place.ensures in
-    let all : List Entry = replaced c.in_ok-pointers.pointers.entries.items c.find_place-place.result.index c.deref-2.result.now in
-    let mid = ap (λ (by : List Entry). replaced c.in_ok-pointers.pointers.entries.items c.find_place-place.result.index by) c.deref-2.ensures.value in
-    omega (arith, (counts_replaced c.in_ok-pointers.pointers.entries.items c.in_ok-below.below.entries.items all c.args.at c.find_place-place.result is mid).0, c.in_ok-below.ensures.lines, c.in_ok-pointers.ensures.lines, c.in_ok-above.ensures.lines)
+returns-clause-lines g t c = omega (arith, ap lines_below c.deref.ensures.value, c.in_ok-below.ensures.lines, c.in_ok-above.ensures.lines)
 
 pub returns-then-depth-eq0-clause-differs : goal.returns-then-depth-eq0-clause-differs
 returns-then-depth-eq0-clause-differs g t c = on_ok_weaker c.edit_data.result
@@ -99,5 +88,5 @@ edit_data-requires-clause-there g t c = λ told. subst (λ (d : ℕ). HasLineBel
 
 pub returns-clause-differs : goal.returns-clause-differs
 returns-clause-differs g t c = λ told.
-    let is = subst (λ (es : List Entry). IsPlace es c.args.at c.find_place-place.result) c.deref.ensures.value c.find_place-place.ensures in
-    few_below _ _ _ _ c.args.top _ c.args.depth c.args.at 2 (2 * c.args.depth + 3) c.args.edit c.in_ok-pointers.pointers.entries.items c.find_place-place.result c.if-depth-eq0.false (c.in_ok-pointers.ensures.entries told) is (c.load_pointers.ensures.kept.present told) refl (omega arith) (c.in_ok-below.ensures.differs told) (c.in_ok-above.ensures.differs told)
+    let of = c.in_ok-place.ensures.place told in
+    few_below _ _ _ _ c.args.top _ c.args.depth c.args.at 2 (2 * c.args.depth + 3) c.args.edit of.entries c.in_ok-place.place c.if-depth-eq0.false of.reads of.is (c.find_below.ensures.kept.present told) refl (omega arith) (c.in_ok-below.ensures.differs told) (c.in_ok-above.ensures.differs told)

@@ -1,0 +1,26 @@
+-- One entry in place of one leaves as many entries, so they have room in the block.
+use Rattle.std.proofs.Common.{◌≡◌, suc, List, ◌∷◌, [], get_or, set, ap, subst, ◌∙◌}
+use Rattle.vs_tree_shape.specs.declared.entries.Entry.{Entry}
+use Rattle.vs_tree_shape.specs.Places.{lines_below}
+use Rattle.vs_tree_blocks.specs.Pointers.{Leads, pointer_blocks}
+use Rattle.vs_tree_blocks.specs.Writes.{StandsOver}
+use Rattle.vs_tree_blocks.proofs.ExchangeLemmas.{exchanged, few_put, nothing}
+use Rattle.vs_tree_blocks.proofs.PointersLemmas.{one_leads, one_written, pointer_one}
+use Rattle.vs_tree_blocks.proofs.exchange.exchange_entry.Goals as goal
+
+pub returns-then-by-eq1-clause-wrote : goal.returns-then-by-eq1-clause-wrote
+returns-then-by-eq1-clause-wrote g c = λ told entries reads.
+    let put = c.in_ok-above.ensures.put told entries reads in
+    let is = exchanged _ entries c.args.by.now c.args.top c.args.place (c.requires.there told) reads c.if-by-eq1.true in
+    let P : List Entry → Type 0 = λ es. StandsOver g.P.Pages c.args.pages.now c.put_entry.new.pages c.args.top.block (λ i. suc i) es c.in_ok-vec.field-0.items in
+    subst P is.entries_are (λ also d kids below. one_written _ _ c.args.top.block d kids _ _ put.bytes c.in_ok-above.above put.stored put.points (c.in_ok-above.ensures.entry ∙ is.lines) c.in_ok-vec.ensures.items below)
+
+pub returns-then-by-eq1-clause-blocks : goal.returns-then-by-eq1-clause-blocks
+returns-then-by-eq1-clause-blocks g c = λ told entries reads.
+    let put = c.in_ok-above.ensures.put told entries reads in
+    let is = exchanged _ entries c.args.by.now c.args.top c.args.place (c.requires.there told) reads c.if-by-eq1.true in
+    let now : List Entry = set entries c.args.place.index (get_or c.args.by.now 0 nothing) in
+    let one : now ∷ [] ≡ pointer_blocks now = pointer_one now is.some (few_put _ _ c.args.top.block now put) in
+    let P : List (List Entry) → Type 0 = λ bs. Leads g.P.Pages c.put_entry.new.pages c.in_ok-vec.field-0.items bs in
+    subst P (one ∙ ap pointer_blocks is.entries_are)
+    (λ also. one_leads _ _ c.args.top.block (lines_below now) put.bytes now _ c.in_ok-above.above put.stored put.points (c.in_ok-above.ensures.entry ∙ is.lines) c.in_ok-vec.ensures.items)
