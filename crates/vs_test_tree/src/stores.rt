@@ -350,6 +350,5 @@ fn fails_at_the_chosen_call(rt: HostRuntime) -> Result<(), Fail> {
     assert!(rt; store.free(alloc, 2, 2) == Err(PageErr::Failed));
     store.damaged();
     assert!(rt; store.faults == 7);
-    assert!(rt; store.page(1).is_none());
     Ok(())
 }
