@@ -1,8 +1,9 @@
 -- What a write of some bytes leaves around them, and what stands in their place: laws of fields.
-use Rattle.std.proofs.Common.{◌≡◌, ℕ, ◌+◌, ◌-◌, ◌≤◌, List, ◌++◌, length, take, drop, sym, ap, ◌∙◌, arith, length-append}
-use Rattle.std.proofs.lemmas.List.{append_assoc, drop-drop, length-take-le, take_at, take-take}
+use Rattle.std.proofs.Common.{◌≡◌, ℕ, ◌+◌, ◌-◌, ◌≤◌, List, [], ◌++◌, length, take, drop, refl, sym, ap, ◌∙◌, arith, inl, length-append}
+use Rattle.std.proofs.lemmas.List.{append-nil, append_assoc, drop_at, drop-drop, length-take-le, take-append-drop, take_at, take-take}
+use Rattle.std.proofs.Math.Seq.{take-add}
 use Rattle.vs_bytes.specs.Fields.{field_at, with_field}
-use Rattle.vs_bytes.proofs.FieldLaws.{drop-with_field, field_at-append_left, field_at-append_right, field_at-drop, field_at-take, length-field_at, length-with_field, take-with_field}
+use Rattle.vs_bytes.proofs.FieldLaws.{drop-with_field, field_at-append_left, field_at-append_right, field_at-drop, field_at-take, field_at-with_field_apart, length-field_at, length-with_field, take-with_field}
 
 -- all bytes stay but those from one place up to another
 pub record Keeps (old new : List ℕ) (from to : ℕ) : Type 0 where
@@ -79,3 +80,50 @@ joined_writes block at first second next within same =
     drop-with_field block at first (next + length second) (omega arith) (omega arith) in
     let wide : at + length (first ++ second) ≡ next + length second = omega (arith, length-append {A = ℕ}) in
     rw (ahead, after, wide) (ap (λ (xs : List ℕ). xs ++ drop (next + length second) block) (append_assoc front first second))
+
+-- two writes in a row, the second right before the first
+pub joined_writes_back : (block : List ℕ) (at : ℕ) (front back : List ℕ) (next : ℕ) → at + length front + length back ≤ length block → next ≡ at + length front
+    → with_field (with_field block next back) at front ≡ with_field block at (front ++ back)
+joined_writes_back block at front back next within same =
+    let rest : List ℕ = drop (next + length back) block in
+    let ahead : take at (with_field block next back) ≡ take at block = take-with_field block next back at (omega arith) (omega arith) in
+    let cut : length (take next block) ≡ at + length front = length-take-le next block (omega arith) ∙ same in
+    let after : drop (at + length front) (with_field block next back) ≡ back ++ rest = rw append_assoc (drop_at (take next block) (back ++ rest) (at + length front) cut) in
+    let wide : at + length (front ++ back) ≡ next + length back = omega (arith, length-append {A = ℕ}) in
+    rw (ahead, after, wide) (sym (append_assoc (take at block ++ front) back rest) ∙ ap (λ (xs : List ℕ). xs ++ rest) (append_assoc (take at block) front back))
+
+-- the bytes copied to another place, all but as many of the first as are left
+abbrev pub moved : List ℕ → ℕ → ℕ → ℕ → ℕ → List ℕ
+moved block start wide to left = with_field block (to + left) (field_at block (start + left) (wide - left))
+
+-- none of them at first
+pub none_moved : (block : List ℕ) (start wide to : ℕ) → block ≡ moved block start wide to wide
+none_moved block start wide to =
+    let none : wide - wide ≡ 0 = omega arith in
+    let nothing : field_at block (start + wide) (wide - wide) ≡ [] = rw none refl in
+    let end : to + wide + 0 ≡ to + wide = omega arith in
+    rw (nothing, append-nil, end) (sym (take-append-drop (to + wide) block))
+
+-- those before them are copied upwards from where they still stand
+pub more_moved : (block : List ℕ) (start wide to left count fewer : ℕ) → start ≤ to → to + wide ≤ length block → left ≤ wide → left ≡ fewer + count
+    → with_field (moved block start wide to left) (to + fewer) (field_at (moved block start wide to left) (start + fewer) count) ≡ moved block start wide to fewer
+more_moved block start wide to left count fewer upwards room some less =
+    let back : List ℕ = field_at block (start + left) (wide - left) in
+    let front : List ℕ = field_at block (start + fewer) count in
+    let back_wide : length back ≡ wide - left = length-field_at block (start + left) (wide - left) (omega arith) in
+    let front_wide : length front ≡ count = length-field_at block (start + fewer) count (omega arith) in
+    let stands : field_at (moved block start wide to left) (start + fewer) count ≡ front =
+    field_at-with_field_apart block (to + left) back (start + fewer) count (omega arith) (inl (omega arith)) in
+    let next : start + left ≡ start + fewer + count = omega arith in
+    let both : wide - fewer ≡ count + (wide - left) = omega arith in
+    let joined : front ++ back ≡ field_at block (start + fewer) (wide - fewer) =
+    rw (both, next, ← drop-drop count (start + fewer) block) (sym (take-add count (wide - left) (drop (start + fewer) block))) in
+    rw stands (joined_writes_back block (to + fewer) front back (to + left) (omega arith) (omega arith) ∙ ap (with_field block (to + fewer)) joined)
+
+-- all of them at the end
+pub all_moved : (block : List ℕ) (start wide to : ℕ) → moved block start wide to 0 ≡ with_field block to (field_at block start wide)
+all_moved block start wide to =
+    let place : to + 0 ≡ to = omega arith in
+    let from : start + 0 ≡ start = omega arith in
+    let whole : wide - 0 ≡ wide = omega arith in
+    rw (place, from, whole) refl

@@ -9,14 +9,17 @@ use memchr::memchr;
 // How many bytes are counted together.
 const PART: usize = 240;
 
+// How many bytes are moved up together.
+const MOVED: usize = 256;
+
 fn has_no_zero(bytes: &[u8]) -> bool
     ensures { result ≡ list_all (λ byte. not (byte == 0)) bytes.now }
 {
     memchr(0, bytes).is_none()
 }
 
-// The number of zeros among bytes whose number fits a byte. So counted, many of them go through one instruction.
-fn count_in_byte(bytes: &[u8]) -> u8
+// The number of zeros among at most 255 bytes. Counted in one byte, many of them go through one instruction.
+fn count_few_zeros(bytes: &[u8]) -> u8
     requires { length bytes.now ≤ 255 }
     ensures { result ≡ zeros_in bytes.now }
 {
@@ -37,7 +40,7 @@ pub(crate) fn count_zeros(bytes: &[u8]) -> usize
     let mut rest = bytes;
     'parts: while !rest.is_empty() {
         let (part, after) = rest.split_at(rest.len().min(PART));
-        zeros += usize::from(count_in_byte(part));
+        zeros += usize::from(count_few_zeros(part));
         rest = after;
     }
     zeros
@@ -56,6 +59,34 @@ pub(crate) fn is_line(block: &[u8], start: u32, end: u32) -> bool
     block[last] == 0 && has_no_zero(&block[start as usize..last])
 }
 
+// Copies up to 256 bytes.
+fn move_part(block: &mut [u8], start: usize, count: usize, to: usize)
+    requires few { count ≤ 256 }
+    requires within { start + count ≤ length block.old }
+    requires room { to + count ≤ length block.old }
+    ensures { block.new ≡ with_field block.old to (field_at block.old start count) }
+{
+    let mut part = [0; MOVED];
+    let part = &mut part[..count];
+    part.copy_from_slice(&block[start..start + count]);
+    put_bytes(block, to, part);
+}
+
+// Copies bytes to a greater place, the last ones first, since they may overlap. The bytes go in parts, which is faster than one by one.
+fn move_up(block: &mut [u8], start: usize, end: usize, to: usize)
+    requires order { start ≤ end }
+    requires upwards { start ≤ to }
+    requires room { to + (end - start) ≤ length block.old }
+    ensures { block.new ≡ with_field block.old to (field_at block.old start (end - start)) }
+{
+    let mut left = end - start;
+    'parts: while left > 0 {
+        let count = left.min(MOVED);
+        left -= count;
+        move_part(block, start + left, count, to + left);
+    }
+}
+
 // Copies the bytes from `start` up to `end` to `to`, where they may overlap with themselves.
 pub(crate) fn move_bytes(block: &mut [u8], start: usize, end: usize, to: usize)
     requires order { start ≤ end }
@@ -63,7 +94,11 @@ pub(crate) fn move_bytes(block: &mut [u8], start: usize, end: usize, to: usize)
     requires room { to + (end - start) ≤ length block.old }
     ensures { block.new ≡ with_field block.old to (field_at block.old start (end - start)) }
 {
-    block.copy_within(start..end, to);
+    if to < start {
+        block.copy_within(start..end, to);
+    } else {
+        move_up(block, start, end, to);
+    }
 }
 
 pub(crate) fn put_bytes(block: &mut [u8], at: usize, bytes: &[u8])

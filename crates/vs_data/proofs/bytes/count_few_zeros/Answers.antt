@@ -1,7 +1,7 @@
 -- There are no more zeros than bytes.
 use Rattle.std.proofs.Common.{arith}
 use Rattle.vs_data.proofs.Counting.{zeros_before}
-use Rattle.vs_data.proofs.bytes.count_in_byte.Goals as goal
+use Rattle.vs_data.proofs.bytes.count_few_zeros.Goals as goal
 
 pub overflow_add-zeros : goal.overflow_add-zeros
 overflow_add-zeros c =
