@@ -18,9 +18,6 @@ use Rattle.vs_machine.specs.declared.command.Mark.{Mark}
 use Rattle.vs_top.specs.Run.{Counts, counts_of, OnlyFolder, FaultHasCause}
 use Rattle.vs_top.specs.Turns.{AreCounted}
 
-pub only_none : (a : Counts) → OnlyFolder a a
-only_none a = record { script = refl; output = refl; later = omega arith }
-
 pub only_then : (a b c : Counts) → OnlyFolder a b → OnlyFolder b c → OnlyFolder a c
 only_then a b c one two = record { script = two.script ∙ one.script; output = two.output ∙ one.output; later = omega (arith, one.later, two.later) }
 

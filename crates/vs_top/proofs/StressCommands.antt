@@ -38,10 +38,6 @@ writes_nothing number request is = ap writes_files is.parsed ∙ plain number
 pub goes_on : (number : ℕ) (request : Request) → IsRequest request (generated number) → (saved : Bool) → quits (result_of request.parsed) saved ≡ false
 goes_on number request is saved = ap (λ p. quits p saved) is.parsed ∙ no_quit (number % 4) saved
 
--- and the last one
-pub last_plain : writes_files preserves.parsed ≡ false
-last_plain = refl
-
 pub last_writes_nothing : (request : Request) → IsRequest request preserves → writes_files (result_of request.parsed) ≡ false
 last_writes_nothing request is = ap writes_files is.parsed
 

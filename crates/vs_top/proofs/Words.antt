@@ -11,7 +11,3 @@ two_members (x ∷ y ∷ z ∷ xs) a b two first second = absurd (omega (arith, 
 -- two lists of two members that are the same have the same second one
 pub same_second : {A : Type 0} (a b c d : A) → a ∷ b ∷ [] ≡ c ∷ d ∷ [] → b ≡ d
 same_second {A} a b c d same = ap (λ (xs : List A). get_or xs 1 b) same
-
-pub is_not_false : (b : Bool) → false ≡ not b → true ≡ b
-is_not_false true is = refl
-is_not_false false is = absurd (true≢false (sym is))

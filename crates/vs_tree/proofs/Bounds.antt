@@ -57,9 +57,6 @@ slight_run new run n i is first few brief =
     let all : run ≡ map stored_line (take n new) = is ∙ ap (λ (k : ℕ). map stored_line (take n (drop k new))) first in
     omega (arith, ap space_of all, space_few new n few brief)
 
-pub slight_empty : (run : List (List ℕ)) → run ≡ [] ∷ [] → space_of run ≤ 4072
-slight_empty run is = omega (arith, ap space_of is, sum_by-cons (λ (line : List ℕ). length line + 5) [] [])
-
 -- the first of the lines that are taken out
 pub slight_at : (lines : List (List ℕ)) (at count : ℕ) → 0 < count → at < length lines → All FitsPage (run_of lines at count) → FitsPage (get_or lines at [])
 slight_at lines at count some within brief =
