@@ -1,5 +1,5 @@
 // Pages in memory beside the folder that counts their faults.
-ghost use Rattle.std.specs.Prelude.{◌≡◌, IsTrue};
+ghost use Rattle.std.specs.Prelude.{◌≡◌, IfSome, IsTrue, length, option_map};
 ghost use Rattle.vs_pages.specs.Changes.{KeepsAllMarks};
 ghost use Rattle.vs_pages.specs.Memory.{present_of, committed_of};
 ghost use Rattle.vs_pages.specs.MemoryLaws.{are_present, are_committed};
@@ -61,7 +61,11 @@ impl<'p, 'h, F: Folder> Pages for FolderPages<'p, 'h, F> {
         self.pages.load(alloc, at, pages, into)
     }
 
-    fn page(&self, at: u64) -> Option<&[u8]> {
+    // Each page is at hand.
+    fn page(&self, at: u64) -> Option<&[u8]>
+        ensures size { IfSome result (λ bytes. length bytes.now ≡ 4096) }
+        ensures lent { option_map (λ bytes. bytes.now) result ≡ present_of self.now.pages.now at }
+    {
         self.pages.page(at)
     }
 
@@ -71,6 +75,14 @@ impl<'p, 'h, F: Folder> Pages for FolderPages<'p, 'h, F> {
             return Err(PageErr::Failed);
         }
         self.pages.touch(alloc, at, pages, bytes)
+    }
+
+    fn put(&mut self, alloc: Global, at: u64, bytes: Vec<u8>) -> Result<(), PageErr> {
+        if !self.pages.has(at, 1) {
+            self.host.damaged();
+            return Err(PageErr::Failed);
+        }
+        self.pages.put(alloc, at, bytes)
     }
 
     fn patch(&mut self, alloc: Global, at: u64, from: usize, bytes: &[u8]) -> Result<(), PageErr> {

@@ -1,4 +1,5 @@
 pub mod KeptLemmas
+pub mod Lending
 pub mod MapsLemmas
 pub mod MarkLemmas
 pub mod MemoryLemmas

@@ -12,7 +12,7 @@ use Rattle.vs_pages.specs.declared.memory.MemPages.{MemPages}
 
 size_of : (place : Option Page) (bytes : List ℕ) → bytes_of place ≡ Some bytes → length bytes ≡ 4096
 size_of None bytes is = absurd (cc)
-size_of (Some page) bytes is = let same : page.bytes.value ≡ bytes = cc in sym (ap (λ (b : List ℕ). length b) same) ∙ page.size
+size_of (Some page) bytes is = let same : page.bytes.items ≡ bytes = cc in sym (ap (λ (b : List ℕ). length b) same) ∙ page.size
 
 end_of : (places : List (Option Page)) (k : ℕ) (bytes : List ℕ) → map_of places k ≡ Some bytes → k < length places
 end_of places k bytes is = elim (cases_lt k (length places)) [

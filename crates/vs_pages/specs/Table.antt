@@ -6,7 +6,7 @@ use Rattle.vs_pages.specs.declared.page.Page.{Page}
 -- the bytes at a place of the table
 abbrev pub bytes_of : Option Page → Option (List ℕ)
 bytes_of None = None
-bytes_of (Some page) = Some page.bytes.value
+bytes_of (Some page) = Some page.bytes.items
 
 -- the pages of a table, whose places are numbered from 0
 abbrev pub map_of : List (Option Page) → Map

@@ -1,5 +1,5 @@
 //! A store whose calls fail where a test wants them to.
-ghost use Rattle.std.specs.Prelude.{◌≡◌, ◌-◌, ◌↔◌, IsSome, IsErr, OnOk, OnErr, ⊤};
+ghost use Rattle.std.specs.Prelude.{◌≡◌, ◌-◌, ◌↔◌, None, IsSome, IsErr, OnOk, OnErr, ⊤};
 ghost use Rattle.vs_faults.specs.Faults.{HasCause};
 ghost use Rattle.vs_pages.specs.Maps.{pages_at};
 ghost use Rattle.vs_pages.specs.Memory.{present_of, committed_of};
@@ -13,8 +13,8 @@ use std::alloc::Global;
 /// With `TELLS` it promises its content, as [`MemPages`] does. Without it promises none, like a store over a device, and
 /// a call with pages that are not there fails too.
 ///
-/// The calls that may fail are `load`, `touch`, `patch`, `grow` and `free`. No page is lent, so each that is read is loaded. A call that fails changes no page and raises the count of
-/// faults.
+/// The calls that may fail are `load`, `touch`, `put`, `patch`, `grow` and `free`. No page is lent, so each that is read is
+/// loaded. A call that fails changes no page and raises the count of faults.
 #[derive(Drop)]
 pub struct FailingPages<const TELLS: bool> {
     /// The pages below.
@@ -107,9 +107,21 @@ impl<const TELLS: bool> Pages for FailingPages<TELLS> {
         self.pages.load(alloc, at, pages, into)
     }
 
+    // Each page that is read is loaded, so that the load may be the call that fails.
+    fn page(&self, _at: u64) -> Option<&[u8]>
+        ensures { result ≡ None }
+    {
+        None
+    }
+
     fn touch(&mut self, alloc: Global, at: u64, pages: u32, bytes: &[u8]) -> Result<(), PageErr> {
         self.count_call_on(at, pages)?;
         self.pages.touch(alloc, at, pages, bytes)
+    }
+
+    fn put(&mut self, alloc: Global, at: u64, bytes: Vec<u8>) -> Result<(), PageErr> {
+        self.count_call_on(at, 1)?;
+        self.pages.put(alloc, at, bytes)
     }
 
     fn patch(&mut self, alloc: Global, at: u64, from: usize, bytes: &[u8]) -> Result<(), PageErr> {

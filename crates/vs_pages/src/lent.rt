@@ -1,5 +1,5 @@
 // Pages in memory that were lent.
-ghost use Rattle.std.specs.Prelude.{◌≡◌, true, refl};
+ghost use Rattle.std.specs.Prelude.{◌≡◌, IfSome, true, refl, length, option_map};
 ghost use Rattle.std.proofs.Common.{◌∙◌};
 ghost use Rattle.vs_pages.specs.Memory.{present_of, committed_of};
 ghost use Rattle.vs_pages.specs.MemoryLaws.{are_present, are_committed};
@@ -41,12 +41,20 @@ impl<'p> Pages for LentPages<'p> {
         self.pages.load(alloc, at, pages, into)
     }
 
-    fn page(&self, at: u64) -> Option<&[u8]> {
+    // Each page is at hand.
+    fn page(&self, at: u64) -> Option<&[u8]>
+        ensures size { IfSome result (λ bytes. length bytes.now ≡ 4096) }
+        ensures lent { option_map (λ bytes. bytes.now) result ≡ present_of self.now.pages.now at }
+    {
         self.pages.page(at)
     }
 
     fn touch(&mut self, alloc: Global, at: u64, pages: u32, bytes: &[u8]) -> Result<(), PageErr> {
         self.pages.touch(alloc, at, pages, bytes)
+    }
+
+    fn put(&mut self, alloc: Global, at: u64, bytes: Vec<u8>) -> Result<(), PageErr> {
+        self.pages.put(alloc, at, bytes)
     }
 
     fn patch(&mut self, alloc: Global, at: u64, from: usize, bytes: &[u8]) -> Result<(), PageErr> {

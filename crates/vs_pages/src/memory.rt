@@ -41,7 +41,7 @@ pub struct MemPages {
 
 fn zero_pages(alloc: Global, pages: u32) -> Result<Vec<Page>, AllocError>
     ensures len { IfOk result (λ fresh. vec_len fresh ≡ pages) }
-    ensures zeros { IfOk result (λ fresh. All (λ page. page.bytes.value ≡ zeros 1) fresh.items) }
+    ensures zeros { IfOk result (λ fresh. All (λ page. page.bytes.items ≡ zeros 1) fresh.items) }
 {
     let mut fresh = Vec::with_capacity(alloc, pages as usize)?;
     for _ in 0..pages {
@@ -175,6 +175,29 @@ impl MemPages {
         self.table.replace(at, None)
     }
 
+    // Puts a page in place of another. That one is kept where it is a committed page that is not kept yet.
+    fn exchange_page(&mut self, at: u64, page: Page) -> Result<(), AllocError>
+        requires there { IsSome (present_of self.old at) }
+        ensures ok { OnOk result (present_of self.new ≡ put (present_of self.old) at (Some page.bytes.items)) }
+        ensures err { OnErr result (present_of self.new ≡ present_of self.old) }
+        ensures committed { committed_of self.new ≡ committed_of self.old }
+        ensures marks { MarksOnly at 1 self.old self.new }
+    {
+        if at >= self.committed || self.kept.contains_key(&at) {
+            self.set_page(at, Some(page));
+            return Ok(());
+        }
+        let was = self.table.replace(at, Some(page));
+        match self.kept.insert(at, was) {
+            Ok(_) => Ok(()),
+            Err(refused) => {
+                let (_, was) = refused.value;
+                self.table.set(at, was);
+                Err(AllocError)
+            }
+        }
+    }
+
     // Writes bytes over those of a page, from its byte `from` on.
     fn patch_page(&mut self, at: u64, from: usize, bytes: &[u8])
         requires there { IsSome (present_of self.old at) }
@@ -227,7 +250,7 @@ impl MemPages {
         requires within { at + pages ≤ length self.old.table.places.items }
         requires kept { AreKept self.old at pages }
         requires len { vec_len fresh ≡ pages }
-        requires zeros { All (λ page. page.bytes.value ≡ zeros 1) fresh.items }
+        requires zeros { All (λ page. page.bytes.items ≡ zeros 1) fresh.items }
         ensures { IsStep self.old self.new (put_pages (present_of self.old) at pages (zeros pages)) }
     {
         for i in 0..pages as u64 {

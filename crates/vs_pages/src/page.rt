@@ -8,38 +8,37 @@ use std::alloc::{AllocError, Global};
 
 #[derive(Drop)]
 pub struct Page {
-    pub bytes: Box<[u8; PAGE_SIZE]>,
-    ghost size: { length bytes.value ≡ 4096 },
+    pub bytes: Vec<u8>,
+    ghost size: { length bytes.items ≡ 4096 },
 }
 
 impl Page {
     pub fn zeros(alloc: Global) -> Result<Page, AllocError>
-        ensures { IfOk result (λ page. page.bytes.value ≡ zeros 1) }
+        ensures { IfOk result (λ page. page.bytes.items ≡ zeros 1) }
     {
-        let bytes = Box::new(alloc, [0; PAGE_SIZE])?;
+        let bytes = vec![in alloc; 0u8; PAGE_SIZE]?;
         Ok(Page { bytes })
     }
 
     pub fn of(alloc: Global, from: &[u8]) -> Result<Page, AllocError>
         requires { length from.now ≡ 4096 }
-        ensures { IfOk result (λ page. page.bytes.value ≡ from.now) }
+        ensures { IfOk result (λ page. page.bytes.items ≡ from.now) }
     {
-        let mut page = Page::zeros(alloc)?;
-        page.bytes.copy_from_slice(from);
-        Ok(page)
+        let bytes = Vec::from_slice(alloc, from)?;
+        Ok(Page { bytes })
     }
 
     // Writes bytes over those from byte `from` on.
     pub fn patch(&mut self, from: usize, bytes: &[u8])
         requires { from + length bytes.now ≤ 4096 }
-        ensures { self.new.bytes.value ≡ with_field self.old.bytes.value from bytes.now }
+        ensures { self.new.bytes.items ≡ with_field self.old.bytes.items from bytes.now }
     {
         self.bytes[from..from + bytes.len()].copy_from_slice(bytes);
     }
 
     pub fn as_slice(&self) -> &[u8]
-        ensures { result.now ≡ self.now.bytes.value }
+        ensures { result.now ≡ self.now.bytes.items }
     {
-        &self.bytes[..]
+        &self.bytes
     }
 }

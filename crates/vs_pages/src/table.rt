@@ -41,7 +41,7 @@ impl Table {
 
     // The page at a place, if there is one.
     pub fn page(&self, at: u64) -> Option<&Page>
-        ensures { option_map (λ page. page.now.bytes.value) result ≡ map_of self.now.places.items at }
+        ensures { option_map (λ page. page.now.bytes.items) result ≡ map_of self.now.places.items at }
     {
         self.places.get(at as usize)?.as_ref()
     }

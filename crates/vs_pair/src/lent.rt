@@ -1,5 +1,5 @@
 // The pages of a pair as a store of pages.
-ghost use Rattle.std.specs.Prelude.{◌≡◌, IsTrue};
+ghost use Rattle.std.specs.Prelude.{◌≡◌, IfSome, IsTrue, length, option_map};
 ghost use Rattle.vs_pages.specs.Memory.{present_of, committed_of};
 ghost use Rattle.vs_pages.specs.MemoryLaws.{are_present, are_committed};
 ghost use Rattle.vs_pair.specs.Lent.{IsReady, KeepsFiles};
@@ -63,7 +63,11 @@ impl<'p, 'h, F: Folder> Pages for PairPages<'p, 'h, F> {
         self.pair.pages.load(alloc, at, pages, into)
     }
 
-    fn page(&self, at: u64) -> Option<&[u8]> {
+    // Each page is at hand.
+    fn page(&self, at: u64) -> Option<&[u8]>
+        ensures size { IfSome result (λ bytes. length bytes.now ≡ 4096) }
+        ensures lent { option_map (λ bytes. bytes.now) result ≡ present_of self.now.pair.now.pages at }
+    {
         self.pair.pages.page(at)
     }
 
@@ -73,6 +77,14 @@ impl<'p, 'h, F: Folder> Pages for PairPages<'p, 'h, F> {
             return Err(PageErr::Failed);
         }
         self.pair.pages.touch(alloc, at, pages, bytes)
+    }
+
+    fn put(&mut self, alloc: Global, at: u64, bytes: Vec<u8>) -> Result<(), PageErr> {
+        if !self.pair.pages.has(at, 1) {
+            self.host.damaged();
+            return Err(PageErr::Failed);
+        }
+        self.pair.pages.put(alloc, at, bytes)
     }
 
     fn patch(&mut self, alloc: Global, at: u64, from: usize, bytes: &[u8]) -> Result<(), PageErr> {

@@ -248,6 +248,23 @@ fn lends_what_was_written_over(rt: HostRuntime) -> Result<(), Fail> {
     Ok(())
 }
 
+#[test]
+fn gives_back_what_was_put(rt: HostRuntime) -> Result<(), Fail> {
+    let alloc = rt.alloc();
+    let mut store = MemPages::new(alloc)?;
+    for (byte, before) in [(6, 0), (7, 6)] {
+        if store.has(1, 1) {
+            store.put(alloc, 1, filled(alloc, 1, byte)?)?;
+        }
+        assert!(rt; lent_end(&store, 1) == Some([byte; 3]));
+        store.rollback();
+        assert!(rt; lent_end(&store, 1) == Some([before; 3]));
+        fill_page(&mut store, alloc, 1, byte)?;
+        store.commit();
+    }
+    Ok(())
+}
+
 // Writes pages and reads them back into the buffer.
 fn write_and_load<P: Pages>(
     store: &mut P,
@@ -319,6 +336,7 @@ fn rehearses_on_each_store(rt: HostRuntime) -> Result<(), Fail> {
 fn each_kind(store: &mut FailingPages<false>, alloc: Global) -> Result<(), PageErr> {
     let bytes = filled(alloc, 1, 9)?;
     store.touch(alloc, 1, 1, &bytes)?;
+    store.put(alloc, 1, filled(alloc, 1, 4)?)?;
     store.patch(alloc, 1, PAGE_SIZE - 1, &[5])?;
     store.load(alloc, 1, 1, &mut Vec::new(alloc))?;
     let at = store.grow(alloc, 1)?;
@@ -341,7 +359,14 @@ fn seen_after(
 fn fails_at_the_chosen_call(rt: HostRuntime) -> Result<(), Fail> {
     let alloc = rt.alloc();
     let mut store = FailingPages::<false>::new(MemPages::new(alloc)?);
-    for (call, byte, count) in [(1, 0, 3), (2, 9, 3), (3, 5, 3), (4, 5, 3), (5, 5, 4)] {
+    for (call, byte, count) in [
+        (1, 0, 3),
+        (2, 9, 3),
+        (3, 4, 3),
+        (4, 5, 3),
+        (5, 5, 3),
+        (6, 5, 4),
+    ] {
         let seen = seen_after(&mut store, alloc, call)?;
         assert!(rt; seen == (Err(PageErr::Failed), Some(byte), count, call));
         store.rollback();
@@ -349,6 +374,6 @@ fn fails_at_the_chosen_call(rt: HostRuntime) -> Result<(), Fail> {
     each_kind(&mut store, alloc)?;
     assert!(rt; store.free(alloc, 2, 2) == Err(PageErr::Failed));
     store.damaged();
-    assert!(rt; store.faults == 7);
+    assert!(rt; store.faults == 8);
     Ok(())
 }

@@ -52,14 +52,12 @@ fn remove_lines<P: Pages>(
         });
     }
     let left = without_lines(page, at, count);
-    let entries = write_whole(alloc, pages, block, &left)?;
-    Ok(Edited {
-        entries,
-        removed: Removed {
-            lines: u64::from(count),
-            bytes: u64::from(left.view.text_start) - u64::from(view.text_start),
-        },
-    })
+    let removed = Removed {
+        lines: u64::from(count),
+        bytes: u64::from(left.view.text_start) - u64::from(view.text_start),
+    };
+    let entries = write_whole(alloc, pages, block, left)?;
+    Ok(Edited { entries, removed })
 }
 
 // All lines of a data block.

@@ -43,19 +43,19 @@ pub fn write_whole<P: Pages>(
     alloc: Global,
     pages: &mut P,
     block: u64,
-    page: &Page,
+    page: Page,
 ) -> Result<Vec<Entry>, PageErr>
     requires valid { P.valid pages.old }
     requires there { IsThere P.Pages pages.old block }
     requires block { block < 2 ^ 63 }
-    requires page { IsBlock page.now }
-    ensures wrote { IfOk result (λ entries. Writes P.Pages pages.old pages.new block (page_lines page.now ∷ []) entries.items) }
+    requires page { IsBlock page }
+    ensures wrote { IfOk result (λ entries. Writes P.Pages pages.old pages.new block (page_lines page ∷ []) entries.items) }
     ensures differs { OnOk result (Touches P.Pages pages.old pages.new 1) }
     ensures kept { Continues P.Pages pages.old pages.new }
     ensures cause { HasCause (P.shows pages.old).faults (P.shows pages.new).faults (IsErrOf result PageErr.Failed) }
 {
-    pages.touch(alloc, block, 1, &page.bytes)?;
     let whole = page.entry(block);
+    pages.put(alloc, block, page.bytes)?;
     Ok(vec![in alloc; whole]?)
 }
 
@@ -113,5 +113,5 @@ pub fn put_run<P: Pages>(
         return put_split(alloc, pages, block, page, at, run);
     }
     let whole = run.put_into(page, at);
-    write_whole(alloc, pages, block, &whole)
+    write_whole(alloc, pages, block, whole)
 }

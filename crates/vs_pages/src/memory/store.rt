@@ -7,6 +7,7 @@ ghost use Rattle.vs_pages.specs.Changes.{state_of, GoesOn, KeepsAllMarks, MarksO
 ghost use Rattle.vs_pages.specs.MemoryLaws.{are_present, are_committed};
 
 use super::MemPages;
+use crate::page::Page;
 use crate::{PageErr, Pages};
 use std::alloc::Global;
 
@@ -65,6 +66,19 @@ impl Pages for MemPages {
     {
         self.keep_pages(alloc, at, pages)?;
         self.write_pages(at, pages, bytes);
+        Ok(())
+    }
+
+    fn put(&mut self, _alloc: Global, at: u64, bytes: Vec<u8>) -> Result<(), PageErr>
+        requires there { IsSome (pages_at (present_of self.old) at 1) }
+        requires size { length bytes.items ≡ 4096 }
+        ensures ok { OnOk result (present_of self.new ≡ put_pages (present_of self.old) at 1 bytes.items) }
+        ensures err { OnErr result (present_of self.new ≡ present_of self.old) }
+        ensures kept { GoesOn self.old self.new }
+        ensures cause { HasCause 0 0 (IsErrOf result PageErr.Failed) }
+        ensures marks { MarksOnly at 1 self.old self.new }
+    {
+        self.exchange_page(at, Page { bytes })?;
         Ok(())
     }
 

@@ -6,5 +6,5 @@ use Rattle.vs_pages.proofs.memory.zero_pages.Given as goal
 abbrev pub invariant-loop : goal.invariant-loop
 invariant-loop l = record {
   len : length l.fresh.items ≡ l.counter;
-  zero : All (λ page. page.bytes.value ≡ zeros 1) l.fresh.items;
+  zero : All (λ page. page.bytes.items ≡ zeros 1) l.fresh.items;
 }

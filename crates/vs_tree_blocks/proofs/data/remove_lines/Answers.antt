@@ -29,8 +29,8 @@ returns-then-count-view-clause-bytes g c =
     let all = take_all lines c.args.at c.args.count (omega (arith, t.count, c.requires.within)) (omega (arith, t.count, c.if-count-view.true)) in
     omega (arith, text_bytes c.args.page.bytes.items c.args.page.view lines c.requires.page.view_is t.lines_are, ap bytes_of all, ap (λ (gone : Removed). gone.bytes) c.text_of.ensures)
 
-pub overflow_sub-result : goal.overflow_sub-result
-overflow_sub-result g c =
+pub overflow_sub-removed : goal.overflow_sub-removed
+overflow_sub-removed g c =
     let t = told c.args.page.bytes.items c.args.page.view c.requires.page.view_is in
     let lines = t.lines_are in
     let now = lines_after (lines_in c.args.page.bytes.items) (lines_in c.without_lines-left.result.bytes.items) (λ xs. splice xs c.args.at c.args.count []) (lines_within c.args.page.bytes.items) lines c.without_lines-left.ensures.lines in

@@ -19,7 +19,7 @@ unreachable-requires c =
 
 pub loop-i-preserved : goal.loop-i-preserved
 loop-i-preserved c =
-    let page = c.in-Some.page.now.bytes.value in
+    let page = c.in-Some.page.now.bytes.items in
     let more : c.extend_from_slice.new.self.items ≡ c.loop-i.into.items ++ page = c.in_ok-extend_from_slice.ensures.items ∙ ap (λ bytes. c.loop-i.into.items ++ bytes) c.as_slice.ensures in
     ap (λ read. joined (Some read) (pages_at (present_of c.args.self.now) (c.args.at + (c.loop-i.i + 1)) (c.args.pages - (c.loop-i.i + 1)))) more
     ∙ rest-read (present_of c.args.self.now) c.args.at c.loop-i.i c.args.pages c.loop-i.into.items page (pages_at (present_of c.args.self.now) c.args.at c.args.pages) c.loop-i-test.true (sym c.in-Some.ensures) c.loop-i.invariant

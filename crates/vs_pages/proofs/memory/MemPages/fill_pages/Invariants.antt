@@ -8,6 +8,6 @@ abbrev pub invariant-loop-i : goal.invariant-loop-i
 invariant-loop-i l = record {
   step : IsStep l.initial.self l.self (present_of l.self);
   fresh : length l.fresh.items + l.i ≡ l.pages;
-  zero : All (λ page. page.bytes.value ≡ zeros 1) l.fresh.items;
+  zero : All (λ page. page.bytes.items ≡ zeros 1) l.fresh.items;
   rest : put_pages (present_of l.self) (l.at + l.i) (l.pages - l.i) (zeros (l.pages - l.i)) ≡ put_pages (present_of l.initial.self) l.at l.pages (zeros l.pages);
 }
