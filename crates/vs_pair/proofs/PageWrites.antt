@@ -2,7 +2,7 @@
 use Rattle.std.proofs.Common.{◌≡◌, ◌⊎◌, inl, inr, ℕ, ◌+◌, ◌-◌, ◌*◌, ◌<◌, ◌≤◌, max, false, List, ◌++◌, length, take, drop, Option, Some, None, IsSome, refl, sym, ◌∙◌, ap, subst, arith, length-append, length-take, length-drop}
 use Rattle.std.proofs.lemmas.Bool.{cases_lt, true≢false}
 use Rattle.std.proofs.lemmas.Bool.Decides.{nat_tests}
-use Rattle.std.proofs.lemmas.List.{take_at, drop_at, take-take, drop-drop, drop-take, take-append-le}
+use Rattle.std.proofs.lemmas.List.{take_all, take_at, drop_at, take-take, drop-drop, drop-take, take-append-le}
 use Rattle.vs_host.specs.File.{File, IsFileImage, WritesSome, Writes, Syncs, put, synced_file}
 use Rattle.vs_host.specs.Disk.{Disk, Name, ChangesFile, names_of}
 use Rattle.vs_disk.specs.Images.{FileHas, MaySync}
@@ -179,6 +179,16 @@ page_cut run page size n k is room less there =
 -- the front of a run
 pub run_cut : (map : Map) (at n size : ℕ) (run : List ℕ) → size ≡ 4096 * n → size ≤ length run → HasRun map at n run → HasRun map at n (take size run)
 run_cut map at n size run is room has k less = page_cut run (page_or_zeros (map (at + k))) size n k is room less (has k less)
+
+-- a page alone
+pub run_alone : (map : Map) (at : ℕ) (page : List ℕ) → length page ≡ 4096 → page ≡ page_or_zeros (map at) → HasRun map at 1 page
+run_alone map at page size is k less =
+    let first : k ≡ 0 = omega (arith, less) in
+    page_is page k (omega (arith, size, first))
+    ∙ ap (λ (j : ℕ). Some (take 4096 (drop (4096 * j) page))) first
+    ∙ ap (λ (p : List ℕ). Some p) (take_all 4096 page (omega (arith, size)))
+    ∙ ap (λ (p : List ℕ). Some p) is
+    ∙ ap (λ (j : ℕ). Some (page_or_zeros (map j))) (omega (arith, first))
 
 begins : (first : List ℕ) (pages : MemPages) (has : Written) (piece : List ℕ) → piece ≡ drop 2 first → length piece ≡ 4094 → (a b : File) → HasFresh pages has a.bytes → Writes 2 piece a b → IsSoFar first pages has a.bytes 1 b.bytes
 begins first pages has piece is whole a b fresh writes =

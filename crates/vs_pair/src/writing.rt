@@ -77,6 +77,21 @@ fn fill_run(pages: &MemPages, at: u64, count: u64, run: &mut [u8])
     }
 }
 
+// The pages from this number on as one piece, with zeros for each number that has none. A page alone is lent as it is, and several
+// are copied into the run.
+fn run_bytes<'r>(pages: &'r MemPages, at: u64, count: u64, run: &'r mut [u8]) -> &'r [u8]
+    requires numbers { at + count ≤ 2 ^ 40 }
+    requires room { 4096 * count ≤ length run.old }
+    ensures size { length result.now ≡ 4096 * count }
+    ensures pages { HasRun (committed_of pages.now) at count result.now }
+{
+    if count == 1 {
+        return page_or_zeros(pages, at);
+    }
+    fill_run(pages, at, count, run);
+    &run[..count as usize * PAGE_SIZE]
+}
+
 // Writes the rest of page 0 after its identifier, and in runs the pages that may differ in the file, and syncs it.
 pub(crate) fn write_pages<F: Folder>(
     host: &mut F,
@@ -102,9 +117,8 @@ pub(crate) fn write_pages<F: Folder>(
     let mut at = next_stale(pages, written, 1, end);
     'runs: while at < end {
         let count = stale_run(pages, written, at, end);
-        fill_run(pages, at, count, &mut run);
-        let size = count as usize * PAGE_SIZE;
-        host.write_at(name, at * PAGE_SIZE as u64, &run[..size])?;
+        let bytes = run_bytes(pages, at, count, &mut run);
+        host.write_at(name, at * PAGE_SIZE as u64, bytes)?;
         at = next_stale(pages, written, at + count, end);
     }
     host.sync(name)

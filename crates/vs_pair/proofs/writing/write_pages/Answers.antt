@@ -1,12 +1,11 @@
-use Rattle.std.proofs.Common.{◌≤◌, ◌+◌, ◌*◌, length, drop, refl, arith, length-drop, length-take}
+use Rattle.std.proofs.Common.{◌+◌, drop, refl, arith, length-drop}
 use Rattle.std.proofs.lemmas.List.{take_all}
 use Rattle.std.proofs.lemmas.Result.{on_ok_weaker}
 use Rattle.vs_host.specs.Trace.{Wrote, Synced}
-use Rattle.vs_pages.specs.Memory.{committed_of}
 use Rattle.vs_pair.specs.Swap.{KeepsMark}
 use Rattle.vs_disk.proofs.Quiet.{none_call, none_then, calls_one, calls_then, calls_within}
 use Rattle.vs_pair.proofs.Calls.{write_acts, sync_acts, acts_file, there_and, is_there}
-use Rattle.vs_pair.proofs.PageWrites.{keeps_joins, write_after, sync_after, has_first, has_passed, has_more, has_all, next_place, run_cut}
+use Rattle.vs_pair.proofs.PageWrites.{keeps_joins, write_after, sync_after, has_first, has_passed, has_more, has_all, next_place}
 use Rattle.vs_pair.specs.Stale.{stale_below}
 use Rattle.vs_pair.proofs.Bounds.{stale_up_to, one_more, least_end}
 use Rattle.vs_pair.proofs.writing.write_pages.Goals as goal
@@ -60,11 +59,10 @@ runs-preserved g c = record {
   none = none_then g.F.World.tells _ _ _ c.runs.invariant.none
       (none_call g.F.World.tells Wrote _ c.write_at-in-runs.result _ _ c.write_at-in-runs.ensures.frame c.write_at-in-runs.ensures.told c.in_ok-write_at-2.ensures.quiet);
   so_far = λ told.
-      let room : c.stale_run-count.result * 4096 ≤ length c.fill_run.new.run = omega (arith, c.fill_run.ensures.size, c.stale_run-count.ensures.most) in
       has_passed c.args.name.now c.args.first.now c.args.pages.now c.args.written.now (c.runs.at + c.stale_run-count.result) c.next_stale-at-in-runs.result (omega (arith, c.runs.invariant.some)) c.next_stale-at-in-runs.ensures.later
       c.next_stale-at-in-runs.ensures.passed _ _
-      (has_more c.args.name.now c.args.first.now c.args.pages.now c.args.written.now _ _ c.runs.at c.stale_run-count.result c.runs.invariant.some (omega arith) (omega (arith, room, length-take (c.stale_run-count.result * 4096) c.fill_run.new.run))
-      (run_cut (committed_of c.args.pages.now) c.runs.at c.stale_run-count.result (c.stale_run-count.result * 4096) c.fill_run.new.run (omega arith) room c.fill_run.ensures.pages) _ _ _ (c.runs.invariant.so_far told) (c.in_ok-write_at-2.ensures.ok told));
+      (has_more c.args.name.now c.args.first.now c.args.pages.now c.args.written.now _ _ c.runs.at c.stale_run-count.result c.runs.invariant.some (omega arith) c.run_bytes-bytes.ensures.size
+      c.run_bytes-bytes.ensures.pages _ _ _ (c.runs.invariant.so_far told) (c.in_ok-write_at-2.ensures.ok told));
 }
 
 pub returns-clause-acts : goal.returns-clause-acts
