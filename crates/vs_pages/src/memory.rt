@@ -19,7 +19,7 @@ const MOST_PAGES: u64 = 1 << 40;
 
 /// A store that keeps all pages in memory.
 ///
-/// The first change of a committed page keeps a copy of it until the next commit, and a page that came since is not kept.
+/// The first change of a committed page keeps the page as it was until the next commit, and a page that came since is not kept.
 /// So the store takes at most twice the memory of the pages that were committed, and a commit and a rollback take none.
 ///
 /// A commit marks each page that it may have changed with a number. So a caller whose numbers grow from commit to commit can
