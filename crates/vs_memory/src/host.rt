@@ -20,7 +20,6 @@ pub struct PutFile {
 }
 
 /// A host in memory, which tells all of its scene.
-#[derive(Drop)]
 pub struct MemHost {
     pub(crate) alloc: Global,
     pub(crate) script: Vec<u8>,
@@ -37,6 +36,29 @@ pub struct MemHost {
     pub(crate) script_faults: u64,
     pub(crate) out_faults: u64,
     pub(crate) folder_faults: u64,
+}
+
+// A value with much in it is dropped by a call.
+impl Drop for MemHost {
+    fn drop(self) {
+        let MemHost {
+            alloc: _,
+            script: _,
+            script_at: _,
+            output: _,
+            base: _,
+            log: _,
+            folder: _,
+            clock: _,
+            answers: _,
+            calls: _,
+            failing: _,
+            stop: _,
+            script_faults: _,
+            out_faults: _,
+            folder_faults: _,
+        } = self;
+    }
 }
 
 impl Model for MemHost {

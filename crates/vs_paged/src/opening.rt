@@ -27,10 +27,16 @@ use vs_tree::{LineTree, TreeStore};
 
 /// A text that is read, piece by piece, into the pages of a pair, seen as the name of its file and the lines so far. It has made
 /// no file yet.
-#[derive(Drop)]
 pub struct OpeningText {
     tree: LineTree,
     pair: SwapPair,
+}
+
+// A value with much in it is dropped by a call.
+impl Drop for OpeningText {
+    fn drop(self) {
+        let OpeningText { tree: _, pair: _ } = self;
+    }
 }
 
 impl Model for OpeningText {

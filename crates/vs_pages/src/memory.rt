@@ -24,7 +24,6 @@ const MOST_PAGES: u64 = 1 << 40;
 ///
 /// A commit marks each page that it may have changed with a number. So a caller whose numbers grow from commit to commit can
 /// tell which committed pages may differ from those of an earlier commit.
-#[derive(Drop)]
 pub struct MemPages {
     table: Table,
     // What places had at the last commit, for each one that may have changed since.
@@ -37,6 +36,13 @@ pub struct MemPages {
     ghost within: { committed ≤ length table.places.items },
     ghost kept_within: { (k : ℕ) → IsSome (get nat_cmp kept k) → k < committed },
     ghost marked: { length table.places.items ≤ vec_len marks },
+}
+
+// A value with much in it is dropped by a call.
+impl Drop for MemPages {
+    fn drop(self) {
+        let MemPages { table: _, kept: _, committed: _, vacant: _, marks: _ } = self;
+    }
 }
 
 fn zero_pages(alloc: Global, pages: u32) -> Result<Vec<Page>, AllocError>

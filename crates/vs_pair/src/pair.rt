@@ -22,12 +22,18 @@ use vs_pages::MemPages;
 
 /// The pages of a session, and the two swap files that keep them. The files are synced in turn: while one is written, the other
 /// one stands.
-#[derive(Drop)]
 pub struct SwapPair {
     /// The pages, which a text may be put into before the start.
     pub pages: MemPages,
     /// What is known of the files, by their names.
     pub files: SwapFiles,
+}
+
+// A value with much in it is dropped by a call.
+impl Drop for SwapPair {
+    fn drop(self) {
+        let SwapPair { pages: _, files: _ } = self;
+    }
 }
 
 impl SwapPair {

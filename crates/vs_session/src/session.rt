@@ -3,6 +3,8 @@ ghost use Rattle.std.specs.Prelude.{◌≡◌, ◌<◌, ◌≤◌, length, strin
 ghost use Rattle.vs_host.specs.Names.{names_of_file};
 ghost use Rattle.vs_paged.specs.Fits.{names_of};
 
+use crate::ending::End;
+use vs_host::{Failed, Host};
 use vs_machine::{Mark, Reply, UndoTree};
 use vs_options::Options;
 use vs_paged::PagedText;
@@ -11,7 +13,6 @@ use vs_paged::PagedText;
 pub(crate) const STEPS_BETWEEN_SYNCS: u64 = 200;
 
 /// A file that was opened, with its swap files: the text, the line of the cursor, and the undo tree.
-#[derive(Drop)]
 pub struct Session {
     pub(crate) name: String,
     // The numbers of lines and bytes of the file, where it was there.
@@ -32,6 +33,23 @@ pub struct Session {
     ghost few_syncs: { acknowledged < text.pair.files.generation },
 }
 
+// A value with much in it is dropped by a call: a derived drop would stand, field by field, at each end of each function that holds one.
+impl Drop for Session {
+    fn drop(self) {
+        let Session {
+            name: _,
+            found: _,
+            text: _,
+            cursor: _,
+            history: _,
+            saved: _,
+            steps: _,
+            acknowledged: _,
+            options: _,
+        } = self;
+    }
+}
+
 /// The answer to one command.
 #[derive(Drop)]
 pub enum Step {
@@ -39,4 +57,39 @@ pub enum Step {
     Answer { mark: Mark, reply: Reply },
     /// `q` or `q!` was accepted. Nothing has changed.
     Quit,
+}
+
+impl Session {
+    ghost use Rattle.std.specs.Prelude.{◌<◌, ◌^◌, is_ok};
+    ghost use Rattle.vs_session.specs.Calls.{Finishes, FitsFolder};
+    ghost use Rattle.vs_session.specs.Fits.{generation_of};
+
+    /// Ends the session as `how` says. After an error the swap files that are left stay, and the session is gone all the same. It
+    /// takes no memory.
+    pub fn finish<H: Host>(self, host: &mut H, how: End) -> Result<(), Failed>
+        requires room { generation_of self < 2 ^ 63 }
+        requires fits { FitsFolder H.tells self (H.scene host.old).folder }
+        ensures { Finishes H.tells self (H.scene host.old) (H.scene host.new) how (is_ok result) }
+    {
+        match how {
+            End::Sync => {
+                let mut session = self;
+                session.sync(host)
+            }
+            End::Quit => {
+                let Session {
+                    name: _,
+                    found: _,
+                    text,
+                    cursor: _,
+                    history: _,
+                    saved: _,
+                    steps: _,
+                    acknowledged: _,
+                    options: _,
+                } = self;
+                text.end(host)
+            }
+        }
+    }
 }

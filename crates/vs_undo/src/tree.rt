@@ -27,12 +27,18 @@ use vs_entries::Entry;
 ///
 /// The tree keeps for each change the entries that lead from a state to the next one, and no text. Its calls that move are
 /// lent the text of the current state.
-#[derive(Drop)]
 pub struct UndoTree {
     parts: Parts,
     // Each state on the way of the current one is known to be the child last used of its parent, so a move writes no link above the
     // state where it turns.
     settled: bool,
+}
+
+// A value with much in it is dropped by a call.
+impl Drop for UndoTree {
+    fn drop(self) {
+        let UndoTree { parts: _, settled: _ } = self;
+    }
 }
 
 impl Model for UndoTree {
