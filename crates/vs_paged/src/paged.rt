@@ -7,16 +7,10 @@ use vs_tree::LineTree;
 
 /// A text that stands as a tree of blocks in the pages of a pair of swap files, which were made. As a store of lines it is a
 /// `TreeStore` over `PairPages`, to which tree and pair are lent; each change is then committed, or it is taken back.
+#[derive(Drop)]
 pub struct PagedText {
     pub tree: LineTree,
     pub pair: SwapPair,
     ghost bounded: { IsBounded tree },
     ghost started: { 2 ≤ pair.files.generation },
-}
-
-// A value with much in it is dropped by a call.
-impl Drop for PagedText {
-    fn drop(self) {
-        let PagedText { tree: _, pair: _ } = self;
-    }
 }

@@ -41,7 +41,13 @@ pub struct MemPages {
 // A value with much in it is dropped by a call.
 impl Drop for MemPages {
     fn drop(self) {
-        let MemPages { table: _, kept: _, committed: _, vacant: _, marks: _ } = self;
+        let MemPages {
+            table: _,
+            kept: _,
+            committed: _,
+            vacant: _,
+            marks: _,
+        } = self;
     }
 }
 

@@ -1,6 +1,5 @@
 // The end of a session.
 
-
 /// How a session ends.
 #[derive(Clone, Copy, Debug, PartialEq, Eq, Drop)]
 pub enum End {

@@ -37,7 +37,10 @@ pub struct UndoTree {
 // A value with much in it is dropped by a call.
 impl Drop for UndoTree {
     fn drop(self) {
-        let UndoTree { parts: _, settled: _ } = self;
+        let UndoTree {
+            parts: _,
+            settled: _,
+        } = self;
     }
 }
 
