@@ -1,6 +1,33 @@
-// What is shown for `--help` and `--version`.
+// What is shown for `-h`, `--help` and `--version`.
 use std::io::Write;
 use vs_top::Ending;
+
+const SCREEN: &str = "\
+Usage: levertaupe edit NAME < SCRIPT    answer a script over the file NAME
+       levertaupe recover NAME > FILE   write the text of its swap files
+       levertaupe info NAME             say what its swap files are
+       levertaupe discard NAME          remove its swap files
+       levertaupe stress N              try the program with N commands
+       levertaupe -h                    show this screen
+       levertaupe --help                show all commands and exit statuses
+       levertaupe -V | --version        show the version
+
+NAME is a file of the current folder. A script has one Ex command on a line:
+  a i c        put in the lines that follow, up to a line `.`
+  d m co t j   delete, move, copy and join lines
+  s/\\V../../g  replace a literal text
+  p nu =       print lines, and their numbers
+  u red        undo and redo; ea, lat and undol go through all states
+  w set        write the file; set its options
+  wundo rundo  store the history as the undo file; take it back
+  pre q        sync the text into a swap file; quit
+
+Example:
+  $ printf 'a\\nb\\n' > f
+  $ printf '1a\\nx\\n.\\nw\\nq\\n' | levertaupe edit f
+
+Exit status 0: all was done; 1: a reply is an error. See levertaupe(1).
+";
 
 const HELP: &str = "\
 Usage: levertaupe edit NAME < SCRIPT
@@ -82,7 +109,8 @@ const VERSION: &str = "levertaupe 0.1.0\n";
 /// What is shown for an argument that stands alone.
 pub fn text_for(argument: &str) -> Option<&'static str> {
     match argument {
-        "-h" | "--help" => Some(HELP),
+        "-h" => Some(SCREEN),
+        "--help" => Some(HELP),
         "-V" | "--version" => Some(VERSION),
         _ => None,
     }
