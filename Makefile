@@ -1,9 +1,9 @@
-# Builds, tests and installs the program. The work is done by tools/build, tests/run and tools/install.
+# Builds, tests, installs and packs the program. The work is done by tools/build, tests/run, tools/install and tools/package.
 PREFIX = /usr/local
 DESTDIR =
 PROGRAM = crates/vs_main/out/vs_main
 
-.PHONY: all test install uninstall
+.PHONY: all test install uninstall deb dist
 
 all:
 	tools/build
@@ -17,3 +17,7 @@ install:
 uninstall:
 	rm -f '$(DESTDIR)$(PREFIX)/bin/levertaupe' '$(DESTDIR)$(PREFIX)/share/man/man1/levertaupe.1' \
 		'$(DESTDIR)$(PREFIX)/share/bash-completion/completions/levertaupe'
+	rm -rf '$(DESTDIR)$(PREFIX)/share/doc/levertaupe'
+
+deb dist:
+	tools/package $@ --program '$(PROGRAM)'
