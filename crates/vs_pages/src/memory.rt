@@ -7,7 +7,7 @@ ghost use Rattle.vs_pages.specs.Table.{bytes_of};
 
 mod store;
 
-use crate::page::Page;
+use crate::page::{Page, zero_pages};
 use crate::table::Table;
 use crate::vacant::Vacant;
 use crate::{PAGE_SIZE, PageErr};
@@ -49,17 +49,6 @@ impl Drop for MemPages {
             marks: _,
         } = self;
     }
-}
-
-fn zero_pages(alloc: Global, pages: u32) -> Result<Vec<Page>, AllocError>
-    ensures len { IfOk result (λ fresh. vec_len fresh ≡ pages) }
-    ensures zeros { IfOk result (λ fresh. All (λ page. page.bytes.items ≡ zeros 1) fresh.items) }
-{
-    let mut fresh = Vec::with_capacity(alloc, pages as usize)?;
-    for _ in 0..pages {
-        fresh.push(Page::zeros(alloc)?)?;
-    }
-    Ok(fresh)
 }
 
 impl MemPages {

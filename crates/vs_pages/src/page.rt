@@ -1,5 +1,5 @@
 // One page in memory.
-ghost use Rattle.std.specs.Prelude.{◌≡◌, ◌+◌, ◌≤◌, IfOk, length};
+ghost use Rattle.std.specs.Prelude.{◌≡◌, ◌+◌, ◌≤◌, All, IfOk, length, vec_len};
 ghost use Rattle.vs_bytes.specs.Fields.{with_field};
 ghost use Rattle.vs_pages.specs.Maps.{zeros};
 
@@ -41,4 +41,16 @@ impl Page {
     {
         &self.bytes
     }
+}
+
+// So many pages of zeros.
+pub fn zero_pages(alloc: Global, pages: u32) -> Result<Vec<Page>, AllocError>
+    ensures len { IfOk result (λ fresh. vec_len fresh ≡ pages) }
+    ensures zeros { IfOk result (λ fresh. All (λ page. page.bytes.items ≡ zeros 1) fresh.items) }
+{
+    let mut fresh = Vec::with_capacity(alloc, pages as usize)?;
+    for _ in 0..pages {
+        fresh.push(Page::zeros(alloc)?)?;
+    }
+    Ok(fresh)
 }

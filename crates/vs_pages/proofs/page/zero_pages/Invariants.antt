@@ -1,7 +1,7 @@
 use Rattle.std.proofs.Common.{◌≡◌, length}
 use Rattle.std.specs.List.{All}
 use Rattle.vs_pages.specs.Maps.{zeros}
-use Rattle.vs_pages.proofs.memory.zero_pages.Given as goal
+use Rattle.vs_pages.proofs.page.zero_pages.Given as goal
 
 abbrev pub invariant-loop : goal.invariant-loop
 invariant-loop l = record {
