@@ -1,12 +1,20 @@
 -- What the calls before left of the text, put together.
-use Rattle.std.proofs.Common.{◌≡◌, ◌≤◌, length, max, sym, ap, subst, ◌∙◌, arith, nat_eq, All}
+use Rattle.std.proofs.Common.{◌≡◌, ◌≤◌, ℕ, length, max, sym, ap, subst, ◌∙◌, arith, rules, nat_eq, All}
+use Rattle.vs_faults.proofs.Causes.{risen_after}
 use Rattle.vs_text.specs.Text.{bytes_of}
 use Rattle.vs_text.specs.Limits.{IsShort}
 use Rattle.vs_text.specs.declared.TheConstants.{MAX_LINES}
 use Rattle.vs_edit.specs.Splices.{splice, cut_out}
+use Rattle.vs_edit.specs.State.{StoreState, KeepsCommitted, KeepsTexts}
+use Rattle.vs_edit.proofs.Steps.{Continues-trans}
 use Rattle.vs_entries.specs.Entries.{filled, settled, range_in, count_after, has_no_lines, Fits}
 use Rattle.vs_entries.proofs.EntryLemmas.{length-filled, bare_is, bytes_of-settled}
 use Rattle.vs_entries.proofs.exchange.apply.Goals as goal
+
+-- a call that only reads leaves a store that can go back
+reads_back : {S : Type 0} {shows : S → StoreState} {IsSafe IsValid : S → Type 0} {Stays : S → S → Type 0} {a b : S} → ((p : S) → IsValid p → IsSafe p)
+    → KeepsTexts shows IsValid Stays a b → KeepsCommitted shows IsSafe Stays a b
+reads_back {b} is_safe reads = record { valid = is_safe b reads.valid; stays = reads.stays; committed = reads.committed }
 
 pub splice-requires-clause-allowed : goal.splice-requires-clause-allowed
 splice-requires-clause-allowed g c =
@@ -58,3 +66,62 @@ returns-clause-back g c = λ text has.
     let bare : nat_eq c.len-lines.result 0 ≡ has_no_lines text = bare_is text c.len-lines.result (lines ∙ sym c.len-lines.ensures) in
     let bottom = c.bottom_back.ensures in
     cc
+
+pub returns-in_err-fill-clause-kept : goal.returns-in_err-fill-clause-kept
+returns-in_err-fill-clause-kept g c = c.fill.ensures.kept
+
+pub returns-in_err-gone-clause-kept : goal.returns-in_err-gone-clause-kept
+returns-in_err-gone-clause-kept g c = let law = g.met.S.LineStore in Continues-trans law.stays_on c.in_ok-fill.ensures.kept (reads_back law.is_safe c.lines_at.ensures.kept)
+
+pub returns-in_err-splice-clause-kept : goal.returns-in_err-splice-clause-kept
+returns-in_err-splice-clause-kept g c =
+    let law = g.met.S.LineStore in
+    Continues-trans law.stays_on (Continues-trans law.stays_on c.in_ok-fill.ensures.kept (reads_back law.is_safe c.in_ok-gone.ensures.kept)) c.splice.ensures.kept
+
+pub returns-in_err-settle-clause-kept : goal.returns-in_err-settle-clause-kept
+returns-in_err-settle-clause-kept g c =
+    let law = g.met.S.LineStore in
+    let read = Continues-trans law.stays_on c.in_ok-fill.ensures.kept (reads_back law.is_safe c.in_ok-gone.ensures.kept) in
+    Continues-trans law.stays_on (Continues-trans law.stays_on read c.in_ok-splice.ensures.kept) c.settle.ensures.kept
+
+pub returns-in_err-gone-clause-cause : goal.returns-in_err-gone-clause-cause
+returns-in_err-gone-clause-cause g c = record {
+  later = omega (arith, c.in_ok-fill.ensures.cause.later, c.lines_at.ensures.cause.later);
+  risen = λ failed. risen_after c.in_ok-fill.ensures.cause.later (c.lines_at.ensures.cause.risen (search rules));
+}
+
+pub returns-in_err-splice-clause-cause : goal.returns-in_err-splice-clause-cause
+returns-in_err-splice-clause-cause g c = record {
+  later = omega (arith, c.in_ok-fill.ensures.cause.later, c.in_ok-gone.ensures.cause.later, c.splice.ensures.cause.later);
+  risen = λ failed. risen_after (omega (arith, c.in_ok-fill.ensures.cause.later, c.in_ok-gone.ensures.cause.later)) (c.splice.ensures.cause.risen (search rules));
+}
+
+pub returns-in_err-settle-clause-cause : goal.returns-in_err-settle-clause-cause
+returns-in_err-settle-clause-cause g c = record {
+  later = omega (arith, c.in_ok-fill.ensures.cause.later, c.in_ok-gone.ensures.cause.later, c.in_ok-splice.ensures.cause.later, c.settle.ensures.cause.later);
+  risen = λ failed. risen_after (omega (arith, c.in_ok-fill.ensures.cause.later, c.in_ok-gone.ensures.cause.later, c.in_ok-splice.ensures.cause.later)) (c.settle.ensures.cause.risen (search rules));
+}
+
+pub returns-clause-kept : goal.returns-clause-kept
+returns-clause-kept g c =
+    let law = g.met.S.LineStore in
+    let read = Continues-trans law.stays_on c.in_ok-fill.ensures.kept (reads_back law.is_safe c.in_ok-gone.ensures.kept) in
+    Continues-trans law.stays_on (Continues-trans law.stays_on read c.in_ok-splice.ensures.kept) c.in_ok-settle.ensures.kept
+
+pub returns-clause-cause : goal.returns-clause-cause
+returns-clause-cause g c = record {
+  later = omega (arith, c.in_ok-fill.ensures.cause.later, c.in_ok-gone.ensures.cause.later, c.in_ok-splice.ensures.cause.later, c.in_ok-settle.ensures.cause.later);
+  risen = λ failed. absurd (search rules);
+}
+
+pub returns-clause-counts : goal.returns-clause-counts
+returns-clause-counts g c =
+    let entry = c.args.entry.now in
+    let n : ℕ = max 1 (g.S.LineStore.shows c.args.store.now).present.lines in
+    let n_is : c.max-count.result ≡ n = omega (arith, c.len-lines.ensures) in
+    let fits : Fits entry n = subst (Fits entry) n_is c.in-Some.ensures.fits in
+    let range : c.in-Some.old ≡ range_in entry n = c.in-Some.ensures.range ∙ ap (range_in entry) n_is in
+    let lines_are : c.lines.result.now ≡ entry.lines = cc in
+    let is : max 1 (g.S.LineStore.shows c.settle.new.store).present.lines ≡ count_after entry n =
+    omega (arith, range, fits.above, fits.within, c.in_ok-fill.ensures.lines, c.in_ok-gone.ensures.kept.present.lines, c.in_ok-splice.ensures.ok.lines, c.in_ok-settle.ensures.lines, ap length lines_are) in
+    record { fits = fits; is = is; few = subst (λ k. k ≤ MAX_LINES) (sym is) (c.requires.allowed.few_lines fits); short = c.requires.allowed.short_lines }

@@ -1,6 +1,8 @@
 -- Each turn reads one line more.
-use Rattle.std.proofs.Common.{◌<◌, ◌+◌, ◌∙◌, arith, length}
-use Rattle.vs_edit.proofs.Steps.{OnlyReads-trans}
+use Rattle.std.proofs.Common.{◌≡◌, ◌<◌, ◌+◌, ◌++◌, ◌∙◌, arith, rules, length, subst}
+use Rattle.vs_faults.proofs.Causes.{cause_none, risen_after}
+use Rattle.vs_edit.specs.Splices.{cut_out}
+use Rattle.vs_edit.proofs.Steps.{OnlyReads-none, OnlyReads-trans}
 use Rattle.vs_reads.proofs.CutLemmas.{pushed, pushed-count, pushed-short}
 use Rattle.vs_reads.proofs.ReadLemmas.{line-at, next-at}
 use Rattle.vs_reads.proofs.lines.push_lines.Goals as goal
@@ -26,3 +28,36 @@ loop-preserved g c =
       kept = OnlyReads-trans law.stays_on before.kept read.kept;
       faults = omega (arith, before.faults, read.cause.later);
     }
+
+pub returns-in_err-reserve-clause-kept : goal.returns-in_err-reserve-clause-kept
+returns-in_err-reserve-clause-kept g c = OnlyReads-none g.met.S.LineStore.stays_itself c.requires.valid
+
+pub returns-in_err-reserve-clause-cause : goal.returns-in_err-reserve-clause-cause
+returns-in_err-reserve-clause-cause g c = cause_none (λ failed. absurd (search rules))
+
+pub returns-in_err-line-clause-kept : goal.returns-in_err-line-clause-kept
+returns-in_err-line-clause-kept g c = OnlyReads-trans g.met.S.LineStore.stays_on c.loop.invariant.kept c.line.ensures.kept
+
+pub returns-in_err-line-clause-cause : goal.returns-in_err-line-clause-cause
+returns-in_err-line-clause-cause g c = record { later = omega (arith, c.loop.invariant.faults, c.line.ensures.cause.later); risen = λ failed. risen_after c.loop.invariant.faults (c.line.ensures.cause.risen (search rules)) }
+
+pub returns-in_err-push-clause-kept : goal.returns-in_err-push-clause-kept
+returns-in_err-push-clause-kept g c = OnlyReads-trans g.met.S.LineStore.stays_on c.loop.invariant.kept c.in_ok-line.ensures.kept
+
+pub returns-in_err-push-clause-cause : goal.returns-in_err-push-clause-cause
+returns-in_err-push-clause-cause g c = record { later = omega (arith, c.loop.invariant.faults, c.line.ensures.cause.later); risen = λ failed. absurd (search rules) }
+
+pub returns-clause-lines : goal.returns-clause-lines
+returns-clause-lines g c = λ text has. subst (λ k. c.loop.into.items ≡ c.args.into.now.items ++ cut_out text c.args.top k) (omega arith) (c.loop.invariant.lines text has)
+
+pub returns-clause-count : goal.returns-clause-count
+returns-clause-count g c = omega (arith, c.loop.invariant.count)
+
+pub returns-clause-short : goal.returns-clause-short
+returns-clause-short g c = c.loop.invariant.short
+
+pub returns-clause-kept : goal.returns-clause-kept
+returns-clause-kept g c = c.loop.invariant.kept
+
+pub returns-clause-cause : goal.returns-clause-cause
+returns-clause-cause g c = record { later = c.loop.invariant.faults; risen = λ failed. absurd (search rules) }

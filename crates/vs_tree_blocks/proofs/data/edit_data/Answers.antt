@@ -1,4 +1,6 @@
-use Rattle.std.proofs.Common.{◌≡◌, ◌≤◌, ◌-◌, ℕ, ◌+◌, List, [], length, take, drop, sym, ap, subst, ◌∙◌, arith, get_or}
+use Rattle.std.proofs.Common.{◌≡◌, ◌≤◌, ◌-◌, ℕ, ◌+◌, List, [], length, take, drop, sym, ap, subst, ◌∙◌, arith, rules, get_or}
+use Rattle.vs_faults.proofs.Causes.{risen_after}
+use Rattle.vs_pages.proofs.Steps.{Continues-trans, OnlyReads-continues}
 use Rattle.vs_tree_shape.specs.Changes.{ReplacedBy, edited, splice}
 use Rattle.vs_tree_blocks.specs.declared.edit.Edit.{Edit}
 use Rattle.vs_tree_blocks.specs.declared.edit.Edited.{Edited}
@@ -156,3 +158,63 @@ returns-in-Remove-clause-lines g c =
     if_ok_both c.remove_lines.result _ (λ after. after.removed.lines ≡ c.min-gone.result) _
     (λ (after : Edited) wrote took. omega (arith, wrote.lines, part_count (splice ls c.args.at c.min-gone.result []), length_splice ls [] c.args.at c.min-gone.result within, took, t.count, c.in_ok-view.ensures.count, within, ap added_by c.in-Remove.is))
     c.remove_lines.ensures.wrote c.remove_lines.ensures.gone
+
+pub returns-then-entry-ne1-clause-kept : goal.returns-then-entry-ne1-clause-kept
+returns-then-entry-ne1-clause-kept g c = c.edit_long.ensures.kept
+
+pub returns-then-entry-ne1-clause-cause : goal.returns-then-entry-ne1-clause-cause
+returns-then-entry-ne1-clause-cause g c = c.edit_long.ensures.cause
+
+pub returns-in_err-view-clause-kept : goal.returns-in_err-view-clause-kept
+returns-in_err-view-clause-kept g c = OnlyReads-continues c.load_data.ensures.kept
+
+pub returns-in_err-view-clause-cause : goal.returns-in_err-view-clause-cause
+returns-in_err-view-clause-cause g c = record {
+  later = c.load_data.ensures.cause.later;
+  risen = λ failed. c.load_data.ensures.cause.risen (search rules);
+}
+
+pub returns-in_err-entries-in-Before-clause-kept : goal.returns-in_err-entries-in-Before-clause-kept
+returns-in_err-entries-in-Before-clause-kept g c = Continues-trans g.met.P.Pages.stays_on (OnlyReads-continues c.load_data.ensures.kept) c.put_run.ensures.kept
+
+pub returns-in_err-entries-in-Before-clause-cause : goal.returns-in_err-entries-in-Before-clause-cause
+returns-in_err-entries-in-Before-clause-cause g c = record {
+  later = omega (arith, c.load_data.ensures.cause.later, c.put_run.ensures.cause.later);
+  risen = λ failed. risen_after c.load_data.ensures.cause.later (c.put_run.ensures.cause.risen (search rules));
+}
+
+pub returns-in_ok-entries-in-Before-clause-kept : goal.returns-in_ok-entries-in-Before-clause-kept
+returns-in_ok-entries-in-Before-clause-kept g c = Continues-trans g.met.P.Pages.stays_on (OnlyReads-continues c.load_data.ensures.kept) c.put_run.ensures.kept
+
+pub returns-in_ok-entries-in-Before-clause-cause : goal.returns-in_ok-entries-in-Before-clause-cause
+returns-in_ok-entries-in-Before-clause-cause g c = record {
+  later = omega (arith, c.load_data.ensures.cause.later, c.put_run.ensures.cause.later);
+  risen = λ failed. absurd (search rules);
+}
+
+pub returns-in_err-entries-in-After-clause-kept : goal.returns-in_err-entries-in-After-clause-kept
+returns-in_err-entries-in-After-clause-kept g c = Continues-trans g.met.P.Pages.stays_on (OnlyReads-continues c.load_data.ensures.kept) c.put_run-in-After.ensures.kept
+
+pub returns-in_err-entries-in-After-clause-cause : goal.returns-in_err-entries-in-After-clause-cause
+returns-in_err-entries-in-After-clause-cause g c = record {
+  later = omega (arith, c.load_data.ensures.cause.later, c.put_run-in-After.ensures.cause.later);
+  risen = λ failed. risen_after c.load_data.ensures.cause.later (c.put_run-in-After.ensures.cause.risen (search rules));
+}
+
+pub returns-in_ok-entries-in-After-clause-kept : goal.returns-in_ok-entries-in-After-clause-kept
+returns-in_ok-entries-in-After-clause-kept g c = Continues-trans g.met.P.Pages.stays_on (OnlyReads-continues c.load_data.ensures.kept) c.put_run-in-After.ensures.kept
+
+pub returns-in_ok-entries-in-After-clause-cause : goal.returns-in_ok-entries-in-After-clause-cause
+returns-in_ok-entries-in-After-clause-cause g c = record {
+  later = omega (arith, c.load_data.ensures.cause.later, c.put_run-in-After.ensures.cause.later);
+  risen = λ failed. absurd (search rules);
+}
+
+pub returns-in-Remove-clause-kept : goal.returns-in-Remove-clause-kept
+returns-in-Remove-clause-kept g c = Continues-trans g.met.P.Pages.stays_on (OnlyReads-continues c.load_data.ensures.kept) c.remove_lines.ensures.kept
+
+pub returns-in-Remove-clause-cause : goal.returns-in-Remove-clause-cause
+returns-in-Remove-clause-cause g c = record {
+  later = omega (arith, c.load_data.ensures.cause.later, c.remove_lines.ensures.cause.later);
+  risen = λ failed. risen_after c.load_data.ensures.cause.later (c.remove_lines.ensures.cause.risen failed);
+}
