@@ -1,5 +1,7 @@
 -- One entry in place of one leaves as many entries, so they have room in the block.
-use Rattle.std.proofs.Common.{◌≡◌, suc, List, ◌∷◌, [], get_or, set, ap, subst, ◌∙◌}
+use Rattle.std.proofs.Common.{◌≡◌, suc, List, ◌∷◌, [], get_or, set, ap, subst, ◌∙◌, arith, rules}
+use Rattle.vs_faults.proofs.Causes.{risen_after}
+use Rattle.vs_pages.proofs.Steps.{Continues-trans, OnlyReads-continues}
 use Rattle.vs_tree_shape.specs.declared.entries.Entry.{Entry}
 use Rattle.vs_tree_shape.specs.Places.{lines_below}
 use Rattle.vs_tree_blocks.specs.Pointers.{Leads, pointer_blocks}
@@ -24,3 +26,48 @@ returns-then-by-eq1-clause-blocks g c = λ told entries reads.
     let P : List (List Entry) → Type 0 = λ bs. Leads g.P.Pages c.put_entry.new.pages c.in_ok-vec.field-0.items bs in
     subst P (one ∙ ap pointer_blocks is.entries_are)
     (λ also. one_leads _ _ c.args.top.block (lines_below now) put.bytes now _ c.in_ok-above.above put.stored put.points (c.in_ok-above.ensures.entry ∙ is.lines) c.in_ok-vec.ensures.items)
+
+pub returns-in_err-above-clause-kept : goal.returns-in_err-above-clause-kept
+returns-in_err-above-clause-kept g c = c.put_entry.ensures.kept
+
+pub returns-in_err-above-clause-cause : goal.returns-in_err-above-clause-cause
+returns-in_err-above-clause-cause g c = record {
+  later = c.put_entry.ensures.cause.later;
+  risen = λ failed. c.put_entry.ensures.cause.risen (search rules);
+}
+
+pub returns-in_err-vec-clause-kept : goal.returns-in_err-vec-clause-kept
+returns-in_err-vec-clause-kept g c = c.in_ok-above.ensures.kept
+
+pub returns-in_err-vec-clause-cause : goal.returns-in_err-vec-clause-cause
+returns-in_err-vec-clause-cause g c = record {
+  later = c.in_ok-above.ensures.cause.later;
+  risen = λ failed. absurd (search rules);
+}
+
+pub returns-then-by-eq1-clause-kept : goal.returns-then-by-eq1-clause-kept
+returns-then-by-eq1-clause-kept g c = c.in_ok-above.ensures.kept
+
+pub returns-then-by-eq1-clause-cause : goal.returns-then-by-eq1-clause-cause
+returns-then-by-eq1-clause-cause g c = record {
+  later = c.in_ok-above.ensures.cause.later;
+  risen = λ failed. absurd (search rules);
+}
+
+pub returns-in_err-all-clause-kept : goal.returns-in_err-all-clause-kept
+returns-in_err-all-clause-kept g c = OnlyReads-continues c.load_replaced.ensures.kept
+
+pub returns-in_err-all-clause-cause : goal.returns-in_err-all-clause-cause
+returns-in_err-all-clause-cause g c = record {
+  later = c.load_replaced.ensures.cause.later;
+  risen = λ failed. c.load_replaced.ensures.cause.risen (search rules);
+}
+
+pub returns-clause-kept : goal.returns-clause-kept
+returns-clause-kept g c = Continues-trans g.met.P.Pages.stays_on (OnlyReads-continues c.in_ok-all.ensures.kept) c.write_pointers.ensures.kept
+
+pub returns-clause-cause : goal.returns-clause-cause
+returns-clause-cause g c = record {
+  later = omega (arith, c.in_ok-all.ensures.cause.later, c.write_pointers.ensures.cause.later);
+  risen = λ failed. risen_after (c.in_ok-all.ensures.cause.later) (c.write_pointers.ensures.cause.risen failed);
+}

@@ -1,4 +1,7 @@
-use Rattle.std.proofs.Common.{◌≡◌, ℕ, [], ◌∷◌, length, refl, ap, sym, ◌∙◌, arith}
+-- The clauses on the store are those of the calls before.
+use Rattle.std.proofs.Common.{◌≡◌, ℕ, [], ◌∷◌, length, refl, ap, sym, ◌∙◌, arith, rules}
+use Rattle.vs_faults.proofs.Causes.{risen_after}
+use Rattle.vs_pages.proofs.Steps.{Continues-trans}
 use Rattle.vs_tree_shape.specs.declared.entries.Entry.{Entry}
 use Rattle.vs_tree_blocks.specs.Parts.{page_lines}
 use Rattle.vs_tree_blocks.proofs.RunsLemmas.{told, page_small}
@@ -22,3 +25,39 @@ returns-clause-wrote g c =
 
 pub returns-clause-differs : goal.returns-clause-differs
 returns-clause-differs g c = λ told-pages. differs_then _ _ _ 1 1 2 (omega arith) (differs_put _ _ c.args.block _ (c.in_ok-touch.ensures.ok told-pages)) (c.in_ok-other.ensures.differs told-pages refl)
+
+pub returns-in_err-touch-clause-kept : goal.returns-in_err-touch-clause-kept
+returns-in_err-touch-clause-kept g c = c.touch.ensures.kept
+
+pub returns-in_err-touch-clause-cause : goal.returns-in_err-touch-clause-cause
+returns-in_err-touch-clause-cause g c = record {
+  later = c.touch.ensures.cause.later;
+  risen = λ failed. c.touch.ensures.cause.risen (search rules);
+}
+
+pub returns-in_err-other-clause-kept : goal.returns-in_err-other-clause-kept
+returns-in_err-other-clause-kept g c = Continues-trans g.met.P.Pages.stays_on c.in_ok-touch.ensures.kept c.add_block.ensures.kept
+
+pub returns-in_err-other-clause-cause : goal.returns-in_err-other-clause-cause
+returns-in_err-other-clause-cause g c = record {
+  later = omega (arith, c.in_ok-touch.ensures.cause.later, c.add_block.ensures.cause.later);
+  risen = λ failed. risen_after (c.in_ok-touch.ensures.cause.later) (c.add_block.ensures.cause.risen (search rules));
+}
+
+pub returns-in_err-vec-clause-kept : goal.returns-in_err-vec-clause-kept
+returns-in_err-vec-clause-kept g c = Continues-trans g.met.P.Pages.stays_on c.in_ok-touch.ensures.kept c.in_ok-other.ensures.kept
+
+pub returns-in_err-vec-clause-cause : goal.returns-in_err-vec-clause-cause
+returns-in_err-vec-clause-cause g c = record {
+  later = omega (arith, c.in_ok-touch.ensures.cause.later, c.in_ok-other.ensures.cause.later);
+  risen = λ failed. absurd (search rules);
+}
+
+pub returns-clause-kept : goal.returns-clause-kept
+returns-clause-kept g c = Continues-trans g.met.P.Pages.stays_on c.in_ok-touch.ensures.kept c.in_ok-other.ensures.kept
+
+pub returns-clause-cause : goal.returns-clause-cause
+returns-clause-cause g c = record {
+  later = omega (arith, c.in_ok-touch.ensures.cause.later, c.in_ok-other.ensures.cause.later);
+  risen = λ failed. absurd (search rules);
+}
