@@ -1,4 +1,7 @@
+-- The blocks below change first, and the clauses on the store are those of the calls before.
 use Rattle.std.proofs.Common.{◌≡◌, ℕ, ◌+◌, ◌-◌, ◌*◌, List, IsTrue, IfOk, arith, refl, rules, sym, ap, subst}
+use Rattle.vs_faults.proofs.Causes.{risen_after}
+use Rattle.vs_pages.proofs.Steps.{Continues-trans, OnlyReads-continues}
 use Rattle.std.proofs.lemmas.Result.{on_ok_weaker}
 use Rattle.vs_pages.specs.Maps.{Map}
 use Rattle.vs_tree_shape.specs.declared.entries.Entry.{Entry}
@@ -90,3 +93,54 @@ pub returns-clause-differs : goal.returns-clause-differs
 returns-clause-differs g t c = λ told.
     let of = c.in_ok-place.ensures.place told in
     few_below _ _ _ _ c.args.top _ c.args.depth c.args.at 2 (2 * c.args.depth + 3) c.args.edit of.entries c.in_ok-place.place c.if-depth-eq0.false of.reads of.is (c.find_below.ensures.kept.present told) refl (omega arith) (c.in_ok-below.ensures.differs told) (c.in_ok-above.ensures.differs told)
+
+pub returns-in_err-place-clause-kept : goal.returns-in_err-place-clause-kept
+returns-in_err-place-clause-kept g t c = OnlyReads-continues c.find_below.ensures.kept
+
+pub returns-in_err-place-clause-cause : goal.returns-in_err-place-clause-cause
+returns-in_err-place-clause-cause g t c = record {
+  later = c.find_below.ensures.cause.later;
+  risen = λ failed. c.find_below.ensures.cause.risen (search rules);
+}
+
+pub returns-in_err-below-clause-kept : goal.returns-in_err-below-clause-kept
+returns-in_err-below-clause-kept g t c = Continues-trans g.met.P.Pages.stays_on (OnlyReads-continues c.in_ok-place.ensures.kept) c.edit_below.ensures.kept
+
+pub returns-in_err-below-clause-cause : goal.returns-in_err-below-clause-cause
+returns-in_err-below-clause-cause g t c = record {
+  later = omega (arith, c.in_ok-place.ensures.cause.later, c.edit_below.ensures.cause.later);
+  risen = λ failed. risen_after (c.in_ok-place.ensures.cause.later) (c.edit_below.ensures.cause.risen (search rules));
+}
+
+pub returns-in_err-above-clause-kept : goal.returns-in_err-above-clause-kept
+returns-in_err-above-clause-kept g t c = Continues-trans g.met.P.Pages.stays_on (Continues-trans g.met.P.Pages.stays_on (OnlyReads-continues c.in_ok-place.ensures.kept) c.in_ok-below.ensures.kept) c.exchange_entry.ensures.kept
+
+pub returns-in_err-above-clause-cause : goal.returns-in_err-above-clause-cause
+returns-in_err-above-clause-cause g t c = record {
+  later = omega (arith, c.in_ok-place.ensures.cause.later, c.in_ok-below.ensures.cause.later, c.exchange_entry.ensures.cause.later);
+  risen = λ failed. risen_after (omega (arith, c.in_ok-place.ensures.cause.later, c.in_ok-below.ensures.cause.later)) (c.exchange_entry.ensures.cause.risen (search rules));
+}
+
+pub returns-clause-kept : goal.returns-clause-kept
+returns-clause-kept g t c = Continues-trans g.met.P.Pages.stays_on (Continues-trans g.met.P.Pages.stays_on (OnlyReads-continues c.in_ok-place.ensures.kept) c.in_ok-below.ensures.kept) c.in_ok-above.ensures.kept
+
+pub returns-clause-cause : goal.returns-clause-cause
+returns-clause-cause g t c = record {
+  later = omega (arith, c.in_ok-place.ensures.cause.later, c.in_ok-below.ensures.cause.later, c.in_ok-above.ensures.cause.later);
+  risen = λ failed. absurd (search rules);
+}
+
+pub returns-then-depth-eq0-clause-kept : goal.returns-then-depth-eq0-clause-kept
+returns-then-depth-eq0-clause-kept g t c = c.edit_data.ensures.kept
+
+pub returns-then-depth-eq0-clause-cause : goal.returns-then-depth-eq0-clause-cause
+returns-then-depth-eq0-clause-cause g t c = c.edit_data.ensures.cause
+
+pub returns-then-depth-eq0-clause-may_take : goal.returns-then-depth-eq0-clause-may_take
+returns-then-depth-eq0-clause-may_take g t c = c.edit_data.ensures.may_take
+
+pub returns-then-depth-eq0-clause-fields : goal.returns-then-depth-eq0-clause-fields
+returns-then-depth-eq0-clause-fields g t c = c.edit_data.ensures.fields
+
+pub returns-then-depth-eq0-clause-few : goal.returns-then-depth-eq0-clause-few
+returns-then-depth-eq0-clause-few g t c = c.edit_data.ensures.few

@@ -1,4 +1,5 @@
-use Rattle.std.proofs.Common.{◌≡◌, ℕ, ◌+◌, ◌-◌, ◌*◌, List, refl, arith, sym, ap, subst, ◌∙◌}
+use Rattle.std.proofs.Common.{◌≡◌, ℕ, ◌+◌, ◌-◌, ◌*◌, List, refl, arith, rules, sym, ap, subst, ◌∙◌}
+use Rattle.vs_faults.proofs.Causes.{risen_after}
 use Rattle.vs_pages.specs.Maps.{Map}
 use Rattle.vs_pages.proofs.Steps.{Continues-trans, OnlyReads-continues}
 use Rattle.vs_tree_shape.specs.declared.entries.Entry.{Entry}
@@ -87,3 +88,36 @@ pub returns-clause-kept : goal.returns-clause-kept
 returns-clause-kept g c =
     let on = g.met.P.Pages.stays_on in
     Continues-trans on (Continues-trans on (OnlyReads-continues c.find_below.ensures.kept) c.edit_below.ensures.kept) c.exchange_in_root.ensures.kept
+
+pub returns-in_err-place-clause-kept : goal.returns-in_err-place-clause-kept
+returns-in_err-place-clause-kept g c = OnlyReads-continues c.find_below.ensures.kept
+
+pub returns-in_err-place-clause-cause : goal.returns-in_err-place-clause-cause
+returns-in_err-place-clause-cause g c = record {
+  later = c.find_below.ensures.cause.later;
+  risen = λ failed. c.find_below.ensures.cause.risen (search rules);
+}
+
+pub returns-in_err-below-clause-kept : goal.returns-in_err-below-clause-kept
+returns-in_err-below-clause-kept g c = Continues-trans g.met.P.Pages.stays_on (OnlyReads-continues c.find_below.ensures.kept) c.edit_below.ensures.kept
+
+pub returns-in_err-below-clause-cause : goal.returns-in_err-below-clause-cause
+returns-in_err-below-clause-cause g c = record {
+  later = omega (arith, c.find_below.ensures.cause.later, c.edit_below.ensures.cause.later);
+  risen = λ failed. risen_after c.find_below.ensures.cause.later (c.edit_below.ensures.cause.risen (search rules));
+}
+
+pub returns-in_err-more-clause-kept : goal.returns-in_err-more-clause-kept
+returns-in_err-more-clause-kept g c = Continues-trans g.met.P.Pages.stays_on (Continues-trans g.met.P.Pages.stays_on (OnlyReads-continues c.find_below.ensures.kept) c.edit_below.ensures.kept) c.exchange_in_root.ensures.kept
+
+pub returns-in_err-more-clause-cause : goal.returns-in_err-more-clause-cause
+returns-in_err-more-clause-cause g c = record {
+  later = omega (arith, c.find_below.ensures.cause.later, c.edit_below.ensures.cause.later, c.exchange_in_root.ensures.cause.later);
+  risen = λ failed. risen_after (omega (arith, c.find_below.ensures.cause.later, c.edit_below.ensures.cause.later)) (c.exchange_in_root.ensures.cause.risen (search rules));
+}
+
+pub returns-clause-cause : goal.returns-clause-cause
+returns-clause-cause g c = record {
+  later = omega (arith, c.find_below.ensures.cause.later, c.edit_below.ensures.cause.later, c.exchange_in_root.ensures.cause.later);
+  risen = λ failed. absurd (search rules);
+}
