@@ -3,8 +3,10 @@ ghost use Rattle.std.specs.Prelude.{◌≡◌, [], false, Ok, IfOk, OnOk, IsErr}
 ghost use Rattle.vs_faults.specs.Faults.{HasCause};
 ghost use Rattle.vs_host.specs.Untold.{no_folder, never};
 
+use crate::retry::{read_input, retried};
+use crate::rights::take_rights;
 use std::fs::{self, File, OpenOptions};
-use std::io::{self, ErrorKind, Read, Write};
+use std::io::{self, ErrorKind, Write};
 use std::os::unix::fs::{FileExt, OpenOptionsExt};
 use std::time::{SystemTime, UNIX_EPOCH};
 use vs_host::{Clock, Failed, Folder, Host, Out, Script, World};
@@ -97,7 +99,7 @@ impl World for RealHost {
 
 impl Script for RealHost {
     fn read(&mut self, into: &mut [u8]) -> Result<usize, Failed> {
-        match self.rt.stdin().read(into) {
+        match read_input(&self.rt, into) {
             Ok(count) => Ok(count),
             Err(_) => {
                 self.script_faults = self.script_faults.saturating_add(1);
@@ -136,7 +138,7 @@ impl Clock for RealHost {
 
 /// Whether a regular file has the name. What else has it, a link among them, is refused.
 fn is_there(rt: &HostRuntime, name: &str) -> io::Result<bool> {
-    match fs::symlink_metadata(rt, name) {
+    match retried(|| fs::symlink_metadata(rt, name)) {
         Ok(found) if found.is_file() => Ok(true),
         Ok(_) => Err(io::Error::from(ErrorKind::InvalidInput)),
         Err(error) if error.kind() == ErrorKind::NotFound => Ok(false),
@@ -159,13 +161,8 @@ fn create_empty(rt: &HostRuntime, name: &str, mode: u32) -> io::Result<()> {
     Ok(())
 }
 
-fn copy_mode(rt: &HostRuntime, from: &str, to: &str) -> io::Result<()> {
-    let mode = fs::metadata(rt, from)?.permissions();
-    fs::set_permissions(rt, to, mode)
-}
-
 fn size_of(rt: &HostRuntime, name: &str) -> io::Result<u64> {
-    Ok(fs::metadata(rt, name)?.len())
+    Ok(retried(|| fs::metadata(rt, name))?.len())
 }
 
 fn open_to_write(rt: &HostRuntime, name: &str) -> io::Result<File> {
@@ -232,6 +229,21 @@ impl RealHost {
         }
     }
 
+    /// Gives the file the rights of the model. It stays open, since with these its name may open it no more.
+    fn copy_rights(&mut self, model: &str, name: &str) -> io::Result<()>
+        ensures frame { self.new ≡ record self.old { writing = self.new.writing } }
+    {
+        let found = retried(|| fs::metadata(&self.rt, model))?;
+        let mut open = match take_open(&mut self.writing, name) {
+            Some(open) => open,
+            None => OpenFile::new(&self.rt, name, open_to_write(&self.rt, name)?),
+        };
+        let answer = take_rights(&found, &open.file);
+        open.has_new_mode = true;
+        self.writing = Some(open);
+        answer
+    }
+
     fn folder_answer<T: Drop>(&mut self, answer: io::Result<T>) -> Result<T, Failed>
         ensures ok { IfOk result (λ value. answer ≡ Ok value) }
         ensures cause { HasCause self.old.folder_faults self.new.folder_faults (IsErr result) }
@@ -266,12 +278,9 @@ impl Folder for RealHost {
         self.folder_answer(answer)
     }
 
-    // A file whose mode cannot be set is still a file, so that is no fault.
+    // A file whose rights cannot be set is still a file, so that is no fault.
     fn take_mode(&mut self, from: &str, to: &str) {
-        let _ = copy_mode(&self.rt, from, to);
-        if let Some(open) = &mut self.writing {
-            open.has_new_mode = true;
-        }
+        let _ = self.copy_rights(from, to);
     }
 
     fn len(&mut self, name: &str) -> Result<u64, Failed> {
@@ -301,13 +310,13 @@ impl Folder for RealHost {
 
     fn rename(&mut self, from: &str, to: &str) -> Result<(), Failed> {
         self.close_files();
-        let answer = fs::rename(&self.rt, from, to);
+        let answer = retried(|| fs::rename(&self.rt, from, to));
         self.folder_answer(answer)
     }
 
     fn remove(&mut self, name: &str) -> Result<(), Failed> {
         self.close_files();
-        let answer = fs::remove_file(&self.rt, name);
+        let answer = retried(|| fs::remove_file(&self.rt, name));
         self.folder_answer(answer)
     }
 

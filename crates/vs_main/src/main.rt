@@ -4,6 +4,8 @@
 
 mod help;
 mod host;
+mod retry;
+mod rights;
 
 use host::RealHost;
 use std::alloc::AllocError;
