@@ -50,7 +50,7 @@ module _ (parts : Parts) (tree : IsTree parts.nodes) where
   kept_child : (n p : ℕ) → parent_at parts.nodes n ≡ Some p → IsKept parts.nodes n
   kept_child n p is = inr (some_node (node_at parts.nodes n) p is)
 
-  kept_parent : (n p : ℕ) → parent_at parts.nodes n ≡ Some p → IsKept parts.nodes p
+  pub kept_parent : (n p : ℕ) → parent_at parts.nodes n ≡ Some p → IsKept parts.nodes p
   kept_parent n p is = let has = tree.ways n (kept_child n p is) in at has.way has.is.is_way has.is.starts
     where
       first : (way : List ℕ) → IsWay (λ k. parent_at parts.nodes k) way → start way ≡ p → IsKept parts.nodes p
@@ -76,7 +76,7 @@ module _ (parts : Parts) (tree : IsTree parts.nodes) where
         ),
       )
 
-  more_forth : (way path : List ℕ) (n p : ℕ) → IsWayOf parts.nodes parts.current way → is_on way n ≡ false → parent_at parts.nodes n ≡ Some p → IsOutward parts path p → IsOutward parts (n ∷ path) n
+  pub more_forth : (way path : List ℕ) (n p : ℕ) → IsWayOf parts.nodes parts.current way → is_on way n ≡ false → parent_at parts.nodes n ≡ Some p → IsOutward parts path p → IsOutward parts (n ∷ path) n
   more_forth way path n p is off up outward =
       on_outward parts tree way (n ∷ path) n is (
         p,

@@ -3,3 +3,5 @@ pub mod OutLemmas
 pub mod LedLemmas
 pub mod TriedLemmas
 pub mod FitLemmas
+pub mod TurnLemmas
+pub mod CountLemmas

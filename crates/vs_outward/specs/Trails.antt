@@ -1,5 +1,5 @@
 -- What is known while the text of a store is led outward over the changes of a tree, and back.
-use Rattle.std.specs.Prelude.{ℕ, ◌≡◌, ◌<◌, ◌≤◌, ◌⊎◌, true, false, List, [], ◌∷◌, ◌++◌, length, get_or, Option, Some, None, max, reverse}
+use Rattle.std.specs.Prelude.{ℕ, ◌≡◌, ◌≢◌, ◌<◌, ◌≤◌, ◌+◌, ◌-◌, ◌⊎◌, List, [], ◌∷◌, ◌++◌, length, get_or, map, take, Option, Some, None, max, reverse}
 use Rattle.vs_edit.specs.declared.store.LineStore.{Ghosts}
 use Rattle.vs_entries.specs.declared.entry.Entry.{Entry}
 use Rattle.vs_entries.specs.Entries.{Leads, LeadsCount}
@@ -8,6 +8,7 @@ use Rattle.vs_undo.specs.declared.parts.Parts.{Parts}
 use Rattle.vs_undo.specs.Edges.{IsLed}
 use Rattle.vs_outward.specs.declared.trail.Step.{Step}
 use Rattle.vs_outward.specs.declared.fitting.Search.{Search}
+use Rattle.vs_outward.specs.declared.turn.Turn.{Turn}
 use Rattle.vs_outward.specs.Outward.{entries_at, LeadsOver, IsOutward, IsMisfit}
 
 -- The entries of the changes that were crossed lead from one to the other, and the kept ones back. The last step comes first.
@@ -55,13 +56,55 @@ KeepsSettled {S = S} g parts was least = (first : S) (state : ℕ) → IsSettled
 abbrev pub IsKnownMisfit : {S : Type 0} (g : Ghosts S) → Parts → S → Option ℕ → Type 0
 IsKnownMisfit g parts first least = (l : ℕ) → least ≡ Some l → (text : List (List ℕ)) → (g.shows first).present.Is text → IsMisfit parts text l
 
--- A search over the states of a tree has settled those that it has marked, each at the place of its change.
+-- A path begins with the changes of a trail.
+pub record HasBegun (trail : List Step) (path : List ℕ) : Type 0 where
+  pub within : length trail ≤ length path
+  pub same : map (λ (step : Step). step.number) trail ≡ take (length trail) path
+
+-- A change of the path does not fit, and the least that is known so far is no greater.
+pub record IsBarredOn {S : Type 0} (g : Ghosts S) (nodes : List Node) (first : S) (least : Option ℕ) (path : List ℕ) : Type 0 where
+  pub number : ℕ
+  pub least_is : least ≡ Some number
+  pub texts : (text : List (List ℕ)) → (g.shows first).present.Is text → (other : ℕ) × (IsBarredBy nodes (reverse path) text other × (number ≤ other))
+
+-- The store of a search was led over the path as far as its changes fit, and the least change that is known does not fit.
 pub record IsSearch {S : Type 0} (g : Ghosts S) (parts : Parts) (first : S) (search : Search) (now : S) : Type 0 where
   pub on : IsOnTrail g parts.nodes first search.trail.items now
-  pub count : length search.settled.items ≡ length parts.nodes
-  pub settled : (i : ℕ) (node : Node) → i < length parts.nodes → get_or search.settled.items i false ≡ true → IsSettledAt g parts first search.least (get_or parts.nodes i node).number
+  pub begun : HasBegun search.trail.items search.path.items
+  pub barred : length search.trail.items < length search.path.items → IsBarredOn g parts.nodes first search.least (take (length search.trail.items + 1) search.path.items)
+  pub misfit : IsKnownMisfit g parts first search.least
+
+-- The path of a search has come to another one, and so many of its changes have stayed; the store is where it was.
+pub record IsTurned {S : Type 0} (g : Ghosts S) (parts : Parts) (first : S) (kept : ℕ) (search : Search) (now : S) : Type 0 where
+  pub on : IsOnTrail g parts.nodes first search.trail.items now
+  pub within : kept ≤ length search.path.items
+  pub begins : kept ≤ length search.trail.items → map (λ (step : Step). step.number) (take kept search.trail.items) ≡ take kept search.path.items
+  pub begun : length search.trail.items < kept → HasBegun search.trail.items search.path.items
+  pub barred : length search.trail.items < kept → IsBarredOn g parts.nodes first search.least (take (length search.trail.items + 1) search.path.items)
   pub misfit : IsKnownMisfit g parts first search.least
 
 -- The search goes on, from whatever first text it began.
 abbrev pub KeepsSearch : {S : Type 0} (g : Ghosts S) → Parts → Search → S → Search → S → Type 0
 KeepsSearch {S = S} g parts was before search now = (first : S) → IsSearch g parts first was before → IsSearch g parts first search now
+
+-- A path begins with so many changes of a way.
+pub record Shares (count : ℕ) (path way : List ℕ) : Type 0 where
+  pub within : count ≤ length path
+  pub same : take count path ≡ take count way
+
+-- The path of a search leads from the current state to another one, and shares with the way what it says.
+pub record IsPath (parts : Parts) (way : List ℕ) (search : Search) : Type 0 where
+  pub outward : (to : ℕ) × IsOutward parts (reverse search.path.items) to
+  pub shares : Shares search.on_way search.path.items way
+
+-- A path goes on to this state.
+pub record IsTurn (parts : Parts) (way path : List ℕ) (number : ℕ) (turn : Turn) : Type 0 where
+  pub kept : turn.kept ≤ length path
+  pub outward : IsOutward parts (reverse (take turn.kept path ++ turn.more.items)) number
+  pub shares : Shares turn.on_way (take turn.kept path ++ turn.more.items) way
+
+-- At the place of each change of a way stands one more than how many changes of it come before, and 0 at all other places.
+pub record AreCounts (nodes : List Node) (way counts : List ℕ) : Type 0 where
+  pub count : length counts ≡ length nodes
+  pub each : (i : ℕ) (node : Node) → i < length nodes → get_or counts i 0 ≢ 0 → (get_or counts i 0 ≤ length way) × (get_or way (get_or counts i 0 - 1) 0 ≡ (get_or nodes i node).number)
+  pub all : (i k : ℕ) (node : Node) → i < length nodes → k < length way → get_or way k 0 ≡ (get_or nodes i node).number → get_or counts i 0 ≢ 0

@@ -5,5 +5,7 @@ mod crossing;
 mod fitting;
 mod order;
 mod trail;
+mod turn;
+mod way;
 
 pub use fitting::first_misfit;

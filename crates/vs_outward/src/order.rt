@@ -1,4 +1,4 @@
-// In which order the states of a tree are visited: those that follow from a state come one after another, before that state.
+// In which order the states of a tree are visited: each one comes before those that follow from it, which stand together.
 ghost use Rattle.std.specs.Prelude.{◌≡◌, ◌+◌, ◌<◌, ℕ, All, Contains, IfOk, length};
 ghost use Rattle.std.specs.List.Sorted.{IsStrictlyIncreasing};
 ghost use Rattle.vs_undo.specs.Numbers.{numbers};
@@ -22,20 +22,20 @@ fn following(alloc: Global, nodes: &[Node]) -> Result<Vec<usize>, AllocError>
     Ok(following)
 }
 
-// How many places follow each one and the root.
-fn left_after(alloc: Global, following: &[usize]) -> Result<Vec<usize>, AllocError>
-    ensures { IfOk result (λ left. length left.items ≡ length following.now) }
+// How many places come before each one, and before the root, which is the first.
+fn ranks(alloc: Global, following: &[usize]) -> Result<Vec<usize>, AllocError>
+    ensures { IfOk result (λ ranks. length ranks.items ≡ length following.now) }
 {
     let count = following.len();
-    let mut left = vec![in alloc; 0; count]?;
+    let mut ranks = vec![in alloc; 0; count]?;
     let mut at = count.saturating_sub(1);
     'passed: for passed in 0..count {
-        if at < left.len() {
-            left[at] = count - 1 - passed;
+        if at < ranks.len() {
+            ranks[at] = passed;
             at = following[at];
         }
     }
-    Ok(left)
+    Ok(ranks)
 }
 
 // The places of all changes.
@@ -50,15 +50,15 @@ fn places(alloc: Global, count: usize) -> Result<Vec<usize>, AllocError>
     Ok(places)
 }
 
-/// The places of all changes, where those of the changes that follow from one change stand together, before it: a store that is led from
+/// The places of all changes, where those of the changes that follow from one change stand together, after it: a store that is led from
 /// state to state in this order crosses no change that fits more than twice each way. The order is not told, since no answer rests on it.
 pub(crate) fn visits(alloc: Global, nodes: &[Node]) -> Result<Vec<usize>, AllocError>
     requires { IsStrictlyIncreasing (numbers nodes.now) }
     ensures within { IfOk result (λ visits. All (λ place. place < length nodes.now) visits.items) }
     ensures each { IfOk result (λ visits. (place : ℕ) → place < length nodes.now → Contains visits.items place) }
 {
-    let left = left_after(alloc, &following(alloc, nodes)?)?;
+    let ranks = ranks(alloc, &following(alloc, nodes)?)?;
     let mut visits = places(alloc, nodes.len())?;
-    visits.sort_unstable_by_key(|place| left.get(*place).copied().unwrap_or(0));
+    visits.sort_unstable_by_key(|place| ranks.get(*place).copied().unwrap_or(0));
     Ok(visits)
 }

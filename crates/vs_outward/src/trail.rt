@@ -6,7 +6,7 @@ ghost use Rattle.vs_undo.specs.Edges.{IsLed};
 ghost use Rattle.vs_undo.specs.Numbers.{numbers};
 ghost use Rattle.vs_outward.specs.Calls.{GoesOn};
 ghost use Rattle.vs_outward.specs.Outward.{entries_at};
-ghost use Rattle.vs_outward.specs.Trails.{IsBarredBy, IsOnTrail, IsTried, KeepsTrail};
+ghost use Rattle.vs_outward.specs.Trails.{HasBegun, IsBarredBy, IsOnTrail, IsTried, KeepsTrail};
 ghost use Rattle.vs_outward.specs.declared.trail.Step.{Step};
 
 use crate::crossing::{entries_at, try_all};
@@ -86,20 +86,6 @@ fn go_in<S: LineStore>(
     Ok(())
 }
 
-// How many steps go over the changes with which a path begins.
-fn shared_start(trail: &[Step], path: &[u64]) -> usize
-    ensures within { (result ≤ length trail.now) × (result ≤ length path.now) }
-    ensures same { map (λ (step : Step). step.number) (take result trail.now) ≡ take result path.now }
-{
-    let most = trail.len().min(path.len());
-    for k in 0..most {
-        if trail[k].number != path[k] {
-            return k;
-        }
-    }
-    most
-}
-
 // Crosses the other changes of a path outward, as long as they fit, and gives the first that does not.
 fn go_out<S: LineStore>(
     alloc: Global,
@@ -126,8 +112,8 @@ fn go_out<S: LineStore>(
     Ok(None)
 }
 
-/// Leads a store over the changes of a path, of which it may have crossed some before, as long as they fit, and gives the first that
-/// does not.
+/// Leads a store over the changes of a path, as long as they fit, and gives the first that does not. So many steps of the trail stay, which
+/// are those with which the path begins.
 ///
 /// After an `Err` the store may only be rolled back. [`StoreErr::Failed`] comes only from the store.
 pub(crate) fn walk<S: LineStore>(
@@ -136,17 +122,22 @@ pub(crate) fn walk<S: LineStore>(
     nodes: &[Node],
     trail: &mut Vec<Step>,
     path: &[u64],
+    kept: usize,
 ) -> Result<Option<u64>, StoreErr>
     requires valid { S.valid store.old }
     requires rising { IsStrictlyIncreasing (numbers nodes.now) }
+    requires kept { kept ≤ length trail.old.items }
+    requires within { kept ≤ length path.now }
+    requires begins { map (λ (step : Step). step.number) (take kept trail.old.items) ≡ take kept path.now }
     requires on { (first : S) × IsOnTrail S.LineStore nodes.now first trail.old.items store.old }
     ensures on { OnOk result (KeepsTrail S.LineStore nodes.now trail.old.items store.old trail.new.items store.new) }
+    ensures begun { OnOk result (HasBegun trail.new.items path.now) }
+    ensures whole { IfOk result (λ o. IfNone o (length trail.new.items ≡ length path.now)) }
     ensures tried { IfOk result (λ o. (first : S) → IsOnTrail S.LineStore nodes.now first trail.old.items store.old → IsTried S.LineStore nodes.now first o (reverse path.now)) }
     ensures barred { IfOk result (λ o. IfSome o (λ number. (first : S) → IsOnTrail S.LineStore nodes.now first trail.old.items store.old
-        → (text : List (List ℕ)) → (S.shows first).present.Is text → IsBarredBy nodes.now (reverse path.now) text number)) }
+        → (text : List (List ℕ)) → (S.shows first).present.Is text → IsBarredBy nodes.now (reverse (take (length trail.new.items + 1) path.now)) text number)) }
     ensures goes_on { GoesOn S.LineStore store.old store.new result }
 {
-    let shared = shared_start(trail, path);
-    go_in(alloc, store, nodes, trail, shared)?;
+    go_in(alloc, store, nodes, trail, kept)?;
     go_out(alloc, store, nodes, trail, path)
 }

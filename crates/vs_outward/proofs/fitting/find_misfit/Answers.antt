@@ -1,5 +1,5 @@
 -- At the end each state is settled.
-use Rattle.std.proofs.Common.{◌≡◌, Err, ◌<◌, inl, inr, ℕ, List, None, Some, Option, false, true, [], length, get_or, sym, ap, subst, ◌∙◌, arith}
+use Rattle.std.proofs.Common.{◌≡◌, Err, ◌<◌, ◌++◌, take, reverse, refl, inl, inr, ℕ, List, None, Some, Option, false, true, [], length, get_or, sym, ap, subst, ◌∙◌, arith}
 use Rattle.std.specs.Prelude.{All, Contains}
 use Rattle.std.proofs.lemmas.Bool.{cases_lt}
 use Rattle.std.proofs.lemmas.Result.{err_from_is_err_and}
@@ -10,26 +10,43 @@ use Rattle.vs_edit.proofs.Steps.{Continues-trans}
 use Rattle.vs_edit.specs.declared.store.LineStore.{Ghosts}
 use Rattle.vs_undo.specs.declared.parts.Parts.{Parts}
 use Rattle.vs_outward.specs.declared.fitting.Search.{Search}
-use Rattle.vs_outward.specs.Trails.{IsSearch, IsSettledAt}
+use Rattle.vs_outward.specs.Trails.{HasBegun, IsSearch, IsSettledAt}
 use Rattle.vs_outward.proofs.GoingLemmas.{stopped}
 use Rattle.vs_outward.proofs.FitLemmas.{all_counts, all_misfit, all_texts, settled_all}
 use Rattle.vs_outward.proofs.TriedLemmas.{on_none}
+use Rattle.vs_outward.proofs.TurnLemmas.{out_to_root}
 use Rattle.vs_outward.proofs.fitting.find_misfit.Goals as goal
 
--- a search that knows nothing
+-- a search that has visited the current state
 module _ {S : Type 0} (g : Ghosts S) (parts : Parts) (first : S) (search : Search) (valid : g.valid first) where
-  begun : search.trail.items ≡ [] → length search.settled.items ≡ length parts.nodes → ((i : ℕ) → get_or search.settled.items i false ≡ false) → search.least ≡ None → IsSearch g parts first search first
-  begun trail count none least = record {
+  at_start : search.trail.items ≡ [] → search.path.items ≡ [] → search.least ≡ None → IsSearch g parts first search first
+  at_start trail path least = record {
     on = on_none g parts.nodes first search.trail.items trail valid;
-    count = count;
-    settled = λ i node within is. absurd (let e : false ≡ true = sym (none i) ∙ is in cc);
+    begun = subst (λ t. HasBegun t search.path.items) (sym trail) (record { within = omega arith; same = refl });
+    barred = λ less. absurd (omega (arith, less, ap length path));
     misfit = λ l e text has. absurd (let h : None ≡ Some l = sym least ∙ e in cc);
   }
+
+-- the path over the whole way
+whole_path : (path way new : List ℕ) (kept : ℕ) → path ≡ [] → kept ≡ 0 → new ≡ way → take kept path ++ new ≡ way
+whole_path path way new kept none zero is = ap (λ k. take k path ++ new) zero ∙ is
+
+pub visit-requires-clause-kept : goal.visit-requires-clause-kept
+visit-requires-clause-kept g c = omega (arith, c.in_ok-turn.ensures.kept)
+
+pub visit-requires-clause-outward : goal.visit-requires-clause-outward
+visit-requires-clause-outward g c =
+    let turn = c.in_ok-turn.turn in
+    let way = c.in_ok-way.way.changes.items in (
+      0,
+      out_to_root c.args.parts.now c.requires.sound.tree way c.in_ok-way.ensures.is_way (take turn.kept c.in_ok-search.search.path.items ++ turn.more.items)
+          (whole_path c.in_ok-search.search.path.items way turn.more.items turn.kept c.in_ok-search.ensures.path c.in_ok-turn.ensures.kept (c.in_ok-turn.ensures.more ∙ c.deref.ensures.value)),
+    )
 
 pub visit-requires-clause-search : goal.visit-requires-clause-search
 visit-requires-clause-search g c =
     let made = c.in_ok-search.ensures in
-    (c.args.store.now, begun g.S.LineStore c.args.parts.now c.args.store.now c.in_ok-search.search c.requires.valid made.trail (made.count ∙ ap length c.nodes-nodes.ensures) made.settled made.least)
+    (c.args.store.now, at_start g.S.LineStore c.args.parts.now c.args.store.now c.in_ok-search.search c.requires.valid made.trail made.path made.least)
 
 -- all places were visited
 all_seen : {S : Type 0} (g : Ghosts S) (parts : Parts) (first : S) (least : Option ℕ) (order : List ℕ) (passed : ℕ) → length order ≡ passed
@@ -44,10 +61,21 @@ pub loop-place-init : goal.loop-place-init
 loop-place-init g c =
     let made = c.in_ok-search.ensures in
     let out = c.in_ok-visit.ensures in
-    let at = begun g.S.LineStore c.args.parts.now c.args.store.now c.in_ok-search.search c.requires.valid made.trail (made.count ∙ ap length c.nodes-nodes.ensures) made.settled made.least in
+    let turn = c.in_ok-turn.turn in
+    let way = c.in_ok-way.way.changes.items in
+    let first = c.args.store.now in
+    let start = at_start g.S.LineStore c.args.parts.now first c.in_ok-search.search c.requires.valid made.trail made.path made.least in
+    let is : c.visit.new.search.path.items ≡ way =
+    out.path ∙ whole_path c.in_ok-search.search.path.items way turn.more.items turn.kept made.path c.in_ok-turn.ensures.kept (c.in_ok-turn.ensures.more ∙ c.deref.ensures.value) in
+    let to_root = out_to_root c.args.parts.now c.requires.sound.tree way c.in_ok-way.ensures.is_way c.visit.new.search.path.items is in
+    let count : c.visit.new.search.on_way ≡ length way = out.on_way ∙ (c.in_ok-turn.ensures.on_way ∙ ap length c.deref.ensures.value) in
     record {
-      search = out.search c.args.store.now at;
-      root = out.settled c.args.store.now at;
+      path = record {
+        outward = (0, to_root);
+        shares = record { within = omega (arith, count, ap length is); same = ap (take c.visit.new.search.on_way) is };
+      };
+      search = out.search first start;
+      root = (reverse c.visit.new.search.path.items, (to_root, out.tried first start));
       seen = λ k node far. absurd (omega arith);
       valid = out.goes_on.valid;
       kept = out.goes_on.kept;
@@ -70,13 +98,14 @@ loop-place-preserved g c =
     let order = c.deref-place-items.result.now in
     let i = c.loop-place.place-index in
     record {
+      path = out.path;
       search = out.search first inv.search;
       root = out.known first 0 inv.root;
       seen = λ k node within. elim (cases_lt k i) [
         | inl before ↦ out.known first (get_or parts.nodes (get_or order k 0) node).number (inv.seen k node before)
         | inr past ↦
             let same : i ≡ k = omega (arith, past, within) in
-            subst (λ j. IsSettledAt g.S.LineStore parts first c.visit_at.new.search.least (get_or parts.nodes (get_or order j 0) node).number) same (out.settled first node inv.search)
+            subst (λ j. IsSettledAt g.S.LineStore parts first c.visit_at.new.search.least (get_or parts.nodes (get_or order j 0) node).number) same (out.settled first node inv.search inv.root)
       ];
       valid = out.goes_on.valid;
       kept = Continues-trans g.met.S.LineStore.stays_on inv.kept out.goes_on.kept;
