@@ -6,4 +6,5 @@ pub mod Meaning
 pub mod Place
 pub mod Request
 pub mod Rewriting
+pub mod Searched
 pub mod Substitute

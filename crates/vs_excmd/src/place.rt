@@ -6,6 +6,7 @@ ghost use Rattle.vs_exparse.specs.declared.command.ExErr.TheVariants.{E134};
 ghost use Rattle.vs_exparse.specs.Command.{HasCount, HasForm, command_of};
 ghost use Rattle.vs_excmd.specs.Place.{BeginsAtLine, IsOutside, IsPlaceIn, IsSpanIn, base_line, counted, destination, first_at, is_into_itself, last_at};
 ghost use Rattle.vs_excmd.specs.Place.{line_at, line_in, lines_to, located, located_counted, meant, number_shown, or_last, place_of, shown, span_of};
+ghost use Rattle.vs_excmd.specs.Searched.{or_all, searched};
 
 use vs_exparse::{Address, Base, Command, ExErr, Range};
 
@@ -276,6 +277,25 @@ pub fn number_shown(range: Range, lines: u64, cursor: u64) -> Result<u64, ExErr>
 {
     let span = locate(LineZero::IsItself, or_last(range), lines, cursor)?;
     Ok(span.last)
+}
+
+fn or_all(range: Range) -> Range
+    ensures { result ≡ or_all range }
+{
+    match range {
+        Range::Absent => Range::All,
+        Range::All | Range::One(_) | Range::Two(..) => range,
+    }
+}
+
+/// The lines that a command looks at which looks at all where no range was written, counted from 1, in a text with this number of
+/// lines and this cursor (`:help :global`). Errors are those of [`shown`].
+pub fn searched(range: Range, lines: u64, cursor: u64) -> Result<Span, ExErr>
+    ensures value { result ≡ searched range lines cursor }
+    ensures positive { IfOk result (λ span. 1 ≤ span.first) }
+    ensures lies { IfOk result (λ span. IsSpanIn lines span) }
+{
+    locate(LineZero::IsFirst, or_all(range), lines, cursor)
 }
 
 fn or_last(range: Range) -> Range

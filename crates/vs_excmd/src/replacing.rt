@@ -47,8 +47,8 @@ fn literal_bytes(alloc: Global, pattern: &[u8]) -> Result<Vec<u8>, AllocError>
     Ok(literal)
 }
 
-/// The bytes that a pattern finds.
-pub(crate) fn literal(alloc: Global, pattern: &[u8]) -> Result<Vec<u8>, AllocError>
+/// The bytes that a pattern finds, of which there is at least one.
+pub fn literal(alloc: Global, pattern: &[u8]) -> Result<Vec<u8>, AllocError>
     requires { IsTrue (is_pattern pattern.now) }
     ensures value { IfOk result (λ literal. literal.items ≡ literal_of pattern.now) }
     ensures some { IfOk result (λ literal. 0 < length literal.items) }
