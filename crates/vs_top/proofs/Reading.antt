@@ -13,7 +13,7 @@ use Rattle.vs_script.specs.Requests.{TakesRequest, TakesNone, commands_ahead, wh
 use Rattle.vs_script.specs.Script.{commands_of}
 use Rattle.vs_script.specs.declared.reader.ScriptErr.{ScriptErr}
 use Rattle.vs_script.proofs.Going.{goes_on_start, goes_on_twice, goes_on_by, goes_on_as, goes_on_in, stops_then, stops_by}
-use Rattle.vs_top.specs.Run.{commands_in, commands_within}
+use Rattle.vs_top.specs.Run.{WereRead, commands_in, commands_within}
 
 -- a reader that has read nothing yet
 abbrev pub fresh_reader : Ahead
@@ -76,6 +76,15 @@ read_within fresh reader start now done new read seen counts limit = elim (leb_t
       let found = read_before_limit fresh reader start now done script_limit new limit (read.going (not_ended reader now reader.ended refl seen some)) in
       (found.0, rw large.0 found.1)
 ]
+
+-- they were read: a reader that has not seen the end has them whole in what it took
+pub were_read : (fresh reader : Ahead) (start now : Scene) (done : List Instruction) (ended : Bool) → reader.ended ≡ ended → fresh ≡ fresh_reader → HasRead fresh reader start now done → HasSeen reader now → WereRead done start now
+were_read fresh reader start now done true is new read seen = inl (seen is)
+were_read fresh reader start now done false is new read seen =
+    let going = read.going is in
+    let front : whole_commands going.fresh ≡ whole_commands ((fresh.bytes ++ going.fresh) ++ []) =
+    ap (λ (l : List ℕ). whole_commands l) (sym (append-nil (fresh.bytes ++ going.fresh) ∙ ap (λ (a : Ahead). a.bytes ++ going.fresh) new)) in
+    inr (going.fresh, whole_commands (reader.bytes ++ []), going.script, front ∙ going.each [])
 
 -- where a reader stops, the commands that were answered are those that were whole in what it took
 pub record StoppedRun (error : ScriptErr) (old after : Scene) (reader' : Ahead) (done : List Instruction) : Type 0 where

@@ -45,7 +45,7 @@ use Rattle.vs_top.specs.declared.ending.Ending.{Ending}
 use Rattle.vs_top.specs.declared.ending.Ending.TheVariants as ending
 use Rattle.vs_top.proofs.Pushes.{replies_same, states_push, turns_push, none_push, errors_push, and_not, map_push}
 use Rattle.vs_top.proofs.Counting.{only_then, only_output, only_script, causes_on, counted_works, counted_reads, all_counted}
-use Rattle.vs_top.proofs.Reading.{fresh_reader, HasRead, read_on, read_in, read_within, stops_run, done_is_all, counts_on, few_taken}
+use Rattle.vs_top.proofs.Reading.{fresh_reader, HasRead, read_on, read_in, read_within, were_read, stops_run, done_is_all, counts_on, few_taken}
 
 -- ---- a read of the script
 
@@ -167,11 +167,19 @@ module _ {T : Type 0} {result : Result T ScriptErr} (tells : Tells) (name : List
 
     run_no_memory : (request : Request) (taken : TakesRequest request reader reader' now read) → HasSeen reader' read → CountsTaken fresh reader' old read → HasRun name old read ending.NoMemory marks
     run_no_memory request taken seen counts =
-        let within = read_within fresh reader' old read (commands ++ taken.first ∷ []) new (read_on fresh reader reader' old now read commands request had taken) seen counts track.limit in
+        let next = commands ++ taken.first ∷ [] in
+        let has : HasRead fresh reader' old read next = read_on fresh reader reader' old now read commands request had taken in
+        let within = read_within fresh reader' old read next new has seen counts track.limit in
         record {
           did = did;
           kept = kept;
-          answered = inr ((taken.first ∷ within.0, within.1 ∙ append_assoc commands (taken.first ∷ []) within.0), answered);
+          answered = inr (record {
+            next = taken.first;
+            rest = within.0;
+            first = within.1 ∙ append_assoc commands (taken.first ∷ []) within.0;
+            read = were_read fresh reader' old read next reader'.ended refl new has seen;
+            answered = answered;
+          });
           safe = λ free. safe;
           left = (refl, inr left);
           failed = tt;

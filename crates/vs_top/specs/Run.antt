@@ -159,6 +159,19 @@ pub record AnswersLimit (file : Opened) (old new : Scene) (did : Did) : Type 0 w
 abbrev pub IsWithin : Scene → Did → Type 0
 IsWithin old did = (rest : List Instruction) × (commands_within old.script ≡ did.commands ++ rest)
 
+-- these commands were read: the script's end was seen, or they are whole in what was taken of it
+abbrev pub WereRead : List Instruction → Scene → Scene → Type 0
+WereRead commands old new =
+    (new.script ≡ []) ⊎ ((taken : List ℕ) × (more : List Instruction) × (old.script ≡ taken ++ new.script) × (whole_commands taken ≡ commands ++ more))
+
+-- There was no memory for the command that was read next. Those before it were answered.
+pub record LacksMemory (file : Opened) (old new : Scene) (did : Did) : Type 0 where
+  pub next : Instruction
+  pub rest : List Instruction
+  pub first : commands_within old.script ≡ did.commands ++ next ∷ rest
+  pub read : WereRead (did.commands ++ next ∷ []) old new
+  pub answered : HasAnswered file old new did
+
 -- No command was answered, and nothing was written.
 pub record AnswersNone (old new : Scene) (marks : List Mark) : Type 0 where
   pub none : marks ≡ []
@@ -206,7 +219,7 @@ AnsweredBy ending.NoSwap file old new marks did = ⊥
 AnsweredBy ending.ScriptFault file old new marks did = AnswersTaken file old new did
 AnsweredBy ending.OutputFault file old new marks did = IsCutShort file old new did ⊎ IsCutLast file old new did
 AnsweredBy ending.FolderFault file old new marks did = AnswersNone old new marks ⊎ FailsToClose file old new did
-AnsweredBy ending.NoMemory file old new marks did = AnswersNone old new marks ⊎ (IsWithin old did × HasAnswered file old new did)
+AnsweredBy ending.NoMemory file old new marks did = AnswersNone old new marks ⊎ LacksMemory file old new did
 AnsweredBy ending.Encrypted file old new marks did = ⊥
 AnsweredBy ending.NotSwap file old new marks did = ⊥
 AnsweredBy (ending.TextLimit size) file old new marks did = AnswersNone old new marks
