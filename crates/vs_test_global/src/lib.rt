@@ -1,0 +1,5 @@
+//! Tests of the global command.
+#![tactic(auto)]
+
+#[cfg(test)]
+mod nested;
