@@ -15,7 +15,7 @@ use Rattle.vs_damaged.specs.declared.finds.Target.{Target}
 use Rattle.vs_damaged.specs.declared.finds.Target.TheVariants as target
 use Rattle.vs_damaged.specs.declared.shown.Marker.TheVariants as marker
 use Rattle.vs_damaged.specs.declared.shown.Shown.{Shown}
-use Rattle.vs_damaged.specs.Items.{Item, Shows, TheMarker, line_item}
+use Rattle.vs_damaged.specs.Items.{AddsAll, Item, TheMarker, line_item}
 
 -- How the lines of a file end: what follows each line that is written out, and which line these bytes of the original file are.
 pub record LineEnds : Type 0 where
@@ -102,4 +102,4 @@ found_in e block = found_by e block (view_in block)
 -- What a block gives is shown after what was shown before, or its entries come before those that are left.
 abbrev pub ShowsBlock : Shown → Shown → List PtrEntry → List PtrEntry → Found → Type 0
 ShowsBlock old new left now (Entries below) = (now ≡ below ++ left) × (new ≡ old)
-ShowsBlock old new left now (Items more) = (now ≡ left) × ((items : List Item) → Shows old items → Shows new (items ++ more))
+ShowsBlock old new left now (Items more) = (now ≡ left) × AddsAll old new more

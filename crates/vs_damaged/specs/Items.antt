@@ -77,3 +77,15 @@ pub record Shows (shown : Shown) (items : List Item) : Type 0 where
   pub markers : shown.markers ≡ markers_in kept
   pub lines : shown.lines ≤ MAX_LINES
   pub few : shown.markers ≤ shown.lines + from_bool shown.full
+
+-- One line or marker more is shown.
+abbrev pub Adds : Shown → Shown → Item → Type 0
+Adds old new item = (items : List Item) → Shows old items → Shows new (items ++ item ∷ [])
+
+-- Each line or marker with these bytes, which counts as so many markers, is shown.
+abbrev pub AddsAs : Shown → Shown → List ℕ → ℕ → Type 0
+AddsAs old new line markers = (item : Item) → item_bytes item ≡ line → one_if_marker item ≡ markers → Adds old new item
+
+-- These lines and markers more are shown.
+abbrev pub AddsAll : Shown → Shown → List Item → Type 0
+AddsAll old new more = (items : List Item) → Shows old items → Shows new (items ++ more)

@@ -1,9 +1,9 @@
 // What the entries of pointer blocks lead to.
-ghost use Rattle.std.specs.Prelude.{◌≡◌, ◌==◌, ◌++◌, ◌∷◌, ◌+◌, ◌<◌, [], List, OnOk, Ok, length, map, reverse};
+ghost use Rattle.std.specs.Prelude.{◌≡◌, ◌==◌, ◌++◌, ◌+◌, ◌<◌, OnOk, Ok, length, map, reverse};
 ghost use Rattle.std.specs.List.{before_first, range_with_len};
 ghost use Rattle.vs_data.specs.Blocks.{bounds_in};
 ghost use Rattle.vs_ptr.specs.Blocks.{entries_of, view_in};
-ghost use Rattle.vs_damaged.specs.Items.{Item, Shows};
+ghost use Rattle.vs_damaged.specs.Items.{Adds, AddsAll};
 ghost use Rattle.vs_damaged.specs.Finds.{data_items, item_at, lines_before, lines_said, target_of};
 
 use crate::shown::{Marker, Shown};
@@ -94,7 +94,7 @@ fn show_line(
 ) -> Result<(), AllocError>
     requires view { bounds_in block.now ≡ Ok view.now }
     requires at { at < view.now.count }
-    ensures { OnOk result ((items : List Item) → Shows shown.old items → Shows shown.new (items ++ item_at block.now view.now at ∷ [])) }
+    ensures { OnOk result (Adds shown.old shown.new (item_at block.now view.now at)) }
 {
     let start = view.start(block, at);
     if start < view.text_start || start >= view.text_end {
@@ -112,7 +112,7 @@ fn show_lines(
     shown: &mut Shown,
 ) -> Result<(), AllocError>
     requires { bounds_in block.now ≡ Ok view.now }
-    ensures { OnOk result ((items : List Item) → Shows shown.old items → Shows shown.new (items ++ map (λ line. item_at block.now view.now line) (range_with_len 0 view.now.count))) }
+    ensures { OnOk result (AddsAll shown.old shown.new (map (λ line. item_at block.now view.now line) (range_with_len 0 view.now.count))) }
 {
     for at in 0..view.count {
         show_line(alloc, view, block, at, shown)?;
@@ -127,7 +127,7 @@ pub fn show_data(
     block: &[u8],
     shown: &mut Shown,
 ) -> Result<(), AllocError>
-    ensures { OnOk result ((items : List Item) → Shows shown.old items → Shows shown.new (items ++ data_items entry.now block.now (bounds_in block.now))) }
+    ensures { OnOk result (AddsAll shown.old shown.new (data_items entry.now block.now (bounds_in block.now))) }
 {
     let view = match DataView::bounds(block) {
         Ok(view) => view,

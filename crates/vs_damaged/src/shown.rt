@@ -1,7 +1,7 @@
 // What salvage shows of a swap file: lines, and markers in the place of what is missing.
-ghost use Rattle.std.specs.Prelude.{◌≡◌, ◌++◌, ◌∷◌, ◌+◌, ◌<◌, ◌^◌, [], List, OnOk, length};
+ghost use Rattle.std.specs.Prelude.{◌≡◌, ◌++◌, ◌∷◌, ◌+◌, ◌<◌, ◌^◌, [], OnOk, length};
 ghost use Rattle.vs_text.specs.Text.{plain_line};
-ghost use Rattle.vs_damaged.specs.Items.{Item, Shows, TheMarker, is_within, item_bytes, line_item, one_if_marker, words};
+ghost use Rattle.vs_damaged.specs.Items.{Adds, AddsAs, Shows, TheMarker, is_within, line_item, words};
 
 use std::alloc::{AllocError, Global};
 use vs_text::{MAX_LINE_BYTES, MAX_LINES, MAX_TEXT_BYTES, from_stored};
@@ -82,7 +82,7 @@ impl Shown {
 
     // Shows a line or a marker: one line, and so many markers.
     fn push(&mut self, line: &[u8], markers: u64) -> Result<(), AllocError>
-        ensures { OnOk result ((items : List Item) (item : Item) → item_bytes item ≡ line.now → one_if_marker item ≡ markers → Shows self.old items → Shows self.new (items ++ item ∷ [])) }
+        ensures { OnOk result (AddsAs self.old self.new line.now markers) }
     {
         if self.full {
             return Ok(());
@@ -101,14 +101,14 @@ impl Shown {
 
     /// Shows a marker.
     pub fn push_marker(&mut self, marker: Marker) -> Result<(), AllocError>
-        ensures { OnOk result ((items : List Item) → Shows self.old items → Shows self.new (items ++ TheMarker marker ∷ [])) }
+        ensures { OnOk result (Adds self.old self.new (TheMarker marker)) }
     {
         self.push(words(marker), 1)
     }
 
     /// Shows a line, or its marker where it is too long.
     pub fn push_line(&mut self, line: &[u8]) -> Result<(), AllocError>
-        ensures { OnOk result ((items : List Item) → Shows self.old items → Shows self.new (items ++ line_item line.now ∷ [])) }
+        ensures { OnOk result (Adds self.old self.new (line_item line.now)) }
     {
         if line.len() as u64 > MAX_LINE_BYTES {
             return self.push_marker(Marker::LineMissing);
@@ -118,7 +118,7 @@ impl Shown {
 
     /// Shows the line that a stored line stands for.
     pub fn push_stored(&mut self, alloc: Global, line: &[u8]) -> Result<(), AllocError>
-        ensures { OnOk result ((items : List Item) → Shows self.old items → Shows self.new (items ++ line_item (plain_line line.now) ∷ [])) }
+        ensures { OnOk result (Adds self.old self.new (line_item (plain_line line.now))) }
     {
         if line.len() as u64 > MAX_LINE_BYTES {
             return self.push_marker(Marker::LineMissing);

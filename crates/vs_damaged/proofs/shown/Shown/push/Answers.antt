@@ -6,7 +6,7 @@ use Rattle.vs_damaged.proofs.ShownLaws.{one_most, shows_last, shows_more}
 use Rattle.vs_damaged.proofs.shown.Shown.push.Goals as goal
 
 pub returns-then-not-has_room : goal.returns-then-not-has_room
-returns-then-not-has_room c = λ items item is one shows.
+returns-then-not-has_room c = λ item is one items shows.
     let old : Shown = c.args.self.now in
     let most : old.lines ≤ 4000000 = shows.lines in
     let marked = ap (λ (s : Shown). s.markers) c.in_ok-add.ensures.others in
@@ -16,7 +16,7 @@ returns-then-not-has_room c = λ items item is one shows.
     (ap (λ (s : Shown). s.lines) c.in_ok-add.ensures.others) (omega (arith, c.saturating_add-self.ensures, marked, most, shows.few, ap from_bool c.if-self.false)) refl shows
 
 pub returns : goal.returns
-returns c = λ items item is one shows.
+returns c = λ item is one items shows.
     let old : Shown = c.args.self.now in
     let most : old.lines ≤ 4000000 = shows.lines in
     let marked = ap (λ (s : Shown). s.markers) c.in_ok-add-2.ensures.others in
