@@ -39,13 +39,13 @@ fn block_of(alloc: Global, lines: &[&[u8]]) -> Result<Vec<u8>, AllocError> {
         put_number(
             &mut block,
             line.saturating_mul(4).saturating_add(24),
-            start as u32,
+            start.min(4096) as u32,
         );
     }
     put(&mut block, 0, b"ad");
-    put_number(&mut block, 8, start as u32);
+    put_number(&mut block, 8, start.min(4096) as u32);
     put_number(&mut block, 12, 4096);
-    put_number(&mut block, 16, lines.len() as u32);
+    put_number(&mut block, 16, lines.len().min(4096) as u32);
     Ok(block)
 }
 

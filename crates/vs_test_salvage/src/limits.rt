@@ -5,12 +5,13 @@ use vs_damaged::{Marker, Shown};
 
 #[test]
 fn a_line_is_missing_from_one_byte_too_many_on(rt: HostRuntime) -> Result<(), Fail> {
-    let line = vec![in rt.alloc(); b'x'; 1_048_577]?;
+    let line = vec![in rt.alloc(); b'x'; 1_048_576]?;
+    let longer = vec![in rt.alloc(); b'x'; 1_048_577]?;
     let mut shown = Shown::new(rt.alloc());
-    shown.push_line(&line[..1_048_576])?;
-    assert!(rt; shown.bytes.len() == 1_048_577 && shown.markers == 0);
     shown.push_line(&line)?;
-    shown.push_stored(rt.alloc(), &line)?;
+    assert!(rt; shown.bytes.len() == 1_048_577 && shown.markers == 0);
+    shown.push_line(&longer)?;
+    shown.push_stored(rt.alloc(), &longer)?;
     assert!(rt;
         shown
             .bytes
