@@ -35,7 +35,12 @@ fn a_tree_fits_its_text_and_not_a_shorter_one(rt: HostRuntime) -> Result<(), Fai
     Ok(())
 }
 
-fn entry(alloc: Global, top: u64, bottom: u64, length: usize) -> Result<Entry, AllocError> {
+pub(crate) fn entry(
+    alloc: Global,
+    top: u64,
+    bottom: u64,
+    length: usize,
+) -> Result<Entry, AllocError> {
     let mut lines = Vec::new(alloc);
     let mut line = vec![in alloc; b'x'; length]?;
     from_stored(&mut line);
@@ -64,9 +69,14 @@ fn an_entry_past_the_end_or_a_long_line_does_not_fit(rt: HostRuntime) -> Result<
     let alloc = rt.alloc();
     for (first, second, expected) in ROWS {
         let mut tree = UndoTree::new(alloc)?;
-        let one = tree.push(alloc, entry(alloc, first.0, first.1, first.2)?, 7);
+        let one = tree.push(alloc, entry(alloc, first.0, first.1, first.2)?, 7, u64::MAX);
         one.ok().ok_or("there is memory for the change")?;
-        let two = tree.push(alloc, entry(alloc, second.0, second.1, second.2)?, 7);
+        let two = tree.push(
+            alloc,
+            entry(alloc, second.0, second.1, second.2)?,
+            7,
+            u64::MAX,
+        );
         two.ok().ok_or("there is memory for the change")?;
         assert!(rt;
             misfit_over(alloc, &tree, b"a\nb\n")? == expected,

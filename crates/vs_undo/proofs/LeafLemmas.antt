@@ -16,7 +16,7 @@ use Rattle.vs_undo.proofs.ChangeLemmas.{was_there}
 use Rattle.vs_undo.proofs.SearchLemmas.{index_found}
 
 -- a change that is there and passes a test
-any_there : (p : Node → Bool) (nodes : List Node) (k : ℕ) (node : Node) → node_at nodes k ≡ Some node → p node ≡ true → list_any p nodes ≡ true
+pub any_there : (p : Node → Bool) (nodes : List Node) (k : ℕ) (node : Node) → node_at nodes k ≡ Some node → p node ≡ true → list_any p nodes ≡ true
 any_there p [] k node is passes = absurd (cc)
 any_there p (first ∷ nodes) k node is passes =
     elim (first.number == k) as (λ b. (if b then Some first else node_at nodes k) ≡ Some node → (p first || list_any p nodes) ≡ true) [
@@ -25,7 +25,7 @@ any_there p (first ∷ nodes) k node is passes =
     ] is
 
 -- where a change that passes a test stands
-any_at : (p : Node → Bool) (nodes : List Node) (d : Node) → list_any p nodes ≡ true → (k : ℕ) × ((k < length nodes) × (p (get_or nodes k d) ≡ true))
+pub any_at : (p : Node → Bool) (nodes : List Node) (d : Node) → list_any p nodes ≡ true → (k : ℕ) × ((k < length nodes) × (p (get_or nodes k d) ≡ true))
 any_at p [] d passes = absurd (cc)
 any_at p (node ∷ nodes) d passes =
     elim (p node) as (λ b. p node ≡ b → (b || list_any p nodes) ≡ true → (k : ℕ) × ((k < length (node ∷ nodes)) × (p (get_or (node ∷ nodes) k d) ≡ true))) [
@@ -110,10 +110,13 @@ way_within-links_of (suc most) nodes number =
     same None each = refl
     same (Some p) each = ap (λ (way : List ℕ). number ∷ way) (each p)
 
+-- entries have no part in ways
+pub way_of-links_of : (nodes : List Node) (number : ℕ) → way_of (map without_entries nodes) number ≡ way_of nodes number
+way_of-links_of nodes number =
+    ap (λ most. way_within most (map without_entries nodes) number) (length-map nodes without_entries) ∙ way_within-links_of (length nodes) nodes number
+
 leaf_of-links_of : (nodes : List Node) (node : Node) → leaf_of (map without_entries nodes) (without_entries node) ≡ leaf_of nodes node
-leaf_of-links_of nodes node =
-    ap (λ (way : List ℕ). record { number = node.number; changes = length way; save = node.save })
-    (ap (λ most. way_within most (map without_entries nodes) node.number) (length-map nodes without_entries) ∙ way_within-links_of (length nodes) nodes node.number)
+leaf_of-links_of nodes node = ap (λ (way : List ℕ). record { number = node.number; changes = length way; save = node.save }) (way_of-links_of nodes node.number)
 
 leaf_list : (nodes changes : List Node) → map (leaf_of (map without_entries nodes)) (filter (λ (n : Node). not (has_child (map without_entries nodes) n.number)) (map without_entries changes))
     ≡ map (leaf_of nodes) (filter (λ (n : Node). not (has_child nodes n.number)) changes)

@@ -1,12 +1,18 @@
+pub mod BesideLemmas
 pub mod ChangeLemmas
 pub mod DepthLemmas
+pub mod DropLemmas
 pub mod EdgeLemmas
+pub mod ForgetLemmas
 pub mod LeafLemmas
 pub mod MarkLemmas
 pub mod MeetingLemmas
 pub mod MoveLemmas
 pub mod NodeLemmas
 pub mod NumberLemmas
+pub mod PartLemmas
+pub mod PromoteLemmas
+pub mod PushForgets
 pub mod PushLemmas
 pub mod ReadyLemmas
 pub mod SaveLemmas
@@ -15,5 +21,6 @@ pub mod SettledLemmas
 pub mod ShortWays
 pub mod SoundLemmas
 pub mod StayLemmas
+pub mod TakeLemmas
 pub mod WalkLemmas
 pub mod WayLemmas

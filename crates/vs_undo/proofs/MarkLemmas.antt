@@ -70,7 +70,7 @@ module _ {Y : Type 0} (g : Node → Y) (f : Node → Node) (same : (n : Node) �
   map-mapped [] = refl
   map-mapped (node ∷ nodes) = ap (λ y. y ∷ map g (map f nodes)) (same node) ∙ ap (λ ys. g node ∷ ys) (map-mapped nodes)
 
-  at-mapped : ((n : Node) → (f n).number ≡ n.number) → (nodes : List Node) (k : ℕ) → option_map g (node_at (map f nodes) k) ≡ option_map g (node_at nodes k)
+  pub at-mapped : ((n : Node) → (f n).number ≡ n.number) → (nodes : List Node) (k : ℕ) → option_map g (node_at (map f nodes) k) ≡ option_map g (node_at nodes k)
   at-mapped numbers [] k = refl
   at-mapped numbers (node ∷ nodes) k =
       ap (λ n. option_map g (if n == k then Some (f node) else node_at (map f nodes) k)) (numbers node) ∙

@@ -11,6 +11,7 @@ use Rattle.vs_undo.specs.Ways.{node_at, parent_at, save_at, start, IsWay, is_on,
 use Rattle.vs_undo.specs.Edges.{IsLed, IsEdge, AreStates}
 use Rattle.vs_undo.specs.declared.TheConstants.{MAX_NUMBER}
 use Rattle.vs_undo.specs.Sound.{child_of, AreChildren, IsSound}
+use Rattle.vs_undo.specs.Forgetting.{IsFresh}
 use Rattle.vs_entries.specs.Entries.{Leads, LeadsCount}
 use Rattle.vs_undo.specs.History.{without_entries, links_of, changed, with_child, new_node, pushed, put, History, IsHistory, history_pushed, FitsCount, FitsText}
 use Rattle.vs_undo.proofs.ChangeLemmas.{at-changed_same, at_written, was_there, map-changed, map-changed_same}
@@ -186,7 +187,7 @@ module _ (entries : List Entry) (time : ℕ) (parts : Parts) (sound : IsSound pa
         | false ↦ at-changed_same childless (λ node. record node { last_child = parts.last + 1 }) (λ _. refl) (λ _. refl) parts.current grown.nodes k
       ]
 
-  last_save_after : after.last_save ≡ parts.last_save
+  pub last_save_after : after.last_save ≡ parts.last_save
   last_save_after = elim (parts.current == 0) as (λ b. (if b then record grown { root_child = parts.last + 1 } else record grown { nodes = changed parts.current (λ (node : Node). record node { last_child = parts.last + 1 }) grown.nodes }).last_save ≡ parts.last_save) [ true ↦ refl | false ↦ refl ]
 
   -- the new change has no save number
@@ -198,6 +199,10 @@ module _ (entries : List Entry) (time : ℕ) (parts : Parts) (sound : IsSound pa
     where
       save_in : Option Node → ℕ
       save_in o = unwrap_or (option_map (λ (n : Node). n.save) o) 0
+
+  -- one more number was given
+  pub pushed_last : (pushed entries time parts).last ≡ parts.last + 1
+  pushed_last = refl
 
   module _ (room : parts.last < MAX_NUMBER) (some : 0 < length entries) where
     entries_after : (k : ℕ) (node : Node) → node_at grown.nodes k ≡ Some node → 0 < length node.entries
@@ -226,6 +231,23 @@ module _ (entries : List Entry) (time : ℕ) (parts : Parts) (sound : IsSound pa
       saves = saves_same after parts save_after last_save_after sound.saves;
       entries = entries_same childless (λ _. refl) after.nodes grown.nodes childless_same entries_after;
     }
+
+    -- the new change is current and has no child
+    pub pushed_fresh : IsFresh (pushed entries time parts)
+    pushed_fresh = record {
+      sound = pushed_sound;
+      some = λ e. N≢0 (sym current_after ∙ e);
+      leaf = ap (child_of after) current_after ∙ elim (child_after parts.current (parts.last + 1) grown (parts.last + 1)) [
+        | inl h ↦ h ∙ (child_grown (parts.last + 1) ∙ (ap (λ o. if parts.last + 1 == 0 then parts.root_child else last_child_in o) fresh ∙ ap (λ b. if b then parts.root_child else 0) not_zero))
+        | inr h ↦ absurd (let most = sound.numbers.below parts.current sound.current in omega (arith, h.0, most))
+      ];
+    }
+      where
+        current_after : after.current ≡ parts.last + 1
+        current_after = refl
+
+        not_zero : (parts.last + 1 == 0) ≡ false
+        not_zero = grind (arith, nat_tests)
 
   module _ {X : Type 0} (L : Entry → X → X → Type 0) (states : ℕ → X) (are_states : AreStates L parts states) (x : X) (led : IsLed L entries x (states parts.current)) where
     put_same : put (parts.last + 1) x states (parts.last + 1) ≡ x

@@ -10,3 +10,5 @@ pub mod Moves
 pub mod Numbers
 pub mod Leaves
 pub mod Writes
+pub mod Forgetting
+pub mod Beside

@@ -11,7 +11,7 @@ use vs_entries::{EditErr, entry_of_splice};
 use vs_text::Line;
 
 /// Puts new lines in the place of `old` lines from line `top` on, counted from 0, commits the text and keeps the change in the
-/// tree. It gives the number of the change.
+/// tree, which forgets nothing. It gives the number of the change.
 ///
 /// After an `Err` tree and text are as before.
 pub fn change<S: LineStore>(
@@ -40,10 +40,10 @@ pub fn change<S: LineStore>(
         text.rollback();
         return Err(UndoErr::from(error));
     }
-    match tree.push(alloc, back, time) {
-        Ok(number) => {
+    match tree.push(alloc, back, time, u64::MAX) {
+        Ok(pushed) => {
             text.commit();
-            Ok(number)
+            Ok(pushed.number)
         }
         Err(error) => {
             text.rollback();

@@ -2,9 +2,11 @@
 #![tactic(auto)]
 
 mod add;
+mod beside;
 mod cross;
 mod edit;
 mod error;
+mod forget;
 mod install;
 mod leaves;
 mod mark;
@@ -21,7 +23,7 @@ pub use edit::change;
 pub use error::UndoErr;
 pub use leaves::Leaf;
 pub use parts::{Entries, Node, Nodes, Parts};
-pub use tree::UndoTree;
+pub use tree::{Pushed, UndoTree};
 pub use way::{find, last_child, path_between, way_of};
 
 /// The greatest number that a new change gets.

@@ -5,12 +5,14 @@ ghost use Rattle.vs_undo.specs.Ways.{parent_at, IsKept};
 ghost use Rattle.vs_undo.specs.Numbers.{above, below, nth_above, nth_below};
 ghost use Rattle.vs_undo.specs.Writes.{IsAtNewestWrite, IsAtOldestWrite, IsEarlierWrite, IsLaterWrite};
 ghost use Rattle.vs_undo.specs.History.{first_history, first_parts, history_marked, history_pushed, marked, next_save, pushed, History, IsHistory, FitsCount, FitsText};
+ghost use Rattle.vs_undo.specs.Forgetting.{forgotten, history_forgotten, promoted_root};
 ghost use Rattle.vs_undo.specs.Moves.{IsMove, IsReady};
 ghost use Rattle.vs_undo.specs.Sound.{IsSound, child_of};
 ghost use Rattle.vs_undo.specs.Leaves.{AreLeaves, leaves_of};
 ghost use Rattle.vs_undo.specs.Errors.{IsMoveErr};
 
 use crate::add::push;
+use crate::forget::{forget, promoted_root};
 use crate::leaves::leaves_of;
 use crate::mark::mark;
 use crate::moves::go_to;
@@ -22,6 +24,13 @@ use std::alloc::{AllocError, Global};
 use std::marker::Model;
 use vs_edit::LineStore;
 use vs_entries::Entry;
+
+/// A change that was added: its number, and the number that the present state 0 had before, where that was another.
+#[derive(Clone, Copy, Debug, PartialEq, Eq)]
+pub struct Pushed {
+    pub number: u64,
+    pub root: Option<u64>,
+}
 
 /// A history of texts, one of which is current: a tree of numbered states, of which 0 is the oldest (`:help undo-tree`).
 ///
@@ -93,18 +102,31 @@ impl UndoTree {
         })
     }
 
-    /// Adds a change of the current text, with the entry that leads back from the new text to the one before, and gives its
-    /// number. The new text is then the current one. The time is in seconds since 1970.
+    /// Adds a change of the current text, with the entry that leads back from the new text to the one before. The new text is then
+    /// the current one. The time is in seconds since 1970. Then the oldest states are forgotten while more changes are kept than
+    /// `levels` (`:help 'undolevels'`), which takes no memory.
     ///
     /// After an `Err` the tree is as before.
-    pub fn push(&mut self, alloc: Global, back: Entry, time: u64) -> Result<u64, UndoErr>
-        ensures number { IfOk result (λ number. number ≡ self.old.last + 1) }
-        ensures parts { OnOk result (self.new ≡ pushed (back ∷ []) time self.old) }
+    pub fn push(
+        &mut self,
+        alloc: Global,
+        back: Entry,
+        time: u64,
+        levels: u64,
+    ) -> Result<Pushed, UndoErr>
+        requires some { 1 ≤ levels }
+        ensures number { IfOk result (λ change. change.number ≡ self.old.last + 1) }
+        ensures parts { OnOk result (self.new ≡ (forgotten levels (pushed (back ∷ []) time self.old)).tree) }
+        ensures root { IfOk result (λ change. change.root ≡ promoted_root (forgotten levels (pushed (back ∷ []) time self.old)).root) }
+        ensures few { OnOk result (length self.new.nodes ≤ levels) }
+        ensures current { OnOk result (self.new.current ≡ self.old.last + 1) }
+        ensures last { OnOk result ((self.new.last ≡ self.old.last + 1) × (self.new.last_save ≡ self.old.last_save)) }
+        ensures whole { OnOk result (self.old.last < levels → self.new ≡ pushed (back ∷ []) time self.old) }
         ensures room { OnOk result (self.old.last < MAX_NUMBER) }
         ensures err { IfErr result (λ e. ((e ≡ UndoErr.NumbersFull) × (MAX_NUMBER ≤ self.old.last)) ⊎ (e ≡ UndoErr.NoMemory)) }
         ensures err_tree { OnErr result (self.new ≡ self.old) }
         ensures history { OnOk result ((before after : List (List ℕ)) (history : History) → IsHistory self.old before history → Leads back after before
-            → IsHistory self.new after (history_pushed after time history)) }
+            → IsHistory self.new after (history_forgotten levels (history_pushed after time history))) }
 
         // A move may follow.
         ensures counts { OnOk result ((before after : ℕ) → FitsCount self.old before → LeadsCount back after before → FitsCount self.new after) }
@@ -115,7 +137,12 @@ impl UndoTree {
             return Err(UndoErr::NumbersFull);
         }
         push(alloc, parts, back, time)?;
-        Ok(parts.last)
+        let number = parts.last;
+        let root = forget(parts, levels, self.settled);
+        Ok(Pushed {
+            number,
+            root: promoted_root(root),
+        })
     }
 
     /// Marks the current state as written, and gives the save number. State 0 gets no mark. It takes no memory.

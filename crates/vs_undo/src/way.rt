@@ -18,12 +18,19 @@ fn search(nodes: &[Node], number: u64) -> Option<usize>
     nodes.binary_search_by_key(&number, |node| node.number).ok()
 }
 
+fn first_number(nodes: &[Node]) -> u64 {
+    if nodes.is_empty() {
+        return 1;
+    }
+    nodes[0].number
+}
+
 /// The place of the change with this number: at once as long as no number is left out, and else in logarithmic time.
 pub fn find(nodes: &[Node], number: u64) -> Option<usize>
     requires { IsStrictlyIncreasing (numbers nodes.now) }
     ensures { result ≡ position (λ (node : Node). node.number == number) nodes.now }
 {
-    let place = number.wrapping_sub(1) as usize;
+    let place = number.wrapping_sub(first_number(nodes)) as usize;
     if place < nodes.len() && nodes[place].number == number {
         return Some(place);
     }
