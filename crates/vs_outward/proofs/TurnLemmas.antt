@@ -1,5 +1,5 @@
 -- A path goes on to a state from where it is cut: at a state on the way, at the state's parent, or nowhere.
-use Rattle.std.proofs.Common.{◌≡◌, ◌≢◌, ℕ, ◌+◌, ◌-◌, ◌<◌, ◌≤◌, List, [], ◌∷◌, ◌++◌, length, get_or, take, drop, map, min, reverse, true, false, Option, Some, None, option_map, is_some, sym, ap, subst, ◌∙◌, refl, inr, arith, append_assoc, append-nil, length-append, if◌then◌else◌}
+use Rattle.std.proofs.Common.{◌≡◌, ℕ, ◌+◌, ◌-◌, ◌<◌, ◌≤◌, List, [], ◌∷◌, ◌++◌, length, get_or, take, drop, map, min, reverse, true, false, Option, Some, None, option_map, is_some, sym, ap, subst, ◌∙◌, refl, inr, arith, append_assoc, append-nil, length-append, if◌then◌else◌}
 use Rattle.std.proofs.lemmas.List.{drop-take, drop_all, get_or_default, length-take-le, reverse-append, take-append-drop, take-append-le, take-map, take-take, take_all, take_at, take_more}
 use Rattle.vs_edit.proofs.UndoingLemmas.{reverse_pushed}
 use Rattle.vs_edit.specs.declared.store.LineStore.{Ghosts}

@@ -1,5 +1,5 @@
 -- At the end each state is settled.
-use Rattle.std.proofs.Common.{◌≡◌, Err, ◌<◌, ◌++◌, take, reverse, refl, inl, inr, ℕ, List, None, Some, Option, false, true, [], length, get_or, sym, ap, subst, ◌∙◌, arith}
+use Rattle.std.proofs.Common.{◌≡◌, Err, ◌<◌, ◌++◌, take, reverse, refl, inl, inr, ℕ, List, None, Some, Option, [], length, get_or, sym, ap, subst, ◌∙◌, arith}
 use Rattle.std.specs.Prelude.{All, Contains}
 use Rattle.std.proofs.lemmas.Bool.{cases_lt}
 use Rattle.std.proofs.lemmas.Result.{err_from_is_err_and}

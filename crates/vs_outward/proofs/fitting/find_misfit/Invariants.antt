@@ -1,4 +1,4 @@
-use Rattle.std.proofs.Common.{◌<◌, ◌≤◌, ℕ, get_or, length}
+use Rattle.std.proofs.Common.{◌<◌, ◌≤◌, ℕ, get_or}
 use Rattle.vs_edit.specs.Calls.{CanGoBack}
 use Rattle.vs_undo.specs.declared.parts.Node.{Node}
 use Rattle.vs_outward.specs.Trails.{IsPath, IsSearch, IsSettledAt}

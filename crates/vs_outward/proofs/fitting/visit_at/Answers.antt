@@ -7,7 +7,6 @@ use Rattle.vs_undo.specs.Ways.{IsKept}
 use Rattle.vs_undo.specs.declared.parts.Node.{Node}
 use Rattle.vs_undo.proofs.SearchLemmas.{index_found}
 use Rattle.vs_outward.specs.Outward.{IsOutward}
-use Rattle.vs_outward.specs.Trails.{IsSettledAt}
 use Rattle.vs_outward.proofs.GoingLemmas.{out_of_memory}
 use Rattle.vs_outward.proofs.TurnLemmas.{settled_way}
 use Rattle.vs_outward.proofs.fitting.visit_at.Goals as goal

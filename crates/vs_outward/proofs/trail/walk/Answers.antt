@@ -1,5 +1,5 @@
 -- The steps that are left are those with which the path begins, and the others follow as far as they fit.
-use Rattle.std.proofs.Common.{◌≡◌, ℕ, ◌+◌, ◌≤◌, ◌++◌, ◌∷◌, List, [], Option, Some, None, Result, Ok, Err, IfOk, IfNone, IfSome, OnOk, length, map, reverse, take, sym, ap, ◌∙◌, arith, length-append}
+use Rattle.std.proofs.Common.{◌≡◌, ℕ, ◌+◌, ◌++◌, ◌∷◌, List, [], Option, Some, None, Result, Ok, Err, IfOk, IfNone, IfSome, OnOk, length, map, reverse, take, sym, ap, ◌∙◌, arith, length-append}
 use Rattle.std.proofs.lemmas.List.{length-map, take_all, take_at}
 use Rattle.std.proofs.Math.Seq.{take-append-add}
 use Rattle.vs_edit.specs.declared.store.LineStore.{Ghosts}

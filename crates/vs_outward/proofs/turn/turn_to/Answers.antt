@@ -1,7 +1,6 @@
 -- The path goes on from the way, from where it leads to the parent, or from the start.
 use Rattle.std.proofs.Common.{◌≡◌, ◌++◌, ◌∷◌, ◌-◌, ◌≤◌, [], Result, Ok, Err, IfOk, get_or, length, take, sym, ap, subst, ◌∙◌}
 use Rattle.vs_undo.specs.Ways.{is_on, IsKept}
-use Rattle.vs_undo.specs.declared.parts.Node.{Node}
 use Rattle.vs_outward.specs.declared.turn.Turn.{Turn}
 use Rattle.vs_outward.specs.Trails.{IsTurn}
 use Rattle.vs_outward.proofs.TurnLemmas.{number_kept, number_there, parent_kept, parent_there, turn_from_path, turn_from_way}

@@ -1,4 +1,3 @@
-use Rattle.std.proofs.Common.{length}
 use Rattle.vs_outward.proofs.CountLemmas.{step_noted}
 use Rattle.vs_outward.proofs.way.counts_on.Goals as goal
 
