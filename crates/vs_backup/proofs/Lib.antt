@@ -3,6 +3,7 @@ pub mod Backed
 pub mod Calls
 pub mod Choosing
 pub mod Copying
+pub mod Doing
 pub mod Filling
 pub mod Frames
 pub mod Free
@@ -15,5 +16,6 @@ pub mod Places
 pub mod Replacing
 pub mod Settling
 pub mod Starting
+pub mod Stops
 pub mod Unbacked
 pub mod Whole

@@ -7,7 +7,7 @@ use Rattle.vs_host.specs.Disk.{Disk, Name, IsImage, names_of, names_at, content_
 use Rattle.vs_host.specs.Names.{temporary}
 use Rattle.vs_host.specs.World.{Scene, content_of}
 use Rattle.vs_disk.specs.Images.{HoldsBytes, IsSynced, MayLeave, Takes}
-use Rattle.vs_disk.specs.Runs.{Runs, Looks}
+use Rattle.vs_disk.specs.Runs.{FailsLast, Looks, Quiet, Runs}
 use Rattle.vs_backup.specs.Works.{IsGone, LeadsAway, LeadsTo, Narrowed, Spares, SparesOthers, StandsUnder, one_name, two_names, three_names}
 use Rattle.vs_backup.specs.Backups.{copies}
 use Rattle.vs_backup.specs.declared.options.WriteOptions.{WriteOptions}
@@ -35,9 +35,24 @@ abbrev pub nowhere : Result ℕ Stop → Result ℕ WriteErr
 nowhere (Ok size) = Ok size
 nowhere (Err why) = Err (stopped why Nowhere)
 
+-- No call failed until the file had these bytes in each image. Of the calls after that, which take the backup away, none but the last
+-- one failed.
+pub record BecomesWritten (name : Name) (new : List ℕ) (before after : Scene) : Type 0 where
+  pub written : Scene
+  pub quiet : Quiet before written
+  pub holds : HoldsBytes name new written.folder
+  pub later : FailsLast written after
+
 -- a call failed
 abbrev pub IsFailed : {T : Type 0} → Result T WriteErr → Type 0
 IsFailed result = (place : Place) × IsErrOf result (error.Failed place)
+
+-- Which calls of a write failed: of one that was carried out, none before the file had the new bytes; else none but the last one, and
+-- none at all unless that is answered.
+pub record FailsNoEarlier (name : Name) (new : List ℕ) (before after : Scene) (result : Result ℕ WriteErr) : Type 0 where
+  pub done : OnOk result (BecomesWritten name new before after)
+  pub last : OnErr result (FailsLast before after)
+  pub none : OnErr result (¬ IsFailed result → Quiet before after)
 
 -- the write was refused with this place of the old bytes
 abbrev pub OldIn : {T : Type 0} → Place → Result T WriteErr → Type 0

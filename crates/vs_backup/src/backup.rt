@@ -3,9 +3,9 @@ ghost use Rattle.std.specs.Prelude.{◌≡◌, ◌≢◌, true, false, ℕ, List
 ghost use Rattle.vs_text.specs.Text.{file_of};
 ghost use Rattle.vs_host.specs.Disk.{Name};
 ghost use Rattle.vs_host.specs.World.{content_of};
-ghost use Rattle.vs_backup.specs.Desks.{AreApart, GoesOn};
+ghost use Rattle.vs_backup.specs.Desks.{AreApart, Continues, GoesOn};
 ghost use Rattle.vs_backup.specs.Works.{LeavesNone, SparesTwo};
-ghost use Rattle.vs_backup.specs.Writing.{CopiesBytes, IsFailed, IsFilled, IsFilledFirm, IsSettled, MakesAnewFrom, MayBeAbsent, ReplacesByCopy, StartedOverFrom, StartsOverFrom, StillHolds, WritesBacked, WritesOver};
+ghost use Rattle.vs_backup.specs.Writing.{CopiesBytes, FailsNoEarlier, IsFailed, IsFilled, IsFilledFirm, IsSettled, MakesAnewFrom, MayBeAbsent, ReplacesByCopy, StartedOverFrom, StartsOverFrom, StillHolds, WritesBacked, WritesOver};
 
 use crate::Desk;
 use crate::errors::{Place, Stop, WriteErr};
@@ -30,7 +30,7 @@ fn copy_to_backup<D: Desk>(
     ensures takes { ReplacesByCopy (D.tells).folder name.now backup.now (D.scene desk.old) (D.scene desk.new) }
     ensures ok { OnOk result (CopiesBytes (D.tells).folder name.now backup.now (D.scene desk.old) (D.scene desk.new)) }
     ensures aside { OnOk result (LeavesNone (D.tells).folder temporary.now (D.scene desk.new)) }
-    ensures kept { GoesOn D.scene D.valid D.stays (IsErr result) desk.old desk.new }
+    ensures kept { GoesOn D.tells D.scene D.valid D.stays (IsErr result) desk.old desk.new }
 {
     make_anew(desk, temporary, Readers::Owner)?;
     fill_copy(desk, name, temporary, buffer)?;
@@ -54,7 +54,7 @@ fn start_over<D: Desk>(
     ensures ok { OnOk result (StartedOverFrom (D.tells).folder name.now backup.now (D.scene desk.old) (D.scene desk.new)) }
     ensures aside { OnOk result (LeavesNone (D.tells).folder temporary.now (D.scene desk.new)) }
     ensures err { OnErr result (StillHolds (D.tells).folder name.now (D.scene desk.old) (D.scene desk.new)) }
-    ensures kept { GoesOn D.scene D.valid D.stays (IsErr result) desk.old desk.new }
+    ensures kept { GoesOn D.tells D.scene D.valid D.stays (IsErr result) desk.old desk.new }
 {
     copy_to_backup(desk, name, backup, temporary, buffer)?;
     empty_file(desk, name)?;
@@ -77,7 +77,7 @@ fn write_copying<D: Desk>(
     ensures over { IsTrue (D.tells).folder → (old : List ℕ) → IsSettled name.now old (D.scene desk.old).folder → (text : List (List ℕ)) → D.has_text desk.old text
         → WritesOver true name.now temporary.now backup.now old (file_of text) (D.scene desk.old) (D.scene desk.new) result }
     ensures no_name { IsErrOf result WriteErr.NoBackupName → ⊥ }
-    ensures kept { GoesOn D.scene D.valid D.stays (IsFailed result) desk.old desk.new }
+    ensures kept { GoesOn D.tells D.scene D.valid D.stays (IsFailed result) desk.old desk.new }
 {
     match start_over(desk, name, backup, temporary, piece) {
         Ok(()) => match fill_text(alloc, desk, name, None, piece) {
@@ -105,7 +105,7 @@ fn fill_anew<D: Desk>(
     ensures anew { MakesAnewFrom (D.tells).folder name.now backup.now (D.scene desk.old) (D.scene desk.new) }
     ensures absent { MayBeAbsent (D.tells).folder name.now (D.scene desk.new) }
     ensures ok { IfOk result (λ size. IsFilled (D.tells).folder name.now (D.has_text desk.old) size (D.scene desk.new)) }
-    ensures kept { GoesOn D.scene D.valid D.stays (IsErrOf result Stop.Failed) desk.old desk.new }
+    ensures kept { GoesOn D.tells D.scene D.valid D.stays (IsErrOf result Stop.Failed) desk.old desk.new }
 {
     desk.create_private(name)?;
     fill_text(alloc, desk, name, Some(backup), piece)
@@ -127,7 +127,7 @@ fn write_anew<D: Desk>(
     ensures anew { MakesAnewFrom (D.tells).folder name.now backup.now (D.scene desk.old) (D.scene desk.new) }
     ensures ok { IfOk result (λ size. IsFilledFirm (D.tells).folder name.now (D.has_text desk.old) size (D.scene desk.new)) }
     ensures err { OnErr result (MayBeAbsent (D.tells).folder name.now (D.scene desk.new)) }
-    ensures kept { GoesOn D.scene D.valid D.stays (IsErrOf result Stop.Failed) desk.old desk.new }
+    ensures kept { GoesOn D.tells D.scene D.valid D.stays (IsErrOf result Stop.Failed) desk.old desk.new }
 {
     let size = fill_anew(alloc, desk, name, backup, piece)?;
     sync_directory(desk)?;
@@ -150,7 +150,7 @@ fn write_moving<D: Desk>(
     ensures over { IsTrue (D.tells).folder → (old : List ℕ) → IsSettled name.now old (D.scene desk.old).folder → (text : List (List ℕ)) → D.has_text desk.old text
         → (temporary : Name) → WritesOver false name.now temporary backup.now old (file_of text) (D.scene desk.old) (D.scene desk.new) result }
     ensures no_name { IsErrOf result WriteErr.NoBackupName → ⊥ }
-    ensures kept { GoesOn D.scene D.valid D.stays (IsFailed result) desk.old desk.new }
+    ensures kept { GoesOn D.tells D.scene D.valid D.stays (IsFailed result) desk.old desk.new }
 {
     match desk.rename(name, backup) {
         Ok(()) => match write_anew(alloc, desk, name, backup, piece) {
@@ -180,7 +180,7 @@ fn write_over<D: Desk>(
     ensures over { IsTrue (D.tells).folder → (old : List ℕ) → IsSettled name.now old (D.scene desk.old).folder → (text : List (List ℕ)) → D.has_text desk.old text
         → WritesOver copying name.now temporary.now backup.now old (file_of text) (D.scene desk.old) (D.scene desk.new) result }
     ensures no_name { IsErrOf result WriteErr.NoBackupName → ⊥ }
-    ensures kept { GoesOn D.scene D.valid D.stays (IsFailed result) desk.old desk.new }
+    ensures kept { GoesOn D.tells D.scene D.valid D.stays (IsFailed result) desk.old desk.new }
 {
     if copying {
         return write_copying(alloc, desk, name, backup, temporary, piece);
@@ -207,7 +207,9 @@ fn write_backed<D: Desk>(
     ensures backed { IsTrue (D.tells).folder → (old : List ℕ) → IsSettled name.now old (D.scene desk.old).folder → (text : List (List ℕ)) → D.has_text desk.old text
         → WritesBacked copying keep name.now temporary.now backup.now old (file_of text) (D.scene desk.old) (D.scene desk.new) result }
     ensures no_name { IsErrOf result WriteErr.NoBackupName → ⊥ }
-    ensures kept { GoesOn D.scene D.valid D.stays (IsFailed result) desk.old desk.new }
+    ensures calls { IsTrue (D.tells).folder → (text : List (List ℕ)) → D.has_text desk.old text
+        → FailsNoEarlier name.now (file_of text) (D.scene desk.old) (D.scene desk.new) result }
+    ensures kept { Continues D.scene D.valid D.stays (IsFailed result) desk.old desk.new }
 {
     let size = write_over(alloc, desk, name, backup, temporary, copying, piece)?;
     if keep {
@@ -237,7 +239,9 @@ pub(crate) fn write_with_backup<D: Desk>(
     ensures backed { IsTrue (D.tells).folder → (old : List ℕ) → content_of (D.scene desk.old) name.now ≡ Some old → (text : List (List ℕ)) → D.has_text desk.old text
         → WritesBacked copying keep name.now temporary.now backup.now old (file_of text) (D.scene desk.old) (D.scene desk.new) result }
     ensures no_name { IsErrOf result WriteErr.NoBackupName → ⊥ }
-    ensures kept { GoesOn D.scene D.valid D.stays (IsFailed result) desk.old desk.new }
+    ensures calls { IsTrue (D.tells).folder → (text : List (List ℕ)) → D.has_text desk.old text
+        → FailsNoEarlier name.now (file_of text) (D.scene desk.old) (D.scene desk.new) result }
+    ensures kept { Continues D.scene D.valid D.stays (IsFailed result) desk.old desk.new }
 {
     match settle(desk, name) {
         Ok(()) => write_backed(alloc, desk, name, backup, temporary, copying, keep, piece),

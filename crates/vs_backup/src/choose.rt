@@ -48,7 +48,7 @@ pub(crate) fn first_free<D: Desk>(
     ensures found { IfOk result (λ found. IsTrue (D.tells).folder → let free = first_free (D.scene desk.old).folder (candidates name.now) in
         MatchOption found (free ≡ None) (λ backup. free ≡ Some (string_bytes backup))) }
     ensures named { IfOk result (λ found. IfSome found (λ backup. IsBackupName name.now (string_bytes backup))) }
-    ensures kept { OnlyReads D.scene D.valid D.stays (IsErrOf result Stop.Failed) desk.old desk.new }
+    ensures kept { OnlyReads D.tells D.scene D.valid D.stays (IsErrOf result Stop.Failed) desk.old desk.new }
 {
     let plain = backup_name(alloc, name)?;
     if !desk.has(&plain)? {

@@ -36,7 +36,7 @@ pub trait Desk: World {
         ensures value { IfOk result (λ there. IsTrue (Self.tells).folder → there ≡ is_some (content_of (Self.scene self.old) name.now)) }
         ensures quiet { OnOk result ((Self.scene self.new).folder_faults ≡ (Self.scene self.old).folder_faults) }
         ensures told { IsTrue (Self.tells).folder → IsTold Looked (name.now ∷ []) result (Self.scene self.old) (Self.scene self.new) }
-        ensures kept { OnlyReads Self.scene valid stays (IsErr result) self.old self.new };
+        ensures kept { OnlyReads Self.tells Self.scene valid stays (IsErr result) self.old self.new };
 
     /// Makes an empty file under a name that is not there. Who may read it is the system's default.
     fn create(&mut self, name: &str) -> Result<(), Failed>
@@ -47,7 +47,7 @@ pub trait Desk: World {
         ensures err { OnErr result ((Self.scene self.new).folder ≡ (Self.scene self.old).folder) }
         ensures quiet { OnOk result ((Self.scene self.new).folder_faults ≡ (Self.scene self.old).folder_faults) }
         ensures told { IsTrue (Self.tells).folder → IsTold Created (name.now ∷ []) result (Self.scene self.old) (Self.scene self.new) }
-        ensures kept { GoesOn Self.scene valid stays (IsErr result) self.old self.new };
+        ensures kept { GoesOn Self.tells Self.scene valid stays (IsErr result) self.old self.new };
 
     /// Makes an empty file under a name that is not there, which nobody but its owner may read.
     fn create_private(&mut self, name: &str) -> Result<(), Failed>
@@ -58,7 +58,7 @@ pub trait Desk: World {
         ensures err { OnErr result ((Self.scene self.new).folder ≡ (Self.scene self.old).folder) }
         ensures quiet { OnOk result ((Self.scene self.new).folder_faults ≡ (Self.scene self.old).folder_faults) }
         ensures told { IsTrue (Self.tells).folder → IsTold Created (name.now ∷ []) result (Self.scene self.old) (Self.scene self.new) }
-        ensures kept { GoesOn Self.scene valid stays (IsErr result) self.old self.new };
+        ensures kept { GoesOn Self.tells Self.scene valid stays (IsErr result) self.old self.new };
 
     /// Gives the file `to` the mode bits of the file `from`, where the system has them and allows it. Nothing that is told has
     /// them, so it counts as no call.
@@ -78,7 +78,7 @@ pub trait Desk: World {
         ensures value { IfOk result (λ size. IsTrue (Self.tells).folder → IfSome (content_of (Self.scene self.old) name.now) (λ bytes. size ≡ length bytes)) }
         ensures quiet { OnOk result ((Self.scene self.new).folder_faults ≡ (Self.scene self.old).folder_faults) }
         ensures told { IsTrue (Self.tells).folder → IsTold Measured (name.now ∷ []) result (Self.scene self.old) (Self.scene self.new) }
-        ensures kept { OnlyReads Self.scene valid stays (IsErr result) self.old self.new };
+        ensures kept { OnlyReads Self.tells Self.scene valid stays (IsErr result) self.old self.new };
 
     /// Fills `into` with the bytes of the file from the place `at` on, counted from 0.
     fn read_at(&mut self, name: &str, at: u64, into: &mut [u8]) -> Result<(), Failed>
@@ -89,7 +89,7 @@ pub trait Desk: World {
             into.new ≡ take (length into.old) (drop at bytes))) }
         ensures quiet { OnOk result ((Self.scene self.new).folder_faults ≡ (Self.scene self.old).folder_faults) }
         ensures told { IsTrue (Self.tells).folder → IsTold Read (name.now ∷ []) result (Self.scene self.old) (Self.scene self.new) }
-        ensures kept { OnlyReads Self.scene valid stays (IsErr result) self.old self.new };
+        ensures kept { OnlyReads Self.tells Self.scene valid stays (IsErr result) self.old self.new };
 
     /// Writes the piece into the file from the place `at` on, counted from 0. Where that fails, its range may have any bytes,
     /// and the file any length from the old one to the one asked for.
@@ -101,7 +101,7 @@ pub trait Desk: World {
         ensures some { IsTrue (Self.tells).folder → ChangesFile name.now (WritesSome at (length piece.now)) (Self.scene self.old).folder (Self.scene self.new).folder }
         ensures quiet { OnOk result ((Self.scene self.new).folder_faults ≡ (Self.scene self.old).folder_faults) }
         ensures told { IsTrue (Self.tells).folder → IsTold Wrote (name.now ∷ []) result (Self.scene self.old) (Self.scene self.new) }
-        ensures kept { GoesOn Self.scene valid stays (IsErr result) self.old self.new };
+        ensures kept { GoesOn Self.tells Self.scene valid stays (IsErr result) self.old self.new };
 
     /// Takes away the bytes of the file from the place `len` on.
     fn cut(&mut self, name: &str, len: u64) -> Result<(), Failed>
@@ -112,7 +112,7 @@ pub trait Desk: World {
         ensures err { OnErr result ((Self.scene self.new).folder ≡ (Self.scene self.old).folder) }
         ensures quiet { OnOk result ((Self.scene self.new).folder_faults ≡ (Self.scene self.old).folder_faults) }
         ensures told { IsTrue (Self.tells).folder → IsTold Cut (name.now ∷ []) result (Self.scene self.old) (Self.scene self.new) }
-        ensures kept { GoesOn Self.scene valid stays (IsErr result) self.old self.new };
+        ensures kept { GoesOn Self.tells Self.scene valid stays (IsErr result) self.old self.new };
 
     /// Syncs the file: a stop leaves its bytes as they are now.
     fn sync(&mut self, name: &str) -> Result<(), Failed>
@@ -123,7 +123,7 @@ pub trait Desk: World {
         ensures err { OnErr result ((Self.scene self.new).folder ≡ (Self.scene self.old).folder) }
         ensures quiet { OnOk result ((Self.scene self.new).folder_faults ≡ (Self.scene self.old).folder_faults) }
         ensures told { IsTrue (Self.tells).folder → IsTold Synced (name.now ∷ []) result (Self.scene self.old) (Self.scene self.new) }
-        ensures kept { GoesOn Self.scene valid stays (IsErr result) self.old self.new };
+        ensures kept { GoesOn Self.tells Self.scene valid stays (IsErr result) self.old self.new };
 
     /// Gives the file `from` the name `to`, which it takes from a file that has it.
     fn rename(&mut self, from: &str, to: &str) -> Result<(), Failed>
@@ -136,7 +136,7 @@ pub trait Desk: World {
         ensures err { OnErr result ((Self.scene self.new).folder ≡ (Self.scene self.old).folder) }
         ensures quiet { OnOk result ((Self.scene self.new).folder_faults ≡ (Self.scene self.old).folder_faults) }
         ensures told { IsTrue (Self.tells).folder → IsTold Renamed (from.now ∷ to.now ∷ []) result (Self.scene self.old) (Self.scene self.new) }
-        ensures kept { GoesOn Self.scene valid stays (IsErr result) self.old self.new };
+        ensures kept { GoesOn Self.tells Self.scene valid stays (IsErr result) self.old self.new };
 
     /// Takes the name away.
     fn remove(&mut self, name: &str) -> Result<(), Failed>
@@ -147,7 +147,7 @@ pub trait Desk: World {
         ensures err { OnErr result ((Self.scene self.new).folder ≡ (Self.scene self.old).folder) }
         ensures quiet { OnOk result ((Self.scene self.new).folder_faults ≡ (Self.scene self.old).folder_faults) }
         ensures told { IsTrue (Self.tells).folder → IsTold Removed (name.now ∷ []) result (Self.scene self.old) (Self.scene self.new) }
-        ensures kept { GoesOn Self.scene valid stays (IsErr result) self.old self.new };
+        ensures kept { GoesOn Self.tells Self.scene valid stays (IsErr result) self.old self.new };
 
     /// Syncs the names: a stop leaves them as they are now.
     fn sync_names(&mut self) -> Result<(), Failed>
@@ -156,7 +156,7 @@ pub trait Desk: World {
         ensures err { OnErr result ((Self.scene self.new).folder ≡ (Self.scene self.old).folder) }
         ensures quiet { OnOk result ((Self.scene self.new).folder_faults ≡ (Self.scene self.old).folder_faults) }
         ensures told { IsTrue (Self.tells).folder → IsTold SyncedNames [] result (Self.scene self.old) (Self.scene self.new) }
-        ensures kept { GoesOn Self.scene valid stays (IsErr result) self.old self.new };
+        ensures kept { GoesOn Self.tells Self.scene valid stays (IsErr result) self.old self.new };
 
     /// Reports that bytes which were read back are not those that were written.
     fn damaged(&mut self)
@@ -187,7 +187,7 @@ pub trait Desk: World {
         ensures lines { OnOk result ((text : List (List ℕ)) → has_text self.old text → into.new.items ≡ file_of (cut_out text at count)) }
         ensures are_lines { OnOk result (HoldsLines count into.new.items) }
         ensures looks { IsTrue (Self.tells).folder → Looks (Self.scene self.old) (Self.scene self.new) }
-        ensures kept { OnlyReads Self.scene valid stays (IsErrOf result StoreErr.Failed) self.old self.new };
+        ensures kept { OnlyReads Self.tells Self.scene valid stays (IsErrOf result StoreErr.Failed) self.old self.new };
 
     /// A desk that tells has a text.
     ghost tells_one: { (desk : Self) → valid desk → IsTrue (Self.tells).folder → (text : List (List ℕ)) × has_text desk text };

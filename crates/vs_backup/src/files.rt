@@ -20,7 +20,7 @@ fn sync_file<D: Desk>(desk: &mut D, name: &str) -> Result<(), Failed>
     requires there { IsTrue (D.tells).folder → IsSome (content_of (D.scene desk.old) name.now) }
     ensures settles { Settles (D.tells).folder name.now (D.scene desk.old) (D.scene desk.new) }
     ensures ok { OnOk result (SyncsBytes (D.tells).folder name.now (D.scene desk.old) (D.scene desk.new)) }
-    ensures kept { GoesOn D.scene D.valid D.stays (IsErr result) desk.old desk.new }
+    ensures kept { GoesOn D.tells D.scene D.valid D.stays (IsErr result) desk.old desk.new }
 {
     desk.sync(name)
 }
@@ -32,7 +32,7 @@ pub(crate) fn sync_directory<D: Desk>(desk: &mut D) -> Result<(), Failed>
     ensures ok { OnOk result (SettlesSynced (D.tells).folder (D.scene desk.old) (D.scene desk.new)) }
     ensures all { OnOk result (SyncsAll (D.tells).folder (D.scene desk.old) (D.scene desk.new)) }
     ensures err { OnErr result (Unchanged (D.tells).folder (D.scene desk.old) (D.scene desk.new)) }
-    ensures kept { GoesOn D.scene D.valid D.stays (IsErr result) desk.old desk.new }
+    ensures kept { GoesOn D.tells D.scene D.valid D.stays (IsErr result) desk.old desk.new }
 {
     desk.sync_names()
 }
@@ -45,7 +45,7 @@ pub(crate) fn settle<D: Desk>(desk: &mut D, name: &str) -> Result<(), Failed>
     requires there { IsTrue (D.tells).folder → IsSome (content_of (D.scene desk.old) name.now) }
     ensures settles { Settles (D.tells).folder name.now (D.scene desk.old) (D.scene desk.new) }
     ensures ok { OnOk result (SettlesBytes (D.tells).folder name.now (D.scene desk.old) (D.scene desk.new)) }
-    ensures kept { GoesOn D.scene D.valid D.stays (IsErr result) desk.old desk.new }
+    ensures kept { GoesOn D.tells D.scene D.valid D.stays (IsErr result) desk.old desk.new }
 {
     sync_file(desk, name)?;
     sync_directory(desk)?;
@@ -59,7 +59,7 @@ pub(crate) fn empty_file<D: Desk>(desk: &mut D, name: &str) -> Result<(), Failed
     requires there { IsTrue (D.tells).folder → IsSome (content_of (D.scene desk.old) name.now) }
     ensures ok { OnOk result (Empties (D.tells).folder name.now (D.scene desk.old) (D.scene desk.new)) }
     ensures err { OnErr result (Unchanged (D.tells).folder (D.scene desk.old) (D.scene desk.new)) }
-    ensures kept { GoesOn D.scene D.valid D.stays (IsErr result) desk.old desk.new }
+    ensures kept { GoesOn D.tells D.scene D.valid D.stays (IsErr result) desk.old desk.new }
 {
     desk.cut(name, 0)
 }
@@ -70,7 +70,7 @@ pub(crate) fn clear_name<D: Desk>(desk: &mut D, name: &str) -> Result<(), Failed
     requires apart { D.reads desk.old name.now → ⊥ }
     ensures spares { IsTrue (D.tells).folder → Runs (Spares (one_name name.now)) (D.scene desk.old) (D.scene desk.new) }
     ensures ok { OnOk result (IsTrue (D.tells).folder → content_of (D.scene desk.new) name.now ≡ None) }
-    ensures kept { GoesOn D.scene D.valid D.stays (IsErr result) desk.old desk.new }
+    ensures kept { GoesOn D.tells D.scene D.valid D.stays (IsErr result) desk.old desk.new }
 {
     if desk.has(name)? {
         return desk.remove(name);
@@ -95,7 +95,7 @@ fn create_for<D: Desk>(desk: &mut D, name: &str, readers: Readers) -> Result<(),
     ensures ok { OnOk result (IsTrue (D.tells).folder → CreatesFile name.now (D.scene desk.old).folder (D.scene desk.new).folder) }
     ensures err { OnErr result ((D.scene desk.new).folder ≡ (D.scene desk.old).folder) }
     ensures told { IsTrue (D.tells).folder → IsTold Created (name.now ∷ []) result (D.scene desk.old) (D.scene desk.new) }
-    ensures kept { GoesOn D.scene D.valid D.stays (IsErr result) desk.old desk.new }
+    ensures kept { GoesOn D.tells D.scene D.valid D.stays (IsErr result) desk.old desk.new }
 {
     match readers {
         Readers::Usual => desk.create(name),
@@ -110,7 +110,7 @@ pub(crate) fn make_anew<D: Desk>(desk: &mut D, name: &str, readers: Readers) -> 
     ensures spares { IsTrue (D.tells).folder → Runs (Spares (one_name name.now)) (D.scene desk.old) (D.scene desk.new) }
     ensures empty { OnOk result (IsTrue (D.tells).folder → content_of (D.scene desk.new) name.now ≡ Some []) }
     ensures alone { OnOk result (IsTrue (D.tells).folder → IsAlone name.now (D.scene desk.new).folder) }
-    ensures kept { GoesOn D.scene D.valid D.stays (IsErr result) desk.old desk.new }
+    ensures kept { GoesOn D.tells D.scene D.valid D.stays (IsErr result) desk.old desk.new }
 {
     clear_name(desk, name)?;
     create_for(desk, name, readers)
@@ -131,7 +131,7 @@ pub(crate) fn sync_like<D: Desk>(
     ensures ok { OnOk result (IsTrue (D.tells).folder → ChangesFile name.now Syncs (D.scene desk.old).folder (D.scene desk.new).folder) }
     ensures err { OnErr result ((D.scene desk.new).folder ≡ (D.scene desk.old).folder) }
     ensures told { IsTrue (D.tells).folder → IsTold Synced (name.now ∷ []) result (D.scene desk.old) (D.scene desk.new) }
-    ensures kept { GoesOn D.scene D.valid D.stays (IsErr result) desk.old desk.new }
+    ensures kept { GoesOn D.tells D.scene D.valid D.stays (IsErr result) desk.old desk.new }
 {
     if let Some(model) = model {
         desk.take_mode(model, name);
@@ -153,7 +153,7 @@ pub(crate) fn take_name<D: Desk>(desk: &mut D, from: &str, to: &str) -> Result<(
         → IsSettled to.now bytes (D.scene desk.new).folder) }
     ensures gone { OnOk result (IsTrue (D.tells).folder → IsGone from.now (D.scene desk.new).folder) }
     ensures err { OnErr result (IsTrue (D.tells).folder → content_of (D.scene desk.old) to.now ≡ None → MayLeave (D.scene desk.new).folder to.now None) }
-    ensures kept { GoesOn D.scene D.valid D.stays (IsErr result) desk.old desk.new }
+    ensures kept { GoesOn D.tells D.scene D.valid D.stays (IsErr result) desk.old desk.new }
 {
     desk.rename(from, to)?;
     desk.sync_names()
@@ -167,7 +167,7 @@ pub(crate) fn drop_name<D: Desk>(desk: &mut D, name: &str) -> Result<(), Failed>
     ensures spares { IsTrue (D.tells).folder → Runs (Spares (one_name name.now)) (D.scene desk.old) (D.scene desk.new) }
     ensures drops { IsTrue (D.tells).folder → Runs (Drops name.now) (D.scene desk.old) (D.scene desk.new) }
     ensures gone { OnOk result (IsTrue (D.tells).folder → IsGone name.now (D.scene desk.new).folder) }
-    ensures kept { GoesOn D.scene D.valid D.stays (IsErr result) desk.old desk.new }
+    ensures kept { GoesOn D.tells D.scene D.valid D.stays (IsErr result) desk.old desk.new }
 {
     desk.remove(name)?;
     desk.sync_names()

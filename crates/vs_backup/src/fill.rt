@@ -26,7 +26,7 @@ fn put_piece<D: Desk>(desk: &mut D, name: &str, at: u64, piece: &[u8]) -> Result
     ensures runs { IsTrue (D.tells).folder → Runs (Fills name.now) (D.scene desk.old) (D.scene desk.new) }
     ensures ok { OnOk result (IsTrue (D.tells).folder → (bytes : List ℕ) → content_of (D.scene desk.old) name.now ≡ Some bytes
         → content_of (D.scene desk.new) name.now ≡ Some (bytes ++ piece.now)) }
-    ensures kept { GoesOn D.scene D.valid D.stays (IsErr result) desk.old desk.new }
+    ensures kept { GoesOn D.tells D.scene D.valid D.stays (IsErr result) desk.old desk.new }
 {
     desk.write_at(name, at, piece)
 }
@@ -43,7 +43,7 @@ fn flush<D: Desk>(desk: &mut D, name: &str, size: u64, piece: &mut Vec<u8>) -> R
         → content_of (D.scene desk.new) name.now ≡ Some (bytes ++ piece.old.items)) }
     ensures size { IfOk result (λ now. now ≡ size + length piece.old.items) }
     ensures empty { OnOk result (piece.new.items ≡ []) }
-    ensures kept { GoesOn D.scene D.valid D.stays (IsErr result) desk.old desk.new }
+    ensures kept { GoesOn D.tells D.scene D.valid D.stays (IsErr result) desk.old desk.new }
 {
     if piece.is_empty() {
         return Ok(size);
@@ -73,7 +73,7 @@ fn put_bytes<D: Desk>(
         × (after ++ piece.new.items ≡ before ++ piece.old.items ++ bytes.now)) }
     ensures size { IfOk result (λ now. now + length piece.new.items ≡ size + length piece.old.items + length bytes.now) }
     ensures few { OnOk result (length piece.new.items ≤ PIECE) }
-    ensures kept { GoesOn D.scene D.valid D.stays (IsErrOf result Stop.Failed) desk.old desk.new }
+    ensures kept { GoesOn D.tells D.scene D.valid D.stays (IsErrOf result Stop.Failed) desk.old desk.new }
 {
     let mut now = size;
     let mut rest = bytes;
@@ -100,7 +100,7 @@ fn write_text<D: Desk>(
     ensures runs { IsTrue (D.tells).folder → Runs (Fills name.now) (D.scene desk.old) (D.scene desk.new) }
     ensures ok { IfOk result (λ size. IsTrue (D.tells).folder → (text : List (List ℕ)) → D.has_text desk.old text
         → (size ≡ length (file_of text)) × (content_of (D.scene desk.new) name.now ≡ Some (file_of text))) }
-    ensures kept { GoesOn D.scene D.valid D.stays (IsErrOf result Stop.Failed) desk.old desk.new }
+    ensures kept { GoesOn D.tells D.scene D.valid D.stays (IsErrOf result Stop.Failed) desk.old desk.new }
 {
     piece.clear();
     let mut lines = Vec::new(alloc);
@@ -134,7 +134,7 @@ pub(crate) fn fill_text<D: Desk>(
     ensures ok { IfOk result (λ size. IsTrue (D.tells).folder → (text : List (List ℕ)) → D.has_text desk.old text
         → (size ≡ length (file_of text)) × IsSynced name.now (file_of text) (D.scene desk.new).folder) }
     ensures err { OnErr result (IsTrue (D.tells).folder → Fills name.now (D.scene desk.old).folder (D.scene desk.new).folder) }
-    ensures kept { GoesOn D.scene D.valid D.stays (IsErrOf result Stop.Failed) desk.old desk.new }
+    ensures kept { GoesOn D.tells D.scene D.valid D.stays (IsErrOf result Stop.Failed) desk.old desk.new }
 {
     let size = write_text(alloc, desk, name, piece)?;
     sync_like(desk, model, name)?;
@@ -158,7 +158,7 @@ fn copy_piece<D: Desk>(
     ensures runs { IsTrue (D.tells).folder → Runs (ChangesOne to.now) (D.scene desk.old) (D.scene desk.new) }
     ensures ok { OnOk result (IsTrue (D.tells).folder → (bytes : List ℕ) → content_of (D.scene desk.old) from.now ≡ Some bytes
         → content_of (D.scene desk.new) to.now ≡ Some (take (at + length buffer.old) bytes)) }
-    ensures kept { GoesOn D.scene D.valid D.stays (IsErr result) desk.old desk.new }
+    ensures kept { GoesOn D.tells D.scene D.valid D.stays (IsErr result) desk.old desk.new }
 {
     desk.read_at(from, at, buffer)?;
     put_piece(desk, to, at, buffer)
@@ -182,7 +182,7 @@ pub(crate) fn fill_copy<D: Desk>(
     ensures runs { IsTrue (D.tells).folder → Runs (ChangesOne to.now) (D.scene desk.old) (D.scene desk.new) }
     ensures ok { OnOk result (IsTrue (D.tells).folder → (bytes : List ℕ) → content_of (D.scene desk.old) from.now ≡ Some bytes
         → IsSynced to.now bytes (D.scene desk.new).folder) }
-    ensures kept { GoesOn D.scene D.valid D.stays (IsErr result) desk.old desk.new }
+    ensures kept { GoesOn D.tells D.scene D.valid D.stays (IsErr result) desk.old desk.new }
 {
     let size = desk.len(from)?;
     let mut at = 0;

@@ -7,9 +7,9 @@ ghost use Rattle.vs_host.specs.Trace.{Looked};
 ghost use Rattle.vs_host.specs.World.{IsTold, content_of};
 ghost use Rattle.vs_backup.specs.Backups.{IsBackupName, IsNoName, WorksOn, backs_up, backup_of, copies};
 ghost use Rattle.vs_disk.specs.Runs.{Looks};
-ghost use Rattle.vs_backup.specs.Desks.{GoesOn, OnlyReads};
+ghost use Rattle.vs_backup.specs.Desks.{Continues, GoesOn, OnlyReads};
 ghost use Rattle.vs_backup.specs.Works.{SparesOthers, two_names};
-ghost use Rattle.vs_backup.specs.Writing.{FindsNoName, IsFailed, IsUnseen, OldIn, WritesFresh, WritesInPlace, WritesNew, WritesPlain, WritesWith, nowhere};
+ghost use Rattle.vs_backup.specs.Writing.{FailsNoEarlier, FindsNoName, IsFailed, IsUnseen, OldIn, WritesFresh, WritesInPlace, WritesNew, WritesPlain, WritesWith, nowhere};
 
 use crate::backup::write_with_backup;
 use crate::choose::{backup_name, first_free, temporary_of};
@@ -73,7 +73,9 @@ fn write_named<D: Desk>(
     ensures backed { IsTrue (D.tells).folder → (old : List ℕ) → content_of (D.scene desk.old) name.now ≡ Some old → (text : List (List ℕ)) → D.has_text desk.old text
         → WritesWith options.now name.now backup.now old (file_of text) (D.scene desk.old) (D.scene desk.new) result }
     ensures no_name { IsErrOf result WriteErr.NoBackupName → ⊥ }
-    ensures kept { GoesOn D.scene D.valid D.stays (IsFailed result) desk.old desk.new }
+    ensures calls { IsTrue (D.tells).folder → (text : List (List ℕ)) → D.has_text desk.old text
+        → FailsNoEarlier name.now (file_of text) (D.scene desk.old) (D.scene desk.new) result }
+    ensures kept { Continues D.scene D.valid D.stays (IsFailed result) desk.old desk.new }
 {
     let Ok(temporary) = temporary_of(alloc, backup) else {
         return Err(WriteErr::NoMemory {
@@ -113,7 +115,7 @@ fn choose<D: Desk>(
         MatchOption found (chosen ≡ None) (λ backup. chosen ≡ Some (string_bytes backup))) }
     ensures named { IfOk result (λ found. IfSome found (λ backup. IsBackupName name.now (string_bytes backup))) }
     ensures none { IfOk result (λ found. found ≡ None → options.now.backup ≡ false) }
-    ensures kept { OnlyReads D.scene D.valid D.stays (IsErrOf result Stop.Failed) desk.old desk.new }
+    ensures kept { OnlyReads D.tells D.scene D.valid D.stays (IsErrOf result Stop.Failed) desk.old desk.new }
 {
     if options.backup {
         return Ok(Some(backup_name(alloc, name)?));
@@ -128,7 +130,7 @@ fn write_unbacked<D: Desk>(alloc: Global, desk: &mut D, name: &str) -> Result<u6
     requires there { IsTrue (D.tells).folder → IsSome (content_of (D.scene desk.old) name.now) }
     ensures plain { IsTrue (D.tells).folder → (old : List ℕ) → content_of (D.scene desk.old) name.now ≡ Some old → (text : List (List ℕ)) → D.has_text desk.old text
         → WritesPlain name.now old (file_of text) (D.scene desk.old) (D.scene desk.new) result }
-    ensures kept { GoesOn D.scene D.valid D.stays (IsErrOf result Stop.Failed) desk.old desk.new }
+    ensures kept { GoesOn D.tells D.scene D.valid D.stays (IsErrOf result Stop.Failed) desk.old desk.new }
 {
     let mut piece = buffer(alloc)?;
     write_plain(alloc, desk, name, &mut piece)
@@ -142,7 +144,7 @@ fn write_new<D: Desk>(alloc: Global, desk: &mut D, name: &str, temporary: &str) 
     requires differ { name.now ≢ temporary.now }
     ensures fresh { IsTrue (D.tells).folder → content_of (D.scene desk.old) name.now ≡ None → (text : List (List ℕ)) → D.has_text desk.old text
         → WritesFresh (two_names temporary.now name.now) name.now (file_of text) (D.scene desk.old) (D.scene desk.new) result }
-    ensures kept { GoesOn D.scene D.valid D.stays (IsErrOf result Stop.Failed) desk.old desk.new }
+    ensures kept { GoesOn D.tells D.scene D.valid D.stays (IsErrOf result Stop.Failed) desk.old desk.new }
 {
     let mut piece = buffer(alloc)?;
     write_fresh(alloc, desk, name, temporary, &mut piece)
@@ -167,7 +169,9 @@ fn write_chosen<D: Desk>(
         → WritesWith options.now name.now backup old (file_of text) (D.scene desk.old) (D.scene desk.new) result }
     ensures all_taken { IsTrue (D.tells).folder → backup_of options.now name.now (D.scene desk.old).folder ≡ None → FindsNoName (D.scene desk.old) (D.scene desk.new) result }
     ensures no_name { IsErrOf result WriteErr.NoBackupName → (options.now.backup ≡ false) × (IsTrue (D.tells).folder → backup_of options.now name.now (D.scene desk.old).folder ≡ None) }
-    ensures kept { GoesOn D.scene D.valid D.stays (IsFailed result) desk.old desk.new }
+    ensures calls { IsTrue (D.tells).folder → (text : List (List ℕ)) → D.has_text desk.old text
+        → FailsNoEarlier name.now (file_of text) (D.scene desk.old) (D.scene desk.new) result }
+    ensures kept { Continues D.scene D.valid D.stays (IsFailed result) desk.old desk.new }
 {
     match choose(alloc, desk, name, options) {
         Ok(Some(backup)) => write_named(alloc, desk, name, &backup, options),
@@ -201,7 +205,9 @@ fn write_there<D: Desk>(
         → backs_up options.now ≡ false → (text : List (List ℕ)) → D.has_text desk.old text
         → WritesInPlace name.now old (file_of text) (D.scene desk.old) (D.scene desk.new) result }
     ensures others { IsTrue (D.tells).folder → SparesOthers (WorksOn options.now name.now (D.scene desk.old).folder) (D.scene desk.old) (D.scene desk.new) }
-    ensures kept { GoesOn D.scene D.valid D.stays (IsFailed result) desk.old desk.new }
+    ensures calls { IsTrue (D.tells).folder → (text : List (List ℕ)) → D.has_text desk.old text
+        → FailsNoEarlier name.now (file_of text) (D.scene desk.old) (D.scene desk.new) result }
+    ensures kept { Continues D.scene D.valid D.stays (IsFailed result) desk.old desk.new }
 {
     if backs_up(options) {
         return write_chosen(alloc, desk, name, options);
@@ -251,7 +257,11 @@ pub fn write_out<D: Desk>(
 
     // The other names, whatever is there.
     ensures others { IsTrue (D.tells).folder → SparesOthers (WorksOn options.now names.now.file (D.scene desk.old).folder) (D.scene desk.old) (D.scene desk.new) }
-    ensures kept { GoesOn D.scene D.valid D.stays (IsFailed result) desk.old desk.new }
+
+    // The calls that failed.
+    ensures calls { IsTrue (D.tells).folder → (text : List (List ℕ)) → D.has_text desk.old text
+        → FailsNoEarlier names.now.file (file_of text) (D.scene desk.old) (D.scene desk.new) result }
+    ensures kept { Continues D.scene D.valid D.stays (IsFailed result) desk.old desk.new }
 {
     let name = names.file.as_str();
     match desk.has(name) {

@@ -130,6 +130,7 @@ impl<'t, 'p, 'h, F: Folder> Desk for PagedDesk<'t, 'p, 'h, F> {
         self.tree.len()
     }
 
+    #[tactic(auto, using(vs_backup::proofs::Stops::stops_still))]
     fn text_lines(
         &mut self,
         alloc: Global,

@@ -9,7 +9,7 @@ ghost use Rattle.vs_pages.specs.declared.memory.MemPages.{MemPages};
 ghost use Rattle.vs_text.specs.Text.{file_of};
 ghost use Rattle.vs_backup.specs.Backups.{IsNoName, WorksOn, backs_up};
 ghost use Rattle.vs_backup.specs.Works.{SparesOthers};
-ghost use Rattle.vs_backup.specs.Writing.{IsFailed, OldIn};
+ghost use Rattle.vs_backup.specs.Writing.{FailsNoEarlier, IsFailed, OldIn};
 ghost use Rattle.vs_backup.specs.declared.errors.Place.TheVariants.{Nowhere};
 ghost use Rattle.vs_safety.specs.Texts.{Sync, Text, recoverable};
 ghost use Rattle.vs_paged.specs.Fits.{Fits, names_of};
@@ -43,6 +43,8 @@ fn write_in<F: Folder>(
     ensures written { IsTrue F.tells.folder → (text : Text) → IsPaged pages.old tree.old text
         → WritesFile options.now names.now (file_of text) (F.scene host.old) (F.scene host.new) result }
     ensures no_name { IsErrOf result WriteErr.NoBackupName → IsNoName options.now names.now.file F.tells.folder (F.scene host.old).folder }
+    ensures calls { IsTrue F.tells.folder → (text : Text) → IsPaged pages.old tree.old text
+        → FailsNoEarlier names.now.file (file_of text) (F.scene host.old) (F.scene host.new) result }
     ensures unseen { IsTrue F.tells.folder → IsSome (content_of (F.scene host.old) names.now.file) → backs_up options.now ≡ true → OldIn Nowhere result
         → IsTold Looked (names.now.file ∷ []) result (F.scene host.old) (F.scene host.new) }
     ensures others { IsTrue F.tells.folder → SparesOthers (WorksOn options.now names.now.file (F.scene host.old).folder) (F.scene host.old) (F.scene host.new) }
@@ -92,7 +94,9 @@ pub fn write_text<F: Folder>(
     ensures generation { text.new.pair.files.generation ≡ text.old.pair.files.generation }
     ensures tree { text.new.tree ≡ text.old.tree }
 
-    // The faults of the folder.
+    // The calls that failed, and the faults of the folder.
+    ensures calls { IsTrue F.tells.folder → (lines : Text) (syncs : List Sync) → Fits text.old (F.scene host.old).folder lines syncs
+        → FailsNoEarlier (names_of text.old).file (file_of lines) (F.scene host.old) (F.scene host.new) result }
     ensures above { IsTrue F.tells.folder → NoneAbove (F.scene host.old) (F.scene host.new) }
     ensures cause { HasCause (F.scene host.old).folder_faults (F.scene host.new).folder_faults (IsFailed result) }
     ensures frame { ChangesFolder (F.scene host.old) (F.scene host.new) }

@@ -132,6 +132,7 @@ impl<F: Folder> Desk for TextDesk<F> {
         self.text.len()
     }
 
+    #[tactic(auto, using(vs_backup::proofs::Stops::stops_still))]
     fn text_lines(
         &mut self,
         alloc: Global,

@@ -1,4 +1,4 @@
-use Rattle.std.proofs.Common.{◌∙◌, inl, ℕ, List, Option, IsTrue, sym, ap}
+use Rattle.std.proofs.Common.{◌∙◌, inl, ℕ, List, Option, IsTrue, sym, ap, refl}
 use Rattle.std.specs.Prelude.{is_some}
 use Rattle.vs_host.specs.World.{Scene}
 use Rattle.vs_disk.specs.Images.{IsSynced}
@@ -9,6 +9,7 @@ use Rattle.vs_backup.specs.Writing.{CopiesBytes, IsSettled}
 use Rattle.vs_backup.proofs.Calls.{spares_on, runs_wider, runs_file, synced_there}
 use Rattle.vs_backup.proofs.Frames.{ok_leads, content_spared}
 use Rattle.vs_backup.proofs.Replacing.{takes_on, takes_others}
+use Rattle.vs_backup.proofs.Going as going
 use Rattle.vs_backup.proofs.backup.copy_to_backup.Goals as goal
 
 pub returns-in_err-make_anew-clause-spares : goal.returns-in_err-make_anew-clause-spares
@@ -114,3 +115,9 @@ returns-clause-aside g c =
     let s3 : Scene = g.D.World.scene c.take_name.new.desk in
     ok_leads (IsTrue g.D.World.tells.folder → IsGone c.args.temporary.now s3.folder) (LeavesNone g.D.World.tells.folder c.args.temporary.now s3) c.take_name.result
     (λ gone. record { gone = gone }) c.take_name.ensures.gone
+
+pub returns-in_err-fill_copy-clause-kept : goal.returns-in_err-fill_copy-clause-kept
+returns-in_err-fill_copy-clause-kept g c = going.GoesOn-any c.from_residual-in_err-fill_copy.result _ c.from_residual-in_err-fill_copy.ensures.1 refl (going.GoesOn-then g.met.D.Desk.stays_on (λ is. absurd (cc)) c.in_ok-make_anew.ensures.kept c.in_err-fill_copy.ensures.kept)
+
+pub returns-clause-kept : goal.returns-clause-kept
+returns-clause-kept g c = going.GoesOn-then g.met.D.Desk.stays_on (λ is. absurd (cc)) (going.GoesOn-then g.met.D.Desk.stays_on (λ is. absurd (cc)) c.in_ok-make_anew.ensures.kept c.in_ok-fill_copy.ensures.kept) c.take_name.ensures.kept

@@ -5,6 +5,7 @@ use Rattle.vs_disk.specs.Images.{IsSynced}
 use Rattle.vs_backup.specs.Writing.{IsFilled}
 use Rattle.vs_backup.proofs.Anew.{absent_not_made, absent_filled, anew_not_made, anew_filled}
 use Rattle.vs_backup.proofs.Frames.{ok_with}
+use Rattle.vs_backup.proofs.Going as going
 use Rattle.vs_backup.proofs.backup.fill_anew.Goals as goal
 
 pub returns-in_err-create_private-clause-anew : goal.returns-in_err-create_private-clause-anew
@@ -40,3 +41,6 @@ returns-clause-ok g c =
     (λ size. IsFilled g.D.World.tells.folder c.args.name.now (g.D.Desk.has_text c.args.desk.now) size s2)
     (λ size filled. record { each = λ told text has. filled told text (g.met.D.Desk.stays_text c.args.desk.now c.create_private.new.self text c.create_private.ensures.kept.stays has) })
     c.fill_text.ensures.ok
+
+pub returns-clause-kept : goal.returns-clause-kept
+returns-clause-kept g c = going.GoesOn-then g.met.D.Desk.stays_on (λ is. absurd (cc)) c.in_ok-create_private.ensures.kept c.fill_text.ensures.kept

@@ -1,4 +1,4 @@
-use Rattle.std.proofs.Common.{◌≡◌, ◌∙◌, ℕ, IsTrue, Result, Err, sym, ap, subst}
+use Rattle.std.proofs.Common.{◌≡◌, ◌∙◌, ℕ, IsTrue, Result, Err, sym, ap, subst, Ok, List}
 use Rattle.std.proofs.lemmas.Result.{err_from_is_err_and}
 use Rattle.vs_text.specs.Text.{file_of}
 use Rattle.vs_host.specs.World.{Scene}
@@ -6,6 +6,7 @@ use Rattle.vs_backup.specs.Works.{IsGone}
 use Rattle.vs_backup.specs.Writing.{WritesBacked}
 use Rattle.vs_backup.specs.declared.errors.WriteErr.{WriteErr}
 use Rattle.vs_backup.proofs.Backed.{backed_refused, backed_kept, backed_removed, gone_unless_risen, holds_there}
+use Rattle.vs_backup.proofs.Doing as doing
 use Rattle.vs_backup.proofs.backup.write_backed.Goals as goal
 
 pub returns-in_err-size-clause-backed : goal.returns-in_err-size-clause-backed
@@ -40,3 +41,9 @@ drop_name-requires-clause-there g c told =
     let had = c.requires.settled told in
     let text = g.met.D.Desk.tells_one c.args.desk.now c.requires.valid told in
     holds_there c.args.backup.now had.0 (g.D.World.scene c.write_over.new.desk).folder (c.in_ok-size.ensures.over told had.0 had.1 text.0 text.1).written.2
+
+pub returns-then-keep-clause-calls : goal.returns-then-keep-clause-calls
+returns-then-keep-clause-calls g c = λ told text has. let had = c.requires.settled told in doing.fails_stops c.args.name.now (file_of text) g.D.World.tells (Ok c.in_ok-size.size) (g.D.World.scene c.args.desk.now) (g.D.World.scene c.write_over.new.desk) told c.in_ok-size.ensures.kept.stops (let wrote = (c.in_ok-size.ensures.over told had.0 had.1 text has).written in (wrote.0, wrote.1))
+
+pub returns-clause-calls : goal.returns-clause-calls
+returns-clause-calls g c = λ told text has. let had = c.requires.settled told in doing.written_then c.args.name.now (file_of text) (g.D.World.scene c.args.desk.now) (g.D.World.scene c.write_over.new.desk) (g.D.World.scene c.drop_name.new.desk) c.in_ok-size.size (c.in_ok-size.ensures.kept.stops.none told (λ failed. let same = failed.1 in absurd (cc))) (c.in_ok-size.ensures.over told had.0 had.1 text has).written.1 (c.drop_name.ensures.kept.stops.last told)

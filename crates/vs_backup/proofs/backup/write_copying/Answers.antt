@@ -4,6 +4,7 @@ use Rattle.vs_host.specs.World.{Scene}
 use Rattle.vs_backup.specs.Writing.{WritesOver}
 use Rattle.vs_backup.specs.declared.errors.WriteErr.{WriteErr}
 use Rattle.vs_backup.proofs.Copying.{copying_done, copying_stopped, over_not_begun}
+use Rattle.vs_backup.proofs.Going as going
 use Rattle.vs_backup.proofs.backup.write_copying.Goals as goal
 
 pub returns-in-Ok-fill_text-clause-over : goal.returns-in-Ok-fill_text-clause-over
@@ -36,3 +37,9 @@ pub fill_text-requires-clause-empty : goal.fill_text-requires-clause-empty
 fill_text-requires-clause-empty g c told =
     let had = c.requires.settled told in
     (c.in-Ok.ensures.ok.each told had.0 had.1).empty
+
+pub returns-in-Ok-fill_text-clause-kept : goal.returns-in-Ok-fill_text-clause-kept
+returns-in-Ok-fill_text-clause-kept g c = going.GoesOn-as (λ failed. let same = failed.1 in absurd (cc)) (λ _ is. absurd (cc)) (going.GoesOn-then g.met.D.Desk.stays_on (λ is. absurd (cc)) c.in-Ok.ensures.kept c.in-Ok-fill_text.ensures.kept)
+
+pub returns-in-Err-fill_text-clause-kept : goal.returns-in-Err-fill_text-clause-kept
+returns-in-Err-fill_text-clause-kept g c = going.GoesOn-as (going.stop_there c.in-Err-fill_text.stop _ _ c.with.ensures) (λ calm failed. calm (going.stop_here c.in-Err-fill_text.stop _ _ c.with.ensures failed)) (going.GoesOn-then g.met.D.Desk.stays_on (λ is. absurd (cc)) c.in-Ok.ensures.kept c.in-Err-fill_text.ensures.kept)

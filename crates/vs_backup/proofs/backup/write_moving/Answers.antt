@@ -16,6 +16,7 @@ use Rattle.vs_backup.proofs.Kept.{guard_moved, moved_away, kept_by_name, settled
 use Rattle.vs_backup.proofs.Copying.{only_file, over_not_begun}
 use Rattle.vs_backup.proofs.Places.{under_still}
 use Rattle.vs_backup.proofs.Moving.{anew_done, anew_stopped, moving_done, moving_stopped}
+use Rattle.vs_backup.proofs.Going as going
 use Rattle.vs_backup.proofs.backup.write_moving.Goals as goal
 
 pub returns-in-Ok-write_anew-clause-over : goal.returns-in-Ok-write_anew-clause-over
@@ -72,3 +73,9 @@ write_anew-requires-clause-free g c told =
     let s0 : Scene = g.D.World.scene c.args.desk.now in
     let s1 : Scene = g.D.World.scene c.rename.new.self in
     not_there s1.folder c.args.name.now (moved_away c.args.name.now c.args.backup.now s0.folder s1.folder (λ e. c.requires.differ_name (sym e)) (c.in-Ok.ensures.ok told))
+
+pub returns-in-Ok-write_anew-clause-kept : goal.returns-in-Ok-write_anew-clause-kept
+returns-in-Ok-write_anew-clause-kept g c = going.GoesOn-as (λ failed. let same = failed.1 in absurd (cc)) (λ _ is. absurd (cc)) (going.GoesOn-then g.met.D.Desk.stays_on (λ is. absurd (cc)) c.in-Ok.ensures.kept c.in-Ok-write_anew.ensures.kept)
+
+pub returns-in-Err-write_anew-clause-kept : goal.returns-in-Err-write_anew-clause-kept
+returns-in-Err-write_anew-clause-kept g c = going.GoesOn-as (going.stop_there c.in-Err-write_anew.stop _ _ c.with.ensures) (λ calm failed. calm (going.stop_here c.in-Err-write_anew.stop _ _ c.with.ensures failed)) (going.GoesOn-then g.met.D.Desk.stays_on (λ is. absurd (cc)) c.in-Ok.ensures.kept c.in-Err-write_anew.ensures.kept)

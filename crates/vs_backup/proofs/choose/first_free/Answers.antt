@@ -1,4 +1,4 @@
-use Rattle.std.proofs.Common.{◌≡◌, ◌∙◌, ◌+◌, ◌-◌, [], ◌∷◌, suc, List, true, false, Some, map, sym, ap, subst, arith}
+use Rattle.std.proofs.Common.{◌≡◌, ◌∙◌, ◌+◌, ◌-◌, [], ◌∷◌, suc, List, true, false, Some, map, sym, ap, subst, arith, refl}
 use Rattle.std.specs.Prelude.{is_some}
 use Rattle.vs_host.specs.Disk.{Disk, Name, content_in}
 use Rattle.vs_host.specs.Trace.{Looked}
@@ -7,6 +7,7 @@ use Rattle.vs_disk.proofs.Runs.{one_look, looks_on, reads_change}
 use Rattle.vs_backup.specs.Backups.{IsBackupName, backup_name, first_free, lettered, letters}
 use Rattle.vs_backup.proofs.Choosing.{free_here, free_later, candidates_are, letters_next, none_left, IsBackupName-plain, IsBackupName-lettered, some_name}
 use Rattle.vs_backup.proofs.Going.{OnlyReads-once, OnlyReads-then}
+use Rattle.vs_backup.proofs.Going as going
 use Rattle.vs_backup.proofs.choose.first_free.Goals as goal
 
 pub has-requires-clause-apart : goal.has-requires-clause-apart
@@ -43,7 +44,7 @@ letters-init g c =
     let s1 : Scene = g.D.World.scene c.has.new.self in
     let bytes : c.deref.result.now ≡ backup_name name = c.deref.ensures ∙ c.in_ok-plain.ensures in
     record {
-      kept = OnlyReads-once c.has.ensures.kept;
+      kept = OnlyReads-once (λ is. absurd (cc)) c.in_ok-has.ensures.kept;
       within = omega arith;
       looks = λ told. one_look Looked (c.deref.result.now ∷ []) c.has.result s0 s1 c.has.ensures.kept.frame (c.has.ensures.told told);
       rest = λ told.
@@ -102,7 +103,7 @@ letters-preserved g c =
     let this = lettered name (97 + left) in
     let bytes : c.deref-in-letters.result.now ≡ this = c.deref-in-letters.ensures ∙ c.in_ok-backup.ensures in
     record {
-      kept = OnlyReads-then g.met.D.Desk.stays_on c.letters.invariant.kept c.has-in-letters.ensures.kept;
+      kept = OnlyReads-once (λ is. absurd (cc)) (OnlyReads-then g.met.D.Desk.stays_on (λ is. is) c.letters.invariant.kept c.in_ok-has-2.ensures.kept);
       within = omega (arith, c.letters.invariant.within);
       looks = λ told. looks_on s0 s1 s2 (reads_change s0 s1 c.letters.invariant.kept.frame) (c.letters.invariant.looks told)
           (one_look Looked (c.deref-in-letters.result.now ∷ []) c.has-in-letters.result s1 s2 c.has-in-letters.ensures.kept.frame (c.has-in-letters.ensures.told told));
@@ -118,3 +119,12 @@ pub returns-clause-found : goal.returns-clause-found
 returns-clause-found g c told =
     let s0 : Scene = g.D.World.scene c.args.desk.now in
     c.letters.invariant.rest told ∙ none_left s0.folder c.args.name.now c.letters.left (omega (arith, c.letters-test.false))
+
+pub returns-in_err-plain-clause-kept : goal.returns-in_err-plain-clause-kept
+returns-in_err-plain-clause-kept g c = going.OnlyReads-nothing c.requires.valid (g.met.D.Desk.stays_itself c.args.desk.now) (going.err_other c.from_residual.result _ _ c.from_residual.ensures.1 (λ is. absurd (cc)))
+
+pub returns-in_err-has-2-clause-kept : goal.returns-in_err-has-2-clause-kept
+returns-in_err-has-2-clause-kept g c = going.OnlyReads-as (λ _. refl) (λ calm _. calm (going.err_handed c.from_residual-in_err-has-2.result _ c.from_residual-in_err-has-2.ensures.1)) (going.OnlyReads-then g.met.D.Desk.stays_on (λ is. is) c.letters.invariant.kept c.in_err-has-2.ensures.kept)
+
+pub returns-then-not-branch-2-clause-kept : goal.returns-then-not-branch-2-clause-kept
+returns-then-not-branch-2-clause-kept g c = going.OnlyReads-as (λ is. absurd (cc)) (λ _ is. absurd (cc)) (going.OnlyReads-then g.met.D.Desk.stays_on (λ is. is) c.letters.invariant.kept c.in_ok-has-2.ensures.kept)

@@ -6,6 +6,7 @@ use Rattle.vs_disk.proofs.Runs.{call_on, reads_change}
 use Rattle.vs_backup.specs.Works.{Spares, one_name}
 use Rattle.vs_backup.proofs.Calls.{looked_at}
 use Rattle.vs_backup.proofs.Frames.{either, spares_same, spares_then, spares_removed}
+use Rattle.vs_backup.proofs.Going as going
 use Rattle.vs_backup.proofs.files.clear_name.Goals as goal
 
 pub returns-in_err-has-clause-spares : goal.returns-in_err-has-clause-spares
@@ -31,3 +32,6 @@ returns-clause-spares g c told =
     let s0 : Scene = g.D.World.scene c.args.desk.now in
     let s1 : Scene = g.D.World.scene c.has.new.self in
     looked_at (one_name c.args.name.now) c.args.name.now c.has.result s0 s1 c.has.ensures.kept.frame (c.has.ensures.told told)
+
+pub returns-then-branch-clause-kept : goal.returns-then-branch-clause-kept
+returns-then-branch-clause-kept g c = going.GoesOn-then g.met.D.Desk.stays_on (λ is. absurd (cc)) (going.GoesOn-reads c.in_ok-has.ensures.kept) c.remove.ensures.kept

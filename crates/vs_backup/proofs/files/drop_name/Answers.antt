@@ -7,6 +7,7 @@ use Rattle.vs_disk.proofs.Steps.{gone_for_good}
 use Rattle.vs_backup.specs.Works.{Drops, IsGone, Spares, one_name}
 use Rattle.vs_backup.proofs.Frames.{either, spares_same, spares_then, spares_removed, spares_synced, ok_leads}
 use Rattle.vs_backup.proofs.Replacing.{drops_removed, drops_same, drops_synced, drops_then}
+use Rattle.vs_backup.proofs.Going as going
 use Rattle.vs_backup.proofs.files.drop_name.Goals as goal
 
 pub returns-in_err-remove-clause-spares : goal.returns-in_err-remove-clause-spares
@@ -53,3 +54,6 @@ returns-clause-gone g c =
     let s2 : Scene = g.D.World.scene c.sync_names.new.self in
     ok_leads (IsTrue g.D.World.tells.folder → SyncsNames s1.folder s2.folder) (IsTrue g.D.World.tells.folder → IsGone c.args.name.now s2.folder) c.sync_names.result
     (λ syncs told. gone_for_good c.args.name.now s0.folder s1.folder s2.folder (c.in_ok-remove.ensures.ok told) (syncs told)) c.sync_names.ensures.ok
+
+pub returns-clause-kept : goal.returns-clause-kept
+returns-clause-kept g c = going.GoesOn-then g.met.D.Desk.stays_on (λ is. absurd (cc)) c.in_ok-remove.ensures.kept c.sync_names.ensures.kept

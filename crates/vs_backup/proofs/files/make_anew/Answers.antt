@@ -5,6 +5,7 @@ use Rattle.vs_host.specs.World.{Scene}
 use Rattle.vs_disk.proofs.Runs.{call_on}
 use Rattle.vs_backup.specs.Works.{IsAlone, Spares, one_name}
 use Rattle.vs_backup.proofs.Frames.{either, spares_same, spares_then, spares_created, alone_created, ok_leads}
+use Rattle.vs_backup.proofs.Going as going
 use Rattle.vs_backup.proofs.files.make_anew.Goals as goal
 
 pub returns-clause-spares : goal.returns-clause-spares
@@ -24,3 +25,6 @@ returns-clause-alone g c =
     let s2 : Scene = g.D.World.scene c.create_for.new.desk in
     ok_leads (IsTrue g.D.World.tells.folder → CreatesFile c.args.name.now s1.folder s2.folder) (IsTrue g.D.World.tells.folder → IsAlone c.args.name.now s2.folder) c.create_for.result
     (λ creates told. alone_created c.args.name.now s1.folder s2.folder (creates told)) c.create_for.ensures.ok
+
+pub returns-clause-kept : goal.returns-clause-kept
+returns-clause-kept g c = going.GoesOn-then g.met.D.Desk.stays_on (λ is. absurd (cc)) c.in_ok-clear_name.ensures.kept c.create_for.ensures.kept

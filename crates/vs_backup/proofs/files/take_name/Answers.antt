@@ -9,6 +9,7 @@ use Rattle.vs_backup.specs.Writing.{IsSettled}
 use Rattle.vs_backup.specs.Works.{IsGone, Spares, two_names}
 use Rattle.vs_backup.proofs.Frames.{either, spares_same, spares_then, spares_renamed, spares_synced, takes_spared, takes_same, ok_leads, err_leads, err_is, settled_now, synced_renamed, absent_now, absent_before}
 use Rattle.vs_backup.proofs.Replacing.{gone_renamed}
+use Rattle.vs_backup.proofs.Going as going
 use Rattle.vs_backup.proofs.files.take_name.Goals as goal
 
 pub returns-in_err-rename-clause-spares : goal.returns-in_err-rename-clause-spares
@@ -83,3 +84,6 @@ returns-clause-gone g c =
     let s2 : Scene = g.D.World.scene c.sync_names.new.self in
     ok_leads (IsTrue g.D.World.tells.folder → SyncsNames s1.folder s2.folder) (IsTrue g.D.World.tells.folder → IsGone c.args.from.now s2.folder) c.sync_names.result
     (λ syncs told. gone_renamed c.args.from.now c.args.to.now s0.folder s1.folder s2.folder c.requires.differ (c.in_ok-rename.ensures.ok told) (syncs told)) c.sync_names.ensures.ok
+
+pub returns-clause-kept : goal.returns-clause-kept
+returns-clause-kept g c = going.GoesOn-then g.met.D.Desk.stays_on (λ is. absurd (cc)) c.in_ok-rename.ensures.kept c.sync_names.ensures.kept

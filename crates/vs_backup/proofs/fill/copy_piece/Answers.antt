@@ -6,6 +6,7 @@ use Rattle.vs_disk.proofs.Runs.{one_look, reads_change}
 use Rattle.vs_disk.proofs.Contents.{of_bytes, some_bytes}
 use Rattle.vs_backup.proofs.Frames.{ok_leads}
 use Rattle.vs_backup.proofs.Filling.{fills_changes, changes_on, looks_changes, size_is, piece_more}
+use Rattle.vs_backup.proofs.Going as going
 use Rattle.vs_backup.proofs.fill.copy_piece.Goals as goal
 
 pub returns-in_err-read_at-clause-runs : goal.returns-in_err-read_at-clause-runs
@@ -47,3 +48,6 @@ put_piece-requires-clause-there g c told =
     let had = c.requires.there told in
     let so_far : content_of s1 c.args.to.now ≡ Some (take c.args.at had.0) = ap (λ (d : Disk). content_in d c.args.to.now) same ∙ had.3 in
     size_is s1.folder c.args.to.now c.args.at (take c.args.at had.0) so_far (omega (arith, length-take c.args.at had.0, had.2))
+
+pub returns-clause-kept : goal.returns-clause-kept
+returns-clause-kept g c = going.GoesOn-then g.met.D.Desk.stays_on (λ is. absurd (cc)) (going.GoesOn-reads c.in_ok-read_at.ensures.kept) c.put_piece.ensures.kept

@@ -1,4 +1,4 @@
-use Rattle.std.proofs.Common.{◌≡◌, ◌∙◌, ◌+◌, ◌≤◌, [], ◌∷◌, ℕ, List, Some, IsTrue, length, take, sym, ap, subst, arith}
+use Rattle.std.proofs.Common.{◌≡◌, ◌∙◌, ◌+◌, ◌≤◌, [], ◌∷◌, ℕ, List, Some, IsTrue, length, take, sym, ap, subst, arith, refl}
 use Rattle.std.proofs.lemmas.Grind.{common_steps}
 use Rattle.vs_host.specs.File.{Syncs}
 use Rattle.vs_host.specs.Disk.{Disk, content_in, ChangesFile}
@@ -11,7 +11,8 @@ use Rattle.vs_disk.proofs.Contents.{synced_content, of_bytes, some_bytes, some_c
 use Rattle.vs_backup.specs.Works.{IsAlone, one_name}
 use Rattle.vs_backup.proofs.Frames.{ok_leads, spares_file, alone_file, content_spared}
 use Rattle.vs_backup.proofs.Filling.{changes_on, looks_changes, sync_changes}
-use Rattle.vs_backup.proofs.Going.{GoesOn-reads, GoesOn-then}
+use Rattle.vs_backup.proofs.Going.{GoesOn-none, GoesOn-reads, GoesOn-then}
+use Rattle.vs_backup.proofs.Going as going
 use Rattle.vs_backup.proofs.fill.fill_copy.Goals as goal
 
 pub returns-in_err-size-clause-runs : goal.returns-in_err-size-clause-runs
@@ -26,7 +27,7 @@ pieces-init g c =
     let s1 : Scene = g.D.World.scene c.len.new.self in
     let same : s1.folder ≡ s0.folder = ap (λ (s : Scene). s.folder) c.len.ensures.kept.frame in
     record {
-      kept = GoesOn-reads c.len.ensures.kept;
+      kept = GoesOn-none (λ is. absurd (cc)) (GoesOn-reads c.in_ok-size.ensures.kept);
       within = omega arith;
       runs = λ told. looks_changes c.args.to.now s0 s1 (one_look Measured (c.args.from.now ∷ []) c.len.result s0 s1 c.len.ensures.kept.frame (c.len.ensures.told told));
       alone = λ told. subst (λ (d : Disk). IsAlone c.args.to.now d) (sym same) (c.requires.alone told);
@@ -53,7 +54,7 @@ pieces-preserved g c =
     let s1 : Scene = g.D.World.scene c.pieces.desk in
     let s2 : Scene = g.D.World.scene c.copy_piece.new.desk in
     record {
-      kept = GoesOn-then g.met.D.Desk.stays_on c.pieces.invariant.kept c.copy_piece.ensures.kept;
+      kept = GoesOn-none (λ is. absurd (cc)) (GoesOn-then g.met.D.Desk.stays_on (λ is. is) c.pieces.invariant.kept c.in_ok-copy_piece.ensures.kept);
       within = omega (arith, c.min-count.ensures);
       runs = λ told. changes_on c.args.to.now s0 s1 s2 c.pieces.invariant.kept.frame (c.pieces.invariant.runs told) (c.copy_piece.ensures.runs told);
       alone = λ told. alone_file c.args.to.now Changes s1.folder s2.folder (c.copy_piece.ensures.runs told).now (c.pieces.invariant.alone told);
@@ -87,3 +88,9 @@ returns-clause-ok g c =
     let all : take c.pieces.at had.0 ≡ had.0 = let past : length had.0 ≤ c.pieces.at = omega (arith, had.2) in take_all c.pieces.at had.0 past in
     synced_content c.args.to.now bytes s1.folder s2.folder (syncs told) (had.3 ∙ ap (λ (b : List ℕ). Some b) (all ∙ one)))
     c.sync_like.ensures.ok
+
+pub returns-in_err-copy_piece-clause-kept : goal.returns-in_err-copy_piece-clause-kept
+returns-in_err-copy_piece-clause-kept g c = going.GoesOn-any c.from_residual-in_err-copy_piece.result _ c.from_residual-in_err-copy_piece.ensures.1 refl (going.GoesOn-then g.met.D.Desk.stays_on (λ is. is) c.pieces.invariant.kept c.in_err-copy_piece.ensures.kept)
+
+pub returns-clause-kept : goal.returns-clause-kept
+returns-clause-kept g c = going.GoesOn-then g.met.D.Desk.stays_on (λ is. is) c.pieces.invariant.kept c.sync_like.ensures.kept

@@ -7,7 +7,7 @@ use Rattle.vs_backup.proofs.fill.fill_copy.Given as goal
 
 abbrev pub invariant-pieces : goal.invariant-pieces
 invariant-pieces g l = record {
-  kept : GoesOn g.D.World.scene g.D.Desk.valid g.D.Desk.stays ⊥ l.fn.desk l.desk;
+  kept : GoesOn g.D.World.tells g.D.World.scene g.D.Desk.valid g.D.Desk.stays ⊥ l.fn.desk l.desk;
   within : l.at ≤ l.size;
   runs : IsTrue g.D.World.tells.folder → Runs (ChangesOne l.to) (g.D.World.scene l.fn.desk) (g.D.World.scene l.desk);
   alone : IsTrue g.D.World.tells.folder → IsAlone l.to (g.D.World.scene l.desk).folder;

@@ -1,4 +1,4 @@
-use Rattle.std.proofs.Common.{IsTrue, sym, subst}
+use Rattle.std.proofs.Common.{IsTrue, sym, subst, refl}
 use Rattle.vs_text.specs.Text.{file_of}
 use Rattle.vs_host.specs.Disk.{Disk}
 use Rattle.vs_host.specs.World.{Scene}
@@ -6,6 +6,7 @@ use Rattle.vs_disk.proofs.Contents.{synced_content}
 use Rattle.vs_backup.specs.Works.{Fills}
 use Rattle.vs_backup.proofs.Frames.{err_is}
 use Rattle.vs_backup.proofs.Filling.{fills_changes, sync_changes}
+use Rattle.vs_backup.proofs.Going as going
 use Rattle.vs_backup.proofs.fill.fill_text.Goals as goal
 
 pub returns-in_err-sync_like-clause-runs : goal.returns-in_err-sync_like-clause-runs
@@ -44,3 +45,9 @@ returns-clause-ok g c told text has =
     let s2 : Scene = g.D.World.scene c.sync_like.new.desk in
     let done = c.in_ok-size.ensures.ok told text has in
     (done.0, synced_content c.args.name.now (file_of text) s1.folder s2.folder (c.in_ok-sync_like.ensures.ok told) done.1)
+
+pub returns-in_err-sync_like-clause-kept : goal.returns-in_err-sync_like-clause-kept
+returns-in_err-sync_like-clause-kept g c = going.GoesOn-failed c.from_residual-in_err-sync_like.result _ c.from_residual-in_err-sync_like.ensures.1 refl (going.GoesOn-then g.met.D.Desk.stays_on (λ is. absurd (cc)) c.in_ok-size.ensures.kept c.in_err-sync_like.ensures.kept)
+
+pub returns-clause-kept : goal.returns-clause-kept
+returns-clause-kept g c = going.GoesOn-as (λ is. absurd (cc)) (λ _ is. absurd (cc)) (going.GoesOn-then g.met.D.Desk.stays_on (λ is. absurd (cc)) c.in_ok-size.ensures.kept c.in_ok-sync_like.ensures.kept)

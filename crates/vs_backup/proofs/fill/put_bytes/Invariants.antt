@@ -8,7 +8,7 @@ use Rattle.vs_backup.proofs.fill.put_bytes.Given as goal
 
 abbrev pub invariant-pieces : goal.invariant-pieces
 invariant-pieces g l = record {
-  kept : GoesOn g.D.World.scene g.D.Desk.valid g.D.Desk.stays ⊥ l.fn.desk l.desk;
+  kept : GoesOn g.D.World.tells g.D.World.scene g.D.Desk.valid g.D.Desk.stays ⊥ l.fn.desk l.desk;
   few : length l.piece.items ≤ PIECE;
   size : l.now + (length l.piece.items + length l.rest) ≡ l.size + (length l.fn.piece.items + length l.bytes);
   runs : IsTrue g.D.World.tells.folder → Runs (Fills l.name) (g.D.World.scene l.fn.desk) (g.D.World.scene l.desk);

@@ -1,11 +1,12 @@
-use Rattle.std.proofs.Common.{◌≡◌, ◌∙◌, ◌+◌, ◌*◌, ◌≤◌, ◌++◌, ℕ, List, Some, length, take, sym, ap, arith}
+use Rattle.std.proofs.Common.{◌≡◌, ◌∙◌, ◌+◌, ◌*◌, ◌≤◌, ◌++◌, ℕ, List, Some, length, take, sym, ap, arith, refl, rules}
 use Rattle.vs_text.specs.Text.{file_of}
 use Rattle.vs_text.specs.declared.TheConstants.{MAX_LINE_BYTES}
 use Rattle.vs_edit.specs.Splices.{cut_out}
 use Rattle.vs_host.specs.World.{Scene, content_of}
 use Rattle.vs_backup.specs.Works.{Fills}
 use Rattle.vs_backup.proofs.Filling.{fills_on, then_looks, few_held, file_more}
-use Rattle.vs_backup.proofs.Going.{GoesOn-reads, GoesOn-then}
+use Rattle.vs_backup.proofs.Going.{GoesOn-none, GoesOn-reads, GoesOn-then}
+use Rattle.vs_backup.proofs.Going as going
 use Rattle.vs_backup.proofs.fill.write_text.Goals as goal
 
 pub returns-in_err-text_lines-clause-runs : goal.returns-in_err-text_lines-clause-runs
@@ -26,7 +27,7 @@ returns-in_err-size-clause-runs g c told =
     let s1 : Scene = g.D.World.scene c.runs.desk in
     let s2 : Scene = g.D.World.scene c.text_lines.new.self in
     let s3 : Scene = g.D.World.scene c.put_bytes.new.desk in
-    let looked = GoesOn-then g.met.D.Desk.stays_on c.runs.invariant.kept (GoesOn-reads c.text_lines.ensures.kept) in
+    let looked = GoesOn-then g.met.D.Desk.stays_on (λ is. is) c.runs.invariant.kept (GoesOn-reads c.in_ok-text_lines.ensures.kept) in
     fills_on c.args.name.now s0 s2 s3 looked.frame
     (then_looks (Fills c.args.name.now) s0 s1 s2 c.runs.invariant.kept.frame (c.runs.invariant.runs told) (c.text_lines.ensures.looks told)) (c.put_bytes.ensures.runs told)
 
@@ -40,9 +41,9 @@ runs-preserved g c =
     let lines = c.text_lines.new.into.items in
     let bytes = c.deref.result.now in
     let few : length lines ≤ count * (MAX_LINE_BYTES + 1) = few_held count lines c.in_ok-text_lines.ensures.are_lines in
-    let looked = GoesOn-then g.met.D.Desk.stays_on c.runs.invariant.kept (GoesOn-reads c.text_lines.ensures.kept) in
+    let looked = GoesOn-then g.met.D.Desk.stays_on (λ is. is) c.runs.invariant.kept (GoesOn-reads c.in_ok-text_lines.ensures.kept) in
     record {
-      kept = GoesOn-then g.met.D.Desk.stays_on looked c.put_bytes.ensures.kept;
+      kept = GoesOn-none (λ is. absurd (cc)) (GoesOn-then g.met.D.Desk.stays_on (λ is. absurd (cc)) looked c.in_ok-size.ensures.kept);
       few = c.in_ok-size.ensures.few;
       within = omega arith;
       bound = omega (arith, few, c.runs.invariant.bound, c.in_ok-size.ensures.size);
@@ -78,3 +79,18 @@ returns-clause-runs g c told =
     let s1 : Scene = g.D.World.scene c.runs.desk in
     let s2 : Scene = g.D.World.scene c.flush.new.desk in
     fills_on c.args.name.now s0 s1 s2 c.runs.invariant.kept.frame (c.runs.invariant.runs told) (c.flush.ensures.runs told)
+
+pub runs-init : goal.runs-init
+runs-init g c = record { kept = going.GoesOn-nothing c.requires.valid (g.met.D.Desk.stays_itself c.args.desk.now) (λ is. is); few = search rules; within = search rules; bound = search rules; runs = search rules; there = search rules }
+
+pub returns-in_err-text_lines-clause-kept : goal.returns-in_err-text_lines-clause-kept
+returns-in_err-text_lines-clause-kept g c = going.GoesOn-as (going.store_there c.from_residual.result _ c.from_residual.ensures.1) (λ calm failed. calm (going.store_here c.from_residual.result _ c.from_residual.ensures.1 failed)) (going.GoesOn-then g.met.D.Desk.stays_on (λ is. is) c.runs.invariant.kept (going.GoesOn-reads c.in_err-text_lines.ensures.kept))
+
+pub returns-in_err-size-clause-kept : goal.returns-in_err-size-clause-kept
+returns-in_err-size-clause-kept g c = going.GoesOn-same c.from_residual-in_err-size.result _ c.from_residual-in_err-size.ensures.1 _ (going.GoesOn-then g.met.D.Desk.stays_on (λ is. absurd (cc)) (going.GoesOn-then g.met.D.Desk.stays_on (λ is. is) c.runs.invariant.kept (going.GoesOn-reads c.in_ok-text_lines.ensures.kept)) c.in_err-size.ensures.kept)
+
+pub returns-in_err-size-2-clause-kept : goal.returns-in_err-size-2-clause-kept
+returns-in_err-size-2-clause-kept g c = going.GoesOn-failed c.from_residual-in_err-size-2.result _ c.from_residual-in_err-size-2.ensures.1 refl (going.GoesOn-then g.met.D.Desk.stays_on (λ is. is) c.runs.invariant.kept c.in_err-size-2.ensures.kept)
+
+pub returns-clause-kept : goal.returns-clause-kept
+returns-clause-kept g c = going.GoesOn-as (λ is. absurd (cc)) (λ _ is. absurd (cc)) (going.GoesOn-then g.met.D.Desk.stays_on (λ is. is) c.runs.invariant.kept c.in_ok-size-2.ensures.kept)

@@ -10,7 +10,7 @@ use Rattle.vs_backup.proofs.fill.write_text.Given as goal
 
 abbrev pub invariant-runs : goal.invariant-runs
 invariant-runs g l = record {
-  kept : GoesOn g.D.World.scene g.D.Desk.valid g.D.Desk.stays ⊥ l.fn.desk l.desk;
+  kept : GoesOn g.D.World.tells g.D.World.scene g.D.Desk.valid g.D.Desk.stays ⊥ l.fn.desk l.desk;
   few : length l.piece.items ≤ PIECE;
   within : l.at ≤ l.end;
   bound : l.size + length l.piece.items ≤ l.at * (MAX_LINE_BYTES + 1);

@@ -1,3 +1,4 @@
+use Rattle.std.proofs.Common.{refl}
 use Rattle.std.proofs.lemmas.Result.{err_from_is_err_and}
 use Rattle.vs_text.specs.Text.{file_of}
 use Rattle.vs_host.specs.World.{Scene}
@@ -5,6 +6,7 @@ use Rattle.vs_disk.proofs.Runs.{frames}
 use Rattle.vs_backup.specs.Works.{one_name}
 use Rattle.vs_backup.proofs.Calls.{runs_file, spares_on, synced_there}
 use Rattle.vs_backup.proofs.Unbacked.{fresh_not_taken, fresh_free, fresh_refused, fresh_done}
+use Rattle.vs_backup.proofs.Going as going
 use Rattle.vs_backup.proofs.plain.write_fresh.Goals as goal
 
 pub returns-in_err-make_anew-clause-fresh : goal.returns-in_err-make_anew-clause-fresh
@@ -56,3 +58,12 @@ pub take_name-requires-clause-there : goal.take_name-requires-clause-there
 take_name-requires-clause-there g c told =
     let text = g.met.D.Desk.tells_one c.make_anew.new.desk c.make_anew.ensures.kept.valid told in
     synced_there c.args.temporary.now (file_of text.0) (g.D.World.scene c.fill_text.new.desk).folder (c.in_ok-size.ensures.ok told text.0 text.1).1
+
+pub returns-in_err-size-clause-kept : goal.returns-in_err-size-clause-kept
+returns-in_err-size-clause-kept g c = going.GoesOn-same c.from_residual-in_err-size.result _ c.from_residual-in_err-size.ensures.1 _ (going.GoesOn-then g.met.D.Desk.stays_on (λ is. absurd (cc)) c.in_ok-make_anew.ensures.kept c.in_err-size.ensures.kept)
+
+pub returns-in_err-take_name-clause-kept : goal.returns-in_err-take_name-clause-kept
+returns-in_err-take_name-clause-kept g c = going.GoesOn-failed c.from_residual-in_err-take_name.result _ c.from_residual-in_err-take_name.ensures.1 refl (going.GoesOn-then g.met.D.Desk.stays_on (λ is. absurd (cc)) (going.GoesOn-then g.met.D.Desk.stays_on (λ is. absurd (cc)) c.in_ok-make_anew.ensures.kept c.in_ok-size.ensures.kept) c.in_err-take_name.ensures.kept)
+
+pub returns-clause-kept : goal.returns-clause-kept
+returns-clause-kept g c = going.GoesOn-as (λ is. absurd (cc)) (λ _ is. absurd (cc)) (going.GoesOn-then g.met.D.Desk.stays_on (λ is. absurd (cc)) (going.GoesOn-then g.met.D.Desk.stays_on (λ is. absurd (cc)) c.in_ok-make_anew.ensures.kept c.in_ok-size.ensures.kept) c.in_ok-take_name.ensures.kept)

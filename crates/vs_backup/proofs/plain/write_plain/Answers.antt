@@ -11,6 +11,7 @@ use Rattle.vs_backup.proofs.Copying.{cut_content}
 use Rattle.vs_backup.proofs.Frames.{ok_with, err_with}
 use Rattle.vs_backup.proofs.Others.{others_settled}
 use Rattle.vs_backup.proofs.Unbacked.{plain_not_begun, plain_not_cut, plain_filled}
+use Rattle.vs_backup.proofs.Going as going
 use Rattle.vs_backup.proofs.plain.write_plain.Goals as goal
 
 pub returns-in_err-settle-clause-plain : goal.returns-in_err-settle-clause-plain
@@ -61,3 +62,9 @@ fill_text-requires-clause-empty g c told =
     let had = some_content s0.folder c.args.name.now (c.requires.there told) in
     let content = synced_bytes c.args.name.now had.0 s1.folder (c.in_ok-settle.ensures.ok.settled told had.0 had.1).synced in
     cut_content c.args.name.now had.0 s1.folder s2.folder (c.in_ok-cut.ensures.ok told) content
+
+pub returns-in_err-cut-clause-kept : goal.returns-in_err-cut-clause-kept
+returns-in_err-cut-clause-kept g c = going.GoesOn-failed c.from_residual-in_err-cut.result _ c.from_residual-in_err-cut.ensures.1 refl (going.GoesOn-then g.met.D.Desk.stays_on (λ is. absurd (cc)) c.in_ok-settle.ensures.kept c.in_err-cut.ensures.kept)
+
+pub returns-clause-kept : goal.returns-clause-kept
+returns-clause-kept g c = going.GoesOn-then g.met.D.Desk.stays_on (λ is. absurd (cc)) (going.GoesOn-then g.met.D.Desk.stays_on (λ is. absurd (cc)) c.in_ok-settle.ensures.kept c.in_ok-cut.ensures.kept) c.fill_text.ensures.kept

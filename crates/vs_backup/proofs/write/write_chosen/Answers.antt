@@ -11,6 +11,7 @@ use Rattle.vs_backup.specs.declared.errors.WriteErr.{WriteErr}
 use Rattle.vs_backup.proofs.Others.{others_looks}
 use Rattle.vs_backup.proofs.Free.{backup_is_free}
 use Rattle.vs_backup.proofs.Backed.{backed_after, backed_stopped, looks_narrowed}
+use Rattle.vs_backup.proofs.Doing as doing
 use Rattle.vs_backup.proofs.write.write_chosen.Goals as goal
 
 some_name : (a b : Name) → Some a ≡ Some b → a ≡ b
@@ -52,3 +53,6 @@ write_named-requires-clause-free g c off told =
     let found = rw c.in-Ok-Some.field-0-is at (c.in-Ok-Some.ensures.found told) in
     let free = backup_is_free c.args.options.now c.args.name.now (string_bytes c.in-Ok-Some.backup) s0.folder c.requires.backs_up off found in
     subst (λ (n : Name). content_in (g.D.World.scene c.choose.new.desk).folder n ≡ None) (sym c.deref.ensures) (ap (λ (d : Disk). content_in d (string_bytes c.in-Ok-Some.backup)) looks.now ∙ free)
+
+pub returns-in-Ok-Some-clause-calls : goal.returns-in-Ok-Some-clause-calls
+returns-in-Ok-Some-clause-calls g c = λ told text has. doing.fails_then c.args.name.now (file_of text) c.write_named.result (g.D.World.scene c.args.desk.now) (g.D.World.scene c.choose.new.desk) (g.D.World.scene c.write_named.new.desk) (c.in-Ok-Some.ensures.kept.stops.none told (λ is. absurd (cc))) (c.write_named.ensures.calls told text (g.met.D.Desk.stays_text c.args.desk.now c.choose.new.desk text c.choose.ensures.kept.stays has))

@@ -1,4 +1,4 @@
-use Rattle.std.proofs.Common.{◌≡◌, ◌∙◌, Bool, subst}
+use Rattle.std.proofs.Common.{◌≡◌, ◌∙◌, Bool, subst, refl}
 use Rattle.vs_text.specs.Text.{file_of}
 use Rattle.vs_host.specs.Disk.{Name}
 use Rattle.vs_host.specs.Names.{temporary}
@@ -6,6 +6,8 @@ use Rattle.vs_host.specs.World.{Scene}
 use Rattle.vs_backup.specs.Backups.{copies}
 use Rattle.vs_backup.specs.Writing.{WritesBacked}
 use Rattle.vs_backup.proofs.Backed.{backed_no_memory}
+use Rattle.vs_backup.proofs.Doing as doing
+use Rattle.vs_backup.proofs.Stops as stops
 use Rattle.vs_backup.proofs.write.write_named.Goals as goal
 
 pub returns-in_default-clause-backed : goal.returns-in_default-clause-backed
@@ -27,3 +29,9 @@ returns-clause-backed g c told old content text has =
     let made = subst (λ (other : Name). WritesBacked c.copies.result keep name other backup old (file_of text) s0 s1 c.write_with_backup.result) under
     (c.write_with_backup.ensures.backed told old content text has) in
     subst (λ (copying : Bool). WritesBacked copying keep name (temporary backup) backup old (file_of text) s0 s1 c.write_with_backup.result) c.copies.ensures made
+
+pub returns-in_default-clause-calls : goal.returns-in_default-clause-calls
+returns-in_default-clause-calls g c = λ told text has. doing.fails_err c.args.name.now (file_of text) g.D.World.tells _ (g.D.World.scene c.args.desk.now) (g.D.World.scene c.args.desk.now) told (stops.stops_still g.D.World.tells _ (g.D.World.scene c.args.desk.now) (g.D.World.scene c.args.desk.now) (λ _. refl))
+
+pub returns-in_default-buffer-clause-calls : goal.returns-in_default-buffer-clause-calls
+returns-in_default-buffer-clause-calls g c = λ told text has. doing.fails_err c.args.name.now (file_of text) g.D.World.tells _ (g.D.World.scene c.args.desk.now) (g.D.World.scene c.args.desk.now) told (stops.stops_still g.D.World.tells _ (g.D.World.scene c.args.desk.now) (g.D.World.scene c.args.desk.now) (λ _. refl))

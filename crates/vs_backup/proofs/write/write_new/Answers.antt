@@ -5,6 +5,7 @@ use Rattle.vs_disk.proofs.Runs.{starts}
 use Rattle.vs_backup.specs.Works.{Spares, one_name}
 use Rattle.vs_backup.proofs.Frames.{spares_none}
 use Rattle.vs_backup.proofs.Unbacked.{fresh_not_taken}
+use Rattle.vs_backup.proofs.Going as going
 use Rattle.vs_backup.proofs.write.write_new.Goals as goal
 
 pub returns-in_err-piece-clause-fresh : goal.returns-in_err-piece-clause-fresh
@@ -13,3 +14,6 @@ returns-in_err-piece-clause-fresh g c told free text has =
     let on = one_name c.args.temporary.now in
     let p = err_from_is_err_and c.from_residual.result c.from_residual.ensures.1 in
     fresh_not_taken c.args.name.now c.args.temporary.now (file_of text) s0 s0 c.requires.differ free (starts (Spares on) s0 (spares_none on s0.folder)) c.from_residual.result (rw p.1 tt)
+
+pub returns-in_err-piece-clause-kept : goal.returns-in_err-piece-clause-kept
+returns-in_err-piece-clause-kept g c = going.GoesOn-nothing c.requires.valid (g.met.D.Desk.stays_itself c.args.desk.now) (going.err_other c.from_residual.result _ _ c.from_residual.ensures.1 (λ is. absurd (cc)))

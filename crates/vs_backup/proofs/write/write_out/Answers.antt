@@ -1,4 +1,4 @@
-use Rattle.std.proofs.Common.{◌≡◌, ◌∙◌, [], ◌∷◌, inl, inr, ℕ, List, true, false, Option, Some, None, Err, ap, sym, subst}
+use Rattle.std.proofs.Common.{◌≡◌, ◌∙◌, [], ◌∷◌, inl, inr, ℕ, List, true, false, Option, Some, None, Err, ap, sym, subst, Result}
 use Rattle.std.specs.Prelude.{is_some}
 use Rattle.std.proofs.lemmas.Bool.{true≢false}
 use Rattle.vs_text.specs.Text.{file_of}
@@ -16,6 +16,9 @@ use Rattle.vs_backup.proofs.Others.{others_looks}
 use Rattle.vs_backup.specs.declared.errors.Place.TheVariants as place
 use Rattle.vs_backup.specs.declared.errors.WriteErr.TheVariants as error
 use Rattle.vs_backup.proofs.Whole.{unseen, told_alone, none_after, plain_after, fresh_after, fresh_others, others_after, not_there_now}
+use Rattle.vs_backup.proofs.Doing as doing
+use Rattle.vs_backup.specs.Writing.{FailsNoEarlier}
+use Rattle.vs_backup.specs.declared.errors.WriteErr.{WriteErr}
 use Rattle.vs_backup.proofs.write.write_out.Goals as goal
 
 pub write_there-requires-clause-apart : goal.write_there-requires-clause-apart
@@ -176,3 +179,28 @@ returns-in-Err-clause-unseen g c told there on refused =
     let s1 : Scene = g.D.World.scene c.has.new.self in
     subst (λ (n : Name). IsTold {T = ℕ} Looked (n ∷ []) (Err (error.Failed place.Nowhere)) s0 s1) c.as_str-name.ensures
     (told_alone c.as_str-name.result.now c.has.result s0 s1 (error.Failed place.Nowhere) (c.has.ensures.told told))
+
+pub returns-in-Ok-true-clause-calls : goal.returns-in-Ok-true-clause-calls
+returns-in-Ok-true-clause-calls g c = λ told text has.
+    let s0 : Scene = g.D.World.scene c.args.desk.now in
+    let s1 : Scene = g.D.World.scene c.has.new.self in
+    let s2 : Scene = g.D.World.scene c.write_there.new.desk in
+    let kept = g.met.D.Desk.stays_text c.args.desk.now c.has.new.self text c.has.ensures.kept.stays has in
+    doing.fails_then c.args.names.now.file (file_of text) c.write_there.result s0 s1 s2 (c.in-Ok-true.ensures.kept.stops.none told (λ is. absurd (cc)))
+    (subst (λ (n : Name). FailsNoEarlier n (file_of text) s1 s2 c.write_there.result) c.as_str-name.ensures (c.write_there.ensures.calls told text kept))
+
+pub returns-in-Ok-false-clause-calls : goal.returns-in-Ok-false-clause-calls
+returns-in-Ok-false-clause-calls g c = λ told text has.
+    let name = c.args.names.now.file in
+    let s0 : Scene = g.D.World.scene c.args.desk.now in
+    let s1 : Scene = g.D.World.scene c.has.new.self in
+    let s2 : Scene = g.D.World.scene c.write_new.new.desk in
+    let looks = one_look Looked (c.as_str-name.result.now ∷ []) c.has.result s0 s1 c.has.ensures.kept.frame (c.has.ensures.told told) in
+    let kept = g.met.D.Desk.stays_text c.args.desk.now c.has.new.self text c.has.ensures.kept.stays has in
+    let none = subst (λ (n : Name). content_in s0.folder n ≡ None) c.as_str-name.ensures (not_there_now c.as_str-name.result.now s0.folder (sym c.in-Ok-false.field-0-test ∙ c.in-Ok-false.ensures.value told)) in
+    let named = subst (λ (n : Name). content_of s1 n ≡ None → (t : List (List ℕ)) → g.D.Desk.has_text c.has.new.self t → WritesFresh (two_names c.as_str.result.now n) n (file_of t) s1 s2 c.write_new.result)
+    c.as_str-name.ensures (c.write_new.ensures.fresh told) in
+    let fresh = named (ap (λ (d : Disk). content_in d name) looks.now ∙ none) text kept in
+    doing.fails_then name (file_of text) c.without_backup.result s0 s1 s2 (c.in-Ok-false.ensures.kept.stops.none told (λ is. absurd (cc)))
+    (subst (λ (r : Result ℕ WriteErr). FailsNoEarlier name (file_of text) s1 s2 r) (sym c.without_backup.ensures)
+    (doing.fails_plain name (file_of text) g.D.World.tells c.write_new.result s1 s2 told c.write_new.ensures.kept.stops fresh.written))

@@ -1,10 +1,13 @@
-use Rattle.std.proofs.Common.{◌≡◌, ◌∙◌, Some, None, sym}
+use Rattle.std.proofs.Common.{◌≡◌, ◌∙◌, Some, None, sym, subst, Result, ℕ}
 use Rattle.std.proofs.lemmas.Bool.{true≢false}
 use Rattle.vs_text.specs.Text.{file_of}
 use Rattle.vs_host.specs.World.{Scene}
 use Rattle.vs_disk.proofs.Contents.{some_content}
 use Rattle.vs_backup.proofs.NamesApart.{no_backup}
 use Rattle.vs_backup.proofs.Whole.{chosen_others, chosen_somewhere, plain_others}
+use Rattle.vs_backup.proofs.Doing as doing
+use Rattle.vs_backup.specs.Writing.{FailsNoEarlier}
+use Rattle.vs_backup.specs.declared.errors.WriteErr.{WriteErr}
 use Rattle.vs_backup.proofs.write.write_there.Goals as goal
 
 pub returns-clause-backed : goal.returns-clause-backed
@@ -47,3 +50,6 @@ returns-then-backs_up-clause-somewhere g c told on refused =
 
 pub returns-clause-somewhere : goal.returns-clause-somewhere
 returns-clause-somewhere g c told on refused = true≢false (sym on ∙ sym c.backs_up.ensures ∙ c.if-backs_up.false)
+
+pub returns-clause-calls : goal.returns-clause-calls
+returns-clause-calls g c = λ told text has. let had = some_content (g.D.World.scene c.args.desk.now).folder c.args.name.now (c.requires.there told) in subst (λ (r : Result ℕ WriteErr). FailsNoEarlier c.args.name.now (file_of text) (g.D.World.scene c.args.desk.now) (g.D.World.scene c.write_unbacked.new.desk) r) (sym c.without_backup.ensures) (doing.fails_plain c.args.name.now (file_of text) g.D.World.tells c.write_unbacked.result (g.D.World.scene c.args.desk.now) (g.D.World.scene c.write_unbacked.new.desk) told c.write_unbacked.ensures.kept.stops (c.write_unbacked.ensures.plain told had.0 had.1 text has).written)

@@ -43,3 +43,6 @@ returns-clause-left g c told lines syncs fits =
     keeps_left c.args.options.now names paged.pair.files.named (file_of lines) s0 s1 _ (c.write_in.ensures.written told lines fits.pages) (SameAt (is_swap names))
     (c.write_in.ensures.others told (is_swap names) (swap_outside names paged.pair.files.named c.args.options.now s0.folder)
     (still_apart (is_swap names) s0.folder (g.F.World.is_folder c.args.host.now told) (still_fits paged s0.folder lines syncs fits)))
+
+pub returns-clause-calls : goal.returns-clause-calls
+returns-clause-calls g c told lines syncs fits = c.write_in.ensures.calls told lines fits.pages

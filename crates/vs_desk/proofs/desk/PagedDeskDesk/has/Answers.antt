@@ -7,4 +7,4 @@ use Rattle.vs_desk.proofs.desk.PagedDeskDesk.has.Goals as goal
 pub returns-clause-kept : goal.returns-clause-kept
 returns-clause-kept g c =
     let on = c.has.ensures in
-    reads Looked (c.args.name.now ∷ []) c.has.result c.requires.valid (λ above. (refl, refl, refl, same_none _ _ _, above)) on.cause on.told on.frame
+    reads Looked (c.args.name.now ∷ []) c.has.result c.requires.valid (λ above. (refl, refl, refl, same_none _ _ _, above)) on.cause on.quiet on.told on.frame

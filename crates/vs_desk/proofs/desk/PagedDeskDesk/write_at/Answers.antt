@@ -7,4 +7,4 @@ use Rattle.vs_desk.proofs.desk.PagedDeskDesk.write_at.Goals as goal
 pub returns-clause-kept : goal.returns-clause-kept
 returns-clause-kept g c =
     let on = c.write_at.ensures in
-    changes Wrote (c.args.name.now ∷ []) c.write_at.result c.requires.valid (λ above. (refl, refl, refl, same_none _ _ _, above)) on.cause on.told on.frame
+    changes Wrote (c.args.name.now ∷ []) c.write_at.result c.requires.valid (λ above. (refl, refl, refl, same_none _ _ _, above)) on.cause on.quiet on.told on.frame
