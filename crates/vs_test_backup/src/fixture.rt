@@ -73,19 +73,6 @@ pub(crate) fn write_to<F: Folder>(
     Ok(write_out(alloc, desk, &names, options))
 }
 
-/// The desk after a write into `f` that was stopped after so many calls.
-pub(crate) fn stopped(
-    alloc: Global,
-    files: &[(&str, &[u8])],
-    options: &WriteOptions,
-    calls: u64,
-) -> Result<TextDesk<MemHost>, Fail> {
-    let mut desk = desk_with(alloc, files)?;
-    desk.folder.stop_after(calls);
-    let _ = write_to(alloc, &mut desk, "f", options)?;
-    Ok(desk)
-}
-
 /// What an image has under a name; `-` where it has no file.
 pub(crate) fn left(
     alloc: Global,

@@ -1,6 +1,5 @@
-// A stop after each call, and each call failing in turn: the file or its backup is whole, and the old bytes are where the answer
-// says.
-use crate::fixture::{KEEPS, NEW, OLD, PREFIXES, always, desk_with, options, stopped, write_to};
+// Each call failing in turn: the old bytes are where the answer says.
+use crate::fixture::{KEEPS, NEW, OLD, PREFIXES, always, desk_with, options, write_to};
 use std::alloc::Global;
 use std::process::Abort;
 use std::test::Fail;
@@ -49,47 +48,6 @@ fn is_whole(alloc: Global, host: &MemHost, backup: &str, allowed: &[&[u8]]) -> R
     Ok(true)
 }
 
-// Whether the file or its backup is whole, where the write is stopped after so many calls.
-fn stops_whole(alloc: Global, options: &WriteOptions, calls: u64) -> Result<bool, Fail> {
-    let desk = stopped(alloc, &[("f", OLD)], options, calls)?;
-    is_whole(alloc, &desk.folder, "f~", &[OLD, NEW])
-}
-
-#[test]
-fn each_stop_leaves_the_file_or_its_backup_whole(rt: HostRuntime) -> Result<(), Fail> {
-    let alloc = rt.alloc();
-    for (backup, writebackup, copy) in BACKED {
-        let options = options(backup, writebackup, copy);
-        for calls in 0..=CALLS {
-            assert!(rt;
-                stops_whole(alloc, &options, calls)?,
-                "{options:?}, {calls} calls"
-            );
-        }
-    }
-    Ok(())
-}
-
-// Whether an older backup is as it was, and the file or its backup is whole, where the write is stopped after so many calls.
-fn stops_beside(alloc: Global, options: &WriteOptions, calls: u64) -> Result<bool, Fail> {
-    let desk = stopped(alloc, &[("f", OLD), ("f~", b"old")], options, calls)?;
-    let older = always(alloc, &desk.folder, "f~", &[b"old"])?;
-    Ok(older && is_whole(alloc, &desk.folder, "z~", &[OLD, NEW])?)
-}
-
-// The backup gets another name where that of an older one may not be replaced.
-#[test]
-fn each_stop_leaves_an_older_backup_as_it_was(rt: HostRuntime) -> Result<(), Fail> {
-    let alloc = rt.alloc();
-    for copy in [CopyMode::Yes, CopyMode::No] {
-        let options = options(false, true, copy);
-        for calls in 0..=CALLS + 1 {
-            assert!(rt; stops_beside(alloc, &options, calls)?, "{calls} calls");
-        }
-    }
-    Ok(())
-}
-
 // Whether in each image the old bytes stand where this answer to a write with a backup says.
 fn stands(alloc: Global, host: &MemHost, answer: Result<u64, WriteErr>) -> Result<bool, Fail> {
     match answer {
@@ -133,26 +91,6 @@ fn each_fault_leaves_the_old_bytes_where_it_says(rt: HostRuntime) -> Result<(), 
                 "{options:?}, call {failing}"
             );
         }
-    }
-    Ok(())
-}
-
-// Whether the file has the text or is not there, where the write is stopped after so many calls.
-fn stops_new(alloc: Global, files: &[(&str, &[u8])], calls: u64) -> Result<bool, Fail> {
-    let desk = stopped(alloc, files, &options(true, true, CopyMode::Yes), calls)?;
-    always(alloc, &desk.folder, "f", &[b"-", NEW])
-}
-
-// The eight calls of a write of a file that is not there, and one more where the name of the new file is taken.
-#[test]
-fn a_new_file_is_whole_or_not_there(rt: HostRuntime) -> Result<(), Fail> {
-    let alloc = rt.alloc();
-    for calls in 0..10 {
-        assert!(rt; stops_new(alloc, &[], calls)?, "{calls} calls");
-        assert!(rt;
-            stops_new(alloc, &[("f.vsnew", b"left")], calls)?,
-            "{calls} calls"
-        );
     }
     Ok(())
 }

@@ -1,10 +1,8 @@
-//! Whole runs over a host in memory, against outputs and swap files that are written out.
+//! Whole runs of which no scenario can tell: a script that no memory could hold, and all blocks of a long text.
 #![tactic(auto)]
 
 #[cfg(test)]
 mod comments;
-#[cfg(test)]
-mod faults;
 #[cfg(test)]
 mod helpers;
 #[cfg(test)]
@@ -13,11 +11,3 @@ mod limits;
 mod long;
 #[cfg(test)]
 mod pages;
-#[cfg(test)]
-mod pieces;
-#[cfg(test)]
-mod rows;
-#[cfg(test)]
-mod runs;
-#[cfg(test)]
-mod texts;

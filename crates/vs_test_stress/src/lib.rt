@@ -1,11 +1,7 @@
-//! The stress mode: its arguments, its commands, and runs over a host in memory.
+//! The stress mode: its arguments, its commands and its line.
 #![tactic(auto)]
 
 #[cfg(test)]
 mod arguments;
 #[cfg(test)]
 mod commands;
-#[cfg(test)]
-mod digests;
-#[cfg(test)]
-mod runs;

@@ -1,23 +1,12 @@
-// A host with files and a script, a run over it, and what a stop may leave.
+// A host with files and a script, and a run over it.
 ghost use Rattle.std.specs.Prelude.{◌≡◌, [], IfOk, IsTrue};
 ghost use Rattle.vs_memory.specs.Memory.{folder_of};
 
 use std::alloc::Global;
 use std::test::Fail;
 use vs_host::Host;
-use vs_memory::{Choice, Keep, MemHost};
+use vs_memory::MemHost;
 use vs_top::{Report, run};
-
-/// What the file has before a write, and what is written.
-pub const OLD: &[u8] = b"a\n";
-
-pub const NEW: &[u8] = b"a\nx\n";
-
-// A stop leaves these bytes where a file was changed and not synced.
-const KEEPS: [Keep; 3] = [Keep::Read, Keep::Synced, Keep::Byte(b'?')];
-
-// As many changes of names as are pending at once in a write, and all of them.
-const PREFIXES: [u32; 6] = [0, 1, 2, 3, 4, u32::MAX];
 
 fn put(alloc: Global, host: &mut MemHost, name: &str, bytes: &[u8]) -> Result<(), Fail>
     ensures { host.new ≡ record host.old { base = host.new.base } }
@@ -60,15 +49,4 @@ pub(crate) fn edit_f<H: Host>(alloc: Global, host: &mut H) -> Result<Report, Fai
 {
     let words = words_of(alloc, ["edit", "f"])?;
     Ok(run(alloc, words.as_slice(), host))
-}
-
-/// What a stop may leave, by what is kept of each file and of the pending changes of names.
-pub(crate) fn choices_of(alloc: Global) -> Result<Vec<Choice>, Fail> {
-    let mut choices = Vec::new(alloc);
-    for keep in KEEPS {
-        for names in PREFIXES {
-            choices.push(Choice { names, keep })?;
-        }
-    }
-    Ok(choices)
 }
