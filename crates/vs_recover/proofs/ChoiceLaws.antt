@@ -5,7 +5,9 @@ use Rattle.std.proofs.lemmas.Bool.Decides.{nat_tests}
 use Rattle.vs_zero.specs.declared.Zero.{Zero}
 use Rattle.vs_zero.specs.declared.ZeroErr.{ZeroErr}
 use Rattle.vs_recover.specs.declared.roots.Root.TheVariants as root
-use Rattle.vs_zero.specs.Zero.{reading_of}
+use Rattle.vs_zero.specs.Layout.{number_in, page_size_field}
+use Rattle.vs_zero.specs.Zero.{fields_of, is_page_size, reading_of}
+use Rattle.vs_zero.proofs.ReadingLaws.{Reads, reads}
 use Rattle.vs_recover.specs.declared.image.Opening.{Opening}
 use Rattle.vs_recover.specs.declared.roots.Roots.{Roots}
 use Rattle.vs_recover.specs.declared.choices.Found.TheVariants as found
@@ -25,8 +27,18 @@ use Rattle.std.specs.Prelude.{codes, ◌++◌, ◌∷◌, []}
 use Rattle.vs_recover.specs.declared.image.Image.{Image}
 use Rattle.vs_recover.specs.Images.{IsImage, refused_image}
 use Rattle.vs_recover.specs.Infos.{IsInfo, image_words}
-use Rattle.vs_recover.specs.Choices.{Recovers, NoneStands, StandsNowhere, StandsInTurn, IsFound, IsGeneration, IsOpening, IsStanding, IsRefusal, generation_at, generation_of, generation_said, is_newer, root_chosen, root_in, root_reads, root_of, text_of}
+use Rattle.vs_recover.specs.Choices.{Recovers, NoneStands, StandsNowhere, StandsInTurn, IsFound, IsGeneration, IsOpening, IsSized, IsStanding, IsRefusal, generation_at, generation_of, generation_said, is_newer, root_chosen, root_in, root_reads, root_of, text_of}
 use Rattle.vs_recover.specs.Reading.{IsThere}
+
+page_sized : (n m : ℕ) → n ≡ m → is_page_size n ≡ true → (1048 ≤ m) × (m ≤ 50000)
+page_sized n m is sized = (grind (arith, nat_tests, is, sized), grind (arith, nat_tests, is, sized))
+
+pub sized_reading : (page : List ℕ) (found : Result Zero ZeroErr) → found ≡ reading_of page → IsSized found
+unfolding fields_of
+sized_reading page (Ok zero) is =
+    let read : Reads page zero = reads page zero (sym is) in
+    page_sized (number_in page_size_field page) zero.page_size (ap (λ (z : Zero). z.page_size) read.fields) read.sized
+sized_reading page (Err why) is = tt
 
 -- a file whose page 0 does not read does not stand
 pub refused_not : (file : List ℕ) (why : ZeroErr) → reading_of (take 4096 file) ≡ Err why → StandsNot file

@@ -9,3 +9,7 @@ pub mod ChoiceLaws
 pub mod FileTextLaws
 pub mod BitLaws
 pub mod ReadingLaws
+pub mod OriginalLaws
+pub mod WalkedLaws
+pub mod SalvageLaws
+pub mod PartLaws

@@ -1,12 +1,12 @@
 -- How marks follow the pages that are used.
-use Rattle.std.proofs.Common.{◌≡◌, ℕ, zero, suc, ◌+◌, ◌<◌, ◌≤◌, List, [], ◌∷◌, length, get_or, set, take, drop, replicate, Bool, true, false, refl, ap, ◌∙◌, inl, inr, arith}
+use Rattle.std.proofs.Common.{◌≡◌, ℕ, zero, suc, ◌+◌, ◌-◌, ◌<◌, ◌≤◌, List, [], ◌∷◌, length, get_or, set, take, drop, replicate, Bool, true, false, refl, sym, ap, ◌∙◌, inl, inr, arith}
 use Rattle.std.specs.Prelude.{nat_lt, if◌then◌else◌}
 use Rattle.std.proofs.lemmas.Bool.{cases_eq, cases_lt}
 use Rattle.std.proofs.lemmas.Bool.Decides.{nat_tests}
 use Rattle.vs_pages.specs.Maps.{one, total, span}
 use Rattle.vs_tree_shape.specs.declared.entries.Entry.{Entry}
 use Rattle.vs_tree_shape.proofs.Sums.{total_more, total-append, cut_at}
-use Rattle.vs_pages.proofs.MapsLemmas.{span-within, span-add, span-above}
+use Rattle.vs_pages.proofs.MapsLemmas.{span-within, span-add, span-above, span-inside, span-most}
 use Rattle.vs_recover.specs.Levels.{first_used, taken, are_wide}
 use Rattle.vs_recover.specs.Marks.{used_in, free_in}
 
@@ -56,9 +56,46 @@ begun (suc (suc n)) (suc (suc k)) le = none_used n k ∙ grind (arith, nat_tests
 pub mark_more : (marks now : List Bool) (at i k : ℕ) → get_or now (at + i) true ≡ false → used_in now k ≡ used_in marks k + span at i k → used_in (set now (at + i) true) k ≡ used_in marks k + span at (i + 1) k
 mark_more marks now at i k free used = omega (arith, used-set now (at + i) k free, used, span-add at i 1 k)
 
--- a page of a block was marked before
-pub mark_clash : (marks now : List Bool) (at n i : ℕ) → i < n → get_or now (at + i) true ≡ true → ((k : ℕ) → used_in now k ≡ used_in marks k + span at i k) → (k : ℕ) × (2 ≤ used_in marks k + span at n k)
-mark_clash marks now at n i lt is used = clash marks at n (at + i) (omega (arith, used_where now (at + i) is, used (at + i), span-above at i (at + i) (omega arith))) (omega arith) (omega arith)
+-- one page more is not marked
+pub still_free : (marks : List Bool) (at n : ℕ) → get_or marks (at + n) true ≡ false → ((i : ℕ) → i < n → get_or marks (at + i) true ≡ false) → (i : ℕ) → i < n + 1 → get_or marks (at + i) true ≡ false
+still_free marks at n free before i lt = elim (cases_eq i n) [
+  | inl e ↦ ap (λ j. get_or marks (at + j) true) e ∙ free
+  | inr ne ↦ before i (omega arith)
+]
+
+unused : (marks : List Bool) (at : ℕ) → get_or marks at true ≡ false → used_in marks at ≡ 0
+unused [] at is = absurd (cc)
+unused (mark ∷ marks) zero is = let e : mark ≡ false = is in rw e refl
+unused (mark ∷ marks) (suc at) is = unused marks at is
+
+free_where : (marks : List Bool) (at : ℕ) → used_in marks at ≡ 0 → get_or marks at true ≡ false
+free_where [] at is = absurd (omega (arith, is))
+free_where (true ∷ marks) zero is = absurd (omega (arith, is))
+free_where (false ∷ marks) zero is = refl
+free_where (mark ∷ marks) (suc at) is = free_where marks at is
+
+pub used_most : (marks : List Bool) (k : ℕ) → used_in marks k ≤ 1
+used_most [] k = omega arith
+used_most (true ∷ marks) zero = omega arith
+used_most (false ∷ marks) zero = omega arith
+used_most (mark ∷ marks) (suc k) = used_most marks k
+
+-- none of a block's pages is marked
+pub all_free : (marks : List Bool) (at n : ℕ) → ((i : ℕ) → i < n → get_or marks (at + i) true ≡ false) → (k : ℕ) → used_in marks k + span at n k ≤ 1
+all_free marks at n free k = elim (cases_lt (span at n k) 1) [
+  | inl none ↦ omega (arith, none, used_most marks k)
+  | inr some ↦ (
+      let within = span-inside at n k some in
+      let i : ℕ = k - at in
+      let here : at + i ≡ k = omega (arith, within.0) in
+      let zero_here : used_in marks k ≡ 0 = ap (λ j. used_in marks j) (sym here) ∙ unused marks (at + i) (free i (omega (arith, here, within.1))) in
+      omega (arith, zero_here, span-most at n k)
+      )
+]
+
+-- the next page of such a block is not marked yet
+pub free_next : (marks now : List Bool) (at n i : ℕ) → i < n → ((k : ℕ) → used_in marks k + span at n k ≤ 1) → ((k : ℕ) → used_in now k ≡ used_in marks k + span at i k) → get_or now (at + i) true ≡ false
+free_next marks now at n i lt free used = free_where now (at + i) (omega (arith, free (at + i), used (at + i), span-above at i (at + i) (omega arith), span-within at n (at + i) (omega arith) (omega arith)))
 
 -- ---- the blocks of several entries
 
@@ -75,9 +112,3 @@ pub taken_part : (es : List Entry) (i k : ℕ) (d : Entry) → i < length es →
 taken_part es i k d lt =
     let f : Entry → ℕ = λ e. span e.block e.pages k in
     omega (arith, ap (λ xs. total f xs) (cut_at es i d lt), total-append f (take i es) (get_or es i d ∷ drop (i + 1) es))
-
-pub used_most : (marks : List Bool) (k : ℕ) → used_in marks k ≤ 1
-used_most [] k = omega arith
-used_most (true ∷ marks) zero = omega arith
-used_most (false ∷ marks) zero = omega arith
-used_most (mark ∷ marks) (suc k) = used_most marks k

@@ -52,7 +52,7 @@ reads_as {found} {result} {e} {d} {tells} {old} {new} so back reads = record {
   calls = reads.calls;
 }
 
-reads_within : {T E : Type 0} {result : Result T E} {failed : E} {tells : Tells} {old new : Scene} {count most : ℕ} → (IsTrue tells.folder → count ≤ most) → ReadsAtMost tells result failed old new count → ReadsAtMost tells result failed old new most
+pub reads_within : {T E : Type 0} {result : Result T E} {failed : E} {tells : Tells} {old new : Scene} {count most : ℕ} → (IsTrue tells.folder → count ≤ most) → ReadsAtMost tells result failed old new count → ReadsAtMost tells result failed old new most
 reads_within within reads = record {
   frame = reads.frame;
   looks = reads.looks;
@@ -158,6 +158,14 @@ some_as (Some file) P Q leads has = leads file has
 pub there_as : (tells : Tells) (scene : Scene) (name : List ℕ) (P Q : List ℕ → Type 0) → ((file : List ℕ) → P file → Q file) → IsThere tells scene name P → IsThere tells scene name Q
 there_as tells scene name P Q leads there = λ told. some_as (content_of scene name) P Q leads (there told)
 
+some_found : (o : Option (List ℕ)) (P Q : List ℕ → Type 0) → ((file : List ℕ) → o ≡ Some file → Q file) → IsSomeAnd o P → IsSomeAnd o Q
+some_found None P Q leads has = absurd has
+some_found (Some file) P Q leads has = leads file refl
+
+-- what holds of this file is said of the file that is there
+pub there_by : (tells : Tells) (scene : Scene) (name : List ℕ) (P Q : List ℕ → Type 0) → ((file : List ℕ) → IsFile tells scene name file → Q file) → IsThere tells scene name P → IsThere tells scene name Q
+there_by tells scene name P Q leads there = λ told. some_found (content_of scene name) P Q (λ file is. leads file (record { told = told; there = is })) (there told)
+
 if_there : (o : Option (List ℕ)) (P : List ℕ → Type 0) → IsSome o → IfSome o P → IsSomeAnd o P
 if_there None P some has = absurd (cc)
 if_there (Some file) P some has = has
@@ -179,7 +187,7 @@ reads_blocks {old} name len there reads = reads_within (λ told. omega (arith, b
 -- ---- a call that reads the folder leaves it
 
 module _ {T E : Type 0} {result : Result T E} {failed : E} {tells : Tells} {old new : Scene} {most : ℕ} (reads : ReadsAtMost tells result failed old new most) where
-  still : (name : Name) → content_of new name ≡ content_of old name
+  pub still : (name : Name) → content_of new name ≡ content_of old name
   still name = ap (λ (s : Scene). content_of s name) reads.frame
 
   pub file_stays : {name file : List ℕ} → IsFile tells old name file → IsFile tells new name file

@@ -1,5 +1,5 @@
 -- What is recovered of the two swap files, and which of them is salvaged where neither stands.
-use Rattle.std.specs.Prelude.{◌≡◌, ◌⊎◌, ◌*◌, ◌&&◌, ℕ, Bool, true, false, nat_eq, nat_lt, nat_le, is_ok, if◌then◌else◌, List, length, take, drop, Option, Some, None, Result, Ok, Err}
+use Rattle.std.specs.Prelude.{◌≡◌, ◌≤◌, ◌⊎◌, ◌*◌, ◌&&◌, ℕ, Bool, true, false, nat_eq, nat_lt, nat_le, is_ok, if◌then◌else◌, List, length, take, drop, Option, Some, None, Result, Ok, Err}
 use Rattle.vs_zero.specs.declared.Pair.{Pair}
 use Rattle.vs_zero.specs.declared.Zero.{Zero}
 use Rattle.vs_zero.specs.declared.ZeroErr.{ZeroErr}
@@ -40,6 +40,15 @@ IsOpening None None = Unit {0}
 IsOpening None (Some opening) = ⊥
 IsOpening (Some file) None = ⊥
 IsOpening (Some file) (Some opening) = (opening.len ≡ length file) × (opening.zero ≡ reading_of (take 4096 file))
+
+-- A size of pages that is read is from 1,048 to 50,000 bytes.
+abbrev pub IsSized : Result Zero ZeroErr → Type 0
+IsSized (Ok zero) = (1048 ≤ zero.page_size) × (zero.page_size ≤ 50000)
+IsSized (Err why) = Unit {0}
+
+abbrev pub AreSized : Option Opening → Type 0
+AreSized None = Unit {0}
+AreSized (Some opening) = IsSized opening.zero
 
 -- the generation that the tag of a pair says
 abbrev pub generation_said : Option Pair → Option ℕ

@@ -8,3 +8,6 @@ pub mod Faults
 pub mod Infos
 pub mod Reading
 pub mod Stored
+pub mod Salvage
+pub mod Original
+pub mod WalkedEntries

@@ -2,6 +2,7 @@
 ghost use Rattle.std.specs.Prelude.{◌≡◌, ◌+◌, ◌-◌, ◌/◌, ℕ, List, IfOk, IfErr, IsTrue, IsSome, Ok, length, take};
 ghost use Rattle.vs_host.specs.World.{content_of};
 ghost use Rattle.vs_zero.specs.Zero.{reading_of};
+ghost use Rattle.vs_recover.specs.Choices.{IsSized};
 ghost use Rattle.vs_recover.specs.Faults.{IsFault};
 ghost use Rattle.vs_recover.specs.Files.{IsFile};
 ghost use Rattle.vs_recover.specs.Images.{IsImage, refused_image, text_in};
@@ -71,6 +72,7 @@ pub fn read_opening<F: Folder>(alloc: Global, host: &mut F, name: &str) -> Resul
     requires there { IsTrue F.tells.folder → IsSome (content_of (F.scene host.old) name.now) }
     ensures len { IfOk result (λ opening. IsThere F.tells (F.scene host.old) name.now (λ file. opening.len ≡ length file)) }
     ensures zero { IfOk result (λ opening. (file : List ℕ) → IsFile F.tells (F.scene host.old) name.now file → opening.zero ≡ reading_of (take 4096 file)) }
+    ensures sized { IfOk result (λ opening. IsSized opening.zero) }
     ensures reading { ReadsAtMost F.tells result Fault.Failed (F.scene host.old) (F.scene host.new) 2 }
 {
     let len = file_len(host, name)?;

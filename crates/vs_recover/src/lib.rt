@@ -11,8 +11,10 @@ mod infos;
 mod levels;
 mod marks;
 mod newest;
+mod original;
 mod roots;
 mod tree;
+mod walk;
 
 pub use choices::{Chosen, Swap, choose};
 pub use error::{Fault, RecErr};
@@ -20,3 +22,5 @@ pub use file_text::FileText;
 pub use image::{Image, read_image};
 pub use infos::info;
 pub use roots::Root;
+pub use vs_damaged::Marker;
+pub use walk::{Salvaged, salvage};

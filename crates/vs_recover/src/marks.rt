@@ -1,5 +1,5 @@
 // The pages of a file that a walk has used.
-ghost use Rattle.std.specs.Prelude.{◌≡◌, ◌≤◌, ◌<◌, ◌+◌, ◌*◌, ℕ, List, Bool, true, false, IfOk, IsTrue, IsFalse, length, take, slice_index_or, slice_set, vec_len};
+ghost use Rattle.std.specs.Prelude.{◌≡◌, ◌≤◌, ◌<◌, ◌+◌, ◌*◌, ◌^◌, ℕ, List, Bool, true, false, IfOk, IsTrue, IsFalse, length, take, slice_index_or, slice_set, vec_len};
 ghost use Rattle.vs_pages.specs.Maps.{span};
 ghost use Rattle.vs_recover.specs.Levels.{first_used, taken, are_wide};
 ghost use Rattle.vs_recover.specs.Marks.{used_in, free_in, marks_of, weight};
@@ -75,26 +75,54 @@ impl Marks {
         self.bits[at / 8] = byte + weight(at % 8);
     }
 
-    /// Marks neighbouring pages; false where one of them is not in the file or was used.
+    // Whether none of these neighbouring pages is marked.
+    fn are_free(&self, block: u64, pages: u64) -> bool
+        requires near { block + pages < 2 ^ 64 }
+        requires inside { block + pages ≤ length self.now }
+        ensures free { IsTrue result → (k : ℕ) → used_in self.now k + span block pages k ≤ 1 }
+        ensures clash { IsFalse result → (k : ℕ) × (2 ≤ used_in self.now k + span block pages k) }
+    {
+        for page in 0..pages {
+            if self.is_marked((block + page) as usize) {
+                return false;
+            }
+        }
+        true
+    }
+
+    // Marks neighbouring pages, none of which is marked.
+    fn set_marks(&mut self, block: u64, pages: u64)
+        requires near { block + pages < 2 ^ 64 }
+        requires inside { block + pages ≤ length self.old }
+        requires free { (k : ℕ) → used_in self.old k + span block pages k ≤ 1 }
+        ensures len { length self.new ≡ length self.old }
+        ensures used { (k : ℕ) → used_in self.new k ≡ used_in self.old k + span block pages k }
+        ensures free { free_in self.new + pages ≡ free_in self.old }
+    {
+        for page in 0..pages {
+            self.set_mark((block + page) as usize);
+        }
+    }
+
+    /// Marks neighbouring pages; false where one of them is not in the file or was used, and then none is marked.
     pub fn mark(&mut self, block: u64, pages: u32) -> bool
         requires some { 1 ≤ pages }
         ensures len { length self.new ≡ length self.old }
         ensures used { IsTrue result → (k : ℕ) → used_in self.new k ≡ used_in self.old k + span block pages k }
         ensures free { IsTrue result → free_in self.new + pages ≡ free_in self.old }
+        ensures inside { IsTrue result → block + pages ≤ length self.old }
         ensures clash { IsFalse result → (k : ℕ) × (2 ≤ used_in self.old k + span block pages k) }
+        ensures same { IsFalse result → self.new ≡ self.old }
     {
         let count = self.len();
         let wanted = u64::from(pages);
         if block >= count || wanted > count - block {
             return false;
         }
-        'pages: for page in 0..wanted {
-            let at = (block + page) as usize;
-            if self.is_marked(at) {
-                return false;
-            }
-            self.set_mark(at);
+        if !self.are_free(block, wanted) {
+            return false;
         }
+        self.set_marks(block, wanted);
         true
     }
 

@@ -1,7 +1,7 @@
 // The text of the newer of two swap files that stand.
 ghost use Rattle.std.specs.Prelude.{◌≡◌, ◌+◌, IfOk, IsTrue};
 ghost use Rattle.vs_host.specs.World.{content_of};
-ghost use Rattle.vs_recover.specs.Choices.{IsOpening, IsStanding, Recovers, StandsInTurn, generation_in, generation_of, is_newer, text_of};
+ghost use Rattle.vs_recover.specs.Choices.{AreSized, IsOpening, IsStanding, Recovers, StandsInTurn, generation_in, generation_of, is_newer, text_of};
 ghost use Rattle.vs_recover.specs.Reading.{ReadsAtMost, blocks_at};
 
 use crate::calls::has_file;
@@ -18,6 +18,7 @@ pub fn find_opening<F: Folder>(
     name: &str,
 ) -> Result<Option<Opening>, Fault>
     ensures opening { IfOk result (λ found. IsTrue F.tells.folder → IsOpening (content_of (F.scene host.old) name.now) found) }
+    ensures sized { IfOk result AreSized }
     ensures reading { ReadsAtMost F.tells result Fault.Failed (F.scene host.old) (F.scene host.new) 3 }
 {
     if !has_file(host, name)? {

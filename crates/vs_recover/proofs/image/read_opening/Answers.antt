@@ -1,5 +1,6 @@
 use Rattle.std.proofs.Common.{◌≡◌, length, ap, ◌∙◌, arith}
 use Rattle.vs_zero.specs.Zero.{reading_of}
+use Rattle.vs_recover.proofs.ChoiceLaws.{sized_reading}
 use Rattle.vs_recover.proofs.ReadingLaws.{file_stays, reads_ok, reads_passed, reads_then, there_stays}
 use Rattle.vs_recover.proofs.image.read_opening.Goals as goal
 
@@ -18,3 +19,6 @@ returns-in_err-head-clause-reading g c = reads_passed c.in_err-head.was c.from_r
 
 pub returns-clause-reading : goal.returns-clause-reading
 returns-clause-reading g c = reads_ok (omega arith) (reads_then c.in_ok-len.ensures.reading c.in_ok-head.ensures.reading)
+
+pub returns-clause-sized : goal.returns-clause-sized
+returns-clause-sized g c = sized_reading c.deref.result.now c.read-zero.result c.read-zero.ensures.value

@@ -20,3 +20,6 @@ returns-in_err-opening-clause-reading g c = reads_passed c.in_err-opening.was c.
 
 pub returns-clause-reading : goal.returns-clause-reading
 returns-clause-reading g c = reads_ok (omega arith) (reads_then c.in_ok-has_file.ensures.reading c.in_ok-opening.ensures.reading)
+
+pub returns-clause-sized : goal.returns-clause-sized
+returns-clause-sized g c = c.in_ok-opening.ensures.sized
