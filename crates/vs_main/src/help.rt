@@ -85,7 +85,7 @@ While a file is written it or its backup is whole, unless backup and
 writebackup are both off. A script that ends without q leaves swap files with
 its text.
 
-Exit status; from 2 on a line on standard error says the same:
+Exit status; from 2 on, but for 11, a line on standard error says the same:
    0  every command did its work, or the text was recovered, and so on
    1  some reply is an error, or a write stored no undo file
    2  the arguments are none of the above
@@ -97,6 +97,7 @@ Exit status; from 2 on a line on standard error says the same:
    8  there is not enough memory
    9  a swap file is encrypted, and none has a text
   10  no swap file has a text
+  11  a swap file was damaged: lines that begin with ??? say what is missing
   12  the file has more than 4,000,000 lines, more than 268,435,456 bytes, or
       more than 1,048,576 bytes in a line
   13  the script has more than 1,073,741,824 bytes

@@ -4,7 +4,7 @@ use Rattle.std.specs.Result.{IsErrAnd}
 use Rattle.vs_faults.specs.Faults.{HasCause, HasRisen}
 use Rattle.vs_host.specs.Disk.{Disk}
 use Rattle.vs_host.specs.World.{Tells, Scene, ChangesFolder, ChangesOutput}
-use Rattle.vs_disk.specs.Runs.{Inside, Runs, FailsLast, Quiet}
+use Rattle.vs_disk.specs.Runs.{Inside, Runs, FailsLast, NoneFails, Quiet}
 use Rattle.vs_disk.proofs.Runs.{goes_weaker, reads_change}
 use Rattle.vs_pair.specs.Acts.{Acts}
 use Rattle.vs_recover.specs.Reading.{ReadsAtMost}
@@ -27,22 +27,52 @@ runs_proceed step old new runs last = record {
 pub acts_proceed : (tells : Tells) (step : Disk → Disk → Type 0) (old new : Scene) → Acts tells step old new → IsTrue tells.folder → Proceeds step old new
 acts_proceed tells step old new acts told = runs_proceed step old new (acts.runs told) (acts.last told)
 
+-- The folder goes by the step at each moment, no call failed, and nothing else changed. So what is to be written can be.
+pub record IsReady (step : Disk → Disk → Type 0) (tells : Tells) (old mid : Scene) : Type 0 where
+  pub frame : ChangesFolder old mid
+  pub faults : mid.folder_faults ≡ old.folder_faults
+  pub quiet : IsTrue tells.folder → Quiet old mid
+  pub proceeds : IsTrue tells.folder → Proceeds step old mid
+
+pub acts_ready : (tells : Tells) (step : Disk → Disk → Type 0) (old mid : Scene) → Acts tells step old mid → NoneFails tells old mid → IsReady step tells old mid
+acts_ready tells step old mid acts none = record { frame = acts.frame; faults = none.faults; quiet = none.quiet; proceeds = acts_proceed tells step old mid acts }
+
+reads_proceed : {T E : Type 0} {result : Result T E} {failed : E} {tells : Tells} {most : ℕ} (old new : Scene) → ReadsAtMost tells result failed old new most → IsTrue tells.folder → Proceeds IsSame old new
+reads_proceed old new reads told = runs_proceed IsSame old new (reads.looks told) (reads.last told)
+
+pub reads_ready : {T E : Type 0} {x : T} {failed : E} {tells : Tells} {most : ℕ} (old mid : Scene) → ReadsAtMost tells {T = T} {E = E} (Ok x) failed old mid most → IsReady IsSame tells old mid
+reads_ready old mid reads = record { frame = reads_change old mid reads.frame; faults = reads.none.faults; quiet = reads.none.quiet; proceeds = reads_proceed old mid reads }
+
 -- ---- a mode that is refused before it writes
 
-abbrev pub failed_as : ModeErr → Ended
+abbrev pub failed_as : {T : Type 0} → ModeErr → Ended T
 failed_as why = Err why
 
-pub refused_as : (result : Ended) (why : ModeErr) → IsErrAnd result (λ e. e ≡ why) → Err why ≡ result
-refused_as (Ok done) why is = absurd is
-refused_as (Err e) why is = ap (λ (x : ModeErr). failed_as x) (sym is)
+pub refused_as : {T : Type 0} (result : Ended T) (why : ModeErr) → IsErrAnd result (λ e. e ≡ why) → Err why ≡ result
+refused_as (Ok answer) why is = absurd is
+refused_as {T} (Err e) why is = ap (λ (x : ModeErr). failed_as {T = T} x) (sym is)
 
 -- the frame of a call on the folder in which none failed
 leaves_none : (old new : Scene) → ChangesFolder old new → new.folder_faults ≡ old.folder_faults → LeavesAll old new
 leaves_none old new frame same = frame ∙ (λ i. record old { folder = new.folder; folder_faults = same i; trace = new.trace })
 
-module _ (step : Disk → Disk → Type 0) (Wanted : List ℕ → Type 0) (Refused : ModeErr → Type 0) (tells : Tells) where
+-- the frame of a mode whose output or its count of faults changed too
+written_frame : (old mid new : Scene) → ChangesFolder old mid → mid.folder_faults ≡ old.folder_faults → ChangesOutput mid new
+    → new ≡ record old { folder = new.folder; output = new.output; out_faults = new.out_faults; trace = new.trace }
+written_frame old mid new first same second =
+    let still : mid.folder ≡ new.folder = sym (ap (λ (s : Scene). s.folder) second) in
+    second ∙ ap (λ (s : Scene). record s { output = new.output; out_faults = new.out_faults; trace = new.trace }) first
+    ∙ (λ i. record old { folder = still i; folder_faults = same i; output = new.output; out_faults = new.out_faults; trace = new.trace })
+
+all_frame : (old mid new : Scene) → ChangesFolder old mid → mid.folder_faults ≡ old.folder_faults → ChangesOutput mid new → new.out_faults ≡ mid.out_faults
+    → new ≡ record old { folder = new.folder; output = new.output; trace = new.trace }
+all_frame old mid new first same second outs =
+    let none : new.out_faults ≡ old.out_faults = outs ∙ ap (λ (s : Scene). s.out_faults) first in
+    written_frame old mid new first same second ∙ (λ i. record old { folder = new.folder; output = new.output; out_faults = none i; trace = new.trace })
+
+module _ {T : Type 0} (step : Disk → Disk → Type 0) (Wanted : T → List ℕ → Type 0) (Refused : ModeErr → Type 0) (tells : Tells) where
   leaves_refused : (old new : Scene) (why : ModeErr) → why ≢ refusal.OutputFailed → (why ≡ refusal.FolderFailed → HasRisen old.folder_faults new.folder_faults) → (why ≢ refusal.FolderFailed → new.folder_faults ≡ old.folder_faults)
-      → old.folder_faults ≤ new.folder_faults → ChangesFolder old new → LeavesBy (Err why) old new
+      → old.folder_faults ≤ new.folder_faults → ChangesFolder old new → LeavesBy {T = T} (Err why) old new
   leaves_refused old new refusal.NoSwap other risen same later frame = leaves_none old new frame (same (λ is. cc))
   leaves_refused old new refusal.Encrypted other risen same later frame = leaves_none old new frame (same (λ is. cc))
   leaves_refused old new refusal.NotSwap other risen same later frame = leaves_none old new frame (same (λ is. cc))
@@ -72,56 +102,47 @@ module _ (step : Disk → Disk → Type 0) (Wanted : List ℕ → Type 0) (Refus
 
   -- ---- a mode that writes at its end
 
-  written_frame : (old mid new : Scene) → ChangesFolder old mid → mid.folder_faults ≡ old.folder_faults → ChangesOutput mid new
-      → new ≡ record old { folder = new.folder; output = new.output; out_faults = new.out_faults; trace = new.trace }
-  written_frame old mid new first same second =
-      let still : mid.folder ≡ new.folder = sym (ap (λ (s : Scene). s.folder) second) in
-      second ∙ ap (λ (s : Scene). record s { output = new.output; out_faults = new.out_faults; trace = new.trace }) first
-      ∙ (λ i. record old { folder = still i; folder_faults = same i; output = new.output; out_faults = new.out_faults; trace = new.trace })
+  writes_proceed : (old mid new : Scene) → IsReady step tells old mid → Outputs tells mid new → IsTrue tells.folder → Proceeds step old new
+  writes_proceed old mid new ready outputs told =
+      proceeds_then step IsSame step old mid new (λ d s. s) (λ d still. subst (λ (e : Disk). step old.folder e) (sym still) (ready.proceeds told).now) (ready.quiet told) (ready.proceeds told) (outputs.proceeds told)
 
-  all_frame : (old mid new : Scene) → ChangesFolder old mid → mid.folder_faults ≡ old.folder_faults → ChangesOutput mid new → new.out_faults ≡ mid.out_faults
-      → new ≡ record old { folder = new.folder; output = new.output; trace = new.trace }
-  all_frame old mid new first same second outs =
-      let none : new.out_faults ≡ old.out_faults = outs ∙ ap (λ (s : Scene). s.out_faults) first in
-      written_frame old mid new first same second ∙ (λ i. record old { folder = new.folder; output = new.output; out_faults = none i; trace = new.trace })
+  same_output : (old mid : Scene) → IsReady step tells old mid → mid.output ≡ old.output
+  same_output old mid ready = ap (λ (s : Scene). s.output) ready.frame
 
-  leaves_written : (old mid new : Scene) (result : Ended) → ChangesFolder old mid → mid.folder_faults ≡ old.folder_faults → ChangesOutput mid new → HasCause mid.out_faults new.out_faults (IsErr result)
-      → OnOk result (NoWriteFails tells mid new) → IfErr result (λ why. why ≡ refusal.OutputFailed) → LeavesBy result old new
-  leaves_written old mid new (Ok done) first same second cause none failed = all_frame old mid new first same second none.faults
-  leaves_written old mid new (Err why) first same second cause none failed =
-      subst (λ (e : ModeErr). LeavesBy (Err e) old new) (sym failed)
-      (subst (λ (n : ℕ). HasRisen n new.out_faults) (ap (λ (s : Scene). s.out_faults) first) (cause.risen refl), written_frame old mid new first same second)
-
-  answers_written : (old mid new : Scene) (bytes : List ℕ) (result : Ended) → Wanted bytes → mid.output ≡ old.output → OnOk result (IsTrue tells.output → new.output ≡ mid.output ++ bytes)
-      → OnErr result (IsTrue tells.output → WritesPart bytes mid.output new.output) → IfErr result (λ why. why ≡ refusal.OutputFailed) → AnswersBy Wanted Refused tells result old new
-  answers_written old mid new bytes (Ok done) wanted same ok err failed = (bytes, wanted, λ told. ok told ∙ ap (λ (out : List ℕ). out ++ bytes) same)
-  answers_written old mid new bytes (Err why) wanted same ok err failed =
-      subst (λ (e : ModeErr). AnswersBy Wanted Refused tells (Err e) old new) (sym failed)
-      (bytes, wanted, λ told. subst (λ (out : List ℕ). WritesPart bytes out new.output) same (err told))
-
-  pub mode_written : (old mid new : Scene) (bytes : List ℕ) (result : Ended) → (IsTrue tells.folder → Wanted bytes) → ChangesFolder old mid → mid.folder_faults ≡ old.folder_faults
-      → (IsTrue tells.folder → Quiet old mid) → (IsTrue tells.folder → Proceeds step old mid) → Outputs tells mid new → HasCause mid.out_faults new.out_faults (IsErr result) → OnOk result (NoWriteFails tells mid new)
-      → IfErr result (λ why. why ≡ refusal.OutputFailed) → OnOk result (IsTrue tells.output → new.output ≡ mid.output ++ bytes) → OnErr result (IsTrue tells.output → WritesPart bytes mid.output new.output)
-      → RunsMode step Wanted Refused tells old new result
-  mode_written old mid new bytes result wanted frame same quiet proceeds outputs cause none failed ok err = record {
-    leaves = leaves_written old mid new result frame same outputs.frame cause none failed;
-    proceeds = λ told. proceeds_then step IsSame step old mid new (λ d s. s) (λ d still. subst (λ (e : Disk). step old.folder e) (sym still) (proceeds told).now) (quiet told) (proceeds told) (outputs.proceeds told);
-    answer = λ told. answers_written old mid new bytes result (wanted told) (ap (λ (s : Scene). s.output) frame) ok err failed;
+  -- all of it was written
+  pub mode_wrote : (old mid new : Scene) (answer : T) (bytes : List ℕ) → (IsTrue tells.folder → Wanted answer bytes) → IsReady step tells old mid → Outputs tells mid new → NoWriteFails tells mid new
+      → (IsTrue tells.output → new.output ≡ mid.output ++ bytes) → RunsMode step Wanted Refused tells old new (Ok answer)
+  mode_wrote old mid new answer bytes wanted ready outputs none wrote = record {
+    leaves = all_frame old mid new ready.frame ready.faults outputs.frame none.faults;
+    proceeds = writes_proceed old mid new ready outputs;
+    answer = λ told. (bytes, wanted told, λ tells_it. wrote tells_it ∙ ap (λ (out : List ℕ). out ++ bytes) (same_output old mid ready));
   }
 
--- ---- a mode that only reads before it writes
+  -- a write failed
+  pub mode_cut : (old mid new : Scene) (answer : T) (bytes : List ℕ) → (IsTrue tells.folder → Wanted answer bytes) → IsReady step tells old mid → Outputs tells mid new → HasRisen mid.out_faults new.out_faults
+      → (IsTrue tells.output → WritesPart bytes mid.output new.output) → RunsMode step Wanted Refused tells old new (Err refusal.OutputFailed)
+  mode_cut old mid new answer bytes wanted ready outputs risen part = record {
+    leaves = (
+      subst (λ (n : ℕ). HasRisen n new.out_faults) (ap (λ (s : Scene). s.out_faults) ready.frame) risen,
+      written_frame old mid new ready.frame ready.faults outputs.frame,
+    );
+    proceeds = writes_proceed old mid new ready outputs;
+    answer = λ told. (answer, bytes, wanted told, λ tells_it. subst (λ (out : List ℕ). WritesPart bytes out new.output) (same_output old mid ready) (part tells_it));
+  }
 
-module _ (Wanted : List ℕ → Type 0) (Refused : ModeErr → Type 0) (tells : Tells) where
-  reads_proceed : {T E : Type 0} {result : Result T E} {failed : E} {most : ℕ} (old new : Scene) → ReadsAtMost tells result failed old new most → IsTrue tells.folder → Proceeds IsSame old new
-  reads_proceed old new reads told = runs_proceed IsSame old new (reads.looks told) (reads.last told)
+-- a mode that answers what its writing does
+module _ (step : Disk → Disk → Type 0) (Wanted : Unit {0} → List ℕ → Type 0) (Refused : ModeErr → Type 0) (tells : Tells) where
+  pub mode_written : (old mid new : Scene) (bytes : List ℕ) (result : Ended (Unit {0})) → (IsTrue tells.folder → Wanted tt bytes) → IsReady step tells old mid → Outputs tells mid new
+      → HasCause mid.out_faults new.out_faults (IsErr result) → OnOk result (NoWriteFails tells mid new) → IfErr result (λ why. why ≡ refusal.OutputFailed)
+      → OnOk result (IsTrue tells.output → new.output ≡ mid.output ++ bytes) → OnErr result (IsTrue tells.output → WritesPart bytes mid.output new.output) → RunsMode step Wanted Refused tells old new result
+  mode_written old mid new bytes (Ok done) wanted ready outputs cause none failed ok err = mode_wrote step Wanted Refused tells old mid new done bytes wanted ready outputs none ok
+  mode_written old mid new bytes (Err why) wanted ready outputs cause none failed ok err =
+      subst (λ (e : ModeErr). RunsMode step Wanted Refused tells old new (Err e)) (sym failed) (mode_cut step Wanted Refused tells old mid new tt bytes wanted ready outputs (cause.risen refl) err)
 
-  pub reading_refused : {T : Type 0} {most : ℕ} (old new : Scene) (why : ModeErr) → why ≢ refusal.OutputFailed → ReadsAtMost tells {T = T} {E = ModeErr} (Err why) refusal.FolderFailed old new most
+-- ---- a mode that only reads before it is refused
+
+module _ {T : Type 0} (Wanted : T → List ℕ → Type 0) (Refused : ModeErr → Type 0) (tells : Tells) where
+  pub reading_refused : {U : Type 0} {most : ℕ} (old new : Scene) (why : ModeErr) → why ≢ refusal.OutputFailed → ReadsAtMost tells {T = U} {E = ModeErr} (Err why) refusal.FolderFailed old new most
       → (IsTrue tells.folder → Refused why) → RunsMode IsSame Wanted Refused tells old new (Err why)
   reading_refused old new why other reads refused =
       mode_refused IsSame Wanted Refused tells old new why other (λ is. reads.cause.risen (ap (λ (e : ModeErr). Err e) is)) (λ not. (reads.none not).faults) reads.cause.later (reads_change old new reads.frame) (reads_proceed old new reads) refused
-
-  pub reading_written : {T E : Type 0} {x : T} {failed : E} {most : ℕ} (old mid new : Scene) (bytes : List ℕ) (result : Ended) → (IsTrue tells.folder → Wanted bytes) → ReadsAtMost tells {T = T} {E = E} (Ok x) failed old mid most
-      → Outputs tells mid new → HasCause mid.out_faults new.out_faults (IsErr result) → OnOk result (NoWriteFails tells mid new) → IfErr result (λ why. why ≡ refusal.OutputFailed)
-      → OnOk result (IsTrue tells.output → new.output ≡ mid.output ++ bytes) → OnErr result (IsTrue tells.output → WritesPart bytes mid.output new.output) → RunsMode IsSame Wanted Refused tells old new result
-  reading_written old mid new bytes result wanted reads outputs cause none failed ok err =
-      mode_written IsSame Wanted Refused tells old mid new bytes result wanted (reads_change old mid reads.frame) reads.none.faults reads.none.quiet (reads_proceed old mid reads) outputs cause none failed ok err

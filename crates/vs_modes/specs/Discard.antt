@@ -39,13 +39,13 @@ RefusesDiscard why = ⊤
 
 -- What `discard` has done by how it ended: once something is written no image has a swap file, and without memory nothing was
 -- called.
-abbrev pub HasDiscarded : Names → Tells → Ended → Scene → Scene → Type 0
+abbrev pub HasDiscarded : Names → Tells → Ended (Unit {0}) → Scene → Scene → Type 0
 HasDiscarded names tells (Ok done) old new = IsTrue tells.folder → IsFresh names new.folder
 HasDiscarded names tells (Err refusal.OutputFailed) old new = IsTrue tells.folder → IsFresh names new.folder
 HasDiscarded names tells (Err refusal.NoMemory) old new = new ≡ old
 HasDiscarded names tells (Err why) old new = ⊤
 
 -- `discard` of the swap files of the file with these names.
-pub record RunsDiscard (tells : Tells) (names : Names) (old new : Scene) (result : Ended) : Type 0 where
-  pub runs : RunsMode (Discards names) (λ bytes. bytes ≡ discard_line (is_any_there names old)) RefusesDiscard tells old new result
+pub record RunsDiscard (tells : Tells) (names : Names) (old new : Scene) (result : Ended (Unit {0})) : Type 0 where
+  pub runs : RunsMode (Discards names) (λ done bytes. bytes ≡ discard_line (is_any_there names old)) RefusesDiscard tells old new result
   pub discarded : HasDiscarded names tells result old new

@@ -21,6 +21,7 @@ RefusesInfo swp swo refusal.NotSwap = ⊥
 RefusesInfo swp swo why = ⊤
 
 -- `info` of the file with these names: nothing in the folder changes.
-abbrev pub RunsInfo : Tells → Names → Scene → Scene → Ended → Type 0
+abbrev pub RunsInfo : Tells → Names → Scene → Scene → Ended (Unit {0}) → Type 0
 RunsInfo tells names old new result =
-    RunsMode IsSame (AreInfos (content_of old names.swp) (content_of old names.swo) names.swp names.swo) (RefusesInfo (content_of old names.swp) (content_of old names.swo)) tells old new result
+    RunsMode IsSame (λ done. AreInfos (content_of old names.swp) (content_of old names.swo) names.swp names.swo)
+    (RefusesInfo (content_of old names.swp) (content_of old names.swo)) tells old new result

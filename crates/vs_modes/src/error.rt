@@ -11,9 +11,9 @@ use vs_recover::RecErr;
 pub enum ModeErr {
     /// Neither swap file is there.
     NoSwap,
-    /// No swap file gives a text, and one of them is encrypted.
+    /// No swap file gives a text or can be salvaged, and one of them is encrypted.
     Encrypted,
-    /// No swap file gives a text, and none of them is encrypted; or one of them might be salvaged, which is not built.
+    /// No swap file gives a text or can be salvaged, and none of them is encrypted.
     NotSwap,
     /// A write of the output failed.
     OutputFailed,

@@ -10,4 +10,4 @@ mod writing;
 pub use describing::info;
 pub use discarding::discard;
 pub use error::ModeErr;
-pub use recovering::recover;
+pub use recovering::{Recovery, recover};

@@ -1,11 +1,10 @@
 -- The counts of failed calls over the calls of a run.
-use Rattle.std.proofs.Common.{◌≡◌, ◌⊎◌, inl, inr, ℕ, ◌≤◌, ◌+◌, List, [], ◌∷◌, ◌++◌, Option, length, map, All, refl, sym, ap, subst, ◌∙◌, arith}
-use Rattle.std.proofs.lemmas.List.Elements.{All-nil, All-cons, All-head, All-tail, All-append}
-use Rattle.vs_faults.specs.Faults.{HasRisen}
-use Rattle.vs_faults.proofs.Causes.{risen_before, risen_after}
+use Rattle.std.proofs.Common.{◌≡◌, ◌≤◌, List, [], ◌∷◌, ◌++◌, Option, All, refl, ap, ◌∙◌, arith}
+use Rattle.std.proofs.lemmas.List.Elements.{All-nil, All-cons, All-head, All-tail}
+use Rattle.vs_faults.proofs.Causes.{risen_before}
 use Rattle.vs_host.specs.Disk.{Disk}
-use Rattle.vs_host.specs.Trace.{WroteOutput, Snapshot, Each, GoesOn}
-use Rattle.vs_host.specs.World.{Scene, IsRecorded, snapshot_of, ChangesFolder, ChangesOutput, ChangesScript}
+use Rattle.vs_host.specs.Trace.{WroteOutput, Snapshot}
+use Rattle.vs_host.specs.World.{Scene, IsRecorded, ChangesFolder, ChangesOutput, ChangesScript}
 use Rattle.vs_host.specs.declared.names.Names.{Names}
 use Rattle.vs_disk.specs.Runs.{Inside}
 use Rattle.vs_disk.proofs.Runs.{goes_weaker}

@@ -188,6 +188,7 @@ through tells name old new ending.FolderFault marks runs free = free.no_folder_f
 through tells name old new ending.NoMemory marks runs free = tt
 through tells name old new ending.Encrypted marks runs free = runs.counts
 through tells name old new ending.NotSwap marks runs free = runs.counts
+through tells name old new ending.Salvaged marks runs free = runs.counts
 through tells name old new (ending.TextLimit size) marks runs free = passes_no_limit (content_of old name) size free.file (runs.file free.told.folder)
 through tells name old new ending.ScriptTooLong marks runs free = omega (arith, free.script, (runs.told free.told).answered.longer)
 
@@ -213,5 +214,6 @@ not_usage tells name old new ending.FolderFault marks runs is = absurd (cc)
 not_usage tells name old new ending.NoMemory marks runs is = absurd (cc)
 not_usage tells name old new ending.Encrypted marks runs is = absurd (cc)
 not_usage tells name old new ending.NotSwap marks runs is = absurd (cc)
+not_usage tells name old new ending.Salvaged marks runs is = absurd (cc)
 not_usage tells name old new (ending.TextLimit size) marks runs is = absurd (cc)
 not_usage tells name old new ending.ScriptTooLong marks runs is = absurd (cc)

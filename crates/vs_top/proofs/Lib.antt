@@ -10,6 +10,7 @@ mod Stepping
 mod Opening
 mod Edits
 mod Forms
+mod Due
 mod StressFolders
 pub mod StressSteps
 pub mod StressEnds

@@ -1,10 +1,10 @@
 -- Whether a text is within its limits can be told: line by line, and then by its numbers.
-use Rattle.std.proofs.Common.{◌≡◌, ℕ, ◌≤◌, ◌⊎◌, List, [], ◌∷◌, length, refl, arith, inl, inr, All, Some, None, IfSome, IsSomeAnd}
+use Rattle.std.proofs.Common.{◌≡◌, ℕ, ◌⊎◌, List, [], ◌∷◌, length, arith, inl, inr, All, Some, None, IsSomeAnd}
 use Rattle.std.specs.declared.option.Option.{Option}
 use Rattle.std.proofs.lemmas.Bool.Decides.{leb_tells}
 use Rattle.std.proofs.lemmas.List.Elements.{All-nil, All-cons, All-head, All-tail}
 use Rattle.vs_text.specs.Text.{lines_of, bytes_of}
-use Rattle.vs_text.specs.Limits.{IsShort, IsRefusal, IsWithinLimits}
+use Rattle.vs_text.specs.Limits.{IsShort, IsWithinLimits}
 use Rattle.vs_text.specs.declared.TheConstants.{MAX_LINE_BYTES, MAX_LINES, MAX_TEXT_BYTES}
 use Rattle.vs_text.specs.declared.error.TextErr.TheVariants.{TextFull, LineTooLong, NoMemory}
 use Rattle.vs_text.proofs.TextLimits.{within_not_refused}

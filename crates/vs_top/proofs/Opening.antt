@@ -1,5 +1,5 @@
 -- The opening of a run and its first reply, and what the run answered where it stops there.
-use Rattle.std.proofs.Common.{◌≡◌, ◌⊎◌, inl, inr, ℕ, ◌≤◌, ◌<◌, ◌+◌, Bool, true, false, List, [], ◌∷◌, ◌++◌, length, take, map, All, Option, Some, None, IsTrue, string_bytes, refl, sym, ap, subst, ◌∙◌, append-nil, arith}
+use Rattle.std.proofs.Common.{◌≡◌, inl, inr, ℕ, ◌<◌, true, List, [], ◌∷◌, ◌++◌, length, take, map, All, Option, Some, None, IsTrue, string_bytes, refl, sym, ap, subst, ◌∙◌, append-nil, arith}
 use Rattle.std.specs.Prelude.{codes, decimal}
 use Rattle.std.proofs.lemmas.Bool.{true≢false}
 use Rattle.std.proofs.lemmas.List.{take_all, length-append}
@@ -8,25 +8,22 @@ use Rattle.vs_faults.specs.Faults.{HasRisen}
 use Rattle.vs_host.specs.Disk.{Disk}
 use Rattle.vs_host.specs.Names.{names_of_file}
 use Rattle.vs_host.specs.Trace.{WroteOutput}
-use Rattle.vs_host.specs.World.{Tells, Scene, ChangesOutput, content_of}
-use Rattle.vs_script.specs.Ahead.{Ahead, script_limit}
+use Rattle.vs_host.specs.World.{Tells, Scene, ChangesOutput}
+use Rattle.vs_script.specs.Ahead.{Ahead}
 use Rattle.vs_machine.specs.Replies.{Answer, opening_of}
 use Rattle.vs_machine.specs.declared.command.Mark.{Mark}
-use Rattle.vs_safety.specs.Turns.{NotBegun, after_turns, opened}
+use Rattle.vs_safety.specs.Turns.{NotBegun, opened}
 use Rattle.vs_safety.specs.Safety.{IsAdded, Writes}
-use Rattle.vs_safety.specs.Going.{Halted}
 use Rattle.vs_safety.specs.Causes.{output_count}
 use Rattle.vs_safety.proofs.Endings.{halted_safe, opened_halts, opening_cut, opening_written}
 use Rattle.vs_safety.proofs.Causes.{rose_at}
 use Rattle.vs_session.specs.declared.session.Session.{Session}
-use Rattle.vs_session.specs.Session.{SessionState}
-use Rattle.vs_session.specs.Fits.{Fits, HasOpened}
-use Rattle.vs_top.specs.Run.{TellsRun, Did, KeepsMarks, HasRun, RunsEdit, Counts, counts_of, OnlyFolder, FaultHasCause, IsTimed, commands_within, opened_file, ran_of}
-use Rattle.vs_top.specs.Turns.{text_at, opening_at, Told, ToldOpen, KeepsOpenFile, IsOpened}
-use Rattle.vs_top.specs.declared.ending.Ending.{Ending}
+use Rattle.vs_session.specs.Fits.{Fits}
+use Rattle.vs_top.specs.Run.{TellsRun, Did, KeepsMarks, RunsEdit, Counts, counts_of, FaultHasCause, IsTimed, commands_within, opened_file, ran_of}
+use Rattle.vs_top.specs.Turns.{text_at, opening_at, IsOpened}
 use Rattle.vs_top.specs.declared.ending.Ending.TheVariants as ending
-use Rattle.vs_top.proofs.Counting.{only_output, only_then, all_counted}
-use Rattle.vs_top.proofs.Reading.{fresh_reader, HasRead, read_start}
+use Rattle.vs_top.proofs.Counting.{only_output, all_counted}
+use Rattle.vs_top.proofs.Reading.{fresh_reader, read_start}
 use Rattle.vs_top.proofs.Turning.{IsTurn}
 
 ends_some : (line : List ℕ) → 0 < length (line ++ 10 ∷ [])

@@ -27,7 +27,6 @@ use Rattle.vs_safety.proofs.Texts.{between_recovers}
 use Rattle.vs_paged.proofs.SyncLemmas.{fits_between}
 use Rattle.vs_session.specs.declared.session.Session.{Session}
 use Rattle.vs_session.specs.declared.ending.End.TheVariants as end
-use Rattle.vs_session.specs.declared.open.OpenErr.TheVariants as opening
 use Rattle.vs_session.specs.Session.{SessionState, Ended, states_after, turns_of}
 use Rattle.vs_session.specs.Calls.{Finishes}
 use Rattle.vs_session.specs.Fits.{Fits, names_of}

@@ -53,6 +53,7 @@ stress_through OfHost tells count old new ending.FolderFault marks runs free = f
 stress_through OfHost tells count old new ending.NoMemory marks runs free = tt
 stress_through OfHost tells count old new ending.Encrypted marks runs free = runs.counts
 stress_through OfHost tells count old new ending.NotSwap marks runs free = runs.counts
+stress_through OfHost tells count old new ending.Salvaged marks runs free = runs.counts
 stress_through OfHost tells count old new (ending.TextLimit size) marks runs free = passes_no_limit (content_of old stress_name) size free.file (runs.file free.told.folder)
 stress_through OfHost tells count old new ending.ScriptTooLong marks runs free = (runs.told free.told).answered
 

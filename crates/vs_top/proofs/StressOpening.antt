@@ -1,5 +1,5 @@
 -- The opening of the stress mode, and what comes of it where it fails.
-use Rattle.std.proofs.Common.{◌≡◌, ◌⊎◌, inl, inr, ℕ, ◌≤◌, true, List, [], ◌++◌, length, IsTrue, refl, sym, ap, ◌∙◌, append-nil, arith}
+use Rattle.std.proofs.Common.{◌≡◌, ◌⊎◌, inl, inr, ℕ, true, List, [], ◌++◌, length, IsTrue, refl, sym, ap, ◌∙◌, append-nil, arith}
 use Rattle.std.proofs.lemmas.Bool.{true≢false}
 use Rattle.std.proofs.lemmas.List.Elements.{All-nil}
 use Rattle.vs_faults.specs.Faults.{HasRisen, IsQuiet}

@@ -1,51 +1,39 @@
 -- One turn of a run: a read of the script, a step and its reply, and what the run answered where it stops in one of these.
-use Rattle.std.proofs.Common.{◌≡◌, ◌⊎◌, inl, inr, ℕ, ◌<◌, ◌+◌, ◌^◌, Bool, true, false, not, ◌&&◌, List, [], ◌∷◌, ◌++◌, length, take, map, All, Option, Some, None, IsTrue, OnOk, Result, Ok, Err, string_bytes, refl, sym, ap, subst, ◌∙◌, append_assoc, append-nil, arith}
+use Rattle.std.proofs.Common.{◌≡◌, inr, ℕ, ◌+◌, Bool, List, [], ◌∷◌, ◌++◌, length, take, map, IsTrue, OnOk, Result, Ok, Err, refl, sym, ap, subst, ◌∙◌, append_assoc, append-nil, arith}
 use Rattle.std.proofs.lemmas.Bool.{true≢false}
-use Rattle.std.proofs.lemmas.List.{take_all, length-append, length-map}
-use Rattle.std.proofs.lemmas.List.Elements.{All-nil, All-cons, All-append}
-use Rattle.std.proofs.Math.Seq.{take-append_seam, take-append-add}
+use Rattle.std.proofs.lemmas.List.{length-append}
+use Rattle.std.proofs.Math.Seq.{take-append_seam}
 use Rattle.vs_faults.specs.Faults.{HasRisen}
-use Rattle.vs_faults.proofs.Causes.{risen_before, risen_after}
 use Rattle.vs_host.specs.Disk.{Disk}
 use Rattle.vs_host.specs.Names.{names_of_file}
-use Rattle.vs_host.specs.Trace.{WroteOutput, Snapshot, Each, GoesOn}
-use Rattle.vs_host.specs.World.{Tells, Scene, IsRecorded, LeavesTrace, ChangesOutput, ChangesScript, content_of}
-use Rattle.vs_host.specs.declared.names.Names.{Names}
+use Rattle.vs_host.specs.Trace.{Snapshot, Each}
+use Rattle.vs_host.specs.World.{Tells, Scene, ChangesScript}
 use Rattle.vs_disk.proofs.Runs.{Each-append, Each-weaker}
-use Rattle.vs_excmd.specs.Request.{Instruction, IsRequest}
+use Rattle.vs_excmd.specs.Request.{Instruction}
 use Rattle.vs_excmd.specs.declared.request.Request.{Request}
 use Rattle.vs_script.specs.Ahead.{Ahead, HasSeen, CountsTaken, KeepsTrack, Stops, script_limit}
 use Rattle.vs_script.specs.Reads.{IsAsBefore, IsRead, ReadsOn, ReadsScript}
-use Rattle.vs_script.specs.Requests.{TakesRequest, TakesNone, whole_commands}
+use Rattle.vs_script.specs.Requests.{TakesRequest, whole_commands}
 use Rattle.vs_script.specs.declared.reader.ScriptErr.{ScriptErr}
 use Rattle.vs_script.specs.declared.reader.ScriptErr.TheVariants as script_error
-use Rattle.vs_machine.specs.Machine.{is_done}
-use Rattle.vs_machine.specs.Replies.{Answer}
 use Rattle.vs_machine.specs.declared.command.Mark.{Mark}
-use Rattle.vs_machine.specs.declared.command.Outcome.TheVariants as outcome
-use Rattle.vs_safety.specs.Texts.{Sync}
-use Rattle.vs_safety.specs.Turns.{Turn, NotBegun, with_sync, after_turns, opened, replies}
-use Rattle.vs_safety.specs.Safety.{IsCrashSafe, IsAdded, Looks, Writes, Works, Stepped}
-use Rattle.vs_safety.specs.Going.{Going, Stepping, Halted}
+use Rattle.vs_safety.specs.Turns.{Turn, NotBegun, after_turns, opened, replies}
+use Rattle.vs_safety.specs.Safety.{IsCrashSafe, Looks}
+use Rattle.vs_safety.specs.Going.{Going}
 use Rattle.vs_safety.specs.Stretches.{IsFirst}
-use Rattle.vs_safety.specs.Causes.{newest_count, IsCounted, RoseLast, script_count, output_count, folder_count}
-use Rattle.vs_safety.proofs.Splits.{after_push}
-use Rattle.vs_safety.proofs.Going.{going_looks, going_steps, going_halts, reply_written, reply_cut}
+use Rattle.vs_safety.specs.Causes.{newest_count, IsCounted, RoseLast, script_count}
+use Rattle.vs_safety.proofs.Going.{going_looks, going_halts}
 use Rattle.vs_safety.proofs.Endings.{halted_safe}
-use Rattle.vs_safety.proofs.Causes.{rose_at}
 use Rattle.vs_session.specs.declared.session.Session.{Session}
-use Rattle.vs_session.specs.declared.ending.End.{End}
-use Rattle.vs_session.specs.declared.ending.End.TheVariants as end
-use Rattle.vs_session.specs.Session.{SessionState, Ended, accepts_quit, reply_of, state_after, states_after, turn_of, turns_of, replies_of, any_error}
-use Rattle.vs_session.specs.Fits.{Answers, Fits, StepsIn, names_of}
+use Rattle.vs_session.specs.Session.{Ended, states_after, turns_of}
+use Rattle.vs_session.specs.Fits.{Fits, names_of}
 use Rattle.vs_top.specs.Ending.{script_ending}
-use Rattle.vs_top.specs.Run.{TellsRun, Did, KeepsMarks, HasAnswered, KeepsSwap, IsCutShort, HasRun, RunsEdit, Counts, counts_of, OnlyFolder, FaultHasCause, IsTimed, AreAnswered, IsWithin, commands_in, commands_within, opened_file, ran_of, written, written_before}
-use Rattle.vs_top.specs.Turns.{AreCounted, text_at, opening_at, Told, KeepsOpenFile, StopsAt, IsAtClose}
-use Rattle.vs_top.specs.declared.ending.Ending.{Ending}
+use Rattle.vs_top.specs.Run.{TellsRun, Did, KeepsMarks, HasAnswered, KeepsSwap, HasRun, RunsEdit, counts_of, IsTimed, opened_file, ran_of, written}
+use Rattle.vs_top.specs.Turns.{text_at, opening_at, Told, KeepsOpenFile}
 use Rattle.vs_top.specs.declared.ending.Ending.TheVariants as ending
-use Rattle.vs_top.proofs.Pushes.{replies_same, states_push, turns_push, none_push, errors_push, and_not, map_push}
-use Rattle.vs_top.proofs.Counting.{only_then, only_output, only_script, causes_on, counted_works, counted_reads, all_counted}
-use Rattle.vs_top.proofs.Reading.{fresh_reader, HasRead, read_on, read_in, read_within, were_read, stops_run, done_is_all, counts_on, few_taken}
+use Rattle.vs_top.proofs.Pushes.{replies_same}
+use Rattle.vs_top.proofs.Counting.{only_script, causes_on}
+use Rattle.vs_top.proofs.Reading.{fresh_reader, HasRead, read_on, read_within, were_read, stops_run, counts_on, few_taken}
 
 -- ---- a read of the script
 

@@ -5,6 +5,8 @@ use Rattle.std.specs.declared.result.Result.{Result}
 use Rattle.vs_modes.specs.Modes.{Ended}
 use Rattle.vs_modes.specs.declared.error.ModeErr.{ModeErr}
 use Rattle.vs_modes.specs.declared.error.ModeErr.TheVariants as refusal
+use Rattle.vs_modes.specs.declared.recovering.Recovery.{Recovery}
+use Rattle.vs_modes.specs.declared.recovering.Recovery.TheVariants as recovery
 use Rattle.vs_session.specs.declared.open.OpenErr.{OpenErr}
 use Rattle.vs_session.specs.declared.open.OpenErr.TheVariants as opening
 use Rattle.vs_top.specs.declared.ending.Ending.{Ending}
@@ -26,6 +28,7 @@ status_of ending.FolderFault = 7
 status_of ending.NoMemory = 8
 status_of ending.Encrypted = 9
 status_of ending.NotSwap = 10
+status_of ending.Salvaged = 11
 status_of (ending.TextLimit size) = 12
 status_of ending.ScriptTooLong = 13
 
@@ -41,6 +44,7 @@ message_of ending.FolderFault = Some (codes "folder fault")
 message_of ending.NoMemory = Some (codes "out of memory")
 message_of ending.Encrypted = Some (codes "encrypted swap file")
 message_of ending.NotSwap = Some (codes "not a swap file")
+message_of ending.Salvaged = None
 message_of (ending.TextLimit size) = Some (codes "text too large")
 message_of ending.ScriptTooLong = Some (codes "script too long")
 
@@ -71,7 +75,16 @@ mode_ending refusal.OutputFailed = ending.OutputFault
 mode_ending refusal.FolderFailed = ending.FolderFault
 mode_ending refusal.NoMemory = ending.NoMemory
 
+abbrev pub recovery_ending : Recovery → Ending
+recovery_ending recovery.Whole = ending.Done
+recovery_ending recovery.Marked = ending.Salvaged
+
 -- the ending of a mode that did its work, or of one that was refused
-abbrev pub ended_by : Ended → Ending
+abbrev pub ended_by : Ended (Unit {0}) → Ending
 ended_by (Ok done) = ending.Done
 ended_by (Err why) = mode_ending why
+
+-- the ending of `recover`
+abbrev pub recovered_by : Ended Recovery → Ending
+recovered_by (Ok recovery) = recovery_ending recovery
+recovered_by (Err why) = mode_ending why

@@ -1,10 +1,8 @@
 -- The forms of the arguments, and what each of them does.
 use Rattle.std.specs.Prelude.{◌≡◌, ◌⊎◌, ℕ, List, [], ◌∷◌, codes, IsTrue}
-use Rattle.vs_faults.specs.Faults.{HasRisen}
 use Rattle.vs_host.specs.Disk.{Name}
-use Rattle.vs_host.specs.Names.{is_allowed, names_of_file, swp_of, swo_of}
-use Rattle.vs_host.specs.World.{Tells, Scene, content_of}
-use Rattle.vs_swap.specs.Recovery.{Recovered}
+use Rattle.vs_host.specs.Names.{is_allowed, names_of_file}
+use Rattle.vs_host.specs.World.{Tells, Scene}
 use Rattle.vs_machine.specs.declared.command.Mark.{Mark}
 use Rattle.vs_modes.specs.Modes.{Ended}
 use Rattle.vs_modes.specs.Recover.{RunsRecover}
@@ -14,7 +12,7 @@ use Rattle.vs_top.specs.declared.ending.Ending.{Ending}
 use Rattle.vs_top.specs.declared.ending.Ending.TheVariants as ending
 use Rattle.vs_top.specs.declared.form.Mode.{Mode}
 use Rattle.vs_top.specs.declared.form.Mode.TheVariants as mode
-use Rattle.vs_top.specs.Ending.{ended_by}
+use Rattle.vs_top.specs.Ending.{ended_by, recovered_by}
 use Rattle.vs_top.specs.Run.{RunsEdit}
 use Rattle.vs_top.specs.Stress.{IsStress, RunsStress}
 
@@ -38,15 +36,15 @@ abbrev pub IsBuilt : List (List ℕ) → Type 0
 IsBuilt words = NamesFile words ⊎ ((count : ℕ) × IsStress words count)
 
 -- A mode other than `edit` ended so. It has no marks.
-abbrev pub EndsBy : (Ended → Type 0) → Ending → List Mark → Type 0
-EndsBy Runs end marks = (ended : Ended) × (end ≡ ended_by ended) × Runs ended × (marks ≡ [])
+abbrev pub EndsBy : {T : Type 0} → (Ended T → Ending) → (Ended T → Type 0) → Ending → List Mark → Type 0
+EndsBy {T} ending_of Runs end marks = (ended : Ended T) × (end ≡ ending_of ended) × Runs ended × (marks ≡ [])
 
 -- what is done in a mode with the file of a name, by how it ended
 abbrev pub Performs : Mode → Tells → Name → Scene → Scene → Ending → List Mark → Type 0
 Performs mode.Edit tells name old new end marks = RunsEdit tells name old new end marks
-Performs mode.Recover tells name old new end marks = EndsBy (RunsRecover tells (names_of_file name) old new) end marks
-Performs mode.Info tells name old new end marks = EndsBy (RunsInfo tells (names_of_file name) old new) end marks
-Performs mode.Discard tells name old new end marks = EndsBy (RunsDiscard tells (names_of_file name) old new) end marks
+Performs mode.Recover tells name old new end marks = EndsBy recovered_by (RunsRecover tells (names_of_file name) old new) end marks
+Performs mode.Info tells name old new end marks = EndsBy ended_by (RunsInfo tells (names_of_file name) old new) end marks
+Performs mode.Discard tells name old new end marks = EndsBy ended_by (RunsDiscard tells (names_of_file name) old new) end marks
 
 -- Nothing was done, since the arguments have no form.
 pub record DoesNothing (words : List (List ℕ)) (old new : Scene) (end : Ending) (marks : List Mark) : Type 0 where
@@ -61,14 +59,3 @@ Does OfHost tells words old new end marks =
     ((mode : Mode) × (name : List ℕ) × IsForm words mode name × Performs mode tells name old new end marks)
     ⊎ ((count : ℕ) × IsStress words count × RunsStress OfHost tells count old new end marks)
     ⊎ DoesNothing words old new end marks
-
--- A folder that is told has swap files of the file that give a text.
-pub record Gives (tells : Tells) (scene : Scene) (name : Name) : Type 0 where
-  pub told : IsTrue tells.folder
-  pub text : List (List ℕ)
-  pub recovered : Recovered (content_of scene (swp_of name)) (content_of scene (swo_of name)) text
-
--- no count of faults rose of those of the folder and of the output
-pub record IsSpared (old new : Scene) : Type 0 where
-  pub no_out_fault : ¬ HasRisen old.out_faults new.out_faults
-  pub no_folder_fault : ¬ HasRisen old.folder_faults new.folder_faults

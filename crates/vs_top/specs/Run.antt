@@ -222,6 +222,7 @@ AnsweredBy ending.FolderFault file old new marks did = AnswersNone old new marks
 AnsweredBy ending.NoMemory file old new marks did = AnswersNone old new marks ⊎ LacksMemory file old new did
 AnsweredBy ending.Encrypted file old new marks did = ⊥
 AnsweredBy ending.NotSwap file old new marks did = ⊥
+AnsweredBy ending.Salvaged file old new marks did = ⊥
 AnsweredBy (ending.TextLimit size) file old new marks did = AnswersNone old new marks
 AnsweredBy ending.ScriptTooLong file old new marks did = AnswersLimit file old new did
 
@@ -255,6 +256,7 @@ LeftBy ending.FolderFault file old new did = (did.closing ≡ NotBegun) ⊎ Keep
 LeftBy ending.NoMemory file old new did = (did.closing ≡ NotBegun) × (Looks old new ⊎ KeepsSwap file did new.folder)
 LeftBy ending.Encrypted file old new did = ⊤
 LeftBy ending.NotSwap file old new did = ⊤
+LeftBy ending.Salvaged file old new did = ⊤
 LeftBy (ending.TextLimit size) file old new did = ⊤
 LeftBy ending.ScriptTooLong file old new did = KeepsSwap file did new.folder
 
@@ -273,6 +275,7 @@ FailedBy ending.FolderFault old new = RoseLast folder_count old new
 FailedBy ending.NoMemory old new = ⊤
 FailedBy ending.Encrypted old new = ⊤
 FailedBy ending.NotSwap old new = ⊤
+FailedBy ending.Salvaged old new = ⊤
 FailedBy (ending.TextLimit size) old new = ⊤
 FailedBy ending.ScriptTooLong old new = ⊤
 
@@ -304,6 +307,7 @@ CountsBy ending.FolderFault old new = HasRisen old.folder new.folder × OnlyFold
 CountsBy ending.NoMemory old new = OnlyFolder old new
 CountsBy ending.Encrypted old new = ⊥
 CountsBy ending.NotSwap old new = ⊥
+CountsBy ending.Salvaged old new = ⊥
 CountsBy (ending.TextLimit size) old new = new ≡ old
 CountsBy ending.ScriptTooLong old new = OnlyFolder old new
 
@@ -330,6 +334,7 @@ HasFile ending.FolderFault file = ⊤
 HasFile ending.NoMemory file = ⊤
 HasFile ending.Encrypted file = ⊥
 HasFile ending.NotSwap file = ⊥
+HasFile ending.Salvaged file = ⊥
 HasFile (ending.TextLimit size) file = IsSomeAnd file (λ bytes. PassesLimit (lines_of bytes) size)
 HasFile ending.ScriptTooLong file = FileFits file
 
@@ -359,6 +364,7 @@ most_taken ending.FolderFault = script_limit
 most_taken ending.NoMemory = script_limit
 most_taken ending.Encrypted = 0
 most_taken ending.NotSwap = 0
+most_taken ending.Salvaged = 0
 most_taken (ending.TextLimit size) = 0
 most_taken ending.ScriptTooLong = script_limit + 1
 
@@ -424,6 +430,7 @@ IsThrough ending.FolderFault = ⊥
 IsThrough ending.NoMemory = ⊤
 IsThrough ending.Encrypted = ⊥
 IsThrough ending.NotSwap = ⊥
+IsThrough ending.Salvaged = ⊥
 IsThrough (ending.TextLimit size) = ⊥
 IsThrough ending.ScriptTooLong = ⊥
 

@@ -1,5 +1,5 @@
 -- What the stress mode does: it answers commands of its own over a session, and writes what the session has come to.
-use Rattle.std.specs.Prelude.{ℕ, Bool, true, false, List, ◌∷◌, [], ◌≡◌, ◌≤◌, ◌+◌, ◌⊎◌, ◌++◌, ◌&&◌, if◌then◌else◌, ⊤, All, codes, length, take, nat_le, IsTrue, IfSome, Some}
+use Rattle.std.specs.Prelude.{ℕ, Bool, true, false, List, ◌∷◌, [], ◌≡◌, ◌≤◌, ◌+◌, ◌⊎◌, ◌++◌, ◌&&◌, if◌then◌else◌, All, codes, length, take, nat_le, IsTrue, IfSome, Some}
 use Rattle.vs_faults.specs.Faults.{HasRisen}
 use Rattle.vs_host.specs.Disk.{Disk}
 use Rattle.vs_host.specs.Names.{names_of_file}
@@ -20,7 +20,7 @@ use Rattle.vs_session.specs.Fits.{HasSwap}
 use Rattle.vs_session.specs.Summary.{summary_of}
 use Rattle.vs_stress.specs.Arguments.{IsCount, summary_line}
 use Rattle.vs_stress.specs.Commands.{stress_commands}
-use Rattle.vs_top.specs.Run.{Did, KeepsMarks, AnswersNone, Counts, CountsBy, FailedBy, FaultHasCause, HasFile, IsBarred, IsTimed, FileFits, counts_of, is_early, opened_file, refuses_any}
+use Rattle.vs_top.specs.Run.{Did, KeepsMarks, AnswersNone, CountsBy, FailedBy, FaultHasCause, HasFile, IsBarred, IsTimed, FileFits, counts_of, is_early, opened_file, refuses_any}
 use Rattle.vs_top.specs.declared.ending.Ending.{Ending}
 use Rattle.vs_top.specs.declared.ending.Ending.TheVariants as ending
 
@@ -88,6 +88,7 @@ StressedBy ending.FolderFault count old new marks did = AnswersNone old new mark
 StressedBy ending.NoMemory count old new marks did = IsStressing count old new did
 StressedBy ending.Encrypted count old new marks did = ⊥
 StressedBy ending.NotSwap count old new marks did = ⊥
+StressedBy ending.Salvaged count old new marks did = ⊥
 StressedBy (ending.TextLimit size) count old new marks did = AnswersNone old new marks
 StressedBy ending.ScriptTooLong count old new marks did = ⊥
 

@@ -1,18 +1,17 @@
 -- What is known of the stress mode between two of its commands.
-use Rattle.std.specs.Prelude.{ℕ, Bool, true, not, List, [], ◌∷◌, ◌≡◌, ◌+◌, ◌++◌, All, length, map, IsTrue}
+use Rattle.std.specs.Prelude.{ℕ, Bool, not, List, ◌≡◌, ◌+◌, ◌++◌, length, map, IsTrue}
 use Rattle.vs_host.specs.Names.{names_of_file}
 use Rattle.vs_host.specs.Trace.{Snapshot, Each}
-use Rattle.vs_host.specs.World.{Tells, Scene, HasNewest, content_of}
+use Rattle.vs_host.specs.World.{Tells, Scene, HasNewest}
 use Rattle.vs_disk.specs.Names.{SameAt}
 use Rattle.vs_pair.specs.Pair.{is_foreign}
 use Rattle.vs_excmd.specs.Request.{Instruction}
 use Rattle.vs_machine.specs.declared.command.Mark.{Mark}
-use Rattle.vs_safety.specs.Texts.{IsBetween}
 use Rattle.vs_safety.specs.Turns.{after_turns, opened}
 use Rattle.vs_safety.specs.Causes.{IsCounted, output_count}
 use Rattle.vs_session.specs.declared.session.Session.{Session}
 use Rattle.vs_session.specs.Session.{Ended, states_after, turns_of, any_error}
-use Rattle.vs_session.specs.Fits.{Fits, names_of}
+use Rattle.vs_session.specs.Fits.{Fits}
 use Rattle.vs_stress.specs.Commands.{stress_commands}
 use Rattle.vs_top.specs.Run.{AreAnswered, opened_file}
 use Rattle.vs_top.specs.Stress.{TellsStress, HasStretches, IsBeforeLine, stress_name, stress_text}

@@ -1,5 +1,5 @@
 -- What is known of a run after its file was opened, between two commands, and where it begins to close.
-use Rattle.std.specs.Prelude.{ℕ, Bool, true, not, List, [], ◌∷◌, ◌≡◌, ◌≤◌, ◌+◌, ◌++◌, All, length, map, string_bytes, IsTrue}
+use Rattle.std.specs.Prelude.{ℕ, Bool, true, not, List, [], ◌∷◌, ◌≡◌, ◌≤◌, ◌+◌, ◌++◌, All, length, map, IsTrue}
 use Rattle.vs_host.specs.Names.{names_of_file}
 use Rattle.vs_host.specs.World.{Tells, Scene, content_of}
 use Rattle.vs_excmd.specs.Request.{Instruction}
@@ -16,7 +16,7 @@ use Rattle.vs_session.specs.declared.ending.End.TheVariants as end
 use Rattle.vs_session.specs.Session.{Ended, accepts_quit, states_after, turns_of, any_error}
 use Rattle.vs_session.specs.Opened.{Opened, text_in}
 use Rattle.vs_session.specs.Fits.{Fits, HasOpened, HasSwap, names_of}
-use Rattle.vs_top.specs.Run.{TellsRun, AreAnswered, Counts, counts_of, OnlyFolder, FaultHasCause, FileFits, IsTimed, commands_in, opened_file}
+use Rattle.vs_top.specs.Run.{TellsRun, AreAnswered, counts_of, OnlyFolder, FaultHasCause, FileFits, IsTimed, commands_in, opened_file}
 
 -- the text that a run opens, and its opening reply
 abbrev pub text_at : Scene → List ℕ → List (List ℕ)

@@ -5,7 +5,7 @@ ghost use Rattle.vs_top.specs.Ending.{status_of, message_of};
 use std::alloc::AllocError;
 use vs_edit::StoreErr;
 use vs_host::Failed;
-use vs_modes::ModeErr;
+use vs_modes::{ModeErr, Recovery};
 use vs_script::ScriptErr;
 use vs_session::OpenErr;
 
@@ -30,10 +30,12 @@ pub enum Ending {
     FolderFault,
     /// There was no memory.
     NoMemory,
-    /// A swap file is encrypted, and none gives a text.
+    /// A swap file is encrypted, and none gives a text or can be salvaged.
     Encrypted,
-    /// There is a swap file, none gives a text, and none is encrypted or one of them might be salvaged.
+    /// There is a swap file, none gives a text or can be salvaged, and none is encrypted.
     NotSwap,
+    /// A swap file was salvaged, and a marker stands in the place of something that is missing.
+    Salvaged,
     /// The text of the file passes a limit: the number that passed it, as [`OpenErr::TextLimit`] says.
     TextLimit(u64),
     /// The script has more bytes than a script may have.
@@ -57,18 +59,19 @@ impl Ending {
             Ending::NoMemory => 8,
             Ending::Encrypted => 9,
             Ending::NotSwap => 10,
+            Ending::Salvaged => 11,
             Ending::TextLimit(_) => 12,
             Ending::ScriptTooLong => 13,
         }
     }
 
     /// The line for standard error, without its newline. `None` where the script was read to its end or to an
-    /// accepted quit.
+    /// accepted quit, or another mode wrote what it had to.
     pub fn message(self) -> Option<&'static str>
         ensures { MatchOption result (message_of self ≡ None) (λ line. message_of self ≡ Some line.now) }
     {
         match self {
-            Ending::Done | Ending::WithErrors => None,
+            Ending::Done | Ending::WithErrors | Ending::Salvaged => None,
             Ending::Usage => Some(
                 "usage: edit NAME | recover NAME | discard NAME | info NAME | stress N",
             ),
@@ -143,6 +146,19 @@ impl From<OpenErr> for Ending {
             OpenErr::Failed => Ending::FolderFault,
             OpenErr::TextLimit(size) => Ending::TextLimit(size),
             OpenErr::NoMemory => Ending::NoMemory,
+        }
+    }
+}
+
+impl From<Recovery> for Ending {
+    ghost use Rattle.vs_top.specs.Ending.{recovery_ending};
+
+    ghost from_gives = { λ recovery e. e ≡ recovery_ending recovery };
+
+    fn from(recovery: Recovery) -> Self {
+        match recovery {
+            Recovery::Whole => Ending::Done,
+            Recovery::Marked => Ending::Salvaged,
         }
     }
 }

@@ -1,11 +1,12 @@
 // The top call, and the forms of its arguments.
-ghost use Rattle.std.specs.Prelude.{◌≡◌, ◌⊎◌, ◌<◌, ◌^◌, [], List, ℕ, length, map, All, IsTrue, string_bytes};
+ghost use Rattle.std.specs.Prelude.{◌≡◌, ◌≢◌, ◌⊎◌, ◌<◌, ◌^◌, [], List, ℕ, length, map, All, IsTrue, string_bytes};
 ghost use Rattle.vs_host.specs.Names.{is_allowed, names_of_file};
-ghost use Rattle.vs_modes.specs.Recover.{RunsRecover};
+ghost use Rattle.vs_modes.specs.Recover.{RunsRecover, remains_in};
 ghost use Rattle.vs_modes.specs.Info.{RunsInfo};
 ghost use Rattle.vs_modes.specs.Discard.{RunsDiscard};
-ghost use Rattle.vs_top.specs.Ending.{status_of, ending_in, ended_by};
-ghost use Rattle.vs_top.specs.Forms.{Does, EndsBy, Gives, IsBuilt, IsForm, IsSpared, Performs};
+ghost use Rattle.vs_top.specs.Ending.{status_of, ending_in, ended_by, recovered_by};
+ghost use Rattle.vs_top.specs.Due.{IsOnlyDue, IsSpared};
+ghost use Rattle.vs_top.specs.Forms.{Does, EndsBy, IsBuilt, IsForm, Performs};
 ghost use Rattle.vs_top.specs.Stress.{IsSceneOf, IsStress, IsStressUnhindered, RunsStress};
 ghost use Rattle.vs_top.specs.Run.{IsThrough, IsThroughMark, IsUnhindered, RunsEdit};
 
@@ -15,7 +16,7 @@ use crate::form::{Form, Mode, form_of, stress_count};
 use crate::stress::stress;
 use std::alloc::Global;
 use vs_host::Host;
-use vs_modes::{ModeErr, discard, info, recover};
+use vs_modes::{ModeErr, Recovery, discard, info, recover};
 use vs_session::Mark;
 
 /// What a run came to.
@@ -48,6 +49,16 @@ fn ended(done: Result<(), ModeErr>) -> Ending
     }
 }
 
+/// The ending of `recover`.
+fn recovered(done: Result<Recovery, ModeErr>) -> Ending
+    ensures { result ≡ recovered_by done }
+{
+    match done {
+        Ok(recovery) => Ending::from(recovery),
+        Err(why) => Ending::from(why),
+    }
+}
+
 /// Does what the form says. Only `edit` keeps marks.
 fn perform<H: Host>(alloc: Global, form: Form<'_>, host: &mut H, marks: &mut Vec<Mark>) -> Ending
     requires name { IsTrue (is_allowed form.name.now) }
@@ -58,7 +69,7 @@ fn perform<H: Host>(alloc: Global, form: Form<'_>, host: &mut H, marks: &mut Vec
 {
     match form.mode {
         Mode::Edit => ending_in(edit(alloc, form.name, host, marks)),
-        Mode::Recover => ended(recover(alloc, form.name, host)),
+        Mode::Recover => recovered(recover(alloc, form.name, host)),
         Mode::Info => ended(info(alloc, form.name, host)),
         Mode::Discard => ended(discard(alloc, form.name, host)),
     }
@@ -87,8 +98,8 @@ fn perform_words<H: Host>(
 
 /// Does what the arguments say: `edit NAME` runs the script of the host over the file of a name, `recover NAME`, `info NAME` and
 /// `discard NAME` go to its swap files, and `stress N` tries a session with N commands of its own. With other arguments it ends
-/// with `Usage`, takes no memory and makes no call. Where nothing hinders it, it comes to its end: the clauses `through`, `recovers` and
-/// `stresses` say so, and follow from `edit`, `recover` and `stress`.
+/// with `Usage`, takes no memory and makes no call. Where nothing hinders it, it comes to its end: the clauses `through`, `due` and
+/// `stresses` say so, and follow from those of the modes.
 pub fn run<H: Host>(alloc: Global, words: &[String], host: &mut H) -> Report
     requires clock { IsTrue (H.tells).clock → length (H.scene host.old).answers < 2 ^ 62 }
     requires settled { IsTrue (H.tells).folder → (H.scene host.old).folder.pending ≡ [] }
@@ -99,13 +110,14 @@ pub fn run<H: Host>(alloc: Global, words: &[String], host: &mut H) -> Report
     ensures through { (name : List ℕ) → IsForm (map string_bytes words.now) Mode.Edit name → IsUnhindered H.tells name (H.scene host.old) (H.scene host.new) →
         IsThrough result.ending × All IsThroughMark result.marks.items }
     ensures recover { (name : List ℕ) → IsForm (map string_bytes words.now) Mode.Recover name →
-        EndsBy (RunsRecover H.tells (names_of_file name) (H.scene host.old) (H.scene host.new)) result.ending result.marks.items }
-    ensures recovers { (name : List ℕ) → IsForm (map string_bytes words.now) Mode.Recover name → Gives H.tells (H.scene host.old) name →
-        IsSpared (H.scene host.old) (H.scene host.new) → (result.ending ≡ Ending.Done) ⊎ (result.ending ≡ Ending.NoMemory) }
+        EndsBy recovered_by (RunsRecover H.tells (names_of_file name) (H.scene host.old) (H.scene host.new)) result.ending result.marks.items }
     ensures info { (name : List ℕ) → IsForm (map string_bytes words.now) Mode.Info name →
-        EndsBy (RunsInfo H.tells (names_of_file name) (H.scene host.old) (H.scene host.new)) result.ending result.marks.items }
+        EndsBy ended_by (RunsInfo H.tells (names_of_file name) (H.scene host.old) (H.scene host.new)) result.ending result.marks.items }
     ensures discard { (name : List ℕ) → IsForm (map string_bytes words.now) Mode.Discard name →
-        EndsBy (RunsDiscard H.tells (names_of_file name) (H.scene host.old) (H.scene host.new)) result.ending result.marks.items }
+        EndsBy ended_by (RunsDiscard H.tells (names_of_file name) (H.scene host.old) (H.scene host.new)) result.ending result.marks.items }
+    ensures due { (mode : Mode) (name : List ℕ) → IsForm (map string_bytes words.now) mode name → mode ≢ Mode.Edit → IsTrue (H.tells).folder →
+        IsSpared (H.scene host.old) (H.scene host.new) →
+        (result.ending ≡ Ending.NoMemory) ⊎ IsOnlyDue mode (remains_in (H.scene host.old) (names_of_file name)) result.ending }
     ensures other { ¬ IsBuilt (map string_bytes words.now) → result.ending ≡ Ending.Usage }
     ensures stress { (count : ℕ) → IsStress (map string_bytes words.now) count →
         RunsStress (IsSceneOf H.scene) H.tells count (H.scene host.old) (H.scene host.new) result.ending result.marks.items }

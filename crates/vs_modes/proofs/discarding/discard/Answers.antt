@@ -13,14 +13,14 @@ pub returns-in_err-names : goal.returns-in_err-names
 returns-in_err-names g c =
     let s0 : Scene = g.H.World.scene c.args.host.now in
     let names : Names = names_of_file c.args.name.now in
-    subst (λ (r : Ended). RunsDiscard g.H.World.tells names s0 s0 r) (refused_as c.from_residual.result refusal.NoMemory c.from_residual.ensures.1) (discard_idle g.H.World.tells names s0)
+    subst (λ (r : Ended (Unit {0})). RunsDiscard g.H.World.tells names s0 s0 r) (refused_as c.from_residual.result refusal.NoMemory c.from_residual.ensures.1) (discard_idle g.H.World.tells names s0)
 
 pub returns-in_err-found : goal.returns-in_err-found
 returns-in_err-found g c =
     let s0 : Scene = g.H.World.scene c.args.host.now in
     let s1 : Scene = g.H.World.scene c.remove_both.new.host in
     let names : Names = names_of_file c.args.name.now in
-    subst (λ (r : Ended). RunsDiscard g.H.World.tells names s0 s1 r) (refused_as c.from_residual-in_err-found.result refusal.FolderFailed c.from_residual-in_err-found.ensures.1)
+    subst (λ (r : Ended (Unit {0})). RunsDiscard g.H.World.tells names s0 s1 r) (refused_as c.from_residual-in_err-found.result refusal.FolderFailed c.from_residual-in_err-found.ensures.1)
     (subst (λ (n : Names). RunsDiscard g.H.World.tells n s0 s1 (failed_as refusal.FolderFailed)) c.in_ok-names.ensures.names (discard_failed g.H.World.tells c.in_ok-names.names s0 s1 c.remove_both.ensures.acts (c.in_err-found.ensures.cause.risen refl)))
 
 pub returns : goal.returns

@@ -1,7 +1,6 @@
-use Rattle.std.proofs.Common.{◌≡◌, List, ℕ, [], length, refl, sym, ap, subst, inl, inr, arith, Ok, Err}
+use Rattle.std.proofs.Common.{length, refl, ap, inl, inr, arith, Err}
 use Rattle.vs_host.specs.Names.{names_of_file}
 use Rattle.vs_host.specs.World.{Scene}
-use Rattle.vs_machine.specs.declared.command.Mark.{Mark}
 use Rattle.vs_top.proofs.Closing.{at_ending}
 use Rattle.vs_top.proofs.Edits.{settled, file_fits, open_fails, is_opened}
 use Rattle.vs_top.proofs.edit.edit.Goals as goal

@@ -9,7 +9,7 @@ use Rattle.vs_top.specs.Run.{RunsEdit}
 use Rattle.vs_top.proofs.Requests.{some_command}
 use Rattle.vs_top.proofs.Closing.{at_ending}
 use Rattle.vs_top.proofs.Turning.{reader_stopped, no_memory_left}
-use Rattle.vs_top.proofs.Stepping.{HasStepped, cut_turn, next_turn, at_end, at_quit, quit_step, fits_after}
+use Rattle.vs_top.proofs.Stepping.{cut_turn, next_turn, at_end, at_quit, quit_step, fits_after}
 use Rattle.vs_top.proofs.Reading.{fresh_seen}
 use Rattle.vs_top.proofs.Opening.{no_memory_yet, cut_opening, first_turn}
 use Rattle.vs_top.proofs.edit.serve.Goals as goal
