@@ -1,6 +1,6 @@
 -- What is taken from an undo file with a text.
 use Rattle.std.proofs.Common.{◌≡◌, ℕ, List, Option, Some, None, Result, Ok, Err, IfOk, refl, sym, ◌∙◌, ap, subst, map, length}
-use Rattle.std.specs.Prelude.{IfErr, IsErrAnd}
+use Rattle.std.specs.Prelude.{IfErr, IsErrAnd, IsSomeAnd}
 use Rattle.std.proofs.lemmas.List.{length-map}
 use Rattle.vs_undo.specs.declared.parts.Parts.{Parts}
 use Rattle.vs_undo.specs.History.{FitsText, History, IsHistory, links_of, without_entries}
@@ -48,3 +48,8 @@ handed (Err x) e P is holds = subst P (sym is) holds
 -- what was read stands under the name
 pub taken_at : (text : Text) (there found : Option (List ℕ)) (read : Result History TakeErr) → there ≡ found → IsTaken text found read → IsTaken text there read
 taken_at text there found read same is = subst (λ (o : Option (List ℕ)). IsTaken text o read) (sym same) is
+
+-- the bytes of a file that is there
+pub some_bytes : (found : Option (List ℕ)) (P : List ℕ → Type 0) → IsSomeAnd found P → (bytes : List ℕ) × (found ≡ Some bytes) × P bytes
+some_bytes None P is = absurd is
+some_bytes (Some bytes) P is = (bytes, refl, is)

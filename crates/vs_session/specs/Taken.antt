@@ -4,13 +4,10 @@ use Rattle.vs_machine.specs.Replies.{Answer, says, refuses, device_fault, no_und
 use Rattle.vs_machine.specs.declared.command.Outcome.{Outcome}
 use Rattle.vs_machine.specs.declared.command.Outcome.TheVariants.{Done, NoMemory, Fault}
 use Rattle.vs_undo.specs.History.{History}
-use Rattle.vs_ufile.specs.declared.error.UfErr.{UfErr}
 use Rattle.vs_ufile.specs.declared.error.UfKind.{UfKind}
 use Rattle.vs_ufile.specs.declared.error.UfKind.TheVariants as kind
-use Rattle.vs_ufile.specs.declared.fault.Fault.{Fault as Place}
-use Rattle.vs_ufile.specs.declared.fault.Stop.TheVariants.{At}
-use Rattle.vs_ufile.specs.Decode as decoding
-use Rattle.vs_ufile.specs.Decode.{IsUndoFile, error_of}
+use Rattle.vs_ufile.specs.Decode.{IsUndoFile}
+use Rattle.vs_ufile.specs.Signature.{IsUnreadable}
 use Rattle.vs_ufile.specs.Values as file
 use Rattle.vs_ubind.specs.declared.binding.BindErr.TheVariants.{EntryDoesNotFit}
 use Rattle.vs_ubind.specs.Binding as binding
@@ -23,10 +20,6 @@ use Rattle.vs_session.specs.declared.taking.TakeErr.TheVariants as take
 -- the bytes are an undo file whose data has this
 abbrev pub HasData : (file.History → Type 0) → List ℕ → Type 0
 HasData P bytes = (contents : file.History) × IsUndoFile contents bytes × P contents
-
--- the bytes are no undo file, and this is their first fault
-abbrev pub IsUnreadable : UfErr → List ℕ → Type 0
-IsUnreadable error bytes = (fault : Place) × decoding.IsRefused bytes fault × (error ≡ error_of (length bytes) (At fault))
 
 -- The history that an undo file stands for at this text, or why there is none. Where memory ran out or a call failed, nothing is said
 -- of the file.

@@ -1,5 +1,5 @@
 // The undo file of a session is read, and its history is bound to the text.
-ghost use Rattle.std.specs.Prelude.{◌≡◌, ℕ, Err, IfErr, IfOk, IsErrOf, IsTrue, List, Ok, Some, length, max};
+ghost use Rattle.std.specs.Prelude.{◌≡◌, ℕ, Err, IfErr, IfOk, IsErrOf, IsSomeAnd, IsTrue, List, Ok, Some, length, max};
 ghost use Rattle.vs_host.specs.World.{content_of};
 ghost use Rattle.vs_undo.specs.History.{FitsCount, History, IsHistory};
 ghost use Rattle.vs_ufile.specs.Decode.{IsUndoFile, KeepsRules};
@@ -18,8 +18,8 @@ use std::alloc::Global;
 use vs_host::{Folder, Names};
 use vs_machine::UndoTree;
 use vs_paged::PagedText;
-use vs_ubind::{BindErr, FetchErr, fetch};
-use vs_ufile::{FileHistory, UfErr, UfKind, decode};
+use vs_ubind::{BindErr, LoadErr, load};
+use vs_ufile::{FileHistory, UfErr};
 
 /// Why no history is taken from an undo file.
 #[derive(Clone, Copy, Debug, PartialEq, Eq)]
@@ -46,32 +46,20 @@ pub struct Taken {
     pub changes: u64,
 }
 
-// The bytes of the undo file.
-fn fetch_undo<F: Folder>(alloc: Global, host: &mut F, names: &Names) -> Result<Vec<u8>, TakeErr>
-    ensures found { IfOk result (λ bytes. IsTrue F.tells.folder → content_of (F.scene host.old) names.now.undo ≡ Some bytes.items) }
+// The data of the undo file.
+fn load_undo<F: Folder>(alloc: Global, host: &mut F, names: &Names) -> Result<FileHistory, TakeErr>
+    ensures found { IfOk result (λ contents. IsTrue F.tells.folder
+        → IsSomeAnd (content_of (F.scene host.old) names.now.undo) (IsUndoFile (history_of contents))) }
+    ensures rules { IfOk result (λ contents. KeepsRules (history_of contents)) }
     ensures refused { IfErr result (λ error. IsTrue F.tells.folder → (text : Text) → IsTaken text (content_of (F.scene host.old) names.now.undo) (Err error)) }
     ensures reads { OnlyReads F.tells (IsErrOf result TakeErr.Failed) (F.scene host.old) (F.scene host.new) }
 {
-    match fetch(alloc, host, names) {
-        Ok(bytes) => Ok(bytes),
-        Err(FetchErr::NoFile) => Err(TakeErr::NoFile),
-        Err(FetchErr::NoMemory) => Err(TakeErr::NoMemory),
-        Err(FetchErr::Failed) => Err(TakeErr::Failed),
-    }
-}
-
-// The data of the undo file.
-fn decode_undo(alloc: Global, bytes: &[u8]) -> Result<FileHistory, TakeErr>
-    ensures found { IfOk result (λ contents. IsUndoFile (history_of contents) bytes.now) }
-    ensures refused { IfErr result (λ error. (text : Text) → IsTaken text (Some bytes.now) (Err error)) }
-    ensures calm { IsErrOf result TakeErr.Failed → ⊥ }
-{
-    match decode(alloc, bytes) {
+    match load(alloc, host, names) {
         Ok(contents) => Ok(contents),
-        Err(error) => match error.kind {
-            UfKind::NoMemory => Err(TakeErr::NoMemory),
-            _ => Err(TakeErr::Unreadable(error)),
-        },
+        Err(LoadErr::NoFile) => Err(TakeErr::NoFile),
+        Err(LoadErr::Unreadable(error)) => Err(TakeErr::Unreadable(error)),
+        Err(LoadErr::NoMemory) => Err(TakeErr::NoMemory),
+        Err(LoadErr::Failed) => Err(TakeErr::Failed),
     }
 }
 
@@ -122,8 +110,7 @@ impl Session {
         ensures generation { generation_of self.new ≡ generation_of self.old }
         ensures undo { FitsUndo self.old → FitsUndo self.new }
     {
-        let bytes = fetch_undo(alloc, host, &self.text.pair.files.names)?;
-        let contents = decode_undo(alloc, &bytes)?;
+        let contents = load_undo(alloc, host, &self.text.pair.files.names)?;
         let tree = bind_undo(alloc, &mut self.text, host, &contents)?;
         Ok(Taken {
             tree,

@@ -87,7 +87,7 @@ led_same e f (g ∷ es) (h ∷ fs) x z y alike same few led =
     let now : filled led.0 ≡ filled (applied f z) = sym plain.1 ∙ sym flagged.1 in
     (applied f z, (flagged.0, led_same g h es fs led.0 (applied f z) y rest now flagged.0.to_bytes led.1.1))
 
-led_alike : (es fs : List Entry) → last_flag es ≡ last_flag fs → (x y : List (List ℕ)) → IsLed Leads es x y → IsLed Leads fs x y
+pub led_alike : (es fs : List Entry) → last_flag es ≡ last_flag fs → (x y : List (List ℕ)) → IsLed Leads es x y → IsLed Leads fs x y
 led_alike [] [] alike x y led = led
 led_alike [] (f ∷ fs) alike x y led = absurd (omega (arith, ap length alike, same_count (f ∷ fs)))
 led_alike (e ∷ es) [] alike x y led = absurd (omega (arith, ap length alike, same_count (e ∷ es)))
@@ -95,13 +95,13 @@ led_alike (e ∷ es) (f ∷ fs) alike x y led = led_same e f es fs x x y alike r
 
 -- ---- trees
 module _ (a b : Parts) (links : links_of a ≡ links_of b) (entries : (n : ℕ) (x y : Node) → node_at a.nodes n ≡ Some x → node_at b.nodes n ≡ Some y → last_flag x.entries ≡ last_flag y.entries) where
-  same_at : (n : ℕ) → option_map without_entries (node_at a.nodes n) ≡ option_map without_entries (node_at b.nodes n)
+  pub same_at : (n : ℕ) → option_map without_entries (node_at a.nodes n) ≡ option_map without_entries (node_at b.nodes n)
   same_at n = sym (at-links_of a.nodes n) ∙ (ap (λ (p : Parts). node_at p.nodes n) links ∙ at-links_of b.nodes n)
 
-  same_parents : ◌≡◌ {A = ℕ → Option ℕ} (λ k. parent_at a.nodes k) (λ k. parent_at b.nodes k)
+  pub same_parents : ◌≡◌ {A = ℕ → Option ℕ} (λ k. parent_at a.nodes k) (λ k. parent_at b.nodes k)
   same_parents = λ i k. seen without_entries (λ (n : Node). n.parent) (λ _. refl) (node_at a.nodes k) (node_at b.nodes k) (same_at k) i
 
-  same_current : a.current ≡ b.current
+  pub same_current : a.current ≡ b.current
   same_current = ap (λ (p : Parts). p.current) links
 
   alike_at : (n : ℕ) (o p : Option Node) → node_at a.nodes n ≡ o → node_at b.nodes n ≡ p → option_map without_entries o ≡ option_map without_entries p

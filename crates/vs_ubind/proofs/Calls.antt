@@ -50,7 +50,9 @@ pub looked_once : (tells : Tells) (kind : Kind) (names : List Name) {T E : Type 
     → (IsTrue tells.folder → IsTold kind names result old new) → Acts tells Same old new
 looked_once tells kind names result old new frame cause told = look_acts tells Same kind names result old new frame cause told (λ tells_it. refl)
 
+pub looked_then : (tells : Tells) (old mid new : Scene) → NoneFails tells old mid → Acts tells Same old mid → Acts tells Same mid new → Acts tells Same old new
+looked_then tells old mid new none first second = acts_on tells Same (λ a b c one two. two ∙ one) old mid new none first second
+
 pub looked_more : (tells : Tells) (kind : Kind) (names : List Name) {T E : Type 0} (result : Result T E) (old mid new : Scene) → NoneFails tells old mid → Acts tells Same old mid
     → ReadsFolder mid new → HasCause mid.folder_faults new.folder_faults (IsErr result) → (IsTrue tells.folder → IsTold kind names result mid new) → Acts tells Same old new
-looked_more tells kind names result old mid new none first frame cause told =
-    acts_on tells Same (λ a b c one two. two ∙ one) old mid new none first (looked_once tells kind names result mid new frame cause told)
+looked_more tells kind names result old mid new none first frame cause told = looked_then tells old mid new none first (looked_once tells kind names result mid new frame cause told)

@@ -28,7 +28,7 @@ use Rattle.vs_ubind.proofs.Takes.{change_number, same_test}
 abbrev names : List Node → List ℕ
 names nodes = map (λ (n : Node). n.number) nodes
 
-abbrev blank : file.Change
+abbrev pub blank : file.Change
 blank = record { number = 0; next = 0; prev = 0; alt_next = 0; alt_prev = 0; empty = false; time = 0; save = 0; entries = [] }
 
 contains_node : (nodes : List Node) (n : ℕ) (node : Node) → node_at nodes n ≡ Some node → Contains nodes node

@@ -1,5 +1,6 @@
 pub mod Fed
 pub mod Calls
+pub mod Loads
 pub mod Told
 pub mod Used
 pub mod Flags
@@ -18,3 +19,5 @@ pub mod Joined
 pub mod Kept
 pub mod Alike
 pub mod NoMisfit
+pub mod Ones
+pub mod Somes

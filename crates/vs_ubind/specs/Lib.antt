@@ -6,3 +6,5 @@ pub mod Bound
 pub mod Taken
 pub mod Binding
 pub mod Storing
+pub mod Loading
+pub mod One

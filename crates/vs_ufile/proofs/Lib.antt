@@ -5,6 +5,7 @@ pub mod Parts
 pub mod Whole
 pub mod Header
 pub mod File
+pub mod Signed
 pub mod Places
 pub mod Writes
 pub mod Written
@@ -22,3 +23,4 @@ pub mod Least
 pub mod Failed
 pub mod Rules
 pub mod Descents
+pub mod Lineages

@@ -4,6 +4,7 @@ pub mod Changes
 pub mod Form
 pub mod Format
 pub mod Decode
+pub mod Signature
 pub mod Writing
 pub mod Walks
 pub mod Tree

@@ -127,7 +127,7 @@ fn into_history(alloc: Global, form: Form) -> Result<FileHistory, Stop>
     })
 }
 
-fn error_of(size: usize, stop: Stop) -> UfErr
+pub(crate) fn error_of(size: usize, stop: Stop) -> UfErr
     ensures { result ≡ error_of size stop }
 {
     match stop {

@@ -1,6 +1,6 @@
 // The fields of an undo file: numbers and runs of bytes, each read from the front of the bytes.
 
-ghost use Rattle.std.specs.Prelude.{◌≡◌, length};
+ghost use Rattle.std.specs.Prelude.{◌≡◌, length, IsErrOf};
 ghost use Rattle.vs_ufile.specs.declared.fault.Stop.TheVariants.{At};
 ghost use Rattle.vs_ufile.specs.Reading.{Gives, checked, flags, magic_kind, marks, next_mark, number, option_data, option_or_end, options, repeat, run, save_number_kind, sized_run, start, version};
 
@@ -44,7 +44,8 @@ pub fn u8_at(bytes: &[u8]) -> Result<(u8, &[u8]), Stop>
 }
 
 pub fn u16_at(bytes: &[u8]) -> Result<(u16, &[u8]), Stop>
-    ensures { Gives (λ x. (x.0, x.1.now)) result (number 2 bytes.now) }
+    ensures gives { Gives (λ x. (x.0, x.1.now)) result (number 2 bytes.now) }
+    ensures placed { IsErrOf result Stop.Memory → ⊥ }
 {
     if bytes.len() < 2 {
         return Err(refusal(bytes, UfKind::Truncated, 0));
@@ -81,7 +82,8 @@ pub fn sized_run(bytes: &[u8]) -> Result<(&[u8], &[u8]), Stop>
 
 #[tactic(auto, unfolding(crate::specs::Reading::start))]
 pub fn start(bytes: &[u8]) -> Result<(&[u8], &[u8]), Stop>
-    ensures { Gives (λ x. (x.0.now, x.1.now)) result (start bytes.now) }
+    ensures gives { Gives (λ x. (x.0.now, x.1.now)) result (start bytes.now) }
+    ensures placed { IsErrOf result Stop.Memory → ⊥ }
 {
     if !bytes.starts_with(&START) {
         return Err(refusal(bytes, UfKind::NotUndo, 0));
@@ -90,7 +92,8 @@ pub fn start(bytes: &[u8]) -> Result<(&[u8], &[u8]), Stop>
 }
 
 pub fn version(bytes: &[u8]) -> Result<(u16, &[u8]), Stop>
-    ensures { Gives (λ x. (x.0, x.1.now)) result (version bytes.now) }
+    ensures gives { Gives (λ x. (x.0, x.1.now)) result (version bytes.now) }
+    ensures placed { IsErrOf result Stop.Memory → ⊥ }
 {
     let (version, rest) = u16_at(bytes)?;
     if version == 2 {

@@ -10,6 +10,7 @@ pub mod MeetingLemmas
 pub mod MoveLemmas
 pub mod NodeLemmas
 pub mod NumberLemmas
+pub mod OneLemmas
 pub mod PartLemmas
 pub mod PromoteLemmas
 pub mod PushForgets

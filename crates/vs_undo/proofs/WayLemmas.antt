@@ -25,10 +25,10 @@ last_of before n after =
     let at : length (before ++ n ∷ after) - 1 ≡ length before + length after = omega (arith, length-append before (n ∷ after)) in
     ap (λ k. get_or (before ++ n ∷ after) k 0) at ∙ get_or-append-add before (n ∷ after) (length after) 0
 
-on_first : (n : ℕ) (way : List ℕ) → is_on (n ∷ way) n ≡ true
+pub on_first : (n : ℕ) (way : List ℕ) → is_on (n ∷ way) n ≡ true
 on_first n way = grind (arith, nat_tests)
 
-on_more : (m : ℕ) (way : List ℕ) (n : ℕ) → is_on way n ≡ true → is_on (m ∷ way) n ≡ true
+pub on_more : (m : ℕ) (way : List ℕ) (n : ℕ) → is_on way n ≡ true → is_on (m ∷ way) n ≡ true
 on_more m way n on =
     elim (m == n) as (λ b. (b || is_on way n) ≡ true) [ true ↦ refl | false ↦ on ]
 

@@ -8,6 +8,7 @@ pub mod Sound
 pub mod Meetings
 pub mod Moves
 pub mod Numbers
+pub mod One
 pub mod Leaves
 pub mod Writes
 pub mod Forgetting
