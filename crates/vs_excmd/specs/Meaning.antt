@@ -1,7 +1,8 @@
 -- The meaning of the commands of the text: what each does with its block, a text and a cursor.
 use Rattle.std.specs.Prelude.{ℕ, Bool, true, false, ◌-◌, List, length, None, Result, Ok}
 use Rattle.vs_exparse.specs.Command.{Command}
-use Rattle.vs_exparse.specs.Command.Command.{Append, Insert, Change, Delete, Move, CopyTo, T, Join, Substitute, Print, Number, Equals, Undo, Redo, Earlier, Later, UndoList, Write, Preserve, Quit, Set, WriteUndo, ReadUndo}
+use Rattle.vs_exparse.specs.Command.Command.{Append, Insert, Change, Delete, Move, CopyTo, T, Join, Substitute, Print, Number, Equals, Undo, Redo, Earlier, Later, UndoList, Write, Preserve, Quit, Set, WriteUndo, ReadUndo, Global}
+use Rattle.vs_exparse.specs.Nested.{nested_meaning}
 use Rattle.vs_exparse.specs.declared.command.ExErr.{ExErr}
 use Rattle.vs_excmd.specs.declared.place.Place.{Place}
 use Rattle.vs_excmd.specs.Errors.{on}
@@ -35,13 +36,14 @@ effect (Quit bang) block text place = Ok None
 effect (Set setting) block text place = Ok None
 effect WriteUndo block text place = Ok None
 effect ReadUndo block text place = Ok None
+effect (Global range invert pattern nested) block text place = Ok None
 
 -- The meaning of a command of the text: an error, no change, or a change. E493, E16 and E134 come of its place, and before
 -- all others; then E486, LineTooLong and TextFull.
 abbrev pub planned : Command → List (List ℕ) → List (List ℕ) → ℕ → Result Effect ExErr
 planned command block text cursor = on (place_of command (length text) cursor) (λ place. bounded text (effect command block text place))
 
--- the commands of the text
+-- the commands of the text that have a meaning of their own
 abbrev pub changes_text : Command → Bool
 changes_text (Append range) = true
 changes_text (Insert range) = true
@@ -66,3 +68,9 @@ changes_text (Quit bang) = false
 changes_text (Set setting) = false
 changes_text WriteUndo = false
 changes_text ReadUndo = false
+changes_text (Global range invert pattern nested) = false
+
+-- the commands of the text: those, and the global commands that carry one of them out
+abbrev pub is_text_command : Command → Bool
+is_text_command (Global range invert pattern nested) = changes_text (nested_meaning nested)
+is_text_command command = changes_text command

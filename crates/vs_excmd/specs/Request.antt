@@ -3,7 +3,8 @@ use Rattle.std.specs.Prelude.{ℕ, Bool, true, false, not, ◌≡◌, ◌<◌, �
 use Rattle.vs_text.specs.Text.{bytes_of}
 use Rattle.vs_text.specs.Limits.{IsShort}
 use Rattle.vs_text.specs.declared.TheConstants.{MAX_LINES, MAX_TEXT_BYTES}
-use Rattle.vs_exparse.specs.Command.{Command, HasForm, command_of, result_of, wants_block}
+use Rattle.vs_exparse.specs.Command.{Command, command_of, result_of, wants_block}
+use Rattle.vs_exparse.specs.Form.{HasForm}
 use Rattle.vs_exparse.specs.declared.command.Command as borrowed
 use Rattle.vs_exparse.specs.declared.command.ExErr.{ExErr}
 use Rattle.vs_excmd.specs.declared.request.Block.{Block}

@@ -17,7 +17,7 @@ mod request;
 mod substituting;
 
 pub use answer::{Plan, PlanErr};
-pub use meaning::{changes_text, plan};
+pub use meaning::{changes_text, is_text_command, plan};
 pub use place::{LineZero, Place, Span, number_shown, place_of, searched, shown};
 pub use replacing::literal;
 pub use request::{Block, Request};

@@ -2,9 +2,10 @@
 ghost use Rattle.std.specs.Prelude.{◌≡◌, ℕ, List, IfOk, IfErr, IsErrOf, IsTrue, not};
 ghost use Rattle.vs_faults.specs.Faults.{HasCause};
 ghost use Rattle.vs_edit.specs.Calls.{OnlyReads};
-ghost use Rattle.vs_exparse.specs.Command.{HasForm, command_of, wants_block};
+ghost use Rattle.vs_exparse.specs.Command.{command_of, wants_block};
+ghost use Rattle.vs_exparse.specs.Form.{HasForm};
 ghost use Rattle.vs_excmd.specs.Answer.{Allows, Answers, IsLate, IsPlaced, Leads, LiesIn};
-ghost use Rattle.vs_excmd.specs.Meaning.{changes_text, effect, planned};
+ghost use Rattle.vs_excmd.specs.Meaning.{changes_text, effect, is_text_command, planned};
 ghost use Rattle.vs_excmd.specs.Place.{BeginsAtLine, IsOutside, IsPlaceIn, place_of};
 ghost use Rattle.vs_excmd.specs.Request.{StandsFor, is_absent};
 
@@ -16,7 +17,7 @@ use crate::substituting::substitute;
 use crate::{Block, Place, Plan, PlanErr, place_of};
 use std::alloc::Global;
 use vs_edit::LineStore;
-use vs_exparse::Command;
+use vs_exparse::{Command, parse_nested};
 
 /// Whether this is a command of the text: `:a`, `:i`, `:c`, `:d`, `:m`, `:co`, `:t`, `:j` or `:s`.
 pub fn changes_text(command: &Command) -> bool
@@ -45,7 +46,19 @@ pub fn changes_text(command: &Command) -> bool
         | Command::Quit { .. }
         | Command::Set { .. }
         | Command::WriteUndo
-        | Command::ReadUndo => false,
+        | Command::ReadUndo
+        | Command::Global { .. } => false,
+    }
+}
+
+/// Whether a command is one of the text: one that [`plan`] carries out, or a global command that carries such a one out.
+pub fn is_text_command(command: &Command) -> bool
+    requires { HasForm (command_of command.now) }
+    ensures { result ≡ is_text_command (command_of command.now) }
+{
+    match command {
+        Command::Global { nested, .. } => changes_text(&parse_nested(nested)),
+        _ => changes_text(command),
     }
 }
 
@@ -99,7 +112,8 @@ fn effect<S: LineStore>(
         | Command::Quit { .. }
         | Command::Set { .. }
         | Command::WriteUndo
-        | Command::ReadUndo => Ok(Plan::NoChange),
+        | Command::ReadUndo
+        | Command::Global { .. } => Ok(Plan::NoChange),
     }
 }
 

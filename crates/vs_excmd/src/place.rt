@@ -3,7 +3,8 @@ ghost use Rattle.std.specs.Prelude.{pos, ◌≡◌, ◌≢◌, ◌≤◌, ◌<�
 ghost use Rattle.vs_excmd.specs.Change.{before, size_of};
 ghost use Rattle.vs_excmd.specs.Errors.{check, on};
 ghost use Rattle.vs_exparse.specs.declared.command.ExErr.TheVariants.{E134};
-ghost use Rattle.vs_exparse.specs.Command.{HasCount, HasForm, command_of};
+ghost use Rattle.vs_exparse.specs.Command.{HasCount, command_of};
+ghost use Rattle.vs_exparse.specs.Form.{HasForm};
 ghost use Rattle.vs_excmd.specs.Place.{BeginsAtLine, IsOutside, IsPlaceIn, IsSpanIn, base_line, counted, destination, first_at, is_into_itself, last_at};
 ghost use Rattle.vs_excmd.specs.Place.{line_at, line_in, lines_to, located, located_counted, meant, number_shown, or_last, place_of, shown, span_of};
 ghost use Rattle.vs_excmd.specs.Searched.{or_all, searched};
@@ -247,7 +248,8 @@ pub fn place_of(command: &Command, lines: u64, cursor: u64) -> Result<Place, ExE
         | Command::Quit { .. }
         | Command::Set { .. }
         | Command::WriteUndo
-        | Command::ReadUndo => return Err(ExErr::E16),
+        | Command::ReadUndo
+        | Command::Global { .. } => return Err(ExErr::E16),
     };
     Ok(lines_alone(span))
 }

@@ -1,7 +1,10 @@
 pub mod ClashLemmas
+pub mod ErrorLemmas
 pub mod FindLemmas
 pub mod FirstBytes
+pub mod NestedLemmas
 pub mod OffsetLemmas
 pub mod RunsLemmas
 pub mod Sentences
+pub mod SettingLemmas
 pub mod TableLemmas

@@ -1,5 +1,5 @@
 -- The arguments of commands: what each form says, and its errors in their order.
-use Rattle.std.specs.Prelude.{ℕ, Bool, true, false, ◌==◌, ◌&&◌, ◌||◌, ◌-◌, not, if◌then◌else◌, nat_eq, List, [], ◌∷◌, length, take, drop, codes, bytes_eq, Option, Some, None, is_none, is_some, find, option_map}
+use Rattle.std.specs.Prelude.{ℕ, Bool, true, false, ◌==◌, ◌&&◌, ◌||◌, ◌-◌, not, if◌then◌else◌, nat_eq, nat_le, List, [], ◌∷◌, ◌++◌, length, take, drop, codes, bytes_eq, Option, Some, None, is_none, is_some, find, option_map}
 use Rattle.std.specs.List.{list_all, ends_with}
 use Rattle.std.specs.Option.{option_or}
 use Rattle.vs_exparse.specs.Bytes.{is_digit, is_letter, is_blank, run, skip, begins, number_of, is_empty}
@@ -67,13 +67,26 @@ flags_of argument = after_field (after_field (drop 3 argument))
 abbrev pub replaces_all : List ℕ → Bool
 replaces_all argument = bytes_eq (flags_of argument) (codes "g")
 
-abbrev pub substitute_errors : List ℕ → List (ExErr × Bool)
-substitute_errors argument =
+-- what stands after the pattern and its slash
+abbrev pub nested_of : List ℕ → List ℕ
+nested_of argument = after_field (drop 3 argument)
+
+-- the errors of `/\V` and a pattern
+abbrev pub pattern_errors : List ℕ → List (ExErr × Bool)
+pattern_errors argument =
     (PatternForm, not (begins (codes "/\\V") argument))
     ∷ (PatternForm, not (is_pattern (pattern_of argument)))
-    ∷ (PatternForm, not (is_replacement (replacement_of argument)))
+    ∷ []
+
+-- the errors of a replacement and its flag
+abbrev pub replacement_errors : List ℕ → List (ExErr × Bool)
+replacement_errors argument =
+    (PatternForm, not (is_replacement (replacement_of argument)))
     ∷ (E488, not (is_empty (flags_of argument) || replaces_all argument))
     ∷ []
+
+abbrev pub substitute_errors : List ℕ → List (ExErr × Bool)
+substitute_errors argument = pattern_errors argument ++ replacement_errors argument
 
 -- what `set` takes: two ways to write it, and the setting
 pub record SetRow : Type 0 where
@@ -103,6 +116,23 @@ values =
     ∷ row (codes "backupcopy=auto") (codes "bkc=auto") set.CopyAuto
     ∷ []
 
+-- the greatest number of changes that are kept
+abbrev pub max_levels : ℕ
+max_levels = 1000000
+
+-- one to seven digits that say how many changes are kept
+abbrev pub is_levels : List ℕ → Bool
+is_levels digits = list_all is_digit digits && nat_le (length digits) 7 && nat_le 1 (number_of digits) && nat_le (number_of digits) max_levels
+
+abbrev pub levels_in : List ℕ → Option Setting
+levels_in digits = if is_levels digits then Some (set.UndoLevels (number_of digits)) else None
+
+-- the option that has a number
+abbrev pub levels_of : List ℕ → Option Setting
+levels_of argument =
+    if begins (codes "undolevels=") argument then levels_in (drop 11 argument)
+    else (if begins (codes "ul=") argument then levels_in (drop 3 argument) else None)
+
 abbrev pub is_either : List ℕ → List ℕ → List ℕ → Bool
 is_either text long short = bytes_eq text long || bytes_eq text short
 
@@ -110,11 +140,12 @@ abbrev pub setting_in : List SetRow → List ℕ → Option Setting
 setting_in rows text = option_map (λ row. row.setting) (find (λ row. is_either text row.long row.short) rows)
 
 abbrev pub setting_of : List ℕ → Option Setting
-setting_of argument = option_or (setting_in switches argument) (setting_in values argument)
+setting_of argument = option_or (option_or (setting_in switches argument) (setting_in values argument)) (levels_of argument)
 
 -- an option by its name, which is the longest run of letters
 abbrev pub is_option : List ℕ → Bool
-is_option name = is_some (setting_in switches name) || is_either name (codes "backupcopy") (codes "bkc")
+is_option name =
+    is_some (setting_in switches name) || is_either name (codes "backupcopy") (codes "bkc") || is_either name (codes "undolevels") (codes "ul")
 
 abbrev pub set_errors : List ℕ → List (ExErr × Bool)
 set_errors argument =

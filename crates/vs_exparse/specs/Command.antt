@@ -1,10 +1,8 @@
 -- Commands as they were written, with their bytes as lists.
-use Rattle.std.specs.Prelude.{ℕ, Bool, true, false, List, Option, Some, None, Result, Ok, Err, ◌≤◌, IsTrue, IfSome, ⊤}
-use Rattle.vs_exparse.specs.Pieces.{is_pattern, is_replacement}
+use Rattle.std.specs.Prelude.{ℕ, Bool, true, false, List, Option, Some, None, Result, Ok, Err, ◌≤◌, IfSome}
 use Rattle.vs_exparse.specs.declared.command.Address.{Address}
 use Rattle.vs_exparse.specs.declared.command.Range.{Range}
 use Rattle.vs_exparse.specs.declared.command.Setting.{Setting}
-use Rattle.vs_exparse.specs.declared.command.Setting.TheVariants as set
 use Rattle.vs_exparse.specs.declared.command.ExErr.{ExErr}
 use Rattle.vs_exparse.specs.declared.command.Command as borrowed
 use Rattle.vs_exparse.specs.declared.command.Command.TheVariants as code
@@ -36,6 +34,7 @@ pub data Command : Type 0 where
   Set : Setting → Command
   WriteUndo : Command
   ReadUndo : Command
+  Global : Range → Bool → List ℕ → List ℕ → Command
 
 -- the command that one which borrows from its line stands for
 abbrev pub command_of : borrowed.Command → Command
@@ -62,6 +61,7 @@ command_of (code.Quit bang) = Quit bang
 command_of (code.Set setting) = Set setting
 command_of code.WriteUndo = WriteUndo
 command_of code.ReadUndo = ReadUndo
+command_of (code.Global range invert pattern nested) = Global range invert pattern.now nested.now
 
 -- what `parse` answered: no command, a command, or an error
 abbrev pub answer_of : Result Parsed ExErr → Result (Option Command) ExErr
@@ -76,40 +76,6 @@ result_of (Ok command) = Ok (command_of command)
 -- a count that was given is at least 1
 abbrev pub HasCount : Option ℕ → Type 0
 HasCount count = IfSome count (λ n. 1 ≤ n)
-
-abbrev pub HasSettingForm : Setting → Type 0
-HasSettingForm (set.Backup on) = ⊤
-HasSettingForm (set.WriteBackup on) = ⊤
-HasSettingForm (set.UndoFile on) = ⊤
-HasSettingForm set.CopyYes = ⊤
-HasSettingForm set.CopyNo = ⊤
-HasSettingForm set.CopyAuto = ⊤
-
--- what holds of the arguments of each command that was read
-abbrev pub HasForm : Command → Type 0
-HasForm (Append range) = ⊤
-HasForm (Insert range) = ⊤
-HasForm (Change range) = ⊤
-HasForm (Delete range count) = HasCount count
-HasForm (Move range to) = ⊤
-HasForm (CopyTo range to) = ⊤
-HasForm (T range to) = ⊤
-HasForm (Join range bang count) = HasCount count
-HasForm (Substitute range pattern replacement all) = IsTrue (is_pattern pattern) × IsTrue (is_replacement replacement)
-HasForm (Print range count) = HasCount count
-HasForm (Number range count) = HasCount count
-HasForm (Equals range) = ⊤
-HasForm (Undo number) = ⊤
-HasForm Redo = ⊤
-HasForm (Earlier by writes) = 1 ≤ by
-HasForm (Later by writes) = 1 ≤ by
-HasForm UndoList = ⊤
-HasForm (Write bang) = ⊤
-HasForm Preserve = ⊤
-HasForm (Quit bang) = ⊤
-HasForm (Set setting) = HasSettingForm setting
-HasForm WriteUndo = ⊤
-HasForm ReadUndo = ⊤
 
 -- whether the lines after a command belong to it, up to a dot
 abbrev pub wants_block : Command → Bool
@@ -136,3 +102,4 @@ wants_block (Quit bang) = false
 wants_block (Set setting) = false
 wants_block WriteUndo = false
 wants_block ReadUndo = false
+wants_block (Global range invert pattern nested) = false

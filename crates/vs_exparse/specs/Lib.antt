@@ -2,10 +2,14 @@ pub mod Argument
 pub mod Bytes
 pub mod Command
 pub mod Errors
+pub mod Form
+pub mod Global
 pub mod Meaning
 pub mod Names
+pub mod Nested
 pub mod Outcome
 pub mod Parts
 pub mod Pieces
 pub mod Range
+pub mod Rules
 pub mod Table

@@ -1,43 +1,24 @@
 -- What a command line means: no command, a command, or the first error of its order.
-use Rattle.std.specs.Prelude.{ℕ, Bool, true, false, ◌≡◌, ◌&&◌, ◌||◌, not, if◌then◌else◌, nat_lt, List, [], ◌∷◌, length, codes, Option, Some, None, is_none, Result, Ok, Err, IsTrue}
+use Rattle.std.specs.Prelude.{ℕ, Bool, true, false, ◌≡◌, ◌&&◌, ◌||◌, not, if◌then◌else◌, nat_lt, List, ◌∷◌, ◌++◌, length, codes, Option, Some, None, is_none, Result, Ok, Err, IsTrue}
 use Rattle.vs_exparse.specs.Bytes.{max_line_bytes, begins, is_empty}
 use Rattle.vs_exparse.specs.Errors.{first_error, refused_or}
-use Rattle.vs_exparse.specs.Range.{is_given}
 use Rattle.vs_exparse.specs.Names.{rule_of}
 use Rattle.vs_exparse.specs.Parts.{start_of, Parts, parts_of}
 use Rattle.vs_exparse.specs.Command.{Command, command_of}
-use Rattle.vs_exparse.specs.Outcome.{Outcome, outcome_of}
+use Rattle.vs_exparse.specs.Global.{outcome_of}
+use Rattle.vs_exparse.specs.Rules.{outcome_by, rule_errors}
 use Rattle.vs_exparse.specs.declared.command.ExErr.{ExErr}
-use Rattle.vs_exparse.specs.declared.command.ExErr.TheVariants.{E477, E481, E492, LineTooLong}
+use Rattle.vs_exparse.specs.declared.command.ExErr.TheVariants.{LineTooLong}
 use Rattle.vs_exparse.specs.declared.command.Parsed.{Parsed}
 use Rattle.vs_exparse.specs.declared.command.Parsed.TheVariants as parsed
-use Rattle.vs_exparse.specs.declared.words.Rule.{Rule}
-
-abbrev pub takes_range : Option Rule → Bool
-takes_range None = false
-takes_range (Some rule) = rule.range
-
-abbrev pub takes_bang : Option Rule → Bool
-takes_bang None = false
-takes_bang (Some rule) = rule.bang
-
--- what the argument comes to
-abbrev pub outcome_at : Option Rule → Parts → Outcome
-outcome_at None parts = record { errors = []; command = None }
-outcome_at (Some rule) parts = outcome_of rule.word parts.range parts.bang parts.argument
 
 -- the errors of a command line, in their order
 abbrev pub errors_of : Bool → Parts → List (ExErr × Bool)
-errors_of too_long parts =
-    (LineTooLong, too_long)
-    ∷ (E492, is_none (rule_of parts.word))
-    ∷ (E481, is_given parts.range && not (takes_range (rule_of parts.word)))
-    ∷ (E477, parts.bang && not (takes_bang (rule_of parts.word)))
-    ∷ (outcome_at (rule_of parts.word) parts).errors
+errors_of too_long parts = (LineTooLong, too_long) ∷ (rule_errors parts ++ (outcome_by outcome_of (rule_of parts.word) parts).errors)
 
 -- the command of a line that has no error
 abbrev pub command_from : Parts → Option Command
-command_from parts = (outcome_at (rule_of parts.word) parts).command
+command_from parts = (outcome_by outcome_of (rule_of parts.word) parts).command
 
 -- nothing stands after the first blanks and colons, or a comment does
 abbrev pub is_no_command_at : List ℕ → Bool

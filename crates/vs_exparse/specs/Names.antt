@@ -39,6 +39,8 @@ names =
     ∷ name (codes "set") 2 word.Set false false
     ∷ name (codes "wundo") 5 word.WriteUndo false false
     ∷ name (codes "rundo") 5 word.ReadUndo false false
+    ∷ name (codes "global") 1 word.Global true true
+    ∷ name (codes "vglobal") 1 word.VGlobal true false
     ∷ []
 
 abbrev pub rows : List Row

@@ -3,7 +3,7 @@ use Rattle.std.specs.Prelude.{ℕ, Bool, ◌&&◌, ◌+◌, if◌then◌else◌,
 use Rattle.vs_exparse.specs.Bytes.{max_line_bytes, is_letter, is_blank, is_lead, run, skip, begins, is_empty}
 use Rattle.vs_exparse.specs.Range.{range_of, is_given}
 use Rattle.vs_exparse.specs.declared.command.Range.{Range}
-use Rattle.vs_exparse.specs.declared.line.LineParts.{LineParts}
+use Rattle.vs_exparse.specs.declared.parts.LineParts.{LineParts}
 
 -- the first 1,048,577 bytes of a line without the blanks and colons in front
 abbrev pub start_of : List ℕ → List ℕ

@@ -1,16 +1,23 @@
 // The arguments of commands.
 
-ghost use Rattle.std.specs.Prelude.{◌≡◌, ◌≤◌, ◌+◌, Some, length, IfOk};
-ghost use Rattle.vs_exparse.specs.Argument.{number_in, count_errors, change_errors, destination_of, destination_errors, in_writes, steps_of, steps_errors, pattern_of, replacement_of, replaces_all, substitute_errors, is_either, is_option, switches, values, setting_in, setting_of, set_errors};
+ghost use Rattle.std.specs.Prelude.{◌≡◌, ◌≤◌, ◌+◌, Some, None, length, IfOk, IfErr, IfSome, IsTrue};
+ghost use Rattle.vs_exparse.specs.Argument.{number_in, count_errors, change_errors, destination_of, destination_errors, in_writes, steps_of, steps_errors, pattern_of, nested_of, pattern_errors, replacement_of, replaces_all, substitute_errors, is_either, is_option, switches, values, setting_in, levels_in, levels_of, setting_of, set_errors};
 ghost use Rattle.vs_exparse.specs.Bytes.{max_line_bytes};
-ghost use Rattle.vs_exparse.specs.Command.{HasCount, HasForm, command_of, result_of};
+ghost use Rattle.vs_exparse.specs.Command.{HasCount, command_of, result_of};
 ghost use Rattle.vs_exparse.specs.Command.Command.{Substitute as substitute};
-ghost use Rattle.vs_exparse.specs.Errors.{Answers};
+ghost use Rattle.vs_exparse.specs.Errors.{Answers, first_error};
+ghost use Rattle.vs_exparse.specs.Form.{HasForm, HasSettingForm};
+ghost use Rattle.vs_exparse.specs.Pieces.{is_pattern};
 
 use crate::bytes::{after, all_digits, number, skip_blanks, split_letters};
 use crate::command::{Address, Command, ExErr, Range, Setting};
 use crate::pieces::{is_pattern, is_replacement, split_field};
 use crate::range::read_address;
+
+/// The greatest number of changes that are kept, and the greatest number of digits that say it.
+const MAX_LEVELS: u32 = 1_000_000;
+
+const MAX_LEVELS_DIGITS: usize = 7;
 
 pub(crate) fn read_count(argument: &[u8]) -> Result<Option<u32>, ExErr>
     ensures value { Answers (count_errors argument.now) (Some (number_in argument.now)) result }
@@ -85,17 +92,32 @@ pub(crate) fn read_steps(argument: &[u8]) -> Result<Steps, ExErr>
     Ok(Steps { by, writes })
 }
 
-pub(crate) fn read_substitution(range: Range, argument: &[u8]) -> Result<Command<'_>, ExErr>
-    ensures value { Answers (substitute_errors argument.now)
-        (Some (substitute range (pattern_of argument.now) (replacement_of argument.now) (replaces_all argument.now))) (result_of result) }
-    ensures form { IfOk result (λ command. HasForm (command_of command)) }
+/// The pattern that stands after `/\V`, and what stands after its slash.
+pub(crate) fn read_pattern(argument: &[u8]) -> Result<(&[u8], &[u8]), ExErr>
+    ensures refused { IfErr result (λ error. first_error (pattern_errors argument.now) ≡ Some error) }
+    ensures allowed { IfOk result (λ fields. first_error (pattern_errors argument.now) ≡ None) }
+    ensures pattern { IfOk result (λ fields. fields.0.now ≡ pattern_of argument.now) }
+    ensures form { IfOk result (λ fields. IsTrue (is_pattern fields.0.now)) }
+    ensures rest { IfOk result (λ fields. fields.1.now ≡ nested_of argument.now) }
 {
     let Some(text) = after(b"/\\V", argument) else {
         return Err(ExErr::PatternForm);
     };
     let (pattern, rest) = split_field(text);
+    if !is_pattern(pattern) {
+        return Err(ExErr::PatternForm);
+    }
+    Ok((pattern, rest))
+}
+
+pub(crate) fn read_substitution(range: Range, argument: &[u8]) -> Result<Command<'_>, ExErr>
+    ensures value { Answers (substitute_errors argument.now)
+        (Some (substitute range (pattern_of argument.now) (replacement_of argument.now) (replaces_all argument.now))) (result_of result) }
+    ensures form { IfOk result (λ command. HasForm (command_of command)) }
+{
+    let (pattern, rest) = read_pattern(argument)?;
     let (replacement, flags) = split_field(rest);
-    if !is_pattern(pattern) || !is_replacement(replacement) {
+    if !is_replacement(replacement) {
         return Err(ExErr::PatternForm);
     }
     let all = flags == b"g".as_slice();
@@ -118,7 +140,8 @@ fn is_either(text: &[u8], long: &[u8], short: &[u8]) -> bool
 
 /// The option that this text turns on or off.
 fn switch(text: &[u8]) -> Option<Setting>
-    ensures { result ≡ setting_in switches text.now }
+    ensures setting { result ≡ setting_in switches text.now }
+    ensures form { IfSome result HasSettingForm }
 {
     if is_either(text, b"backup", b"bk") {
         return Some(Setting::Backup(true));
@@ -143,7 +166,8 @@ fn switch(text: &[u8]) -> Option<Setting>
 
 /// The option to which this text gives a value.
 fn value(text: &[u8]) -> Option<Setting>
-    ensures { result ≡ setting_in values text.now }
+    ensures setting { result ≡ setting_in values text.now }
+    ensures form { IfSome result HasSettingForm }
 {
     if is_either(text, b"backupcopy=yes", b"bkc=yes") {
         return Some(Setting::CopyYes);
@@ -157,14 +181,44 @@ fn value(text: &[u8]) -> Option<Setting>
     None
 }
 
+/// The number of changes that these digits say are kept.
+fn levels_in(digits: &[u8]) -> Option<Setting>
+    ensures setting { result ≡ levels_in digits.now }
+    ensures form { IfSome result HasSettingForm }
+{
+    let levels = number(digits);
+    if digits.len() > MAX_LEVELS_DIGITS
+        || !all_digits(digits)
+        || levels == 0
+        || levels > MAX_LEVELS
+    {
+        return None;
+    }
+    Some(Setting::UndoLevels(levels))
+}
+
+/// The option to which this text gives a number.
+fn levels(text: &[u8]) -> Option<Setting>
+    ensures setting { result ≡ levels_of text.now }
+    ensures form { IfSome result HasSettingForm }
+{
+    match after(b"undolevels=", text).or(after(b"ul=", text)) {
+        Some(digits) => levels_in(digits),
+        None => None,
+    }
+}
+
 fn is_option(name: &[u8]) -> bool
     ensures { result ≡ is_option name.now }
 {
-    switch(name).is_some() || is_either(name, b"backupcopy", b"bkc")
+    switch(name).is_some()
+        || is_either(name, b"backupcopy", b"bkc")
+        || is_either(name, b"undolevels", b"ul")
 }
 
 pub(crate) fn read_setting(argument: &[u8]) -> Result<Setting, ExErr>
-    ensures { Answers (set_errors argument.now) (setting_of argument.now) result }
+    ensures value { Answers (set_errors argument.now) (setting_of argument.now) result }
+    ensures form { IfOk result HasSettingForm }
 {
     if argument.is_empty() {
         return Err(ExErr::E471);
@@ -173,5 +227,8 @@ pub(crate) fn read_setting(argument: &[u8]) -> Result<Setting, ExErr>
     if !is_option(name) {
         return Err(ExErr::E518);
     }
-    switch(argument).or(value(argument)).ok_or(ExErr::E474)
+    switch(argument)
+        .or(value(argument))
+        .or(levels(argument))
+        .ok_or(ExErr::E474)
 }

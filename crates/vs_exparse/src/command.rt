@@ -51,6 +51,8 @@ pub enum Setting {
     CopyNo,
     /// `backupcopy=auto`.
     CopyAuto,
+    /// The number of changes that are kept, from 1 to 1,000,000 (`:help 'undolevels'`).
+    UndoLevels(u32),
 }
 
 /// Why a command line, or a command of the text, is refused. Those named by a number are Vim's errors.
@@ -76,8 +78,12 @@ pub enum ExErr {
     E474,
     /// Unknown option.
     E518,
-    /// A substitution in another form than `/\Vtext/replacement/g`.
+    /// A substitution in another form than `/\Vtext/replacement/g`, or a global command in another than `/\Vtext/command`.
     PatternForm,
+    /// Cannot do `:global` recursive.
+    E147,
+    /// A command that a global command does not carry out.
+    NotNested,
     /// Backwards range given.
     E493,
     /// Invalid range.
@@ -90,7 +96,8 @@ pub enum ExErr {
     TextFull,
 }
 
-/// A command with its range and arguments, as they were written. A pattern and a replacement are parts of its line.
+/// A command with its range and arguments, as they were written. A pattern, a replacement and a nested command are parts of its
+/// line.
 #[derive(Clone, Copy, Debug, PartialEq, Eq)]
 pub enum Command<'a> {
     /// `:append`
@@ -188,6 +195,13 @@ pub enum Command<'a> {
     WriteUndo,
     /// `:rundo`
     ReadUndo,
+    /// `:global`, or `:vglobal`, which takes the lines that do not match. Its command is the rest of its line.
+    Global {
+        range: Range,
+        invert: bool,
+        pattern: &'a [u8],
+        nested: &'a [u8],
+    },
 }
 
 impl Command<'_> {
@@ -216,7 +230,8 @@ impl Command<'_> {
             | Command::Quit { .. }
             | Command::Set { .. }
             | Command::WriteUndo
-            | Command::ReadUndo => false,
+            | Command::ReadUndo
+            | Command::Global { .. } => false,
         }
     }
 }

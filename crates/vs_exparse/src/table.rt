@@ -79,7 +79,7 @@ fn all_clear(names: &[&[u8]], shortest: &[usize]) -> bool
 }
 
 // No proof is made of an array of references whose length is a parameter. So the methods are those of one length.
-impl NameTable<23> {
+impl NameTable<25> {
     /// Whether no word matches two rows, which is what [`NameTable::find`] asks for.
     pub fn no_clash(&self) -> bool
         ensures value { result ≡ no_clash (rows_of self.now.names self.now.shortest) }

@@ -32,6 +32,8 @@ pub enum Word {
     Set,
     WriteUndo,
     ReadUndo,
+    Global,
+    VGlobal,
 }
 
 /// What may stand around the name of a command.
@@ -46,7 +48,7 @@ pub struct Rule {
 }
 
 /// The names of all commands with the lengths of their shortest forms, in the order of the manual's table.
-pub const NAMES: NameTable<23> = NameTable {
+pub const NAMES: NameTable<25> = NameTable {
     names: [
         b"append",
         b"insert",
@@ -71,9 +73,11 @@ pub const NAMES: NameTable<23> = NameTable {
         b"set",
         b"wundo",
         b"rundo",
+        b"global",
+        b"vglobal",
     ],
     shortest: [
-        1, 1, 1, 1, 1, 2, 1, 1, 1, 1, 2, 1, 1, 3, 2, 3, 5, 1, 3, 1, 2, 5, 5,
+        1, 1, 1, 1, 1, 2, 1, 1, 1, 1, 2, 1, 1, 3, 2, 3, 5, 1, 3, 1, 2, 5, 5, 1, 1,
     ],
 };
 
@@ -88,7 +92,7 @@ macro_rules! rule {
 }
 
 /// The rule of each row of the table.
-const RULES: [Rule; 23] = [
+const RULES: [Rule; 25] = [
     rule!(Append, range: true, bang: false),
     rule!(Insert, range: true, bang: false),
     rule!(Change, range: true, bang: false),
@@ -112,10 +116,12 @@ const RULES: [Rule; 23] = [
     rule!(Set, range: false, bang: false),
     rule!(WriteUndo, range: false, bang: false),
     rule!(ReadUndo, range: false, bang: false),
+    rule!(Global, range: true, bang: true),
+    rule!(VGlobal, range: true, bang: false),
 ];
 
 fn rule_at(row: usize) -> Rule
-    requires { row < 23 }
+    requires { row < 25 }
     ensures { slice_get rules row ≡ Some result }
 {
     RULES[row]

@@ -4,8 +4,6 @@ use Rattle.vs_text.specs.Text.{bytes_of}
 use Rattle.vs_edit.specs.Splices.{splice, cut_out}
 use Rattle.vs_edit.specs.State.{TextState}
 use Rattle.vs_edit.specs.declared.store.LineStore.{Ghosts}
-use Rattle.vs_edit.specs.declared.store.StoreErr.{StoreErr}
-use Rattle.vs_edit.specs.declared.store.StoreErr.TheVariants as store
 use Rattle.vs_exparse.specs.Bytes.{is_empty}
 use Rattle.vs_exparse.specs.Command.{Command}
 use Rattle.vs_exparse.specs.Pieces.{literal_of}
@@ -17,7 +15,7 @@ use Rattle.vs_excmd.specs.declared.answer.PlanErr.{PlanErr}
 use Rattle.vs_excmd.specs.declared.answer.PlanErr.TheVariants as error
 use Rattle.vs_excmd.specs.declared.answer.Plan.TheVariants as plan
 use Rattle.vs_excmd.specs.declared.place.Span.{Span}
-use Rattle.vs_excmd.specs.Answer.{Allows, Answers, plan_error}
+use Rattle.vs_excmd.specs.Answer.{Allows, Answers}
 use Rattle.vs_excmd.specs.Change.{Effect}
 use Rattle.vs_excmd.specs.Errors.{check, on}
 use Rattle.vs_excmd.specs.Searched.{searched}
@@ -25,7 +23,7 @@ use Rattle.vs_global.specs.declared.run.Untouched.{Untouched}
 use Rattle.vs_marks.specs.Marks.{lines_of}
 use Rattle.vs_marks.specs.declared.marks.Marks.{Marks}
 use Rattle.vs_global.specs.Carry.{AllowsFrom, IsAt, IsRefused, SameEnds, WasText}
-use Rattle.vs_global.specs.Global.{Marked, all_marked, changed_at, first_marked, global, places, taken_marks, whole_by, whole_change}
+use Rattle.vs_global.specs.Global.{Marked, all_marked, changed_at, first_marked, marked_by, places, taken_marks, whole_by, whole_change}
 use Rattle.vs_global.proofs.WholeLemmas.{whole}
 
 -- ---- the one splice
@@ -63,27 +61,28 @@ pub changed-refused : (n : ℕ) (command : Command) (text : List (List ℕ)) (cu
 changed-refused n command text cursor marks e count is =
     refused-by command text cursor marks e (subst (λ (k : ℕ). IsRefused (all_marked k command (first_marked text cursor marks)) e) count is)
 
-pub store-refused : (meant : Result Effect ExErr) (e : StoreErr) (found : PlanErr) → found ≡ plan_error e → Answers meant (Err found)
-store-refused meant store.NoMemory found is = subst (λ (p : PlanErr). Answers meant (Err p)) (sym is) tt
-store-refused meant store.Failed found is = subst (λ (p : PlanErr). Answers meant (Err p)) (sym is) tt
-
 -- ---- the search
 
-pub not-searched : (written : Range) (invert : Bool) (pattern : List ℕ) (command : Command) (text : List (List ℕ)) (cursor : ℕ) (e : ExErr)
-    → searched written (length text) cursor ≡ Err e → global written invert pattern command text cursor ≡ Err e
-not-searched written invert pattern command text cursor e is =
+pub not-searched : (written : Range) (invert : Bool) (pattern : List ℕ) (text : List (List ℕ)) (cursor : ℕ) (e : ExErr)
+    → searched written (length text) cursor ≡ Err e → marked_by written invert pattern text cursor ≡ Err e
+not-searched written invert pattern text cursor e is =
     ap (λ (r : Result Span ExErr). on r (λ span.
-    let marks = taken_marks invert (literal_of pattern) text span in
-    check (not (is_empty (places 0 marks))) E486 (changed_at command text cursor marks))) is
+    let marks = taken_marks invert (literal_of pattern) text span in check (not (is_empty (places 0 marks))) E486 (Ok marks))) is
 
-pub searched-by : (written : Range) (invert : Bool) (pattern : List ℕ) (command : Command) (text : List (List ℕ)) (cursor : ℕ) (span : Span) (none : Bool)
+pub searched-by : (written : Range) (invert : Bool) (pattern : List ℕ) (text : List (List ℕ)) (cursor : ℕ) (span : Span) (none : Bool)
     → searched written (length text) cursor ≡ Ok span → is_empty (places 0 (taken_marks invert (literal_of pattern) text span)) ≡ none
-    → global written invert pattern command text cursor ≡ check (not none) E486 (changed_at command text cursor (taken_marks invert (literal_of pattern) text span))
-searched-by written invert pattern command text cursor span none is empty =
+    → marked_by written invert pattern text cursor ≡ check (not none) E486 (Ok (taken_marks invert (literal_of pattern) text span))
+searched-by written invert pattern text cursor span none is empty =
     ap (λ (r : Result Span ExErr). on r (λ s.
-    let marks = taken_marks invert (literal_of pattern) text s in
-    check (not (is_empty (places 0 marks))) E486 (changed_at command text cursor marks))) is
-    ∙ ap (λ (b : Bool). check (not b) E486 (changed_at command text cursor (taken_marks invert (literal_of pattern) text span))) empty
+    let marks = taken_marks invert (literal_of pattern) text s in check (not (is_empty (places 0 marks))) E486 (Ok marks))) is
+    ∙ ap (λ (b : Bool). check (not b) E486 (Ok (taken_marks invert (literal_of pattern) text span))) empty
+
+-- an error of the search is the whole's
+pub search-refused : (marked : Result (List Bool) ExErr) (command : Command) (text : List (List ℕ)) (cursor : ℕ) (e : PlanErr)
+    → IsRefused marked e → Answers (on marked (changed_at command text cursor)) (Err e)
+search-refused marked command text cursor (error.Ex e) is = ap (λ (r : Result (List Bool) ExErr). on r (changed_at command text cursor)) is
+search-refused marked command text cursor error.NoMemory is = tt
+search-refused marked command text cursor error.Failed is = tt
 
 -- ---- the same text
 

@@ -114,6 +114,11 @@ pub record HasMarks (text : List (List ℕ)) (lines : List ℕ) : Type 0 where
   pub size : length marks ≡ length text
   pub are : lines ≡ places 0 marks
 
+-- These are the numbers of the lines of a text that are marked, as it is meant.
+pub record AreMarked (meant : Result (List Bool) ExErr) (text : List (List ℕ)) (lines : List ℕ) : Type 0 where
+  pub has : HasMarks text lines
+  pub is : meant ≡ Ok has.marks
+
 -- What had come of a text goes on to do so.
 abbrev pub StillCovers : Marked → Marked → Type 0
 StillCovers old new = (start : List (List ℕ)) → Covers old.made start old.text → Covers new.made start new.text

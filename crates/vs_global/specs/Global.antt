@@ -151,10 +151,13 @@ changed_at command text cursor marks =
 
 -- ---- the whole
 
--- What a command does at the lines of a range that match, or that do not: E493 and E16 by the range, E486 where no line is taken, then
--- any other error of the command at one of the lines.
-abbrev pub global : Range → Bool → List ℕ → Command → List (List ℕ) → ℕ → Result Effect ExErr
-global written invert pattern command text cursor =
+-- The marks of the lines of a range that match, or that do not: E493 and E16 by the range, E486 where there is none.
+abbrev pub marked_by : Range → Bool → List ℕ → List (List ℕ) → ℕ → Result (List Bool) ExErr
+marked_by written invert pattern text cursor =
     on (searched written (length text) cursor) (λ span.
-    let marks = taken_marks invert (literal_of pattern) text span in
-    check (not (is_empty (places 0 marks))) E486 (changed_at command text cursor marks))
+    let marks = taken_marks invert (literal_of pattern) text span in check (not (is_empty (places 0 marks))) E486 (Ok marks))
+
+-- What a command does at the lines of a range that match, or that do not: an error of these lines, then any other error of the command
+-- at one of them.
+abbrev pub global : Range → Bool → List ℕ → Command → List (List ℕ) → ℕ → Result Effect ExErr
+global written invert pattern command text cursor = on (marked_by written invert pattern text cursor) (changed_at command text cursor)

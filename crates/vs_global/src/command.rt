@@ -3,7 +3,8 @@ ghost use Rattle.std.specs.Prelude.{◌≡◌, ◌<◌, ◌≤◌, ℕ, Bool, fa
 ghost use Rattle.vs_faults.specs.Faults.{HasCause};
 ghost use Rattle.vs_edit.specs.Calls.{CanGoBack, OnlyReads};
 ghost use Rattle.vs_edit.specs.State.{SameText};
-ghost use Rattle.vs_exparse.specs.Command.{HasForm, command_of, wants_block};
+ghost use Rattle.vs_exparse.specs.Command.{command_of, wants_block};
+ghost use Rattle.vs_exparse.specs.Form.{HasForm};
 ghost use Rattle.vs_exparse.specs.Pieces.{is_pattern};
 ghost use Rattle.vs_excmd.specs.Answer.{Allows, Answers};
 ghost use Rattle.vs_excmd.specs.Meaning.{changes_text};
@@ -12,23 +13,14 @@ ghost use Rattle.vs_global.specs.Carry.{HasMarks};
 ghost use Rattle.vs_global.specs.Global.{changed_at, global, places};
 
 use crate::carry::carry_all;
-use crate::marking::taken_lines;
 use crate::run::Run;
+use crate::search::{Search, marked_lines};
 use crate::whole::whole_plan;
 use std::alloc::Global;
 use vs_edit::LineStore;
-use vs_excmd::{Plan, PlanErr, searched};
-use vs_exparse::{Command, ExErr, Range};
+use vs_excmd::{Plan, PlanErr};
+use vs_exparse::Command;
 use vs_marks::Marks;
-
-/// Which lines a global command takes, as it was written.
-#[derive(Clone, Copy)]
-pub struct Search<'a> {
-    pub range: Range,
-    /// Whether the lines that do not match are taken.
-    pub invert: bool,
-    pub pattern: &'a [u8],
-}
 
 // Carries a command of the text out at each of these lines, and plans all that came of it as one splice. The store is left as it is
 // then, and may only be rolled back.
@@ -88,11 +80,7 @@ pub fn global<S: LineStore>(
     ensures kept { OnlyReads S.LineStore view.old view.new }
     ensures cause { HasCause (S.shows view.old).faults (S.shows view.new).faults (IsErrOf result PlanErr.Failed) }
 {
-    let span = searched(search.range, view.len(), cursor)?;
-    let taken = taken_lines(alloc, view, span, search.pattern, search.invert)?;
-    if taken.is_empty() {
-        return Err(PlanErr::Ex(ExErr::E486));
-    }
+    let taken = marked_lines(alloc, view, search, cursor)?;
     let plan = change_all(alloc, nested, view, taken, cursor);
     view.rollback();
     plan

@@ -9,8 +9,9 @@ mod command;
 mod marking;
 mod moving;
 mod run;
+mod search;
 mod whole;
 
-pub use command::{Search, global};
-pub use marking::taken_lines;
+pub use command::global;
 pub use run::{Run, Untouched};
+pub use search::{Search, marked_lines};

@@ -77,7 +77,7 @@ fn taken_in<S: LineStore>(
 /// The lines of a span that match, or those that do not, by their numbers, counted from 0.
 ///
 /// [`StoreErr::Failed`] comes only from the store.
-pub fn taken_lines<S: LineStore>(
+pub(crate) fn taken_lines<S: LineStore>(
     alloc: Global,
     view: &mut S,
     span: Span,

@@ -3,3 +3,5 @@ pub mod GoalLemmas
 pub mod LinkLemmas
 pub mod MeaningLemmas
 pub mod NumberLemmas
+pub mod SavedLemmas
+pub mod ShowingLemmas

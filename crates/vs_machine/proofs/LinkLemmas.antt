@@ -16,7 +16,7 @@ use Rattle.vs_undo.specs.Ways.{way_of, way_within}
 use Rattle.vs_machine.specs.declared.moves.Move.{Move}
 use Rattle.vs_machine.specs.declared.moves.Move.TheVariants.{Back, To, Forward, Earlier, Later, EarlierWrites, LaterWrites}
 
-abbrev bare : List Node → List Node
+abbrev pub bare : List Node → List Node
 bare nodes = map without_entries nodes
 
 -- a field that is no entry
@@ -31,7 +31,7 @@ some_in : (o : Option Node) → is_some (option_map without_entries o) ≡ is_so
 some_in None = refl
 some_in (Some node) = refl
 
-kept-bare : (nodes : List Node) (k : ℕ) → is_kept (bare nodes) k ≡ is_kept nodes k
+pub kept-bare : (nodes : List Node) (k : ℕ) → is_kept (bare nodes) k ≡ is_kept nodes k
 kept-bare nodes k = ap (λ b. (k == 0) || b) (ap is_some (at-links_of nodes k) ∙ some_in (node_at nodes k))
 
 child-bare : (parts : Parts) (k : ℕ) → child_of (links_of parts) k ≡ child_of parts k

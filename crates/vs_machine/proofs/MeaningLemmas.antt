@@ -1,18 +1,24 @@
 -- What each command comes to, by its kind.
-use Rattle.std.proofs.Common.{◌≡◌, ℕ, List, true, Some, Ok, Err, Result, refl, sym, ap, ◌∙◌}
-use Rattle.vs_exparse.specs.Command.{Command, result_of}
-use Rattle.vs_exparse.specs.Command.Command.{Append, Insert, Change, Delete, Move, CopyTo, T, Join, Substitute, Print, Number, Equals, Undo, Redo, Earlier, Later, UndoList, Write, Preserve, Quit, Set, WriteUndo, ReadUndo}
+use Rattle.std.proofs.Common.{◌≡◌, ℕ, List, true, Option, None, Some, Ok, Err, Result, refl, sym, ap, subst, ◌∙◌}
+use Rattle.std.specs.Prelude.{IfSome}
+use Rattle.vs_exparse.specs.Command.{Command, HasCount, result_of}
+use Rattle.vs_exparse.specs.Form.{HasForm}
+use Rattle.vs_exparse.specs.Nested.{is_nested}
+use Rattle.vs_exparse.specs.Command.Command.{Append, Insert, Change, Delete, Move, CopyTo, T, Join, Substitute, Print, Number, Equals, Undo, Redo, Earlier, Later, UndoList, Write, Preserve, Quit, Set, WriteUndo, ReadUndo, Global}
 use Rattle.vs_exparse.specs.declared.command.ExErr.{ExErr}
 use Rattle.vs_exparse.specs.declared.command.Command as borrowed
 use Rattle.vs_excmd.specs.Answer.{Answers, effect_of}
 use Rattle.vs_excmd.specs.Change as effects
 use Rattle.vs_excmd.specs.Change.{Effect}
 use Rattle.vs_excmd.specs.declared.answer.Plan.{Plan}
+use Rattle.vs_excmd.specs.declared.answer.Plan.TheVariants as splice
 use Rattle.vs_excmd.specs.Meaning.{changes_text, planned}
 use Rattle.vs_excmd.specs.declared.answer.PlanErr.{PlanErr}
 use Rattle.vs_excmd.specs.declared.answer.PlanErr.TheVariants as plan
 use Rattle.vs_machine.specs.Machine.{State, changing, meaning_in, meaning_of}
 use Rattle.vs_machine.specs.Machine.Meaning.{Changed, Refused}
+use Rattle.vs_machine.specs.Shown.{showing_of}
+use Rattle.vs_machine.specs.declared.show.Showing.{Showing}
 
 -- a command of the text
 pub meaning_of_change : (state : State) (command : Command) (lines : List (List ℕ)) → changes_text command ≡ true
@@ -40,6 +46,25 @@ meaning_of_change state (Quit bang) lines is = absurd (cc)
 meaning_of_change state (Set setting) lines is = absurd (cc)
 meaning_of_change state WriteUndo lines is = absurd (cc)
 meaning_of_change state ReadUndo lines is = absurd (cc)
+meaning_of_change state (Global range invert pattern nested) lines is = absurd (cc)
+
+-- the count of a command that shows lines
+pub showing-count : (command : Command) (showing : Showing) → HasForm command → showing_of command ≡ Some showing → HasCount showing.count
+showing-count (Print range count) showing form is = subst (λ (o : Option Showing). IfSome o (λ s. HasCount s.count)) is form
+showing-count (Number range count) showing form is = subst (λ (o : Option Showing). IfSome o (λ s. HasCount s.count)) is form
+showing-count command showing form is = absurd (cc)
+
+-- a command that is carried out at many lines, and shows none, changes the text
+pub nested-changes : (command : Command) → is_nested command ≡ true → showing_of command ≡ None → changes_text command ≡ true
+nested-changes (Delete range count) nested none = refl
+nested-changes (Move range to) nested none = refl
+nested-changes (CopyTo range to) nested none = refl
+nested-changes (T range to) nested none = refl
+nested-changes (Join range bang count) nested none = refl
+nested-changes (Substitute range pattern replacement all) nested none = refl
+nested-changes (Print range count) nested none = absurd (cc)
+nested-changes (Number range count) nested none = absurd (cc)
+nested-changes command nested none = absurd (cc)
 
 -- an error of a line
 pub meaning_of_error : (state : State) (parsed : Result borrowed.Command ExErr) (meant : Result Command ExErr) (error : ExErr) (lines : List (List ℕ))
@@ -52,7 +77,14 @@ meaning_of_refused meant (plan.Ex found) error is same = let one : found ≡ err
 meaning_of_refused meant plan.NoMemory error is same = absurd (cc)
 meaning_of_refused meant plan.Failed error is same = absurd (cc)
 
+-- what was planned
+pub meaning_of_plan : (plan_at : ℕ → Result Effect ExErr) (found : Plan) (line cursor : ℕ) → plan_at line ≡ Ok (effect_of found) → line ≡ cursor
+    → changing (Ok (effect_of found)) ≡ changing (plan_at cursor)
+meaning_of_plan plan_at found line cursor planned same = sym (ap changing (ap plan_at (sym same) ∙ planned))
+
 -- a splice that was planned
-pub meaning_of_plan : (plan_at : ℕ → Result Effect ExErr) (plan : Plan) (change : effects.Change) (line cursor : ℕ) → plan_at line ≡ Ok (effect_of plan) → effect_of plan ≡ Some change → line ≡ cursor
-    → Changed change ≡ changing (plan_at cursor)
-meaning_of_plan plan_at plan change line cursor planned is same = sym (ap changing (ap plan_at (sym same) ∙ (planned ∙ ap Ok is)))
+pub meaning_of_splice : (found : Plan) (change : effects.Change) {new : _} → found ≡ splice.Splice change.top change.old new change.cursor → change.new ≡ new.items
+    → Changed change ≡ changing (Ok (effect_of found))
+meaning_of_splice found change {new} is put =
+    ap (λ (lines : List (List ℕ)). Changed (record { top = change.top; old = change.old; new = lines; cursor = change.cursor })) put
+    ∙ sym (ap (λ (p : Plan). changing (Ok (effect_of p))) is)

@@ -5,3 +5,4 @@ pub mod Machine
 pub mod Reply
 pub mod Answers
 pub mod Listing
+pub mod Saved

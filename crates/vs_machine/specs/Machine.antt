@@ -1,10 +1,12 @@
 -- The machine that answers commands: a text with a cursor, and its history.
 use Rattle.std.specs.Prelude.{ℕ, Bool, true, false, ◌+◌, nat_le, if◌then◌else◌, List, [], ◌∷◌, ◌++◌, length, decimal, min}
 use Rattle.std.specs.declared.option.Option.{Option}
-use Rattle.std.specs.Prelude.{Some, None, Result, Ok, Err}
+use Rattle.std.specs.Prelude.{Some, None, unwrap_or, Result, Ok, Err}
 use Rattle.vs_text.specs.Text.{file_of}
 use Rattle.vs_exparse.specs.Command.{Command}
-use Rattle.vs_exparse.specs.Command.Command.{Append, Insert, Change, Delete, Move, CopyTo, T, Join, Substitute, Print, Number, Equals, Undo, Redo, Earlier, Later, UndoList, Write, Preserve, Quit, Set, WriteUndo, ReadUndo}
+use Rattle.vs_exparse.specs.Command.Command.{Append, Insert, Change, Delete, Move, CopyTo, T, Join, Substitute, Print, Number, Equals, Undo, Redo, Earlier, Later, UndoList, Write, Preserve, Quit, Set, WriteUndo, ReadUndo, Global}
+use Rattle.vs_exparse.specs.Nested.{nested_meaning}
+use Rattle.vs_exparse.specs.declared.command.Range.{Range}
 use Rattle.vs_exparse.specs.declared.command.ExErr.{ExErr}
 use Rattle.vs_exparse.specs.declared.command.ExErr.TheVariants.{E492}
 use Rattle.vs_excmd.specs.declared.place.Span.{Span}
@@ -13,11 +15,14 @@ use Rattle.vs_excmd.specs.Change.{spliced}
 use Rattle.vs_excmd.specs.Change as effects
 use Rattle.vs_excmd.specs.Meaning.{planned}
 use Rattle.vs_excmd.specs.Request.{Instruction}
+use Rattle.vs_global.specs.Global.{global, marked_by}
 use Rattle.vs_undo.specs.declared.error.UndoErr.{UndoErr}
 use Rattle.vs_undo.specs.declared.error.UndoErr.TheVariants.{NumbersFull}
 use Rattle.vs_undo.specs.declared.TheConstants.{MAX_NUMBER}
+use Rattle.vs_undo.specs.declared.keep.Keep.{Keep}
+use Rattle.vs_undo.specs.Forgetting.{history_kept, root_kept}
 use Rattle.vs_undo.specs.Ways.{way_of}
-use Rattle.vs_undo.specs.History.{History, first_history, history_at, history_pushed}
+use Rattle.vs_undo.specs.History.{History, first_history, history_at}
 use Rattle.vs_machine.specs.declared.moves.Move.TheVariants as move
 use Rattle.vs_machine.specs.Moves.{goal_of, undo_move, earlier_move, later_move, kept_within}
 use Rattle.vs_machine.specs.declared.command.Mark.{Mark}
@@ -25,7 +30,9 @@ use Rattle.vs_machine.specs.declared.command.Outcome.{Outcome}
 use Rattle.vs_machine.specs.declared.command.Outcome.TheVariants.{Done, NoMemory, Fault, NoUndo}
 use Rattle.vs_machine.specs.Replies.{Answer, says, refuses, prints, error_text, undo_error_text, change_line, move_line, no_change, out_of_memory, device_fault}
 use Rattle.vs_machine.specs.Listing.{listing}
-use Rattle.vs_machine.specs.Shown.{shown_lines}
+use Rattle.vs_machine.specs.Saved.{saved_after}
+use Rattle.vs_machine.specs.Shown.{last_shown, printed_all, shown_in, shown_lines, showing_of}
+use Rattle.vs_machine.specs.declared.show.Showing.{Showing}
 
 -- Lines are counted from 1. The cursor is 0 in the text without lines. The text is that of the history's current state.
 pub record State : Type 0 where
@@ -71,6 +78,18 @@ abbrev pub printing : (Span → List (List ℕ)) → Result Span ExErr → Meani
 printing form (Err error) = Refused error
 printing form (Ok span) = Printed (file_of (form span)) span.last
 
+-- lines that are printed in some form, span after span: the cursor goes to the last of them
+abbrev pub printing_all : (Span → List (List ℕ)) → ℕ → Result (List Span) ExErr → Meaning
+printing_all form cursor (Err error) = Refused error
+printing_all form cursor (Ok spans) = Printed (printed_all form spans) (last_shown cursor spans)
+
+-- What a command comes to that is carried out at each of the lines of a range that match, or that do not: all that it shows, where it
+-- shows lines so, or one change of the text.
+abbrev pub searching : Option Showing → State → Range → Bool → List ℕ → Command → Meaning
+searching None state range invert pattern nested = changing (global range invert pattern nested state.text state.cursor)
+searching (Some showing) state range invert pattern nested =
+    printing_all (shown_lines showing.numbers state.text) state.cursor (shown_in showing state.text (marked_by range invert pattern state.text state.cursor))
+
 -- a number that is printed: the cursor stays
 abbrev pub counting : ℕ → Result ℕ ExErr → Meaning
 counting cursor (Err error) = Refused error
@@ -101,6 +120,7 @@ meaning_in state (Quit bang) lines = Refused E492
 meaning_in state (Set setting) lines = Refused E492
 meaning_in state WriteUndo lines = Refused E492
 meaning_in state ReadUndo lines = Refused E492
+meaning_in state (Global range invert pattern nested) lines = searching (showing_of (nested_meaning nested)) state range invert pattern (nested_meaning nested)
 
 -- the meaning of a line that was parsed, with its block
 abbrev pub meaning_of : State → Result Command ExErr → List (List ℕ) → Meaning
@@ -111,10 +131,10 @@ meaning_of state (Ok command) lines = meaning_in state command lines
 abbrev pub is_used_up : State → Bool
 is_used_up state = nat_le MAX_NUMBER (last_of state)
 
--- the state after a change, which is made at this time
-abbrev pub changed_state : State → ℕ → effects.Change → State
-changed_state state at change =
-    let text = spliced state.text change in record { text = text; cursor = change.cursor; history = history_pushed text at state.history }
+-- the state after a change, which is kept as this says
+abbrev pub changed_state : State → Keep → effects.Change → State
+changed_state state keep change =
+    let text = spliced state.text change in record { text = text; cursor = change.cursor; history = history_kept text keep state.history }
 
 -- the state after a move to the state of the history with this number
 abbrev pub moved_state : State → ℕ → State
@@ -134,14 +154,23 @@ done_reply state (Moved number) = says (move_line number (length (state.history.
 done_reply state (Stayed error) = refuses (undo_error_text error)
 done_reply state (Printed bytes cursor) = prints bytes
 
--- the state after it, where the command began at this time
-abbrev pub done_state : State → ℕ → Meaning → State
-done_state state at (Refused error) = state
-done_state state at Unchanged = state
-done_state state at (Changed change) = if is_used_up state then state else changed_state state at change
-done_state state at (Moved number) = moved_state state number
-done_state state at (Stayed error) = state
-done_state state at (Printed bytes cursor) = record state { cursor = cursor }
+-- the state after it, where a change is kept as this says
+abbrev pub done_state : State → Keep → Meaning → State
+done_state state keep (Refused error) = state
+done_state state keep Unchanged = state
+done_state state keep (Changed change) = if is_used_up state then state else changed_state state keep change
+done_state state keep (Moved number) = moved_state state number
+done_state state keep (Stayed error) = state
+done_state state keep (Printed bytes cursor) = record state { cursor = cursor }
+
+-- where a change was made, the number that the state which is the oldest one after it had before
+abbrev pub done_oldest : State → Keep → Meaning → Option ℕ
+done_oldest state keep (Changed change) = if is_used_up state then None else Some (unwrap_or (root_kept keep state.history.links) 0)
+done_oldest state keep meaning = None
+
+-- the number of the saved state after it, where there is one
+abbrev pub done_saved : State → Keep → Meaning → Option ℕ → Option ℕ
+done_saved state keep meaning saved = saved_after (done_oldest state keep meaning) (done_state state keep meaning).history.links.nodes saved
 
 -- one step: the reply to a command that ended so, and the state after it
 abbrev pub reply_by : Outcome → State → Meaning → Answer
@@ -150,17 +179,25 @@ reply_by NoMemory state meaning = refuses out_of_memory
 reply_by Fault state meaning = refuses device_fault
 reply_by NoUndo state meaning = done_reply state meaning
 
-abbrev pub state_by : Outcome → State → ℕ → Meaning → State
-state_by Done state at meaning = done_state state at meaning
-state_by NoMemory state at meaning = state
-state_by Fault state at meaning = state
-state_by NoUndo state at meaning = done_state state at meaning
+abbrev pub state_by : Outcome → State → Keep → Meaning → State
+state_by Done state keep meaning = done_state state keep meaning
+state_by NoMemory state keep meaning = state
+state_by Fault state keep meaning = state
+state_by NoUndo state keep meaning = done_state state keep meaning
+
+abbrev pub saved_by : Outcome → State → Keep → Meaning → Option ℕ → Option ℕ
+saved_by Done state keep meaning saved = done_saved state keep meaning saved
+saved_by NoMemory state keep meaning saved = saved
+saved_by Fault state keep meaning saved = saved
+saved_by NoUndo state keep meaning saved = done_saved state keep meaning saved
 
 abbrev pub reply_of : State → Instruction → Mark → Answer
 reply_of state instruction mark = reply_by mark.outcome state (meaning_of state instruction.parsed instruction.block)
 
-abbrev pub state_after : State → Instruction → Mark → State
-state_after state instruction mark = state_by mark.outcome state mark.at (meaning_of state instruction.parsed instruction.block)
+-- A change has the time of its mark, and this many changes are kept.
+abbrev pub state_after : State → Instruction → Mark → ℕ → State
+state_after state instruction mark levels =
+    state_by mark.outcome state (record { time = mark.at; levels = levels }) (meaning_of state instruction.parsed instruction.block)
 
 abbrev pub is_done : Outcome → Bool
 is_done Done = true

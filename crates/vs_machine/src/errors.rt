@@ -21,6 +21,8 @@ pub(crate) fn error_text(error: ExErr) -> &'static [u8]
         ExErr::E474 => b"E474: Invalid argument",
         ExErr::E518 => b"E518: Unknown option",
         ExErr::PatternForm => b"pattern form not supported",
+        ExErr::E147 => b"E147: Cannot do :global recursive",
+        ExErr::NotNested => b"command not allowed in :global",
         ExErr::E493 => b"E493: Backwards range given",
         ExErr::E16 => b"E16: Invalid range",
         ExErr::E134 => b"E134: Cannot move a range of lines into itself",

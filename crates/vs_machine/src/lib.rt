@@ -8,11 +8,14 @@ mod errors;
 mod listing;
 mod moves;
 mod reply;
+mod saved;
+mod searching;
 mod show;
 mod shown;
 
 pub use answering::{Answered, answer};
 pub use command::{Mark, Outcome};
 pub use reply::Reply;
+pub use saved::saved_after;
 pub use vs_excmd::{Block, Request};
-pub use vs_undo::UndoTree;
+pub use vs_undo::{Keep, UndoTree};

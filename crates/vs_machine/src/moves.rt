@@ -1,6 +1,7 @@
 // Moves over the history of a text.
-ghost use Rattle.std.specs.Prelude.{◌≡◌, ◌≤◌, ℕ, Ok, IfErr, IfOk};
+ghost use Rattle.std.specs.Prelude.{◌≡◌, ◌≤◌, Ok, IfErr, IfOk};
 ghost use Rattle.vs_undo.specs.Moves.{IsAtomic, IsReady};
+ghost use Rattle.vs_undo.specs.declared.keep.Keep.{Keep};
 ghost use Rattle.vs_machine.specs.Answers.{AnswersAs, HasGone, IsIn, IsWhy};
 ghost use Rattle.vs_machine.specs.Machine.{State, moving};
 ghost use Rattle.vs_machine.specs.Moves.{HasSteps, earlier_move, goal_of, kept_within, later_move, undo_move};
@@ -111,8 +112,8 @@ pub(crate) fn travel<S: LineStore>(
 ) -> Result<Answered, StoreErr>
     requires ready { IsReady S.LineStore history.old store.old }
     requires steps { HasSteps step }
-    ensures answers { IfOk result (λ answered. (state : State) (at : ℕ) → IsIn S.LineStore store.old history.old cursor state →
-        AnswersAs S.LineStore state at (moving (goal_of step state.history.links)) answered store.new history.new) }
+    ensures answers { IfOk result (λ answered. (state : State) (keep : Keep) → IsIn S.LineStore store.old history.old cursor state →
+        AnswersAs S.LineStore state keep (moving (goal_of step state.history.links)) answered store.new history.new) }
     ensures atomic { IsAtomic S.LineStore history.old history.new store.old store.new StoreErr.Failed result }
 {
     match go(alloc, store, history, step) {
@@ -121,6 +122,7 @@ pub(crate) fn travel<S: LineStore>(
             Ok(Answered {
                 reply: Reply::moved(number, lines),
                 cursor: kept_within(lines, cursor),
+                oldest: None,
             })
         }
         Err(error) => not_made(error, cursor),

@@ -16,6 +16,7 @@ NAME is a file of the current folder. A script has one Ex command on a line:
   a i c        put in the lines that follow, up to a line `.`
   d m co t j   delete, move, copy and join lines
   s/\\V../../g  replace a literal text
+  g/\\V../d     carry a command out at the lines with a text; v at the others
   p nu =       print lines, and their numbers
   u red        undo and redo; ea, lat and undol go through all states
   w set        write the file; set its options
@@ -52,6 +53,9 @@ Commands, one on a line, with the range of lines before them:
   {range}j[oin][!] [n]   joins lines; with ! their blanks stay as they are
   {range}s[ubstitute]/\\V{text}/{replacement}/[g]
                          replaces a literal text, once in a line or each time
+  {range}g[lobal][!]/\\V{text}/{command}
+                         carries d, m, co, t, j, s, p or nu out at each line
+                         with a text; v[global], or !, at each one without it
   u[ndo] [n]             takes the last change back, or goes to state n
   red[o]                 makes a change again that was taken back
   ea[rlier] [n][f]       goes n states back, or n writes; lat[er] as many on
@@ -63,7 +67,7 @@ Commands, one on a line, with the range of lines before them:
   wundo                  stores the history as the undo file
   rundo                  takes the history of the undo file
   se[t] {option}         sets backup, writebackup, undofile, backupcopy=yes, no
-                         or auto
+                         or auto, and undolevels={n}
   q[uit][!]              removes the swap files and ends the run
   \" {text}               a comment
 

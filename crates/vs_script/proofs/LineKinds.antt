@@ -2,7 +2,8 @@
 use Rattle.std.proofs.Common.{◌≡◌, ◌∙◌, ℕ, Bool, true, false, List, [], ◌∷◌, refl, sym, ap, Option, Some, None, Ok, Err, IfOk, IfSome}
 use Rattle.std.specs.declared.result.Result.{Result}
 use Rattle.std.proofs.lemmas.Bool.{true≢false}
-use Rattle.vs_exparse.specs.Command.{Command, HasForm, answer_of, command_of, wants_block}
+use Rattle.vs_exparse.specs.Command.{Command, answer_of, command_of, wants_block}
+use Rattle.vs_exparse.specs.Form.{HasForm}
 use Rattle.vs_exparse.specs.Meaning.{meaning_of}
 use Rattle.vs_exparse.specs.declared.command.Command as borrowed
 use Rattle.vs_exparse.specs.declared.command.ExErr.{ExErr}

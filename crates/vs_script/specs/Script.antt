@@ -1,6 +1,7 @@
 -- The commands of a script. A line that stands in no block is no command, a command by itself, or the head of a block.
 use Rattle.std.specs.Prelude.{ℕ, Bool, true, false, ◌≡◌, ◌==◌, if◌then◌else◌, List, [], ◌∷◌, ◌++◌, Option, Some, None, Result, Ok, Err, ⊤}
-use Rattle.vs_exparse.specs.Command.{Command, HasForm, command_of, wants_block}
+use Rattle.vs_exparse.specs.Command.{Command, command_of, wants_block}
+use Rattle.vs_exparse.specs.Form.{HasForm}
 use Rattle.vs_exparse.specs.Meaning.{meaning_of}
 use Rattle.vs_exparse.specs.declared.command.ExErr.{ExErr}
 use Rattle.vs_excmd.specs.Request.{Instruction}

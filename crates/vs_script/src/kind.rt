@@ -1,6 +1,7 @@
 // What a line of a script is that stands in no block.
 ghost use Rattle.std.specs.Prelude.{◌≡◌, true, false, MatchOption, IfOk};
-ghost use Rattle.vs_exparse.specs.Command.{HasForm, command_of, result_of, wants_block};
+ghost use Rattle.vs_exparse.specs.Command.{command_of, result_of, wants_block};
+ghost use Rattle.vs_exparse.specs.Form.{HasForm};
 ghost use Rattle.vs_script.specs.Script.{HasHeadForm, IsKind, is_alone, is_dot, kind_of};
 ghost use Rattle.vs_script.specs.Script.LineKind.{Alone};
 
@@ -45,7 +46,8 @@ fn head_of(command: &Command) -> Option<Command<'static>>
         | Command::Quit { .. }
         | Command::Set { .. }
         | Command::WriteUndo
-        | Command::ReadUndo => None,
+        | Command::ReadUndo
+        | Command::Global { .. } => None,
     }
 }
 

@@ -1,5 +1,5 @@
 -- The answer to `rundo`.
-use Rattle.std.proofs.Common.{◌≡◌, ℕ, Bool, true, false, cond, ◌&&◌, ◌==◌, not, List, Option, Some, None, Result, Ok, Err, refl, sym, ◌∙◌, ap, subst}
+use Rattle.std.proofs.Common.{◌≡◌, ℕ, Bool, true, false, cond, ◌&&◌, not, List, Option, Some, None, Result, Ok, Err, refl, sym, ◌∙◌, ap, subst}
 use Rattle.std.proofs.lemmas.Bool.{true≢false}
 use Rattle.vs_faults.specs.Faults.{HasCause}
 use Rattle.vs_host.specs.Disk.{Disk, content_in}
@@ -8,26 +8,27 @@ use Rattle.vs_host.specs.World.{Scene, ReadsFolder}
 use Rattle.vs_host.specs.declared.names.Names.{Names}
 use Rattle.vs_disk.specs.Runs.{Looks}
 use Rattle.vs_exparse.specs.Command.Command.{ReadUndo}
+use Rattle.vs_exparse.specs.declared.command.ExErr.TheVariants.{E492}
 use Rattle.vs_excmd.specs.Request.{Instruction}
 use Rattle.vs_undo.specs.History.{History, IsHistory}
 use Rattle.vs_undo.specs.declared.parts.Parts.{Parts}
 use Rattle.vs_options.specs.declared.setting.Options.{Options}
 use Rattle.vs_machine.specs.Machine as machine
 use Rattle.vs_machine.specs.Machine.{State, is_done, took_effect, current_of}
+use Rattle.vs_machine.specs.Machine.Meaning.{Refused}
 use Rattle.vs_machine.specs.Replies.{Answer, says, undo_file_read}
 use Rattle.vs_machine.specs.declared.command.Mark.{Mark}
 use Rattle.vs_machine.specs.declared.command.Outcome.{Outcome}
 use Rattle.vs_machine.specs.declared.command.Outcome.TheVariants.{Done, NoMemory, Fault, NoUndo}
 use Rattle.vs_safety.specs.Texts.{Sync}
-use Rattle.vs_safety.specs.FileWork.{FileWork}
 use Rattle.vs_safety.specs.Safety.{IsUnderWay}
 use Rattle.vs_session.specs.declared.session.Session.{Session}
 use Rattle.vs_session.specs.declared.taking.TakeErr.{TakeErr}
 use Rattle.vs_session.specs.declared.taking.TakeErr.TheVariants as take
 use Rattle.vs_session.specs.Taken.{IsTaken, outcome_by, taken_reply}
-use Rattle.vs_session.specs.Session.{SessionState, Ended, HasFound, accepts_quit, after_sync, answered, begins_after, begins_sync, carried, counted, history_by, history_in, history_taken, is_fault, is_rundo, is_saved, is_write, lacks_name, options_after, quits, reply_of, session_reply, state_after, sync_in, undo_work, with_history, work_of, write_work, written_state}
+use Rattle.vs_session.specs.Session.{SessionState, Ended, HasFound, after_sync, answered, begins_after, begins_sync, carried, history_by, history_in, history_taken, is_fault, is_rundo, is_saved, is_write, lacks_name, options_after, quits, reply_of, session_reply, state_after, sync_in, undo_work, with_history, work_of, write_work, written_state}
 use Rattle.vs_session.specs.Fits.{Answers, Fits, names_of}
-use Rattle.vs_session.proofs.SessionLemmas.{counted_same, current_is, saved_is}
+use Rattle.vs_session.proofs.SessionLemmas.{carried_still, saved_is}
 use Rattle.vs_session.proofs.Steps.{assemble_read, between_synced, no_write, recovers_synced, works_looks}
 
 -- ---- the command
@@ -56,13 +57,9 @@ reply_is : (state : SessionState) (outcome : Outcome) (found : Disk) (read : Res
 reply_is state outcome found read (Ok ReadUndo) is = refl
 reply_is state outcome found read parsed is = absurd (true≢false (sym is))
 
-machine_stays : (m : State) (at : ℕ) (outcome : Outcome) (block : _) (parsed : _) → is_rundo parsed ≡ true → machine.state_by outcome m at (machine.meaning_of m parsed block) ≡ m
-machine_stays m at Done block (Ok ReadUndo) is = refl
-machine_stays m at Done block parsed is = absurd (true≢false (sym is))
-machine_stays m at NoMemory block parsed is = refl
-machine_stays m at Fault block parsed is = refl
-machine_stays m at NoUndo block (Ok ReadUndo) is = refl
-machine_stays m at NoUndo block parsed is = absurd (true≢false (sym is))
+refused : (m : State) (block : _) (parsed : _) → is_rundo parsed ≡ true → machine.meaning_of m parsed block ≡ Refused E492
+refused m block (Ok ReadUndo) is = refl
+refused m block parsed is = absurd (true≢false (sym is))
 
 options_stay : (options : Options) (outcome : Outcome) (parsed : _) → is_rundo parsed ≡ true → options_after outcome options parsed ≡ options
 options_stay options Done (Ok ReadUndo) is = refl
@@ -168,18 +165,10 @@ module _ (state : SessionState) (syncs : List Sync) (instruction : Instruction) 
   none_begun : begins_sync state instruction ≡ false
   none_begun = begins_none state.steps instruction.parsed is
 
-  machine_same : machine.state_after state.machine instruction mark ≡ state.machine
-  machine_same = machine_stays state.machine at outcome instruction.block instruction.parsed is
-
   -- but for the history the state is as before
   same : carried state instruction mark ≡ state
-  same = λ i. record {
-    name = state.name;
-    machine = machine_same i;
-    saved = state.saved;
-    steps = (ap (λ (m : State). counted state.steps (current_of m == current_of state.machine)) machine_same ∙ counted_same state.steps (current_of state.machine)) i;
-    options = options_stay state.options outcome instruction.parsed is i;
-  }
+  same = carried_still state instruction mark E492 (refused state.machine instruction.block instruction.parsed is)
+      ∙ ap (λ (o : Options). record state { options = o }) (options_stay state.options outcome instruction.parsed is)
 
   history_is : history_taken instruction ended ≡ history_in read
   history_is = (λ i. cond (is_done (outcome_is i)) (taken_by read instruction.parsed is i) None) ∙ history_there read

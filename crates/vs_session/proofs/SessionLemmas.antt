@@ -1,28 +1,34 @@
 -- What a sync, and a command, make of a session that fits.
-use Rattle.std.proofs.Common.{◌≡◌, ◌<◌, ℕ, Bool, true, false, ◌==◌, not, List, length, ◌∷◌, Option, Some, None, Result, Ok, refl, sym, ◌∙◌, ap, subst, arith}
+use Rattle.std.proofs.Common.{◌≡◌, ◌≤◌, ℕ, Bool, true, ◌==◌, not, List, ◌∷◌, Option, Some, None, Result, Ok, refl, sym, ◌∙◌, ap, subst, arith}
 use Rattle.std.specs.Prelude.{string_bytes}
 use Rattle.std.proofs.lemmas.Bool.Decides.{nat_tests}
 use Rattle.vs_host.specs.Disk.{Disk}
 use Rattle.vs_exparse.specs.Command.{Command}
+use Rattle.vs_exparse.specs.Form.{HasSettingForm}
 use Rattle.vs_exparse.specs.declared.command.ExErr.{ExErr}
+use Rattle.vs_exparse.specs.declared.command.ExErr.TheVariants.{E492}
 use Rattle.vs_exparse.specs.Command.Command.{Preserve, Quit, Set}
 use Rattle.vs_exparse.specs.declared.command.Setting.{Setting}
 use Rattle.vs_exparse.specs.declared.command.Setting.TheVariants as setting
-use Rattle.vs_options.specs.Options.{full_text}
+use Rattle.vs_options.specs.Options.{options_with}
 use Rattle.vs_options.specs.declared.setting.Options.{Options}
 use Rattle.vs_excmd.specs.Request.{Instruction}
 use Rattle.vs_undo.specs.History.{IsHistory}
+use Rattle.vs_undo.specs.declared.keep.Keep.{Keep}
 use Rattle.vs_undo.specs.declared.parts.Parts.{Parts}
 use Rattle.vs_machine.specs.Machine as machine
-use Rattle.vs_machine.specs.Machine.{State, current_of}
+use Rattle.vs_machine.specs.Machine.{State, Meaning, current_of}
+use Rattle.vs_machine.specs.Machine.Meaning.{Refused}
+use Rattle.vs_machine.specs.Saved.{saved_after}
 use Rattle.vs_machine.specs.Replies.{Answer}
+use Rattle.vs_machine.specs.declared.command.Mark.{Mark}
 use Rattle.vs_machine.specs.declared.command.Outcome.{Outcome}
 use Rattle.vs_machine.specs.declared.command.Outcome.TheVariants.{Done, NoMemory, Fault, NoUndo}
 use Rattle.vs_safety.specs.Texts.{Sync}
 use Rattle.vs_paged.specs.Fits as folder
 use Rattle.vs_paged.specs.declared.paged.PagedText.{PagedText}
 use Rattle.vs_session.specs.declared.session.Session.{Session}
-use Rattle.vs_session.specs.Session.{SessionState, accepts_quit, answered, begins_after, begins_sync, carried, counted, is_saved, options_set, own_reply, quits, sync_in}
+use Rattle.vs_session.specs.Session.{SessionState, accepts_quit, answered, begins_after, begins_sync, carried, counted, is_saved, keep_of, options_after, options_set, own_reply, quits, sync_in}
 use Rattle.vs_session.specs.Standing.{FitsState}
 use Rattle.vs_session.specs.Fits.{Fits}
 
@@ -70,28 +76,51 @@ counted_is old undo was state after syncs k n fits history before now =
     ∙ ap (λ (m : ℕ). counted state.steps (m == k)) (now ∙ current_is undo after history)
     ∙ ap (λ (m : ℕ). counted state.steps (current_of after == m)) (before ∙ current_is old.history state.machine fits.stands.history)
 
--- a command that the session answers itself leaves the machine's state
-pub own_stays : (state : SessionState) (instruction : Instruction) (reply : _) (at : ℕ) → own_reply instruction.parsed ≡ Some reply → machine.state_after state.machine instruction (record { outcome = Done; at = at }) ≡ state.machine
-own_stays state instruction reply at is = stays instruction.parsed is
+refused_state : (outcome : Outcome) (m : State) (keep : Keep) (error : ExErr) → machine.state_by outcome m keep (Refused error) ≡ m
+refused_state Done m keep error = refl
+refused_state NoMemory m keep error = refl
+refused_state Fault m keep error = refl
+refused_state NoUndo m keep error = refl
+
+refused_saved : (outcome : Outcome) (m : State) (keep : Keep) (error : ExErr) (saved : Option ℕ) → machine.saved_by outcome m keep (Refused error) saved ≡ saved
+refused_saved Done m keep error saved = refl
+refused_saved NoMemory m keep error saved = refl
+refused_saved Fault m keep error saved = refl
+refused_saved NoUndo m keep error saved = refl
+
+-- a command that the machine refuses leaves the state, but for the options
+pub carried_still : (state : SessionState) (instruction : Instruction) (mark : Mark) (error : ExErr) → machine.meaning_of state.machine instruction.parsed instruction.block ≡ Refused error
+    → carried state instruction mark ≡ record state { options = options_after mark.outcome state.options instruction.parsed }
+carried_still state instruction mark error is = λ i. record {
+  name = state.name;
+  machine = stays i;
+  saved = (ap (λ (meaning : Meaning). machine.saved_by mark.outcome state.machine (keep_of state mark) meaning state.saved) is ∙ refused_saved mark.outcome state.machine (keep_of state mark) error state.saved) i;
+  steps = (ap (λ (m : State). counted state.steps (current_of m == current_of state.machine)) stays ∙ counted_same state.steps (current_of state.machine)) i;
+  options = options_after mark.outcome state.options instruction.parsed;
+}
   where
-    stays : (parsed : _) → own_reply parsed ≡ Some reply → machine.done_state state.machine at (machine.meaning_of state.machine parsed instruction.block) ≡ state.machine
-    stays (Ok Preserve) e = refl
-    stays (Ok (Quit bang)) e = refl
-    stays (Ok (Set setting)) e = refl
-    stays parsed e = absurd (cc)
+    stays : machine.state_after state.machine instruction mark state.options.undo_levels ≡ state.machine
+    stays = ap (λ (meaning : Meaning). machine.state_by mark.outcome state.machine (keep_of state mark) meaning) is ∙ refused_state mark.outcome state.machine (keep_of state mark) error
+
+-- the machine refuses a command that the session answers itself
+own_refused : (m : State) (block : List (List ℕ)) (parsed : Result Command ExErr) (reply : Answer) → own_reply parsed ≡ Some reply → machine.meaning_of m parsed block ≡ Refused E492
+own_refused m block (Ok Preserve) reply e = refl
+own_refused m block (Ok (Quit bang)) reply e = refl
+own_refused m block (Ok (Set setting)) reply e = refl
+own_refused m block parsed reply e = absurd (cc)
 
 pub own_carried : (session : Session) (options : Options) (parsed : Result Command ExErr) (disk : Disk) (state : SessionState) (syncs : List Sync) (instruction : Instruction) (reply : _) (at : ℕ) → parsed ≡ instruction.parsed
-    → own_reply parsed ≡ Some reply → options ≡ options_set session.options parsed → Fits session disk state syncs
-    → Fits (record session { options = options }) disk (carried state instruction (record { outcome = Done; at = at })) syncs
-own_carried session options parsed disk state syncs instruction reply at is own set fits =
-    subst (λ (m : State). Fits (record session { options = options }) disk (record { name = state.name; machine = m; saved = state.saved; steps = counted state.steps (current_of m == current_of state.machine); options = options_set state.options instruction.parsed }) syncs)
-    (sym (own_stays state instruction reply at (sym (ap own_reply is) ∙ own)))
+    → own_reply parsed ≡ Some reply → options ≡ options_set session.options parsed → (some : 1 ≤ options.undo_levels) → Fits session disk state syncs
+    → Fits (record session { options = options; some_levels = some }) disk (carried state instruction (record { outcome = Done; at = at })) syncs
+own_carried session options parsed disk state syncs instruction reply at is own set some fits =
+    subst (λ (s : SessionState). Fits (record session { options = options; some_levels = some }) disk s syncs)
+    (sym (carried_still state instruction (record { outcome = Done; at = at }) E492 (own_refused state.machine instruction.block instruction.parsed reply (sym (ap own_reply is) ∙ own))))
     (record {
       stands = fits.stands;
       name = fits.name;
       cursor = fits.cursor;
       saved = fits.saved;
-      steps = fits.steps ∙ sym (counted_same state.steps (current_of state.machine));
+      steps = fits.steps;
       options = set ∙ ap (λ p. options_set session.options p) is ∙ ap (λ (o : Options). options_set o instruction.parsed) fits.options;
       acknowledged = fits.acknowledged;
     })
@@ -101,17 +130,35 @@ pub options_stay : (options : Options) (parsed : Result Command ExErr) → own_r
 options_stay options (Ok (Set setting)) none = absurd (cc)
 options_stay options parsed none = refl
 
--- a setting in full is short
-pub short_text : (setting : Setting) → length (full_text setting) < 320
-short_text (setting.Backup true) = omega arith
-short_text (setting.Backup false) = omega arith
-short_text (setting.WriteBackup true) = omega arith
-short_text (setting.WriteBackup false) = omega arith
-short_text (setting.UndoFile true) = omega arith
-short_text (setting.UndoFile false) = omega arith
-short_text setting.CopyYes = omega arith
-short_text setting.CopyNo = omega arith
-short_text setting.CopyAuto = omega arith
+-- some changes are kept after each setting
+pub some_levels : (options : Options) (setting : Setting) → HasSettingForm setting → 1 ≤ options.undo_levels → 1 ≤ (options_with options setting).undo_levels
+some_levels options (setting.Backup on) form some = some
+some_levels options (setting.WriteBackup on) form some = some
+some_levels options setting.CopyYes form some = some
+some_levels options setting.CopyNo form some = some
+some_levels options setting.CopyAuto form some = some
+some_levels options (setting.UndoFile on) form some = some
+some_levels options (setting.UndoLevels levels) form some = form.0
+
+-- ---- a command that the machine answers
+
+-- what the session keeps of it, where its option is that of the state
+pub kept_alike : (session : Session) (disk : Disk) (state : SessionState) (syncs : List Sync) (mark : Mark) (levels : ℕ) → Fits session disk state syncs → levels ≡ session.options.undo_levels
+    → record { time = mark.at; levels = levels } ≡ keep_of state mark
+kept_alike session disk state syncs mark levels fits is = ap (λ (n : ℕ). record { time = mark.at; levels = n }) is ∙ ap (λ (o : Options). record { time = mark.at; levels = o.undo_levels }) fits.options
+
+pub stands_kept : {a b : Keep} → a ≡ b → (text : PagedText) (undo : Parts) (disk : Disk) (state : State) (syncs : List Sync) (meaning : Meaning) (cursor : ℕ)
+    → FitsState text undo disk (machine.done_state state a meaning) syncs × (cursor ≡ (machine.done_state state a meaning).cursor)
+    → FitsState text undo disk (machine.done_state state b meaning) syncs × (cursor ≡ (machine.done_state state b meaning).cursor)
+stands_kept same text undo disk state syncs meaning cursor stands =
+    subst (λ (k : Keep). FitsState text undo disk (machine.done_state state k meaning) syncs × (cursor ≡ (machine.done_state state k meaning).cursor)) same stands
+
+-- the saved state after it, by the number that the oldest state had before
+pub saved_is_left : {a b : Keep} → a ≡ b → (state : State) (meaning : Meaning) (oldest was saved now : Option ℕ) → oldest ≡ machine.done_oldest state a meaning → was ≡ saved
+    → now ≡ saved_after oldest (machine.done_state state b meaning).history.links.nodes was → now ≡ machine.done_saved state b meaning saved
+saved_is_left {a} {b} same state meaning oldest was saved now by is left =
+    left ∙ ap (λ (o : Option ℕ). saved_after o (machine.done_state state b meaning).history.links.nodes was) (by ∙ ap (λ (k : Keep). machine.done_oldest state k meaning) same)
+    ∙ ap (λ (o : Option ℕ). saved_after (machine.done_oldest state b meaning) (machine.done_state state b meaning).history.links.nodes o) is
 
 -- ---- what a command is
 

@@ -1,5 +1,5 @@
 -- The answer to `wundo`, and the calls that store an undo file.
-use Rattle.std.proofs.Common.{◌≡◌, ◌⊎◌, inl, inr, ℕ, Bool, true, false, cond, ◌&&◌, ◌==◌, not, List, [], ◌++◌, Option, Some, None, Result, Ok, Err, refl, sym, ◌∙◌, ap, subst}
+use Rattle.std.proofs.Common.{◌≡◌, ◌⊎◌, inl, inr, ℕ, Bool, true, false, cond, ◌&&◌, not, List, [], ◌++◌, Option, Some, None, Result, Ok, Err, refl, sym, ◌∙◌, ap, subst}
 use Rattle.std.specs.Prelude.{IsSomeAnd, OnOk}
 use Rattle.std.proofs.lemmas.Bool.{true≢false}
 use Rattle.std.proofs.lemmas.List.{append-nil}
@@ -17,6 +17,7 @@ use Rattle.vs_pair.specs.declared.side.Side.TheVariants.{Swp, Swo}
 use Rattle.vs_pair.specs.Pair.{name_of}
 use Rattle.vs_pair.proofs.FitLemmas.{at_side}
 use Rattle.vs_exparse.specs.Command.Command.{WriteUndo}
+use Rattle.vs_exparse.specs.declared.command.ExErr.TheVariants.{E492}
 use Rattle.vs_excmd.specs.Request.{Instruction}
 use Rattle.vs_backup.specs.Works.{Spares as SparesNames, IsOutside, two_names}
 use Rattle.vs_backup.proofs.Frames.{spares_none}
@@ -29,7 +30,8 @@ use Rattle.vs_ufile.specs.Writing.{IsWritten}
 use Rattle.vs_ubind.specs.Bound.{IsDataOf}
 use Rattle.vs_options.specs.declared.setting.Options.{Options}
 use Rattle.vs_machine.specs.Machine as machine
-use Rattle.vs_machine.specs.Machine.{State, took_effect, current_of}
+use Rattle.vs_machine.specs.Machine.{State, took_effect}
+use Rattle.vs_machine.specs.Machine.Meaning.{Refused}
 use Rattle.vs_machine.specs.Replies.{Answer, says, undo_file_written}
 use Rattle.vs_machine.specs.declared.command.Mark.{Mark}
 use Rattle.vs_machine.specs.declared.command.Outcome.{Outcome}
@@ -38,14 +40,13 @@ use Rattle.vs_safety.specs.Texts.{Sync, Text, Recovers, recoverable}
 use Rattle.vs_safety.specs.Undo.{HasUndo, IsUndoOf, UndoWrite}
 use Rattle.vs_safety.specs.FileWork.{UndoFile}
 use Rattle.vs_safety.specs.Safety.{IsUnderWay, Spares, Works}
-use Rattle.vs_paged.specs.Fits as folder
 use Rattle.vs_paged.proofs.SyncLemmas.{fits_kept, fits_recovers}
 use Rattle.vs_desk.proofs.Left.{goes_both}
 use Rattle.vs_session.specs.declared.session.Session.{Session}
-use Rattle.vs_session.specs.Session.{SessionState, Ended, accepts_quit, after_sync, answered, begins_after, begins_sync, carried, counted, is_fault, is_rundo, is_write, is_wundo, lacks_name, options_after, quits, reply_of, session_reply, state_after, sync_in, undo_in, undo_work, with_history, work_of, write_work, written_state}
+use Rattle.vs_session.specs.Session.{SessionState, Ended, accepts_quit, after_sync, answered, begins_after, begins_sync, carried, is_fault, is_rundo, is_write, is_wundo, lacks_name, options_after, quits, reply_of, session_reply, state_after, sync_in, undo_in, undo_work, with_history, work_of, write_work, written_state}
 use Rattle.vs_session.specs.Stores.{StoresUndo}
 use Rattle.vs_session.specs.Fits.{Answers, Fits, names_of}
-use Rattle.vs_session.proofs.SessionLemmas.{counted_same}
+use Rattle.vs_session.proofs.SessionLemmas.{carried_still}
 use Rattle.vs_session.proofs.UndoNames.{new_name, undo_apart}
 use Rattle.vs_session.proofs.Steps.{assemble, between_synced, no_history, unread, works_runs}
 
@@ -185,13 +186,9 @@ reply_is : (state : SessionState) (outcome : Outcome) (found : Disk) (parsed : _
 reply_is state outcome found (Ok WriteUndo) is = refl
 reply_is state outcome found parsed is = absurd (true≢false (sym is))
 
-machine_stays : (m : State) (at : ℕ) (outcome : Outcome) (block : _) (parsed : _) → is_wundo parsed ≡ true → machine.state_by outcome m at (machine.meaning_of m parsed block) ≡ m
-machine_stays m at Done block (Ok WriteUndo) is = refl
-machine_stays m at Done block parsed is = absurd (true≢false (sym is))
-machine_stays m at NoMemory block parsed is = refl
-machine_stays m at Fault block parsed is = refl
-machine_stays m at NoUndo block (Ok WriteUndo) is = refl
-machine_stays m at NoUndo block parsed is = absurd (true≢false (sym is))
+refused : (m : State) (block : _) (parsed : _) → is_wundo parsed ≡ true → machine.meaning_of m parsed block ≡ Refused E492
+refused m block (Ok WriteUndo) is = refl
+refused m block parsed is = absurd (true≢false (sym is))
 
 options_stay : (options : Options) (outcome : Outcome) (parsed : _) → is_wundo parsed ≡ true → options_after outcome options parsed ≡ options
 options_stay options Done (Ok WriteUndo) is = refl
@@ -230,19 +227,13 @@ module _ (state : SessionState) (syncs : List Sync) (instruction : Instruction) 
   -- the state is as before
   stays : Fits after new.folder (carried state instruction mark) syncs
   stays =
-      subst (λ (m : State). Fits after new.folder (record {
-        name = state.name;
-        machine = m;
-        saved = state.saved;
-        steps = counted state.steps (current_of m == current_of state.machine);
-        options = options_after outcome state.options instruction.parsed;
-      }) syncs) (sym (machine_stays state.machine at outcome instruction.block instruction.parsed is))
+      subst (λ (s : SessionState). Fits after new.folder s syncs) (sym (carried_still state instruction mark E492 (refused state.machine instruction.block instruction.parsed is)))
       (record {
         stands = left.stands;
         name = left.name;
         cursor = left.cursor;
         saved = left.saved;
-        steps = left.steps ∙ sym (counted_same state.steps (current_of state.machine));
+        steps = left.steps;
         options = left.options ∙ sym (options_stay state.options outcome instruction.parsed is);
         acknowledged = left.acknowledged;
       })

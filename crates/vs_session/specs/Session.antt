@@ -6,12 +6,11 @@ use Rattle.vs_text.specs.Text.{file_of}
 use Rattle.vs_exparse.specs.Command.{Command}
 use Rattle.vs_exparse.specs.Command.Command.{Undo, Redo, Earlier, Later, Write, Preserve, Quit, Set, WriteUndo, ReadUndo}
 use Rattle.vs_exparse.specs.declared.command.ExErr.{ExErr}
-use Rattle.vs_exparse.specs.declared.command.Setting.{Setting}
 use Rattle.vs_backup.specs.declared.options.WriteOptions.{WriteOptions}
 use Rattle.vs_backup.specs.Backups.{backup_of}
 use Rattle.vs_options.specs.Options.{first_options, full_text, options_with}
 use Rattle.vs_options.specs.declared.setting.Options.{Options}
-use Rattle.vs_excmd.specs.Meaning.{changes_text}
+use Rattle.vs_excmd.specs.Meaning.{is_text_command}
 use Rattle.vs_excmd.specs.Request.{Instruction}
 use Rattle.vs_machine.specs.declared.command.Mark.{Mark}
 use Rattle.vs_machine.specs.declared.command.Outcome.{Outcome}
@@ -20,6 +19,7 @@ use Rattle.vs_machine.specs.Machine as machine
 use Rattle.vs_machine.specs.Machine.{State, first_state, current_of, is_done, took_effect}
 use Rattle.vs_machine.specs.Replies.{Answer, says, refuses, file_preserved, no_write, no_backup_name, undo_file_written, unstored_line, written_line}
 use Rattle.vs_undo.specs.History.{History, history_marked}
+use Rattle.vs_undo.specs.declared.keep.Keep.{Keep}
 use Rattle.vs_safety.specs.Texts.{Text, Sync}
 use Rattle.vs_safety.specs.Writes as writes
 use Rattle.vs_safety.specs.Undo.{UndoWrite}
@@ -81,7 +81,7 @@ abbrev pub begins_after : ℕ → Result Command ExErr → Bool
 begins_after steps (Err error) = false
 begins_after steps (Ok Preserve) = true
 begins_after steps (Ok (Write bang)) = true
-begins_after steps (Ok command) = nat_le steps_between_syncs steps && (changes_text command || is_move command)
+begins_after steps (Ok command) = nat_le steps_between_syncs steps && (is_text_command command || is_move command)
 
 abbrev pub begins_sync : SessionState → Instruction → Bool
 begins_sync state instruction = begins_after state.steps instruction.parsed
@@ -258,14 +258,23 @@ options_after NoMemory options parsed = options
 options_after Fault options parsed = options
 options_after NoUndo options parsed = options_set options parsed
 
+-- how a change is kept that a command with this mark makes: it has the time of its mark, and as many changes are kept as the option says
+abbrev pub keep_of : SessionState → Mark → Keep
+keep_of state mark = record { time = mark.at; levels = state.options.undo_levels }
+
+-- the number of the saved state after a command that the machine carried out, or did not
+abbrev pub saved_left : SessionState → Instruction → Mark → Option ℕ
+saved_left state instruction mark =
+    machine.saved_by mark.outcome state.machine (keep_of state mark) (machine.meaning_of state.machine instruction.parsed instruction.block) state.saved
+
 -- the state after a command was carried out, or was not, as its mark says
 abbrev pub carried : SessionState → Instruction → Mark → SessionState
 carried state instruction mark =
-    let after = machine.state_after state.machine instruction mark in
+    let after = machine.state_after state.machine instruction mark state.options.undo_levels in
     record {
       name = state.name;
       machine = after;
-      saved = state.saved;
+      saved = saved_left state instruction mark;
       steps = counted state.steps (current_of after == current_of state.machine);
       options = options_after mark.outcome state.options instruction.parsed;
     }

@@ -31,6 +31,7 @@ pub struct Session {
     ghost named: { names_of text ≡ names_of_file (string_bytes name) },
     ghost few_steps: { steps ≤ 200 },
     ghost few_syncs: { acknowledged < text.pair.files.generation },
+    ghost some_levels: { 1 ≤ options.undo_levels },
 }
 
 // A value with much in it is dropped by a call: a derived drop would stand, field by field, at each end of each function that holds one.

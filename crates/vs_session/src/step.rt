@@ -19,10 +19,10 @@ use crate::session::STEPS_BETWEEN_SYNCS;
 use crate::{Session, Step};
 use std::alloc::Global;
 use vs_edit::StoreErr;
-use vs_excmd::{Request, changes_text};
+use vs_excmd::{Request, is_text_command};
 use vs_exparse::Command;
 use vs_host::{Failed, Folder, Host};
-use vs_machine::{Answered, Mark, Outcome, Reply};
+use vs_machine::{Answered, Keep, Mark, Outcome, Reply, saved_after};
 use vs_options::{Options, full_text, set};
 
 // Whether a command moves to another state of the history.
@@ -75,14 +75,17 @@ fn own_reply(request: &Request) -> Option<Reply>
     match &request.parsed {
         Ok(Command::Preserve) => Some(Reply::preserved()),
         Ok(Command::Quit { .. }) => Some(Reply::no_write()),
-        Ok(Command::Set { setting }) => Some(Reply::says(full_text(*setting))),
+        Ok(Command::Set { setting }) => Some(Reply::says(full_text(*setting).as_slice())),
         _ => None,
     }
 }
 
 // The options after a command that was carried out.
 fn options_set(options: &Options, request: &Request) -> Options
-    ensures { result ≡ options_set options.now (result_of request.now.parsed) }
+    requires form { IsFormed request.now }
+    requires some { 1 ≤ options.now.undo_levels }
+    ensures set { result ≡ options_set options.now (result_of request.now.parsed) }
+    ensures some { 1 ≤ result.undo_levels }
 {
     match &request.parsed {
         Ok(Command::Set { setting }) => set(options, *setting),
@@ -113,12 +116,13 @@ impl Session {
 
     // Whether the command begins a sync before all else.
     fn begins_sync(&self, request: &Request) -> bool
+        requires { IsFormed request.now }
         ensures { result ≡ begins_after self.now.steps (result_of request.now.parsed) }
     {
         match &request.parsed {
             Ok(Command::Preserve | Command::Write { .. }) => true,
             Ok(command) => {
-                self.steps >= STEPS_BETWEEN_SYNCS && (changes_text(command) || is_move(command))
+                self.steps >= STEPS_BETWEEN_SYNCS && (is_text_command(command) || is_move(command))
             }
             Err(_) => false,
         }
@@ -167,6 +171,7 @@ impl Session {
     {
         let before = self.history.current();
         let cursor = self.cursor;
+        let levels = u64::from(self.options.undo_levels);
         match answer_text(
             alloc,
             &mut self.text,
@@ -174,10 +179,17 @@ impl Session {
             &mut self.history,
             cursor,
             request,
-            at,
+            Keep { time: at, levels },
         ) {
-            Ok(Answered { reply, cursor }) => {
+            Ok(
+                Answered {
+                    reply,
+                    cursor,
+                    oldest,
+                },
+            ) => {
                 self.cursor = cursor;
+                self.saved = saved_after(&self.history, oldest, self.saved);
                 self.steps = counted(self.steps, self.history.current() == before);
                 (Outcome::Done, reply)
             }

@@ -1,4 +1,5 @@
 // Lines of `:set`, what they answer, and the options after them.
+use arrayvec::ArrayVec;
 use std::process::Abort;
 use std::test::Fail;
 use vs_backup::{CopyMode, WriteOptions};
@@ -6,7 +7,7 @@ use vs_exparse::{Command, ExErr, Parsed, parse};
 use vs_options::{Options, first_options, full_text, set};
 
 // What a line answers. It changes the options unless it is refused.
-fn answer(options: &mut Options, line: &[u8]) -> Result<&'static [u8], ExErr> {
+fn answer(options: &mut Options, line: &[u8]) -> Result<ArrayVec<u8, 32>, ExErr> {
     match parse(line)? {
         Parsed::Command(Command::Set { setting }) => {
             *options = set(options, setting);
@@ -21,7 +22,12 @@ macro_rules! answers {
     ($rt:ident, $options:ident; $($line:literal => $answer:expr,)+) => {
         let rows: &[(&[u8], Result<&'static [u8], ExErr>)] = &[$(($line, $answer)),+];
         for (line, expected) in rows {
-            assert_eq!($rt; answer(&mut $options, line), *expected, "of {line:?}");
+            let answered = answer(&mut $options, line);
+            let text = match &answered {
+                Ok(text) => Ok(text.as_slice()),
+                Err(error) => Err(*error),
+            };
+            assert_eq!($rt; text, *expected, "of {line:?}");
         }
     };
 }
@@ -34,6 +40,7 @@ fn options_are_set_and_told_in_full(rt: HostRuntime) -> Result<(), Fail> {
         b"set nowb" => Ok(b"nowritebackup"),
         b"set bkc=yes" => Ok(b"backupcopy=yes"),
         b"set udf" => Ok(b"undofile"),
+        b"set ul=002" => Ok(b"undolevels=2"),
         b"set bkc=maybe" => Err(ExErr::E474),
         b"set tw=3" => Err(ExErr::E518),
     }
@@ -44,6 +51,7 @@ fn options_are_set_and_told_in_full(rt: HostRuntime) -> Result<(), Fail> {
             copy: CopyMode::Yes,
         },
         undofile: true,
+        undo_levels: 2,
     };
     assert!(rt; options == kept);
     Ok(())
@@ -68,6 +76,8 @@ fn each_name_sets_its_option(rt: HostRuntime) -> Result<(), Fail> {
         b"set undofile" => Ok(b"undofile"),
         b"set noundofile" => Ok(b"noundofile"),
         b"set backupcopy=auto" => Ok(b"backupcopy=auto"),
+        b"set undolevels=1000000" => Ok(b"undolevels=1000000"),
+        b"set ul=1000" => Ok(b"undolevels=1000"),
     }
     assert!(rt; options == first_options());
     Ok(())

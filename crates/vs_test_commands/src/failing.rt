@@ -1,38 +1,27 @@
 // A move over five changes by a command, over a store each call of which fails in turn.
 ghost use Rattle.std.specs.Prelude.{◌≡◌, IfOk, not};
-ghost use Rattle.vs_exparse.specs.Command.{HasForm, command_of, wants_block};
+ghost use Rattle.vs_exparse.specs.Command.{command_of, wants_block};
+ghost use Rattle.vs_exparse.specs.Form.{HasForm};
 ghost use Rattle.vs_excmd.specs.Request.{is_absent};
 ghost use Rattle.vs_undo.specs.Moves.{IsReady};
 
+use crate::editor::{Editor, ask, open};
 use std::alloc::{AllocError, Global};
 use std::process::Abort;
 use std::test::Fail;
 use vs_edit::failing::FailingStore;
 use vs_edit::{LineStore, StoreErr, VecStore, text_of};
 use vs_exparse::{Address, Base, Command, Range};
-use vs_machine::{Answered, Block, Reply, Request, UndoTree, answer};
+use vs_machine::{Block, Reply, Request};
 use vs_text::{Line, write_text};
-
-#[derive(Drop)]
-struct Editor<S> {
-    tree: UndoTree,
-    text: S,
-    cursor: u64,
-}
 
 fn start(alloc: Global) -> Result<Editor<FailingStore<VecStore>>, AllocError>
     ensures { IfOk result (λ editor. IsReady ⟦<FailingStore<VecStore> as LineStore>⟧ editor.tree editor.text) }
 {
-    let text = FailingStore::new(VecStore::new(alloc)?, 0);
-    let tree = UndoTree::new(alloc)?;
-    Ok(Editor {
-        tree,
-        text,
-        cursor: 0,
-    })
+    open(alloc, FailingStore::new(VecStore::new(alloc)?, 0))
 }
 
-fn ask<S: LineStore>(
+fn does<S: LineStore>(
     alloc: Global,
     editor: &mut Editor<S>,
     command: Command,
@@ -43,15 +32,11 @@ fn ask<S: LineStore>(
     requires block { is_absent block ≡ not (wants_block (command_of command)) }
     ensures { IsReady S.LineStore editor.new.tree editor.new.text }
 {
-    let tree = &mut editor.tree;
-    let text = &mut editor.text;
     let request = Request {
         parsed: Ok(command),
         block,
     };
-    let Answered { reply, cursor } = answer(alloc, text, tree, editor.cursor, &request, 7)?;
-    editor.cursor = cursor;
-    Ok(reply)
+    ask(alloc, editor, &request, 1000)
 }
 
 fn goes_to<S: LineStore>(
@@ -65,7 +50,7 @@ fn goes_to<S: LineStore>(
     let command = Command::Undo {
         number: Some(number),
     };
-    ask(alloc, editor, command, Block::Absent)
+    does(alloc, editor, command, Block::Absent)
 }
 
 // Six changes on one another, each of which adds a line, and a move to the first.
@@ -77,7 +62,7 @@ fn grow<S: LineStore>(rt: &impl Abort, alloc: Global, editor: &mut Editor<S>) ->
     let insert = Command::Insert {
         range: Range::Absent,
     };
-    ask(alloc, editor, insert, Block::Lines(lines))?;
+    does(alloc, editor, insert, Block::Lines(lines))?;
     'copies: for _ in 0..5 {
         let to = Address {
             base: Base::Last,
@@ -87,7 +72,7 @@ fn grow<S: LineStore>(rt: &impl Abort, alloc: Global, editor: &mut Editor<S>) ->
             range: Range::Absent,
             to,
         };
-        ask(alloc, editor, copy, Block::Absent)?;
+        does(alloc, editor, copy, Block::Absent)?;
     }
     let reply = goes_to(alloc, editor, 1)?;
     assert!(rt; reply.bytes() == b"at 1, 1 lines\n".as_slice());

@@ -1,14 +1,21 @@
-//! Tests of command lines and scripts, of where commands work and of what they do to a text, and of the machine over a store that fails.
+//! Tests of command lines and scripts, of where commands work and of what they do to a text, and of the
+//! machine.
 #![tactic(auto)]
 
 #[cfg(test)]
 mod commands;
 #[cfg(test)]
+mod editor;
+#[cfg(test)]
 mod failing;
+#[cfg(test)]
+mod globals;
 #[cfg(test)]
 mod hostile;
 #[cfg(test)]
 mod limits;
+#[cfg(test)]
+mod machine;
 #[cfg(test)]
 mod parsing;
 #[cfg(test)]

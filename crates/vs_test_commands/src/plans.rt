@@ -1,6 +1,7 @@
 // A command that is parsed, planned and carried out.
 ghost use Rattle.std.specs.Prelude.{◌≡◌, IfOk, IsTrue, not};
-ghost use Rattle.vs_exparse.specs.Command.{HasForm, command_of, wants_block};
+ghost use Rattle.vs_exparse.specs.Command.{command_of, wants_block};
+ghost use Rattle.vs_exparse.specs.Form.{HasForm};
 ghost use Rattle.vs_excmd.specs.Meaning.{changes_text};
 ghost use Rattle.vs_excmd.specs.Request.{is_absent};
 
@@ -15,7 +16,7 @@ use vs_text::{Line, TextErr, read_text};
 pub(crate) type Outcome = Result<Option<u64>, ExErr>;
 
 /// The block of a command: the lines of these bytes, where it takes one.
-fn block_of(alloc: Global, command: &Command, bytes: &[u8]) -> Result<Block, TextErr>
+pub(crate) fn block_of(alloc: Global, command: &Command, bytes: &[u8]) -> Result<Block, TextErr>
     ensures { IfOk result (λ block. is_absent block ≡ not (wants_block (command_of command.now))) }
 {
     if !command.wants_block() {

@@ -13,7 +13,7 @@ use vs_edit::{LineStore, VecStore, allows_splice};
 use vs_text::read_text;
 use vs_ubind::unbind;
 use vs_ufile::{FileHistory, encode};
-use vs_undo::change;
+use vs_undo::{Keep, change};
 
 // Puts a line after the last one, at a time.
 fn append<S: LineStore>(
@@ -37,7 +37,10 @@ fn append<S: LineStore>(
         top,
         0,
         new.lines(),
-        time,
+        Keep {
+            time,
+            levels: u64::MAX,
+        },
     );
     changed.ok().ok_or("there is memory for the change")?;
     Ok(())

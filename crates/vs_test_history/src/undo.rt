@@ -4,13 +4,14 @@ ghost use Rattle.vs_undo.specs.Moves.{IsReady};
 
 mod failing;
 mod generated;
+mod plain;
 mod rows;
 
 use std::alloc::{AllocError, Global};
 use std::test::Fail;
 use vs_edit::{LineStore, StoreErr, allows_splice, text_of};
 use vs_text::{Line, from_stored, write_text};
-use vs_undo::{UndoErr, UndoTree, change};
+use vs_undo::{Keep, UndoErr, UndoTree, change};
 
 // One call on a tree and its text.
 #[derive(Clone, Copy, Debug)]
@@ -25,13 +26,16 @@ enum Step {
     EarlierWrites(u64),
     LaterWrites(u64),
     Write,
+    // From the next change on, so many changes are kept.
+    Levels(u64),
 }
 
-/// A tree over its text.
+/// A tree over its text, and how many changes are kept.
 #[derive(Drop)]
 pub struct Editor<S> {
     pub tree: UndoTree,
     pub text: S,
+    pub levels: u64,
 }
 
 /// A history of one state, which is the text of the store.
@@ -42,7 +46,11 @@ pub(crate) fn begin<S: LineStore + Drop>(alloc: Global, text: S) -> Result<Edito
     let mut text = text;
     text.commit();
     let tree = UndoTree::new(alloc)?;
-    Ok(Editor { tree, text })
+    Ok(Editor {
+        tree,
+        text,
+        levels: 1_000,
+    })
 }
 
 fn lines_of(alloc: Global, count: u64, byte: u8) -> Result<Vec<Line>, AllocError> {
@@ -68,7 +76,20 @@ fn splice<S: LineStore>(
     if !allows_splice(&editor.text, top, old, new) {
         return Err(UndoErr::NoMemory);
     }
-    change(alloc, &mut editor.tree, &mut editor.text, top, old, new, 7)
+    let keep = Keep {
+        time: 7,
+        levels: editor.levels.max(1),
+    };
+    let pushed = change(
+        alloc,
+        &mut editor.tree,
+        &mut editor.text,
+        top,
+        old,
+        new,
+        keep,
+    )?;
+    Ok(pushed.number)
 }
 
 fn take<S: LineStore>(alloc: Global, editor: &mut Editor<S>, step: Step) -> Result<u64, UndoErr>
@@ -90,6 +111,10 @@ fn take<S: LineStore>(alloc: Global, editor: &mut Editor<S>, step: Step) -> Resu
         Step::EarlierWrites(by) => tree.earlier_writes(alloc, text, by.max(1)),
         Step::LaterWrites(by) => tree.later_writes(alloc, text, by.max(1)),
         Step::Write => Ok(tree.mark_write()),
+        Step::Levels(levels) => {
+            editor.levels = levels;
+            Ok(levels)
+        }
     }
 }
 

@@ -441,15 +441,6 @@ few_nodes parts sound =
     let within : length parts.nodes < length (numbers parts.nodes) = omega (arith, length_numbers parts.nodes) in
     omega (arith, rising_most (numbers parts.nodes) (length parts.nodes) sound.numbers.rising within, bound parts sound.numbers (length parts.nodes) within)
 
--- a history of which all is kept
-pub all_kept : (levels : ℕ) (history : History) → length history.links.nodes ≤ levels → history_forgotten levels history ≡ history
-all_kept levels history fits =
-    let same : forgotten levels history.links ≡ record { tree = history.links; root = 0 } = none_left (length history.links.nodes) levels (record { tree = history.links; root = 0 }) fits in
-    ap (λ (left : Remainder). record { links = left.tree; texts = put 0 (history.texts left.root) history.texts }) same ∙ (λ i. record { links = history.links; texts = λ k. put_same k i })
-  where
-    put_same : (k : ℕ) → put 0 (history.texts 0) history.texts k ≡ history.texts k
-    put_same k = elim (k == 0) as (λ b. b ≡ (k == 0) → (if b then history.texts 0 else history.texts k) ≡ history.texts k) [ true ↦ λ t. (let e : 0 ≡ k = grind (arith, nat_tests) in ap history.texts e) | false ↦ λ t. refl ] refl
-
 -- where no more numbers were given than changes may be kept
 pub whole_kept : (levels : ℕ) (parts : Parts) → IsSound parts → parts.last ≤ levels → forgotten levels parts ≡ record { tree = parts; root = 0 }
 whole_kept levels parts sound most = none_left (length parts.nodes) levels (record { tree = parts; root = 0 }) (omega (arith, few_nodes parts sound, most))

@@ -1,11 +1,13 @@
 -- The oldest states are forgotten while more changes are kept than a number says.
-use Rattle.std.specs.Prelude.{ℕ, zero, suc, ◌≡◌, ◌≢◌, ◌-◌, ◌==◌, ◌&&◌, nat_lt, not, if◌then◌else◌, Bool, List, length, get_or, map, Option, Some, None}
+use Rattle.std.specs.Prelude.{ℕ, zero, suc, ◌≡◌, ◌≢◌, ◌-◌, ◌==◌, ◌&&◌, nat_lt, not, if◌then◌else◌, Bool, List, [], length, get_or, map, Option, Some, None}
 use Rattle.std.specs.List.{filter, list_any}
+use Rattle.vs_entries.specs.declared.entry.Entry.{Entry}
+use Rattle.vs_undo.specs.declared.keep.Keep.{Keep}
 use Rattle.vs_undo.specs.declared.parts.Node.{Node}
 use Rattle.vs_undo.specs.declared.parts.Parts.{Parts}
 use Rattle.vs_undo.specs.Ways.{is_on, way_of}
 use Rattle.vs_undo.specs.Sound.{child_of, IsSound}
-use Rattle.vs_undo.specs.History.{put, History}
+use Rattle.vs_undo.specs.History.{put, pushed, history_pushed, History}
 
 -- the last state of a way, which is a child of the oldest one
 abbrev pub top_of : List ℕ → ℕ
@@ -73,3 +75,15 @@ history_forgotten levels history = record {
   links = (forgotten levels history.links).tree;
   texts = put 0 (history.texts (forgotten levels history.links).root) history.texts;
 }
+
+-- what is left of the tree after one more change, with these entries, that is kept as this says
+abbrev pub tree_kept : List Entry → Keep → Parts → Remainder
+tree_kept entries keep parts = forgotten keep.levels (pushed entries keep.time parts)
+
+-- the number that the oldest state after such a change had before, or none for 0: the entries have no part in it
+abbrev pub root_kept : Keep → Parts → Option ℕ
+root_kept keep links = promoted_root (tree_kept [] keep links).root
+
+-- the history after a change to this text that is kept as this says
+abbrev pub history_kept : List (List ℕ) → Keep → History → History
+history_kept text keep history = history_forgotten keep.levels (history_pushed text keep.time history)

@@ -1,5 +1,5 @@
 -- What a call asks of a tree and a store with its current text, and what it leaves of them.
-use Rattle.std.specs.Prelude.{ℕ, ◌≡◌, List, [], ◌∷◌, length, max, Some, Result, IfOk, IsErrOf, OnErr}
+use Rattle.std.specs.Prelude.{ℕ, ◌≡◌, ◌+◌, ◌≤◌, List, [], ◌∷◌, length, max, Some, Result, IfOk, IsErrOf, OnErr}
 use Rattle.vs_faults.specs.Faults.{HasCause}
 use Rattle.vs_edit.specs.Splices.{splice}
 use Rattle.vs_edit.specs.State.{SameText, IsSpliced}
@@ -7,11 +7,13 @@ use Rattle.vs_edit.specs.declared.store.LineStore.{Ghosts}
 use Rattle.vs_entries.specs.Entries.{splice_back}
 use Rattle.vs_undo.specs.declared.error.UndoErr.{UndoErr}
 use Rattle.vs_undo.specs.declared.error.UndoErr.TheVariants.{Failed}
+use Rattle.vs_undo.specs.declared.keep.Keep.{Keep}
 use Rattle.vs_undo.specs.declared.parts.Parts.{Parts}
 use Rattle.vs_undo.specs.declared.parts.Node.{Node}
 use Rattle.vs_undo.specs.Ways.{node_at, IsWayOf}
 use Rattle.vs_undo.specs.Turns.{exchanged}
-use Rattle.vs_undo.specs.History.{links_of, moved, pushed, history_at, history_pushed, History, IsHistory, FitsCount, FitsText}
+use Rattle.vs_undo.specs.Forgetting.{tree_kept, history_kept}
+use Rattle.vs_undo.specs.History.{links_of, moved, history_at, History, IsHistory, FitsCount, FitsText}
 
 -- The store shows the text of the current state, which is committed, and the entries of the tree fit it.
 pub record IsReady {S : Type 0} (g : Ghosts S) (tree : Parts) (store : S) : Type 0 where
@@ -32,13 +34,16 @@ pub record HasMoved {S : Type 0} (g : Ghosts S) (old new : Parts) (before after 
       → (from : List ℕ) → IsWayOf old.nodes old.current from
       → (k : ℕ) (was now : Node) → node_at old.nodes k ≡ Some was → node_at new.nodes k ≡ Some now → now.entries ≡ exchanged from way history.texts was
 
--- The tree has one more change, made at this time, with the entry that leads back, and the store shows the spliced text.
-pub record HasChanged {S : Type 0} (g : Ghosts S) (old new : Parts) (before after : S) (top count : ℕ) (lines : List (List ℕ)) (time : ℕ) : Type 0 where
-  pub links : links_of new ≡ pushed [] time (links_of old)
-  pub parts : (text : List (List ℕ)) → (g.shows before).present.Is text → new ≡ pushed (splice_back text top count (length lines) ∷ []) time old
+-- The tree has one more change, with the entry that leads back, and has forgotten the oldest states as far as this says: the new state
+-- is the current one, and the store shows the spliced text.
+pub record HasChanged {S : Type 0} (g : Ghosts S) (old new : Parts) (before after : S) (top count : ℕ) (lines : List (List ℕ)) (keep : Keep) : Type 0 where
+  pub links : links_of new ≡ (tree_kept [] keep (links_of old)).tree
+  pub parts : (text : List (List ℕ)) → (g.shows before).present.Is text → new ≡ (tree_kept (splice_back text top count (length lines) ∷ []) keep old).tree
+  pub current : new.current ≡ old.last + 1
+  pub few : length new.nodes ≤ keep.levels
   pub spliced : IsSpliced (g.shows before).present top count lines (g.shows after).present
   pub history : (text : List (List ℕ)) (history : History) → (g.shows before).present.Is text → IsHistory old text history
-      → IsHistory new (splice text top count lines) (history_pushed (splice text top count lines) time history)
+      → IsHistory new (splice text top count lines) (history_kept (splice text top count lines) keep history)
 
 -- Tree and text are as before.
 pub record HasStayed {S : Type 0} (g : Ghosts S) (old new : Parts) (before after : S) : Type 0 where

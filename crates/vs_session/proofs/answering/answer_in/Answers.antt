@@ -30,6 +30,10 @@ returns-clause-state g c =
     (stands_back _ _ _ _ _ _ (c.pair-1.given.1 (sym stays.1.0)) (c.tree-1.given.1 (sym stays.0)) (record { text = paged_text _ _ _ _ ready.committed after.text; history = after.history }), after.cursor))
     c.answer.ensures.answers
 
+pub returns-clause-oldest : goal.returns-clause-oldest
+returns-clause-oldest g c =
+    if_ok_as c.answer.result _ _ (λ answered ans told state instruction stands cursor is. (ans state instruction (record { text = told_text _ _ _ _ told stands.text; history = stands.history; cursor = cursor }) is).oldest) c.answer.ensures.answers
+
 pub returns-clause-err : goal.returns-clause-err
 returns-clause-err g c =
     let ready = c.answer.ensures.atomic.ready in

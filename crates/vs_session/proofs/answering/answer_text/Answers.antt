@@ -1,5 +1,4 @@
-use Rattle.std.proofs.Common.{◌≤◌, sym, ap, subst}
-use Rattle.vs_host.specs.World.{Scene}
+use Rattle.std.proofs.Common.{◌≤◌, sym, subst}
 use Rattle.vs_pair.specs.declared.files.SwapFiles.{SwapFiles}
 use Rattle.vs_paged.proofs.SyncLemmas.{on_err_as}
 use Rattle.vs_session.proofs.StoreLemmas.{if_ok_as, fits_ready, state_left}
@@ -31,6 +30,10 @@ returns-clause-state g c =
     let now = after told state instruction (record { text = fits.text.pages; history = fits.history }) cursor is in
     (state_left _ c.args.text.now _ c.args.history.now _ _ _ state _ syncs keeps fits now.0, now.1))
     c.answer_in.ensures.state
+
+pub returns-clause-oldest : goal.returns-clause-oldest
+returns-clause-oldest g c =
+    if_ok_as c.answer_in.result _ _ (λ answered oldest told state syncs instruction fits cursor is. oldest told state instruction (record { text = fits.text.pages; history = fits.history }) cursor is) c.answer_in.ensures.oldest
 
 pub returns-clause-err : goal.returns-clause-err
 returns-clause-err g c =

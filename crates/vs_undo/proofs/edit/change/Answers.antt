@@ -1,14 +1,14 @@
--- The entry of the splice leads back over it, so the push keeps the history.
-use Rattle.std.proofs.Common.{◌≡◌, ◌≤◌, ◌+◌, ◌-◌, ◌∷◌, [], ℕ, List, length, max, rules, sym, ap, subst, ◌∙◌, arith}
+-- The entry of the splice leads back over it, so the push keeps the history. What is forgotten does not depend on the entries.
+use Rattle.std.proofs.Common.{◌≡◌, ◌+◌, ◌-◌, ◌∷◌, [], ℕ, List, length, max, rules, sym, ap, subst, ◌∙◌, arith}
 use Rattle.vs_edit.specs.Splices.{splice}
 use Rattle.vs_edit.proofs.Steps.{SameText-trans, IsSpliced-after}
 use Rattle.vs_entries.specs.Entries.{Leads, LeadsCount, splice_back}
 use Rattle.vs_entries.proofs.EntryLemmas.{leads_splice_back}
 use Rattle.vs_undo.specs.declared.parts.Parts.{Parts}
-use Rattle.vs_undo.specs.History.{links_of, pushed, history_pushed, without_entries, History, IsHistory, FitsCount, FitsText}
-use Rattle.vs_undo.proofs.ForgetLemmas.{all_kept}
-use Rattle.std.proofs.lemmas.List.{length-map}
+use Rattle.vs_undo.specs.Forgetting.{forgotten, promoted_root, tree_kept, Remainder}
+use Rattle.vs_undo.specs.History.{links_of, pushed, FitsCount, FitsText}
 use Rattle.vs_undo.specs.Moves.{IsReady}
+use Rattle.vs_undo.proofs.ForgetLemmas.{forgotten-links_of, links_left}
 use Rattle.vs_undo.proofs.PushLemmas.{links_of-pushed}
 use Rattle.vs_undo.proofs.ReadyLemmas.{gone_back, settled}
 use Rattle.vs_undo.proofs.edit.change.Goals as goal
@@ -33,28 +33,24 @@ leads g c before has =
     leads_splice_back c.in-Ok.back before c.args.new.now c.args.top c.args.old _ _ is (omega (arith, lines, c.requires.allowed.within)) lines after_lines (counted g c)
     (g.met.S.LineStore.has_within c.args.text.now before c.requires.ready.valid has).few_bytes (c.requires.allowed.few_bytes before has)
 
--- The number of changes that may be kept is so great that nothing is forgotten.
-abbrev most : ℕ
-most = 18446744073709551615
+-- what the push left, over the links alone
+links_kept : (g : _) (c : After-commit g) → links_left (tree_kept (c.in-Ok.back ∷ []) c.args.keep c.args.tree.now) ≡ tree_kept [] c.args.keep (links_of c.args.tree.now)
+links_kept g c = sym (forgotten-links_of c.args.keep.levels (pushed (c.in-Ok.back ∷ []) c.args.keep.time c.args.tree.now))
+    ∙ ap (forgotten c.args.keep.levels) (links_of-pushed (c.in-Ok.back ∷ []) c.args.keep.time c.args.tree.now)
 
-whole : (g : _) (c : After-commit g) → c.push.new.self ≡ pushed (c.in-Ok.back ∷ []) c.args.time c.args.tree.now
-whole g c = c.in-Ok-push.ensures.whole (omega (arith, c.in-Ok-push.ensures.room))
-
-few : (g : _) (c : After-commit g) → length (pushed (c.in-Ok.back ∷ []) c.args.time c.args.tree.now).nodes ≤ most
-few g c = subst (λ (p : Parts). length p.nodes ≤ most) (whole g c) c.in-Ok-push.ensures.few
+pub returns-in-Ok-push-clause-root : goal.returns-in-Ok-push-clause-root
+returns-in-Ok-push-clause-root g c = c.in-Ok-push.ensures.root ∙ ap (λ (left : Remainder). promoted_root left.root) (links_kept g c)
 
 pub returns-in-Ok-push-clause-changed : goal.returns-in-Ok-push-clause-changed
 returns-in-Ok-push-clause-changed g c = record {
-  links = ap links_of (whole g c) ∙ links_of-pushed (c.in-Ok.back ∷ []) c.args.time c.args.tree.now;
-  parts = λ text has. whole g c ∙ ap (λ e. pushed (e ∷ []) c.args.time c.args.tree.now) (c.in-Ok.ensures.entry text has);
+  links = ap links_of c.in-Ok-push.ensures.parts ∙ ap (λ (left : Remainder). left.tree) (links_kept g c);
+  parts = λ text has. c.in-Ok-push.ensures.parts ∙ ap (λ e. (tree_kept (e ∷ []) c.args.keep c.args.tree.now).tree) (c.in-Ok.ensures.entry text has);
+  current = c.in-Ok-push.ensures.current;
+  few = c.in-Ok-push.ensures.few;
   spliced =
       let spliced = IsSpliced-after c.in-Ok.ensures.kept.present c.in_default.ensures.ok in
       record { text = λ text has. c.commit.ensures.present.text (splice text c.args.top c.args.old c.args.new.now) (spliced.text text has); lines = omega (arith, spliced.lines, c.commit.ensures.present.lines) };
-  history = λ text history has is.
-      let after = splice text c.args.top c.args.old c.args.new.now in
-      let links : (history_pushed after c.args.time history).links ≡ links_of (pushed (c.in-Ok.back ∷ []) c.args.time c.args.tree.now) = ap (pushed [] c.args.time) (sym is.links) ∙ sym (links_of-pushed (c.in-Ok.back ∷ []) c.args.time c.args.tree.now) in
-      let short : length (history_pushed after c.args.time history).links.nodes ≤ most = omega (arith, few g c, ap (λ (p : Parts). length p.nodes) links, length-map (pushed (c.in-Ok.back ∷ []) c.args.time c.args.tree.now).nodes without_entries) in
-      subst (λ (h : History). IsHistory c.push.new.self after h) (all_kept most (history_pushed after c.args.time history) short) (c.in-Ok-push.ensures.history text after history is (leads g c text has));
+  history = λ text history has is. c.in-Ok-push.ensures.history text (splice text c.args.top c.args.old c.args.new.now) history is (leads g c text has);
 }
 
 pub returns-in-Ok-push-clause-atomic : goal.returns-in-Ok-push-clause-atomic

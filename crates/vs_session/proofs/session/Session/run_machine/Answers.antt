@@ -2,7 +2,10 @@ use Rattle.std.proofs.Common.{sym, ◌∙◌}
 use Rattle.vs_machine.specs.Answers.{meaning_at}
 use Rattle.vs_machine.specs.Machine as machine
 use Rattle.vs_machine.specs.Machine.{current_of}
-use Rattle.vs_session.proofs.SessionLemmas.{counted_is, counted_same, stays_set}
+use Rattle.vs_machine.specs.declared.command.Mark.{Mark}
+use Rattle.vs_machine.specs.declared.command.Outcome.TheVariants.{Done}
+use Rattle.vs_session.specs.Session.{keep_of}
+use Rattle.vs_session.proofs.SessionLemmas.{counted_is, counted_same, kept_alike, saved_is_left, stands_kept, stays_set}
 use Rattle.vs_session.proofs.session.Session.run_machine.Goals as goal
 
 pub answer_text-requires-clause-fits : goal.answer_text-requires-clause-fits
@@ -13,13 +16,17 @@ returns-in-Ok-clause-reply g c told state syncs instruction fits is = c.in-Ok.en
 
 pub returns-in-Ok-clause-fits : goal.returns-in-Ok-clause-fits
 returns-in-Ok-clause-fits g c told state syncs instruction fits is =
-    let after = c.in-Ok.ensures.state told state.machine syncs instruction fits.stands fits.cursor is in
+    let mark : Mark = record { outcome = Done; at = c.args.at } in
+    let meaning = meaning_at state.machine instruction in
+    let alike = kept_alike c.args.self.now (g.F.World.scene c.args.host.now).folder state syncs mark _ fits c.from-levels.ensures in
+    let after = stands_kept alike _ _ _ state.machine syncs meaning _ (c.in-Ok.ensures.state told state.machine syncs instruction fits.stands fits.cursor is) in
+    let oldest = c.in-Ok.ensures.oldest told state.machine syncs instruction fits.stands fits.cursor is in
     record {
       stands = after.0;
       name = fits.name;
       cursor = after.1;
-      saved = fits.saved;
-      steps = c.counted-self.ensures.count ∙ counted_is c.args.self.now _ (g.F.World.scene c.args.host.now).folder state (machine.done_state state.machine c.args.at (meaning_at state.machine instruction)) syncs c.current-before.result c.current.result fits after.0.history c.current-before.ensures c.current.ensures;
+      saved = saved_is_left alike state.machine meaning _ _ _ _ oldest fits.saved (c.saved_after-self.ensures.history _ _ after.0.history);
+      steps = c.counted-self.ensures.count ∙ counted_is c.args.self.now _ (g.F.World.scene c.args.host.now).folder state (machine.done_state state.machine (keep_of state mark) meaning) syncs c.current-before.result c.current.result fits after.0.history c.current-before.ensures c.current.ensures;
       options = stays_set c.args.self.now _ state syncs instruction _ fits is.parsed c.requires.own;
       acknowledged = fits.acknowledged;
     }

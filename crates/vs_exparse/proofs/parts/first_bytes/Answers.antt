@@ -1,6 +1,6 @@
 use Rattle.std.proofs.Common.{◌≡◌, ◌∙◌, ap, take, length, min, arith, ℕ}
 use Rattle.std.proofs.lemmas.List.{take_min}
-use Rattle.vs_exparse.proofs.line.first_bytes.Goals as goal
+use Rattle.vs_exparse.proofs.parts.first_bytes.Goals as goal
 
 pub returns-clause-first : goal.returns-clause-first
 returns-clause-first c =

@@ -1,0 +1,29 @@
+-- What was planned is the meaning of the command at the lines of the search.
+use Rattle.std.proofs.Common.{ℕ, Err, sym, subst}
+use Rattle.std.proofs.lemmas.Result.{IfOk-weaker}
+use Rattle.vs_exparse.specs.Command.{command_of}
+use Rattle.vs_excmd.specs.Answer.{Answers}
+use Rattle.vs_global.specs.Global.{global}
+use Rattle.vs_machine.specs.Machine.{changing}
+use Rattle.vs_machine.proofs.AnswerLemmas.{as_meant, read_in, refused_by}
+use Rattle.vs_machine.proofs.MeaningLemmas.{meaning_of_plan, meaning_of_refused}
+use Rattle.vs_machine.proofs.change.change_searched.Goals as goal
+
+pub returns-in-Ok-clause-answers : goal.returns-in-Ok-clause-answers
+returns-in-Ok-clause-answers g c = IfOk-weaker c.make.result _ _
+    (λ answered answers state is.
+    let sought = c.args.search.now in
+    as_meant (answers state (read_in c.in-Ok.ensures.kept.present is))
+    (meaning_of_plan (global sought.range sought.invert sought.pattern.now (command_of c.args.nested.now) state.text) c.in-Ok.planned c.args.cursor state.cursor (c.in-Ok.ensures.answers state.text is.text) is.cursor))
+    c.make.ensures.answers
+
+pub returns-in-Err-clause-answers : goal.returns-in-Err-clause-answers
+returns-in-Err-clause-answers g c = IfOk-weaker c.not_planned.result _ _
+    (λ answered refusal state is.
+    let sought = c.args.search.now in
+    let meant = global sought.range sought.invert sought.pattern.now (command_of c.args.nested.now) state.text in
+    refused_by g.S.LineStore state c.args.keep (changing (meant state.cursor)) c.in-Err.error c.args.cursor answered c.global.new.view c.args.history.now refusal
+    (λ e ex. sym (meaning_of_refused (meant state.cursor) c.in-Err.error e
+    (subst (λ (n : ℕ). Answers (meant n) (Err c.in-Err.error)) is.cursor (c.in-Err.ensures.answers state.text is.text)) ex))
+    (read_in c.in-Err.ensures.kept.present is))
+    c.not_planned.ensures.refused
