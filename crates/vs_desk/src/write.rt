@@ -77,7 +77,8 @@ pub fn write_text<F: Folder>(
     ensures written { IsTrue F.tells.folder → (lines : Text) (syncs : List Sync) → Fits text.old (F.scene host.old).folder lines syncs
         → WritesFile options.now (names_of text.old) (file_of lines) (F.scene host.old) (F.scene host.new) result }
     ensures no_name { IsErrOf result WriteErr.NoBackupName → IsNoName options.now (names_of text.old).file F.tells.folder (F.scene host.old).folder }
-    ensures unseen { IsTrue F.tells.folder → IsSome (content_of (F.scene host.old) (names_of text.old).file) → backs_up options.now ≡ true → OldIn Nowhere result
+    ensures unseen { IsTrue F.tells.folder → IsSome (content_of (F.scene host.old) (names_of text.old).file) → backs_up options.now ≡ true
+        → OldIn Nowhere result
         → IsTold Looked ((names_of text.old).file ∷ []) result (F.scene host.old) (F.scene host.new) }
 
     // The swap files, at each moment and at the end.
@@ -87,7 +88,8 @@ pub fn write_text<F: Folder>(
         → Fits text.new (F.scene host.new).folder lines syncs }
 
     // All names on which the write does not work.
-    ensures others { IsTrue F.tells.folder → SparesOthers (WorksOn options.now (names_of text.old).file (F.scene host.old).folder) (F.scene host.old) (F.scene host.new) }
+    ensures others { IsTrue F.tells.folder
+        → SparesOthers (WorksOn options.now (names_of text.old).file (F.scene host.old).folder) (F.scene host.old) (F.scene host.new) }
     ensures left { IsTrue F.tells.folder → (lines : Text) (syncs : List Sync) → Fits text.old (F.scene host.old).folder lines syncs
         → Runs (KeepsLeft (WorksOn options.now (names_of text.old).file (F.scene host.old).folder)) (F.scene host.old) (F.scene host.new) }
     ensures names { names_of text.new ≡ names_of text.old }

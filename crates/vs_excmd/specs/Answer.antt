@@ -12,6 +12,7 @@ use Rattle.vs_excmd.specs.declared.answer.PlanErr.TheVariants as error
 use Rattle.vs_excmd.specs.declared.place.Place.{Place}
 use Rattle.vs_excmd.specs.Change.{Effect, bounded}
 
+-- the change of the text that a plan is
 abbrev pub effect_of : Plan → Effect
 effect_of plan.NoChange = None
 effect_of (plan.Splice top old new cursor) = Some (record { top = top; old = old; new = new.items; cursor = cursor })
@@ -27,6 +28,7 @@ Answers meant (Err error.Failed) = ⊤
 abbrev pub IsAfterPlace : ExErr → Type 0
 IsAfterPlace error = (error ≡ ex.E486) ⊎ ((error ≡ ex.LineTooLong) ⊎ (error ≡ ex.TextFull))
 
+-- An error that comes after the place of a command was found.
 abbrev pub IsLate : PlanErr → Type 0
 IsLate (error.Ex e) = IsAfterPlace e
 IsLate error.NoMemory = ⊤
@@ -42,6 +44,7 @@ abbrev pub Allows : TextState → Plan → Type 0
 Allows text plan.NoChange = ⊤
 Allows text (plan.Splice top old new cursor) = AllowsSplice text top old new.items
 
+-- why a plan failed, where a store did
 abbrev pub plan_error : StoreErr → PlanErr
 plan_error store.NoMemory = error.NoMemory
 plan_error store.Failed = error.Failed

@@ -65,12 +65,15 @@ moved text place =
 abbrev pub copied : List (List ℕ) → Place → Effect
 copied text place = Some (record { top = place.to; old = 0; new = lines_in text place.lines; cursor = place.to + size_of place.lines })
 
+-- the text after a change
 abbrev pub spliced : List (List ℕ) → Change → List (List ℕ)
 spliced text change = splice text change.top change.old change.new
 
+-- whether a line has no more bytes than a line may have
 abbrev pub is_short : List ℕ → Bool
 is_short line = nat_le (length line) MAX_LINE_BYTES
 
+-- whether a text is within the limits of lines and bytes
 abbrev pub is_within : List (List ℕ) → Bool
 is_within text = nat_le (length text) MAX_LINES && nat_le (bytes_of text) MAX_TEXT_BYTES
 

@@ -13,6 +13,7 @@ abbrev pub on : {X Y : Type 0} → Result X ExErr → (X → Result Y ExErr) →
 on (Ok x) f = f x
 on (Err error) f = Err error
 
+-- the value, or E16 where there is none
 abbrev pub or_E16 : {X : Type 0} → Option X → Result X ExErr
 or_E16 None = Err E16
 or_E16 (Some x) = Ok x

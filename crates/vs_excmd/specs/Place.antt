@@ -25,11 +25,13 @@ base_line (Number n) lines cursor = n
 abbrev pub line_at : Address → ℕ → ℕ → ℤ
 line_at address lines cursor = pos (base_line address.base lines cursor) +ℤ address.offset
 
+-- line 0 as line 1
 abbrev pub zero_is_one : ℤ → ℤ
 zero_is_one (pos zero) = pos 1
 zero_is_one (pos (suc n)) = pos (suc n)
 zero_is_one (negsuc n) = negsuc n
 
+-- line 1 as line 0, as it is counted in the text without lines
 abbrev pub one_is_zero : ℤ → ℤ
 one_is_zero (pos zero) = pos 0
 one_is_zero (pos (suc zero)) = pos 0
@@ -50,6 +52,7 @@ first_at range.All lines cursor = pos (min 1 lines)
 first_at (range.One address) lines cursor = line_at address lines cursor
 first_at (range.Two first last) lines cursor = line_at first lines cursor
 
+-- the line that the second address of a range names
 abbrev pub last_at : Range → ℕ → ℕ → ℤ
 last_at range.Absent lines cursor = pos cursor
 last_at range.All lines cursor = pos lines
@@ -132,6 +135,7 @@ place_of (Global range invert pattern nested) lines cursor = Err E16
 abbrev pub shown : Range → Option ℕ → ℕ → ℕ → Result Span ExErr
 shown range count lines cursor = located_counted range count lines cursor
 
+-- the last line where no range was written
 abbrev pub or_last : Range → Range
 or_last range.Absent = range.One (record { base = Last; offset = pos 0 })
 or_last range.All = range.All

@@ -33,6 +33,7 @@ pub record IsRequest (request : Request) (instruction : Instruction) : Type 0 wh
   pub parsed : result_of request.parsed ≡ instruction.parsed
   pub block : StandsFor request.block instruction.block
 
+-- whether a command came without a block
 abbrev pub is_absent : Block → Bool
 is_absent block.Absent = true
 is_absent (block.Lines kept) = false

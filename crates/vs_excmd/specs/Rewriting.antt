@@ -25,6 +25,7 @@ AreKept P rewritten.Unmatched = ⊤
 AreKept P (rewritten.New text) = P text.items
 AreKept P rewritten.TooLong = ⊤
 
+-- whether a rewritten line is longer than a line may be
 abbrev pub is_too_long : Rewritten → Bool
 is_too_long rewritten.Unmatched = false
 is_too_long (rewritten.New text) = false

@@ -7,11 +7,13 @@ use Rattle.vs_excmd.specs.declared.place.LineZero.TheVariants as zero
 use Rattle.vs_excmd.specs.declared.place.Span.{Span}
 use Rattle.vs_excmd.specs.Place.{located}
 
+-- all lines where no range was written
 abbrev pub or_all : Range → Range
 or_all range.Absent = range.All
 or_all range.All = range.All
 or_all (range.One address) = range.One address
 or_all (range.Two first last) = range.Two first last
 
+-- the lines in which a global command looks for its text
 abbrev pub searched : Range → ℕ → ℕ → Result Span ExErr
 searched range lines cursor = located zero.IsFirst (or_all range) lines cursor

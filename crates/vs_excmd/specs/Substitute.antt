@@ -19,9 +19,11 @@ rebuilt line width new from (place ∷ places) = (take (place - from) (drop from
 abbrev pub places_in : Bool → List ℕ → List ℕ → List ℕ
 places_in all literal line = if all then matches line literal 0 else take 1 (matches line literal 0)
 
+-- a line with its first match replaced, or all of them
 abbrev pub replaced : Bool → List ℕ → List ℕ → List ℕ → List ℕ
 replaced all literal new line = rebuilt line (length literal) new 0 (places_in all literal line)
 
+-- whether a literal text stands in a line
 abbrev pub has_match : List ℕ → List ℕ → Bool
 has_match literal line = not (is_empty (matches line literal 0))
 
@@ -41,6 +43,7 @@ rewritten hits f top lines =
 abbrev pub substituted_lines : (List ℕ → Bool) → (List ℕ → List ℕ) → ℕ → List (List ℕ) → Result Effect ExErr
 substituted_lines hits f top lines = check (list_any hits lines) E486 (Ok (Some (rewritten hits f top lines)))
 
+-- what `:s` does to the lines of a span
 abbrev pub substituted : List ℕ → List ℕ → Bool → List (List ℕ) → Span → Result Effect ExErr
 substituted pattern replacement all text span =
     let literal = literal_of pattern in

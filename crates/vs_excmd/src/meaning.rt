@@ -75,7 +75,8 @@ fn effect<S: LineStore>(
     requires begins { BeginsAtLine (command_of command.now) place }
     requires outside { IsOutside (command_of command.now) place }
     requires form { HasForm (command_of command.now) }
-    ensures leads { (text lines : List (List ℕ)) → (S.shows view.old).present.Is text → StandsFor block.now lines → Leads text (effect (command_of command.now) lines text place) result }
+    ensures leads { (text lines : List (List ℕ)) → (S.shows view.old).present.Is text → StandsFor block.now lines
+        → Leads text (effect (command_of command.now) lines text place) result }
     ensures lies { IfOk result (λ plan. LiesIn (S.shows view.old).present.lines plan) }
     ensures late { IfErr result IsLate }
     ensures kept { OnlyReads S.LineStore view.old view.new }
@@ -134,7 +135,8 @@ pub fn plan<S: LineStore>(
     requires changes { IsTrue (changes_text (command_of command.now)) }
     requires form { HasForm (command_of command.now) }
     requires block { is_absent block.now ≡ not (wants_block (command_of command.now)) }
-    ensures answers { (text lines : List (List ℕ)) → (S.shows view.old).present.Is text → StandsFor block.now lines → Answers (planned (command_of command.now) lines text cursor) result }
+    ensures answers { (text lines : List (List ℕ)) → (S.shows view.old).present.Is text → StandsFor block.now lines
+        → Answers (planned (command_of command.now) lines text cursor) result }
     ensures placed { IsPlaced (place_of (command_of command.now) (S.shows view.old).present.lines cursor) result }
     ensures allowed { IfOk result (λ plan. Allows (S.shows view.new).present plan) }
     ensures kept { OnlyReads S.LineStore view.old view.new }

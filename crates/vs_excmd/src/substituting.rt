@@ -61,7 +61,8 @@ impl Rewriting {
         requires fits { is_too_long found ≡ false }
         requires few { self.old.before + 1 < 2 ^ 64 }
         requires few_bytes { self.old.bytes + 1048577 < 2 ^ 64 }
-        ensures adds { OnOk result ((hits : List ℕ → Bool) (f : List ℕ → List ℕ) (seen : List (List ℕ)) → IsRewriting hits f seen self.old.before self.old.lines.items self.old.kept
+        ensures adds { OnOk result ((hits : List ℕ → Bool) (f : List ℕ → List ℕ) (seen : List (List ℕ))
+            → IsRewriting hits f seen self.old.before self.old.lines.items self.old.kept
             → Finds hits f line.now found → IsRewriting hits f (seen ++ line.now ∷ []) self.new.before self.new.lines.items self.new.kept) }
         ensures few { OnOk result (self.new.before + length self.new.lines.items ≤ self.old.before + length self.old.lines.items + 1) }
         ensures counted { OnOk result (self.old.bytes ≡ bytes_of self.old.lines.items → self.new.bytes ≡ bytes_of self.new.lines.items) }

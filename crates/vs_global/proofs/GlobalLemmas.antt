@@ -16,7 +16,6 @@ use Rattle.vs_excmd.specs.declared.answer.PlanErr.TheVariants as error
 use Rattle.vs_excmd.specs.declared.answer.Plan.TheVariants as plan
 use Rattle.vs_excmd.specs.declared.place.Span.{Span}
 use Rattle.vs_excmd.specs.Answer.{Allows, Answers}
-use Rattle.vs_excmd.specs.Change.{Effect}
 use Rattle.vs_excmd.specs.Errors.{check, on}
 use Rattle.vs_excmd.specs.Searched.{searched}
 use Rattle.vs_global.specs.declared.run.Untouched.{Untouched}

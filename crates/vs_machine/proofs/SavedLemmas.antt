@@ -1,7 +1,7 @@
 -- Which state is the saved one, a history says as its tree does.
 use Rattle.std.proofs.Common.{◌≡◌, ℕ, ◌==◌, if◌then◌else◌, List, Option, Some, None, refl, ap}
 use Rattle.vs_undo.specs.declared.parts.Node.{Node}
-use Rattle.vs_machine.specs.Saved.{number_after, saved_after}
+use Rattle.vs_machine.specs.Saved.{saved_after}
 use Rattle.vs_machine.proofs.LinkLemmas.{bare, kept-bare}
 
 pub saved-bare : (oldest saved : Option ℕ) (nodes : List Node) → saved_after oldest (bare nodes) saved ≡ saved_after oldest nodes saved

@@ -17,7 +17,7 @@ use Rattle.vs_machine.specs.Answers.{AnswersAs, HasShown}
 use Rattle.vs_machine.specs.Machine.{State, printing_all}
 use Rattle.vs_machine.specs.Machine.Meaning.{Refused}
 use Rattle.vs_machine.specs.Replies.{Answer, prints}
-use Rattle.vs_machine.specs.Shown.{last_shown, printed_all, shown_at, shown_by, shown_in, shown_lines}
+use Rattle.vs_machine.specs.Shown.{last_shown, shown_at, shown_by, shown_in, shown_lines}
 use Rattle.vs_machine.proofs.AnswerLemmas.{as_meant}
 use Rattle.vs_machine.specs.declared.searching.Output.{Output}
 use Rattle.vs_machine.specs.declared.show.Showing.{Showing}

@@ -179,18 +179,21 @@ reply_by NoMemory state meaning = refuses out_of_memory
 reply_by Fault state meaning = refuses device_fault
 reply_by NoUndo state meaning = done_reply state meaning
 
+-- the state after a command that ended so
 abbrev pub state_by : Outcome → State → Keep → Meaning → State
 state_by Done state keep meaning = done_state state keep meaning
 state_by NoMemory state keep meaning = state
 state_by Fault state keep meaning = state
 state_by NoUndo state keep meaning = done_state state keep meaning
 
+-- the saved state after a command that ended so
 abbrev pub saved_by : Outcome → State → Keep → Meaning → Option ℕ → Option ℕ
 saved_by Done state keep meaning saved = done_saved state keep meaning saved
 saved_by NoMemory state keep meaning saved = saved
 saved_by Fault state keep meaning saved = saved
 saved_by NoUndo state keep meaning saved = done_saved state keep meaning saved
 
+-- the reply to an instruction that ended so
 abbrev pub reply_of : State → Instruction → Mark → Answer
 reply_of state instruction mark = reply_by mark.outcome state (meaning_of state instruction.parsed instruction.block)
 
@@ -199,6 +202,7 @@ abbrev pub state_after : State → Instruction → Mark → ℕ → State
 state_after state instruction mark levels =
     state_by mark.outcome state (record { time = mark.at; levels = levels }) (meaning_of state instruction.parsed instruction.block)
 
+-- whether a command ended without an error of the host
 abbrev pub is_done : Outcome → Bool
 is_done Done = true
 is_done NoMemory = false

@@ -40,9 +40,11 @@ abbrev pub undo_move : Option ℕ → Move
 undo_move None = Back
 undo_move (Some number) = To number
 
+-- the move of `:earlier`
 abbrev pub earlier_move : ℕ → Bool → Move
 earlier_move by writes = if writes then EarlierWrites by else Earlier by
 
+-- the move of `:later`
 abbrev pub later_move : ℕ → Bool → Move
 later_move by writes = if writes then LaterWrites by else Later by
 

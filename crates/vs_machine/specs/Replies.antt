@@ -57,12 +57,15 @@ change_line number lines = with_lines (codes "change ") number lines
 abbrev pub move_line : ℕ → ℕ → List ℕ
 move_line number lines = with_lines (codes "at ") number lines
 
+-- the reply to a command of the text that changes nothing
 abbrev pub no_change : List ℕ
 no_change = codes "no change"
 
+-- the reply where there was no memory
 abbrev pub out_of_memory : List ℕ
 out_of_memory = codes "out of memory"
 
+-- the reply where a call on the folder failed
 abbrev pub device_fault : List ℕ
 device_fault = codes "device fault"
 
@@ -98,21 +101,27 @@ undo_file_read number changes = codes "undo file read, at " ++ decimal number ++
 abbrev pub no_undo_file : List ℕ
 no_undo_file = codes "no undo file"
 
+-- the replies to `rundo` of a file that cannot be read as an undo file
 abbrev pub not_undo_file : List ℕ
 not_undo_file = codes "not an undo file"
 
+-- the reply to `rundo` of another version
 abbrev pub undo_file_version : List ℕ
 undo_file_version = codes "undo file of another version"
 
+-- the reply to `rundo` of an encrypted file
 abbrev pub undo_file_encrypted : List ℕ
 undo_file_encrypted = codes "encrypted undo file"
 
+-- the reply to `rundo` where the byte at this place is wrong
 abbrev pub undo_file_corrupted : ℕ → List ℕ
 undo_file_corrupted place = codes "corrupted undo file at " ++ decimal place
 
+-- the reply to `rundo` where the digest or the number of lines is another one
 abbrev pub undo_file_of_other : List ℕ
 undo_file_of_other = codes "undo file of another text"
 
+-- the reply to `rundo` where this change does not fit the text
 abbrev pub undo_file_misfit : ℕ → List ℕ
 undo_file_misfit number = codes "undo file does not fit at change " ++ decimal number
 

@@ -19,9 +19,8 @@ NAME is a file of the current folder. A script has one Ex command on a line:
   g/\\V../d     carry a command out at the lines with a text; v at the others
   p nu =       print lines, and their numbers
   u red        undo and redo; ea, lat and undol go through all states
-  w set        write the file; set its options
+  w pre q set  write the file, sync it into a swap file, quit, set options
   wundo rundo  store the history as the undo file; take it back
-  pre q        sync the text into a swap file; quit
 
 Example:
   $ printf 'a\\nb\\n' > f

@@ -27,6 +27,7 @@ pub record Remains : Type 0 where
   pub swo : Option (List ℕ)
   pub original : Option (List ℕ)
 
+-- what is there of a file and its swap files
 abbrev pub remains_in : Scene → Names → Remains
 remains_in scene names = record { swp = content_of scene names.swp; swo = content_of scene names.swo; original = content_of scene names.file }
 
@@ -79,6 +80,7 @@ abbrev pub IsFound : Remains → Found → Type 0
 IsFound remains (found.Text text) = Recovered remains.swp remains.swo text
 IsFound remains (found.Salvage salvaged) = IsSalvaged remains salvaged.bytes.items salvaged.markers
 
+-- the bytes to be written
 abbrev pub found_bytes : Found → List ℕ
 found_bytes (found.Text text) = file_of text
 found_bytes (found.Salvage salvaged) = salvaged.bytes.items
@@ -88,6 +90,7 @@ abbrev pub recovery_by : ℕ → Recovery
 recovery_by zero = recovery.Whole
 recovery_by (suc more) = recovery.Marked
 
+-- what is said of what was found
 abbrev pub found_recovery : Found → Recovery
 found_recovery (found.Text text) = recovery.Whole
 found_recovery (found.Salvage salvaged) = recovery_by salvaged.markers

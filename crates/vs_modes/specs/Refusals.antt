@@ -4,6 +4,7 @@ use Rattle.vs_recover.specs.declared.error.RecErr.TheVariants as error
 use Rattle.vs_modes.specs.declared.error.ModeErr.{ModeErr}
 use Rattle.vs_modes.specs.declared.error.ModeErr.TheVariants as refusal
 
+-- why a mode is refused, where no text was recovered
 abbrev pub refusal_of : RecErr → ModeErr
 refusal_of error.NoSwap = refusal.NoSwap
 refusal_of error.Encrypted = refusal.Encrypted

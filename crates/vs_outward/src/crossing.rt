@@ -17,8 +17,10 @@ fn take_back<S: LineStore>(alloc: Global, store: &mut S, back: Vec<Entry>) -> Re
     requires valid { S.valid store.old }
     requires counts { (to : ℕ) × IsLed LeadsCount (reverse back.items) (max 1 (S.shows store.old).present.lines) to }
     requires texts { (text : List (List ℕ)) → (S.shows store.old).present.Is text → (to : List (List ℕ)) × IsLed Leads (reverse back.items) text to }
-    ensures counts { OnOk result ((to : ℕ) → IsLed LeadsCount (reverse back.items) (max 1 (S.shows store.old).present.lines) to → max 1 (S.shows store.new).present.lines ≡ to) }
-    ensures texts { OnOk result ((text to : List (List ℕ)) → (S.shows store.old).present.Is text → IsLed Leads (reverse back.items) text to → (S.shows store.new).present.Is to) }
+    ensures counts { OnOk result ((to : ℕ) → IsLed LeadsCount (reverse back.items) (max 1 (S.shows store.old).present.lines) to
+        → max 1 (S.shows store.new).present.lines ≡ to) }
+    ensures texts { OnOk result ((text to : List (List ℕ)) → (S.shows store.old).present.Is text → IsLed Leads (reverse back.items) text to
+        → (S.shows store.new).present.Is to) }
     ensures goes_on { GoesOn S.LineStore store.old store.new result }
 {
     let mut entries = back;

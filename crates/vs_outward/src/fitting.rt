@@ -83,7 +83,8 @@ fn walk_in<S: LineStore>(
     ensures on { OnOk result (KeepsTrail S.LineStore parts.now.nodes trail.old.items store.old trail.new.items store.new) }
     ensures begun { OnOk result (HasBegun trail.new.items path.now) }
     ensures whole { IfOk result (λ o. IfNone o (length trail.new.items ≡ length path.now)) }
-    ensures tried { IfOk result (λ o. (first : S) → IsOnTrail S.LineStore parts.now.nodes first trail.old.items store.old → IsTried S.LineStore parts.now.nodes first o (reverse path.now)) }
+    ensures tried { IfOk result (λ o. (first : S) → IsOnTrail S.LineStore parts.now.nodes first trail.old.items store.old
+        → IsTried S.LineStore parts.now.nodes first o (reverse path.now)) }
     ensures barred { IfOk result (λ o. IfSome o (λ number. (first : S) → IsOnTrail S.LineStore parts.now.nodes first trail.old.items store.old
         → (text : List (List ℕ)) → (S.shows first).present.Is text → IsBarredBy parts.now.nodes (reverse (take (length trail.new.items + 1) path.now)) text number)) }
     ensures goes_on { GoesOn S.LineStore store.old store.new result }
@@ -114,8 +115,10 @@ fn try_path<S: LineStore>(
     requires sound { IsSound parts.now }
     requires outward { (to : ℕ) × IsOutward parts.now (reverse search.old.path.items) to }
     requires turned { (first : S) × IsTurned S.LineStore parts.now first kept search.old store.old }
-    ensures search { OnOk result ((first : S) → IsTurned S.LineStore parts.now first kept search.old store.old → IsSearch S.LineStore parts.now first search.new store.new) }
-    ensures tried { OnOk result ((first : S) → IsTurned S.LineStore parts.now first kept search.old store.old → IsTried S.LineStore parts.now.nodes first search.new.least (reverse search.new.path.items)) }
+    ensures search { OnOk result ((first : S) → IsTurned S.LineStore parts.now first kept search.old store.old
+        → IsSearch S.LineStore parts.now first search.new store.new) }
+    ensures tried { OnOk result ((first : S) → IsTurned S.LineStore parts.now first kept search.old store.old
+        → IsTried S.LineStore parts.now.nodes first search.new.least (reverse search.new.path.items)) }
     ensures known { OnOk result (KeepsSettled S.LineStore parts.now search.old.least search.new.least) }
     ensures path { search.new.path ≡ search.old.path }
     ensures on_way { search.new.on_way ≡ search.old.on_way }
@@ -144,7 +147,8 @@ fn visit<S: LineStore>(
     requires outward { (number : ℕ) × IsOutward parts.now (reverse (take turn.kept search.old.path.items ++ turn.more.items)) number }
     requires search { (first : S) × IsSearch S.LineStore parts.now first search.old store.old }
     ensures search { OnOk result (KeepsSearch S.LineStore parts.now search.old store.old search.new store.new) }
-    ensures tried { OnOk result ((first : S) → IsSearch S.LineStore parts.now first search.old store.old → IsTried S.LineStore parts.now.nodes first search.new.least (reverse search.new.path.items)) }
+    ensures tried { OnOk result ((first : S) → IsSearch S.LineStore parts.now first search.old store.old
+        → IsTried S.LineStore parts.now.nodes first search.new.least (reverse search.new.path.items)) }
     ensures path { OnOk result (search.new.path.items ≡ take turn.kept search.old.path.items ++ turn.more.items) }
     ensures on_way { OnOk result (search.new.on_way ≡ turn.on_way) }
     ensures known { OnOk result (KeepsSettled S.LineStore parts.now search.old.least search.new.least) }
@@ -174,7 +178,8 @@ fn visit_at<S: LineStore>(
     requires search { (first : S) × IsSearch S.LineStore parts.now first search.old store.old }
     ensures search { OnOk result (KeepsSearch S.LineStore parts.now search.old store.old search.new store.new) }
     ensures path { OnOk result (IsPath parts.now way.now.changes.items search.new) }
-    ensures settled { OnOk result ((first : S) (node : Node) → IsSearch S.LineStore parts.now first search.old store.old → IsSettledAt S.LineStore parts.now first search.old.least 0
+    ensures settled { OnOk result ((first : S) (node : Node) → IsSearch S.LineStore parts.now first search.old store.old
+        → IsSettledAt S.LineStore parts.now first search.old.least 0
         → IsSettledAt S.LineStore parts.now first search.new.least (get_or parts.now.nodes place node).number) }
     ensures known { OnOk result (KeepsSettled S.LineStore parts.now search.old.least search.new.least) }
     ensures goes_on { GoesOn S.LineStore store.old store.new result }
@@ -202,7 +207,8 @@ fn find_misfit<S: LineStore>(
     requires valid { S.valid store.old }
     ensures counts { IfOk result (λ o. IfNone o (FitsCount parts.now (max 1 (S.shows store.old).present.lines))) }
     ensures texts { IfOk result (λ o. IfNone o ((text : List (List ℕ)) → (S.shows store.old).present.Is text → FitsText parts.now text)) }
-    ensures misfit { IfOk result (λ o. IfSome o (λ number. (text : List (List ℕ)) → (S.shows store.old).present.Is text → IsFirstMisfit parts.now text number)) }
+    ensures misfit { IfOk result (λ o. IfSome o (λ number. (text : List (List ℕ)) → (S.shows store.old).present.Is text
+        → IsFirstMisfit parts.now text number)) }
     ensures goes_on { GoesOn S.LineStore store.old store.new result }
 {
     let nodes = parts.nodes.nodes();
@@ -232,7 +238,8 @@ pub fn first_misfit<S: LineStore>(
     requires committed { SameText (S.shows text.old).present (S.shows text.old).committed }
     ensures counts { IfOk result (λ o. IfNone o (FitsCount parts.now (max 1 (S.shows text.old).present.lines))) }
     ensures texts { IfOk result (λ o. IfNone o ((lines : List (List ℕ)) → (S.shows text.old).present.Is lines → FitsText parts.now lines)) }
-    ensures misfit { IfOk result (λ o. IfSome o (λ number. (lines : List (List ℕ)) → (S.shows text.old).present.Is lines → IsFirstMisfit parts.now lines number)) }
+    ensures misfit { IfOk result (λ o. IfSome o (λ number. (lines : List (List ℕ)) → (S.shows text.old).present.Is lines
+        → IsFirstMisfit parts.now lines number)) }
     ensures present { SameText (S.shows text.old).present (S.shows text.new).present }
     ensures kept { Continues S.LineStore text.old text.new }
     ensures cause { HasCause (S.shows text.old).faults (S.shows text.new).faults (IsErrOf result StoreErr.Failed) }

@@ -34,7 +34,8 @@ fn step_out<S: LineStore>(
     ensures crossed { IfOk result (λ yes. IsTrue yes → (step : Step) × ((trail.new.items ≡ trail.old.items ++ step ∷ []) × (step.number ≡ number))) }
     ensures on { OnOk result (KeepsTrail S.LineStore nodes.now trail.old.items store.old trail.new.items store.new) }
     ensures same { IfOk result (λ yes. ¬ (IsTrue yes) → trail.new.items ≡ trail.old.items) }
-    ensures refused { IfOk result (λ yes. ¬ (IsTrue yes) → (text to : List (List ℕ)) → (S.shows store.old).present.Is text → IsLed Leads (entries_at nodes.now number) text to → ⊥) }
+    ensures refused { IfOk result (λ yes. ¬ (IsTrue yes) → (text to : List (List ℕ)) → (S.shows store.old).present.Is text
+        → IsLed Leads (entries_at nodes.now number) text to → ⊥) }
     ensures stayed { IfOk result (λ yes. ¬ (IsTrue yes) → (text : List (List ℕ)) → (S.shows store.old).present.Is text → (S.shows store.new).present.Is text) }
     ensures goes_on { GoesOn S.LineStore store.old store.new result }
 {
@@ -100,8 +101,10 @@ fn go_out<S: LineStore>(
     requires begun { map (λ (step : Step). step.number) trail.old.items ≡ take (length trail.old.items) path.now }
     ensures on { OnOk result (KeepsTrail S.LineStore nodes.now trail.old.items store.old trail.new.items store.new) }
     ensures whole { IfOk result (λ o. IfNone o (map (λ (step : Step). step.number) trail.new.items ≡ path.now)) }
-    ensures barred { IfOk result (λ o. IfSome o (λ number. (after : List ℕ) × (path.now ≡ map (λ (step : Step). step.number) trail.new.items ++ number ∷ after))) }
-    ensures refused { IfOk result (λ o. IfSome o (λ number. (text to : List (List ℕ)) → (S.shows store.new).present.Is text → IsLed Leads (entries_at nodes.now number) text to → ⊥)) }
+    ensures barred { IfOk result (λ o. IfSome o (λ number. (after : List ℕ)
+        × (path.now ≡ map (λ (step : Step). step.number) trail.new.items ++ number ∷ after))) }
+    ensures refused { IfOk result (λ o. IfSome o (λ number. (text to : List (List ℕ)) → (S.shows store.new).present.Is text
+        → IsLed Leads (entries_at nodes.now number) text to → ⊥)) }
     ensures goes_on { GoesOn S.LineStore store.old store.new result }
 {
     for k in trail.len()..path.len() {
@@ -133,7 +136,8 @@ pub(crate) fn walk<S: LineStore>(
     ensures on { OnOk result (KeepsTrail S.LineStore nodes.now trail.old.items store.old trail.new.items store.new) }
     ensures begun { OnOk result (HasBegun trail.new.items path.now) }
     ensures whole { IfOk result (λ o. IfNone o (length trail.new.items ≡ length path.now)) }
-    ensures tried { IfOk result (λ o. (first : S) → IsOnTrail S.LineStore nodes.now first trail.old.items store.old → IsTried S.LineStore nodes.now first o (reverse path.now)) }
+    ensures tried { IfOk result (λ o. (first : S) → IsOnTrail S.LineStore nodes.now first trail.old.items store.old
+        → IsTried S.LineStore nodes.now first o (reverse path.now)) }
     ensures barred { IfOk result (λ o. IfSome o (λ number. (first : S) → IsOnTrail S.LineStore nodes.now first trail.old.items store.old
         → (text : List (List ℕ)) → (S.shows first).present.Is text → IsBarredBy nodes.now (reverse (take (length trail.new.items + 1) path.now)) text number)) }
     ensures goes_on { GoesOn S.LineStore store.old store.new result }

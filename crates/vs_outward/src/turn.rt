@@ -111,7 +111,8 @@ pub(crate) fn turn_to(
     requires within { place < length parts.now.nodes }
     requires off { (node : Node) → is_on way.now.changes.items (get_or parts.now.nodes place node).number ≡ false }
     requires path { IsPath parts.now way.now.changes.items search.now }
-    ensures { IfOk result (λ turn. (node : Node) → IsTurn parts.now way.now.changes.items search.now.path.items (get_or parts.now.nodes place node).number turn) }
+    ensures { IfOk result (λ turn. (node : Node)
+        → IsTurn parts.now way.now.changes.items search.now.path.items (get_or parts.now.nodes place node).number turn) }
 {
     let nodes = parts.nodes.nodes();
     let node = &nodes[place];

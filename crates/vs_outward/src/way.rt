@@ -25,7 +25,8 @@ fn note(nodes: &[Node], counts: &mut Vec<usize>, number: u64, count: usize)
     requires rising { IsStrictlyIncreasing (numbers nodes.now) }
     requires count { length counts.old.items ≡ length nodes.now }
     ensures none { position (λ (node : Node). node.number == number) nodes.now ≡ None → counts.new.items ≡ counts.old.items }
-    ensures some { (place : ℕ) → position (λ (node : Node). node.number == number) nodes.now ≡ Some place → counts.new.items ≡ slice_set counts.old.items place count }
+    ensures some { (place : ℕ) → position (λ (node : Node). node.number == number) nodes.now ≡ Some place
+        → counts.new.items ≡ slice_set counts.old.items place count }
 {
     if let Some(place) = find(nodes, number) {
         counts[place] = count;

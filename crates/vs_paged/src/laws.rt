@@ -11,13 +11,16 @@ ghost use Rattle.vs_paged.specs.declared.paged.PagedText.{PagedText};
 /// begun since.
 pub fn fitting()
     ensures between { (paged : PagedText) (disk : Disk) (text : Text) (syncs : List Sync) → Fits paged disk text syncs → IsBetween (names_of paged) syncs disk }
-    ensures recovers { (paged : PagedText) (disk : Disk) (text : Text) (syncs : List Sync) → Fits paged disk text syncs → Recovers (names_of paged) (recoverable syncs) disk }
+    ensures recovers { (paged : PagedText) (disk : Disk) (text : Text) (syncs : List Sync) → Fits paged disk text syncs
+        → Recovers (names_of paged) (recoverable syncs) disk }
 {}
 
 /// Calls that leave the swap files, whatever they do to other names, leave a text that fits, and what may be recovered.
 pub fn leaving()
-    ensures fits { (paged : PagedText) (old new : Disk) (text : Text) (syncs : List Sync) → SameAt (is_swap (names_of paged)) old new → Fits paged old text syncs
+    ensures fits { (paged : PagedText) (old new : Disk) (text : Text) (syncs : List Sync) → SameAt (is_swap (names_of paged)) old new
+        → Fits paged old text syncs
         → Fits paged new text syncs }
-    ensures recovers { (paged : PagedText) (old new : Disk) (text : Text) (syncs : List Sync) → SameAt (is_swap (names_of paged)) old new → Fits paged old text syncs
+    ensures recovers { (paged : PagedText) (old new : Disk) (text : Text) (syncs : List Sync) → SameAt (is_swap (names_of paged)) old new
+        → Fits paged old text syncs
         → Recovers (names_of paged) (recoverable syncs) new }
 {}

@@ -160,7 +160,8 @@ impl OpeningText {
         ensures acts { Acts F.tells (Starting (names_of_file self.name) self.text) (F.scene host.old) (F.scene host.new) }
         ensures fits { IfOk result (λ paged. IsTrue F.tells.folder → Fits paged (F.scene host.new).folder self.text (acknowledged_sync self.text false ∷ [])) }
         ensures names { IfOk result (λ paged. names_of paged ≡ names_of_file self.name) }
-        ensures ends { IfOk result (λ paged. IsTrue F.tells.folder → BothEnd (names_of_file self.name) (committed_of paged.pair.pages) (F.scene host.new).folder) }
+        ensures ends { IfOk result (λ paged. IsTrue F.tells.folder
+            → BothEnd (names_of_file self.name) (committed_of paged.pair.pages) (F.scene host.new).folder) }
         ensures moved { OnOk result (IsTrue F.tells.folder → BothMoved (names_of_file self.name) (F.scene host.new).folder) }
         ensures sides { IfOk result (λ paged. (paged.pair.files.newer ≡ Swo) × (paged.pair.files.gate ≡ Open)) }
         ensures generation { IfOk result (λ paged. paged.pair.files.generation ≡ 2) }

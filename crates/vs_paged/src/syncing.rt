@@ -53,7 +53,8 @@ impl PagedText {
     pub fn end<F: Folder>(self, host: &mut F) -> Result<(), Failed>
         requires fits { FitsFolder F.tells self (F.scene host.old).folder }
         ensures acts { Acts F.tells (Ending self) (F.scene host.old) (F.scene host.new) }
-        ensures gone { OnOk result (IsTrue F.tells.folder → IsAbsent (names_of self).swp (F.scene host.new).folder × IsAbsent (names_of self).swo (F.scene host.new).folder) }
+        ensures gone { OnOk result (IsTrue F.tells.folder
+            → IsAbsent (names_of self).swp (F.scene host.new).folder × IsAbsent (names_of self).swo (F.scene host.new).folder) }
         ensures none { OnOk result (NoneFails F.tells (F.scene host.old) (F.scene host.new)) }
         ensures cause { HasCause (F.scene host.old).folder_faults (F.scene host.new).folder_faults (IsErr result) }
     {

@@ -9,12 +9,15 @@ pub record Count : Type 0 where
   pub at : Snapshot → ℕ
   pub now : Scene → ℕ
 
+-- the count of the failed reads of the script
 abbrev pub script_count : Count
 script_count = record { at = λ m. m.script_faults; now = λ s. s.script_faults }
 
+-- the count of the failed writes of the output
 abbrev pub output_count : Count
 output_count = record { at = λ m. m.out_faults; now = λ s. s.out_faults }
 
+-- the count of the failed calls on the folder
 abbrev pub folder_count : Count
 folder_count = record { at = λ m. m.folder_faults; now = λ s. s.folder_faults }
 

@@ -9,6 +9,7 @@ use Rattle.vs_backup.specs.Works.{IsOutside, two_names}
 use Rattle.vs_safety.specs.Writes.{Write, AreForeign, Avoids, HasWritten, IsWholeIn, State, new_bytes}
 use Rattle.vs_safety.specs.Undo.{HasStored, IsUndoIn, LeavesUndo, UndoWrite}
 
+-- What a command writes beside the swap files: the edited file with its backup, the undo file, or both.
 pub data FileWork : Type 0 where
   EditedFile : Write → FileWork
   UndoFile : UndoWrite → FileWork

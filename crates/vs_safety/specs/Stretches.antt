@@ -12,6 +12,7 @@ use Rattle.vs_safety.specs.Turns.{Turn}
 use Rattle.vs_safety.specs.Writes.{State, state_in, state_now}
 use Rattle.vs_safety.specs.FileWork.{FileWork, Keeps, HasLeft}
 
+-- The output has fewer bytes than this.
 abbrev pub IsShorter : ℕ → Snapshot → Type 0
 IsShorter n snapshot = length snapshot.output < n
 

@@ -16,6 +16,7 @@ Text = List (List ℕ)
 
 -- ---- what a stop leaves
 
+-- The text is one of these.
 abbrev pub IsOneOf : Text → List Text → Type 0
 IsOneOf text [] = ⊥
 IsOneOf text (first ∷ rest) = (text ≡ first) ⊎ IsOneOf text rest
@@ -54,10 +55,12 @@ abbrev pub recoverable : List Sync → List Text
 recoverable [] = []
 recoverable (sync ∷ syncs) = sync.text ∷ (if sync.acknowledged then [] else recoverable syncs)
 
+-- No sync is acknowledged.
 abbrev pub NoneAcknowledged : List Sync → Type 0
 NoneAcknowledged [] = Unit {0}
 NoneAcknowledged (sync ∷ syncs) = (sync.acknowledged ≡ false) × NoneAcknowledged syncs
 
+-- The sync is one of these.
 abbrev pub IsSyncIn : Sync → List Sync → Type 0
 IsSyncIn sync [] = ⊥
 IsSyncIn sync (first ∷ rest) = (sync ≡ first) ⊎ IsSyncIn sync rest
@@ -91,6 +94,7 @@ pub record StandsAs (generation : ℕ) (sync : Sync) (file : List ℕ) : Type 0 
   pub reads : reading_of (take 4096 file) ≡ Ok zero
   pub dirty : zero.dirty ≡ sync.dirty
 
+-- The swap file is there, and stands for the text of this sync.
 abbrev pub IsThereAs : ℕ → Sync → Option (List ℕ) → Type 0
 IsThereAs generation sync None = ⊥
 IsThereAs generation sync (Some file) = StandsAs generation sync file

@@ -82,6 +82,7 @@ IsUndoBy write left = IsSomeAnd (undo_stored write) (λ undo. IsSomeAnd left (Is
 abbrev pub has_stored : Turn → Bool
 has_stored turn = is_some (undo_stored turn.write) && (turn.done && not turn.failed)
 
+-- None of these commands stored an undo file.
 abbrev pub NoneStored : List Turn → Type 0
 NoneStored [] = Unit {0}
 NoneStored (turn ∷ turns) = (has_stored turn ≡ false) × NoneStored turns
@@ -129,9 +130,11 @@ pub data Closing : Type 0 where
   LastSync : Sync → Closing
   Quits : Closing
 
+-- what a run writes where its last sync is acknowledged
 abbrev pub preserved_line : List ℕ
 preserved_line = codes "File preserved" ++ 10 ∷ []
 
+-- what a run writes for an accepted `q` or `q!`
 abbrev pub quit_line : List ℕ
 quit_line = codes "quit" ++ 10 ∷ []
 
@@ -156,6 +159,7 @@ with_closing turns NotBegun = turns
 with_closing turns (LastSync sync) = turns ++ last_turn sync ∷ []
 with_closing turns Quits = turns
 
+-- the commands of a run, and its closing where that is a sync
 abbrev pub all_turns : Ran → List Turn
 all_turns ran = with_closing ran.turns ran.closing
 

@@ -47,6 +47,7 @@ Avoids names write inside = IsOutside (WorksOn write.options names.file write.fo
 
 -- ---- the file and its backup
 
+-- whether this is one of two names
 abbrev pub is_either : Name → Name → Name → Bool
 is_either one other name = bytes_eq one name || bytes_eq other name
 
@@ -75,9 +76,11 @@ pub record State : Type 0 where
   pub folder : Disk
   pub faults : ℕ
 
+-- the folder at a moment, with its count of failed calls
 abbrev pub state_in : Snapshot → State
 state_in snapshot = record { folder = snapshot.folder; faults = snapshot.folder_faults }
 
+-- the folder now, with its count of failed calls
 abbrev pub state_now : Scene → State
 state_now scene = record { folder = scene.folder; faults = scene.folder_faults }
 

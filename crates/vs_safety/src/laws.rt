@@ -32,22 +32,28 @@ pub fn splitting()
 
 /// A run opens its file, and writes the opening reply.
 pub fn opening()
-    ensures fails { (names : Names) (start now : Scene) (text : Text) (line : List ℕ) → 0 < length line → start.folder.pending ≡ [] → RecoversOrNone names (text ∷ []) start.folder
+    ensures fails { (names : Names) (start now : Scene) (text : Text) (line : List ℕ) → 0 < length line → start.folder.pending ≡ []
+        → RecoversOrNone names (text ∷ []) start.folder
         → Works names None (RecoversOrNone names (text ∷ [])) start now → Halted names start now text line [] }
     ensures opens { (names : Names) (start now : Scene) (text : Text) (line : List ℕ) → 0 < length line → AreNames names → start.folder.pending ≡ []
         → RecoversOrNone names (text ∷ []) start.folder → Works names None (RecoversOrNone names (text ∷ [])) start now → IsBetween names (opened text) now.folder → Opened names start now text line }
-    ensures stops { (names : Names) (start now : Scene) (text : Text) (line : List ℕ) → 0 < length line → Opened names start now text line → Halted names start now text line [] }
-    ensures cut { (names : Names) (start now new : Scene) (text : Text) (line : List ℕ) (n : ℕ) → 0 < length line → Opened names start now text line → Writes n line now new
+    ensures stops { (names : Names) (start now : Scene) (text : Text) (line : List ℕ) → 0 < length line → Opened names start now text line
+        → Halted names start now text line [] }
+    ensures cut { (names : Names) (start now new : Scene) (text : Text) (line : List ℕ) (n : ℕ) → 0 < length line → Opened names start now text line
+        → Writes n line now new
         → Halted names start new text line [] }
-    ensures written { (names : Names) (start now new : Scene) (text : Text) (line : List ℕ) (n : ℕ) → 0 < length line → Opened names start now text line → Writes n line now new
+    ensures written { (names : Names) (start now new : Scene) (text : Text) (line : List ℕ) (n : ℕ) → 0 < length line → Opened names start now text line
+        → Writes n line now new
         → length line ≤ n → Going names start new text line [] }
 {}
 
 /// One turn of a run: it looks, takes a command, and writes the reply; it may stop at each of these.
 pub fn turning()
-    ensures looks { (names : Names) (start now new : Scene) (text : Text) (line : List ℕ) (turns : List Turn) → Looks now new → Going names start now text line turns
+    ensures looks { (names : Names) (start now new : Scene) (text : Text) (line : List ℕ) (turns : List Turn) → Looks now new
+        → Going names start now text line turns
         → Going names start new text line turns }
-    ensures stops { (names : Names) (start now : Scene) (text : Text) (line : List ℕ) (turns : List Turn) → Going names start now text line turns → Halted names start now text line turns }
+    ensures stops { (names : Names) (start now : Scene) (text : Text) (line : List ℕ) (turns : List Turn) → Going names start now text line turns
+        → Halted names start now text line turns }
     ensures steps { (names : Names) (start now new : Scene) (text : Text) (line : List ℕ) (turns : List Turn) (turn : Turn) → 0 < length turn.reply
         → Stepped names (after_turns (opened text) turns) turn now new → Going names start now text line turns → Stepping names start new text line turns turn }
     ensures fails { (names : Names) (start now : Scene) (text : Text) (line : List ℕ) (turns : List Turn) (turn : Turn) → 0 < length turn.reply
@@ -64,7 +70,8 @@ pub fn ending()
         → IsCrashSafe names start now ran }
     ensures leaves { (names : Names) (start now new : Scene) (text : Text) (line : List ℕ) (turns : List Turn) → Going names start now text line turns
         → Works names None (RecoversOrNone names (recoverable (after_turns (opened text) turns))) now new → IsCrashSafe names start new (quit_run text line turns) }
-    ensures quits { (names : Names) (start now mid new : Scene) (text : Text) (line : List ℕ) (turns : List Turn) (n : ℕ) → Going names start now text line turns
+    ensures quits { (names : Names) (start now mid new : Scene) (text : Text) (line : List ℕ) (turns : List Turn) (n : ℕ)
+        → Going names start now text line turns
         → Works names None (RecoversOrNone names (recoverable (after_turns (opened text) turns))) now mid → Writes n quit_line mid new
         → NoneLeft names mid.folder → IsCrashSafe names start new (quit_run text line turns) }
 {}
@@ -78,5 +85,6 @@ pub fn lasting()
 
 /// Where no call but the last one failed since the newest snapshot had the count as it was, the count rose at the last call.
 pub fn failing()
-    ensures { (start now new : Scene) → FailsLast now new → HasRisen now.folder_faults new.folder_faults → IsCounted folder_count start now → RoseLast folder_count start new }
+    ensures { (start now new : Scene) → FailsLast now new → HasRisen now.folder_faults new.folder_faults → IsCounted folder_count start now
+        → RoseLast folder_count start new }
 {}

@@ -34,6 +34,7 @@ pub record Ahead : Type 0 where
 abbrev pub HasSeen : Ahead → Scene → Type 0
 HasSeen reader scene = reader.ended ≡ true → scene.script ≡ []
 
+-- the lines that are still to be read
 abbrev pub lines_ahead : Ahead → Scene → List (List ℕ)
 lines_ahead reader scene = lines_of (reader.bytes ++ scene.script)
 

@@ -8,6 +8,7 @@ use Rattle.vs_excmd.specs.declared.request.Request.{Request}
 use Rattle.vs_script.specs.Ahead.{Ahead, GoesOn, kept_of, lines_ahead, whole_lines}
 use Rattle.vs_script.specs.Script.{instruction, commands_of, block_of, whole_of, whole_block}
 
+-- the commands that are still to be read
 abbrev pub commands_ahead : Ahead → Scene → List Instruction
 commands_ahead reader scene = commands_of (lines_ahead reader scene)
 

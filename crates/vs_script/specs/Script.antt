@@ -24,9 +24,11 @@ kind_from (Ok None) = NoCommand
 kind_from (Ok (Some command)) = if wants_block command then Head command else Alone (Ok command)
 kind_from (Err error) = Alone (Err error)
 
+-- what a line is, by what it means
 unfoldable pub kind_of : List ℕ → LineKind
 kind_of line = kind_from (meaning_of line)
 
+-- whether a line is a command without a block, or an error
 abbrev pub is_alone : LineKind → Bool
 is_alone NoCommand = false
 is_alone (Alone parsed) = true
@@ -38,6 +40,7 @@ IsKind line.NoCommand kind = kind ≡ NoCommand
 IsKind line.Alone kind = is_alone kind ≡ true
 IsKind (line.Head command) kind = kind ≡ Head (command_of command)
 
+-- whether a line that was read is a command or an error
 abbrev pub is_found : ScriptLine → Bool
 is_found line.NoCommand = false
 is_found line.Alone = true
@@ -79,6 +82,7 @@ at_end command block = instruction (Ok command) block ∷ []
 abbrev pub commands_of : List (List ℕ) → List Instruction
 commands_of lines = commands_by at_end lines
 
+-- the commands from the block of this command on, where a block may end at the script's end
 abbrev pub block_of : Command → List (List ℕ) → List (List ℕ) → List Instruction
 block_of command block lines = block_by at_end command block lines
 
@@ -90,5 +94,6 @@ not_yet command block = []
 abbrev pub whole_of : List (List ℕ) → List Instruction
 whole_of lines = commands_by not_yet lines
 
+-- the same where a block ends at its dot alone
 abbrev pub whole_block : Command → List (List ℕ) → List (List ℕ) → List Instruction
 whole_block command block lines = block_by not_yet command block lines

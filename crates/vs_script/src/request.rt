@@ -51,12 +51,14 @@ impl ScriptReader {
         line: &mut LineBuffer,
     ) -> Result<ScriptLine, ScriptErr>
         requires ended { IsTrue (S.tells).script → HasSeen self.old (S.scene host.old) }
-        ensures line { IfOk result (λ found. IsTrue (S.tells).script → FindsCommand (is_found found) line.new self.old self.new (S.scene host.old) (S.scene host.new)) }
+        ensures line { IfOk result (λ found. IsTrue (S.tells).script
+            → FindsCommand (is_found found) line.new self.old self.new (S.scene host.old) (S.scene host.new)) }
         ensures kind { IfOk result (λ found. IsTrue (is_found found) → IsKind found (kind_of line.new)) }
         ensures form { IfOk result HasHeadForm }
         ensures track { KeepsTrack S.tells result self.old self.new (S.scene host.old) (S.scene host.new) }
         ensures end { result ≡ Ok ScriptLine.NoCommand → IsTrue (S.tells).script → ((S.scene host.new).script ≡ []) × (self.new.ended ≡ true) }
-        ensures stops { IfErr result (λ error. IsTrue (S.tells).script → Stops error whole_commands [] self.old self.new (S.scene host.old) (S.scene host.new)) }
+        ensures stops { IfErr result (λ error. IsTrue (S.tells).script
+            → Stops error whole_commands [] self.old self.new (S.scene host.old) (S.scene host.new)) }
         ensures fewer { IfOk result (λ found. IsTrue (is_found found) → bytes_left self.new < bytes_left self.old) }
         ensures reads { ReadsScript S.tells result (S.scene host.old) (S.scene host.new) }
     {
@@ -87,7 +89,8 @@ impl ScriptReader {
         ensures form { IfOk result (λ found. IfSome found (λ request. IsFormed request)) }
         ensures none { result ≡ Ok None → IsTrue (S.tells).script → TakesNone self.old self.new (S.scene host.old) (S.scene host.new) }
         ensures track { KeepsTrack S.tells result self.old self.new (S.scene host.old) (S.scene host.new) }
-        ensures stops { IfErr result (λ error. IsTrue (S.tells).script → Stops error whole_commands [] self.old self.new (S.scene host.old) (S.scene host.new)) }
+        ensures stops { IfErr result (λ error. IsTrue (S.tells).script
+            → Stops error whole_commands [] self.old self.new (S.scene host.old) (S.scene host.new)) }
         ensures fewer { IfOk result (λ found. IfSome found (λ request. bytes_left self.new < bytes_left self.old)) }
         ensures reads { ReadsScript S.tells result (S.scene host.old) (S.scene host.new) }
     {

@@ -15,6 +15,7 @@ use Rattle.vs_paged.specs.Pages.{Opening}
 use Rattle.vs_session.specs.declared.open.OpenErr.{OpenErr}
 use Rattle.vs_session.specs.declared.open.OpenErr.TheVariants as opening
 
+-- why a file was not opened, where its text passes a limit
 abbrev pub open_error : TextErr → OpenErr
 open_error (text.TextFull size) = opening.TextLimit size
 open_error (text.LineTooLong size) = opening.TextLimit size

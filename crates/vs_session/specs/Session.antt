@@ -83,6 +83,7 @@ begins_after steps (Ok Preserve) = true
 begins_after steps (Ok (Write bang)) = true
 begins_after steps (Ok command) = nat_le steps_between_syncs steps && (is_text_command command || is_move command)
 
+-- whether a command begins with a sync
 abbrev pub begins_sync : SessionState → Instruction → Bool
 begins_sync state instruction = begins_after state.steps instruction.parsed
 
@@ -94,6 +95,7 @@ is_dirty state = not (is_saved state.saved (current_of state.machine))
 abbrev pub sync_in : SessionState → Bool → Sync
 sync_in state acknowledged = record { text = state.machine.text; dirty = is_dirty state; acknowledged = acknowledged }
 
+-- the sync that a command begins, where it begins one
 abbrev pub sync_of : SessionState → Instruction → Ended → Option Sync
 sync_of state instruction ended = if begins_sync state instruction then Some (sync_in state ended.acknowledged) else None
 
@@ -103,10 +105,12 @@ syncs_after state instruction ended syncs = with_sync (sync_of state instruction
 
 -- ---- writes
 
+-- whether this is `w`
 abbrev pub is_write : Result Command ExErr → Bool
 is_write (Ok (Write bang)) = true
 is_write parsed = false
 
+-- whether this is `wundo`
 abbrev pub is_wundo : Result Command ExErr → Bool
 is_wundo (Ok WriteUndo) = true
 is_wundo parsed = false
@@ -115,6 +119,7 @@ is_wundo parsed = false
 abbrev pub writes_files : Result Command ExErr → Bool
 writes_files parsed = is_write parsed || is_wundo parsed
 
+-- whether this is `rundo`
 abbrev pub is_rundo : Result Command ExErr → Bool
 is_rundo (Ok ReadUndo) = true
 is_rundo parsed = false
@@ -147,6 +152,7 @@ undo_after state found = record { text = state.machine.text; history = history_m
 abbrev pub write_work : SessionState → Disk → FileWork
 write_work state found = if state.options.undofile then BothFiles (write_in state found) (undo_after state found) else EditedFile (write_in state found)
 
+-- the undo file that a command stores, where it stores one
 abbrev pub undo_work : SessionState → Disk → Result Command ExErr → Option FileWork
 undo_work state found (Ok WriteUndo) = Some (UndoFile (undo_in state found))
 undo_work state found parsed = None
@@ -176,6 +182,7 @@ abbrev pub history_in : Result History TakeErr → Option History
 history_in (Ok history) = Some history
 history_in (Err error) = None
 
+-- the history that a command takes in place of the old one, where it takes one
 abbrev pub history_by : Result Command ExErr → Result History TakeErr → Option History
 history_by (Ok ReadUndo) read = history_in read
 history_by parsed read = None
@@ -219,6 +226,7 @@ session_reply state outcome found read (Ok WriteUndo) = Some (says undo_file_wri
 session_reply state outcome found read (Ok ReadUndo) = Some (taken_reply read)
 session_reply state outcome found read parsed = own_reply parsed
 
+-- the reply to a command that ended so: the session's own where it has one, else that of the machine
 abbrev pub answered : Outcome → Option Answer → Answer → Answer
 answered Done (Some own) reply = own
 answered NoUndo (Some own) reply = own
@@ -234,6 +242,7 @@ abbrev pub quits : Result Command ExErr → Bool → Bool
 quits (Ok (Quit bang)) is_saved = bang || is_saved
 quits parsed is_saved = false
 
+-- whether a command is a `q` or `q!` that is accepted
 abbrev pub accepts_quit : SessionState → Instruction → Bool
 accepts_quit state instruction = quits instruction.parsed (is_saved state.saved (current_of state.machine))
 
@@ -252,6 +261,7 @@ abbrev pub options_set : Options → Result Command ExErr → Options
 options_set options (Ok (Set setting)) = options_with options setting
 options_set options parsed = options
 
+-- the options after a command that ended so
 abbrev pub options_after : Outcome → Options → Result Command ExErr → Options
 options_after Done options parsed = options_set options parsed
 options_after NoMemory options parsed = options
@@ -286,6 +296,7 @@ written_state state = record state {
   saved = Some (current_of state.machine);
 }
 
+-- the state after a command that ended so
 abbrev pub state_after : SessionState → Instruction → Ended → SessionState
 state_after state instruction ended =
     let synced = after_sync state (begins_sync state instruction && ended.acknowledged) in
@@ -304,6 +315,7 @@ turn_of state instruction ended = record {
   reply = (reply_of state instruction ended).bytes;
 }
 
+-- commands that ended so, as turns
 abbrev pub turns_of : SessionState → List Instruction → List Ended → List Turn
 turns_of state [] ends = []
 turns_of state (command ∷ commands) [] = []

@@ -27,6 +27,7 @@ outcome_to (error.Failed place) = Fault
 outcome_to error.NoBackupName = Done
 outcome_to (error.NoMemory place) = NoMemory
 
+-- the reply to a `w` that was refused
 abbrev pub reply_to : WriteErr → Answer
 reply_to (error.Failed place) = refuses device_fault
 reply_to error.NoBackupName = refuses no_backup_name

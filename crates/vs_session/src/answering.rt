@@ -38,7 +38,8 @@ fn answer_in<F: Folder>(
     ensures oldest { IfOk result (λ answered. IsTrue F.tells.folder → (state : State) (instruction : Instruction)
         → Stands pair.old.pages tree.old history.old state → cursor ≡ state.cursor → IsRequest request.now instruction
         → answered.oldest ≡ done_oldest state keep (meaning_at state instruction)) }
-    ensures err { OnErr result (IsTrue F.tells.folder → (state : State) → Stands pair.old.pages tree.old history.old state → Stands pair.new.pages tree.new history.new state) }
+    ensures err { OnErr result (IsTrue F.tells.folder → (state : State) → Stands pair.old.pages tree.old history.old state
+        → Stands pair.new.pages tree.new history.new state) }
     ensures kept { KeepsLentWithUndo F.tells (IsErrOf result StoreErr.Failed) pair.old pair.new tree.new history.new (F.scene host.old) (F.scene host.new) }
 {
     let mut store = TreeStore {
@@ -71,7 +72,8 @@ pub(crate) fn answer_text<F: Folder>(
     ensures oldest { IfOk result (λ answered. IsTrue F.tells.folder → (state : State) (syncs : List Sync) (instruction : Instruction)
         → FitsState text.old history.old (F.scene host.old).folder state syncs → cursor ≡ state.cursor → IsRequest request.now instruction
         → answered.oldest ≡ done_oldest state keep (meaning_at state instruction)) }
-    ensures err { OnErr result (IsTrue F.tells.folder → (state : State) (syncs : List Sync) → FitsState text.old history.old (F.scene host.old).folder state syncs
+    ensures err { OnErr result (IsTrue F.tells.folder → (state : State) (syncs : List Sync)
+        → FitsState text.old history.old (F.scene host.old).folder state syncs
         → FitsState text.new history.new (F.scene host.new).folder state syncs) }
     ensures kept { KeepsWithUndo F.tells (IsErrOf result StoreErr.Failed) text.old text.new history.new (F.scene host.old) (F.scene host.new) }
 {

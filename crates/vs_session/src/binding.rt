@@ -31,7 +31,8 @@ fn bind_in<F: Folder>(
     requires lent { IsLent F.tells pair.old tree.old (F.scene host.old).folder }
     ensures bound { IfOk result (λ undo. IsTrue F.tells.folder → (text : Text) → IsPaged pair.old.pages tree.old text
         → (history : History) × IsBound (history_of contents.now) text history × IsHistory undo text history) }
-    ensures refused { IfErr result (λ error. IsTrue F.tells.folder → (text : Text) → IsPaged pair.old.pages tree.old text → IsRefused (history_of contents.now) text error) }
+    ensures refused { IfErr result (λ error. IsTrue F.tells.folder → (text : Text) → IsPaged pair.old.pages tree.old text
+        → IsRefused (history_of contents.now) text error) }
     ensures counts { IfOk result (λ undo. FitsCount undo (max 1 tree.new.present.lines)) }
     ensures kept { KeepsLent F.tells (IsErrOf result BindErr.Failed) pair.old pair.new tree.old tree.new (F.scene host.old) (F.scene host.new) }
 {
@@ -53,7 +54,8 @@ pub(crate) fn bind_text<F: Folder>(
     requires fits { paged.FitsFolder F.tells text.old (F.scene host.old).folder }
     ensures bound { IfOk result (λ undo. IsTrue F.tells.folder → (lines : Text) (syncs : List Sync) → paged.Fits text.old (F.scene host.old).folder lines syncs
         → (history : History) × IsBound (history_of contents.now) lines history × IsHistory undo lines history) }
-    ensures refused { IfErr result (λ error. IsTrue F.tells.folder → (lines : Text) (syncs : List Sync) → paged.Fits text.old (F.scene host.old).folder lines syncs
+    ensures refused { IfErr result (λ error. IsTrue F.tells.folder → (lines : Text) (syncs : List Sync)
+        → paged.Fits text.old (F.scene host.old).folder lines syncs
         → IsRefused (history_of contents.now) lines error) }
     ensures counts { IfOk result (λ undo. FitsCount undo (max 1 text.new.tree.present.lines)) }
     ensures kept { KeepsText F.tells (IsErrOf result BindErr.Failed) text.old text.new (F.scene host.old) (F.scene host.new) }

@@ -30,7 +30,8 @@ pub(crate) fn read_bytes<F: Folder>(
     piece: &mut [u8],
 ) -> Result<(), Failed>
     requires { IsTrue F.tells.folder → IsSomeAnd (content_of (F.scene host.old) name.now) (λ bytes. at + length piece.old ≤ length bytes) }
-    ensures value { OnOk result (IsTrue F.tells.folder → IfSome (content_of (F.scene host.old) name.now) (λ bytes. piece.new ≡ take (length piece.old) (drop at bytes))) }
+    ensures value { OnOk result (IsTrue F.tells.folder
+        → IfSome (content_of (F.scene host.old) name.now) (λ bytes. piece.new ≡ take (length piece.old) (drop at bytes))) }
     ensures look { IsLook F.tells result (IsErr result) (F.scene host.old) (F.scene host.new) }
 {
     host.read_at(name, at, piece)

@@ -59,7 +59,8 @@ fn read_text<H: Host>(
     ensures free { OnOk result (IsTrue (H.tells).folder → HasSwap (names_of_file name.now) (H.scene host.old).folder → ⊥) }
     ensures swap { IsErrOf result OpenErr.SwapFound → IsTrue (H.tells).folder → HasSwap (names_of_file name.now) (H.scene host.old).folder }
     ensures limits { KeepsToLimits H.tells result (content_of (H.scene host.old) name.now) }
-    ensures no_swap { (size : ℕ) → IsErrOf result (OpenErr.TextLimit size) → IsTrue (H.tells).folder → HasSwap (names_of_file name.now) (H.scene host.old).folder → ⊥ }
+    ensures no_swap { (size : ℕ) → IsErrOf result (OpenErr.TextLimit size) → IsTrue (H.tells).folder
+        → HasSwap (names_of_file name.now) (H.scene host.old).folder → ⊥ }
     ensures reading { IsReading H.tells result (H.scene host.old) (H.scene host.new) }
 {
     let names = names_for(alloc, name)?;
@@ -86,7 +87,8 @@ impl Session {
         ensures swap { IsErrOf result OpenErr.SwapFound → IsTrue (H.tells).folder → HasSwap (names_of_file name.now) (H.scene host.old).folder }
         ensures barred { IsTrue (H.tells).folder → HasSwap (names_of_file name.now) (H.scene host.old).folder
             → IsErrOf result OpenErr.SwapFound ⊎ IsErrOf result OpenErr.Failed ⊎ IsErrOf result OpenErr.NoMemory }
-        ensures barred_looks { IsTrue (H.tells).folder → HasSwap (names_of_file name.now) (H.scene host.old).folder → OnlyLooks H.tells (H.scene host.old) (H.scene host.new) }
+        ensures barred_looks { IsTrue (H.tells).folder → HasSwap (names_of_file name.now) (H.scene host.old).folder
+            → OnlyLooks H.tells (H.scene host.old) (H.scene host.new) }
         ensures limit { (size : ℕ) → IsErrOf result (OpenErr.TextLimit size) → IsTooLarge H.tells size (content_of (H.scene host.old) name.now) }
         ensures over { IsTrue (H.tells).folder → IfSome (content_of (H.scene host.old) name.now) (λ bytes. ¬ (IsWithinLimits (lines_of bytes)) → IsErr result) }
         ensures acts { Acts H.tells (Opens name.now) (H.scene host.old) (H.scene host.new) }

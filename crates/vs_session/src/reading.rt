@@ -29,7 +29,8 @@ fn read_piece<H: Host>(
     requires size { size_read reader.old + length piece.old < 2 ^ 64 }
     requires there { IsTrue (H.tells).folder → IsSomeAnd (content_of (H.scene host.old) name.now) (λ bytes. at + length piece.old ≤ length bytes) }
     requires read { (fed : List ℕ) × HasRead reader.old text.old.text fed }
-    ensures piece { OnOk result (IsTrue (H.tells).folder → IfSome (content_of (H.scene host.old) name.now) (λ bytes. piece.new ≡ take (length piece.old) (drop at bytes))) }
+    ensures piece { OnOk result (IsTrue (H.tells).folder
+        → IfSome (content_of (H.scene host.old) name.now) (λ bytes. piece.new ≡ take (length piece.old) (drop at bytes))) }
     ensures read { OnOk result ((fed : List ℕ) → HasRead reader.old text.old.text fed → HasRead reader.new text.new.text (fed ++ piece.new)) }
     ensures limit { (size : ℕ) → IsErrOf result (OpenErr.TextLimit size) → (fed more : List ℕ) → HasRead reader.old text.old.text fed
         → PassesLimit (lines_of ((fed ++ piece.new) ++ more)) size }

@@ -78,7 +78,8 @@ impl Session {
     /// Answers `rundo`: the history of the undo file replaces that of the session, where it is one of the text.
     pub(crate) fn answer_rundo<F: Folder>(&mut self, alloc: Global, host: &mut F, at: u64) -> Step
         requires usable { IsUsable F.tells self.old (F.scene host.old).folder }
-        ensures step { IsTrue F.tells.folder → (state : SessionState) (syncs : List Sync) (instruction : Instruction) → Fits self.old (F.scene host.old).folder state syncs
+        ensures step { IsTrue F.tells.folder → (state : SessionState) (syncs : List Sync) (instruction : Instruction)
+            → Fits self.old (F.scene host.old).folder state syncs
             → is_rundo instruction.parsed ≡ true → IsStep result state syncs instruction self.old self.new (F.scene host.old) (F.scene host.new) }
         ensures time { IsMarkedAt result at }
         ensures kept { GoesOnReading F.tells (IsFault result) self.old self.new (F.scene host.old) (F.scene host.new) }

@@ -163,7 +163,8 @@ impl Session {
         requires form { IsFormed request.now }
         requires own { own_reply (result_of request.now.parsed) ≡ None }
         requires usable { IsUsable F.tells self.old (F.scene host.old).folder }
-        ensures reply { IsTrue F.tells.folder → (state : SessionState) (syncs : List Sync) (instruction : Instruction) → Fits self.old (F.scene host.old).folder state syncs
+        ensures reply { IsTrue F.tells.folder → (state : SessionState) (syncs : List Sync) (instruction : Instruction)
+            → Fits self.old (F.scene host.old).folder state syncs
             → IsRequest request.now instruction → result.1 ≡ machine_reply state.machine instruction (record { outcome = result.0; at = at }) }
         ensures fits { CarriesRequest F.tells request.now (record { outcome = result.0; at = at }) self.old self.new (F.scene host.old).folder (F.scene host.new).folder }
         ensures kept { GoesOnReading F.tells (is_fault result.0 ≡ true) self.old self.new (F.scene host.old) (F.scene host.new) }
@@ -208,7 +209,8 @@ impl Session {
     ) -> (Outcome, Reply)
         requires form { IsFormed request.now }
         requires usable { IsUsable F.tells self.old (F.scene host.old).folder }
-        ensures reply { IsTrue F.tells.folder → (state : SessionState) (syncs : List Sync) (instruction : Instruction) → Fits self.old (F.scene host.old).folder state syncs
+        ensures reply { IsTrue F.tells.folder → (state : SessionState) (syncs : List Sync) (instruction : Instruction)
+            → Fits self.old (F.scene host.old).folder state syncs
             → IsRequest request.now instruction →
             result.1 ≡ answered result.0 (own_reply instruction.parsed) (machine_reply state.machine instruction (record { outcome = result.0; at = at })) }
         ensures fits { CarriesRequest F.tells request.now (record { outcome = result.0; at = at }) self.old self.new (F.scene host.old).folder (F.scene host.new).folder }

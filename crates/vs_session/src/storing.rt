@@ -47,7 +47,8 @@ impl Session {
     /// Answers `wundo`: stores the undo file of the text with its history.
     pub(crate) fn answer_wundo<F: Folder>(&mut self, alloc: Global, host: &mut F, at: u64) -> Step
         requires usable { IsUsable F.tells self.old (F.scene host.old).folder }
-        ensures step { IsTrue F.tells.folder → (state : SessionState) (syncs : List Sync) (instruction : Instruction) → Fits self.old (F.scene host.old).folder state syncs
+        ensures step { IsTrue F.tells.folder → (state : SessionState) (syncs : List Sync) (instruction : Instruction)
+            → Fits self.old (F.scene host.old).folder state syncs
             → is_wundo instruction.parsed ≡ true → IsStep result state syncs instruction self.old self.new (F.scene host.old) (F.scene host.new) }
         ensures time { IsMarkedAt result at }
         ensures kept { GoesOn (IsFault result) self.old self.new (F.scene host.old) (F.scene host.new) }

@@ -60,7 +60,8 @@ fn digest_text<F: Folder>(
     host: &mut F,
 ) -> Result<[u8; 32], StoreErr>
     requires fits { paged.FitsFolder F.tells text.old (F.scene host.old).folder }
-    ensures digest { IfOk result (λ digest. IsTrue F.tells.folder → (lines : Text) (syncs : List Sync) → paged.Fits text.old (F.scene host.old).folder lines syncs
+    ensures digest { IfOk result (λ digest. IsTrue F.tells.folder → (lines : Text) (syncs : List Sync)
+        → paged.Fits text.old (F.scene host.old).folder lines syncs
         → digest ≡ digest_of lines) }
     ensures kept { KeepsText F.tells (IsErrOf result StoreErr.Failed) text.old text.new (F.scene host.old) (F.scene host.new) }
 {
@@ -72,7 +73,8 @@ impl Session {
     /// failed, and it is the last one.
     pub fn summary<F: Folder>(&mut self, alloc: Global, host: &mut F) -> Result<Summary, StoreErr>
         requires fits { FitsFolder F.tells self.old (F.scene host.old).folder }
-        ensures summary { IfOk result (λ summary. IsTrue F.tells.folder → (state : SessionState) (syncs : List Sync) → Fits self.old (F.scene host.old).folder state syncs
+        ensures summary { IfOk result (λ summary. IsTrue F.tells.folder → (state : SessionState) (syncs : List Sync)
+            → Fits self.old (F.scene host.old).folder state syncs
             → summary ≡ summary_of state syncs) }
         ensures fits { KeepsState F.tells self.old self.new (F.scene host.old).folder (F.scene host.new).folder }
         ensures undo { FitsUndo self.old → FitsUndo self.new }

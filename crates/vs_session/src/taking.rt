@@ -72,10 +72,12 @@ fn bind_undo<F: Folder>(
 ) -> Result<UndoTree, TakeErr>
     requires rules { KeepsRules (history_of contents.now) }
     requires fits { paged.FitsFolder F.tells text.old (F.scene host.old).folder }
-    ensures taken { IfOk result (λ undo. IsTrue F.tells.folder → (lines : Text) (syncs : List Sync) (bytes : List ℕ) → paged.Fits text.old (F.scene host.old).folder lines syncs
+    ensures taken { IfOk result (λ undo. IsTrue F.tells.folder → (lines : Text) (syncs : List Sync) (bytes : List ℕ)
+        → paged.Fits text.old (F.scene host.old).folder lines syncs
         → IsUndoFile (history_of contents.now) bytes
         → (history : History) × IsTaken lines (Some bytes) (Ok history) × IsHistory undo lines history × (length contents.now.changes.items ≡ length history.links.nodes)) }
-    ensures refused { IfErr result (λ error. IsTrue F.tells.folder → (lines : Text) (syncs : List Sync) (bytes : List ℕ) → paged.Fits text.old (F.scene host.old).folder lines syncs
+    ensures refused { IfErr result (λ error. IsTrue F.tells.folder → (lines : Text) (syncs : List Sync) (bytes : List ℕ)
+        → paged.Fits text.old (F.scene host.old).folder lines syncs
         → IsUndoFile (history_of contents.now) bytes → IsTaken lines (Some bytes) (Err error)) }
     ensures counts { IfOk result (λ undo. FitsCount undo (max 1 text.new.tree.present.lines)) }
     ensures kept { KeepsText F.tells (IsErrOf result TakeErr.Failed) text.old text.new (F.scene host.old) (F.scene host.new) }
@@ -98,10 +100,12 @@ impl Session {
         host: &mut F,
     ) -> Result<Taken, TakeErr>
         requires fits { FitsFolder F.tells self.old (F.scene host.old).folder }
-        ensures taken { IfOk result (λ taken. IsTrue F.tells.folder → (state : SessionState) (syncs : List Sync) → Fits self.old (F.scene host.old).folder state syncs
+        ensures taken { IfOk result (λ taken. IsTrue F.tells.folder → (state : SessionState) (syncs : List Sync)
+            → Fits self.old (F.scene host.old).folder state syncs
             → (history : History) × IsTaken state.machine.text (content_of (F.scene host.old) (names_of self.old).undo) (Ok history) × IsHistory taken.tree state.machine.text history
             × (taken.changes ≡ length history.links.nodes)) }
-        ensures refused { IfErr result (λ error. IsTrue F.tells.folder → (state : SessionState) (syncs : List Sync) → Fits self.old (F.scene host.old).folder state syncs
+        ensures refused { IfErr result (λ error. IsTrue F.tells.folder → (state : SessionState) (syncs : List Sync)
+            → Fits self.old (F.scene host.old).folder state syncs
             → IsTaken state.machine.text (content_of (F.scene host.old) (names_of self.old).undo) (Err error)) }
         ensures counts { IfOk result (λ taken. FitsCount taken.tree (max 1 self.new.text.tree.present.lines)) }
         ensures fits { KeepsState F.tells self.old self.new (F.scene host.old).folder (F.scene host.new).folder }

@@ -36,7 +36,8 @@ fn unbind_in<F: Folder>(
     ensures made { IfOk result (λ contents. IsTrue F.tells.folder → (state : State) → Stands pair.old.pages tree.old history.now state
         → IsDataOf (history_of contents) state.text (history_next save_next state.history)) }
     ensures formed { IfOk result (λ contents. IsWellFormed (history_of contents)) }
-    ensures stands { IsTrue F.tells.folder → (state : State) → Stands pair.old.pages tree.old history.now state → Stands pair.new.pages tree.new history.now state }
+    ensures stands { IsTrue F.tells.folder → (state : State) → Stands pair.old.pages tree.old history.now state
+        → Stands pair.new.pages tree.new history.now state }
     ensures kept { KeepsLentWithUndo F.tells (IsErrOf result StoreErr.Failed) pair.old pair.new tree.new history.now (F.scene host.old) (F.scene host.new) }
 {
     let mut store = TreeStore {
@@ -55,7 +56,8 @@ fn unbind_text<F: Folder>(
     save_next: bool,
 ) -> Result<FileHistory, StoreErr>
     requires fits { FitsWithUndo F.tells text.old history.now (F.scene host.old).folder }
-    ensures made { IfOk result (λ contents. IsTrue F.tells.folder → (state : State) (syncs : List Sync) → FitsState text.old history.now (F.scene host.old).folder state syncs
+    ensures made { IfOk result (λ contents. IsTrue F.tells.folder → (state : State) (syncs : List Sync)
+        → FitsState text.old history.now (F.scene host.old).folder state syncs
         → IsDataOf (history_of contents) state.text (history_next save_next state.history)) }
     ensures formed { IfOk result (λ contents. IsWellFormed (history_of contents)) }
     ensures fits { IsTrue F.tells.folder → (state : State) (syncs : List Sync) → FitsState text.old history.now (F.scene host.old).folder state syncs
@@ -82,7 +84,8 @@ impl Session {
         save_next: bool,
     ) -> Result<Vec<u8>, StoreErr>
         requires usable { IsUsable F.tells self.old (F.scene host.old).folder }
-        ensures bytes { IfOk result (λ bytes. IsTrue F.tells.folder → (state : SessionState) (syncs : List Sync) → Fits self.old (F.scene host.old).folder state syncs
+        ensures bytes { IfOk result (λ bytes. IsTrue F.tells.folder → (state : SessionState) (syncs : List Sync)
+            → Fits self.old (F.scene host.old).folder state syncs
             → IsUndoOf state.machine.text (history_next save_next state.machine.history) bytes.items) }
         ensures fits { KeepsState F.tells self.old self.new (F.scene host.old).folder (F.scene host.new).folder }
         ensures kept { GoesOnReading F.tells (IsErrOf result StoreErr.Failed) self.old self.new (F.scene host.old) (F.scene host.new) }

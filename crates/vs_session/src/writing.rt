@@ -53,7 +53,8 @@ impl Session {
     // Writes the text into its file, after the sync of the command, where no undo file is asked for.
     fn write_alone<F: Folder>(&mut self, alloc: Global, host: &mut F) -> (Outcome, Reply)
         requires usable { IsUsable F.tells self.old (F.scene host.old).folder }
-        ensures step { IsTrue F.tells.folder → (state : SessionState) (syncs : List Sync) (instruction : Instruction) (before : Session) (start : Scene) (at : ℕ)
+        ensures step { IsTrue F.tells.folder
+            → (state : SessionState) (syncs : List Sync) (instruction : Instruction) (before : Session) (start : Scene) (at : ℕ)
             → is_write instruction.parsed ≡ true → state.options.undofile ≡ false → HasSynced state syncs before self.old start (F.scene host.old)
             → Answers state syncs instruction before self.new (record { outcome = result.0; at = at }) result.1 start (F.scene host.new) }
         ensures kept { GoesOn (is_fault result.0 ≡ true) self.old self.new (F.scene host.old) (F.scene host.new) }
@@ -100,7 +101,8 @@ impl Session {
         undo: &[u8],
     ) -> (Outcome, Reply)
         requires usable { IsUsable F.tells self.old (F.scene host.old).folder }
-        ensures step { IsTrue F.tells.folder → (state : SessionState) (syncs : List Sync) (instruction : Instruction) (before : Session) (start : Scene) (at : ℕ)
+        ensures step { IsTrue F.tells.folder
+            → (state : SessionState) (syncs : List Sync) (instruction : Instruction) (before : Session) (start : Scene) (at : ℕ)
             → is_write instruction.parsed ≡ true → state.options.undofile ≡ true → HasSynced state syncs before self.old start (F.scene host.old)
             → IsUndoOf state.machine.text (history_marked state.machine.history) undo.now
             → Answers state syncs instruction before self.new (record { outcome = result.0; at = at }) result.1 start (F.scene host.new) }
@@ -115,7 +117,8 @@ impl Session {
     // The same, with the undo file of the history as it will be after the write.
     fn write_with_undo<F: Folder>(&mut self, alloc: Global, host: &mut F) -> (Outcome, Reply)
         requires usable { IsUsable F.tells self.old (F.scene host.old).folder }
-        ensures step { IsTrue F.tells.folder → (state : SessionState) (syncs : List Sync) (instruction : Instruction) (before : Session) (start : Scene) (at : ℕ)
+        ensures step { IsTrue F.tells.folder
+            → (state : SessionState) (syncs : List Sync) (instruction : Instruction) (before : Session) (start : Scene) (at : ℕ)
             → is_write instruction.parsed ≡ true → state.options.undofile ≡ true → HasSynced state syncs before self.old start (F.scene host.old)
             → Answers state syncs instruction before self.new (record { outcome = result.0; at = at }) result.1 start (F.scene host.new) }
         ensures kept { GoesOn (is_fault result.0 ≡ true) self.old self.new (F.scene host.old) (F.scene host.new) }
@@ -130,7 +133,8 @@ impl Session {
     // Writes the text into its file, after the sync of the command, and stores its undo file where that is asked for.
     fn write_files<F: Folder>(&mut self, alloc: Global, host: &mut F) -> (Outcome, Reply)
         requires usable { IsUsable F.tells self.old (F.scene host.old).folder }
-        ensures step { IsTrue F.tells.folder → (state : SessionState) (syncs : List Sync) (instruction : Instruction) (before : Session) (start : Scene) (at : ℕ)
+        ensures step { IsTrue F.tells.folder
+            → (state : SessionState) (syncs : List Sync) (instruction : Instruction) (before : Session) (start : Scene) (at : ℕ)
             → is_write instruction.parsed ≡ true → HasSynced state syncs before self.old start (F.scene host.old)
             → Answers state syncs instruction before self.new (record { outcome = result.0; at = at }) result.1 start (F.scene host.new) }
         ensures kept { GoesOn (is_fault result.0 ≡ true) self.old self.new (F.scene host.old) (F.scene host.new) }
@@ -146,7 +150,8 @@ impl Session {
     pub(crate) fn answer_write<F: Folder>(&mut self, alloc: Global, host: &mut F, at: u64) -> Step
         requires room { generation_of self.old < 2 ^ 63 }
         requires usable { IsUsable F.tells self.old (F.scene host.old).folder }
-        ensures step { IsTrue F.tells.folder → (state : SessionState) (syncs : List Sync) (instruction : Instruction) → Fits self.old (F.scene host.old).folder state syncs
+        ensures step { IsTrue F.tells.folder → (state : SessionState) (syncs : List Sync) (instruction : Instruction)
+            → Fits self.old (F.scene host.old).folder state syncs
             → is_write instruction.parsed ≡ true → IsStep result state syncs instruction self.old self.new (F.scene host.old) (F.scene host.new) }
         ensures time { IsMarkedAt result at }
         ensures kept { GoesOnSyncing (IsFault result) self.old self.new (F.scene host.old) (F.scene host.new) }

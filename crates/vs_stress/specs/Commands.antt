@@ -13,6 +13,7 @@ use Rattle.vs_excmd.specs.Request.{Instruction}
 abbrev pub numbered : ℕ → ℕ → List ℕ
 numbered number digit = decimal number ++ 46 ∷ (48 + digit) ∷ []
 
+-- the lines of a block for the digits below this one
 abbrev pub block_to : ℕ → ℕ → List (List ℕ)
 block_to number zero = []
 block_to number (suc digit) = block_to number digit ++ numbered number digit ∷ []
@@ -24,17 +25,21 @@ line_by (suc zero) = codes "$a"
 line_by (suc (suc zero)) = codes "2m0"
 line_by (suc (suc (suc rest))) = codes "1s/\\V./:/"
 
+-- the block of a command by its number modulo 4: ten lines after `1`, no line after the others
 abbrev pub block_by : ℕ → ℕ → List (List ℕ)
 block_by number zero = []
 block_by number (suc zero) = block_to number 10
 block_by number (suc (suc rest)) = []
 
+-- the line of the command with this number
 abbrev pub line_of : ℕ → List ℕ
 line_of number = line_by (number % 4)
 
+-- the block of the command with this number
 abbrev pub block_of : ℕ → List (List ℕ)
 block_of number = block_by number (number % 4)
 
+-- the line of the last command
 abbrev pub last_line : List ℕ
 last_line = codes "preserve"
 
@@ -52,6 +57,7 @@ takes_block (Ok (Some command)) = wants_block command
 takes_block (Ok None) = false
 takes_block (Err error) = false
 
+-- the command that a line means, with its block
 abbrev pub instruction_of : List ℕ → List (List ℕ) → Instruction
 instruction_of line block = record { parsed = parsed_of (meaning_of line); block = block }
 
@@ -59,6 +65,7 @@ instruction_of line block = record { parsed = parsed_of (meaning_of line); block
 abbrev pub generated : ℕ → Instruction
 generated number = instruction_of (line_of number) (block_of number)
 
+-- the last command
 abbrev pub preserves : Instruction
 preserves = instruction_of last_line []
 
@@ -67,5 +74,6 @@ abbrev pub generated_to : ℕ → List Instruction
 generated_to zero = []
 generated_to (suc count) = generated_to count ++ generated (suc count) ∷ []
 
+-- all commands of so many
 abbrev pub stress_commands : ℕ → List Instruction
 stress_commands count = generated_to count ++ preserves ∷ []

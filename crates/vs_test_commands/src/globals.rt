@@ -57,7 +57,11 @@ fn global_commands(rt: HostRuntime) -> Result<(), Fail> {
             pattern: row.pattern,
             nested: row.nested,
         };
-        assert!(rt; parse(row.line) == Ok(Parsed::Command(want)), "of {:?}", row.line);
+        assert!(rt;
+            parse(row.line) == Ok(Parsed::Command(want)),
+            "of {:?}",
+            row.line
+        );
     }
     Ok(())
 }
@@ -120,7 +124,10 @@ fn changes_that_are_kept(rt: HostRuntime) -> Result<(), Fail> {
     ];
     for (line, levels) in rows {
         let setting = Setting::UndoLevels(*levels);
-        assert!(rt; parse(line) == Ok(Parsed::Command(Command::Set { setting })), "of {line:?}");
+        assert!(rt;
+            parse(line) == Ok(Parsed::Command(Command::Set { setting })),
+            "of {line:?}"
+        );
     }
     refused! { rt;
         b"set ul" => E474,

@@ -16,6 +16,7 @@ use Rattle.vs_edit.specs.declared.store.StoreErr.TheVariants as store
 use Rattle.vs_script.specs.declared.reader.ScriptErr.{ScriptErr}
 use Rattle.vs_script.specs.declared.reader.ScriptErr.TheVariants as script
 
+-- the exit status
 abbrev pub status_of : Ending → ℕ
 status_of ending.Done = 0
 status_of ending.WithErrors = 1
@@ -32,6 +33,7 @@ status_of ending.Salvaged = 11
 status_of (ending.TextLimit size) = 12
 status_of ending.ScriptTooLong = 13
 
+-- the line for standard error, where there is one
 abbrev pub message_of : Ending → Option (List ℕ)
 message_of ending.Done = None
 message_of ending.WithErrors = None
@@ -48,16 +50,19 @@ message_of ending.Salvaged = None
 message_of (ending.TextLimit size) = Some (codes "text too large")
 message_of ending.ScriptTooLong = Some (codes "script too long")
 
+-- the ending after the script could not be read on
 abbrev pub script_ending : ScriptErr → Ending
 script_ending script.Failed = ending.ScriptFault
 script_ending script.TooLong = ending.ScriptTooLong
 
+-- the ending after a file could not be opened
 abbrev pub open_ending : OpenErr → Ending
 open_ending opening.SwapFound = ending.SwapFound
 open_ending (opening.TextLimit size) = ending.TextLimit size
 open_ending opening.Failed = ending.FolderFault
 open_ending opening.NoMemory = ending.NoMemory
 
+-- the ending after a store failed
 abbrev pub store_ending : StoreErr → Ending
 store_ending store.NoMemory = ending.NoMemory
 store_ending store.Failed = ending.FolderFault
@@ -67,6 +72,7 @@ abbrev pub ending_in : Result Ending Ending → Ending
 ending_in (Ok end) = end
 ending_in (Err end) = end
 
+-- the ending of a mode that was refused
 abbrev pub mode_ending : ModeErr → Ending
 mode_ending refusal.NoSwap = ending.NoSwap
 mode_ending refusal.Encrypted = ending.Encrypted
@@ -75,6 +81,7 @@ mode_ending refusal.OutputFailed = ending.OutputFault
 mode_ending refusal.FolderFailed = ending.FolderFault
 mode_ending refusal.NoMemory = ending.NoMemory
 
+-- the ending of `recover`, by whether markers stand in what it wrote
 abbrev pub recovery_ending : Recovery → Ending
 recovery_ending recovery.Whole = ending.Done
 recovery_ending recovery.Marked = ending.Salvaged

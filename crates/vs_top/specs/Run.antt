@@ -125,6 +125,7 @@ pub record CameToQuit (file : Opened) (old : Scene) (did : Did) : Type 0 where
   pub accepted : accepts_quit (states_after file.state did.commands did.ends) quit ≡ true
   pub closing : did.closing ≡ Quits
 
+-- A run closed: it came to the script's end or to an accepted quit.
 abbrev pub Closes : Bool → Opened → Scene → Scene → Did → Type 0
 Closes synced file old new did = CameToEnd synced file old new did ⊎ CameToQuit file old did
 
@@ -239,6 +240,7 @@ StandsAfter names state syncs Quits folder = ⊤
 abbrev pub syncs_of : Opened → Did → List Sync
 syncs_of file did = after_turns (first_sync file.state.machine.text) (turns_of file.state did.commands did.ends)
 
+-- The swap files are as the closing of a run leaves them.
 abbrev pub KeepsSwap : Opened → Did → Disk → Type 0
 KeepsSwap file did folder = StandsAfter (names_of_file file.name) (states_after file.state did.commands did.ends) (syncs_of file did) did.closing folder
 
@@ -285,6 +287,7 @@ pub record Counts : Type 0 where
   pub output : ℕ
   pub folder : ℕ
 
+-- the three counts of failed calls
 abbrev pub counts_of : Scene → Counts
 counts_of scene = record { script = scene.script_faults; output = scene.out_faults; folder = scene.folder_faults }
 

@@ -40,6 +40,7 @@ pub record TellsStress (tells : Tells) : Type 0 where
 
 -- ---- what it answered
 
+-- the text that the stress mode begins with
 abbrev pub stress_text : Scene → Text
 stress_text old = text_in (content_of old stress_name)
 
@@ -47,9 +48,11 @@ stress_text old = text_in (content_of old stress_name)
 abbrev pub stress_turns : Scene → Did → List Turn
 stress_turns old did = turns_of (opened_file old stress_name).state did.commands did.ends
 
+-- the state after these commands of the stress mode
 abbrev pub stress_state : Scene → Did → SessionState
 stress_state old did = states_after (opened_file old stress_name).state did.commands did.ends
 
+-- the syncs of these commands of the stress mode
 abbrev pub stress_syncs : Scene → Did → List Sync
 stress_syncs old did = after_turns (opened (stress_text old)) (stress_turns old did)
 

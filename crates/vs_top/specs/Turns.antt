@@ -22,6 +22,7 @@ use Rattle.vs_top.specs.Run.{TellsRun, AreAnswered, counts_of, OnlyFolder, Fault
 abbrev pub text_at : Scene → List ℕ → List (List ℕ)
 text_at old name = text_in (content_of old name)
 
+-- the reply to the opening of a file
 abbrev pub opening_at : Scene → List ℕ → List ℕ
 opening_at old name = (opening_of name (opened_file old name).found).bytes
 

@@ -42,7 +42,8 @@ fn answer<H: Host>(
     ensures ok { IfOk result (λ after. (old : Scene) (commands : List Instruction) (instruction : Instruction) → IsRequest request.now instruction
         → IsStressTurn (IsSceneOf H.scene) H.tells old (H.scene host.old) session.old marks.old.items clean commands
         → IsStressTurn (IsSceneOf H.scene) H.tells old (H.scene host.new) session.new marks.new.items after (commands ++ instruction ∷ [])) }
-    ensures err { IfErr result (λ ending. (ending ≡ Ending.NoMemory) × (marks.new.items ≡ marks.old.items) × (session.new ≡ session.old) × (H.scene host.new ≡ H.scene host.old)) }
+    ensures err { IfErr result (λ ending. (ending ≡ Ending.NoMemory) × (marks.new.items ≡ marks.old.items) × (session.new ≡ session.old)
+        × (H.scene host.new ≡ H.scene host.old)) }
     ensures clock { IsTrue (H.tells).clock → length (H.scene host.new).answers ≤ length (H.scene host.old).answers + 1 }
     ensures room { generation_of session.new ≤ generation_of session.old + 1 }
     ensures undo { FitsUndo session.new }
@@ -76,7 +77,8 @@ fn answer_all<H: Host>(
     requires fits { FitsFolder H.tells session.old (H.scene host.old).folder }
     ensures ok { IfOk result (λ clean. (old : Scene) → IsStressTurn (IsSceneOf H.scene) H.tells old (H.scene host.old) session.old [] true []
         → IsStressTurn (IsSceneOf H.scene) H.tells old (H.scene host.new) session.new marks.new.items clean (stress_commands count)) }
-    ensures err { IfErr result (λ ending. (ending ≡ Ending.NoMemory) × ((old : Scene) → IsStressTurn (IsSceneOf H.scene) H.tells old (H.scene host.old) session.old [] true []
+    ensures err { IfErr result (λ ending. (ending ≡ Ending.NoMemory)
+        × ((old : Scene) → IsStressTurn (IsSceneOf H.scene) H.tells old (H.scene host.old) session.old [] true []
         → StopsStress (IsSceneOf H.scene) H.tells count old (H.scene host.new) session.new marks.new.items)) }
     ensures room { generation_of session.new ≤ 100003 }
     ensures fits { FitsFolder H.tells session.new (H.scene host.new).folder }

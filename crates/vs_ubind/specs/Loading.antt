@@ -13,6 +13,7 @@ unfetched fetched.NoFile = NoFile
 unfetched fetched.Failed = Failed
 unfetched fetched.NoMemory = NoMemory
 
+-- why no history was loaded, where the file could not be decoded
 abbrev pub undecoded_by : UfKind → UfErr → LoadErr
 undecoded_by kind.NoMemory error = NoMemory
 undecoded_by other error = Unreadable error

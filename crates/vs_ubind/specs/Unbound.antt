@@ -48,9 +48,11 @@ flag_of [] = false
 flag_of (entry ∷ []) = entry.empty
 flag_of (entry ∷ next ∷ entries) = flag_of (next ∷ entries)
 
+-- an entry as an undo file has it
 abbrev pub filed_entry : Entry → file.Entry
 filed_entry entry = record { top = entry.top; bottom = entry.bottom; count = 0; lines = entry.lines }
 
+-- a change of a tree as an undo file has it
 abbrev pub filed_change : Parts → Node → file.Change
 filed_change parts node = record {
   number = node.number;

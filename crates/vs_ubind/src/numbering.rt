@@ -38,7 +38,8 @@ pub(crate) fn savers_of(
 
 /// The save number that a change keeps.
 pub(crate) fn kept_save(savers: &BTreeMap<u32, u32>, change: &FileChange) -> u32
-    ensures { (changes : List Change) → AreSavers changes savers.now → Contains changes (change_of change.now) → IsKeptSave changes (change_of change.now) result }
+    ensures { (changes : List Change) → AreSavers changes savers.now → Contains changes (change_of change.now)
+        → IsKeptSave changes (change_of change.now) result }
 {
     match savers.get(&change.save) {
         Some(number) if *number == change.number => change.save,

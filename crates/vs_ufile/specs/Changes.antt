@@ -7,6 +7,7 @@ use Rattle.vs_ufile.specs.declared.changes.PlacedChange.{PlacedChange}
 use Rattle.vs_ufile.specs.Values.{change_of}
 use Rattle.vs_ufile.specs.Reading.{Placed, index_of}
 
+-- a change that was read, with what is left behind it
 abbrev pub placed_of : PlacedChange → Placed
 placed_of p = record { left = p.left; change = change_of p.change }
 

@@ -52,6 +52,7 @@ unknown_in numbers p =
     (or_else (unknown numbers (p.left - 10) p.change.alt_next)
     (unknown numbers (p.left - 14) p.change.alt_prev)))
 
+-- the first link of these changes that leads to no change
 abbrev pub unknown_among : List ℕ → List Placed → Option Fault
 unknown_among numbers [] = None
 unknown_among numbers (p ∷ ps) = or_else (unknown_in numbers p) (unknown_among numbers ps)
@@ -81,6 +82,7 @@ error_of size (stops.At fault) = record { kind = fault.kind; at = size - fault.l
 abbrev pub IsRefused : List ℕ → Fault → Type 0
 IsRefused bytes fault = (with_links (file bytes) ≡ Err fault) ⊎ ((f : File) × (with_links (file bytes) ≡ Ok f) × IsTreeFault f.placed (Some fault))
 
+-- The bytes are those of this file, whose changes are a tree.
 abbrev pub IsRead : List ℕ → File → Type 0
 IsRead bytes f = (with_links (file bytes) ≡ Ok f) × IsTree (history f).changes
 
@@ -94,12 +96,14 @@ IsChecked bytes (Err (stops.At fault)) = IsRefused bytes fault
 abbrev pub no_memory : UfErr
 no_memory = record { kind = NoMemory; at = 0; found = 0 }
 
+-- what `decode` answers to these bytes
 abbrev pub Answers : List ℕ → Result FileHistory UfErr → Type 0
 Answers bytes (Ok h) = (f : File) × IsRead bytes f × (history_of h ≡ history f)
 Answers bytes (Err e) = (e ≡ no_memory) ⊎ ((fault : Fault) × IsRefused bytes fault × (e ≡ error_of (length bytes) (stops.At fault)))
 
 -- ---- known links
 
+-- whether a link leads to a change of these numbers, or to none
 abbrev pub is_known : List ℕ → ℕ → Bool
 is_known numbers link = (link == 0) || is_some (index_of link numbers)
 

@@ -10,6 +10,7 @@ use Rattle.vs_ufile.specs.Tree.{Fails, IsLeastFailing, IsTree}
 use Rattle.vs_ufile.specs.Values.{Change}
 use Rattle.vs_ufile.specs.Walks.{AreMarks, at}
 
+-- the link of a change
 abbrev pub link_of : Link → Change → ℕ
 link_of Next = λ c. c.next
 link_of AltNext = λ c. c.alt_next

@@ -54,14 +54,17 @@ AnySized bytes following = (run : List ℕ) × InOrder (sized run) bytes followi
 abbrev pub IsLine : List ℕ → Row
 IsLine line bytes following = (stored : List ℕ) × (plain_line stored ≡ line) × InOrder (sized stored) bytes following
 
+-- the rows of a line
 abbrev pub line_rows : List ℕ → List Row
 line_rows line = IsLine line ∷ []
 
+-- the rows of an entry
 abbrev pub entry_rows : Entry → List Row
 entry_rows e =
     IsNumber 2 0xf518 ∷ IsNumber 4 e.top ∷ IsNumber 4 e.bottom ∷ IsNumber 4 e.count ∷ IsNumber 4 (length e.lines)
     ∷ Each line_rows e.lines ∷ []
 
+-- the rows of the entries of a change
 abbrev pub entries_rows : List Entry → List Row
 entries_rows es = Each entry_rows es ∷ IsNumber 2 0x3581 ∷ []
 
@@ -83,6 +86,7 @@ abbrev pub option_rows : Option ℕ → List Row
 option_rows (Some save) = IsNumber 1 4 ∷ IsNumber 1 1 ∷ IsSave save ∷ []
 option_rows None = Skipped ∷ []
 
+-- the rows of the four links of a change
 abbrev pub links_rows : Links → List Row
 links_rows links = IsNumber 4 links.next ∷ IsNumber 4 links.prev ∷ IsNumber 4 links.alt_next ∷ IsNumber 4 links.alt_prev ∷ []
 
@@ -113,10 +117,12 @@ plain_rows c =
 abbrev pub change_rows : Placed → List Row
 change_rows p = Here p.left ∷ plain_rows p.change
 
+-- the rows in front of the changes
 abbrev pub front_rows : Front → List Row
 front_rows f =
     Is start_bytes ∷ IsNumber 2 2 ∷ Is f.digest ∷ IsNumber 4 f.lines ∷ AnySized ∷ Any 4 ∷ Any 4 ∷ []
 
+-- the rows of the numbers of a file
 abbrev pub numbers_rows : Numbers → List Row
 numbers_rows n =
     IsNumber 4 n.oldest ∷ IsNumber 4 n.newest ∷ IsNumber 4 n.current_head ∷ IsNumber 4 n.heads ∷ IsNumber 4 n.last ∷ IsNumber 4 n.current ∷ []

@@ -21,6 +21,7 @@ use Rattle.vs_ufile.specs.Values.{Entry, Change, entry_of}
 abbrev pub Read : Type 0 → Type 0
 Read A = List ℕ → Result (A × List ℕ) Fault
 
+-- what is read after a value
 abbrev pub carry : {A B : Type 0} → Result (A × List ℕ) Fault → (A → Read B) → Result (B × List ℕ) Fault
 carry (Ok x) f = f x.0 x.1
 carry (Err e) f = Err e
@@ -87,9 +88,11 @@ items item bytes = until (length bytes + 1) (adding item) [] bytes
 
 -- ---- numbers that are refused
 
+-- what is wrong with a version
 abbrev pub version_kind : ℕ → Option UfKind
 version_kind n = if n == 2 then None else if n == 0x8002 then Some Encrypted else Some Version
 
+-- what is wrong with a magic number, of which there are two
 abbrev pub magic_kind : ℕ → ℕ → ℕ → Option UfKind
 magic_kind one other n = if n == one then None else if n == other then None else Some BadMagic
 
@@ -98,6 +101,7 @@ abbrev pub index_of : ℕ → List ℕ → Option ℕ
 index_of n [] = None
 index_of n (x ∷ xs) = if x == n then Some 0 else option_map suc (index_of n xs)
 
+-- what is wrong with the number of a change
 abbrev pub change_number_kind : List ℕ → ℕ → Option UfKind
 change_number_kind seen n =
     if n == 0 then Some NumberZero
@@ -105,11 +109,13 @@ change_number_kind seen n =
     else if is_some (index_of n seen) then Some DoubleNumber
     else None
 
+-- what is wrong with the number of a write
 abbrev pub save_number_kind : ℕ → Option UfKind
 save_number_kind n = if nat_lt 2000000000 n then Some NumberZero else None
 
 -- ---- the parts, in the order of the file
 
+-- the bytes that an undo file begins with
 abbrev pub start_bytes : List ℕ
 start_bytes = 0x56 ∷ 0x69 ∷ 0x6d ∷ 0x9f ∷ 0x55 ∷ 0x6e ∷ 0x44 ∷ 0x6f ∷ 0xe5 ∷ []
 
@@ -118,6 +124,7 @@ unfoldable pub start : Read (List ℕ)
 start bytes =
     if starts_with nat_eq bytes start_bytes then Ok (start_bytes, drop 9 bytes) else Err (record { kind = NotUndo; left = length bytes; found = 0 })
 
+-- the version
 abbrev pub version : Read ℕ
 version = checked 2 version_kind
 
@@ -143,6 +150,7 @@ option_or_end = do
         found ← option_data kind size
         give (Some found)
 
+-- the next option, or the end
 abbrev pub next_option : List (Option ℕ) → Read (Option (Option ℕ))
 next_option before = option_or_end
 
@@ -150,19 +158,23 @@ next_option before = option_or_end
 abbrev pub last_of : List (Option ℕ) → ℕ
 last_of found = fold (λ before one. unwrap_or one before) 0 found
 
+-- the options of a change, of which the number of its write is kept
 unfoldable pub options : Read ℕ
 options = do
   found ← items next_option
   give (last_of found)
 
+-- a line
 unfoldable pub line : Read (List ℕ)
 line = do
   stored ← sized_run
   give (plain_line stored)
 
+-- the next of so many lines
 abbrev pub next_line : List (List ℕ) → Read (Option (List ℕ))
 next_line before = line >>= λ found. give (Some found)
 
+-- so many lines
 unfoldable pub lines : ℕ → Read (List (List ℕ))
 lines count = repeat count (adding next_line) []
 
@@ -185,9 +197,11 @@ entry_or_end = do
         entry ← entry
         give (Some entry)
 
+-- the next entry, or the end
 abbrev pub next_entry : List Entry → Read (Option Entry)
 next_entry before = entry_or_end
 
+-- the entries of a change
 unfoldable pub entries : Read (List Entry)
 entries = items next_entry
 
@@ -197,6 +211,7 @@ next_mark before = do
   mark ← run 12
   give (Some (before + 1))
 
+-- the four links of a change
 unfoldable pub links : Read Links
 links = do
   next ← number 4
@@ -205,12 +220,14 @@ links = do
   alt_prev ← number 4
   give (record { next = next; prev = prev; alt_next = alt_next; alt_prev = alt_prev })
 
+-- What a change is but for its links.
 pub record Body : Type 0 where
   pub empty : Bool
   pub time : ℕ
   pub save : ℕ
   pub entries : List Entry
 
+-- the rest of a change that was read
 abbrev pub body_of : declared_body.Body → Body
 body_of b = record { empty = b.empty; time = b.time; save = b.save; entries = map entry_of b.entries.items }
 
@@ -250,9 +267,11 @@ pub record Placed : Type 0 where
   pub left : ℕ
   pub change : Change
 
+-- the numbers of changes
 abbrev pub numbers_of : List Placed → List ℕ
 numbers_of placed = map (λ each. each.change.number) placed
 
+-- a change of its parts, with what is left behind it
 abbrev pub change_from : ℕ → Links → ℕ → Body → Placed
 change_from left links number body = record {
   left = left;
@@ -289,6 +308,7 @@ change_or_end heads before = do
         placed ← change heads before left
         give (Some placed)
 
+-- all changes
 unfoldable pub changes : ℕ → Read (List Placed)
 changes heads = items (change_or_end heads)
 
@@ -304,6 +324,7 @@ front = do
   u_column ← run 4
   give (record { digest = digest; lines = lines })
 
+-- the numbers of a file
 unfoldable pub numbers : Read Numbers
 numbers = do
   oldest ← number 4
@@ -323,6 +344,7 @@ pub record File : Type 0 where
   pub last_save : ℕ
   pub placed : List Placed
 
+-- a whole file
 unfoldable pub file : Read File
 file = do
   front ← front

@@ -3,6 +3,7 @@ use Rattle.std.specs.Prelude.{◌≡◌, ◌≢◌, ℕ, suc, ◌==◌, ◌⊎�
 use Rattle.vs_ufile.specs.Values.{Change}
 use Rattle.vs_ufile.specs.Walks.{walk}
 
+-- the numbers of a file
 abbrev pub numbers : List Change → List ℕ
 numbers changes = map (λ c. c.number) changes
 
@@ -15,9 +16,11 @@ abbrev pub link : (Change → ℕ) → List Change → ℕ → ℕ
 link field [] n = 0
 link field (c ∷ changes) n = if c.number == n then field c else link field changes n
 
+-- the alternative after a change
 abbrev pub after : List Change → ℕ → ℕ
 after = link (λ c. c.alt_next)
 
+-- the alternative before a change
 abbrev pub before : List Change → ℕ → ℕ
 before = link (λ c. c.alt_prev)
 
@@ -52,6 +55,7 @@ SharesParent changes n =
 abbrev pub FailsInTree : List Change → ℕ → Type 0
 FailsInTree changes n = ((parents : List ℕ) → ¬ AreAncestors changes n parents) ⊎ SharesParent changes n
 
+-- The chains of alternatives come to an end, at each change.
 abbrev pub HasChains : List Change → Type 0
 HasChains changes = (n : ℕ) → IsChange changes n → ¬ FailsInChain changes n
 
@@ -59,6 +63,7 @@ HasChains changes = (n : ℕ) → IsChange changes n → ¬ FailsInChain changes
 abbrev pub Fails : List Change → ℕ → Type 0
 Fails changes n = IsChange changes n × (FailsInChain changes n ⊎ (HasChains changes × FailsInTree changes n))
 
+-- No rule of a tree fails, at any number.
 abbrev pub IsTree : List Change → Type 0
 IsTree changes = (n : ℕ) → ¬ Fails changes n
 

@@ -87,7 +87,8 @@ fn numbers_at(
 ) -> Result<Vec<u32>, AllocError>
     requires { All (λ x. x < length changes.now + 1) places.now }
     ensures size { IfOk result (λ numbers. length numbers.items ≡ length places.now) }
-    ensures each { IfOk result (λ numbers. (i : ℕ) → i < length places.now → at numbers.items i ≡ at (0 ∷ numbers_of (unplaced changes.now)) (at places.now i)) }
+    ensures each { IfOk result (λ numbers. (i : ℕ) → i < length places.now
+        → at numbers.items i ≡ at (0 ∷ numbers_of (unplaced changes.now)) (at places.now i)) }
 {
     let mut numbers = Vec::new(alloc);
     'places: for place in places {

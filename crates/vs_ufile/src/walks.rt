@@ -53,7 +53,8 @@ pub fn no_marks(alloc: Global, n: usize) -> Result<Vec<bool>, AllocError>
 fn mark(marks: &mut Vec<bool>, places: &[usize])
     requires { All (λ x. x < length marks.old.items) places.now }
     ensures size { length marks.new.items ≡ length marks.old.items }
-    ensures marked { (i : ℕ) → IsTrue (get_or marks.new.items i false) ↔ (IsTrue (get_or marks.old.items i false) ⊎ ((x : ℕ) × (x < length places.now) × (at places.now x ≡ i))) }
+    ensures marked { (i : ℕ) → IsTrue (get_or marks.new.items i false) ↔ (IsTrue (get_or marks.old.items i false)
+        ⊎ ((x : ℕ) × (x < length places.now) × (at places.now x ≡ i))) }
 {
     'places: for at in places {
         marks[*at] = true;

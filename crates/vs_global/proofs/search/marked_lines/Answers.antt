@@ -1,11 +1,11 @@
 -- The lines that were taken are those of the range that are marked.
-use Rattle.std.proofs.Common.{◌≡◌, ◌∙◌, ℕ, ◌<◌, ◌==◌, false, length, Ok, ap, sym, subst, arith, rules}
+use Rattle.std.proofs.Common.{◌≡◌, ◌∙◌, ℕ, ◌<◌, false, length, Ok, ap, sym, subst, arith, rules}
 use Rattle.std.proofs.lemmas.Bool.Decides.{nat_tests}
 use Rattle.vs_exparse.specs.Bytes.{is_empty}
 use Rattle.vs_exparse.specs.Pieces.{literal_of}
 use Rattle.vs_excmd.specs.Place.{IsSpanIn}
 use Rattle.vs_excmd.specs.Searched.{searched}
-use Rattle.vs_global.specs.Global.{places, taken_marks}
+use Rattle.vs_global.specs.Global.{taken_marks}
 use Rattle.vs_global.proofs.GlobalLemmas.{searched-by}
 use Rattle.vs_global.proofs.MarkingLemmas.{marks-size}
 use Rattle.vs_global.proofs.search.marked_lines.Goals as goal

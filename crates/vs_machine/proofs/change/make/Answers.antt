@@ -1,8 +1,7 @@
 -- The splice that was planned, and the history with one change more.
-use Rattle.std.proofs.Common.{◌≡◌, ℕ, List, Ok, None, Some, inl, inr, ap, sym, subst, ◌∙◌}
+use Rattle.std.proofs.Common.{Ok, None, inl, inr, sym, subst, ◌∙◌}
 use Rattle.vs_excmd.specs.Answer.{effect_of}
 use Rattle.vs_excmd.specs.Change.{Change}
-use Rattle.vs_excmd.specs.declared.answer.Plan.{Plan}
 use Rattle.vs_undo.specs.declared.error.UndoErr.{UndoErr}
 use Rattle.vs_machine.specs.Answers.{AnswersAs, IsIn}
 use Rattle.vs_machine.specs.Machine.{State, changing}

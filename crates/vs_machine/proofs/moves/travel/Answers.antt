@@ -1,5 +1,5 @@
 -- A move that was made is the machine's, and one that was not leaves all as it was.
-use Rattle.std.proofs.Common.{◌≡◌, ℕ, length, Ok, Err, inl, inr, ap, sym, ◌∙◌, refl}
+use Rattle.std.proofs.Common.{◌≡◌, length, Ok, Err, inl, inr, ap, sym, ◌∙◌, refl}
 use Rattle.vs_undo.specs.declared.keep.Keep.{Keep}
 use Rattle.vs_machine.specs.Answers.{AnswersAs, IsIn}
 use Rattle.vs_machine.specs.Machine.{State, moving}

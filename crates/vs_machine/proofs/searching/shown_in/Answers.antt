@@ -3,7 +3,7 @@ use Rattle.std.proofs.Common.{ℕ, List, sym, subst}
 use Rattle.std.proofs.lemmas.Result.{IfErr-weaker, IfOk-weaker}
 use Rattle.vs_global.specs.Carry.{AreMarked}
 use Rattle.vs_global.specs.Global.{marked_by}
-use Rattle.vs_machine.proofs.ShowingLemmas.{marked-refused, search-refused, shown-marked}
+use Rattle.vs_machine.proofs.ShowingLemmas.{marked-refused, shown-marked}
 use Rattle.vs_machine.proofs.searching.shown_in.Goals as goal
 use Rattle.vs_machine.proofs.searching.shown_in.Goals.{After-drop-taken}
 
