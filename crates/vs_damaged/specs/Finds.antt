@@ -1,5 +1,6 @@
 -- What the entries of a pointer block and the blocks that they lead to give, whose bytes may be any.
-use Rattle.std.specs.Prelude.{◌≡◌, ℕ, suc, ℤ, pos, negsuc, ◌==◌, ◌&&◌, nat_le, nat_lt, if◌then◌else◌, List, [], ◌∷◌, ◌++◌, length, map, take, drop, slice_range, Option, Some, None, Result, Ok, Err}
+use Rattle.std.specs.Prelude.{◌≡◌, ℕ, suc, ℤ, pos, negsuc, ◌==◌, ◌&&◌, nat_le, nat_lt, if◌then◌else◌, List, [], ◌∷◌, ◌++◌, length, map, take, drop}
+use Rattle.std.specs.Prelude.{slice_range, Option, Some, None, Result, Ok, Err}
 use Rattle.std.specs.List.{before_first, range_with_len}
 use Rattle.vs_text.specs.Text.{lines_of, plain_line}
 use Rattle.vs_data.specs.declared.DataView.{DataView}
@@ -96,6 +97,7 @@ found_by e block (Ok view) = Entries (entries_of block)
 found_by e block (Err (pointer_refusal.BadCount count)) = Items (TheMarker marker.PointerBlockDamaged ∷ [])
 found_by e block (Err pointer_refusal.BadId) = Items (data_items e block (bounds_in block))
 
+-- what the block of an entry gives
 abbrev pub found_in : PtrEntry → List ℕ → Found
 found_in e block = found_by e block (view_in block)
 

@@ -57,6 +57,7 @@ bounded_after lines bytes (item ∷ items) =
     if is_within (lines + 1) (bytes + item_size item) then item ∷ bounded_after (lines + 1) (bytes + item_size item) items
     else TheMarker marker.ManyLinesMissing ∷ []
 
+-- lines and markers, up to the limits of a text
 abbrev pub bounded : List Item → List Item
 bounded items = bounded_after 0 0 items
 

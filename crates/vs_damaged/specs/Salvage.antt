@@ -55,14 +55,17 @@ LeadsNowhere d taken target.Nothing = ⊤
 -- block to take; what stands below a pointer block, whose entries come before those that are left; or what another block gives.
 pub data Gives (d : Damaged) : List Pages → List PtrEntry → List Item → Type 0 where
   Ends : (taken : List Pages) → Gives d taken [] []
-  FromOriginal : (taken : List Pages) (e : PtrEntry) (es : List PtrEntry) (items : List Item) (before : Option ℕ) (count : ℕ) → target_of e ≡ target.Original before count
+  FromOriginal : (taken : List Pages) (e : PtrEntry) (es : List PtrEntry) (items : List Item) (before : Option ℕ) (count : ℕ)
+      → target_of e ≡ target.Original before count
       → Gives d taken es items → Gives d taken (e ∷ es) (original_items d.ends d.original before count ++ items)
   NoBlock : (taken : List Pages) (e : PtrEntry) (es : List PtrEntry) (items : List Item) → LeadsNowhere d taken (target_of e)
       → Gives d taken es items → Gives d taken (e ∷ es) (TheMarker marker.BlockMissing ∷ items)
-  FromBelow : (taken : List Pages) (e : PtrEntry) (es below : List PtrEntry) (items : List Item) (pages : Pages) → target_of e ≡ target.Block pages.first pages.count
+  FromBelow : (taken : List Pages) (e : PtrEntry) (es below : List PtrEntry) (items : List Item) (pages : Pages)
+      → target_of e ≡ target.Block pages.first pages.count
       → IsFree d taken pages → found_in e (bytes_at d pages) ≡ Entries below
       → Gives d (pages ∷ taken) (below ++ es) items → Gives d taken (e ∷ es) items
-  FromBlock : (taken : List Pages) (e : PtrEntry) (es : List PtrEntry) (found items : List Item) (pages : Pages) → target_of e ≡ target.Block pages.first pages.count
+  FromBlock : (taken : List Pages) (e : PtrEntry) (es : List PtrEntry) (found items : List Item) (pages : Pages)
+      → target_of e ≡ target.Block pages.first pages.count
       → IsFree d taken pages → found_in e (bytes_at d pages) ≡ Items found
       → Gives d (pages ∷ taken) es items → Gives d taken (e ∷ es) (found ++ items)
 
@@ -70,6 +73,7 @@ pub data Gives (d : Damaged) : List Pages → List PtrEntry → List Item → Ty
 abbrev pub root_pages : Pages
 root_pages = record { first = 1; count = 1 }
 
+-- the pages that are taken before the walk begins: page 0 and block 1
 abbrev pub first_pages : Pages
 first_pages = record { first = 0; count = 2 }
 

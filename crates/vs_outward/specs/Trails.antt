@@ -42,7 +42,8 @@ pub record IsBarredBy (nodes : List Node) (path : List ℕ) (text : List (List �
 pub record IsTried {S : Type 0} (g : Ghosts S) (nodes : List Node) (first : S) (least : Option ℕ) (path : List ℕ) : Type 0 where
   pub counts : least ≡ None → (to : ℕ) × LeadsOver LeadsCount nodes path (max 1 (g.shows first).present.lines) to
   pub texts : (text : List (List ℕ)) → (g.shows first).present.Is text
-      → ((to : List (List ℕ)) × LeadsOver Leads nodes path text to) ⊎ ((l : ℕ) × ((least ≡ Some l) × ((number : ℕ) × (IsBarredBy nodes path text number × (l ≤ number)))))
+      → ((to : List (List ℕ)) × LeadsOver Leads nodes path text to)
+      ⊎ ((l : ℕ) × ((least ≡ Some l) × ((number : ℕ) × (IsBarredBy nodes path text number × (l ≤ number)))))
 
 -- The path from the current state to another one was tried.
 abbrev pub IsSettledAt : {S : Type 0} (g : Ghosts S) → Parts → S → Option ℕ → ℕ → Type 0
@@ -71,7 +72,8 @@ pub record IsBarredOn {S : Type 0} (g : Ghosts S) (nodes : List Node) (first : S
 pub record IsSearch {S : Type 0} (g : Ghosts S) (parts : Parts) (first : S) (search : Search) (now : S) : Type 0 where
   pub on : IsOnTrail g parts.nodes first search.trail.items now
   pub begun : HasBegun search.trail.items search.path.items
-  pub barred : length search.trail.items < length search.path.items → IsBarredOn g parts.nodes first search.least (take (length search.trail.items + 1) search.path.items)
+  pub barred : length search.trail.items < length search.path.items
+      → IsBarredOn g parts.nodes first search.least (take (length search.trail.items + 1) search.path.items)
   pub misfit : IsKnownMisfit g parts first search.least
 
 -- The path of a search has come to another one, and so many of its changes have stayed; the store is where it was.
@@ -106,5 +108,6 @@ pub record IsTurn (parts : Parts) (way path : List ℕ) (number : ℕ) (turn : T
 -- At the place of each change of a way stands one more than how many changes of it come before, and 0 at all other places.
 pub record AreCounts (nodes : List Node) (way counts : List ℕ) : Type 0 where
   pub count : length counts ≡ length nodes
-  pub each : (i : ℕ) (node : Node) → i < length nodes → get_or counts i 0 ≢ 0 → (get_or counts i 0 ≤ length way) × (get_or way (get_or counts i 0 - 1) 0 ≡ (get_or nodes i node).number)
+  pub each : (i : ℕ) (node : Node) → i < length nodes → get_or counts i 0 ≢ 0
+      → (get_or counts i 0 ≤ length way) × (get_or way (get_or counts i 0 - 1) 0 ≡ (get_or nodes i node).number)
   pub all : (i k : ℕ) (node : Node) → i < length nodes → k < length way → get_or way k 0 ≡ (get_or nodes i node).number → get_or counts i 0 ≢ 0

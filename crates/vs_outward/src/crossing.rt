@@ -39,7 +39,8 @@ pub(crate) fn try_all<S: LineStore>(
     entries: &[Entry],
 ) -> Result<Option<Entries>, StoreErr>
     requires { S.valid store.old }
-    ensures led_counts { IfOk result (λ o. IfSome o (λ back. IsLed LeadsCount entries.now (max 1 (S.shows store.old).present.lines) (max 1 (S.shows store.new).present.lines)
+    ensures led_counts { IfOk result
+        (λ o. IfSome o (λ back. IsLed LeadsCount entries.now (max 1 (S.shows store.old).present.lines) (max 1 (S.shows store.new).present.lines)
         × IsLed LeadsCount back (max 1 (S.shows store.new).present.lines) (max 1 (S.shows store.old).present.lines))) }
     ensures led_texts { IfOk result (λ o. IfSome o (λ back. (text : List (List ℕ)) → (S.shows store.old).present.Is text
         → (to : List (List ℕ)) × ((S.shows store.new).present.Is to × IsLed Leads entries.now text to × IsLed Leads back to text))) }

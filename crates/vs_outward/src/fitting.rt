@@ -86,7 +86,8 @@ fn walk_in<S: LineStore>(
     ensures tried { IfOk result (λ o. (first : S) → IsOnTrail S.LineStore parts.now.nodes first trail.old.items store.old
         → IsTried S.LineStore parts.now.nodes first o (reverse path.now)) }
     ensures barred { IfOk result (λ o. IfSome o (λ number. (first : S) → IsOnTrail S.LineStore parts.now.nodes first trail.old.items store.old
-        → (text : List (List ℕ)) → (S.shows first).present.Is text → IsBarredBy parts.now.nodes (reverse (take (length trail.new.items + 1) path.now)) text number)) }
+        → (text : List (List ℕ)) → (S.shows first).present.Is text
+        → IsBarredBy parts.now.nodes (reverse (take (length trail.new.items + 1) path.now)) text number)) }
     ensures goes_on { GoesOn S.LineStore store.old store.new result }
 {
     walk(alloc, store, parts.nodes.nodes(), trail, path, kept)

@@ -1,5 +1,6 @@
 -- What is recovered of the two swap files, and which of them is salvaged where neither stands.
-use Rattle.std.specs.Prelude.{◌≡◌, ◌≤◌, ◌⊎◌, ◌*◌, ◌&&◌, ℕ, Bool, true, false, nat_eq, nat_lt, nat_le, is_ok, if◌then◌else◌, List, length, take, drop, Option, Some, None, Result, Ok, Err}
+use Rattle.std.specs.Prelude.{◌≡◌, ◌≤◌, ◌⊎◌, ◌*◌, ◌&&◌, ℕ, Bool, true, false, nat_eq, nat_lt, nat_le, is_ok, if◌then◌else◌, List, length, take, drop}
+use Rattle.std.specs.Prelude.{Option, Some, None, Result, Ok, Err}
 use Rattle.vs_zero.specs.declared.Pair.{Pair}
 use Rattle.vs_zero.specs.declared.Zero.{Zero}
 use Rattle.vs_zero.specs.declared.ZeroErr.{ZeroErr}
@@ -46,6 +47,7 @@ abbrev pub IsSized : Result Zero ZeroErr → Type 0
 IsSized (Ok zero) = (1048 ≤ zero.page_size) × (zero.page_size ≤ 50000)
 IsSized (Err why) = Unit {0}
 
+-- The same of a file that may be missing.
 abbrev pub AreSized : Option Opening → Type 0
 AreSized None = Unit {0}
 AreSized (Some opening) = IsSized opening.zero
@@ -64,6 +66,7 @@ abbrev pub generation_at : Result Zero ZeroErr → Option ℕ
 generation_at (Ok fields) = generation_in fields
 generation_at (Err why) = None
 
+-- the generation that a file has if it is there and stands
 abbrev pub generation_of : Option Opening → Option ℕ
 generation_of None = None
 generation_of (Some opening) = generation_at opening.zero
@@ -107,6 +110,7 @@ abbrev pub root_in : List ℕ → Result Zero ZeroErr → Root
 root_in file (Ok zero) = if root_reads file zero.page_size then root.Tree else root.NoTree
 root_in file (Err why) = refused_root why
 
+-- what page 0 and block 1 of a file read as, where it is there
 abbrev pub root_of : Option (List ℕ) → Root
 root_of None = root.Absent
 root_of (Some file) = root_in file (reading_of (take 4096 file))
@@ -133,6 +137,7 @@ IsRefusal swp swo error.Failed = Unit {0}
 IsRefusal swp swo error.NoMemory = Unit {0}
 IsRefusal swp swo why = NoneStands swp swo × (root_chosen (root_of swp) (root_of swo) ≡ Err why)
 
+-- What is chosen of two files: the text that they give; else, where neither stands, the file to salvage; or why there is none.
 abbrev pub IsChoice : Option (List ℕ) → Option (List ℕ) → Result Chosen RecErr → Type 0
 IsChoice swp swo (Ok (Text text)) = Recovered swp swo text
 IsChoice swp swo (Ok (Salvage which)) = NoneStands swp swo × (root_chosen (root_of swp) (root_of swo) ≡ Ok which)

@@ -51,6 +51,7 @@ pieces_of len = (len + 65535) / 65536
 abbrev pub pieces_left : Original → ℕ
 pieces_left o = pieces_of (o.len - o.at)
 
+-- the number of pieces of an original file, none where it is not there
 abbrev pub pieces_in : Option Original → ℕ
 pieces_in None = 0
 pieces_in (Some o) = pieces_of o.len

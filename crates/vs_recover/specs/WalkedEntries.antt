@@ -1,5 +1,6 @@
 -- A walk over pointer entries: where it stands, and what one entry does.
-use Rattle.std.specs.Prelude.{◌≡◌, ℕ, ◌+◌, ◌*◌, ◌/◌, ◌≤◌, ◌<◌, ◌^◌, ◌∷◌, ◌++◌, IsTrue, IfSome, List, [], length, reverse, take, Option, Some, None, Result, Ok, Err}
+use Rattle.std.specs.Prelude.{◌≡◌, ℕ, ◌+◌, ◌*◌, ◌/◌, ◌≤◌, ◌<◌, ◌^◌, ◌∷◌, ◌++◌, IsTrue, IfSome, List, [], length, reverse, take, Option, Some, None, Result}
+use Rattle.std.specs.Prelude.{Ok, Err}
 use Rattle.vs_host.specs.World.{Tells, Scene, content_of}
 use Rattle.vs_ptr.specs.declared.PtrEntry.{PtrEntry}
 use Rattle.vs_zero.specs.declared.Zero.{Zero}
@@ -50,6 +51,7 @@ abbrev pub pages_by : List ℕ → Result Zero ZeroErr → ℕ
 pages_by file (Ok zero) = length file / zero.page_size
 pages_by file (Err why) = 0
 
+-- how many pages a file has, none where it is not there
 abbrev pub pages_of : Option (List ℕ) → ℕ
 pages_of None = 0
 pages_of (Some file) = pages_by file (reading_of (take 4096 file))

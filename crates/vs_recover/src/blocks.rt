@@ -30,7 +30,8 @@ pub fn load_pages<F: Folder>(
     requires some { 1 ≤ pages }
     requires bound { count < 2 ^ 52 }
     requires count { IsThere F.tells (F.scene host.old) name.now (λ file. count ≡ length file / 4096) }
-    ensures value { IfOk result (λ found. (file : List ℕ) → IsFile F.tells (F.scene host.old) name.now file → Gives (pages_at (pages_in file) block pages) found) }
+    ensures value { IfOk result (λ found. (file : List ℕ) → IsFile F.tells (F.scene host.old) name.now file
+        → Gives (pages_at (pages_in file) block pages) found) }
     ensures size { IfOk result (λ found. IfSome found (λ bytes. length bytes.items ≡ 4096 * pages)) }
     ensures reading { ReadsAtMost F.tells result Fault.Failed (F.scene host.old) (F.scene host.new) 1 }
 {
@@ -84,7 +85,8 @@ pub fn load_entries<F: Folder>(
 ) -> Result<Option<Vec<Entry>>, Fault>
     requires bound { count < 2 ^ 52 }
     requires count { IsThere F.tells (F.scene host.old) name.now (λ file. count ≡ length file / 4096) }
-    ensures value { IfOk result (λ found. (file : List ℕ) → IsFile F.tells (F.scene host.old) name.now file → Gives (read_by swap_points (pages_at (pages_in file) block 1)) found) }
+    ensures value { IfOk result (λ found. (file : List ℕ) → IsFile F.tells (F.scene host.old) name.now file
+        → Gives (read_by swap_points (pages_at (pages_in file) block 1)) found) }
     ensures reading { ReadsAtMost F.tells result Fault.Failed (F.scene host.old) (F.scene host.new) 1 }
 {
     let Some(bytes) = load_pages(alloc, host, name, count, block, 1)? else {
@@ -152,7 +154,8 @@ pub fn load_points<F: Folder>(
     requires some { 1 ≤ entry.now.pages }
     requires bound { count < 2 ^ 52 }
     requires count { IsThere F.tells (F.scene host.old) name.now (λ file. count ≡ length file / 4096) }
-    ensures value { IfOk result (λ found. (file : List ℕ) → IsFile F.tells (F.scene host.old) name.now file → Gives (points_at swap_format (pages_in file) entry.now) found) }
+    ensures value { IfOk result (λ found. (file : List ℕ) → IsFile F.tells (F.scene host.old) name.now file
+        → Gives (points_at swap_format (pages_in file) entry.now) found) }
     ensures wide { IfOk result (λ found. IfSome found (λ entries. IsTrue (are_wide entries.items))) }
     ensures reading { ReadsAtMost F.tells result Fault.Failed (F.scene host.old) (F.scene host.new) 1 }
 {

@@ -55,8 +55,10 @@ pub enum Found {
 
 // The text of the newer file that stands, or else what page 0 and block 1 of both files read as.
 fn find<F: Folder>(alloc: Global, host: &mut F, swp: &str, swo: &str) -> Result<Found, Fault>
-    ensures found { IfOk result (λ found. IsTrue F.tells.folder → IsFound (content_of (F.scene host.old) swp.now) (content_of (F.scene host.old) swo.now) found) }
-    ensures reading { ReadsAtMost F.tells result Fault.Failed (F.scene host.old) (F.scene host.new) (8 + blocks_at (F.scene host.old) swp.now + blocks_at (F.scene host.old) swo.now) }
+    ensures found { IfOk result (λ found. IsTrue F.tells.folder
+        → IsFound (content_of (F.scene host.old) swp.now) (content_of (F.scene host.old) swo.now) found) }
+    ensures reading { ReadsAtMost F.tells result Fault.Failed (F.scene host.old) (F.scene host.new)
+        (8 + blocks_at (F.scene host.old) swp.now + blocks_at (F.scene host.old) swo.now) }
 {
     let first = find_opening(alloc, host, swp)?;
     let second = find_opening(alloc, host, swo)?;
@@ -70,7 +72,8 @@ fn find<F: Folder>(alloc: Global, host: &mut F, swp: &str, swo: &str) -> Result<
 // The text of the newer file that stands, or else the first file whose page 0 and block 1 read.
 fn choose_of<F: Folder>(alloc: Global, host: &mut F, swp: &str, swo: &str) -> Result<Chosen, RecErr>
     ensures answer { IsTrue F.tells.folder → IsChoice (content_of (F.scene host.old) swp.now) (content_of (F.scene host.old) swo.now) result }
-    ensures reading { ReadsAtMost F.tells result RecErr.Failed (F.scene host.old) (F.scene host.new) (8 + blocks_at (F.scene host.old) swp.now + blocks_at (F.scene host.old) swo.now) }
+    ensures reading { ReadsAtMost F.tells result RecErr.Failed (F.scene host.old) (F.scene host.new)
+        (8 + blocks_at (F.scene host.old) swp.now + blocks_at (F.scene host.old) swo.now) }
 {
     let found = match find(alloc, host, swp, swo) {
         Ok(found) => found,
@@ -89,7 +92,8 @@ fn choose_of<F: Folder>(alloc: Global, host: &mut F, swp: &str, swo: &str) -> Re
 /// with at most four calls for each of the two names and one for each page that follows page 0 of its file.
 pub fn choose<F: Folder>(alloc: Global, host: &mut F, names: &Names) -> Result<Chosen, RecErr>
     ensures answer { IsTrue F.tells.folder → IsChoice (content_of (F.scene host.old) names.now.swp) (content_of (F.scene host.old) names.now.swo) result }
-    ensures reading { ReadsAtMost F.tells result RecErr.Failed (F.scene host.old) (F.scene host.new) (8 + blocks_at (F.scene host.old) names.now.swp + blocks_at (F.scene host.old) names.now.swo) }
+    ensures reading { ReadsAtMost F.tells result RecErr.Failed (F.scene host.old) (F.scene host.new)
+        (8 + blocks_at (F.scene host.old) names.now.swp + blocks_at (F.scene host.old) names.now.swo) }
 {
     choose_of(alloc, host, names.swp.as_str(), names.swo.as_str())
 }

@@ -55,7 +55,8 @@ fn exchange_from(bytes: &mut Vec<u8>, start: usize)
 // Adds the plain form of a data block's lines, each followed by byte 10. After an error the bytes before it are as they were.
 fn add_block(bytes: &mut Vec<u8>, view: &DataView, block: &[u8]) -> Result<(), AllocError>
     requires { view_in block.now ≡ Ok view.now }
-    ensures added { OnOk result ((found : List (List ℕ)) → lines_in block.now ≡ Some found → bytes.new.items ≡ bytes.old.items ++ file_of (map plain_line found)) }
+    ensures added { OnOk result ((found : List (List ℕ)) → lines_in block.now ≡ Some found
+        → bytes.new.items ≡ bytes.old.items ++ file_of (map plain_line found)) }
     ensures kept { OnErr result (take (length bytes.old.items) bytes.new.items ≡ bytes.old.items) }
 {
     let end = bytes.len();

@@ -67,7 +67,8 @@ fn joined(first: &str, second: &str, alloc: Global) -> Result<Vec<u8>, Fault>
 // The lines of both swap files.
 fn info_of<F: Folder>(alloc: Global, host: &mut F, swp: &str, swo: &str) -> Result<Vec<u8>, RecErr>
     ensures answer { IsTrue F.tells.folder → IsInfos (content_of (F.scene host.old) swp.now) (content_of (F.scene host.old) swo.now) swp.now swo.now result }
-    ensures reading { ReadsAtMost F.tells result RecErr.Failed (F.scene host.old) (F.scene host.new) (6 + blocks_at (F.scene host.old) swp.now + blocks_at (F.scene host.old) swo.now) }
+    ensures reading { ReadsAtMost F.tells result RecErr.Failed (F.scene host.old) (F.scene host.new)
+        (6 + blocks_at (F.scene host.old) swp.now + blocks_at (F.scene host.old) swo.now) }
 {
     let first = match file_info(alloc, host, swp) {
         Ok(first) => first,
@@ -90,8 +91,10 @@ fn info_of<F: Folder>(alloc: Global, host: &mut F, swp: &str, swo: &str) -> Resu
 /// folder is only read, with at most three calls for each of the two names and one for each page that follows page 0 of its
 /// file. The other errors are `Failed` and `NoMemory`.
 pub fn info<F: Folder>(alloc: Global, host: &mut F, names: &Names) -> Result<Vec<u8>, RecErr>
-    ensures answer { IsTrue F.tells.folder → IsInfos (content_of (F.scene host.old) names.now.swp) (content_of (F.scene host.old) names.now.swo) names.now.swp names.now.swo result }
-    ensures reading { ReadsAtMost F.tells result RecErr.Failed (F.scene host.old) (F.scene host.new) (6 + blocks_at (F.scene host.old) names.now.swp + blocks_at (F.scene host.old) names.now.swo) }
+    ensures answer { IsTrue F.tells.folder
+        → IsInfos (content_of (F.scene host.old) names.now.swp) (content_of (F.scene host.old) names.now.swo) names.now.swp names.now.swo result }
+    ensures reading { ReadsAtMost F.tells result RecErr.Failed (F.scene host.old) (F.scene host.new)
+        (6 + blocks_at (F.scene host.old) names.now.swp + blocks_at (F.scene host.old) names.now.swo) }
 {
     info_of(alloc, host, names.swp.as_str(), names.swo.as_str())
 }

@@ -112,8 +112,10 @@ fn read_in_turn<F: Folder>(
 ) -> Result<Option<FileText>, Fault>
     requires first { IsTrue F.tells.folder → IsOpening (content_of (F.scene host.old) first.now) first_opening.now }
     requires second { IsTrue F.tells.folder → IsOpening (content_of (F.scene host.old) second.now) second_opening.now }
-    ensures text { IfOk result (λ found. IsTrue F.tells.folder → StandsInTurn (content_of (F.scene host.old) first.now) (content_of (F.scene host.old) second.now) found) }
-    ensures reading { ReadsAtMost F.tells result Fault.Failed (F.scene host.old) (F.scene host.new) (blocks_at (F.scene host.old) first.now + blocks_at (F.scene host.old) second.now) }
+    ensures text { IfOk result (λ found. IsTrue F.tells.folder
+        → StandsInTurn (content_of (F.scene host.old) first.now) (content_of (F.scene host.old) second.now) found) }
+    ensures reading { ReadsAtMost F.tells result Fault.Failed (F.scene host.old) (F.scene host.new)
+        (blocks_at (F.scene host.old) first.now + blocks_at (F.scene host.old) second.now) }
 {
     if let Some(text) = read_text(alloc, host, first, first_opening)? {
         return Ok(Some(text));
@@ -134,8 +136,10 @@ pub fn read_newer<F: Folder>(
 ) -> Result<Option<FileText>, Fault>
     requires swp { IsTrue F.tells.folder → IsOpening (content_of (F.scene host.old) swp.now) swp_opening.now }
     requires swo { IsTrue F.tells.folder → IsOpening (content_of (F.scene host.old) swo.now) swo_opening.now }
-    ensures text { IfOk result (λ found. IsTrue F.tells.folder → Recovers (content_of (F.scene host.old) swp.now) (content_of (F.scene host.old) swo.now) found) }
-    ensures reading { ReadsAtMost F.tells result Fault.Failed (F.scene host.old) (F.scene host.new) (blocks_at (F.scene host.old) swp.now + blocks_at (F.scene host.old) swo.now) }
+    ensures text { IfOk result (λ found. IsTrue F.tells.folder
+        → Recovers (content_of (F.scene host.old) swp.now) (content_of (F.scene host.old) swo.now) found) }
+    ensures reading { ReadsAtMost F.tells result Fault.Failed (F.scene host.old) (F.scene host.new)
+        (blocks_at (F.scene host.old) swp.now + blocks_at (F.scene host.old) swo.now) }
 {
     if is_newer(generation_of(swp_opening), generation_of(swo_opening)) {
         let found = read_in_turn(alloc, host, swo, swo_opening, swp, swp_opening)?;

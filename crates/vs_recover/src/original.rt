@@ -68,7 +68,8 @@ impl Original {
     fn refill<F: Folder>(&mut self, alloc: Global, host: &mut F, name: &str) -> Result<(), Fault>
         requires len { IsThere F.tells (F.scene host.old) name.now (λ file. self.old.len ≡ length file) }
         requires more { self.old.at < self.old.len }
-        ensures piece { OnOk result ((file : List ℕ) → IsFile F.tells (F.scene host.old) name.now file → drop self.old.at file ≡ ahead self.new ++ drop self.new.at file) }
+        ensures piece { OnOk result ((file : List ℕ) → IsFile F.tells (F.scene host.old) name.now file
+            → drop self.old.at file ≡ ahead self.new ++ drop self.new.at file) }
         ensures place { OnOk result (IsPlace self.new) }
         ensures same { OnOk result ((self.new.len ≡ self.old.len) × (self.new.line ≡ self.old.line)) }
         ensures left { OnOk result (pieces_left self.new + 1 ≤ pieces_left self.old) }
@@ -118,11 +119,13 @@ impl Original {
         requires follows { IsThere F.tells (F.scene host.old) name.now (λ file. Follows self.old file) }
         ensures place { OnOk result (IsPlace self.new) }
         ensures follows { OnOk result (IsThere F.tells (F.scene host.old) name.now (λ file. Follows self.new file)) }
-        ensures next { IfOk result (λ more. (file : List ℕ) → IsFile F.tells (F.scene host.old) name.now file → IsNext (drop self.old.line (lines_of file)) (drop self.new.line (lines_of file)) into.new.items more) }
+        ensures next { IfOk result (λ more. (file : List ℕ) → IsFile F.tells (F.scene host.old) name.now file
+            → IsNext (drop self.old.line (lines_of file)) (drop self.new.line (lines_of file)) into.new.items more) }
         ensures len { OnOk result (self.new.len ≡ self.old.len) }
         ensures left { OnOk result (pieces_left self.new ≤ pieces_left self.old) }
         ensures reading { ReadsAtMost F.tells result Fault.Failed (F.scene host.old) (F.scene host.new) (pieces_left self.old) }
-        ensures read { OnOk result (ReadsAtMost F.tells result Fault.Failed (F.scene host.old) (F.scene host.new) (pieces_left self.old - pieces_left self.new)) }
+        ensures read { OnOk result
+            (ReadsAtMost F.tells result Fault.Failed (F.scene host.old) (F.scene host.new) (pieces_left self.old - pieces_left self.new)) }
     {
         into.clear();
         'pieces: loop {
@@ -167,10 +170,12 @@ impl Original {
         requires follows { IsThere F.tells (F.scene host.old) name.now (λ file. Follows self.old file) }
         ensures place { OnOk result (IsPlace self.new) }
         ensures follows { OnOk result (IsThere F.tells (F.scene host.old) name.now (λ file. Follows self.new file)) }
-        ensures there { OnOk result ((file : List ℕ) → IsFile F.tells (F.scene host.old) name.now file → drop self.new.line (lines_of file) ≡ drop before (lines_of file)) }
+        ensures there { OnOk result ((file : List ℕ) → IsFile F.tells (F.scene host.old) name.now file
+            → drop self.new.line (lines_of file) ≡ drop before (lines_of file)) }
         ensures len { OnOk result (self.new.len ≡ self.old.len) }
         ensures reading { ReadsAtMost F.tells result Fault.Failed (F.scene host.old) (F.scene host.new) (pieces_of self.old.len) }
-        ensures read { OnOk result (ReadsAtMost F.tells result Fault.Failed (F.scene host.old) (F.scene host.new) (pieces_of self.old.len - pieces_left self.new)) }
+        ensures read { OnOk result
+            (ReadsAtMost F.tells result Fault.Failed (F.scene host.old) (F.scene host.new) (pieces_of self.old.len - pieces_left self.new)) }
     {
         self.go_back(alloc, before);
         let mut line = Vec::new(alloc);
@@ -197,7 +202,8 @@ impl Original {
         ensures follows { OnOk result (IsThere F.tells (F.scene host.old) name.now (λ file. Follows self.new file)) }
         ensures shows { IfOk result (λ all. (file : List ℕ) → IsFile F.tells (F.scene host.old) name.now file → (items : List Item) → Shows shown.old items
             → Shows shown.new (items ++ map line_item (take count (drop self.old.line (lines_of file))))) }
-        ensures all { IfOk result (λ all. (file : List ℕ) → IsFile F.tells (F.scene host.old) name.now file → all ≡ not (nat_lt (length (drop self.old.line (lines_of file))) count)) }
+        ensures all { IfOk result (λ all. (file : List ℕ) → IsFile F.tells (F.scene host.old) name.now file
+            → all ≡ not (nat_lt (length (drop self.old.line (lines_of file))) count)) }
         ensures len { OnOk result (self.new.len ≡ self.old.len) }
         ensures reading { ReadsAtMost F.tells result Fault.Failed (F.scene host.old) (F.scene host.new) (pieces_left self.old) }
     {

@@ -52,7 +52,8 @@ impl Walk {
     // Shows what the block of an entry gives. Where it is a pointer block, its entries come first of those left.
     fn show(&mut self, alloc: Global, entry: &PtrEntry, block: &[u8]) -> Result<(), AllocError>
         ensures same { (self.new.size ≡ self.old.size) × (self.new.marks ≡ self.old.marks) × (self.new.original ≡ self.old.original) }
-        ensures shows { OnOk result (ShowsBlock self.old.shown self.new.shown (reverse self.old.left.items) (reverse self.new.left.items) (found_in entry.now block.now)) }
+        ensures shows { OnOk result
+            (ShowsBlock self.old.shown self.new.shown (reverse self.old.left.items) (reverse self.new.left.items) (found_in entry.now block.now)) }
         ensures few { OnOk result (32 * length self.new.left.items ≤ 32 * length self.old.left.items + length block.now) }
     {
         match PtrView::read(block) {
@@ -78,7 +79,8 @@ impl Walk {
         requires count { IsThere F.tells (F.scene host.old) swap.now (λ file. length self.old.marks ≡ length file / self.old.size) }
         ensures same { (self.new.size ≡ self.old.size) × (self.new.marks ≡ self.old.marks) × (self.new.original ≡ self.old.original) }
         ensures shows { OnOk result ((file : List ℕ) → IsFile F.tells (F.scene host.old) swap.now file
-            → ShowsBlock self.old.shown self.new.shown (reverse self.old.left.items) (reverse self.new.left.items) (found_in entry.now (take (self.old.size * pages) (drop (self.old.size * first) file)))) }
+            → ShowsBlock self.old.shown self.new.shown (reverse self.old.left.items) (reverse self.new.left.items)
+            (found_in entry.now (take (self.old.size * pages) (drop (self.old.size * first) file)))) }
         ensures few { OnOk result (length self.new.left.items ≤ length self.old.left.items + 1563 * pages) }
         ensures reading { ReadsAtMost F.tells result Fault.Failed (F.scene host.old) (F.scene host.new) 1 }
     {
@@ -102,13 +104,16 @@ impl Walk {
         requires count { IsThere F.tells (F.scene host.old) swap.now (λ file. length self.old.marks ≡ length file / self.old.size) }
         requires opened { IsTrue F.tells.folder → IsOpened (content_of (F.scene host.old) name.now) self.old.original }
         ensures walk { OnOk result (IsWalk self.new) }
-        ensures same { OnOk result ((self.new.size ≡ self.old.size) × (length self.new.marks ≡ length self.old.marks) × (pieces_in self.new.original ≡ pieces_in self.old.original)) }
+        ensures same { OnOk result ((self.new.size ≡ self.old.size) × (length self.new.marks ≡ length self.old.marks)
+            × (pieces_in self.new.original ≡ pieces_in self.old.original)) }
         ensures opened { OnOk result (IsTrue F.tells.folder → IsOpened (content_of (F.scene host.old) name.now) self.new.original) }
-        ensures visits { OnOk result ((d : Damaged) → HasDamaged F.tells (F.scene host.old) swap.now name.now self.old.size d → (taken : List Pages) → HasTaken self.old taken
+        ensures visits { OnOk result ((d : Damaged) → HasDamaged F.tells (F.scene host.old) swap.now name.now self.old.size d
+            → (taken : List Pages) → HasTaken self.old taken
             → Visits d self.old self.new entry.now taken) }
         ensures free { free_in self.new.marks ≤ free_in self.old.marks }
         ensures few { OnOk result (length self.new.left.items + 1563 * free_in self.new.marks ≤ length self.old.left.items + 1563 * free_in self.old.marks) }
-        ensures reading { ReadsAtMost F.tells result Fault.Failed (F.scene host.old) (F.scene host.new) (free_in self.old.marks - free_in self.new.marks + pieces_in self.old.original) }
+        ensures reading { ReadsAtMost F.tells result Fault.Failed (F.scene host.old) (F.scene host.new)
+            (free_in self.old.marks - free_in self.new.marks + pieces_in self.old.original) }
     {
         match target_of(entry) {
             Target::Original(before, count) => show_original(
@@ -145,7 +150,8 @@ impl Walk {
         requires walk { IsWalk self }
         requires count { IsThere F.tells (F.scene host.old) swap.now (λ file. length self.marks ≡ length file / self.size) }
         requires opened { IsTrue F.tells.folder → IsOpened (content_of (F.scene host.old) name.now) self.original }
-        ensures shown { IfOk result (λ shown. (d : Damaged) → HasDamaged F.tells (F.scene host.old) swap.now name.now self.size d → HasTaken self (first_pages ∷ []) → Shows self.shown []
+        ensures shown { IfOk result (λ shown. (d : Damaged) → HasDamaged F.tells (F.scene host.old) swap.now name.now self.size d
+            → HasTaken self (first_pages ∷ []) → Shows self.shown []
             → IsFoundOf d (reverse self.left.items) shown) }
         ensures reading { ReadsAtMost F.tells result Fault.Failed (F.scene host.old) (F.scene host.new)
             (free_in self.marks + (length self.left.items + 1563 * free_in self.marks) * pieces_in self.original) }
@@ -173,7 +179,8 @@ fn begin<F: Folder>(
     ensures root { IfOk result (λ found. IfSome found (λ walk. (file : List ℕ) → IsFile F.tells (F.scene host.old) swap.now file
         → (root_reads file size ≡ true) × (reverse walk.left.items ≡ entries_of (take size (drop size file))))) }
     ensures walk { IfOk result (λ found. IfSome found (λ walk. IsWalk walk)) }
-    ensures pages { IfOk result (λ found. IfSome found (λ walk. (walk.size ≡ size) × (length walk.marks ≡ len / size) × (free_in walk.marks + 2 ≡ len / size) × (length walk.left.items ≤ 1563))) }
+    ensures pages { IfOk result (λ found. IfSome found (λ walk. (walk.size ≡ size) × (length walk.marks ≡ len / size)
+        × (free_in walk.marks + 2 ≡ len / size) × (length walk.left.items ≤ 1563))) }
     ensures taken { IfOk result (λ found. IfSome found (λ walk. (k : ℕ) → used_in walk.marks k ≡ first_used (len / size) k)) }
     ensures shown { IfOk result (λ found. IfSome found (λ walk. Shows walk.shown [])) }
     ensures opened { IfOk result (λ found. IfSome found (λ walk. IsTrue F.tells.folder → IsOpened (content_of (F.scene host.old) name.now) walk.original)) }
@@ -208,8 +215,10 @@ fn salvage_of<F: Folder>(
     swap: &str,
     name: &str,
 ) -> Result<Option<Shown>, Fault>
-    ensures found { IfOk result (λ found. IsTrue F.tells.folder → IsSalvageOf (content_of (F.scene host.old) swap.now) (content_of (F.scene host.old) name.now) found) }
-    ensures reading { ReadsAtMost F.tells result Fault.Failed (F.scene host.old) (F.scene host.new) (most_calls (content_of (F.scene host.old) swap.now) (content_of (F.scene host.old) name.now)) }
+    ensures found { IfOk result (λ found. IsTrue F.tells.folder
+        → IsSalvageOf (content_of (F.scene host.old) swap.now) (content_of (F.scene host.old) name.now) found) }
+    ensures reading { ReadsAtMost F.tells result Fault.Failed (F.scene host.old) (F.scene host.new)
+        (most_calls (content_of (F.scene host.old) swap.now) (content_of (F.scene host.old) name.now)) }
 {
     let Some(opening) = find_opening(alloc, host, swap)? else {
         return Ok(None);
@@ -245,7 +254,8 @@ pub fn salvage<F: Folder>(
     names: &Names,
     which: Swap,
 ) -> Result<Salvaged, RecErr>
-    ensures answer { IsTrue F.tells.folder → IsSalvage (content_of (F.scene host.old) (swap_of names.now which)) (content_of (F.scene host.old) names.now.file) result }
+    ensures answer { IsTrue F.tells.folder
+        → IsSalvage (content_of (F.scene host.old) (swap_of names.now which)) (content_of (F.scene host.old) names.now.file) result }
     ensures reading { ReadsAtMost F.tells result RecErr.Failed (F.scene host.old) (F.scene host.new)
         (most_calls (content_of (F.scene host.old) (swap_of names.now which)) (content_of (F.scene host.old) names.now.file)) }
 {
