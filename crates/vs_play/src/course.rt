@@ -1,12 +1,9 @@
 // What a run may leave, by its script, its replies and its marks: for each reply, the texts of which one is recovered from there to
 // the next, and what the command after it does to the files.
-use crate::commands::{Command, commands_of};
-use crate::error::PlayErr;
-use crate::lines::{changed, lines_of, range_of};
 use crate::probes::Probe;
-use crate::tree::Tree;
 use std::alloc::{AllocError, Global};
 use vs_machine::{Mark, Outcome};
+use vs_scene::{Command, PlayErr, Tree, changed, commands_of, lines_of, range_of};
 
 /// A write of the file.
 #[derive(Drop)]

@@ -1,9 +1,9 @@
 // What a run comes to where a call fails, for each of its calls.
-use crate::error::PlayErr;
 use crate::given::{Given, Plan, Ran, UNHINDERED, run_over};
 use crate::results::outcome_name;
 use std::alloc::{AllocError, Global};
 use vs_machine::{Mark, Outcome};
+use vs_scene::PlayErr;
 
 // What a run came to: its status, how many lines it wrote and how many marks it has, how the first command ended that did not end well,
 // and whether the call that failed was the last.

@@ -2,9 +2,9 @@
 ghost use Rattle.std.specs.Prelude.{◌≡◌, [], IfOk};
 ghost use Rattle.vs_memory.specs.Memory.{folder_of};
 
-use crate::error::PlayErr;
 use std::alloc::{AllocError, Global};
 use vs_memory::{Choice, Keep, MemHost};
+use vs_scene::PlayErr;
 use vs_top::{Report, run};
 
 #[derive(Drop)]
@@ -128,4 +128,12 @@ pub(crate) fn words_of(alloc: Global, line: &str) -> Result<Vec<String>, AllocEr
         words.push(String::from_str(alloc, word)?)?;
     }
     Ok(words)
+}
+
+/// Whether two runs came to the same.
+pub(crate) fn are_same(one: &Ran, other: &Ran) -> bool {
+    one.report.status == other.report.status
+        && one.report.marks == other.report.marks
+        && one.host.calls() == other.host.calls()
+        && one.host.output() == other.host.output()
 }

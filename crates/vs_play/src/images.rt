@@ -2,10 +2,10 @@
 ghost use Rattle.std.specs.Prelude.{◌≡◌, [], IfOk};
 ghost use Rattle.vs_memory.specs.Memory.{folder_of};
 
-use crate::error::PlayErr;
 use crate::given::words_of;
 use std::alloc::{AllocError, Global};
 use vs_memory::{Choice, Keep, MemHost};
+use vs_scene::PlayErr;
 use vs_top::run;
 
 /// As many changes of names as are pending at once in a run, and all of them.

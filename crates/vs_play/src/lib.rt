@@ -4,31 +4,24 @@
 //! scenario is also what is expected of it. A text is the lines after a line that begin with `|`; docs/TESTED.md says how one is written.
 #![tactic(auto)]
 
-mod commands;
 mod course;
-mod error;
 mod faults;
 mod given;
 mod images;
-mod lines;
 mod player;
 mod probes;
 mod promises;
 mod results;
-mod shown;
-mod steps;
 mod sweeps;
-mod texts;
-mod tree;
 mod views;
+mod words;
 
-use error::Refused;
 use player::Player;
 use std::alloc::Global;
 use std::io;
 use std::io::Write;
 use std::process::ExitCode;
-use steps::steps_of;
+use vs_scene::{Refused, steps_of};
 
 // Plays the scenarios of a text.
 fn play(alloc: Global, text: &str, player: &mut Player) -> Result<(), Refused> {

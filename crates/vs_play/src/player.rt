@@ -1,17 +1,14 @@
 // The steps of a scenario, one after another.
-use crate::error::PlayErr;
 use crate::faults::write_faults;
-use crate::given::{File, Given, Plan, Ran, UNHINDERED, run_over};
-use crate::images::{image_of, keep_of, keeps_of};
-use crate::results::{write_bytes, write_file, write_marks, write_rest, write_size, write_swap};
-use crate::shown::show;
-use crate::steps::Step;
+use crate::given::{File, Given, Plan, Ran, UNHINDERED, are_same, run_over};
+use crate::images::{image_of, keeps_of};
+use crate::results::{names_of, write_rest, write_result, write_seen};
 use crate::sweeps::Sweep;
-use crate::texts::{Piece, text_of, word_of};
 use crate::views::views_of;
+use crate::words::{choice_of, first_word, number_in, swap_name};
 use std::alloc::{AllocError, Global};
-use vs_host::Names;
-use vs_memory::{Choice, Keep, MemHost};
+use vs_memory::{Keep, MemHost};
+use vs_scene::{Piece, PlayErr, Step, show, text_of, word_of};
 
 /// Plays steps, and writes each as it came out.
 pub struct Player {
@@ -49,43 +46,6 @@ impl Drop for Player {
             out: _,
         } = self;
     }
-}
-
-fn first_word(text: &str) -> &str {
-    match text.split_once(' ') {
-        Some((word, _)) => word,
-        None => text,
-    }
-}
-
-// The name after `swap` or `no swap`.
-fn swap_name<'a>(step: &Step<'a>) -> Result<&'a str, PlayErr> {
-    match step.line.strip_prefix("no swap ") {
-        Some(name) => Ok(name),
-        None => step.line.strip_prefix("swap ").ok_or(PlayErr::NoStep),
-    }
-}
-
-fn number_in(text: &str) -> Result<u64, PlayErr> {
-    text.parse().map_err(|_| PlayErr::NoStep)
-}
-
-// What `names=N keep=K` asks for.
-fn choice_of(text: &str) -> Result<Choice, PlayErr> {
-    let rest = text.strip_prefix("names=").ok_or(PlayErr::NoStep)?;
-    let (names, keep) = rest.split_once(" keep=").ok_or(PlayErr::NoStep)?;
-    Ok(Choice {
-        names: names.parse().map_err(|_| PlayErr::NoStep)?,
-        keep: keep_of(keep)?,
-    })
-}
-
-// Whether two runs came to the same.
-fn are_same(one: &Ran, other: &Ran) -> bool {
-    one.report.status == other.report.status
-        && one.report.marks == other.report.marks
-        && one.host.calls() == other.host.calls()
-        && one.host.output() == other.host.output()
 }
 
 impl Player {
@@ -283,51 +243,11 @@ impl Player {
         Ok(true)
     }
 
-    // A result of the run. Answers whether the step asks for one.
-    fn write_result(&self, step: &Step<'_>, into: &mut String) -> Result<bool, PlayErr> {
-        let ran = self.ran()?;
-        match step.key() {
-            "status" => writeln!(into, "status {}", ran.report.status)?,
-            "output" => {
-                into.push_str("output\n")?;
-                show(ran.host.output(), into)?;
-            }
-            "marks" => write_marks(&ran.report.marks, into)?,
-            "calls" => writeln!(into, "calls {}", ran.host.calls())?,
-            _ => return Ok(false),
-        }
-        Ok(true)
-    }
-
-    // A result that is seen in the folder. Answers whether the step asks for one.
-    fn write_seen(&self, step: &Step<'_>, into: &mut String) -> Result<bool, PlayErr> {
-        let folder = self.folder()?;
-        let rest = step.rest();
-        match step.key() {
-            "after" | "gone" => write_file(folder, rest, into)?,
-            "size" => write_size(folder, first_word(rest), into)?,
-            "swap" | "no" => {
-                let name = swap_name(step)?;
-                write_swap(folder, name, &self.names(name)?, into)?;
-            }
-            "hex" => write_bytes(folder, rest, into)?,
-            _ => return Ok(false),
-        }
-        Ok(true)
-    }
-
-    fn names(&self, name: &str) -> Result<Names, PlayErr> {
-        match Names::of(self.alloc, name) {
-            Ok(names) => Ok(names),
-            Err(_) => Err(PlayErr::NoStep),
-        }
-    }
-
     // The names that a step asks about are not looked at again at the scenario's end.
     fn note_name(&mut self, step: &Step<'_>) -> Result<(), PlayErr> {
         let name = first_word(step.rest());
         if matches!(step.key(), "swap" | "no") {
-            let names = self.names(swap_name(step)?)?;
+            let names = names_of(self.alloc, swap_name(step)?)?;
             self.asked
                 .push(String::from_str(self.alloc, names.swp.as_str())?)?;
             self.asked
@@ -340,11 +260,11 @@ impl Player {
     fn write_one(&mut self, step: &Step<'_>) -> Result<bool, PlayErr> {
         let mut line = String::new(self.alloc);
         self.ensure_run()?;
-        let is_seen = self.write_seen(step, &mut line)?;
+        let is_seen = write_seen(self.alloc, self.folder()?, step, &mut line)?;
         if is_seen {
             self.note_name(step)?;
         }
-        if !is_seen && !self.write_result(step, &mut line)? {
+        if !is_seen && !write_result(self.ran()?, step, &mut line)? {
             return Ok(false);
         }
         self.out.push_str(line.as_str())?;

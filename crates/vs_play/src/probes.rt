@@ -1,8 +1,7 @@
 // What an undo file has, asked of the program: it reads the file beside its text, lists the changes, and goes to each state.
-use crate::error::PlayErr;
 use crate::given::{File, Given, UNHINDERED, run_over, words_of};
-use crate::tree::Tree;
 use std::alloc::{AllocError, Global};
+use vs_scene::{PlayErr, Tree};
 
 /// A text, a script that asks for a history at it, and what is answered.
 #[derive(Drop)]

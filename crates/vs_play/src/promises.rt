@@ -1,11 +1,11 @@
 // What the files of a run may hold at a moment, by the stages up to there.
 use crate::course::{Stage, Writing};
-use crate::error::PlayErr;
 use crate::given::File;
 use crate::probes::Probe;
 use std::alloc::{AllocError, Global};
 use vs_machine::Outcome;
 use vs_memory::MemHost;
+use vs_scene::PlayErr;
 
 // The file that is edited, its undo file, and the name that its backup gets first.
 const FILE: &str = "f";

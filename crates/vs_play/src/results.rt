@@ -1,11 +1,11 @@
 // The lines that say what came of a run.
-use crate::error::PlayErr;
-use crate::given::File;
-use crate::shown::show;
-use std::alloc::AllocError;
+use crate::given::{File, Ran};
+use crate::words::{first_word, swap_name};
+use std::alloc::{AllocError, Global};
 use vs_host::Names;
 use vs_machine::{Mark, Outcome};
 use vs_memory::MemHost;
+use vs_scene::{PlayErr, Step, show};
 
 /// How a command ended, as a word.
 pub(crate) fn outcome_name(outcome: Outcome) -> &'static str {
@@ -17,8 +17,8 @@ pub(crate) fn outcome_name(outcome: Outcome) -> &'static str {
     }
 }
 
-/// Writes how each command ended, with the time where it is not 0.
-pub(crate) fn write_marks(marks: &[Mark], out: &mut String) -> Result<(), AllocError> {
+// Writes how each command ended, with the time where it is not 0.
+fn write_marks(marks: &[Mark], out: &mut String) -> Result<(), AllocError> {
     out.push_str("marks")?;
     for mark in marks {
         write!(out, " {}", outcome_name(mark.outcome))?;
@@ -29,8 +29,8 @@ pub(crate) fn write_marks(marks: &[Mark], out: &mut String) -> Result<(), AllocE
     out.push_str("\n")
 }
 
-/// Writes a file, or that it is not there.
-pub(crate) fn write_file(host: &MemHost, name: &str, out: &mut String) -> Result<(), AllocError> {
+// Writes a file, or that it is not there.
+fn write_file(host: &MemHost, name: &str, out: &mut String) -> Result<(), AllocError> {
     match host.file(name) {
         Some(bytes) => {
             writeln!(out, "after {name}")?;
@@ -40,16 +40,16 @@ pub(crate) fn write_file(host: &MemHost, name: &str, out: &mut String) -> Result
     }
 }
 
-/// Writes how long a file is.
-pub(crate) fn write_size(host: &MemHost, name: &str, out: &mut String) -> Result<(), AllocError> {
+// Writes how long a file is.
+fn write_size(host: &MemHost, name: &str, out: &mut String) -> Result<(), AllocError> {
     match host.file(name) {
         Some(bytes) => writeln!(out, "size {name} {}", bytes.len()),
         None => writeln!(out, "gone {name}"),
     }
 }
 
-/// Writes which swap files of a file are there.
-pub(crate) fn write_swap(
+// Writes which swap files of a file are there.
+fn write_swap(
     host: &MemHost,
     name: &str,
     names: &Names,
@@ -112,8 +112,8 @@ fn write_hex(bytes: &[u8], out: &mut String) -> Result<(), AllocError> {
     Ok(())
 }
 
-/// Writes the bytes of a file at the place that a line `NAME PLACE DIGITS` says, as many as it has.
-pub(crate) fn write_bytes(host: &MemHost, line: &str, out: &mut String) -> Result<(), PlayErr> {
+// Writes the bytes of a file at the place that a line `NAME PLACE DIGITS` says, as many as it has.
+fn write_bytes(host: &MemHost, line: &str, out: &mut String) -> Result<(), PlayErr> {
     let (name, rest) = line.split_once(' ').ok_or(PlayErr::NoStep)?;
     let (place, digits) = rest.split_once(' ').ok_or(PlayErr::NoStep)?;
     let at: usize = place.parse().map_err(|_| PlayErr::NoStep)?;
@@ -125,4 +125,45 @@ pub(crate) fn write_bytes(host: &MemHost, line: &str, out: &mut String) -> Resul
     }
     out.push_str("\n")?;
     Ok(())
+}
+
+/// The names of the files beside a file.
+pub(crate) fn names_of(alloc: Global, name: &str) -> Result<Names, PlayErr> {
+    Names::of(alloc, name).map_err(|_| PlayErr::NoStep)
+}
+
+/// Writes a result of a run. Answers whether the step asks for one.
+pub(crate) fn write_result(ran: &Ran, step: &Step<'_>, into: &mut String) -> Result<bool, PlayErr> {
+    match step.key() {
+        "status" => writeln!(into, "status {}", ran.report.status)?,
+        "output" => {
+            into.push_str("output\n")?;
+            show(ran.host.output(), into)?;
+        }
+        "marks" => write_marks(&ran.report.marks, into)?,
+        "calls" => writeln!(into, "calls {}", ran.host.calls())?,
+        _ => return Ok(false),
+    }
+    Ok(true)
+}
+
+/// Writes a result that is seen in a folder. Answers whether the step asks for one.
+pub(crate) fn write_seen(
+    alloc: Global,
+    folder: &MemHost,
+    step: &Step<'_>,
+    into: &mut String,
+) -> Result<bool, PlayErr> {
+    let rest = step.rest();
+    match step.key() {
+        "after" | "gone" => write_file(folder, rest, into)?,
+        "size" => write_size(folder, first_word(rest), into)?,
+        "swap" | "no" => {
+            let name = swap_name(step)?;
+            write_swap(folder, name, &names_of(alloc, name)?, into)?;
+        }
+        "hex" => write_bytes(folder, rest, into)?,
+        _ => return Ok(false),
+    }
+    Ok(true)
 }

@@ -3,12 +3,12 @@ ghost use Rattle.std.specs.Prelude.{◌≡◌, []};
 ghost use Rattle.vs_memory.specs.Memory.{folder_of};
 
 use crate::course::{Stage, course_of};
-use crate::error::PlayErr;
 use crate::given::{Given, Plan, Ran, UNHINDERED, run_over, words_of};
 use crate::images::{PREFIXES, image_of, run_in};
 use crate::promises::Promises;
 use std::alloc::{AllocError, Global};
 use vs_memory::{Choice, Keep, MemHost};
+use vs_scene::PlayErr;
 
 // As many wrong images are told of.
 const MOST: usize = 5;

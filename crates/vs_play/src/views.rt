@@ -1,10 +1,9 @@
 // What all images of a folder show, each thing once.
-use crate::error::PlayErr;
 use crate::given::words_of;
 use crate::images::{choices_of, image_of, run_in};
-use crate::shown::show;
 use std::alloc::{AllocError, Global};
 use vs_memory::{Choice, Keep, MemHost};
+use vs_scene::{PlayErr, show};
 
 // What a run over an image comes to: its output, or its status where that is not 0.
 fn run_view(

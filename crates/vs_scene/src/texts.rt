@@ -161,7 +161,7 @@ impl<'p> Reader<'p> {
 }
 
 /// The bytes that the lines of a text stand for.
-pub(crate) fn text_of(alloc: Global, pieces: &[Piece], lines: &[&str]) -> Result<Vec<u8>, PlayErr> {
+pub fn text_of(alloc: Global, pieces: &[Piece], lines: &[&str]) -> Result<Vec<u8>, PlayErr> {
     let mut reader = Reader {
         alloc,
         pieces,
@@ -176,7 +176,7 @@ pub(crate) fn text_of(alloc: Global, pieces: &[Piece], lines: &[&str]) -> Result
 }
 
 /// The argument that a word stands for; `""` is the empty one.
-pub(crate) fn word_of(alloc: Global, word: &str) -> Result<String, PlayErr> {
+pub fn word_of(alloc: Global, word: &str) -> Result<String, PlayErr> {
     if word == "\"\"" {
         return Ok(String::new(alloc));
     }

@@ -18,7 +18,7 @@ fn line_number(text: &str, count: usize) -> Option<usize> {
 }
 
 /// The lines that an address is for, in a text of so many.
-pub(crate) fn range_of(address: &str, count: usize) -> Option<Range> {
+pub fn range_of(address: &str, count: usize) -> Option<Range> {
     if address == "%" {
         return Some(Range {
             first: 1,
@@ -62,7 +62,7 @@ fn owned(alloc: Global, lines: &[&str]) -> Result<Vec<String>, AllocError> {
 }
 
 /// The lines of a text.
-pub(crate) fn lines_of(alloc: Global, text: &str) -> Result<Vec<String>, AllocError> {
+pub fn lines_of(alloc: Global, text: &str) -> Result<Vec<String>, AllocError> {
     let mut list = Vec::new(alloc);
     for line in text.lines() {
         list.push(String::from_str(alloc, line)?)?;
@@ -71,7 +71,7 @@ pub(crate) fn lines_of(alloc: Global, text: &str) -> Result<Vec<String>, AllocEr
 }
 
 /// A text as the bytes of a file.
-pub(crate) fn file_of(alloc: Global, lines: &[String]) -> Result<Vec<u8>, AllocError> {
+pub fn file_of(alloc: Global, lines: &[String]) -> Result<Vec<u8>, AllocError> {
     let mut bytes = Vec::new(alloc);
     for line in lines {
         bytes.extend_from_slice(line.as_bytes())?;
@@ -224,7 +224,7 @@ fn without_block(
 }
 
 /// What a command that was answered with a change makes of a text. Its address says lines by number, `$` or `%`.
-pub(crate) fn changed(
+pub fn changed(
     alloc: Global,
     lines: &[String],
     command: &Command<'_>,

@@ -36,7 +36,7 @@ fn show_line(line: &[u8], out: &mut String) -> Result<(), AllocError> {
 }
 
 /// Shows a text.
-pub(crate) fn show(text: &[u8], out: &mut String) -> Result<(), AllocError> {
+pub fn show(text: &[u8], out: &mut String) -> Result<(), AllocError> {
     for line in text.split_inclusive(|byte| *byte == b'\n') {
         match line.strip_suffix(b"\n".as_slice()) {
             Some(whole) => {

@@ -18,7 +18,7 @@ pub struct Parts<'a> {
 }
 
 impl<'a> Command<'a> {
-    pub(crate) fn parts(&self) -> Parts<'a> {
+    pub fn parts(&self) -> Parts<'a> {
         let rest = self.line.trim_start_matches(|it: char| it.is_ascii_digit()
             || it == '$'
             || it == ','
@@ -55,7 +55,7 @@ fn add_to_block<'a>(commands: &mut Vec<Command<'a>>, line: &'a str) -> Result<bo
 }
 
 /// The commands of a script.
-pub(crate) fn commands_of(alloc: Global, script: &str) -> Result<Vec<Command<'_>>, AllocError> {
+pub fn commands_of(alloc: Global, script: &str) -> Result<Vec<Command<'_>>, AllocError> {
     let mut commands = Vec::new(alloc);
     let mut in_block = false;
     for line in script.lines() {

@@ -21,7 +21,7 @@ pub struct Tree {
 
 impl Tree {
     /// The tree of a text that was opened.
-    pub(crate) fn new(alloc: Global, lines: Vec<String>) -> Result<Tree, AllocError> {
+    pub fn new(alloc: Global, lines: Vec<String>) -> Result<Tree, AllocError> {
         let mut states = Vec::new(alloc);
         states.push(State {
             parent: 0,
@@ -37,7 +37,7 @@ impl Tree {
     }
 
     /// The lines of the current state.
-    pub(crate) fn lines(&self) -> &[String] {
+    pub fn lines(&self) -> &[String] {
         match self.states.get(self.current) {
             Some(state) => &state.lines,
             None => &[],
@@ -45,17 +45,17 @@ impl Tree {
     }
 
     /// The current text, as a file has it.
-    pub(crate) fn file(&self) -> Result<Vec<u8>, AllocError> {
+    pub fn file(&self) -> Result<Vec<u8>, AllocError> {
         file_of(self.alloc, self.lines())
     }
 
     /// The number of the next change.
-    pub(crate) fn next(&self) -> usize {
+    pub fn next(&self) -> usize {
         self.states.len()
     }
 
     /// A change makes these lines.
-    pub(crate) fn push(&mut self, lines: Vec<String>) -> Result<(), AllocError> {
+    pub fn push(&mut self, lines: Vec<String>) -> Result<(), AllocError> {
         let number = self.states.len();
         self.states.push(State {
             parent: self.current,
@@ -67,12 +67,12 @@ impl Tree {
     }
 
     /// The state of this number is the current one.
-    pub(crate) fn go(&mut self, number: usize) {
+    pub fn go(&mut self, number: usize) {
         self.current = number;
     }
 
     /// The current text is written.
-    pub(crate) fn mark_write(&mut self) {
+    pub fn mark_write(&mut self) {
         self.saves = self.saves.saturating_add(1);
         let save = self.saves;
         if self.current == 0 {
@@ -91,7 +91,7 @@ impl Tree {
     }
 
     /// How many changes have no change after them.
-    pub(crate) fn leaves(&self) -> usize {
+    pub fn leaves(&self) -> usize {
         (1..self.states.len())
             .filter(|number| self.is_leaf(*number))
             .count()
@@ -127,7 +127,7 @@ impl Tree {
     }
 
     /// Adds what `undolist` answers.
-    pub(crate) fn add_list(&self, into: &mut String) -> Result<(), AllocError> {
+    pub fn add_list(&self, into: &mut String) -> Result<(), AllocError> {
         if self.states.len() == 1 {
             return into.push_str("Nothing to undo\n");
         }
@@ -154,7 +154,7 @@ impl Tree {
     }
 
     /// Adds what `undo N` and `%p` answer for each state.
-    pub(crate) fn add_texts(&self, into: &mut String) -> Result<(), AllocError> {
+    pub fn add_texts(&self, into: &mut String) -> Result<(), AllocError> {
         for (number, state) in self.states.iter().enumerate() {
             self.add_text(number, state, into)?;
         }
@@ -162,7 +162,7 @@ impl Tree {
     }
 
     /// The number of the current state.
-    pub(crate) fn current(&self) -> usize {
+    pub fn current(&self) -> usize {
         self.current
     }
 }

@@ -13,7 +13,7 @@ pub struct Step<'a> {
 
 impl<'a> Step<'a> {
     /// The first word.
-    pub(crate) fn key(&self) -> &'a str {
+    pub fn key(&self) -> &'a str {
         match self.line.split_once(' ') {
             Some((key, _)) => key,
             None => self.line,
@@ -21,7 +21,7 @@ impl<'a> Step<'a> {
     }
 
     /// What stands after the first word.
-    pub(crate) fn rest(&self) -> &'a str {
+    pub fn rest(&self) -> &'a str {
         match self.line.split_once(' ') {
             Some((_, rest)) => rest,
             None => "",
@@ -54,7 +54,7 @@ fn add<'a>(
 }
 
 /// The steps of an input.
-pub(crate) fn steps_of(alloc: Global, input: &str) -> Result<Vec<Step<'_>>, Refused> {
+pub fn steps_of(alloc: Global, input: &str) -> Result<Vec<Step<'_>>, Refused> {
     let mut steps = Vec::new(alloc);
     let mut number = 0u64;
     for line in input.lines() {
