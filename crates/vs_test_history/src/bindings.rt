@@ -6,6 +6,7 @@ ghost use Rattle.vs_ufile.specs.Values.{history_of};
 
 use crate::histories::{Step, editor_after, file_of, go_to};
 use crate::trees::{CHANGES, branches_file, put, read};
+use crate::ufile::one_change_file;
 use crate::undo::Editor;
 use std::alloc::Global;
 use std::process::Abort;
@@ -178,5 +179,16 @@ fn a_history_that_is_not_of_the_text_is_refused(rt: HostRuntime) -> Result<(), F
         let history = changed_history(alloc, &file, changes)?;
         assert!(rt; is_refused(alloc, &history, text, wanted)?, "{name}");
     }
+    Ok(())
+}
+
+#[test]
+fn an_entry_that_fits_no_text_is_refused_at_the_text_of_its_file(
+    rt: HostRuntime,
+) -> Result<(), Fail> {
+    let alloc = rt.alloc();
+    let file = one_change_file(alloc)?;
+    let history = changed_history(alloc, &file, &[(499, 9)])?;
+    assert!(rt; is_refused(alloc, &history, b"\n", Wanted::Entry(1))?);
     Ok(())
 }

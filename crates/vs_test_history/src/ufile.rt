@@ -68,8 +68,8 @@ fn empty_file(alloc: Global) -> Result<Vec<u8>, AllocError> {
     file_of(alloc, [0; 6], &[])
 }
 
-// A file with one change.
-fn one_change_file(alloc: Global) -> Result<Vec<u8>, AllocError> {
+// A file with one change, whose entry begins at byte 497.
+pub(crate) fn one_change_file(alloc: Global) -> Result<Vec<u8>, AllocError> {
     file_of(alloc, [1, 1, 0, 1, 1, 1], &[[0, 0, 0, 0, 1]])
 }
 
@@ -222,9 +222,10 @@ fn a_file_with_one_change(rt: HostRuntime) -> Result<(), Fail> {
 #[test]
 fn a_longer_or_shorter_file_with_one_change(rt: HostRuntime) -> Result<(), Fail> {
     let alloc = rt.alloc();
-    let mut bytes = one_change_file(alloc)?;
+    let file = one_change_file(alloc)?;
+    let mut bytes = Vec::from_slice(alloc, &file)?;
     bytes.extend_from_slice(&[1, 2])?;
-    assert!(rt; has_numbers(alloc, &bytes, &[1]), "bytes after the end");
+    assert!(rt; is_written(alloc, &bytes, &file), "bytes after the end");
     let beyond = edited(alloc, &bytes, 499, &[0, 0, 0, 9])?;
     assert!(rt;
         has_numbers(alloc, &beyond, &[1]),

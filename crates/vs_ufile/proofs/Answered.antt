@@ -48,10 +48,10 @@ is_found bytes (Err e) a = tt
 
 -- ---- a file that is refused
 
-not_both : (q : Result File Fault) (f : File) (fault : Fault) → q ≡ Ok f → q ≡ Err fault → ⊥
+pub not_both : (q : Result File Fault) (f : File) (fault : Fault) → q ≡ Ok f → q ≡ Err fault → ⊥
 not_both q f fault a b = cc
 
-read_linked : (bytes : List ℕ) (f : File) → HasForm f bytes → first_unknown f ≡ None → with_links (file bytes) ≡ Ok f
+pub read_linked : (bytes : List ℕ) (f : File) → HasForm f bytes → first_unknown f ≡ None → with_links (file bytes) ≡ Ok f
 read_linked bytes f is known = ap with_links (is_read bytes f is) ∙ ap (λ (o : Option Fault). elim o as (λ _. Result File Fault) [ None ↦ Ok f | Some fault ↦ Err fault ]) known
 
 links_read : (bytes : List ℕ) (h : History) (is : IsUndoFile h bytes) → with_links (file bytes) ≡ Ok is.file

@@ -85,14 +85,14 @@ change_or_again heads before (Some p) part rest k h =
     (change_magic heads before (length (part ++ rest))).again (Some p) (place, k) part rest
     (subst (λ (x : List ℕ). InOrder (IsNumber 2 0x5fd0 ∷ tail_rows p) x (length rest)) (sym whole) h.4)
 
-reads_change_or_end : (heads : ℕ) (before : List Placed) → Reads (change_or_end heads before) (IfIs (Allowed heads before)) (end_or change_rows (IsNumber 2 0xe7aa ∷ []))
+pub reads_change_or_end : (heads : ℕ) (before : List Placed) → Reads (change_or_end heads before) (IfIs (Allowed heads before)) (end_or change_rows (IsNumber 2 0xe7aa ∷ []))
 unfolding change_or_end
 reads_change_or_end heads before = record {
   takes = λ bytes y rest e. change_or_takes heads before bytes y rest ((change_magic heads before (length bytes)).takes bytes y rest e);
   again = λ y k part rest h. change_or_again heads before y part rest k h;
 }
 
-change_some : (p : Placed) (part : List ℕ) (following : ℕ) → InOrder (change_rows p) part following → 0 < length part
+pub change_some : (p : Placed) (part : List ℕ) (following : ℕ) → InOrder (change_rows p) part following → 0 < length part
 change_some p part following h =
     let t = h.4 in
     omega (arith, ap length h.2, length-append h.0 h.1, ap length t.2, length-append t.0 t.1, t.3.wide)
@@ -106,7 +106,7 @@ reads_changes heads = reads_items (change_or_end heads) (Allowed heads) change_r
 abbrev no_kind : Option UfKind
 no_kind = None
 
-abbrev start_by : Bool → Read (List ℕ)
+abbrev pub start_by : Bool → Read (List ℕ)
 start_by b bytes = cond b (Ok (start_bytes, drop 9 bytes)) (Err (record { kind = NotUndo; left = length bytes; found = 0 }))
 
 start_ok : (bytes : List ℕ) (b : Bool) (y rest : List ℕ) → start_by b bytes ≡ Ok (y, rest) → (b ≡ true) × (start_bytes ≡ y) × (drop 9 bytes ≡ rest)
@@ -115,7 +115,7 @@ start_ok bytes true y rest e =
     (refl, ap (λ (x : List ℕ × List ℕ). x.0) p, ap (λ (x : List ℕ × List ℕ). x.1) p)
 start_ok bytes false y rest e = absurd cc
 
-reads_start : Reads start (λ x. x ≡ start_bytes) (λ _. Is start_bytes ∷ [])
+pub reads_start : Reads start (λ x. x ≡ start_bytes) (λ _. Is start_bytes ∷ [])
 unfolding start
 reads_start = record {
   takes = λ bytes y rest e.

@@ -27,10 +27,10 @@ reads_save = reads_rows (checked 4 save_number_kind) (λ n. save_number_kind n �
     (λ n part following k h. one_row (IsSave n) part following (record { number = row_one (IsNumber 4 n) part following h; small = save_small n (ltb 2000000000 n) refl k }))
     (λ n part following h. let row = row_one (IsSave n) part following h in (save_kind n row.small, one_row (IsNumber 4 n) part following row.number))
 
-abbrev is_save : ℕ → ℕ → Bool
+abbrev pub is_save : ℕ → ℕ → Bool
 is_save kind size = (eqb kind 1) && (eqb size 4)
 
-abbrev data_by : ℕ → Bool → Read (Option ℕ)
+abbrev pub data_by : ℕ → Bool → Read (Option ℕ)
 data_by size by = cond by (checked 4 save_number_kind >>= λ save. give (Some save)) (run size >>= λ _. give None)
 
 abbrev none_save : Option ℕ
@@ -61,17 +61,17 @@ data_takes size false bytes found rest e =
     inr (refl, sym t.0, t.1)
 
 -- an optional field after its size, which is not zero
-abbrev field_by : ℕ → Read (Option (Option ℕ))
+abbrev pub field_by : ℕ → Read (Option (Option ℕ))
 field_by size = number 1 >>= λ kind. data_by size (is_save kind size) >>= λ found. give (Some found)
 
-abbrev option_by : ℕ → Bool → Read (Option (Option ℕ))
+abbrev pub option_by : ℕ → Bool → Read (Option (Option ℕ))
 option_by size is_end = cond is_end (give None) (field_by size)
 
 pub option_is : option_or_end ≡ (number 1 >>= λ size. option_by size (eqb size 0))
 unfolding option_or_end option_data
 option_is = refl
 
-abbrev option_or : Option (Option ℕ) → List Row
+abbrev pub option_or : Option (Option ℕ) → List Row
 option_or o = end_or option_rows (IsNumber 1 0 ∷ []) o
 
 save_or_not : (size kind : ℕ) (by : Bool) → is_save kind size ≡ by → by ≡ true → (size ≡ 4) × (kind ≡ 1)
@@ -151,7 +151,7 @@ option_again (Some None) part rest h =
     ∙ ap (λ c. carry (data_by row.size c (t.1 ++ rest)) (λ found. give (Some found))) row.not_save
     ∙ ap (λ q. carry q (λ found. give (Some found))) three
 
-reads_option : (before : List (Option ℕ)) → Reads (next_option before) (IfIs (λ _. Unit {0})) option_or
+pub reads_option : (before : List (Option ℕ)) → Reads (next_option before) (IfIs (λ _. Unit {0})) option_or
 unfolding option_or_end option_data
 reads_option before = record {
   takes = λ bytes y rest e.
@@ -161,7 +161,7 @@ reads_option before = record {
   again = λ y k part rest h. option_again y part rest h;
 }
 
-option_some : (o : Option ℕ) (part : List ℕ) (following : ℕ) → InOrder (option_rows o) part following → 0 < length part
+pub option_some : (o : Option ℕ) (part : List ℕ) (following : ℕ) → InOrder (option_rows o) part following → 0 < length part
 option_some (Some save) part following h = omega (arith, ap length h.2, length-append h.0 h.1, h.3.wide)
 option_some None part following h =
     let row = row_one Skipped part following h in

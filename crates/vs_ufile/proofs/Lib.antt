@@ -5,11 +5,15 @@ pub mod Parts
 pub mod Whole
 pub mod Header
 pub mod File
+pub mod Obeys
+pub mod Refused
 pub mod Signed
 pub mod Places
 pub mod Writes
 pub mod Written
 pub mod Answered
+pub mod Faults
+pub mod Bounded
 pub mod Pigeons
 pub mod Far
 pub mod Cycles

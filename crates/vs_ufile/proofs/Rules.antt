@@ -61,7 +61,7 @@ absent_by : (n : ℕ) (xs : List ℕ) (o : Option ℕ) → index_of n xs ≡ o �
 absent_by n xs None e absent = refl
 absent_by n xs (Some i) e absent = let a = index_at n xs i e in absurd (absent i a.0 a.1)
 
-number_of_place : (placed : List Placed) (i : ℕ) (x : Placed) → i < length placed → get_or placed i x ≡ x → at (numbers_of placed) i ≡ x.change.number
+pub number_of_place : (placed : List Placed) (i : ℕ) (x : Placed) → i < length placed → get_or placed i x ≡ x → at (numbers_of placed) i ≡ x.change.number
 number_of_place placed i x lt e = get_or-map (λ p. p.change.number) placed i x 0 lt ∙ ap (λ (p : Placed). p.change.number) e
 
 before_is : (placed : List Placed) (j i : ℕ) → i < j → j ≤ length placed → at (numbers_of (take j placed)) i ≡ at (numbers_of placed) i

@@ -22,10 +22,10 @@ which_by a n false true e k other = absurd cc
 which_by a n false false e k other = absurd cc
 
 -- which of the two it is
-which : (a b n : ℕ) → magic_kind a b n ≡ None → eqb n b ≡ false → n ≡ a
+pub which : (a b n : ℕ) → magic_kind a b n ≡ None → eqb n b ≡ false → n ≡ a
 which a b n k other = which_by a n (eqb n a) (eqb n b) refl k other
 
-abbrev after_magic : {A : Type 0} → Read A → Bool → Read (Option A)
+abbrev pub after_magic : {A : Type 0} → Read A → Bool → Read (Option A)
 after_magic tail is_end = cond is_end (give None) (tail >>= λ x. give (Some x))
 
 magic_takes : {A : Type 0} (a b : ℕ) (tail : Read A) (D : A → Type 0) (Ps : A → List Row) → Reads tail D Ps
@@ -50,7 +50,7 @@ either : (c : Bool) → cond c none_kind none_kind ≡ none_kind
 either true = refl
 either false = refl
 
-one_is : (a b : ℕ) → magic_kind a b a ≡ None
+pub one_is : (a b : ℕ) → magic_kind a b a ≡ None
 one_is a b = let same : eqb a a ≡ true = eq-eqb a a refl in rw same refl
 
 other_is : (a b : ℕ) → magic_kind a b b ≡ None
@@ -98,7 +98,7 @@ record Lines (before all : List (List ℕ)) (n : ℕ) (bytes rest : List ℕ) : 
   count : length xs ≡ n
   takes : Takes (Each line_rows xs ∷ []) bytes rest
 
-line_more : (n : ℕ) (before : List (List ℕ)) (x bytes after : List ℕ) → line bytes ≡ Ok (x, after) → repeat (suc n) (adding next_line) before bytes ≡ repeat n (adding next_line) (before ++ x ∷ []) after
+pub line_more : (n : ℕ) (before : List (List ℕ)) (x bytes after : List ℕ) → line bytes ≡ Ok (x, after) → repeat (suc n) (adding next_line) before bytes ≡ repeat n (adding next_line) (before ++ x ∷ []) after
 unfolding repeat adding
 line_more n before x bytes after h = rw h refl
 
@@ -179,15 +179,18 @@ pub follows_any : {A : Type 0} (before xs : List A) → Follows (λ _ _. Unit {0
 follows_any before [] = tt
 follows_any before (x ∷ xs) = (tt, follows_any (before ++ x ∷ []) xs)
 
-entry_some : (e : Entry) (part : List ℕ) (following : ℕ) → InOrder (entry_rows e) part following → 0 < length part
+pub entry_some : (e : Entry) (part : List ℕ) (following : ℕ) → InOrder (entry_rows e) part following → 0 < length part
 entry_some e part following h = omega (arith, ap length h.2, length-append h.0 h.1, h.3.wide)
 
-pub reads_entries : Reads entries Always entries_rows
-unfolding entries entry_or_end
-reads_entries =
+pub reads_next_entry : (before : List Entry) → Reads (next_entry before) (IfIs (λ _. Unit {0})) (end_or entry_rows (IsNumber 2 0x3581 ∷ []))
+unfolding entry_or_end
+reads_next_entry before =
     let differ : (0xf518 ≡ 0x3581) → ⊥ = λ (e : 0xf518 ≡ 0x3581). omega (arith, e) in
+    reads_magic 0xf518 0x3581 entry Always (λ e. IsNumber 4 e.top ∷ IsNumber 4 e.bottom ∷ IsNumber 4 e.count ∷ IsNumber 4 (length e.lines) ∷ Each line_rows e.lines ∷ []) differ reads_entry
+
+pub reads_entries : Reads entries Always entries_rows
+unfolding entries
+reads_entries =
     reads_when (items next_entry) (Follows (λ _ _. Unit {0}) []) Always entries_rows
-    (reads_items next_entry (λ _ _. Unit {0}) entry_rows (IsNumber 2 0x3581 ∷ [])
-    (λ before. reads_magic 0xf518 0x3581 entry Always (λ e. IsNumber 4 e.top ∷ IsNumber 4 e.bottom ∷ IsNumber 4 e.count ∷ IsNumber 4 (length e.lines) ∷ Each line_rows e.lines ∷ []) differ reads_entry)
-    entry_some)
+    (reads_items next_entry (λ _ _. Unit {0}) entry_rows (IsNumber 2 0x3581 ∷ []) reads_next_entry entry_some)
     (λ y k. tt) (λ y k. follows_any [] y)

@@ -46,4 +46,5 @@ AreFailing placed marks = AreMarks (length placed + 1) (λ i. Fails (map (λ p. 
 abbrev pub IsTreeFault : List Placed → Option Fault → Type 0
 IsTreeFault placed None = IsTree (map (λ p. p.change) placed)
 IsTreeFault placed (Some fault) =
-    (p : Placed) × Contains placed p × IsLeastFailing (map (λ p. p.change) placed) p.change.number × (fault ≡ record { kind = NotATree; left = p.left; found = p.change.number })
+    (p : Placed) × Contains placed p × IsLeastFailing (map (λ p. p.change) placed) p.change.number
+    × (fault ≡ record { kind = NotATree; left = p.left; found = p.change.number })

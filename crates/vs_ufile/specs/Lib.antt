@@ -3,6 +3,8 @@ pub mod Reading
 pub mod Changes
 pub mod Form
 pub mod Format
+pub mod Refusals
+pub mod Sizes
 pub mod Decode
 pub mod Signature
 pub mod Writing

@@ -49,7 +49,8 @@ AreAncestors changes n (parent ∷ parents) = IsParent changes n parent × AreAn
 -- another chain has the same parent
 abbrev pub SharesParent : List Change → ℕ → Type 0
 SharesParent changes n =
-    (first other : ℕ) × IsFirst changes n first × IsFirst changes other other × (first ≢ other) × (link (λ c. c.next) changes first ≡ link (λ c. c.next) changes other)
+    (first other : ℕ) × IsFirst changes n first × IsFirst changes other other × (first ≢ other)
+    × (link (λ c. c.next) changes first ≡ link (λ c. c.next) changes other)
 
 -- a change whose way through parents does not end at 0, or whose parent another chain has too
 abbrev pub FailsInTree : List Change → ℕ → Type 0

@@ -1,9 +1,12 @@
-ghost use Rattle.std.specs.Prelude.{◌≡◌, map, IfOk, MatchResult, None, OnErr, Err};
+ghost use Rattle.std.specs.Prelude.{◌≡◌, ◌≤◌, length, map, IfErr, IfOk, MatchResult, None, OnErr, Err};
+ghost use Rattle.vs_ufile.specs.declared.fault.Fault.{Fault};
 ghost use Rattle.vs_ufile.specs.declared.fault.Stop.TheVariants.{Memory};
 ghost use Rattle.vs_ufile.specs.Changes.{placed_of};
 ghost use Rattle.vs_ufile.specs.Decode.{Answers, IsChecked, IsUndoFile, OneReading, error_of, first_unknown, history, no_memory, unknown, unknown_among, unknown_in, with_links};
 ghost use Rattle.vs_ufile.specs.Form.{file_of};
 ghost use Rattle.vs_ufile.specs.Reading.{Gives, file, numbers_of};
+ghost use Rattle.vs_ufile.specs.Refusals.{IsFault, SameFormat, Tells, TellsOne};
+ghost use Rattle.vs_ufile.specs.Sizes.{least_size};
 ghost use Rattle.vs_ufile.specs.Values.{History, history_of};
 
 use crate::changes::{Changes, PlacedChange};
@@ -173,6 +176,11 @@ pub fn one_reading()
     ensures { OneReading }
 {}
 
+/// The parts by which bytes are refused are the rows by which they are read.
+pub fn same_format()
+    ensures { SameFormat }
+{}
+
 /// Reads an undo file of version 2 (docs/FORMATS.md, "Undo file"). Bytes after its end are ignored.
 ///
 /// The first place in reading order where the bytes differ from the form of the file is refused. Then, over the whole
@@ -184,6 +192,12 @@ pub fn decode(alloc: Global, bytes: &[u8]) -> Result<FileHistory, UfErr>
     ensures exact { Answers bytes.now result }
     // What is read is what the bytes stand for.
     ensures found { IfOk result (λ h. IsUndoFile (history_of h) bytes.now) }
+    // Its changes, entries and lines are no more than the bytes have room for.
+    ensures bounded { IfOk result (λ h. least_size (history_of h) ≤ length bytes.now) }
+    // What is refused has a fault, by the parts of the format, and the error tells it.
+    ensures refused { IfErr result (λ e. TellsOne bytes.now e) }
+    // What has a fault is refused with it and no other.
+    ensures faulty { (fault : Fault) → IsFault bytes.now fault → MatchResult result (λ h. ⊥) (λ e. Tells bytes.now fault e) }
     // An undo file is read, unless memory runs out.
     ensures only { (h : History) → IsUndoFile h bytes.now → MatchResult result (λ again. history_of again ≡ h) (λ e. e ≡ no_memory) }
 {
