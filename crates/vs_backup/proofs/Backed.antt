@@ -11,7 +11,7 @@ use Rattle.vs_disk.specs.Images.{HoldsBytes, MayLeave}
 use Rattle.vs_disk.specs.Runs.{Runs, Looks}
 use Rattle.vs_disk.proofs.Runs.{runs_as, runs_on, starts}
 use Rattle.vs_disk.proofs.Contents.{image_holds}
-use Rattle.vs_backup.specs.Works.{Drops, IsGone, Narrowed, Spares, SparesOthers, one_name}
+use Rattle.vs_backup.specs.Works.{Drops, HasSynced, IsGone, Narrowed, Spares, SparesOthers, one_name}
 use Rattle.vs_backup.specs.Writing.{IsKept, IsWhole, IsSettled, OldIn, WritesOver, WritesBacked, BeginsWhole, backed_names, stopped}
 use Rattle.vs_backup.specs.declared.errors.Place.{Place}
 use Rattle.vs_backup.specs.declared.errors.Place.TheVariants as place
@@ -25,6 +25,7 @@ use Rattle.vs_backup.proofs.Kept.{may_leave_now}
 use Rattle.vs_backup.proofs.Copying.{kept_on, never_refused}
 use Rattle.vs_backup.proofs.Others.{others_spared, others_looks, others_on, others_starts}
 use Rattle.vs_backup.proofs.Places.{places_keep, places_dropped}
+use Rattle.vs_backup.proofs.Renewing.{renews_dropped}
 use Rattle.vs_backup.proofs.Replacing.{takes_dropped, gone_spared}
 
 some_and : (at : Option (List ℕ)) (bytes : List ℕ) (P : List ℕ → Type 0) → at ≡ Some bytes → P bytes → IsSomeAnd at P
@@ -67,17 +68,19 @@ narrowed_content name a b narrowed = ap (λ (at : Option ℕ). read_under b at) 
     same (Some number) = ap (λ (bytes : List ℕ). Some bytes) (narrowed.files number).bytes
 
 -- ---- from a settled file
-module _ (copying keep : Bool) (name temporary backup : Name) (old new : List ℕ) (s0 s1 : Scene) (is : IsSettled name old s0.folder) where
+module _ (copying keep : Bool) (name temporary backup : Name) (old new : List ℕ) (s0 s1 : Scene) (order : HasSynced name s0) (is : IsSettled name old s0.folder) where
   abbrev begins : (result : Result ℕ WriteErr) → WritesOver copying name temporary backup old new s0 s1 result
       → BeginsWhole copying keep name temporary backup old new s0 s1 result
   begins result over = record {
     begun = s0;
     looked = narrowed_starts s0;
+    order = order;
     settled = is;
     whole = runs_as (λ a b. IsKept name backup old b) (λ a b. IsWhole name backup old new b) s0 s1 (λ d kept. whole_kept name backup old new d kept) over.kept;
     replaced = over.replaced;
     places = places_keep copying keep name backup s0 s1 result over.places;
     spares = over.spares;
+    anew = over.anew;
   }
 
   others : (result : Result ℕ WriteErr) → WritesOver copying name temporary backup old new s0 s1 result → SparesOthers (backed_names copying name temporary backup) s0 s1
@@ -126,6 +129,7 @@ module _ (copying keep : Bool) (name temporary backup : Name) (old new : List �
         moments = inl (record {
           begun = s0;
           looked = narrowed_starts s0;
+          order = order;
           settled = is;
           whole = kept_on (IsWhole name backup old new) s0 s1 s2 frame before.whole
               (runs_as (Spares (one_name backup)) (λ a b. IsWhole name backup old new b) s1 s2
@@ -133,6 +137,7 @@ module _ (copying keep : Bool) (name temporary backup : Name) (old new : List �
           replaced = takes_dropped backup old s0 s1 s2 frame free over.replaced dropped;
           places = places_dropped copying keep name backup s0 s1 s2 size goes frame differ over.places drops;
           spares = spares;
+          anew = λ copies. renews_dropped temporary s0 s1 s2 frame (over.anew copies) backup differ_backup (over.aside copies) drops;
         });
         others = others_spared on s0 s2 spares;
         written = (over.written.0, holds_spared (one_name backup) name (λ c. c ≡ new) s1.folder s2.folder differ drops.now holds);
@@ -175,11 +180,13 @@ module _ (copying keep : Bool) (name temporary backup : Name) (old new : List �
       | inl whole ↦ inl (record {
         begun = whole.begun;
         looked = runs_on Narrowed narrowed_then s0 s1 whole.begun frame looked whole.looked;
+        order = whole.order;
         settled = whole.settled;
         whole = whole.whole;
         replaced = whole.replaced;
         places = whole.places;
         spares = whole.spares;
+        anew = whole.anew;
       })
       | inr none ↦ inr (runs_on Narrowed narrowed_then s0 s1 s2 frame looked none.0, none.1)
     ];

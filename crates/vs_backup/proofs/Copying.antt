@@ -1,5 +1,5 @@
 -- Writing over a file in its place: until the copy stands under the backup name the file has the old bytes, and then the copy has.
-use Rattle.std.proofs.Common.{◌≡◌, inl, inr, ℕ, Bool, true, List, [], Some, length, Ok, Err, sym, ◌∙◌, ap}
+use Rattle.std.proofs.Common.{◌≡◌, inl, inr, ℕ, Bool, true, List, [], Some, length, Ok, Err, refl, sym, ◌∙◌, ap}
 use Rattle.std.specs.Prelude.{IsErrOf}
 use Rattle.vs_host.specs.File.{File, Cuts}
 use Rattle.vs_host.specs.Disk.{Disk, Name, content_in, ChangesFile, IsFolder}
@@ -10,7 +10,7 @@ use Rattle.vs_disk.proofs.Steps.{same_at}
 use Rattle.vs_disk.proofs.Images.{read_image}
 use Rattle.vs_disk.proofs.Runs.{runs_as, runs_then}
 use Rattle.vs_disk.proofs.Contents.{file_of_content, content_of_file, holds_synced}
-use Rattle.vs_backup.specs.Works.{ChangesOne, Fills, IsAlone, IsGone, LeadsTo, Spares, one_name, two_names, three_names}
+use Rattle.vs_backup.specs.Works.{ChangesOne, Fills, IsAlone, IsGone, LeadsTo, Renews, Spares, one_name, two_names, three_names}
 use Rattle.vs_backup.specs.Writing.{IsKept, IsSettled, Places, StartsOver, IsStartedOver, WritesOver, OldIn, backed_names, stopped}
 use Rattle.vs_backup.specs.declared.errors.Place.{Place}
 use Rattle.vs_backup.specs.declared.errors.Place.TheVariants as place
@@ -20,6 +20,7 @@ use Rattle.vs_backup.specs.declared.errors.WriteErr.TheVariants as error
 use Rattle.vs_backup.proofs.Calls.{runs_wider, runs_file, spares_on, synced_bytes}
 use Rattle.vs_backup.proofs.Frames.{alone_settled, holds_spared, synced_spared}
 use Rattle.vs_backup.proofs.Places.{in_place_spared, in_place_on}
+use Rattle.vs_backup.proofs.Renewing.{renews_gone}
 use Rattle.vs_backup.proofs.Replacing.{takes_on, takes_others, gone_changed}
 use Rattle.vs_backup.proofs.Kept.{kept_by_name, kept_by_backup, settled_holds, may_leave_now, may_leave_filled}
 
@@ -137,6 +138,7 @@ module _ (name backup temporary : Name) (old new : List ℕ) (s0 s1 s2 : Scene) 
     places = in_place_on name s0 s1 s2 frame over.in_place runs;
     replaced = all_replaced;
     aside = λ copies. gone_changed temporary name Changes s1.folder s2.folder runs.now aside;
+    anew = λ copies. renews_gone temporary s0 s1 s2 frame over.anew name aside runs;
     written = (is, holds_synced name new s2.folder backed.pending synced, settled_holds backup old s2.folder backed);
     not_written = tt;
     in_file = λ refused. absurd (never_refused size place.File refused);
@@ -144,30 +146,32 @@ module _ (name backup temporary : Name) (old new : List ℕ) (s0 s1 s2 : Scene) 
     somewhere = (λ refused. never_refused size place.Nowhere refused, λ is. cc);
   }
 
-  pub copying_stopped : (why : Stop) → Fills name s1.folder s2.folder → WritesOver true name temporary backup old new s0 s2 (Err (stopped why place.Backup))
-  copying_stopped why fills = record {
+  pub copying_stopped : (why : Stop) → Fills name s1.folder s2.folder → IsGone temporary s1.folder → WritesOver true name temporary backup old new s0 s2 (Err (stopped why place.Backup))
+  copying_stopped why fills aside = record {
     spares = all_spares;
     kept = all_kept;
     places = in_place_on name s0 s1 s2 frame over.in_place runs;
     replaced = all_replaced;
     aside = λ copies. tt;
+    anew = λ copies. renews_gone temporary s0 s1 s2 frame over.anew name aside runs;
     written = tt;
     not_written = inl (may_leave_filled name old s1.folder s2.folder fills started.may_leave);
     in_file = λ refused. absurd (never_file why refused);
-    in_backup = λ refused some. (Some [], may_leave_filled name [] s1.folder s2.folder fills (may_leave_now name [] s1.folder started.empty), λ same. some (let is : [] ≡ old = cc in sym is));
+    in_backup = λ refused some. (Some [], may_leave_filled name [] s1.folder s2.folder fills (may_leave_now name [] s1.folder started.empty), λ same. some refl (let is : [] ≡ old = cc in sym is));
     somewhere = (λ refused. never_nowhere why refused, λ is. never_no_name why is);
   }
 
 -- the file is as it was
 pub over_not_begun : (copying : Bool) (name temporary backup : Name) (old new : List ℕ) (s0 s1 : Scene) → Runs (Spares (backed_names copying name temporary backup)) s0 s1
-    → Runs (λ a b. IsKept name backup old b) s0 s1 → Runs (Takes backup old) s0 s1 → Places copying true name backup s0 s1 (Err (error.Failed place.File)) → HoldsBytes name old s1.folder
+    → Runs (λ a b. IsKept name backup old b) s0 s1 → Runs (Takes backup old) s0 s1 → Places copying true name backup s0 s1 (Err (error.Failed place.File)) → (copying ≡ true → Runs (Renews temporary) s0 s1) → HoldsBytes name old s1.folder
     → WritesOver copying name temporary backup old new s0 s1 (Err (error.Failed place.File))
-over_not_begun copying name temporary backup old new s0 s1 spares kept replaced places holds = record {
+over_not_begun copying name temporary backup old new s0 s1 spares kept replaced places anew holds = record {
   spares = spares;
   kept = kept;
   places = places;
   replaced = replaced;
   aside = λ copies. tt;
+  anew = anew;
   written = tt;
   not_written = inl (may_leave_held name old s1.folder holds);
   in_file = λ refused. holds;

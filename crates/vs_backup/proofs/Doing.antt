@@ -8,13 +8,12 @@ use Rattle.vs_disk.specs.Runs.{FailsLast, Quiet}
 use Rattle.vs_disk.proofs.Runs.{fails_none}
 use Rattle.vs_disk.proofs.Quiet.{last_then, quiet_then}
 use Rattle.vs_backup.specs.Desks.{StopsAtFault}
-use Rattle.vs_backup.specs.Writing.{BecomesWritten, FailsNoEarlier, IsFailed, nowhere}
+use Rattle.vs_backup.specs.Writing.{FailsNoEarlier, IsFailed, nowhere}
 use Rattle.vs_backup.proofs.Going.{err_as}
 use Rattle.vs_backup.specs.declared.errors.Stop.{Stop}
 use Rattle.vs_backup.specs.declared.errors.Stop.TheVariants as stop
 use Rattle.vs_backup.specs.declared.errors.Place.TheVariants.{Nowhere}
 use Rattle.vs_backup.specs.declared.errors.WriteErr.{WriteErr}
-use Rattle.vs_backup.specs.declared.errors.WriteErr.TheVariants as error
 
 ok_is_no_err : {T E : Type 0} (value : T) (error : E) → Ok value ≡ err_as T error → ⊥
 ok_is_no_err value error is = true≢false (ap is_ok is)

@@ -13,6 +13,7 @@ pub mod Moving
 pub mod NamesApart
 pub mod Others
 pub mod Places
+pub mod Renewing
 pub mod Replacing
 pub mod Settling
 pub mod Starting

@@ -81,6 +81,7 @@ module _ (name backup : Name) (old new : List ℕ) (s0 s1 s2 : Scene) (is : IsSe
     };
     replaced = moved_replaced (Ok size) differ anew;
     aside = λ copies. absurd (true≢false (sym copies));
+    anew = λ copies. absurd (true≢false (sym copies));
     written = (anew.written.0, settled_holds name new s2.folder anew.written.1, guard_bytes name backup is.synced.number old s2.folder anew.written.1.pending anew.guarded.now);
     not_written = tt;
     in_file = λ refused. absurd (never_refused size place.File refused);
@@ -96,6 +97,7 @@ module _ (name backup : Name) (old new : List ℕ) (s0 s1 s2 : Scene) (is : IsSe
     places = record { under = moved_under (Err why) anew; another = tt; kept = λ keeps. tt; in_backup = λ refused. anew.guarded.now.now ∙ sym is.synced.leads };
     replaced = moved_replaced (Err why) differ anew;
     aside = λ copies. tt;
+    anew = λ copies. absurd (true≢false (sym copies));
     written = tt;
     not_written = inr anew.absent;
     in_file = λ refused. absurd (never_file why refused);

@@ -1,14 +1,14 @@
 -- One sync after another, and one alone.
-use Rattle.std.proofs.Common.{◌≡◌, Bool, false, List, IsTrue, OnOk, OnErr, Result, sym, subst}
+use Rattle.std.proofs.Common.{◌≡◌, inl, inr, Bool, false, List, [], ◌∷◌, IsTrue, OnOk, OnErr, Result, Ok, Err, refl, sym, ◌∙◌, ap, subst}
 use Rattle.vs_host.specs.File.{Syncs}
 use Rattle.vs_host.specs.Disk.{Disk, Name, ChangesFile, SyncsNames}
-use Rattle.vs_host.specs.Trace.{Kind}
-use Rattle.vs_host.specs.World.{Scene, ChangesFolder, IsTold}
+use Rattle.vs_host.specs.Trace.{Kind, Snapshot, Synced, SyncedNames}
+use Rattle.vs_host.specs.World.{Scene, ChangesFolder, IsRecorded, IsTold, snapshot_of}
 use Rattle.vs_host.specs.declared.traits.Failed.{Failed}
 use Rattle.vs_disk.specs.Names.{IsApart, SameAt}
 use Rattle.vs_disk.proofs.Runs.{one_call, runs_on}
 use Rattle.vs_disk.proofs.Others.{same_none, same_then, file_outside, sync_outside}
-use Rattle.vs_backup.specs.Works.{Narrowed, Settles, SettlesAny, SyncsBytes}
+use Rattle.vs_backup.specs.Works.{Narrowed, Settles, SettlesAny, SyncsBytes, SyncsInOrder}
 use Rattle.vs_backup.specs.Writing.{SettlesBytes, SettlesSynced}
 use Rattle.vs_backup.proofs.Frames.{either, narrowed_none, narrowed_then, narrowed_file, narrowed_names}
 
@@ -26,6 +26,25 @@ settles_any told name s0 s1 any = any.each name
 
 pub settles_bytes : (told : Bool) (name : Name) (s0 s1 s2 : Scene) → SyncsBytes told name s0 s1 → SettlesSynced told s1 s2 → SettlesBytes told name s0 s2
 settles_bytes told name s0 s1 s2 first second = record { settled = λ is bytes content. second.settled is name bytes (first.synced is bytes content) }
+
+recorded : (kind : Kind) (names : List Name) (result : Result (Unit {0}) Failed) (s0 s1 : Scene) → result ≡ Ok tt → IsTold kind names result s0 s1 → IsRecorded kind names s0 s1
+recorded kind names result s0 s1 is (inl added) = added
+recorded kind names (Ok done) s0 s1 is (inr missed) = let failed = missed.0 in absurd (cc)
+recorded kind names (Err why) s0 s1 is (inr missed) = absurd (cc)
+
+-- a sync of the file that succeeded, and then one of the names
+pub synced_in_order : (told : Bool) (name : Name) (s0 s1 s2 : Scene) → (IsTrue told → IsTold {T = Unit {0}} {E = Failed} Synced (name ∷ []) (Ok tt) s0 s1)
+    → (IsTrue told → IsTold {T = Unit {0}} {E = Failed} SyncedNames [] (Ok tt) s1 s2) → SyncsInOrder told name s2
+synced_in_order told name s0 s1 s2 file names = record {
+  order = λ is. record {
+    file_synced = snapshot_of s1 Synced (name ∷ []);
+    names_synced = snapshot_of s2 SyncedNames [];
+    earlier = s0.trace;
+    is = recorded SyncedNames [] (Ok tt) s1 s2 refl (names is) ∙ ap (λ (trace : List Snapshot). snapshot_of s2 SyncedNames [] ∷ trace) (recorded Synced (name ∷ []) (Ok tt) s0 s1 refl (file is));
+    first = (refl, refl);
+    second = refl;
+  };
+}
 
 -- one call that syncs, or that failed
 module _ (told : Bool) (name : Name) (kind : Kind) (names : List Name) (result : Result (Unit {0}) Failed) (s0 s1 : Scene) (frame : ChangesFolder s0 s1)

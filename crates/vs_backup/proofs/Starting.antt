@@ -8,7 +8,7 @@ use Rattle.vs_host.specs.declared.traits.Failed.{Failed}
 use Rattle.vs_disk.specs.Images.{HoldsBytes}
 use Rattle.vs_disk.proofs.Images.{cut_keeps_images}
 use Rattle.vs_disk.proofs.Runs.{runs_as}
-use Rattle.vs_backup.specs.Works.{ChangesOne, Empties, Fills, LeavesNone, Spares, SparesTwo, Unchanged, three_names}
+use Rattle.vs_backup.specs.Works.{ChangesOne, Empties, Fills, LeavesNone, Renews, RenewsFile, Spares, SparesTwo, Unchanged, three_names}
 use Rattle.vs_backup.specs.Writing.{CopiesBytes, IsKept, IsSettled, ReplacesByCopy, StartsOverFrom, StartedOverFrom, StillHolds}
 use Rattle.vs_backup.proofs.Calls.{spares_on, synced_bytes, synced_there}
 use Rattle.vs_backup.proofs.Copying.{kept_on, cut_content, over_spares, over_kept, over_backed, over_replaced, copy_spares, copy_kept, copy_in_place, copy_holds, copy_content}
@@ -16,12 +16,13 @@ use Rattle.vs_backup.proofs.Filling.{changes_same}
 use Rattle.vs_backup.proofs.Frames.{spares_same, err_is}
 use Rattle.vs_backup.proofs.Kept.{kept_by_name, settled_holds, may_leave_now, may_leave_filled}
 use Rattle.vs_backup.proofs.Places.{in_place_on, in_place_changed}
+use Rattle.vs_backup.proofs.Renewing.{renews_gone, renews_looked, renews_same}
 use Rattle.vs_backup.proofs.Replacing.{takes_on, takes_looks, gone_changed}
 
 -- ---- at each moment
 pub over_copied : (told : Bool) (name temporary backup : Name) (s0 s1 : Scene) → (name ≡ temporary → ⊥) → (name ≡ backup → ⊥) → SparesTwo told temporary backup s0 s1
-    → ReplacesByCopy told name backup s0 s1 → StartsOverFrom told name temporary backup s0 s1
-over_copied told name temporary backup s0 s1 differ differ_name aside replaces = record {
+    → ReplacesByCopy told name backup s0 s1 → RenewsFile told temporary s0 s1 → StartsOverFrom told name temporary backup s0 s1
+over_copied told name temporary backup s0 s1 differ differ_name aside replaces renews = record {
   each = λ is old settled.
       let runs = aside.spares is in
       record {
@@ -29,6 +30,7 @@ over_copied told name temporary backup s0 s1 differ differ_name aside replaces =
         kept = copy_kept name backup temporary old s0 s1 differ differ_name settled runs;
         in_place = copy_in_place name backup temporary old s0 s1 differ differ_name settled runs;
         replaced = replaces.takes is old (synced_bytes name old s0.folder settled.synced);
+        anew = renews.runs is;
       };
 }
 
@@ -43,21 +45,23 @@ over_unchanged told name temporary backup s0 s1 none = record {
             (λ d same. kept_by_name name backup old d (subst (λ (e : Disk). HoldsBytes name old e) (sym same) holds)) (none.looks is);
         in_place = in_place_changed name s0 s1 settled.pending (runs_as (λ a b. b ≡ a) (ChangesOne name) s0 s1 (λ d same. changes_same name s0.folder d same) (none.looks is));
         replaced = takes_looks backup old s0 s1 (none.looks is);
+        anew = runs_as (λ a b. b ≡ a) (Renews temporary) s0 s1 (λ d same. renews_same temporary s0.folder d same) (none.looks is);
       };
 }
 
 pub over_not_emptied : (told : Bool) (name temporary backup : Name) (s0 s1 s2 : Scene) → (name ≡ temporary → ⊥) → (name ≡ backup → ⊥) → ChangesFolder s0 s1 → SparesTwo told temporary backup s0 s1
-    → ReplacesByCopy told name backup s0 s1 → Unchanged told s1 s2 → StartsOverFrom told name temporary backup s0 s2
-over_not_emptied told name temporary backup s0 s1 s2 differ differ_name frame aside replaces none = record {
+    → ReplacesByCopy told name backup s0 s1 → RenewsFile told temporary s0 s1 → Unchanged told s1 s2 → StartsOverFrom told name temporary backup s0 s2
+over_not_emptied told name temporary backup s0 s1 s2 differ differ_name frame aside replaces renews none = record {
   each = λ is old settled.
       let on = three_names name temporary backup in
-      let over = (over_copied told name temporary backup s0 s1 differ differ_name aside replaces).each is old settled in
+      let over = (over_copied told name temporary backup s0 s1 differ differ_name aside replaces renews).each is old settled in
       record {
         spares = spares_on on s0 s1 s2 frame over.spares (runs_as (λ a b. b ≡ a) (Spares on) s1 s2 (λ d same. spares_same on s1.folder d same) (none.looks is));
         kept = kept_on (IsKept name backup old) s0 s1 s2 frame over.kept
             (runs_as (λ a b. b ≡ a) (λ a b. IsKept name backup old b) s1 s2 (λ d same. subst (λ (e : Disk). IsKept name backup old e) (sym same) over.kept.now) (none.looks is));
         in_place = in_place_on name s0 s1 s2 frame over.in_place (runs_as (λ a b. b ≡ a) (ChangesOne name) s1 s2 (λ d same. changes_same name s1.folder d same) (none.looks is));
         replaced = takes_on backup old s0 s1 s2 frame over.replaced (takes_looks backup old s1 s2 (none.looks is));
+        anew = renews_looked temporary s0 s1 s2 frame over.anew (none.looks is);
       };
 }
 
@@ -69,8 +73,8 @@ module _ (told : Bool) (name temporary backup : Name) (s0 s1 s2 : Scene) (differ
   before : IsTrue told → (old : List ℕ) → IsSettled name old s0.folder → content_in s1.folder name ≡ Some old
   before is old settled = copy_content name backup temporary old s0 s1 differ differ_name settled (aside.spares is)
 
-  pub over_emptied : StartsOverFrom told name temporary backup s0 s2
-  over_emptied = record {
+  pub over_emptied : RenewsFile told temporary s0 s1 → LeavesNone told temporary s1 → StartsOverFrom told name temporary backup s0 s2
+  over_emptied renews none = record {
     each = λ is old settled.
         let on = three_names name temporary backup in
         let apart = λ (e : backup ≡ name). differ_name (sym e) in
@@ -85,6 +89,7 @@ module _ (told : Bool) (name temporary backup : Name) (s0 s1 s2 : Scene) (differ
           in_place = in_place_on name s0 s1 s2 frame (copy_in_place name backup temporary old s0 s1 differ differ_name settled first) (empties.runs is);
           replaced = takes_on backup old s0 s1 s2 frame (replaces.takes is old (synced_bytes name old s0.folder settled.synced))
               (over_replaced name backup temporary old s1 s2 apart standing (empties.folder is) old content (empties.runs is));
+          anew = renews_gone temporary s0 s1 s2 frame (renews.runs is) name (none.gone is) (empties.runs is);
         };
   }
 

@@ -10,7 +10,7 @@ use Rattle.vs_disk.specs.Runs.{Runs}
 use Rattle.vs_disk.proofs.Images.{cut_keeps_images}
 use Rattle.vs_disk.proofs.Runs.{one_call, runs_on}
 use Rattle.vs_disk.proofs.Contents.{holds_synced}
-use Rattle.vs_backup.specs.Works.{ChangesOne, Fills, IsAlone, IsGone, Narrowed, Spares, SparesOthers, one_name, two_names}
+use Rattle.vs_backup.specs.Works.{ChangesOne, Fills, HasSynced, IsAlone, IsGone, Narrowed, Renews, Spares, SparesOthers, one_name, two_names}
 use Rattle.vs_backup.specs.Writing.{BeginsPlain, IsSettled, WritesFresh, WritesPlain}
 use Rattle.vs_backup.specs.declared.errors.Stop.{Stop}
 use Rattle.vs_backup.proofs.Calls.{runs_wider, runs_file, spares_on, synced_bytes}
@@ -20,6 +20,7 @@ use Rattle.vs_backup.proofs.Kept.{may_leave_now, may_leave_filled, settled_holds
 use Rattle.vs_backup.proofs.Copying.{alone_now}
 use Rattle.vs_backup.proofs.Others.{others_spared, others_on}
 use Rattle.vs_backup.proofs.Places.{in_place_changed}
+use Rattle.vs_backup.proofs.Renewing.{renews_but}
 use Rattle.vs_backup.proofs.Replacing.{takes_on, takes_others}
 use Rattle.vs_backup.proofs.Backed.{narrowed_content}
 
@@ -34,9 +35,9 @@ module _ (name : Name) (old new : List ℕ) (s0 s1 : Scene) (content : content_i
     not_written = inl (may_leave_now name old s1.folder (narrowed_content name s0.folder s1.folder looked.now ∙ content));
   }
 
-  module _ (frame : ChangesFolder s0 s1) (settled : IsSettled name old s1.folder) (folder : IsFolder s1.folder) (s2 : Scene) (framed : ChangesFolder s1 s2) (answer : Result (Unit {0}) Failed) (told : IsTold Cut (name ∷ []) answer s1 s2) where
+  module _ (frame : ChangesFolder s0 s1) (order : HasSynced name s1) (settled : IsSettled name old s1.folder) (folder : IsFolder s1.folder) (s2 : Scene) (framed : ChangesFolder s1 s2) (answer : Result (Unit {0}) Failed) (told : IsTold Cut (name ∷ []) answer s1 s2) where
     begins : (s : Scene) → Runs (ChangesOne name) s1 s → Runs (Spares (one_name name)) s1 s → BeginsPlain name old s0 s
-    begins s changes spares = record { begun = s1; looked = looked; settled = settled; in_place = in_place_changed name s1 s settled.pending changes; spares = spares }
+    begins s changes spares = record { begun = s1; looked = looked; order = order; settled = settled; in_place = in_place_changed name s1 s settled.pending changes; spares = spares }
 
     cut_spares : s2.folder ≡ s1.folder → Runs (Spares (one_name name)) s1 s2
     cut_spares same = one_call (Spares (one_name name)) Cut (name ∷ []) answer s1 s2 framed told (spares_same (one_name name) s1.folder s2.folder same)
@@ -100,11 +101,18 @@ module _ (name temporary : Name) (new : List ℕ) (s0 s1 : Scene) (differ : name
   pub fresh_free : content_in s1.folder name ≡ None
   fresh_free = content_spared (one_name temporary) name s0.folder s1.folder differ spares.now ∙ free
 
-  pub fresh_not_taken : (result : Result ℕ Stop) → OnOk result ⊥ → WritesFresh (two_names temporary name) name new s0 s1 result
-  fresh_not_taken (Ok size) none = absurd none
-  fresh_not_taken (Err why) none = record { takes = fresh_takes; spares = fresh_spares; written = tt; not_written = absent_now name s1.folder fresh_free; aside = tt }
+  pub fresh_not_taken : Runs (Renews temporary) s0 s1 → (result : Result ℕ Stop) → OnOk result ⊥ → WritesFresh (two_names temporary name) name new s0 s1 result
+  fresh_not_taken renews (Ok size) none = absurd none
+  fresh_not_taken renews (Err why) none = record {
+    takes = fresh_takes;
+    spares = fresh_spares;
+    written = tt;
+    not_written = absent_now name s1.folder fresh_free;
+    anew = renews_but temporary name s0 s1 renews;
+    aside = tt;
+  }
 
-  module _ (s2 : Scene) (frame : ChangesFolder s0 s1) (takes : Runs (Takes name new) s1 s2) (moved : Runs (Spares (two_names temporary name)) s1 s2) where
+  module _ (s2 : Scene) (frame : ChangesFolder s0 s1) (renews : Runs (Renews temporary) s0 s2) (takes : Runs (Takes name new) s1 s2) (moved : Runs (Spares (two_names temporary name)) s1 s2) where
     pub fresh_refused : (result : Result ℕ Stop) → OnOk result ⊥ → MayLeave s2.folder name None → WritesFresh (two_names temporary name) name new s0 s2 result
     fresh_refused (Ok size) none absent = absurd none
     fresh_refused (Err why) none absent = record {
@@ -112,6 +120,7 @@ module _ (name temporary : Name) (new : List ℕ) (s0 s1 : Scene) (differ : name
       spares = spares_on (two_names temporary name) s0 s1 s2 frame fresh_spares moved;
       written = tt;
       not_written = absent;
+      anew = renews_but temporary name s0 s2 renews;
       aside = tt;
     }
 
@@ -121,6 +130,7 @@ module _ (name temporary : Name) (new : List ℕ) (s0 s1 : Scene) (differ : name
       spares = spares_on (two_names temporary name) s0 s1 s2 frame fresh_spares moved;
       written = (is, settled_holds name new s2.folder settled);
       not_written = tt;
+      anew = renews_but temporary name s0 s2 renews;
       aside = λ other works not_name. elim works [
         | inl same ↦ subst (λ (n : Name). IsGone n s2.folder) (sym same) gone
         | inr same ↦ absurd (not_name same)

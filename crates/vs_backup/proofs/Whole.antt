@@ -7,11 +7,11 @@ use Rattle.vs_host.specs.Trace.{Looked}
 use Rattle.vs_host.specs.World.{Scene, ChangesFolder, IsTold, ReadsFolder}
 use Rattle.vs_host.specs.declared.traits.Failed.{Failed}
 use Rattle.vs_disk.specs.Runs.{Looks}
-use Rattle.vs_disk.proofs.Runs.{runs_as, runs_on, looks_on, reads_change}
+use Rattle.vs_disk.proofs.Runs.{runs_as, runs_on, runs_then, looks_on, reads_change}
 use Rattle.vs_backup.specs.Backups.{WorksOn, backup_of, copies}
 use Rattle.vs_backup.specs.Backups.WorksOn.{TheFile, TheNewFile, TheBackup, TheCopy}
 use Rattle.vs_backup.specs.declared.options.WriteOptions.{WriteOptions}
-use Rattle.vs_backup.specs.Works.{Narrowed, Spares, SparesOthers, one_name, two_names}
+use Rattle.vs_backup.specs.Works.{Narrowed, RenewsBut, Spares, SparesOthers, one_name, two_names}
 use Rattle.vs_backup.specs.Writing.{FindsNoName, IsUnseen, OldIn, WritesFresh, WritesInPlace, WritesPlain, WritesWith, backed_names}
 use Rattle.vs_backup.specs.declared.errors.Place.TheVariants as place
 use Rattle.vs_backup.specs.declared.errors.Stop.{Stop}
@@ -19,6 +19,7 @@ use Rattle.vs_backup.specs.declared.errors.WriteErr.{WriteErr}
 use Rattle.vs_backup.specs.declared.errors.WriteErr.TheVariants as error
 use Rattle.vs_backup.proofs.Calls.{spares_on}
 use Rattle.vs_backup.proofs.Frames.{narrowed_then, spares_same}
+use Rattle.vs_backup.proofs.Renewing.{renews_same}
 use Rattle.vs_backup.proofs.Replacing.{takes_on, takes_looks}
 use Rattle.vs_backup.proofs.Copying.{never_refused}
 use Rattle.vs_backup.proofs.Backed.{looks_narrowed}
@@ -58,6 +59,7 @@ module _ (s0 s1 s2 : Scene) (frame : ReadsFolder s0 s1) (looks : Looks s0 s1) (r
         | inl begins ↦ inl (record {
           begun = begins.begun;
           looked = runs_on Narrowed narrowed_then s0 s1 begins.begun changed (looks_narrowed s0 s1 looks) begins.looked;
+          order = begins.order;
           settled = begins.settled;
           in_place = begins.in_place;
           spares = begins.spares;
@@ -78,6 +80,8 @@ module _ (s0 s1 s2 : Scene) (frame : ReadsFolder s0 s1) (looks : Looks s0 s1) (r
         spares = spares_on on s0 s1 s2 changed (runs_as (λ a b. b ≡ a) (Spares on) s0 s1 (λ d same. spares_same on s0.folder d same) looks) here.spares;
         written = here.written;
         not_written = here.not_written;
+        anew = runs_then (λ a b. b ≡ a) (RenewsBut on name) (RenewsBut on name) s0 s1 s2 (λ d same other works differ. renews_same other s0.folder d same)
+            (λ d renews. subst (λ (e : Disk). RenewsBut on name e d) looks.now renews) changed looks here.anew;
         aside = here.aside;
       }
 

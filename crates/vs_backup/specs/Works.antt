@@ -1,7 +1,8 @@
 -- What calls on some names leave of all others.
-use Rattle.std.specs.Prelude.{◌≡◌, ◌⊎◌, ℕ, Bool, true, false, List, Option, Some, None, IsTrue}
+use Rattle.std.specs.Prelude.{◌≡◌, ◌≢◌, ◌⊎◌, ℕ, Bool, true, false, List, [], ◌∷◌, Option, Some, None, IsTrue}
 use Rattle.vs_host.specs.File.{Cuts}
 use Rattle.vs_host.specs.Disk.{Disk, Name, names_of, names_at, ChangesFile, IsFolder, SyncsNames}
+use Rattle.vs_host.specs.Trace.{Snapshot, Synced, SyncedNames}
 use Rattle.vs_host.specs.World.{Scene, content_of}
 use Rattle.vs_disk.specs.Images.{Changes, IsSynced, KeepsImages, MayLeave, Narrows}
 use Rattle.vs_disk.specs.Names.{IsApart, SameAt}
@@ -45,6 +46,30 @@ LeadsAway name old new = (lost : ℕ) → names_at new lost name ≡ names_of ol
 -- in no state of the names that a stop may leave does the name lead to a file
 abbrev pub IsGone : Name → Disk → Type 0
 IsGone name disk = (lost : ℕ) → names_at disk lost name ≡ None
+
+-- in no state of the names that a stop may leave does a name lead to the file of this number
+abbrev pub IsUnused : ℕ → Disk → Type 0
+IsUnused number disk = (lost : ℕ) (name : Name) → names_at disk lost name ≢ Some number
+
+-- A file that stands under the name is a new one, to which no name led.
+abbrev pub HasNew : Name → Disk → Disk → Type 0
+HasNew name old new = (number : ℕ) → names_of new name ≡ Some number → IsUnused number old
+
+-- A file that stands under the name is a new one, or the one that stood there, as it was.
+abbrev pub Renews : Name → Disk → Disk → Type 0
+Renews name old new = (number : ℕ) → names_of new name ≡ Some number → IsUnused number old ⊎ ((names_of old name ≡ Some number) × (new.files number ≡ old.files number))
+
+-- so it is for each name of this set but one
+abbrev pub RenewsBut : (Name → Type 0) → Name → Disk → Disk → Type 0
+RenewsBut on name old new = (other : Name) → on other → (other ≡ name → ⊥) → Renews other old new
+
+-- The name leads to no file but the one to which it led.
+abbrev pub LeadsNowhereElse : Name → Disk → Disk → Type 0
+LeadsNowhereElse name old new = (number : ℕ) → names_of new name ≡ Some number → names_of old name ≡ Some number
+
+-- a state of the names that a stop might have left, it may still leave
+abbrev pub KeepsStates : Disk → Disk → Type 0
+KeepsStates old new = (lost : ℕ) → (l : ℕ) × ((name : Name) → names_at old lost name ≡ names_at new l name)
 
 -- A stop leaves no file under the name, or what it left before.
 abbrev pub Drops : Name → Disk → Disk → Type 0
@@ -106,3 +131,20 @@ pub record LeavesNone (told : Bool) (name : Name) (after : Scene) : Type 0 where
 -- All names but these two are left alone.
 pub record SparesTwo (told : Bool) (a b : Name) (before after : Scene) : Type 0 where
   pub spares : IsTrue told → Runs (Spares (two_names a b)) before after
+
+-- The last two calls synced the file of this name, and then the names.
+pub record HasSynced (name : Name) (scene : Scene) : Type 0 where
+  pub file_synced : Snapshot
+  pub names_synced : Snapshot
+  pub earlier : List Snapshot
+  pub is : scene.trace ≡ names_synced ∷ (file_synced ∷ earlier)
+  pub first : (file_synced.kind ≡ Synced) × (file_synced.names ≡ name ∷ [])
+  pub second : names_synced.kind ≡ SyncedNames
+
+-- so it is where the folder is told
+pub record SyncsInOrder (told : Bool) (name : Name) (after : Scene) : Type 0 where
+  pub order : IsTrue told → HasSynced name after
+
+-- At each moment a file that stands under the name is a new one, or the one that stood there, as it was.
+pub record RenewsFile (told : Bool) (name : Name) (before after : Scene) : Type 0 where
+  pub runs : IsTrue told → Runs (Renews name) before after

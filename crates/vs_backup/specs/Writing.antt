@@ -8,7 +8,7 @@ use Rattle.vs_host.specs.Names.{temporary}
 use Rattle.vs_host.specs.World.{Scene, content_of}
 use Rattle.vs_disk.specs.Images.{HoldsBytes, IsSynced, MayLeave, Takes}
 use Rattle.vs_disk.specs.Runs.{FailsLast, Looks, Quiet, Runs}
-use Rattle.vs_backup.specs.Works.{IsGone, LeadsAway, LeadsTo, Narrowed, Spares, SparesOthers, StandsUnder, one_name, two_names, three_names}
+use Rattle.vs_backup.specs.Works.{HasSynced, IsGone, LeadsAway, LeadsTo, Narrowed, Renews, RenewsBut, Spares, SparesOthers, StandsUnder, one_name, two_names, three_names}
 use Rattle.vs_backup.specs.Backups.{copies}
 use Rattle.vs_backup.specs.declared.options.WriteOptions.{WriteOptions}
 use Rattle.vs_backup.specs.declared.errors.Place.{Place}
@@ -125,6 +125,7 @@ pub record StartsOver (name temporary backup : Name) (old : List ℕ) (before af
   pub kept : Runs (λ a b. IsKept name backup old b) before after
   pub in_place : Runs (LeadsTo name name) before after
   pub replaced : Runs (Takes backup old) before after
+  pub anew : Runs (Renews temporary) before after
 
 -- The file is empty, and the copy stands.
 pub record IsStartedOver (name backup : Name) (old : List ℕ) (disk : Disk) : Type 0 where
@@ -160,9 +161,10 @@ pub record WritesOver (copying : Bool) (name temporary backup : Name) (old new :
   pub replaced : Runs (Takes backup old) before after
   pub written : IfOk result (λ size. (size ≡ length new) × HoldsBytes name new after.folder × HoldsBytes backup old after.folder)
   pub aside : copying ≡ true → OnOk result (IsGone temporary after.folder)
+  pub anew : copying ≡ true → Runs (Renews temporary) before after
   pub not_written : OnErr result (MayLackNew name old after.folder)
   pub in_file : OldIn File result → HoldsBytes name old after.folder
-  pub in_backup : OldIn Backup result → (old ≡ [] → ⊥) → MayLackOld name old after.folder
+  pub in_backup : OldIn Backup result → (copying ≡ true → old ≡ [] → ⊥) → MayLackOld name old after.folder
   pub somewhere : (OldIn Nowhere result → ⊥) × (IsErrOf result error.NoBackupName → ⊥)
 
 -- From a file that was renamed to the backup name, until the name is made anew: other names are left alone, and at each moment,
@@ -194,16 +196,19 @@ pub record IsFilled (told : Bool) (name : Name) (has : List (List ℕ) → Type 
 pub record IsFilledFirm (told : Bool) (name : Name) (has : List (List ℕ) → Type 0) (size : ℕ) (after : Scene) : Type 0 where
   pub each : IsTrue told → (text : List (List ℕ)) → has text → (size ≡ length (file_of text)) × IsSettled name (file_of text) after.folder
 
--- Before the two syncs at the beginning nothing has changed. After them, at each moment, in each image, the file or its backup is
--- whole, the backup name has the old bytes whole or what it might have before, and other names are left alone.
+-- Before the two syncs at the beginning, that of the file first, nothing has changed. After them, at each moment, in each image, the
+-- file or its backup is whole, the backup name has the old bytes whole or what it might have before, and other names are left alone.
 pub record BeginsWhole (copying keep : Bool) (name temporary backup : Name) (old new : List ℕ) (before after : Scene) (result : Result ℕ WriteErr) : Type 0 where
   pub begun : Scene
   pub looked : Runs Narrowed before begun
+  pub order : HasSynced name begun
   pub settled : IsSettled name old begun.folder
   pub whole : Runs (λ a b. IsWhole name backup old new b) begun after
   pub replaced : Runs (Takes backup old) begun after
   pub places : Places copying keep name backup begun after result
   pub spares : Runs (Spares (backed_names copying name temporary backup)) begun after
+  -- the file into which the copy is made
+  pub anew : copying ≡ true → Runs (Renews temporary) begun after
 
 -- A write over a file that is there, with this backup, which is kept or removed.
 pub record WritesBacked (copying keep : Bool) (name temporary backup : Name) (old new : List ℕ) (before after : Scene) (result : Result ℕ WriteErr) : Type 0 where
@@ -217,17 +222,19 @@ pub record WritesBacked (copying keep : Bool) (name temporary backup : Name) (ol
   pub not_written : OnErr result (MayLackNew name old after.folder)
   -- where the old bytes are said to stand
   pub in_file : OldIn File result → Runs Narrowed before after ⊎ HoldsBytes name old after.folder
-  pub in_backup : OldIn Backup result → IsKept name backup old after.folder × ((old ≡ [] → ⊥) → MayLackOld name old after.folder)
+  pub in_backup : OldIn Backup result → IsKept name backup old after.folder × ((copying ≡ true → old ≡ [] → ⊥) → MayLackOld name old after.folder)
   pub somewhere : (OldIn Nowhere result → ⊥) × (IsErrOf result error.NoBackupName → ⊥)
 
 -- such a write with these options
 abbrev pub WritesWith : WriteOptions → Name → Name → List ℕ → List ℕ → Scene → Scene → Result ℕ WriteErr → Type 0
 WritesWith options name backup old new before after result = WritesBacked (copies options.copy) options.backup name (temporary backup) backup old new before after result
 
--- Before the two syncs at the beginning nothing has changed. After them only the file does, which stays where it is.
+-- Before the two syncs at the beginning, that of the file first, nothing has changed. After them only the file does, which stays where
+-- it is.
 pub record BeginsPlain (name : Name) (old : List ℕ) (before after : Scene) : Type 0 where
   pub begun : Scene
   pub looked : Runs Narrowed before begun
+  pub order : HasSynced name begun
   pub settled : IsSettled name old begun.folder
   pub in_place : Runs (LeadsTo name name) begun after
   pub spares : Runs (Spares (one_name name)) begun after
@@ -246,6 +253,7 @@ pub record WritesFresh (on : Name → Type 0) (name : Name) (new : List ℕ) (be
   pub written : IfOk result (λ size. (size ≡ length new) × HoldsBytes name new after.folder)
   pub not_written : OnErr result (MayLeave after.folder name None)
   -- the other names on which it worked
+  pub anew : Runs (RenewsBut on name) before after
   pub aside : OnOk result ((other : Name) → on other → (other ≡ name → ⊥) → IsGone other after.folder)
 
 -- It was not found out whether there is a file, and nothing has changed.

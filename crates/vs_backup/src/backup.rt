@@ -4,7 +4,7 @@ ghost use Rattle.vs_text.specs.Text.{file_of};
 ghost use Rattle.vs_host.specs.Disk.{Name};
 ghost use Rattle.vs_host.specs.World.{content_of};
 ghost use Rattle.vs_backup.specs.Desks.{AreApart, Continues, GoesOn};
-ghost use Rattle.vs_backup.specs.Works.{LeavesNone, SparesTwo};
+ghost use Rattle.vs_backup.specs.Works.{HasSynced, LeavesNone, RenewsFile, SparesTwo};
 ghost use Rattle.vs_backup.specs.Writing.{CopiesBytes, FailsNoEarlier, IsFailed, IsFilled, IsFilledFirm, IsSettled, MakesAnewFrom, MayBeAbsent, ReplacesByCopy, StartedOverFrom, StartsOverFrom, StillHolds, WritesBacked, WritesOver};
 
 use crate::Desk;
@@ -30,6 +30,7 @@ fn copy_to_backup<D: Desk>(
     ensures takes { ReplacesByCopy (D.tells).folder name.now backup.now (D.scene desk.old) (D.scene desk.new) }
     ensures ok { OnOk result (CopiesBytes (D.tells).folder name.now backup.now (D.scene desk.old) (D.scene desk.new)) }
     ensures aside { OnOk result (LeavesNone (D.tells).folder temporary.now (D.scene desk.new)) }
+    ensures anew { RenewsFile (D.tells).folder temporary.now (D.scene desk.old) (D.scene desk.new) }
     ensures kept { GoesOn D.tells D.scene D.valid D.stays (IsErr result) desk.old desk.new }
 {
     make_anew(desk, temporary, Readers::Owner)?;
@@ -203,6 +204,7 @@ fn write_backed<D: Desk>(
     requires names { AreApart (D.reads desk.old) name.now backup.now temporary.now }
     requires buffer { length piece.old.items ≡ PIECE }
     requires settled { IsTrue (D.tells).folder → (old : List ℕ) × IsSettled name.now old (D.scene desk.old).folder }
+    requires order { IsTrue (D.tells).folder → HasSynced name.now (D.scene desk.old) }
     requires free { keep ≡ false → IsTrue (D.tells).folder → content_of (D.scene desk.old) backup.now ≡ None }
     ensures backed { IsTrue (D.tells).folder → (old : List ℕ) → IsSettled name.now old (D.scene desk.old).folder → (text : List (List ℕ)) → D.has_text desk.old text
         → WritesBacked copying keep name.now temporary.now backup.now old (file_of text) (D.scene desk.old) (D.scene desk.new) result }

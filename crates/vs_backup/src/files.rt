@@ -2,12 +2,12 @@
 ghost use Rattle.std.specs.Prelude.{◌≡◌, ◌≢◌, ◌≤◌, ◌<◌, ◌+◌, ◌^◌, ◌++◌, ◌∷◌, [], Bool, false, ℕ, List, length, IfOk, IfSome, OnOk, OnErr, IsErr, IsTrue, Some, None, IsSome};
 ghost use Rattle.vs_host.specs.File.{Syncs};
 ghost use Rattle.vs_host.specs.Disk.{Name, ChangesFile, CreatesFile};
-ghost use Rattle.vs_host.specs.Trace.{Created, Synced};
+ghost use Rattle.vs_host.specs.Trace.{Created, Synced, SyncedNames};
 ghost use Rattle.vs_host.specs.World.{content_of, IsTold};
 ghost use Rattle.vs_disk.specs.Images.{IsSynced, MayLeave, Takes};
 ghost use Rattle.vs_disk.specs.Runs.{Runs};
 ghost use Rattle.vs_backup.specs.Desks.{GoesOn};
-ghost use Rattle.vs_backup.specs.Works.{Drops, Empties, IsAlone, IsGone, Settles, SettlesAny, Spares, SyncsAll, SyncsBytes, Unchanged, one_name, two_names};
+ghost use Rattle.vs_backup.specs.Works.{Drops, Empties, HasNew, IsAlone, IsGone, KeepsStates, LeadsNowhereElse, Renews, Settles, SettlesAny, Spares, SyncsAll, SyncsBytes, SyncsInOrder, Unchanged, one_name, two_names};
 ghost use Rattle.vs_backup.specs.Writing.{IsSettled, SettlesBytes, SettlesSynced};
 
 use crate::Desk;
@@ -20,6 +20,7 @@ fn sync_file<D: Desk>(desk: &mut D, name: &str) -> Result<(), Failed>
     requires there { IsTrue (D.tells).folder → IsSome (content_of (D.scene desk.old) name.now) }
     ensures settles { Settles (D.tells).folder name.now (D.scene desk.old) (D.scene desk.new) }
     ensures ok { OnOk result (SyncsBytes (D.tells).folder name.now (D.scene desk.old) (D.scene desk.new)) }
+    ensures told { IsTrue (D.tells).folder → IsTold Synced (name.now ∷ []) result (D.scene desk.old) (D.scene desk.new) }
     ensures kept { GoesOn D.tells D.scene D.valid D.stays (IsErr result) desk.old desk.new }
 {
     desk.sync(name)
@@ -32,12 +33,13 @@ pub(crate) fn sync_directory<D: Desk>(desk: &mut D) -> Result<(), Failed>
     ensures ok { OnOk result (SettlesSynced (D.tells).folder (D.scene desk.old) (D.scene desk.new)) }
     ensures all { OnOk result (SyncsAll (D.tells).folder (D.scene desk.old) (D.scene desk.new)) }
     ensures err { OnErr result (Unchanged (D.tells).folder (D.scene desk.old) (D.scene desk.new)) }
+    ensures told { IsTrue (D.tells).folder → IsTold SyncedNames [] result (D.scene desk.old) (D.scene desk.new) }
     ensures kept { GoesOn D.tells D.scene D.valid D.stays (IsErr result) desk.old desk.new }
 {
     desk.sync_names()
 }
 
-/// Syncs the file and the names.
+/// Syncs the file, and then the names.
 #[tactic(auto, using(crate::proofs::Settling::settle_steps))]
 pub(crate) fn settle<D: Desk>(desk: &mut D, name: &str) -> Result<(), Failed>
     requires valid { D.valid desk.old }
@@ -45,6 +47,7 @@ pub(crate) fn settle<D: Desk>(desk: &mut D, name: &str) -> Result<(), Failed>
     requires there { IsTrue (D.tells).folder → IsSome (content_of (D.scene desk.old) name.now) }
     ensures settles { Settles (D.tells).folder name.now (D.scene desk.old) (D.scene desk.new) }
     ensures ok { OnOk result (SettlesBytes (D.tells).folder name.now (D.scene desk.old) (D.scene desk.new)) }
+    ensures order { OnOk result (SyncsInOrder (D.tells).folder name.now (D.scene desk.new)) }
     ensures kept { GoesOn D.tells D.scene D.valid D.stays (IsErr result) desk.old desk.new }
 {
     sync_file(desk, name)?;
@@ -70,6 +73,8 @@ pub(crate) fn clear_name<D: Desk>(desk: &mut D, name: &str) -> Result<(), Failed
     requires apart { D.reads desk.old name.now → ⊥ }
     ensures spares { IsTrue (D.tells).folder → Runs (Spares (one_name name.now)) (D.scene desk.old) (D.scene desk.new) }
     ensures ok { OnOk result (IsTrue (D.tells).folder → content_of (D.scene desk.new) name.now ≡ None) }
+    ensures renews { IsTrue (D.tells).folder → Runs (Renews name.now) (D.scene desk.old) (D.scene desk.new) }
+    ensures states { IsTrue (D.tells).folder → KeepsStates (D.scene desk.old).folder (D.scene desk.new).folder }
     ensures kept { GoesOn D.tells D.scene D.valid D.stays (IsErr result) desk.old desk.new }
 {
     if desk.has(name)? {
@@ -110,6 +115,8 @@ pub(crate) fn make_anew<D: Desk>(desk: &mut D, name: &str, readers: Readers) -> 
     ensures spares { IsTrue (D.tells).folder → Runs (Spares (one_name name.now)) (D.scene desk.old) (D.scene desk.new) }
     ensures empty { OnOk result (IsTrue (D.tells).folder → content_of (D.scene desk.new) name.now ≡ Some []) }
     ensures alone { OnOk result (IsTrue (D.tells).folder → IsAlone name.now (D.scene desk.new).folder) }
+    ensures renews { IsTrue (D.tells).folder → Runs (Renews name.now) (D.scene desk.old) (D.scene desk.new) }
+    ensures anew { OnOk result (IsTrue (D.tells).folder → HasNew name.now (D.scene desk.old).folder (D.scene desk.new).folder) }
     ensures kept { GoesOn D.tells D.scene D.valid D.stays (IsErr result) desk.old desk.new }
 {
     clear_name(desk, name)?;
@@ -151,6 +158,7 @@ pub(crate) fn take_name<D: Desk>(desk: &mut D, from: &str, to: &str) -> Result<(
         → Runs (Takes to.now bytes) (D.scene desk.old) (D.scene desk.new) }
     ensures ok { OnOk result (IsTrue (D.tells).folder → (bytes : List ℕ) → IsSynced from.now bytes (D.scene desk.old).folder
         → IsSettled to.now bytes (D.scene desk.new).folder) }
+    ensures leads { IsTrue (D.tells).folder → Runs (LeadsNowhereElse from.now) (D.scene desk.old) (D.scene desk.new) }
     ensures gone { OnOk result (IsTrue (D.tells).folder → IsGone from.now (D.scene desk.new).folder) }
     ensures err { OnErr result (IsTrue (D.tells).folder → content_of (D.scene desk.old) to.now ≡ None → MayLeave (D.scene desk.new).folder to.now None) }
     ensures kept { GoesOn D.tells D.scene D.valid D.stays (IsErr result) desk.old desk.new }

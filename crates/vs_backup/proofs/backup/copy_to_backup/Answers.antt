@@ -8,6 +8,7 @@ use Rattle.vs_backup.specs.Works.{IsGone, LeavesNone, one_name, two_names}
 use Rattle.vs_backup.specs.Writing.{CopiesBytes, IsSettled}
 use Rattle.vs_backup.proofs.Calls.{spares_on, runs_wider, runs_file, synced_there}
 use Rattle.vs_backup.proofs.Frames.{ok_leads, content_spared}
+use Rattle.vs_backup.proofs.Renewing.{renews_filled, renews_taken}
 use Rattle.vs_backup.proofs.Replacing.{takes_on, takes_others}
 use Rattle.vs_backup.proofs.Going as going
 use Rattle.vs_backup.proofs.backup.copy_to_backup.Goals as goal
@@ -121,3 +122,27 @@ returns-in_err-fill_copy-clause-kept g c = going.GoesOn-any c.from_residual-in_e
 
 pub returns-clause-kept : goal.returns-clause-kept
 returns-clause-kept g c = going.GoesOn-then g.met.D.Desk.stays_on (λ is. absurd (cc)) (going.GoesOn-then g.met.D.Desk.stays_on (λ is. absurd (cc)) c.in_ok-make_anew.ensures.kept c.in_ok-fill_copy.ensures.kept) c.take_name.ensures.kept
+
+pub returns-in_err-make_anew-clause-anew : goal.returns-in_err-make_anew-clause-anew
+returns-in_err-make_anew-clause-anew g c = record { runs = λ told. c.make_anew.ensures.renews told }
+
+pub returns-in_err-fill_copy-clause-anew : goal.returns-in_err-fill_copy-clause-anew
+returns-in_err-fill_copy-clause-anew g c =
+    let s0 : Scene = g.D.World.scene c.args.desk.now in
+    let s1 : Scene = g.D.World.scene c.make_anew.new.desk in
+    let s2 : Scene = g.D.World.scene c.fill_copy.new.desk in
+    record {
+      runs = λ told. renews_filled c.args.temporary.now s0 s1 s2 c.make_anew.ensures.kept.frame (c.make_anew.ensures.renews told) (c.in_ok-make_anew.ensures.anew told) (c.fill_copy.ensures.runs told);
+    }
+
+pub returns-clause-anew : goal.returns-clause-anew
+returns-clause-anew g c =
+    let s0 : Scene = g.D.World.scene c.args.desk.now in
+    let s1 : Scene = g.D.World.scene c.make_anew.new.desk in
+    let s2 : Scene = g.D.World.scene c.fill_copy.new.desk in
+    let s3 : Scene = g.D.World.scene c.take_name.new.desk in
+    record {
+      runs = λ told.
+          renews_taken c.args.temporary.now s0 s1 s2 c.make_anew.ensures.kept.frame (c.make_anew.ensures.renews told) s3 c.fill_copy.ensures.kept.frame (c.in_ok-make_anew.ensures.anew told)
+          (c.fill_copy.ensures.runs told) (c.take_name.ensures.leads told);
+    }

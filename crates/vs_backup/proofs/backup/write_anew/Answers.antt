@@ -1,4 +1,4 @@
-use Rattle.std.proofs.Common.{◌≡◌, refl}
+use Rattle.std.proofs.Common.{refl}
 use Rattle.vs_backup.proofs.Going as going
 use Rattle.vs_backup.proofs.backup.write_anew.Goals as goal
 

@@ -24,14 +24,14 @@ returns-in-Err-fill_text-clause-over g c told old is text has =
     let s2 : Scene = g.D.World.scene c.fill_text.new.desk in
     subst (λ (error : WriteErr). WritesOver true c.args.name.now c.args.temporary.now c.args.backup.now old (file_of text) s0 s2 (Err error)) (sym c.with.ensures)
     (copying_stopped c.args.name.now c.args.backup.now c.args.temporary.now old (file_of text) s0 s1 s2 c.start_over.ensures.kept.frame (λ e. c.requires.names.differ_name (sym e)) (g.D.World.is_folder c.start_over.new.desk told)
-    (c.start_over.ensures.over.each told old is) (c.in-Ok.ensures.ok.each told old is) (c.fill_text.ensures.runs told) c.in-Err-fill_text.stop (c.in-Err-fill_text.ensures.err told))
+    (c.start_over.ensures.over.each told old is) (c.in-Ok.ensures.ok.each told old is) (c.fill_text.ensures.runs told) c.in-Err-fill_text.stop (c.in-Err-fill_text.ensures.err told) (c.in-Ok.ensures.aside.gone told))
 
 pub returns-in-Err-clause-over : goal.returns-in-Err-clause-over
 returns-in-Err-clause-over g c told old is text has =
     let s0 : Scene = g.D.World.scene c.args.desk.now in
     let s1 : Scene = g.D.World.scene c.start_over.new.desk in
     let over = c.start_over.ensures.over.each told old is in
-    over_not_begun true c.args.name.now c.args.temporary.now c.args.backup.now old (file_of text) s0 s1 over.spares over.kept over.replaced over.in_place (c.in-Err.ensures.err.each told old is)
+    over_not_begun true c.args.name.now c.args.temporary.now c.args.backup.now old (file_of text) s0 s1 over.spares over.kept over.replaced over.in_place (λ copies. over.anew) (c.in-Err.ensures.err.each told old is)
 
 pub fill_text-requires-clause-empty : goal.fill_text-requires-clause-empty
 fill_text-requires-clause-empty g c told =

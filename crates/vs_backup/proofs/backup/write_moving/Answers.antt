@@ -1,4 +1,5 @@
 use Rattle.std.proofs.Common.{[], ◌∷◌, false, Err, sym, subst}
+use Rattle.std.proofs.lemmas.Bool.{true≢false}
 use Rattle.vs_text.specs.Text.{file_of}
 use Rattle.vs_host.specs.Disk.{Disk}
 use Rattle.vs_host.specs.Trace.{Renamed}
@@ -61,7 +62,7 @@ returns-in-Err-clause-over g c told old is text has temporary =
     (one_call (λ a b. IsKept name backup old b) Renamed (name ∷ backup ∷ []) c.rename.result s0 s1 c.rename.ensures.kept.frame (c.rename.ensures.told told) (kept_by_name name backup old s1.folder still))
     (one_call (Takes backup old) Renamed (name ∷ backup ∷ []) c.rename.result s0 s1 c.rename.ensures.kept.frame (c.rename.ensures.told told) (takes_same backup old s0.folder s1.folder c.in-Err.ensures.err))
     (record { under = one_call (StandsUnder name backup) Renamed (name ∷ backup ∷ []) c.rename.result s0 s1 c.rename.ensures.kept.frame (c.rename.ensures.told told) (under_still name backup s0.folder s1.folder is.pending c.in-Err.ensures.err); another = tt; kept = λ keeps. tt; in_backup = λ refused. absurd (only_file place.Backup (λ e. cc) refused) })
-    still
+    (λ copies. absurd (true≢false (sym copies))) still
 
 pub rename-requires-clause-there : goal.rename-requires-clause-there
 rename-requires-clause-there g c told =

@@ -44,3 +44,6 @@ write_backed-requires-clause-free g c off told =
 
 pub returns-in-Ok-clause-calls : goal.returns-in-Ok-clause-calls
 returns-in-Ok-clause-calls g c = λ told text has. doing.fails_then c.args.name.now (file_of text) c.write_backed.result (g.D.World.scene c.args.desk.now) (g.D.World.scene c.settle.new.desk) (g.D.World.scene c.write_backed.new.desk) (c.in-Ok.ensures.kept.stops.none told (λ is. absurd (cc))) (c.write_backed.ensures.calls told text (g.met.D.Desk.stays_text c.args.desk.now c.settle.new.desk text c.settle.ensures.kept.stays has))
+
+pub write_backed-requires-clause-order : goal.write_backed-requires-clause-order
+write_backed-requires-clause-order g c = c.in-Ok.ensures.order.order

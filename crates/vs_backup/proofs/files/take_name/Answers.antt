@@ -6,9 +6,10 @@ use Rattle.vs_disk.specs.Images.{IsSynced, MayLeave, Takes}
 use Rattle.vs_disk.proofs.Runs.{one_call, call_on}
 use Rattle.vs_disk.proofs.Contents.{takes_renamed, takes_then}
 use Rattle.vs_backup.specs.Writing.{IsSettled}
-use Rattle.vs_backup.specs.Works.{IsGone, Spares, two_names}
+use Rattle.vs_backup.specs.Works.{IsGone, LeadsNowhereElse, Spares, two_names}
 use Rattle.vs_backup.proofs.Frames.{either, spares_same, spares_then, spares_renamed, spares_synced, takes_spared, takes_same, ok_leads, err_leads, err_is, settled_now, synced_renamed, absent_now, absent_before}
 use Rattle.vs_backup.proofs.Replacing.{gone_renamed}
+use Rattle.vs_backup.proofs.Renewing.{nowhere_renamed, nowhere_same, nowhere_synced, nowhere_then}
 use Rattle.vs_backup.proofs.Going as going
 use Rattle.vs_backup.proofs.files.take_name.Goals as goal
 
@@ -87,3 +88,22 @@ returns-clause-gone g c =
 
 pub returns-clause-kept : goal.returns-clause-kept
 returns-clause-kept g c = going.GoesOn-then g.met.D.Desk.stays_on (λ is. absurd (cc)) c.in_ok-rename.ensures.kept c.sync_names.ensures.kept
+
+pub returns-in_err-rename-clause-leads : goal.returns-in_err-rename-clause-leads
+returns-in_err-rename-clause-leads g c told =
+    let s0 : Scene = g.D.World.scene c.args.desk.now in
+    let s1 : Scene = g.D.World.scene c.rename.new.self in
+    one_call (LeadsNowhereElse c.args.from.now) Renamed (c.args.from.now ∷ c.args.to.now ∷ []) c.rename.result s0 s1 c.rename.ensures.kept.frame (c.rename.ensures.told told) (nowhere_same c.args.from.now s0.folder s1.folder c.in_err-rename.ensures.err)
+
+pub returns-clause-leads : goal.returns-clause-leads
+returns-clause-leads g c told =
+    let from = c.args.from.now in
+    let s0 : Scene = g.D.World.scene c.args.desk.now in
+    let s1 : Scene = g.D.World.scene c.rename.new.self in
+    let s2 : Scene = g.D.World.scene c.sync_names.new.self in
+    let first = one_call (LeadsNowhereElse from) Renamed (from ∷ c.args.to.now ∷ []) c.rename.result s0 s1 c.rename.ensures.kept.frame (c.rename.ensures.told told)
+    (nowhere_renamed from c.args.to.now s0.folder s1.folder c.requires.differ (c.in_ok-rename.ensures.ok told)) in
+    let here : LeadsNowhereElse from s1.folder s2.folder =
+    either (IsTrue g.D.World.tells.folder → SyncsNames s1.folder s2.folder) (s2.folder ≡ s1.folder) (LeadsNowhereElse from s1.folder s2.folder) c.sync_names.result
+    c.sync_names.ensures.ok c.sync_names.ensures.err (λ syncs. nowhere_synced from s1.folder s2.folder (syncs told)) (λ same. nowhere_same from s1.folder s2.folder same) in
+    call_on (LeadsNowhereElse from) (nowhere_then from) SyncedNames [] c.sync_names.result s0 s1 s2 c.rename.ensures.kept.frame first c.sync_names.ensures.kept.frame here (c.sync_names.ensures.told told)

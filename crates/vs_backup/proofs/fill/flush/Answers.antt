@@ -1,4 +1,3 @@
-use Rattle.std.proofs.Common.{◌≡◌, refl}
 use Rattle.vs_backup.proofs.Going as going
 use Rattle.vs_backup.proofs.fill.flush.Goals as goal
 

@@ -5,6 +5,7 @@ use Rattle.vs_host.specs.World.{Scene}
 use Rattle.vs_disk.proofs.Runs.{frames}
 use Rattle.vs_backup.specs.Works.{one_name}
 use Rattle.vs_backup.proofs.Calls.{runs_file, spares_on, synced_there}
+use Rattle.vs_backup.proofs.Renewing.{renews_filled, renews_taken}
 use Rattle.vs_backup.proofs.Unbacked.{fresh_not_taken, fresh_free, fresh_refused, fresh_done}
 use Rattle.vs_backup.proofs.Going as going
 use Rattle.vs_backup.proofs.plain.write_fresh.Goals as goal
@@ -14,7 +15,7 @@ returns-in_err-make_anew-clause-fresh g c told free text has =
     let s0 : Scene = g.D.World.scene c.args.desk.now in
     let s1 : Scene = g.D.World.scene c.make_anew.new.desk in
     let p = err_from_is_err_and c.from_residual.result c.from_residual.ensures.1 in
-    fresh_not_taken c.args.name.now c.args.temporary.now (file_of text) s0 s1 c.requires.differ free (c.make_anew.ensures.spares told) c.from_residual.result (rw p.1 tt)
+    fresh_not_taken c.args.name.now c.args.temporary.now (file_of text) s0 s1 c.requires.differ free (c.make_anew.ensures.spares told) (c.make_anew.ensures.renews told) c.from_residual.result (rw p.1 tt)
 
 pub returns-in_err-size-clause-fresh : goal.returns-in_err-size-clause-fresh
 returns-in_err-size-clause-fresh g c told free text has =
@@ -24,7 +25,8 @@ returns-in_err-size-clause-fresh g c told free text has =
     let s2 : Scene = g.D.World.scene c.fill_text.new.desk in
     let filled = spares_on tmp s0 s1 s2 c.make_anew.ensures.kept.frame (c.make_anew.ensures.spares told) (runs_file c.args.temporary.now s1 s2 (c.in_ok-make_anew.ensures.alone told) (c.fill_text.ensures.runs told)) in
     let p = err_from_is_err_and c.from_residual-in_err-size.result c.from_residual-in_err-size.ensures.1 in
-    fresh_not_taken c.args.name.now c.args.temporary.now (file_of text) s0 s2 c.requires.differ free filled c.from_residual-in_err-size.result (rw p.1 tt)
+    fresh_not_taken c.args.name.now c.args.temporary.now (file_of text) s0 s2 c.requires.differ free filled
+    (renews_filled c.args.temporary.now s0 s1 s2 c.make_anew.ensures.kept.frame (c.make_anew.ensures.renews told) (c.in_ok-make_anew.ensures.anew told) (c.fill_text.ensures.runs told)) c.from_residual-in_err-size.result (rw p.1 tt)
 
 pub returns-in_err-take_name-clause-fresh : goal.returns-in_err-take_name-clause-fresh
 returns-in_err-take_name-clause-fresh g c told free text has =
@@ -38,6 +40,8 @@ returns-in_err-take_name-clause-fresh g c told free text has =
     let done = c.in_ok-size.ensures.ok told text kept in
     let p = err_from_is_err_and c.from_residual-in_err-take_name.result c.from_residual-in_err-take_name.ensures.1 in
     fresh_refused c.args.name.now c.args.temporary.now (file_of text) s0 s2 c.requires.differ free filled s3 (frames s0 s1 s2 c.make_anew.ensures.kept.frame c.fill_text.ensures.kept.frame)
+    (renews_taken c.args.temporary.now s0 s1 s2 c.make_anew.ensures.kept.frame (c.make_anew.ensures.renews told) s3 c.fill_text.ensures.kept.frame (c.in_ok-make_anew.ensures.anew told)
+    (c.fill_text.ensures.runs told) (c.take_name.ensures.leads told))
     (c.take_name.ensures.takes told (file_of text) done.1) (c.take_name.ensures.spares told) c.from_residual-in_err-take_name.result (rw p.1 tt)
     (c.in_err-take_name.ensures.err told (fresh_free c.args.name.now c.args.temporary.now (file_of text) s0 s2 c.requires.differ free filled))
 
@@ -52,6 +56,8 @@ returns-clause-fresh g c told free text has =
     let kept = g.met.D.Desk.stays_text c.args.desk.now c.make_anew.new.desk text c.make_anew.ensures.kept.stays has in
     let done = c.in_ok-size.ensures.ok told text kept in
     fresh_done c.args.name.now c.args.temporary.now (file_of text) s0 s2 c.requires.differ free filled s3 (frames s0 s1 s2 c.make_anew.ensures.kept.frame c.fill_text.ensures.kept.frame)
+    (renews_taken c.args.temporary.now s0 s1 s2 c.make_anew.ensures.kept.frame (c.make_anew.ensures.renews told) s3 c.fill_text.ensures.kept.frame (c.in_ok-make_anew.ensures.anew told)
+    (c.fill_text.ensures.runs told) (c.take_name.ensures.leads told))
     (c.take_name.ensures.takes told (file_of text) done.1) (c.take_name.ensures.spares told) c.in_ok-size.size done.0 (c.in_ok-take_name.ensures.ok told (file_of text) done.1) (c.in_ok-take_name.ensures.gone told)
 
 pub take_name-requires-clause-there : goal.take_name-requires-clause-there

@@ -28,7 +28,7 @@ returns-in_err-cut-clause-plain g c told old content text has =
     let s2 : Scene = g.D.World.scene c.cut.new.self in
     let p = err_from_is_err_and c.from_residual-in_err-cut.result c.from_residual-in_err-cut.ensures.1 in
     plain_not_cut c.args.name.now old (file_of text) s0 s1 content (c.settle.ensures.settles.narrowed told) (others_settled (one_name c.args.name.now) c.args.name.now s0 s1 refl (c.settle.ensures.settles.same told))
-    c.settle.ensures.kept.frame (c.in_ok-settle.ensures.ok.settled told old content) (g.D.World.is_folder c.settle.new.desk told)
+    c.settle.ensures.kept.frame (c.in_ok-settle.ensures.order.order told) (c.in_ok-settle.ensures.ok.settled told old content) (g.D.World.is_folder c.settle.new.desk told)
     s2 c.cut.ensures.kept.frame c.cut.result (c.cut.ensures.told told) c.from_residual-in_err-cut.result (rw p.1 tt) c.in_err-cut.ensures.err
 
 pub returns-clause-plain : goal.returns-clause-plain
@@ -40,7 +40,7 @@ returns-clause-plain g c told old content text has =
     let stays = g.met.D.Desk.stays_on c.args.desk.now c.settle.new.desk c.cut.new.self c.settle.ensures.kept.stays c.cut.ensures.kept.stays in
     let kept = g.met.D.Desk.stays_text c.args.desk.now c.cut.new.self text stays has in
     plain_filled c.args.name.now old (file_of text) s0 s1 content (c.settle.ensures.settles.narrowed told) (others_settled (one_name c.args.name.now) c.args.name.now s0 s1 refl (c.settle.ensures.settles.same told))
-    c.settle.ensures.kept.frame (c.in_ok-settle.ensures.ok.settled told old content) (g.D.World.is_folder c.settle.new.desk told)
+    c.settle.ensures.kept.frame (c.in_ok-settle.ensures.order.order told) (c.in_ok-settle.ensures.ok.settled told old content) (g.D.World.is_folder c.settle.new.desk told)
     s2 c.cut.ensures.kept.frame c.cut.result (c.cut.ensures.told told) (c.in_ok-cut.ensures.ok told) s3 (c.fill_text.ensures.runs told) c.fill_text.result
     (ok_with c.fill_text.result (λ size. IsTrue g.D.World.tells.folder → (t : List (List ℕ)) → g.D.Desk.has_text c.cut.new.self t → (size ≡ length (file_of t)) × IsSynced c.args.name.now (file_of t) s3.folder)
     (λ size. (size ≡ length (file_of text)) × IsSynced c.args.name.now (file_of text) s3.folder) (λ size f. f told text kept) c.fill_text.ensures.ok)
