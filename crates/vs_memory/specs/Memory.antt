@@ -95,10 +95,21 @@ recorded call done host = record host { log = entry_of call done host ∷ host.l
 abbrev pub IsPlanned : Memory → ℕ → Type 0
 IsPlanned host number = Contains host.failing number ⊎ (host.stop < number)
 
--- A call of the host counts one. The planned one fails, one that fails changes nothing, and the plan stays.
+-- the call was logged
+abbrev pub IsLogged : Memory → Memory → Type 0
+IsLogged old new = (entry : Entry) × (new.log ≡ entry ∷ old.log)
+
+-- how many calls were not logged, since there was no memory for them
+abbrev pub unlogged : Memory → ℕ
+unlogged host = host.calls - length host.log
+
+-- A call of the host counts one. The planned one fails, and else only one that is not logged, for want of memory. One that fails
+-- changes nothing, and the plan stays.
 pub record IsPlayed (old new : Memory) (ok : Bool) : Type 0 where
   pub calls : new.calls ≡ min (old.calls + 1) (2 ^ 64 - 1)
   pub planned : IsPlanned old new.calls → ok ≡ false
+  pub unplanned : ok ≡ false → IsPlanned old new.calls ⊎ (new.log ≡ old.log)
+  pub logged : IsLogged old new ⊎ ((ok ≡ false) × (new.log ≡ old.log))
   pub folder : ok ≡ false → folder_of new ≡ folder_of old
   pub output : ok ≡ false → output_of new ≡ output_of old
   pub script : ok ≡ false → new.script ≡ old.script

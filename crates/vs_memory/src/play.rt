@@ -5,7 +5,7 @@ ghost use Rattle.vs_memory.specs.declared.log.Call.{Call};
 ghost use Rattle.vs_faults.specs.Faults.{HasCause};
 ghost use Rattle.vs_host.specs.Trace.{writes_in};
 ghost use Rattle.vs_memory.specs.Replay.{CanPlay, trace_after};
-ghost use Rattle.vs_memory.specs.Memory.{fresh_memory, counted, faulted, recorded, faults_of, folder_of, output_of, IsPlayed};
+ghost use Rattle.vs_memory.specs.Memory.{fresh_memory, counted, faulted, recorded, faults_of, folder_of, output_of, unlogged, IsPlayed};
 
 use crate::folder::MemFolder;
 use crate::host::{MemHost, PutFile};
@@ -87,6 +87,13 @@ impl MemHost {
         ensures { result ≡ self.now.calls }
     {
         self.calls
+    }
+
+    /// How many calls found no memory. They failed, also where that was not planned, and are not in the log.
+    pub fn unlogged(&self) -> u64
+        ensures { result ≡ unlogged self.now }
+    {
+        self.calls - self.log.len() as u64
     }
 
     /// All that was written.

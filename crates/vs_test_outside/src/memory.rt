@@ -225,6 +225,18 @@ fn planned_calls_fail_and_change_nothing(rt: HostRuntime) -> Result<(), Fail> {
 }
 
 #[test]
+fn no_other_call_fails(rt: HostRuntime) -> Result<(), Fail> {
+    let alloc = rt.alloc();
+    let mut host = host_with(alloc, "f", b"abc")?;
+    host.fail_call(alloc, 10)?;
+    for n in 1..=40 {
+        assert!(rt; sync(&mut host, "f")? == (n != 10));
+    }
+    assert!(rt; host.unlogged() == 0);
+    Ok(())
+}
+
+#[test]
 fn script_output_and_clock_are_played(rt: HostRuntime) -> Result<(), Fail> {
     let alloc = rt.alloc();
     let mut host = MemHost::new(alloc, Vec::from_slice(alloc, b"q\n")?)?;
