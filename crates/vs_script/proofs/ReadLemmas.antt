@@ -1,5 +1,5 @@
 -- Reads that succeeded go on by one read more, or by a read that failed.
-use Rattle.std.proofs.Common.{◌≡◌, inl, inr, List, [], ◌∷◌, ◌++◌, refl, sym, ap, ◌∙◌, append_assoc, arith, Result, Ok, Err, IsErr, IsErrAnd, IsTrue, OnOk}
+use Rattle.std.proofs.Common.{◌≡◌, ◌+◌, ◌≤◌, inl, inr, ℕ, List, [], ◌∷◌, ◌++◌, length, refl, sym, ap, ◌∙◌, append_assoc, arith, Result, Ok, Err, IsErr, IsErrAnd, IsTrue, OnOk}
 use Rattle.std.specs.Prelude.{IsErrOf}
 use Rattle.std.proofs.lemmas.Result.{on_ok_weaker}
 use Rattle.vs_faults.specs.Faults.{HasCause}
@@ -8,6 +8,7 @@ use Rattle.vs_host.specs.Trace.{ReadScript, Snapshot}
 use Rattle.vs_host.specs.World.{Tells, Scene, snapshot_of, IsTold, ChangesScript}
 use Rattle.vs_host.specs.declared.traits.Failed.{Failed}
 use Rattle.vs_disk.proofs.Runs.{Each-append, Each-weaker, goes_none}
+use Rattle.vs_script.specs.Ahead.{Ahead, ReadsNoMore, reads_made}
 use Rattle.vs_script.specs.Reads.{IsAsBefore, IsRead, ReadsAll, ReadsOn, ReadsScript}
 use Rattle.vs_script.specs.declared.reader.ScriptErr.{ScriptErr}
 use Rattle.vs_script.specs.declared.reader.ScriptErr.TheVariants as error
@@ -141,3 +142,39 @@ reads_passed (Err e) was is reads = record {
   all = tt;
   last = reads.last;
 }
+
+-- ---- how many reads were made
+
+trace_after : {T E : Type 0} (read : Result T E) (before after : Scene) → IsTold ReadScript [] read before after → length after.trace ≤ length before.trace + 1
+trace_after read before after (inl told) = let is = ap (λ (ms : List Snapshot). length ms) told in omega (arith, is)
+trace_after read before after (inr missed) = let is = ap (λ (ms : List Snapshot). length ms) missed.1.trace in omega (arith, is)
+
+pub no_more_none : {T : Type 0} {x : T} {tells : Tells} {old new : Ahead} {scene : Scene} → reads_made new ≡ reads_made old → ReadsNoMore tells {T = T} (Ok x) old new scene scene
+no_more_none same = record { done = λ told. omega (arith, same); stopped = tt }
+
+pub no_more_ok : {T U : Type 0} {x : T} {y : U} {tells : Tells} {old new : Ahead} {before after : Scene} → ReadsNoMore tells {T = T} (Ok x) old new before after
+    → ReadsNoMore tells {T = U} (Ok y) old new before after
+no_more_ok few = record { done = few.done; stopped = tt }
+
+-- one read that took a byte or saw the end
+pub no_more_one : {T N : Type 0} {x : T} {tells : Tells} {old new : Ahead} {before after : Scene} (n : N) → (IsTrue tells.folder → IsTold {T = N} {E = Failed} ReadScript [] (Ok n) before after)
+    → reads_made old + 1 ≤ reads_made new → ReadsNoMore tells {T = T} (Ok x) old new before after
+no_more_one {before} {after} n is_told more = record { done = λ told. let one = trace_after {E = Failed} (Ok n) before after (is_told told) in omega (arith, one, more); stopped = tt }
+
+-- one with which the reader stopped
+pub no_more_stopped : {T N E : Type 0} {old new : Ahead} (tells : Tells) (before after : Scene) (why : ScriptErr) (read : Result N E) (result : Result T ScriptErr) → IsErrAnd result (λ e. e ≡ why)
+    → (IsTrue tells.folder → IsTold ReadScript [] read before after) → reads_made new ≡ reads_made old → ReadsNoMore tells result old new before after
+no_more_stopped tells before after why read (Ok x) is is_told same = absurd is
+no_more_stopped tells before after why read (Err e) is is_told same = record { done = tt; stopped = λ told. let one = trace_after read before after (is_told told) in omega (arith, one, same) }
+
+-- after reads of which none failed
+pub no_more_then : {T U : Type 0} {x : T} {tells : Tells} {old mid from new : Ahead} {before between after : Scene} (result : Result U ScriptErr) → reads_made from ≡ reads_made mid
+    → ReadsNoMore tells {T = T} (Ok x) old mid before between → ReadsNoMore tells result from new between after → ReadsNoMore tells result old new before after
+no_more_then (Ok y) same first second = record { done = λ told. let one = first.done told in let two = second.done told in omega (arith, one, two, same); stopped = tt }
+no_more_then (Err e) same first second = record { done = tt; stopped = λ told. let one = first.done told in let two = second.stopped told in omega (arith, one, two, same) }
+
+-- an error is handed on
+pub no_more_passed : {T U : Type 0} {found : Result T ScriptErr} {why : ScriptErr} {tells : Tells} {old new : Ahead} {before after : Scene} (result : Result U ScriptErr) → found ≡ Err why
+    → IsErrAnd result (λ e. e ≡ why) → ReadsNoMore tells found old new before after → ReadsNoMore tells result old new before after
+no_more_passed (Ok x) was is few = absurd is
+no_more_passed {found} (Err e) was is few = record { done = tt; stopped = rw was at few.stopped }

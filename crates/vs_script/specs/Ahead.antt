@@ -1,5 +1,5 @@
 -- What is left of a script: what was read ahead, and what the host has left. How a reader takes lines of it.
-use Rattle.std.specs.Prelude.{ℕ, Bool, true, false, ◌==◌, if◌then◌else◌, List, [], ◌∷◌, ◌++◌, ◌≡◌, ◌+◌, ◌-◌, ◌<◌, ◌≤◌, length, take, Result, IsTrue, OnOk}
+use Rattle.std.specs.Prelude.{ℕ, Bool, true, false, ◌==◌, if◌then◌else◌, List, [], ◌∷◌, ◌++◌, ◌≡◌, ◌+◌, ◌-◌, ◌<◌, ◌≤◌, length, take, Result, IsTrue, OnErr, OnOk}
 use Rattle.vs_exparse.specs.Bytes.{max_line_bytes}
 use Rattle.vs_host.specs.World.{Tells, Scene}
 use Rattle.vs_script.specs.declared.reader.ScriptErr.{ScriptErr}
@@ -52,6 +52,15 @@ pub record KeepsTrack (tells : Tells) {T : Type 0} (result : Result T ScriptErr)
   pub ended : IsTrue tells.script → HasSeen new after
   pub limit : new.taken ≤ script_limit
   pub counts : OnOk result (IsTrue tells.script → CountsTaken old new before after)
+
+-- how many reads were made at most: each took a byte, but for the one that saw the end
+abbrev pub reads_made : Ahead → ℕ
+reads_made reader = reader.taken + (if reader.ended then 1 else 0)
+
+-- Each read took a byte or saw the end, but for one with which the reader stopped: so none is made once the end was seen.
+pub record ReadsNoMore (tells : Tells) {T : Type 0} (result : Result T ScriptErr) (old new : Ahead) (before after : Scene) : Type 0 where
+  pub done : OnOk result (IsTrue tells.folder → length after.trace + reads_made old ≤ length before.trace + reads_made new)
+  pub stopped : OnErr result (IsTrue tells.folder → length after.trace + reads_made old ≤ length before.trace + reads_made new + 1)
 
 -- the next line of those before, where there is one
 abbrev pub TakesLine : List (List ℕ) → Bool → List ℕ → List (List ℕ) → Type 0

@@ -2,7 +2,7 @@
 ghost use Rattle.std.specs.Prelude.{◌≡◌, ◌<◌, ◌≤◌, ◌+◌, ◌-◌, ◌++◌, ◌∷◌, [], length, MatchOption, take, drop, false, true, IsTrue, IfOk, OnOk, IfErr, vec_len};
 ghost use Rattle.vs_text.specs.Text.{IsLine};
 ghost use Rattle.vs_script.specs.Reads.{ReadsScript};
-ghost use Rattle.vs_script.specs.Ahead.{Ahead, script_limit, whole_lines, bytes_left, HasSeen, IsLeft, KeepsTrack, ReadsLine, Stops};
+ghost use Rattle.vs_script.specs.Ahead.{Ahead, script_limit, whole_lines, bytes_left, HasSeen, IsLeft, KeepsTrack, ReadsLine, ReadsNoMore, Stops};
 
 use crate::line::LineBuffer;
 use memchr::memchr;
@@ -111,6 +111,7 @@ impl ScriptReader {
         ensures goes_on { OnOk result (self.new.ended ≡ false → self.old.ended ≡ false) }
         ensures at_end { result ≡ Ok false → self.new.ended ≡ true }
         ensures reads { ReadsScript S.tells result (S.scene host.old) (S.scene host.new) }
+        ensures calls { ReadsNoMore S.tells result self.old self.new (S.scene host.old) (S.scene host.new) }
     {
         if self.ended {
             return Ok(false);
@@ -147,6 +148,7 @@ impl ScriptReader {
         ensures fewer { IfOk result (λ found. IsTrue found → bytes_left self.new < bytes_left self.old) }
         ensures left { OnOk result (bytes_left self.new ≤ bytes_left self.old) }
         ensures reads { ReadsScript S.tells result (S.scene host.old) (S.scene host.new) }
+        ensures calls { ReadsNoMore S.tells result self.old self.new (S.scene host.old) (S.scene host.new) }
     {
         line.clear();
         'pieces: loop {

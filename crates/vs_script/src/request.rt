@@ -4,7 +4,7 @@ ghost use Rattle.vs_exparse.specs.Command.{Command};
 ghost use Rattle.vs_excmd.specs.Request.{IsFormed, is_absent};
 ghost use Rattle.vs_script.specs.Script.{HasHeadForm, IsKind, is_found, kind_of, whole_block};
 ghost use Rattle.vs_script.specs.Reads.{ReadsScript};
-ghost use Rattle.vs_script.specs.Ahead.{whole_lines, bytes_left, HasSeen, KeepsTrack, Stops};
+ghost use Rattle.vs_script.specs.Ahead.{whole_lines, bytes_left, HasSeen, KeepsTrack, ReadsNoMore, Stops};
 ghost use Rattle.vs_script.specs.Requests.{FindsCommand, TakesBlock, TakesRequest, TakesNone, whole_commands};
 
 use crate::block::BlockLines;
@@ -31,6 +31,7 @@ impl ScriptReader {
             Stops error (λ bytes. whole_block command [] (whole_lines bytes)) [] self.old self.new (S.scene host.old) (S.scene host.new)) }
         ensures left { OnOk result (bytes_left self.new ≤ bytes_left self.old) }
         ensures reads { ReadsScript S.tells result (S.scene host.old) (S.scene host.new) }
+        ensures calls { ReadsNoMore S.tells result self.old self.new (S.scene host.old) (S.scene host.new) }
     {
         let mut lines = BlockLines::new(alloc);
         'lines: loop {
@@ -61,6 +62,7 @@ impl ScriptReader {
             → Stops error whole_commands [] self.old self.new (S.scene host.old) (S.scene host.new)) }
         ensures fewer { IfOk result (λ found. IsTrue (is_found found) → bytes_left self.new < bytes_left self.old) }
         ensures reads { ReadsScript S.tells result (S.scene host.old) (S.scene host.new) }
+        ensures calls { ReadsNoMore S.tells result self.old self.new (S.scene host.old) (S.scene host.new) }
     {
         'lines: while self.next_line(host, line)? {
             match line_kind(line.bytes()) {
@@ -93,6 +95,7 @@ impl ScriptReader {
             → Stops error whole_commands [] self.old self.new (S.scene host.old) (S.scene host.new)) }
         ensures fewer { IfOk result (λ found. IfSome found (λ request. bytes_left self.new < bytes_left self.old)) }
         ensures reads { ReadsScript S.tells result (S.scene host.old) (S.scene host.new) }
+        ensures calls { ReadsNoMore S.tells result self.old self.new (S.scene host.old) (S.scene host.new) }
     {
         match self.next_command(host, line)? {
             ScriptLine::NoCommand => Ok(None),

@@ -4,7 +4,7 @@ use Rattle.vs_script.specs.Ahead.{whole_lines}
 use Rattle.vs_script.specs.Script.{is_dot, whole_block}
 use Rattle.vs_script.proofs.Going.{on_same_err}
 use Rattle.vs_script.proofs.Commands.{stops_line, block_begins, block_goes_on, block_ends, block_dotted}
-use Rattle.vs_script.proofs.ReadLemmas.{reads_nothing, reads_ok, reads_then, reads_passed}
+use Rattle.vs_script.proofs.ReadLemmas.{reads_nothing, reads_ok, reads_then, reads_passed, no_more_none, no_more_ok, no_more_then, no_more_passed}
 use Rattle.vs_script.proofs.reader.ScriptReader.block.Goals as goal
 
 pub lines-init : goal.lines-init
@@ -15,6 +15,7 @@ lines-init g c = record {
   counts = λ tells. refl;
   left = omega arith;
   reads = reads_nothing;
+  calls = no_more_none refl;
 }
 
 pub lines-preserved : goal.lines-preserved
@@ -32,6 +33,7 @@ lines-preserved g c =
       counts = λ tells. grind (arith, common_steps, c.lines.invariant.counts tells, c.in_ok-next_line.ensures.track.counts tells);
       left = grind (arith, common_steps);
       reads = reads_ok (reads_then c.lines.invariant.reads c.in_ok-next_line.ensures.reads);
+      calls = no_more_ok (no_more_then _ refl c.lines.invariant.calls c.in_ok-next_line.ensures.calls);
     }
 
 pub returns-then-ends_block-clause-block : goal.returns-then-ends_block-clause-block
@@ -65,3 +67,12 @@ returns-then-not-branch-clause-reads g c = reads_ok (reads_then c.lines.invarian
 
 pub returns-then-ends_block-clause-reads : goal.returns-then-ends_block-clause-reads
 returns-then-ends_block-clause-reads g c = reads_ok (reads_then c.lines.invariant.reads c.in_ok-next_line.ensures.reads)
+
+pub returns-in_err-next_line-clause-calls : goal.returns-in_err-next_line-clause-calls
+returns-in_err-next_line-clause-calls g c = no_more_passed _ c.in_err-next_line.was c.from_residual.ensures.1 (no_more_then _ refl c.lines.invariant.calls c.next_line.ensures.calls)
+
+pub returns-then-not-branch-clause-calls : goal.returns-then-not-branch-clause-calls
+returns-then-not-branch-clause-calls g c = no_more_ok (no_more_then _ refl c.lines.invariant.calls c.in_ok-next_line.ensures.calls)
+
+pub returns-then-ends_block-clause-calls : goal.returns-then-ends_block-clause-calls
+returns-then-ends_block-clause-calls g c = no_more_ok (no_more_then _ refl c.lines.invariant.calls c.in_ok-next_line.ensures.calls)

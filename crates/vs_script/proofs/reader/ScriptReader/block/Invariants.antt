@@ -1,6 +1,6 @@
 use Rattle.std.proofs.Common.{◌≤◌, IsTrue, Ok}
 use Rattle.vs_script.specs.Reads.{ReadsScript}
-use Rattle.vs_script.specs.Ahead.{CountsTaken, HasSeen, bytes_left}
+use Rattle.vs_script.specs.Ahead.{CountsTaken, HasSeen, ReadsNoMore, bytes_left}
 use Rattle.vs_script.specs.Block.{IsCounted}
 use Rattle.vs_script.proofs.Commands.{InBlock}
 use Rattle.vs_script.proofs.reader.ScriptReader.block.Given as goal
@@ -13,6 +13,7 @@ invariant-lines g l = record {
   counts : IsTrue (g.S.World.tells).script → CountsTaken l.initial.self l.self (g.S.World.scene l.initial.host) (g.S.World.scene l.host);
   left : bytes_left l.self ≤ bytes_left l.initial.self;
   reads : ReadsScript g.S.World.tells (Ok l.lines) (g.S.World.scene l.initial.host) (g.S.World.scene l.host);
+  calls : ReadsNoMore g.S.World.tells (Ok l.lines) l.initial.self l.self (g.S.World.scene l.initial.host) (g.S.World.scene l.host);
 }
 
 abbrev pub decreases-lines : goal.decreases-lines

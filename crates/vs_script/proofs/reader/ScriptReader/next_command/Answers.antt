@@ -4,7 +4,7 @@ use Rattle.vs_script.specs.Requests.{whole_commands}
 use Rattle.vs_script.specs.Script.{NoCommand, kind_of, whole_of}
 use Rattle.vs_script.proofs.Going.{goes_on_start, on_same_err}
 use Rattle.vs_script.proofs.Commands.{stops_line, passes_over, goes_over, finds_command, finds_none}
-use Rattle.vs_script.proofs.ReadLemmas.{reads_nothing, reads_ok, reads_then, reads_passed}
+use Rattle.vs_script.proofs.ReadLemmas.{reads_nothing, reads_ok, reads_then, reads_passed, no_more_none, no_more_ok, no_more_then, no_more_passed}
 use Rattle.vs_script.proofs.reader.ScriptReader.next_command.Goals as goal
 
 pub returns-in_err-next_line-clause-stops : goal.returns-in_err-next_line-clause-stops
@@ -22,6 +22,7 @@ lines-init g c = record {
   counts = λ tells. refl;
   fewer = omega arith;
   reads = reads_nothing;
+  calls = no_more_none refl;
 }
 
 pub lines-preserved : goal.lines-preserved
@@ -39,6 +40,7 @@ lines-preserved g c =
       counts = λ tells. grind (arith, common_steps, c.lines.invariant.counts tells, c.in_ok-next_line.ensures.track.counts tells);
       fewer = grind (arith, common_steps);
       reads = reads_ok (reads_then c.lines.invariant.reads c.in_ok-next_line.ensures.reads);
+      calls = no_more_ok (no_more_then _ refl c.lines.invariant.calls c.in_ok-next_line.ensures.calls);
     }
 
 pub returns-in-Alone-clause-line : goal.returns-in-Alone-clause-line
@@ -67,3 +69,15 @@ returns-in-Head-clause-reads g c = reads_ok (reads_then c.lines.invariant.reads 
 
 pub returns-clause-reads : goal.returns-clause-reads
 returns-clause-reads g c = reads_ok (reads_then c.lines.invariant.reads c.in_ok-next_line.ensures.reads)
+
+pub returns-in_err-next_line-clause-calls : goal.returns-in_err-next_line-clause-calls
+returns-in_err-next_line-clause-calls g c = no_more_passed _ c.in_err-next_line.was c.from_residual.ensures.1 (no_more_then _ refl c.lines.invariant.calls c.next_line.ensures.calls)
+
+pub returns-in-Alone-clause-calls : goal.returns-in-Alone-clause-calls
+returns-in-Alone-clause-calls g c = no_more_ok (no_more_then _ refl c.lines.invariant.calls c.in_ok-next_line.ensures.calls)
+
+pub returns-in-Head-clause-calls : goal.returns-in-Head-clause-calls
+returns-in-Head-clause-calls g c = no_more_ok (no_more_then _ refl c.lines.invariant.calls c.in_ok-next_line.ensures.calls)
+
+pub returns-clause-calls : goal.returns-clause-calls
+returns-clause-calls g c = no_more_ok (no_more_then _ refl c.lines.invariant.calls c.in_ok-next_line.ensures.calls)

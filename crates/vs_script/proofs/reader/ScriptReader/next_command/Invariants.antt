@@ -1,6 +1,6 @@
 use Rattle.std.proofs.Common.{◌≡◌, ◌≤◌, IsTrue, Ok, false}
 use Rattle.vs_script.specs.Reads.{ReadsScript}
-use Rattle.vs_script.specs.Ahead.{CountsTaken, HasSeen, GoesOn, bytes_left}
+use Rattle.vs_script.specs.Ahead.{CountsTaken, HasSeen, GoesOn, ReadsNoMore, bytes_left}
 use Rattle.vs_script.specs.Requests.{commands_ahead, whole_commands}
 use Rattle.vs_script.proofs.reader.ScriptReader.next_command.Given as goal
 
@@ -12,6 +12,7 @@ invariant-lines g l = record {
   counts : IsTrue (g.S.World.tells).script → CountsTaken l.initial.self l.self (g.S.World.scene l.initial.host) (g.S.World.scene l.host);
   fewer : bytes_left l.self ≤ bytes_left l.initial.self;
   reads : ReadsScript g.S.World.tells (Ok l.line) (g.S.World.scene l.initial.host) (g.S.World.scene l.host);
+  calls : ReadsNoMore g.S.World.tells (Ok l.line) l.initial.self l.self (g.S.World.scene l.initial.host) (g.S.World.scene l.host);
 }
 
 abbrev pub decreases-lines : goal.decreases-lines

@@ -1,10 +1,10 @@
 use Rattle.std.proofs.Common.{◌≡◌, ◌<◌, ◌+◌, ◌++◌, ◌∙◌, List, ℕ, false, length, take, drop, arith, ap, refl, sym}
 use Rattle.std.proofs.lemmas.Grind.{common_steps}
 use Rattle.vs_text.specs.Text.{IsLine}
-use Rattle.vs_script.specs.Ahead.{Ahead, kept_of}
+use Rattle.vs_script.specs.Ahead.{Ahead, kept_of, reads_made}
 use Rattle.vs_script.proofs.Going.{on_same_err}
 use Rattle.vs_script.proofs.Taking.{IsAtEnd, line_begins, reads_line, reads_last, reads_none, line_stops, line_goes_on, line_is_kept, kept_is_shorter}
-use Rattle.vs_script.proofs.ReadLemmas.{reads_nothing, reads_ok, reads_then, reads_passed}
+use Rattle.vs_script.proofs.ReadLemmas.{reads_nothing, reads_ok, reads_then, reads_passed, no_more_none, no_more_ok, no_more_then, no_more_passed}
 use Rattle.vs_script.proofs.reader.ScriptReader.next_line.Goals as goal
 
 pub returns-in-Some-clause-line : goal.returns-in-Some-clause-line
@@ -78,6 +78,7 @@ pieces-init g c = record {
   counts = λ tells. refl;
   left = grind (arith, common_steps);
   reads = reads_nothing;
+  calls = no_more_none refl;
 }
 
 pub pieces-preserved : goal.pieces-preserved
@@ -94,6 +95,7 @@ pieces-preserved g c =
       counts = λ tells. grind (arith, common_steps, c.pieces.invariant.counts tells, c.in_ok-refill.ensures.track.counts tells);
       left = grind (arith, common_steps, kept_is_shorter c.pieces.line c.pieces.self.bytes c.add-in-pieces.new.self kept);
       reads = reads_ok (reads_then c.pieces.invariant.reads c.in_ok-refill.ensures.reads);
+      calls = no_more_ok (no_more_then _ (ap (λ (a : Ahead). reads_made a) c.skip-in-pieces.ensures) c.pieces.invariant.calls c.in_ok-refill.ensures.calls);
     }
 
 pub returns-in-Some-clause-reads : goal.returns-in-Some-clause-reads
@@ -107,3 +109,16 @@ returns-then-is_empty-clause-reads g c = reads_ok (reads_then c.pieces.invariant
 
 pub returns-then-not-branch-clause-reads : goal.returns-then-not-branch-clause-reads
 returns-then-not-branch-clause-reads g c = reads_ok (reads_then c.pieces.invariant.reads c.in_ok-refill.ensures.reads)
+
+pub returns-in-Some-clause-calls : goal.returns-in-Some-clause-calls
+returns-in-Some-clause-calls g c = no_more_then {from = c.skip.new.self} _ (ap (λ (a : Ahead). reads_made a) c.skip.ensures) c.pieces.invariant.calls (no_more_none refl)
+
+pub returns-in_err-refill-clause-calls : goal.returns-in_err-refill-clause-calls
+returns-in_err-refill-clause-calls g c =
+    no_more_passed _ c.in_err-refill.was c.from_residual.ensures.1 (no_more_then _ (ap (λ (a : Ahead). reads_made a) c.skip-in-pieces.ensures) c.pieces.invariant.calls c.refill.ensures.calls)
+
+pub returns-then-is_empty-clause-calls : goal.returns-then-is_empty-clause-calls
+returns-then-is_empty-clause-calls g c = no_more_ok (no_more_then _ (ap (λ (a : Ahead). reads_made a) c.skip-in-pieces.ensures) c.pieces.invariant.calls c.in_ok-refill.ensures.calls)
+
+pub returns-then-not-branch-clause-calls : goal.returns-then-not-branch-clause-calls
+returns-then-not-branch-clause-calls g c = no_more_ok (no_more_then _ (ap (λ (a : Ahead). reads_made a) c.skip-in-pieces.ensures) c.pieces.invariant.calls c.in_ok-refill.ensures.calls)

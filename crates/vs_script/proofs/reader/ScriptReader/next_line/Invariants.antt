@@ -1,7 +1,7 @@
 use Rattle.std.proofs.Common.{◌≤◌, IsTrue, Ok, ◌+◌, ◌-◌, length}
 use Rattle.vs_text.specs.Text.{IsLine}
 use Rattle.vs_script.specs.Reads.{ReadsScript}
-use Rattle.vs_script.specs.Ahead.{CountsTaken, HasSeen, bytes_left, script_limit}
+use Rattle.vs_script.specs.Ahead.{CountsTaken, HasSeen, ReadsNoMore, bytes_left, script_limit}
 use Rattle.vs_script.proofs.Taking.{InLine}
 use Rattle.vs_script.proofs.reader.ScriptReader.next_line.Given as goal
 
@@ -13,6 +13,7 @@ invariant-pieces g l = record {
   counts : IsTrue (g.S.World.tells).script → CountsTaken l.initial.self l.self (g.S.World.scene l.initial.host) (g.S.World.scene l.host);
   left : length l.line + bytes_left l.self ≤ bytes_left l.initial.self;
   reads : ReadsScript g.S.World.tells (Ok l.line) (g.S.World.scene l.initial.host) (g.S.World.scene l.host);
+  calls : ReadsNoMore g.S.World.tells (Ok l.line) l.initial.self l.self (g.S.World.scene l.initial.host) (g.S.World.scene l.host);
 }
 
 abbrev pub decreases-pieces : goal.decreases-pieces

@@ -3,7 +3,7 @@ use Rattle.vs_exparse.specs.Command.{command_of, result_of}
 use Rattle.vs_script.specs.Script.{Alone, Head, kind_of}
 use Rattle.vs_script.proofs.Going.{on_same_err}
 use Rattle.vs_script.proofs.Commands.{alone_request, head_request, head_stops}
-use Rattle.vs_script.proofs.ReadLemmas.{reads_ok, reads_then, reads_passed}
+use Rattle.vs_script.proofs.ReadLemmas.{reads_ok, reads_then, reads_passed, no_more_ok, no_more_then, no_more_passed}
 use Rattle.vs_script.proofs.reader.ScriptReader.next_request.Goals as goal
 
 pub returns-in-Alone-clause-request : goal.returns-in-Alone-clause-request
@@ -46,3 +46,19 @@ returns-in_err-block-in-Head-clause-reads g c =
 
 pub returns-in_ok-block-in-Head-clause-reads : goal.returns-in_ok-block-in-Head-clause-reads
 returns-in_ok-block-in-Head-clause-reads g c = reads_ok (reads_then c.in_ok-next_command.ensures.reads c.in_ok-block-in-Head.ensures.reads)
+
+pub returns-in_err-next_command-clause-calls : goal.returns-in_err-next_command-clause-calls
+returns-in_err-next_command-clause-calls g c = no_more_passed _ c.in_err-next_command.was c.from_residual.ensures.1 c.next_command.ensures.calls
+
+pub returns-in-NoCommand-clause-calls : goal.returns-in-NoCommand-clause-calls
+returns-in-NoCommand-clause-calls g c = no_more_ok c.in_ok-next_command.ensures.calls
+
+pub returns-in-Alone-clause-calls : goal.returns-in-Alone-clause-calls
+returns-in-Alone-clause-calls g c = no_more_ok c.in_ok-next_command.ensures.calls
+
+pub returns-in_err-block-in-Head-clause-calls : goal.returns-in_err-block-in-Head-clause-calls
+returns-in_err-block-in-Head-clause-calls g c =
+    no_more_passed _ c.in_err-block-in-Head.was c.from_residual-in_err-block-in-Head.ensures.1 (no_more_then _ refl c.in_ok-next_command.ensures.calls c.block.ensures.calls)
+
+pub returns-in_ok-block-in-Head-clause-calls : goal.returns-in_ok-block-in-Head-clause-calls
+returns-in_ok-block-in-Head-clause-calls g c = no_more_ok (no_more_then _ refl c.in_ok-next_command.ensures.calls c.in_ok-block-in-Head.ensures.calls)
