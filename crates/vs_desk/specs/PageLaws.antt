@@ -5,6 +5,7 @@ use Rattle.vs_host.specs.World.{Tells, Scene, ReadsFolder}
 use Rattle.vs_disk.proofs.Runs.{goes_none, goes_then, goes_weaker, starts, looks_on, reads_change}
 use Rattle.vs_pages.specs.Maps.{Map}
 use Rattle.vs_pages.specs.Memory.{present_of}
+use Rattle.vs_pages.specs.MemoryLaws.{keeps_none, keeps_then}
 use Rattle.vs_pages.specs.declared.memory.MemPages.{MemPages}
 use Rattle.vs_tree.specs.Texts.{HasText, Tells as TellsText}
 use Rattle.vs_tree.specs.declared.tree.LineTree.{LineTree}
@@ -25,14 +26,14 @@ looks_then tells old mid new first second = record {
 }
 
 pub same_none : (told : Bool) (pages : MemPages) (tree : LineTree) → SamePages told pages pages tree tree
-same_none told pages tree = record { tree = refl; present = λ is. refl; committed = λ is. refl; marks = λ mark map since. since }
+same_none told pages tree = record { tree = refl; present = λ is. refl; committed = λ is. refl; since = keeps_none pages }
 
 pub same_then : (told : Bool) (p q r : MemPages) (t u v : LineTree) → SamePages told p q t u → SamePages told q r u v → SamePages told p r t v
 same_then told p q r t u v first second = record {
   tree = second.tree ∙ first.tree;
   present = λ is. second.present is ∙ first.present is;
   committed = λ is. second.committed is ∙ first.committed is;
-  marks = λ mark map since. second.marks mark map (first.marks mark map since);
+  since = keeps_then p q r first.since second.since;
 }
 
 -- the same pages have the same text

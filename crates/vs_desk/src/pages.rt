@@ -1,8 +1,7 @@
 // Pages in memory beside the folder that counts their faults.
 ghost use Rattle.std.specs.Prelude.{◌≡◌, IfSome, IsTrue, length, option_map};
-ghost use Rattle.vs_pages.specs.Changes.{KeepsAllMarks};
-ghost use Rattle.vs_pages.specs.Memory.{present_of, committed_of};
-ghost use Rattle.vs_pages.specs.MemoryLaws.{are_present, are_committed};
+ghost use Rattle.vs_pages.specs.Memory.{present_of, state_of, KeepsSince};
+ghost use Rattle.vs_pages.specs.MemoryLaws.{are_present, are_committed, keeps_none, keeps_then};
 ghost use Rattle.vs_desk.specs.Pages.{OnlyLooks};
 
 use std::alloc::Global;
@@ -23,28 +22,24 @@ impl<'p, 'h, F: Folder> Pages for FolderPages<'p, 'h, F> {
 
     ghost tells = { F.tells.folder };
 
-    ghost shows = { λ store. record {
-      present = present_of store.pages.now;
-      committed = committed_of store.pages.now;
-      faults = (F.scene store.host.now).folder_faults;
-    } };
+    ghost shows = { λ store. record (state_of store.pages.now) { faults = (F.scene store.host.now).folder_faults } };
 
     ghost valid = { λ _. Unit {0} };
 
     ghost stays = { λ old new. (new.pages.ghost_name ≡ old.pages.ghost_name) × (new.host.ghost_name ≡ old.host.ghost_name)
-        × OnlyLooks F.tells (F.scene old.host.now) (F.scene new.host.now) × KeepsAllMarks old.pages.now new.pages.now };
+        × OnlyLooks F.tells (F.scene old.host.now) (F.scene new.host.now) × KeepsSince old.pages.now new.pages.now };
 
     ghost present_pages = { λ store valid told. are_present store.pages.now };
 
     ghost committed_pages = { λ store valid told. are_committed store.pages.now };
 
-    ghost stays_itself = { λ store. (refl, refl, looks_none F.tells (F.scene store.host.now), λ _ _ since. since) };
+    ghost stays_itself = { λ store. (refl, refl, looks_none F.tells (F.scene store.host.now), keeps_none store.pages.now) };
 
     ghost stays_on = { λ p q r first second. (
       second.0 ∙ first.0,
       second.1 ∙ first.1,
       looks_then F.tells (F.scene p.host.now) (F.scene q.host.now) (F.scene r.host.now) first.2 second.2,
-      λ mark map since. second.3 mark map (first.3 mark map since),
+      keeps_then p.pages.now q.pages.now r.pages.now first.3 second.3,
     ) };
 
     fn load(
@@ -116,6 +111,14 @@ impl<'p, 'h, F: Folder> Pages for FolderPages<'p, 'h, F> {
 
     fn rollback(&mut self) {
         self.pages.rollback();
+    }
+
+    fn mark(&self) -> u64 {
+        self.pages.mark()
+    }
+
+    fn back(&mut self, mark: u64) {
+        self.pages.back(mark);
     }
 
     fn damaged(&mut self) {

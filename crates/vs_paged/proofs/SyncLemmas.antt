@@ -5,8 +5,7 @@ use Rattle.vs_host.specs.Disk.{Disk}
 use Rattle.vs_host.specs.declared.names.Names.{Names}
 use Rattle.vs_host.specs.Names.{is_allowed, names_of_file}
 use Rattle.vs_disk.specs.Names.{SameAt}
-use Rattle.vs_pages.specs.Changes.{KeepsMarks}
-use Rattle.vs_pages.specs.Memory.{present_of}
+use Rattle.vs_pages.specs.Memory.{present_of, KeepsSince}
 use Rattle.vs_pages.specs.declared.memory.MemPages.{MemPages}
 use Rattle.vs_pair.specs.Swap.{Synced, body_of, zero_of, Holds}
 use Rattle.vs_pair.specs.Pair as pair
@@ -315,16 +314,16 @@ fits_kept paged old new text syncs same fits = record {
 pub known_changed : (old new : SwapPair) → new.files ≡ old.files → known_of new ≡ known_of (record { files = old.files; pages = new.pages })
 known_changed old new files = ap (λ (f : SwapFiles). known_of (record { files = f; pages = new.pages })) files
 
--- pages with another text, where each change that was committed is marked
+-- pages with another text, where each commit that changed a page is known
 pub fits_changed : (old new : PagedText) (disk : Disk) (text after : Text) (syncs : List Sync) → known_of new.pair ≡ known_of (record { files = old.pair.files; pages = new.pair.pages })
-    → KeepsMarks old.pair.files.generation old.pair.pages new.pair.pages → IsPaged new.pair.pages new.tree after → Fits old disk text syncs → Fits new disk after syncs
-fits_changed old new disk text after syncs known marks pages fits = record {
+    → KeepsSince old.pair.pages new.pair.pages → IsPaged new.pair.pages new.tree after → Fits old disk text syncs → Fits new disk after syncs
+fits_changed old new disk text after syncs known since pages fits = record {
   pages = pages;
   newest = fits.newest;
   later = fits.later;
   past = fits.past;
   fit = subst (λ (k : Known). IsFit k disk fits.newest fits.later fits.past) (sym known)
-      (fit_changed old.pair (record { files = old.pair.files; pages = new.pair.pages }) disk fits.newest fits.later fits.past refl marks fits.fit);
+      (fit_changed old.pair (record { files = old.pair.files; pages = new.pair.pages }) disk fits.newest fits.later fits.past refl since fits.fit);
   syncs_are = fits.syncs_are;
 }
 

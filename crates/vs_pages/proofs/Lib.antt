@@ -1,8 +1,10 @@
-pub mod KeptLemmas
 pub mod Lending
 pub mod MapsLemmas
-pub mod MarkLemmas
-pub mod MemoryLemmas
+pub mod Notes
+pub mod Pasts
+pub mod Patches
+pub mod Places
 pub mod Runs
 pub mod Steps
 pub mod TableLemmas
+pub mod Undos

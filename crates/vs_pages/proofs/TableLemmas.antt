@@ -1,14 +1,15 @@
 -- How the number of pages and the map of a table follow its places.
 use Rattle.std.proofs.lemmas.List.{length-map, length-take, get_or-take}
 use Rattle.std.proofs.Common.{map, ◌≡◌, ℕ, zero, suc, ◌+◌, ◌<◌, ◌≤◌, length, get_or, set, take, List, [], ◌∷◌, ◌++◌, Option, Some, None, IsSome, is_some, Bool, true, false, refl, sym, ap, ◌∙◌, inl, inr, arith}
-use Rattle.std.specs.Prelude.{if◌then◌else◌}
+use Rattle.std.specs.Prelude.{if◌then◌else◌, IsSomeAnd}
 use Rattle.std.proofs.lemmas.Bool.{cases_eq, cases_lt}
 use Rattle.std.proofs.lemmas.Bool.Decides.{nat_tests}
 use Rattle.std.proofs.lemmas.Grind.{common_steps}
 use mathlib.Core.Path.{fun_ext}
 use Rattle.vs_pages.specs.Maps.{put, lacks, one, total, HasPages, IsVacant}
-use Rattle.vs_pages.specs.Table.{bytes_of, map_of, page_count, pages_in}
+use Rattle.vs_pages.specs.Table.{bytes_of, map_of, page_count, pages_in, seen, shown}
 use Rattle.vs_pages.specs.declared.page.Page.{Page}
+use Rattle.vs_pages.specs.declared.page.Page.TheVariants.{Zeros, Written}
 use Rattle.vs_pages.proofs.MapsLemmas.{put-itself, one-same, one-other, total-append, span-below, span-most}
 
 pub page_count-most : (place : Option Page) → page_count place ≤ 1
@@ -100,14 +101,41 @@ total-zero : (keys : List ℕ) → total (λ at. one at zero) (map suc keys) ≡
 total-zero [] = refl
 total-zero (key ∷ keys) = omega (arith, one-other (suc key) zero (λ e. omega arith), total-zero keys)
 
+lacks-page : (page : Page) → lacks (bytes_of (Some page)) ≡ 0
+lacks-page Zeros = refl
+lacks-page (Written buffer) = refl
+
 keys-each : (places : List (Option Page)) (k : ℕ) → total (λ at. one at k) (keys_of places) + lacks (map_of places k) ≡ 1
 unfolding keys_of
 keys-each [] k = refl
 keys-each (None ∷ places) zero = omega (arith, total-zero (keys_of places))
 keys-each (None ∷ places) (suc k) = omega (arith, total-suc (keys_of places) k, keys-each places k)
-keys-each (Some page ∷ places) zero = omega (arith, one-same zero, total-zero (keys_of places))
+keys-each (Some page ∷ places) zero = omega (arith, one-same zero, total-zero (keys_of places), lacks-page page)
 keys-each (Some page ∷ places) (suc k) = omega (arith, one-other zero (suc k) (λ e. omega arith), total-suc (keys_of places) k, keys-each places k)
 
 -- a table has as many pages as are counted
 pub table-counted : (places : List (Option Page)) (n : ℕ) → n ≡ pages_in places → HasPages (map_of places) n
 table-counted places n is = (keys_of places, length-keys places ∙ sym is, keys-each places)
+
+-- a page that is not written is there too
+pub lacks-seen : (kept : Option (List ℕ)) → lacks (shown kept) ≡ lacks kept
+lacks-seen None = refl
+lacks-seen (Some []) = refl
+lacks-seen (Some (x ∷ xs)) = refl
+
+pub seen-counted : (places : List (Option Page)) (n : ℕ) → n ≡ pages_in places → HasPages (seen (map_of places)) n
+seen-counted places n is = let counted = table-counted places n is in (counted.0, counted.1, λ k. omega (arith, counted.2 k, lacks-seen (map_of places k)))
+
+pub seen-vacant : (places : List (Option Page)) (at n : ℕ) → length places ≤ at → IsVacant (seen (map_of places)) at n
+seen-vacant places at n le = λ k. omega (arith, end-vacant places at n le k, lacks-seen (map_of places k))
+
+pub length_set : (places : List (Option Page)) (at : ℕ) (place : Option Page) → length (set places at place) ≡ length places
+length_set places at place = grind (arith, common_steps)
+
+some_of : (kept : Option (List ℕ)) → IsSomeAnd kept (λ page. length page ≡ 4096) → IsSome kept
+some_of None written = absurd written
+some_of (Some page) written = refl
+
+-- a page that was written is in the table
+pub written_within : (places : List (Option Page)) (k : ℕ) → IsSomeAnd (map_of places k) (λ page. length page ≡ 4096) → k < length places
+written_within places k written = map_of-within places k (some_of (map_of places k) written)

@@ -1,5 +1,6 @@
 pub mod Calls
-pub mod Changes
+pub mod History
+pub mod HistoryLaws
 pub mod Maps
 pub mod Memory
 pub mod MemoryLaws

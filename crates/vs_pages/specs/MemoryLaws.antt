@@ -1,46 +1,46 @@
--- Every page in memory, as it is now and as it was committed, has its size and a number below the bound.
-use Rattle.std.specs.Prelude.{◌≡◌, ℕ, ◌^◌, ◌<◌, ◌≤◌, List, length, Option, Some, None, slice_index_or}
-use Rattle.std.proofs.Common.{ap, sym, ◌∙◌, arith, inl, inr}
+-- Laws of pages in memory: each page has its size and a number below the bound, and what was so since a commit stays so.
+use Rattle.std.specs.Prelude.{◌≡◌, ℕ, ◌^◌, ◌≤◌, List, length, Option, None, slice_index_or}
+use Rattle.std.proofs.Common.{ap, arith, inl, inr}
 use Rattle.std.proofs.lemmas.Bool.{cases_lt}
-use Rattle.std.proofs.lemmas.Bool.Decides.{nat_tests}
 use Rattle.std.proofs.lemmas.Grind.{common_steps}
-use Rattle.vs_pages.specs.Maps.{ArePages}
-use Rattle.vs_pages.specs.Table.{bytes_of, map_of}
-use Rattle.vs_pages.specs.Memory.{present_of, committed_of, kept_at, kept_or}
+use Rattle.vs_pages.specs.Maps.{ArePages, Map}
+use Rattle.vs_pages.specs.Table.{map_of, seen, shown}
+use Rattle.vs_pages.specs.History.{first_of}
+use Rattle.vs_pages.specs.HistoryLaws.{IsWhole, place_whole, first_past, first_whole}
+use Rattle.vs_pages.specs.Memory.{present_of, committed_of, kept_of, changes_of, KeepsSince}
 use Rattle.vs_pages.specs.declared.page.Page.{Page}
 use Rattle.vs_pages.specs.declared.memory.MemPages.{MemPages}
 
-size_of : (place : Option Page) (bytes : List ℕ) → bytes_of place ≡ Some bytes → length bytes ≡ 4096
-size_of None bytes is = absurd (cc)
-size_of (Some page) bytes is = let same : page.bytes.items ≡ bytes = cc in sym (ap (λ (b : List ℕ). length b) same) ∙ page.size
+pub keeps_none : (pages : MemPages) → KeepsSince pages pages
+keeps_none pages = record { later = omega arith; since = λ commit map le since. since }
 
-end_of : (places : List (Option Page)) (k : ℕ) (bytes : List ℕ) → map_of places k ≡ Some bytes → k < length places
-end_of places k bytes is = elim (cases_lt k (length places)) [
-  | inl lt ↦ lt
-  | inr past ↦ let none : map_of places k ≡ None = grind (arith, common_steps) in absurd (cc)
-]
-
-table_pages : (places : List (Option Page)) → length places ≤ 2 ^ 40 → ArePages (map_of places)
-table_pages places bound = record {
-  sizes = λ k bytes is. size_of (slice_index_or places k None) bytes is;
-  below = λ k bytes is. omega (arith, end_of places k bytes is);
+pub keeps_then : (a b c : MemPages) → KeepsSince a b → KeepsSince b c → KeepsSince a c
+keeps_then a b c first second = record {
+  later = omega (arith, first.later, second.later);
+  since = λ commit map le since. second.since commit map (omega (arith, le, first.later)) (first.since commit map le since);
 }
 
-size_kept : (was : Option (Option Page)) (place : Option Page) (bytes : List ℕ) → kept_or was (bytes_of place) ≡ Some bytes → length bytes ≡ 4096
-size_kept None place bytes is = size_of place bytes is
-size_kept (Some was) place bytes is = size_of was bytes is
+map_end : (places : List (Option Page)) (k : ℕ) → length places ≤ k → map_of places k ≡ None
+map_end places k le = grind (arith, common_steps)
+
+pages_below : (kept : Map) (n : ℕ) → n ≤ 2 ^ 40 → ((k : ℕ) → n ≤ k → kept k ≡ None) → ((k : ℕ) → IsWhole (kept k)) → ArePages (seen kept)
+pages_below kept n bound none whole = record {
+  sizes = λ k bytes is. whole k bytes is;
+  below = λ k bytes is. elim (cases_lt k n) [
+    | inl lt ↦ omega (arith, lt, bound)
+    | inr past ↦ let gone : seen kept k ≡ None = ap (λ (o : Option (List ℕ)). shown o) (none k past) in absurd (cc)
+  ];
+}
 
 pub are_present : (pages : MemPages) → ArePages (present_of pages)
-are_present pages = table_pages pages.table.places.items pages.table.bound
+are_present pages =
+    let places = pages.table.places.items in
+    pages_below (kept_of pages) (length places) pages.table.bound (map_end places) (λ k. place_whole (slice_index_or places k None))
 
 pub are_committed : (pages : MemPages) → ArePages (committed_of pages)
-are_committed pages = record {
-  sizes = λ k bytes is. elim (cases_lt k pages.committed) [
-    | inl lt ↦ size_kept (kept_at pages k) (slice_index_or pages.table.places.items k None) bytes (grind (arith, nat_tests))
-    | inr past ↦ let none : committed_of pages k ≡ None = grind (arith, nat_tests) in absurd (cc)
-  ];
-  below = λ k bytes is. elim (cases_lt k pages.committed) [
-    | inl lt ↦ omega (arith, pages.within, pages.table.bound)
-    | inr past ↦ let none : committed_of pages k ≡ None = grind (arith, nat_tests) in absurd (cc)
-  ];
-}
+are_committed pages =
+    let places = pages.table.places.items in
+    let kept = kept_of pages in
+    pages_below (first_of kept (changes_of pages)) (length places) pages.table.bound
+    (first_past kept (length places) (changes_of pages) pages.undo (map_end places))
+    (λ k. first_whole kept (length places) (changes_of pages) k pages.undo (place_whole (slice_index_or places k None)))

@@ -2,7 +2,7 @@
 ghost use Rattle.std.specs.Prelude.{◌≡◌, ◌-◌, ◌↔◌, None, IsSome, IsErr, OnOk, OnErr, ⊤};
 ghost use Rattle.vs_faults.specs.Faults.{HasCause};
 ghost use Rattle.vs_pages.specs.Maps.{pages_at};
-ghost use Rattle.vs_pages.specs.Memory.{present_of, committed_of};
+ghost use Rattle.vs_pages.specs.Memory.{present_of, state_of};
 ghost use Rattle.vs_pages.specs.MemoryLaws.{are_present, are_committed};
 
 use crate::{MemPages, PageErr, Pages};
@@ -82,7 +82,7 @@ impl<const TELLS: bool> FailingPages<TELLS> {
 impl<const TELLS: bool> Pages for FailingPages<TELLS> {
     ghost tells = { TELLS };
 
-    ghost shows = { λ store. record { present = present_of store.pages; committed = committed_of store.pages; faults = store.faults } };
+    ghost shows = { λ store. record (state_of store.pages) { faults = store.faults } };
 
     ghost valid = { λ _. Unit {0} };
 
@@ -149,6 +149,14 @@ impl<const TELLS: bool> Pages for FailingPages<TELLS> {
 
     fn rollback(&mut self) {
         self.pages.rollback();
+    }
+
+    fn mark(&self) -> u64 {
+        self.pages.mark()
+    }
+
+    fn back(&mut self, mark: u64) {
+        self.pages.back(mark);
     }
 
     fn damaged(&mut self) {

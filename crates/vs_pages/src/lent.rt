@@ -1,7 +1,7 @@
 // Pages in memory that were lent.
 ghost use Rattle.std.specs.Prelude.{◌≡◌, IfSome, true, refl, length, option_map};
 ghost use Rattle.std.proofs.Common.{◌∙◌};
-ghost use Rattle.vs_pages.specs.Memory.{present_of, committed_of};
+ghost use Rattle.vs_pages.specs.Memory.{present_of, state_of};
 ghost use Rattle.vs_pages.specs.MemoryLaws.{are_present, are_committed};
 
 use crate::{MemPages, PageErr, Pages};
@@ -17,7 +17,7 @@ pub struct LentPages<'p> {
 impl<'p> Pages for LentPages<'p> {
     ghost tells = { true };
 
-    ghost shows = { λ store. record { present = present_of store.pages.now; committed = committed_of store.pages.now; faults = 0 } };
+    ghost shows = { λ store. state_of store.pages.now };
 
     ghost valid = { λ _. Unit {0} };
 
@@ -74,11 +74,19 @@ impl<'p> Pages for LentPages<'p> {
     }
 
     fn commit(&mut self) {
-        self.pages.commit_marked(0);
+        self.pages.commit();
     }
 
     fn rollback(&mut self) {
         self.pages.rollback();
+    }
+
+    fn mark(&self) -> u64 {
+        self.pages.mark()
+    }
+
+    fn back(&mut self, mark: u64) {
+        self.pages.back(mark);
     }
 
     // No caller can meet what the trait asks here, since this store tells its maps. So it asks for nothing.

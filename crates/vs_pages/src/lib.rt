@@ -4,7 +4,12 @@
 //! store over a borrow of them. [`failing::FailingPages`] is for tests of what stands on a store.
 #![tactic(auto)]
 
+mod before;
+mod buffer;
+mod change;
+mod exchange;
 pub mod failing;
+mod history;
 mod lent;
 mod memory;
 mod page;

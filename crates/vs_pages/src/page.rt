@@ -1,56 +1,55 @@
 // One page in memory.
-ghost use Rattle.std.specs.Prelude.{◌≡◌, ◌+◌, ◌≤◌, All, IfOk, length, vec_len};
+ghost use Rattle.std.specs.Prelude.{◌≡◌, ◌+◌, ◌≤◌, Some, IfOk, length};
 ghost use Rattle.vs_bytes.specs.Fields.{with_field};
 ghost use Rattle.vs_pages.specs.Maps.{zeros};
+ghost use Rattle.vs_pages.specs.Table.{IsPlace, bytes_of, shown};
 
 use crate::PAGE_SIZE;
+use crate::buffer::Buffer;
 use std::alloc::{AllocError, Global};
 
+const ZEROS: [u8; PAGE_SIZE] = [0; PAGE_SIZE];
+
 #[derive(Drop)]
-pub struct Page {
-    pub bytes: Vec<u8>,
-    ghost size: { length bytes.items ≡ 4096 },
+pub enum Page {
+    // A page of zeros that was not written, which takes no memory.
+    Zeros,
+    Written(Buffer),
 }
 
 impl Page {
-    pub fn zeros(alloc: Global) -> Result<Page, AllocError>
-        ensures { IfOk result (λ page. page.bytes.items ≡ zeros 1) }
-    {
-        let bytes = vec![in alloc; 0u8; PAGE_SIZE]?;
-        Ok(Page { bytes })
-    }
-
-    pub fn of(alloc: Global, from: &[u8]) -> Result<Page, AllocError>
-        requires { length from.now ≡ 4096 }
-        ensures { IfOk result (λ page. page.bytes.items ≡ from.now) }
-    {
-        let bytes = Vec::from_slice(alloc, from)?;
-        Ok(Page { bytes })
-    }
-
-    // Writes bytes over those from byte `from` on.
-    pub fn patch(&mut self, from: usize, bytes: &[u8])
-        requires { from + length bytes.now ≤ 4096 }
-        ensures { self.new.bytes.items ≡ with_field self.old.bytes.items from bytes.now }
-    {
-        self.bytes[from..from + bytes.len()].copy_from_slice(bytes);
-    }
-
     pub fn as_slice(&self) -> &[u8]
-        ensures { result.now ≡ self.now.bytes.items }
+        ensures size { length result.now ≡ 4096 }
+        ensures page { shown (bytes_of (Some self.now)) ≡ Some result.now }
     {
-        &self.bytes
+        match self {
+            Page::Zeros => &ZEROS,
+            Page::Written(buffer) => &buffer.bytes,
+        }
     }
 }
 
-// So many pages of zeros.
-pub fn zero_pages(alloc: Global, pages: u32) -> Result<Vec<Page>, AllocError>
-    ensures len { IfOk result (λ fresh. vec_len fresh ≡ pages) }
-    ensures zeros { IfOk result (λ fresh. All (λ page. page.bytes.items ≡ zeros 1) fresh.items) }
+// A page of zeros with bytes over those from byte `from` on.
+pub fn patched_zeros(alloc: Global, from: usize, bytes: &[u8]) -> Result<Page, AllocError>
+    requires { from + length bytes.now ≤ 4096 }
+    ensures { IfOk result (λ page. bytes_of (Some page) ≡ Some (with_field (zeros 1) from bytes.now)) }
 {
-    let mut fresh = Vec::with_capacity(alloc, pages as usize)?;
-    for _ in 0..pages {
-        fresh.push(Page::zeros(alloc)?)?;
+    let mut buffer = Buffer::of(alloc, &ZEROS)?;
+    buffer.patch(from, bytes);
+    Ok(Page::Written(buffer))
+}
+
+// Copies the page of a place, and says whether there is one.
+pub fn copy_place(place: &Option<Page>, into: &mut [u8]) -> bool
+    requires { length into.old ≡ 4096 }
+    ensures size { length into.new ≡ 4096 }
+    ensures page { IsPlace result into.new (bytes_of place.now) }
+{
+    match place {
+        Some(page) => {
+            into.copy_from_slice(page.as_slice());
+            true
+        }
+        None => false,
     }
-    Ok(fresh)
 }

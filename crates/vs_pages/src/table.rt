@@ -1,8 +1,9 @@
 // A table of pages by number, which counts them.
-ghost use Rattle.std.specs.Prelude.{◌≡◌, ◌-◌, ◌^◌, ◌<◌, ◌≤◌, [], Some, None, option_map, is_some, IfOk, OnOk, length, max, take, slice_set, slice_index_or};
-ghost use Rattle.vs_pages.specs.Table.{bytes_of, page_count, pages_in, map_of};
+ghost use Rattle.std.specs.Prelude.{◌≡◌, ◌+◌, ◌-◌, ◌^◌, ◌<◌, ◌≤◌, [], Some, None, option_map, is_some, IfOk, IsSome, IsSomeAnd, IsTrue, false, OnOk, length, max, take, slice_set, slice_index_or};
+ghost use Rattle.vs_pages.specs.Maps.{patched, put};
+ghost use Rattle.vs_pages.specs.Table.{IsPlace, bytes_of, page_count, pages_in, map_of};
 
-use crate::page::Page;
+use crate::page::{Page, copy_place};
 use std::alloc::{AllocError, Global};
 use std::mem;
 
@@ -41,7 +42,7 @@ impl Table {
 
     // The page at a place, if there is one.
     pub fn page(&self, at: u64) -> Option<&Page>
-        ensures { option_map (λ page. page.now.bytes.items) result ≡ map_of self.now.places.items at }
+        ensures { bytes_of (option_map (λ page. page.now) result) ≡ map_of self.now.places.items at }
     {
         self.places.get(at as usize)?.as_ref()
     }
@@ -50,6 +51,14 @@ impl Table {
         ensures { result ≡ is_some (map_of self.now.places.items at) }
     {
         self.page(at).is_some()
+    }
+
+    // Whether there is a page that was written.
+    pub fn is_written(&self, at: u64) -> bool
+        ensures written { IsTrue result → IsSomeAnd (map_of self.now.places.items at) (λ page. length page ≡ 4096) }
+        ensures zeros { result ≡ false → IsSome (map_of self.now.places.items at) → map_of self.now.places.items at ≡ Some [] }
+    {
+        matches!(self.page(at), Some(Page::Written(_)))
     }
 
     // Puts a page, or none, at a place, and gives what was there.
@@ -72,13 +81,48 @@ impl Table {
         self.replace(at, page);
     }
 
-    // A copy of the page at a place, if there is one.
-    pub fn copy(&self, alloc: Global, at: u64) -> Result<Option<Page>, AllocError>
-        ensures { IfOk result (λ page. bytes_of page ≡ map_of self.now.places.items at) }
+    // Writes bytes over those of a page that was written, from its byte `from` on.
+    pub fn patch(&mut self, at: u64, from: usize, bytes: &[u8])
+        requires written { IsSomeAnd (map_of self.old.places.items at) (λ page. length page ≡ 4096) }
+        requires within { from + length bytes.now ≤ 4096 }
+        ensures map { map_of self.new.places.items ≡ put (map_of self.old.places.items) at (patched (map_of self.old.places.items at) from bytes.now) }
+        ensures places { length self.new.places.items ≡ length self.old.places.items }
     {
-        match self.page(at) {
-            Some(page) => Ok(Some(Page::of(alloc, page.as_slice())?)),
-            None => Ok(None),
+        let Some(Page::Written(mut buffer)) = self.replace(at, None) else {
+            unreachable!()
+        };
+        buffer.patch(from, bytes);
+        self.set(at, Some(Page::Written(buffer)));
+    }
+
+    // A copy of so many bytes of a page that was written, from its byte `from` on.
+    pub fn copy_bytes(
+        &self,
+        alloc: Global,
+        at: u64,
+        from: usize,
+        count: usize,
+    ) -> Result<Vec<u8>, AllocError>
+        requires written { IsSomeAnd (map_of self.now.places.items at) (λ page. length page ≡ 4096) }
+        requires within { from + count ≤ 4096 }
+        ensures bytes { IfOk result (λ bytes. map_of self.now.places.items at ≡ patched (map_of self.now.places.items at) from bytes.items) }
+        ensures len { IfOk result (λ bytes. length bytes.items ≡ count) }
+    {
+        let Some(Page::Written(buffer)) = self.page(at) else {
+            unreachable!()
+        };
+        Vec::from_slice(alloc, &buffer.bytes[from..from + count])
+    }
+
+    // Copies the page at a place, and says whether there is one.
+    pub fn copy_page(&self, at: u64, into: &mut [u8]) -> bool
+        requires { length into.old ≡ 4096 }
+        ensures size { length into.new ≡ 4096 }
+        ensures page { IsPlace result into.new (map_of self.now.places.items at) }
+    {
+        match self.places.get(at as usize) {
+            Some(place) => copy_place(place, into),
+            None => false,
         }
     }
 

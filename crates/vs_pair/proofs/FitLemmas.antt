@@ -12,7 +12,7 @@ use Rattle.vs_disk.proofs.Images.{read_image}
 use Rattle.vs_disk.proofs.Steps.{same_at, itself, always_after, other_after}
 use Rattle.vs_disk.proofs.Others.{file_outside}
 use Rattle.vs_disk.proofs.Parts.{read_name}
-use Rattle.vs_pages.specs.Memory.{committed_of}
+use Rattle.vs_pages.specs.Memory.{commits_of, committed_of}
 use Rattle.vs_swap.specs.Recovery.{StandsIn}
 use Rattle.vs_swap.specs.Files.{StandsFor}
 use Rattle.vs_pair.specs.declared.gate.Gate.{Gate}
@@ -288,8 +288,8 @@ module _ (files : Known) (newest : Synced) (begun past : List Synced) (old : Dis
           older_used = omega (arith, fit.older_used);
           newer_keeps = fit.newer_keeps;
           older_keeps = keeps_nothing gate files.pages fit.older_sync.pages;
-          newer_marked = omega (arith, fit.newer_marked);
-          older_marked = omega arith;
+          newer_known = fit.newer_known;
+          older_known = omega arith;
           bound = omega (arith, room);
         }
         | inr later ↦ record {
@@ -305,8 +305,8 @@ module _ (files : Known) (newest : Synced) (begun past : List Synced) (old : Dis
           older_used = omega (arith, next);
           newer_keeps = fit.newer_keeps;
           older_keeps = keeps_nothing gate files.pages sync.pages;
-          newer_marked = omega (arith, fit.newer_marked);
-          older_marked = omega arith;
+          newer_known = fit.newer_known;
+          older_known = omega arith;
           bound = omega (arith, room);
         }
       ]
@@ -317,7 +317,7 @@ module _ (files : Known) (newest : Synced) (begun past : List Synced) (old : Dis
     newer = other_side files.newer;
     gate = Open;
     generation = files.generation + 1;
-    newer_has = record { mark = files.generation + 1; end = end };
+    newer_has = record { commits = (commits_of files.pages).count; end = end };
     older_has = files.newer_has;
   }
 
@@ -341,10 +341,10 @@ module _ (files : Known) (newest : Synced) (begun past : List Synced) (old : Dis
           ordered = record { member = inl refl; less = more };
           newer_used = omega (arith, next);
           older_used = omega (arith, fit.newer_used);
-          newer_keeps = keeps_all files.pages sync.pages (files.generation + 1) end all (omega (arith, room)) last;
+          newer_keeps = keeps_all files.pages sync.pages (commits_of files.pages).count end all last;
           older_keeps = fit.newer_keeps;
-          newer_marked = omega arith;
-          older_marked = omega (arith, fit.newer_marked);
+          newer_known = omega arith;
+          older_known = fit.newer_known;
           bound = omega (arith, room);
         }
 

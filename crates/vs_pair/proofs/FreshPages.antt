@@ -1,10 +1,9 @@
--- The file of a sync has each page that was not marked since, and zeros at each number between its pages.
-use Rattle.std.proofs.Common.{◌≡◌, inl, inr, ℕ, ◌-◌, ◌<◌, ◌≤◌, ◌^◌, false, List, Option, Some, None, IsSome, refl, sym, ◌∙◌, ap, subst, arith}
+-- The file of a sync has each page that no commit changed since, and zeros at each number between its pages.
+use Rattle.std.proofs.Common.{◌≡◌, inl, inr, ℕ, ◌-◌, ◌<◌, ◌≤◌, false, List, Option, Some, None, IsSome, refl, sym, ◌∙◌, ap, subst, arith}
 use Rattle.std.proofs.lemmas.Bool.{cases_lt, true≢false}
 use Rattle.std.proofs.lemmas.Bool.Decides.{nat_tests}
 use Rattle.vs_pages.specs.Maps.{Map}
-use Rattle.vs_pages.specs.Memory.{committed_of, mark_of}
-use Rattle.vs_pages.specs.Changes.{KeepsMarks}
+use Rattle.vs_pages.specs.Memory.{commits_of, committed_of, KeepsSince}
 use Rattle.vs_pages.specs.declared.memory.MemPages.{MemPages}
 use Rattle.vs_swap.specs.Files.{page_in}
 use Rattle.vs_pair.specs.declared.gate.Gate.{Gate}
@@ -19,8 +18,8 @@ use Rattle.vs_pair.specs.Writes.{page_or_zeros}
 pub none_fresh : (pages : MemPages) (k : ℕ) → is_stale pages nothing k ≡ false → ⊥
 none_fresh pages k is = grind (arith, nat_tests)
 
-unmarked : (pages : MemPages) (has : Written) (k : ℕ) → is_stale pages has k ≡ false → mark_of pages k < has.mark
-unmarked pages has k is = grind (arith, nat_tests)
+unchanged : (pages : MemPages) (has : Written) (k : ℕ) → is_stale pages has k ≡ false → (commits_of pages).last k < has.commits
+unchanged pages has k is = grind (arith, nat_tests)
 
 inside : (pages : MemPages) (has : Written) (k : ℕ) → is_stale pages has k ≡ false → k < has.end
 inside pages has k is = grind (arith, nat_tests)
@@ -45,24 +44,24 @@ module _ (body : Body) (c : List ℕ) (has : HasBody body c) (end k : ℕ) (last
 pub fresh_in : (pages : MemPages) (has : Written) (before : Body) (gate : Gate) → Keeps gate pages has before.pages → (c : List ℕ) → HasBody before c → (k : ℕ) → 1 ≤ k → is_stale pages has k ≡ false
     → page_in c k ≡ Some (page_or_zeros (committed_of pages k))
 fresh_in pages has before gate keeps c body k least is =
-    in_place before c body has.end k keeps.last least (inside pages has k is) (committed_of pages k) (sym (keeps.since.same k (unmarked pages has k is)))
+    in_place before c body has.end k keeps.last least (inside pages has k is) (committed_of pages k) (sym (keeps.since k (unchanged pages has k is)))
 
 -- ---- what is known of the pages
 
 pub keeps_nothing : (gate : Gate) (pages : MemPages) (map : Map) → Keeps gate pages nothing map
 keeps_nothing gate pages map = record {
-  since = record { bound = omega arith; same = λ k less. absurd (omega (arith, less)) };
+  since = λ k less. absurd (omega (arith, less));
   last = λ less. absurd (omega (arith, less));
   torn = λ is. refl;
 }
 
--- after a sync nothing is marked
-pub keeps_all : (pages : MemPages) (map : Map) (mark end : ℕ) → map ≡ committed_of pages → mark < 2 ^ 64 → (0 < end → IsSome (map (end - 1))) → Keeps Open pages (record { mark = mark; end = end }) map
-keeps_all pages map mark end same bound last = record {
-  since = record { bound = bound; same = λ k less. ap (λ (m : Map). m k) (sym same) };
+-- after a sync
+pub keeps_all : (pages : MemPages) (map : Map) (commits end : ℕ) → map ≡ committed_of pages → (0 < end → IsSome (map (end - 1))) → Keeps Open pages (record { commits = commits; end = end }) map
+keeps_all pages map commits end same last = record {
+  since = λ k less. ap (λ (m : Map). m k) (sym same);
   last = last;
   torn = λ is. let clash : Open ≡ Closed = is in absurd (cc);
 }
 
-pub keeps_changed : (gate : Gate) (old new : MemPages) (has : Written) (map : Map) (bound : ℕ) → has.mark ≤ bound → KeepsMarks bound old new → Keeps gate old has map → Keeps gate new has map
-keeps_changed gate old new has map bound le marks keeps = record { since = marks has.mark map le keeps.since; last = keeps.last; torn = keeps.torn }
+pub keeps_changed : (gate : Gate) (old new : MemPages) (has : Written) (map : Map) → has.commits ≤ (commits_of old).count → KeepsSince old new → Keeps gate old has map → Keeps gate new has map
+keeps_changed gate old new has map le since keeps = record { since = since.since has.commits map le keeps.since; last = keeps.last; torn = keeps.torn }

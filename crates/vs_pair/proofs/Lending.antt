@@ -4,7 +4,8 @@ use Rattle.vs_faults.specs.Faults.{HasCause, HasRisen}
 use Rattle.vs_host.specs.Disk.{Disk}
 use Rattle.vs_host.specs.World.{Tells, Scene, CountsFault}
 use Rattle.vs_disk.proofs.Runs.{starts}
-use Rattle.vs_pages.specs.Changes.{KeepsMarks, KeepsAllMarks}
+use Rattle.vs_pages.specs.Memory.{KeepsSince}
+use Rattle.vs_pages.specs.MemoryLaws.{keeps_none}
 use Rattle.vs_pages.specs.declared.memory.MemPages.{MemPages}
 use Rattle.vs_pair.specs.declared.pair.SwapPair.{SwapPair}
 use Rattle.vs_pair.specs.Lent.{IsReady, KeepsFiles}
@@ -22,7 +23,7 @@ no_cause Failed n cause = record { later = omega arith; risen = λ failed. absur
 pub keeps_damaged : (tells : Tells) (pair : SwapPair) (old new : Scene) → (IsTrue tells.folder → ⊥) → CountsFault old new → KeepsFiles tells pair pair old new
 keeps_damaged tells pair old new silent counts = record {
   files = refl;
-  marks = λ mark map le since. since;
+  since = keeps_none pair.pages;
   frame = counts ∙ (λ i. record old { folder_faults = new.folder_faults; trace = sym (ap (λ (s : Scene). s.trace) counts) i });
   looks = λ told. absurd (silent told);
   still = λ told. absurd (silent told);
@@ -30,17 +31,14 @@ keeps_damaged tells pair old new silent counts = record {
 
 -- ---- pages that changed
 
-pub all_kept : (old new : MemPages) (bound : ℕ) → KeepsAllMarks old new → KeepsMarks bound old new
-all_kept old new bound all mark map le since = all mark map since
+pub ready_with : (pair : SwapPair) (pages : MemPages) (disk : Disk) → KeepsSince pair.pages pages → IsReady pair disk → IsReady (record pair { pages = pages }) disk
+ready_with pair pages disk since (inl fresh) = inl fresh
+ready_with pair pages disk since (inr fits) = inr (fits.0, fits.1, fits.2, fit_changed pair (record pair { pages = pages }) disk fits.0 fits.1 fits.2 refl since fits.3)
 
-pub ready_with : (pair : SwapPair) (pages : MemPages) (disk : Disk) → KeepsMarks pair.files.generation pair.pages pages → IsReady pair disk → IsReady (record pair { pages = pages }) disk
-ready_with pair pages disk marks (inl fresh) = inl fresh
-ready_with pair pages disk marks (inr fits) = inr (fits.0, fits.1, fits.2, fit_changed pair (record pair { pages = pages }) disk fits.0 fits.1 fits.2 refl marks fits.3)
-
-pub keeps_with : (tells : Tells) (pair : SwapPair) (pages : MemPages) (scene : Scene) → KeepsMarks pair.files.generation pair.pages pages → KeepsFiles tells pair (record pair { pages = pages }) scene scene
-keeps_with tells pair pages scene marks = record {
+pub keeps_with : (tells : Tells) (pair : SwapPair) (pages : MemPages) (scene : Scene) → KeepsSince pair.pages pages → KeepsFiles tells pair (record pair { pages = pages }) scene scene
+keeps_with tells pair pages scene since = record {
   files = refl;
-  marks = marks;
+  since = since;
   frame = refl;
   looks = λ told. starts (λ a b. b ≡ a) scene refl;
   still = λ told. refl;

@@ -11,7 +11,7 @@ use Rattle.vs_disk.proofs.Parts.{with_rest, image_with_rest}
 use Rattle.vs_disk.proofs.Steps.{one_state}
 use Rattle.vs_disk.proofs.Contents.{leads_nowhere}
 use Rattle.vs_swap.specs.Recovery.{StandsIn}
-use Rattle.vs_pages.specs.Changes.{KeepsMarks}
+use Rattle.vs_pages.specs.Memory.{KeepsSince}
 use Rattle.vs_pages.specs.declared.memory.MemPages.{MemPages}
 use Rattle.vs_pair.specs.declared.files.SwapFiles.{SwapFiles}
 use Rattle.vs_pair.specs.declared.gate.Gate.TheVariants.{Open}
@@ -80,8 +80,8 @@ fit_kept files old new newest begun past same fit =
       older_used = fit.older_used;
       newer_keeps = fit.newer_keeps;
       older_keeps = fit.older_keeps;
-      newer_marked = fit.newer_marked;
-      older_marked = fit.older_marked;
+      newer_known = fit.newer_known;
+      older_known = fit.older_known;
       bound = fit.bound;
     }
 
@@ -99,9 +99,9 @@ known_with files pages = record {
   older_has = files.older_has;
 }
 
-pub fit_changed : (old new : SwapPair) (disk : Disk) (newest : Synced) (begun past : List Synced) → new.files ≡ old.files → KeepsMarks old.files.generation old.pages new.pages → IsFit (known_of old) disk newest begun past
+pub fit_changed : (old new : SwapPair) (disk : Disk) (newest : Synced) (begun past : List Synced) → new.files ≡ old.files → KeepsSince old.pages new.pages → IsFit (known_of old) disk newest begun past
     → IsFit (known_of new) disk newest begun past
-fit_changed old new disk newest begun past files marks fit =
+fit_changed old new disk newest begun past files since fit =
     let changed : IsFit (known_with old.files new.pages) disk newest begun past = record {
       named = fit.named;
       newer_number = fit.newer_number;
@@ -113,10 +113,10 @@ fit_changed old new disk newest begun past files marks fit =
       ordered = fit.ordered;
       newer_used = fit.newer_used;
       older_used = fit.older_used;
-      newer_keeps = keeps_changed Open old.pages new.pages old.files.newer_has newest.pages old.files.generation fit.newer_marked marks fit.newer_keeps;
-      older_keeps = keeps_changed old.files.gate old.pages new.pages old.files.older_has fit.older_sync.pages old.files.generation fit.older_marked marks fit.older_keeps;
-      newer_marked = fit.newer_marked;
-      older_marked = fit.older_marked;
+      newer_keeps = keeps_changed Open old.pages new.pages old.files.newer_has newest.pages fit.newer_known since fit.newer_keeps;
+      older_keeps = keeps_changed old.files.gate old.pages new.pages old.files.older_has fit.older_sync.pages fit.older_known since fit.older_keeps;
+      newer_known = omega (arith, fit.newer_known, since.later);
+      older_known = omega (arith, fit.older_known, since.later);
       bound = fit.bound;
     } in
     subst (λ (f : SwapFiles). IsFit (known_with f new.pages) disk newest begun past) (sym files) changed

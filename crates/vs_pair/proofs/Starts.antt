@@ -14,7 +14,7 @@ use Rattle.vs_disk.specs.Names.{SameAt}
 use Rattle.vs_disk.proofs.Steps.{settled}
 use Rattle.vs_disk.proofs.Others.{same_then}
 use Rattle.vs_pages.specs.Maps.{Map}
-use Rattle.vs_pages.specs.Memory.{committed_of}
+use Rattle.vs_pages.specs.Memory.{commits_of, committed_of}
 use Rattle.vs_pages.specs.declared.memory.MemPages.{MemPages}
 use Rattle.vs_pair.specs.declared.gate.Gate.TheVariants.{Open}
 use Rattle.vs_pair.specs.declared.side.Side.{Side}
@@ -207,8 +207,8 @@ module _ (tells : Tells) (names : Names) (are : AreNames names) (one two : Synce
     gate = Open;
     generation = 2;
     pages = pages;
-    newer_has = record { mark = 2; end = end };
-    older_has = record { mark = 2; end = end };
+    newer_has = record { commits = (commits_of pages).count; end = end };
+    older_has = record { commits = (commits_of pages).count; end = end };
   }
 
   pub both_fit : (pages : MemPages) (end : ℕ) → one.pages ≡ committed_of pages → two.pages ≡ committed_of pages → (0 < end → IsSome (committed_of pages (end - 1))) → (first second new : Disk) → IsFolder new → FileHas first names.swp (λ file. Leaves file (Holds (body_of names.file one))) → MakesSecond first second
@@ -228,10 +228,10 @@ module _ (tells : Tells) (names : Names) (are : AreNames names) (one two : Synce
         ordered = record { member = inl refl; less = omega (arith, first_is, second_is) };
         newer_used = omega (arith, second_is);
         older_used = omega (arith, first_is);
-        newer_keeps = keeps_all pages two.pages 2 end two_has (omega arith) (λ less. subst (λ (m : Map). IsSome (m (end - 1))) (sym two_has) (last less));
-        older_keeps = keeps_all pages one.pages 2 end one_has (omega arith) (λ less. subst (λ (m : Map). IsSome (m (end - 1))) (sym one_has) (last less));
-        newer_marked = omega arith;
-        older_marked = omega arith;
+        newer_keeps = keeps_all pages two.pages (commits_of pages).count end two_has (λ less. subst (λ (m : Map). IsSome (m (end - 1))) (sym two_has) (last less));
+        older_keeps = keeps_all pages one.pages (commits_of pages).count end one_has (λ less. subst (λ (m : Map). IsSome (m (end - 1))) (sym one_has) (last less));
+        newer_known = omega arith;
+        older_known = omega arith;
         bound = omega arith;
       }
 

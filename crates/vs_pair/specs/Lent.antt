@@ -1,7 +1,7 @@
 -- The pages of a pair while the pair and the folder are lent to a store.
 use Rattle.std.specs.Prelude.{◌≡◌, ◌⊎◌, IsTrue}
 use Rattle.vs_host.specs.Disk.{Disk}
-use Rattle.vs_pages.specs.Changes.{KeepsMarks}
+use Rattle.vs_pages.specs.Memory.{KeepsSince}
 use Rattle.vs_host.specs.World.{Tells, Scene, ReadsFolder}
 use Rattle.vs_disk.specs.Runs.{Looks}
 use Rattle.vs_pair.specs.declared.pair.SwapPair.{SwapPair}
@@ -12,11 +12,10 @@ use Rattle.vs_pair.specs.Steps.{IsFresh}
 abbrev pub IsReady : SwapPair → Disk → Type 0
 IsReady pair disk = ((pair.files.generation ≡ 0) × IsFresh pair.files.names disk) ⊎ HasFit (known_of pair) disk
 
--- The swap files are as they were known, each page whose change was committed is marked with their generation or more, and the folder
--- was only looked at. The pages are kept in memory, so one that is told was not even asked.
+-- The swap files are as they were known, each commit that changed a page is known, and the folder was only looked at. The pages are kept in memory, so one that is told was not even asked.
 pub record KeepsFiles (tells : Tells) (pair_old pair_new : SwapPair) (old new : Scene) : Type 0 where
   pub files : pair_new.files ≡ pair_old.files
-  pub marks : KeepsMarks pair_old.files.generation pair_old.pages pair_new.pages
+  pub since : KeepsSince pair_old.pages pair_new.pages
   pub frame : ReadsFolder old new
   pub looks : IsTrue tells.folder → Looks old new
   pub still : IsTrue tells.folder → new ≡ old

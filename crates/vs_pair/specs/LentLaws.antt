@@ -1,15 +1,15 @@
 -- The files of a pair go on being as they were known, from call to call.
-use Rattle.std.proofs.Common.{◌≡◌, ◌≤◌, refl, ◌∙◌, ap, subst, sym}
+use Rattle.std.proofs.Common.{◌≡◌, refl, ◌∙◌, ap}
 use Rattle.vs_host.specs.World.{Tells, Scene, ReadsFolder}
 use Rattle.vs_disk.proofs.Runs.{starts, looks_on, reads_change}
-use Rattle.vs_pair.specs.declared.files.SwapFiles.{SwapFiles}
+use Rattle.vs_pages.specs.MemoryLaws as pages
 use Rattle.vs_pair.specs.declared.pair.SwapPair.{SwapPair}
 use Rattle.vs_pair.specs.Lent.{KeepsFiles}
 
 pub keeps_none : (tells : Tells) (pair : SwapPair) (scene : Scene) → KeepsFiles tells pair pair scene scene
 keeps_none tells pair scene = record {
   files = refl;
-  marks = λ mark map le since. since;
+  since = pages.keeps_none pair.pages;
   frame = refl;
   looks = λ told. starts (λ a b. b ≡ a) scene refl;
   still = λ told. refl;
@@ -21,7 +21,7 @@ reads_then old mid new first second = second ∙ ap (λ (s : Scene). record s { 
 pub keeps_then : (tells : Tells) (a b c : SwapPair) (old mid new : Scene) → KeepsFiles tells a b old mid → KeepsFiles tells b c mid new → KeepsFiles tells a c old new
 keeps_then tells a b c old mid new first second = record {
   files = second.files ∙ first.files;
-  marks = λ mark map le since. second.marks mark map (subst (λ (files : SwapFiles). mark ≤ files.generation) (sym first.files) le) (first.marks mark map le since);
+  since = pages.keeps_then a.pages b.pages c.pages first.since second.since;
   frame = reads_then old mid new first.frame second.frame;
   looks = λ told. looks_on old mid new (reads_change old mid first.frame) (first.looks told) (second.looks told);
   still = λ told. second.still told ∙ first.still told;

@@ -7,7 +7,7 @@ use Rattle.vs_host.specs.declared.names.Names.{Names}
 use Rattle.vs_host.specs.Names.{AreNames}
 use Rattle.vs_disk.specs.Images.{FileAlways}
 use Rattle.vs_disk.specs.Names.{SameAt}
-use Rattle.vs_pages.specs.Memory.{committed_of}
+use Rattle.vs_pages.specs.Memory.{commits_of, committed_of}
 use Rattle.vs_pages.specs.declared.memory.MemPages.{MemPages}
 use Rattle.vs_text.specs.Text.{IsText, stored}
 use Rattle.vs_tree_shape.specs.Trees.{HasLines}
@@ -151,7 +151,7 @@ IsOrdered Unknown newest older begun past file = IsEarlier newest older past ⊎
 
 -- The pair fits the folder. In each image the newer file stands with what the last acknowledged sync wrote, and the other one is
 -- not open, or has what one of the earlier syncs wrote, or one of those that were begun since and failed. The committed pages differ
--- from those of either file only where they are marked so.
+-- from those of either file only where a commit changed them since.
 pub record IsFit (files : Known) (disk : Disk) (newest : Synced) (begun past : List Synced) : Type 0 where
   pub named : AreNames files.names
   pub newer_number : ℕ
@@ -165,8 +165,8 @@ pub record IsFit (files : Known) (disk : Disk) (newest : Synced) (begun past : L
   pub older_used : older_sync.generation ≤ files.generation
   pub newer_keeps : Keeps Open files.pages files.newer_has newest.pages
   pub older_keeps : Keeps files.gate files.pages files.older_has older_sync.pages
-  pub newer_marked : files.newer_has.mark ≤ files.generation
-  pub older_marked : files.older_has.mark ≤ files.generation
+  pub newer_known : files.newer_has.commits ≤ (commits_of files.pages).count
+  pub older_known : files.older_has.commits ≤ (commits_of files.pages).count
   pub bound : files.generation ≤ 2 ^ 63
 
 -- the pair fits the folder with some last acknowledged sync, and some before and after it

@@ -1,8 +1,7 @@
 -- In which page numbers a swap file may differ from the committed pages.
 use Rattle.std.specs.Prelude.{◌≡◌, ℕ, zero, suc, ◌+◌, ◌-◌, ◌<◌, ◌≤◌, ◌||◌, Bool, true, false, nat_le, List, length, Some, None, IsSome}
 use Rattle.vs_pages.specs.Maps.{Map}
-use Rattle.vs_pages.specs.Memory.{committed_of, mark_of}
-use Rattle.vs_pages.specs.Changes.{IsSince}
+use Rattle.vs_pages.specs.Memory.{commits_of, committed_of, IsSince}
 use Rattle.vs_pages.specs.declared.memory.MemPages.{MemPages}
 use Rattle.vs_swap.specs.Files.{page_in}
 use Rattle.vs_pair.specs.declared.gate.Gate.{Gate}
@@ -12,21 +11,21 @@ use Rattle.vs_pair.specs.Writes.{page_or_zeros}
 
 -- nothing is known of the pages
 abbrev pub nothing : Written
-nothing = record { mark = 0; end = 0 }
+nothing = record { commits = 0; end = 0 }
 
--- The file may differ in this number: a commit marked it since, or it lies after the last page of the file.
+-- The file may differ in this number: a commit changed it since, or it lies after the last page of the file.
 abbrev pub is_stale : MemPages → Written → ℕ → Bool
-is_stale pages written k = nat_le written.mark (mark_of pages k) || nat_le written.end k
+is_stale pages written k = nat_le written.commits ((commits_of pages).last k) || nat_le written.end k
 
 -- The bytes have an identifier, and after page 0 each number that is not stale, as it is committed.
 pub record HasFresh (pages : MemPages) (written : Written) (c : List ℕ) : Type 0 where
   pub long : 2 ≤ length c
   pub fresh : (k : ℕ) → 1 ≤ k → is_stale pages written k ≡ false → page_in c k ≡ Some (page_or_zeros (committed_of pages k))
 
--- What is known to stand of the pages of a file with this gate, that of a sync of this map: all that was not marked since, up to its
+-- What is known to stand of the pages of a file with this gate, that of a sync of this map: all that no commit changed since, up to its
 -- last page. While the gate is closed the pages may be torn, so nothing is known.
 pub record Keeps (gate : Gate) (pages : MemPages) (written : Written) (map : Map) : Type 0 where
-  pub since : IsSince pages written.mark map
+  pub since : IsSince pages written.commits map
   pub last : 0 < written.end → IsSome (map (written.end - 1))
   pub torn : gate ≡ Closed → written ≡ nothing
 

@@ -8,7 +8,7 @@ ghost use Rattle.vs_zero.specs.Zero.{reading_of};
 ghost use Rattle.vs_swap.specs.Recovery.{Recovered};
 ghost use Rattle.vs_pair.specs.Swap.{Synced, Holds, body_of, zero_of};
 ghost use Rattle.vs_pair.specs.Pair.{Image, Known, is_swap, IsFit, IsBetween, IsTextOf, Offers, Recovers, Rises, known_of};
-ghost use Rattle.vs_pages.specs.Changes.{KeepsMarks};
+ghost use Rattle.vs_pages.specs.Memory.{KeepsSince};
 ghost use Rattle.vs_pair.specs.declared.pair.SwapPair.{SwapPair};
 ghost use Rattle.vs_pair.specs.Steps.{IsFresh};
 
@@ -37,10 +37,9 @@ pub fn leaving()
     ensures names { (names : Names) (old new : Disk) → SyncsNames old new → SameAt (is_swap names) old new }
 {}
 
-/// Pages that changed leave all that is said of the files, as long as each change that was committed is marked with the
-/// greatest generation that was used, or more.
+/// Pages that changed leave all that is said of the files, as long as each commit that changed a page is known.
 pub fn changing()
-    ensures { (old new : SwapPair) (disk : Disk) (newest : Synced) (begun past : List Synced) → new.files ≡ old.files → KeepsMarks old.files.generation old.pages new.pages
+    ensures { (old new : SwapPair) (disk : Disk) (newest : Synced) (begun past : List Synced) → new.files ≡ old.files → KeepsSince old.pages new.pages
         → IsFit (known_of old) disk newest begun past → IsFit (known_of new) disk newest begun past }
 {}
 

@@ -1,6 +1,6 @@
 // The pages of a pair as a store of pages.
 ghost use Rattle.std.specs.Prelude.{◌≡◌, IfSome, IsTrue, length, option_map};
-ghost use Rattle.vs_pages.specs.Memory.{present_of, committed_of};
+ghost use Rattle.vs_pages.specs.Memory.{present_of, state_of};
 ghost use Rattle.vs_pages.specs.MemoryLaws.{are_present, are_committed};
 ghost use Rattle.vs_pair.specs.Lent.{IsReady, KeepsFiles};
 
@@ -26,11 +26,7 @@ impl<'p, 'h, F: Folder> Pages for PairPages<'p, 'h, F> {
 
     ghost tells = { F.tells.folder };
 
-    ghost shows = { λ store. record {
-      present = present_of store.pair.now.pages;
-      committed = committed_of store.pair.now.pages;
-      faults = (F.scene store.host.now).folder_faults;
-    } };
+    ghost shows = { λ store. record (state_of store.pair.now.pages) { faults = (F.scene store.host.now).folder_faults } };
 
     ghost valid = { λ store. IsTrue F.tells.folder → IsReady store.pair.now (F.scene store.host.now).folder };
 
@@ -112,12 +108,19 @@ impl<'p, 'h, F: Folder> Pages for PairPages<'p, 'h, F> {
     }
 
     fn commit(&mut self) {
-        let generation = self.pair.files.generation;
-        self.pair.pages.commit_marked(generation);
+        self.pair.pages.commit();
     }
 
     fn rollback(&mut self) {
         self.pair.pages.rollback();
+    }
+
+    fn mark(&self) -> u64 {
+        self.pair.pages.mark()
+    }
+
+    fn back(&mut self, mark: u64) {
+        self.pair.pages.back(mark);
     }
 
     fn damaged(&mut self) {

@@ -4,7 +4,7 @@ ghost use Rattle.vs_faults.specs.Faults.{HasCause};
 ghost use Rattle.vs_host.specs.Disk.{ChangesFile};
 ghost use Rattle.vs_host.specs.Names.{is_allowed, names_of_file};
 ghost use Rattle.vs_pages.specs.Maps.{first_pages};
-ghost use Rattle.vs_pages.specs.Memory.{committed_of, present_of};
+ghost use Rattle.vs_pages.specs.Memory.{commits_of, committed_of, present_of};
 ghost use Rattle.vs_disk.specs.Runs.{CallsAtMost, NoneFails};
 ghost use Rattle.vs_pair.specs.Acts.{Acts};
 ghost use Rattle.vs_pair.specs.Swap.{Lengthens, Synced, page_zero};
@@ -97,7 +97,7 @@ impl SwapPair {
         ensures calls { (end : ℕ) → IsEnd self.old.pages end
             → CallsAtMost F.tells (F.scene host.old) (F.scene host.new) (6 + stale_below self.old.pages self.old.files.older_has end) }
         ensures turned { OnOk result (self.new.files.older_has ≡ self.old.files.newer_has) }
-        ensures marked { OnOk result (self.new.files.newer_has.mark ≡ self.new.files.generation) }
+        ensures commits { OnOk result (self.new.files.newer_has.commits ≡ (commits_of self.new.pages).count) }
         ensures ended { OnOk result ((k : ℕ) → self.new.files.newer_has.end ≤ k → committed_of self.old.pages k ≡ None) }
     {
         let files = &mut self.files;
@@ -111,7 +111,7 @@ impl SwapPair {
         files.newer = older;
         files.older_has = files.newer_has;
         files.newer_has = Written {
-            mark: files.generation,
+            commits: self.pages.commits(),
             end: self.pages.committed_end(),
         };
         Ok(())

@@ -11,7 +11,7 @@ const RUN_PAGES: u64 = 16;
 fn is_stale(pages: &MemPages, written: &Written, at: u64) -> bool
     ensures { result ≡ is_stale pages.now written.now at }
 {
-    pages.mark(at) >= written.mark || at >= written.end
+    pages.last_commit(at) >= written.commits || at >= written.end
 }
 
 // The first stale number from this one on, or the end where none is below it.

@@ -72,7 +72,7 @@ impl SwapPair {
         self.files.gate = Gate::Open;
         self.files.generation = 2;
         let both = Written {
-            mark: 2,
+            commits: self.pages.commits(),
             end: self.pages.committed_end(),
         };
         self.files.newer_has = both;

@@ -15,7 +15,7 @@ use crate::Gate;
 use crate::stale::{next_stale, stale_run};
 use crate::written::Written;
 use vs_host::{Failed, Folder};
-use vs_pages::{MemPages, PAGE_SIZE};
+use vs_pages::{MemPages, PAGE_SIZE, Pages};
 
 // a page of zeros
 const ZEROS: [u8; PAGE_SIZE] = [0; PAGE_SIZE];
@@ -46,14 +46,23 @@ fn mark<F: Folder>(host: &mut F, name: &str, identifier: &[u8]) -> Result<(), Fa
     host.sync(name)
 }
 
-// The bytes that a page number has in the file: those of the committed page, and zeros where there is none.
-fn page_or_zeros(pages: &MemPages, at: u64) -> &[u8]
+// The bytes that a page number has in the file: those of the committed page, and zeros where there is none. They are lent as they
+// are, or where a change was made since the commit, copied into the room.
+fn page_or_zeros<'r>(pages: &'r MemPages, at: u64, room: &'r mut [u8]) -> &'r [u8]
+    requires { length room.old ≡ 4096 }
     ensures size { length result.now ≡ 4096 }
     ensures bytes { result.now ≡ page_or_zeros (committed_of pages.now at) }
 {
-    match pages.committed_page(at) {
-        Some(page) => page,
-        None => &ZEROS,
+    if !pages.is_changed() {
+        return match pages.page(at) {
+            Some(page) => page,
+            None => &ZEROS,
+        };
+    }
+    if pages.copy_committed(at, room) {
+        room
+    } else {
+        &ZEROS
     }
 }
 
@@ -71,8 +80,9 @@ fn fill_run(pages: &MemPages, at: u64, count: u64, run: &mut [u8])
     ensures size { length run.new ≡ length run.old }
     ensures pages { HasRun (committed_of pages.now) at count run.new }
 {
+    let mut room = [0; PAGE_SIZE];
     for next in 0..count {
-        let page = page_or_zeros(pages, at + next);
+        let page = page_or_zeros(pages, at + next, &mut room);
         put_page(run, next as usize * PAGE_SIZE, page);
     }
 }
@@ -86,7 +96,7 @@ fn run_bytes<'r>(pages: &'r MemPages, at: u64, count: u64, run: &'r mut [u8]) ->
     ensures pages { HasRun (committed_of pages.now) at count result.now }
 {
     if count == 1 {
-        return page_or_zeros(pages, at);
+        return page_or_zeros(pages, at, &mut run[..PAGE_SIZE]);
     }
     fill_run(pages, at, count, run);
     &run[..count as usize * PAGE_SIZE]

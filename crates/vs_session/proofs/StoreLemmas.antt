@@ -109,7 +109,7 @@ pub fits_left : (tells : world.Tells) (old new : PagedText) (was now : Scene) (t
     → IsPaged new.pair.pages new.tree after → folder.Fits new now.folder after syncs
 fits_left tells old new was now text after syncs keeps fits pages =
     let P : Disk → Type 0 = λ disk. folder.Fits new disk after syncs in
-    subst P (sym (ap (λ (s : Scene). s.folder) keeps.frame)) (fits_changed old new was.folder text after syncs (known_changed old.pair new.pair keeps.files) keeps.marks pages fits)
+    subst P (sym (ap (λ (s : Scene). s.folder) keeps.frame)) (fits_changed old new was.folder text after syncs (known_changed old.pair new.pair keeps.files) keeps.since pages fits)
 
 pub state_left : (tells : world.Tells) (old new : PagedText) (undo left : Parts) (was now : Scene) (state after : State) (syncs : List Sync) → KeepsFiles tells old.pair new.pair was now
     → FitsState old undo was.folder state syncs → Stands new.pair.pages new.tree left after → FitsState new left now.folder after syncs

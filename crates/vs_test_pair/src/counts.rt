@@ -26,7 +26,7 @@ pub(crate) fn start_pages<F: Folder>(alloc: Global, host: &mut F) -> Result<Opti
 {
     let mut pair = SwapPair::new(alloc, NAME)?;
     pair.pages.grow(alloc, 60)?;
-    pair.pages.commit_marked(0);
+    pair.pages.commit();
     if !pair.pages.has(2, 1) {
         return Err(Fail::new("page 2 is gone"));
     }

@@ -1,5 +1,5 @@
 -- How many pages a small edit changes: what the edit below a block changes, and the write of the block, add up.
-use Rattle.std.proofs.Common.{◌≡◌, ℕ, zero, suc, ◌+◌, ◌-◌, ◌*◌, ◌^◌, ◌<◌, ◌≤◌, List, [], ◌∷◌, All, length, get_or, take, drop, map, Some, sym, ap, subst, ◌∙◌, arith, append-nil, length-take, length-drop}
+use Rattle.std.proofs.Common.{◌≡◌, ℕ, zero, suc, ◌+◌, ◌-◌, ◌^◌, ◌<◌, ◌≤◌, List, [], ◌∷◌, All, length, get_or, take, drop, map, Some, sym, ap, subst, ◌∙◌, arith, append-nil, length-take, length-drop}
 use Rattle.std.specs.List.{AllByRecursion}
 use Rattle.std.proofs.lemmas.Grind.{common_steps}
 use Rattle.std.proofs.lemmas.List.{length-map}
@@ -13,34 +13,47 @@ use Rattle.vs_tree_shape.specs.declared.entries.Place.{Place}
 use Rattle.vs_tree_shape.specs.Trees.{read_by, lines_of}
 use Rattle.vs_tree_shape.specs.Places.{IsPlace}
 use Rattle.vs_tree_shape.specs.Paths.{IsOnPath}
-use Rattle.vs_tree_shape.specs.Differs.{Differs}
+use Rattle.vs_tree_shape.specs.Works.{WorksBesideZero}
 use Rattle.vs_tree_shape.proofs.Steps.{path_down}
 use Rattle.vs_tree_shape.proofs.Roots.{first_above, first_lines}
-use Rattle.vs_tree_shape.proofs.Differences.{differs_then}
+use Rattle.vs_tree_shape.proofs.Working.{works_from, works_then}
 use Rattle.vs_tree_blocks.specs.declared.edit.Edit.{Edit}
 use Rattle.vs_tree_blocks.specs.Blocks.{tree_format}
-use Rattle.vs_tree_blocks.specs.Edits.{FitsPage, IsOnePageEdit, ChangesFew}
+use Rattle.vs_tree_blocks.specs.Edits.{FitsPage, IsOnePageEdit, WorksBelow, most_entries, most_in_tree, most_worked}
+use Rattle.vs_tree_blocks.specs.declared.edit.Edit.TheVariants.{Before, After, Remove}
 use Rattle.vs_tree_shape.specs.Changes.{pointer_entry}
 use Rattle.vs_tree.specs.declared.walk.Root.{Root}
 use Rattle.vs_tree.specs.Runs.{HasTree, run_of}
 use Rattle.vs_tree.proofs.Added.{get_or_mid}
 
+-- how many pages a write of a block works after an edit below it
+pub step_work : (edit : Edit) (depth by : ℕ) (w2 w3 : List ℕ) → (depth ≡ 0 → ⊥) → by ≤ most_entries edit → WorksBesideZero w2 w3 2 → (by ≤ 1 → WorksBesideZero w2 w3 1) → (more : ℕ) × (most_worked edit (depth - 1) + more ≤ most_worked edit depth) × WorksBesideZero w2 w3 more
+step_work (Before run) depth by w2 w3 some few two one = (2, omega (arith, some), two)
+step_work (After run) depth by w2 w3 some few two one = (2, omega (arith, some), two)
+step_work (Remove most) depth by w2 w3 some few two one = (1, omega (arith, some), one (omega (arith, few)))
+
+-- the same for block 1
+pub root_work : (edit : Edit) (height by : ℕ) (w2 w3 : List ℕ) → (height ≡ 0 → ⊥) → by ≤ most_entries edit → WorksBesideZero w2 w3 3 → (by ≤ 1 → WorksBesideZero w2 w3 1) → (more : ℕ) × (most_worked edit (height - 1) + more ≤ most_in_tree edit height) × WorksBesideZero w2 w3 more
+root_work (Before run) height by w2 w3 some few three one = (3, omega (arith, some), three)
+root_work (After run) height by w2 w3 some few three one = (3, omega (arith, some), three)
+root_work (Remove most) height by w2 w3 some few three one = (1, omega (arith, some), one (omega (arith, few)))
+
 -- an edit below the child of a block, and then a write of some pages
-pub few_below : (m m1 n1 n2 : Map) (top : Entry) (d depth at more count : ℕ) (edit : Edit) (es : List Entry) (place : Place) → (depth ≡ 0 → ⊥) → read_by tree_format.entries (pages_at m top.block 1) ≡ Some es → IsPlace es at place
-    → m1 ≡ m → d ≡ depth - 1 → 2 * depth + 1 + more ≤ count → ChangesFew m1 n1 place.entry d place.rest edit (2 * d + 3) → Differs n1 n2 more → ChangesFew m n2 top depth at edit count
-few_below m m1 n1 n2 top d depth at more count edit es place some reads is same less sum few up a slight =
+pub few_below : (m m1 : Map) (w w1 w2 w3 : List ℕ) (top : Entry) (d depth at more count : ℕ) (edit : Edit) (es : List Entry) (place : Place) → (depth ≡ 0 → ⊥) → read_by tree_format.entries (pages_at m top.block 1) ≡ Some es → IsPlace es at place
+    → m1 ≡ m → w1 ≡ w → d ≡ depth - 1 → most_worked edit (depth - 1) + more ≤ count → WorksBelow m1 w1 w2 place.entry d place.rest edit (most_worked edit d) → WorksBesideZero w2 w3 more → WorksBelow m w w3 top depth at edit count
+few_below m m1 w w1 w2 w3 top d depth at more count edit es place some reads is same start less sum few up a slight =
     let here : IsOnPath tree_format m top depth at (lines_of depth a.tree) at = record { above = a; before = []; after = []; cut = sym (append-nil (lines_of depth a.tree)); place = omega arith } in
     let l = path_down tree_format m top depth at (lines_of depth a.tree) at es place some reads is here in
     let child : List (List ℕ) = lines_of (depth - 1) l.above.tree in
     let line : get_or (lines_of depth a.tree) at [] ≡ get_or child place.rest [] =
     ap (λ (k : ℕ). get_or (lines_of depth a.tree) k []) l.place ∙ ap (λ (xs : List (List ℕ)). get_or xs (length l.before + place.rest) []) l.cut ∙ get_or_mid l.before child l.after place.rest [] l.above.within in
-    let deep : ChangesFew m1 n1 place.entry (depth - 1) place.rest edit (2 * (depth - 1) + 3) = subst (λ (i : ℕ). ChangesFew m1 n1 place.entry i place.rest edit (2 * i + 3)) less few in
-    let there : ChangesFew m n1 place.entry (depth - 1) place.rest edit (2 * (depth - 1) + 3) = subst (λ (f : Map). ChangesFew f n1 place.entry (depth - 1) place.rest edit (2 * (depth - 1) + 3)) same deep in
-    differs_then m n1 n2 (2 * (depth - 1) + 3) more count (omega (arith, sum, some)) (there l.above (subst (λ (xs : List ℕ). IsOnePageEdit edit xs) line slight)) up
+    let deep : WorksBelow m1 w1 w2 place.entry (depth - 1) place.rest edit (most_worked edit (depth - 1)) = subst (λ (i : ℕ). WorksBelow m1 w1 w2 place.entry i place.rest edit (most_worked edit i)) less few in
+    let there : WorksBelow m w1 w2 place.entry (depth - 1) place.rest edit (most_worked edit (depth - 1)) = subst (λ (f : Map). WorksBelow f w1 w2 place.entry (depth - 1) place.rest edit (most_worked edit (depth - 1))) same deep in
+    works_from w w1 w3 count count (omega arith) start (works_then w1 w2 w3 (most_worked edit (depth - 1)) more count sum (there l.above (subst (λ (xs : List ℕ). IsOnePageEdit edit xs) line slight)) up)
 
 -- the same for the lines of a whole tree
-pub few_lines : (m n : Map) (root : Root) (at count : ℕ) (edit : Edit) (lines : List (List ℕ)) → HasTree m root lines → at < root.lines → root.lines < 2 ^ 62 → IsOnePageEdit edit (get_or lines at []) → ChangesFew m n (pointer_entry 1 root.lines) root.height at edit count → Differs m n count
-few_lines m n root at count edit lines has within small slight few =
+pub few_lines : (m : Map) (w w1 : List ℕ) (root : Root) (at count : ℕ) (edit : Edit) (lines : List (List ℕ)) → HasTree m root lines → at < root.lines → root.lines < 2 ^ 62 → IsOnePageEdit edit (get_or lines at []) → WorksBelow m w w1 (pointer_entry 1 root.lines) root.height at edit count → WorksBesideZero w w1 count
+few_lines m w w1 root at count edit lines has within small slight few =
     few (first_above tree_format m root.height at root.lines lines has.lines_are has.count within small)
     (subst (λ (xs : List (List ℕ)). IsOnePageEdit edit (get_or xs at [])) (sym (first_lines tree_format m root.height at root.lines lines has.lines_are has.count within small)) slight)
 

@@ -1,13 +1,13 @@
 // A change at one line of the tree.
-ghost use Rattle.std.specs.Prelude.{◌≡◌, ◌≤◌, ◌<◌, ◌+◌, ◌*◌, ◌^◌, [], IsErrOf, IfOk, OnOk, IsTrue, get_or, length};
+ghost use Rattle.std.specs.Prelude.{◌≡◌, ◌≤◌, ◌<◌, ◌+◌, ◌*◌, ◌^◌, [], IsErrOf, IfOk, OnOk, IsTrue, length};
 ghost use Rattle.std.specs.List.{AllByRecursion};
 ghost use Rattle.vs_faults.specs.Faults.{HasCause};
 ghost use Rattle.vs_pages.specs.Calls.{Continues};
 ghost use Rattle.vs_tree_shape.specs.Places.{lines_below};
 ghost use Rattle.vs_tree_shape.specs.Changes.{HasLineBelow};
 ghost use Rattle.vs_tree_blocks.specs.Blocks.{tree_format, FitsFields};
-ghost use Rattle.vs_tree_blocks.specs.Edits.{added_by, EditsBelow, EditsFew, IsEdit, IsOnePageEdit, MayTake};
-ghost use Rattle.vs_tree.specs.Calls.{DiffersBy, EditsTree, OfTree, StandsTree};
+ghost use Rattle.vs_tree_blocks.specs.Edits.{added_by, EditsBelow, EditsFew, IsEdit, MayTake, most_entries, most_worked};
+ghost use Rattle.vs_tree.specs.Calls.{EditsTree, EditsTreeFew, StandsTree};
 
 use crate::Root;
 use std::alloc::Global;
@@ -36,8 +36,9 @@ fn edit_below<P: Pages>(
     ensures may_take { IfOk result (λ after. MayTake edit.entry after.removed.lines) }
     ensures fields { IfOk result (λ after. AllByRecursion FitsFields after.entries.items) }
     ensures few { IfOk result (λ after. length after.entries.items ≤ 3) }
+    ensures single { IfOk result (λ after. length after.entries.items ≤ most_entries edit.entry) }
     ensures lines { IfOk result (λ after. lines_below after.entries.items + after.removed.lines ≡ top.lines + added_by edit.entry) }
-    ensures differs { OnOk result (EditsFew P.Pages pages.old pages.new top depth at edit.entry (2 * depth + 3)) }
+    ensures works { OnOk result (EditsFew P.Pages pages.old pages.new top depth at edit.entry (most_worked edit.entry depth)) }
     ensures kept { Continues P.Pages pages.old pages.new }
     ensures cause { HasCause (P.shows pages.old).faults (P.shows pages.new).faults (IsErrOf result PageErr.Failed) }
 {
@@ -78,7 +79,8 @@ pub fn edit_tree<P: Pages>(
     ensures lines { IfOk result (λ after. after.root.lines + after.removed.lines ≡ root.lines + added_by edit.entry) }
     ensures may_take { IfOk result (λ after. MayTake edit.entry after.removed.lines) }
     ensures higher { IfOk result (λ after. after.root.height ≤ root.height + 1) }
-    ensures differs { OnOk result (OfTree P.Pages pages.old root (λ lines. IsOnePageEdit edit.entry (get_or lines at []) → DiffersBy P.Pages pages.old pages.new (2 * root.height + 4))) }
+    ensures level { IfOk result (λ after. most_entries edit.entry ≤ 1 → after.root.height ≡ root.height) }
+    ensures works { OnOk result (EditsTreeFew P.Pages pages.old pages.new root at edit.entry) }
     ensures kept { Continues P.Pages pages.old pages.new }
     ensures cause { HasCause (P.shows pages.old).faults (P.shows pages.new).faults (IsErrOf result PageErr.Failed) }
 {

@@ -8,8 +8,8 @@ ghost use Rattle.vs_text.specs.declared.TheConstants.{MAX_LINES};
 ghost use Rattle.vs_tree_shape.specs.Changes.{splice};
 ghost use Rattle.vs_tree_blocks.specs.Edits.{FitsPage, IsStored};
 ghost use Rattle.vs_data.specs.Blocks.{space_of};
-ghost use Rattle.vs_tree.specs.Calls.{DiffersBy, IsUntouched, OfTree, StandsTree};
-ghost use Rattle.vs_tree.specs.Runs.{ExchangesLine, HasTree, with_lines, without_lines, run_of};
+ghost use Rattle.vs_tree.specs.Calls.{CountsRun, IsUntouched, OfTree, StandsTree, TurnsTree, WorksWhere};
+ghost use Rattle.vs_tree.specs.Runs.{ExchangesLine, exchanged_lines, with_lines, without_lines, run_of};
 
 use crate::{Root, edit_tree};
 use std::alloc::{AllocError, Global};
@@ -64,10 +64,10 @@ pub fn put_run<P: Pages>(
     requires small { root.lines < 2 ^ 61 }
     requires few { length run.now < 2 ^ 61 }
     requires there { StandsTree P.Pages pages.old root }
-    ensures put { IfOk result (λ now. OfTree P.Pages pages.old root (λ lines. HasTree (P.shows pages.new).present now (splice lines at 0 run.now))) }
+    ensures put { IfOk result (λ now. TurnsTree P.Pages pages.old pages.new root now (λ lines. splice lines at 0 run.now)) }
     ensures lines { IfOk result (λ now. now.lines ≡ root.lines + length run.now) }
     ensures higher { IfOk result (λ now. now.height ≤ root.height + 1) }
-    ensures differs { OnOk result (OfTree P.Pages pages.old root (λ lines. space_of run.now ≤ 4072 → DiffersBy P.Pages pages.old pages.new (2 * root.height + 4))) }
+    ensures works { OnOk result (WorksWhere P.Pages pages.old pages.new root (2 * root.height + 4) (λ lines. space_of run.now ≤ 4072)) }
     ensures kept { Continues P.Pages pages.old pages.new }
     ensures cause { HasCause (P.shows pages.old).faults (P.shows pages.new).faults (IsErrOf result PageErr.Failed) }
 {
@@ -95,10 +95,10 @@ pub fn put_lines<P: Pages>(
     requires small { root.lines + length new.now < 2 ^ 61 }
     requires room { (root.lines ≡ 1) ⊎ (root.lines + length new.now ≤ MAX_LINES) }
     requires there { StandsTree P.Pages pages.old root }
-    ensures put { IfOk result (λ now. OfTree P.Pages pages.old root (λ lines. HasTree (P.shows pages.new).present now (with_lines lines at new.now))) }
+    ensures put { IfOk result (λ now. TurnsTree P.Pages pages.old pages.new root now (λ lines. with_lines lines at new.now)) }
     ensures lines { IfOk result (λ now. now.lines ≡ root.lines + length new.now) }
     ensures higher { IfOk result (λ now. now.height ≤ root.height + length new.now) }
-    ensures differs { OnOk result (OfTree P.Pages pages.old root (λ lines. length new.now ≤ 1 → All FitsPage new.now → DiffersBy P.Pages pages.old pages.new (2 * root.height + 4))) }
+    ensures works { OnOk result (WorksWhere P.Pages pages.old pages.new root (2 * root.height + 4) (λ lines. (length new.now ≤ 1) × All FitsPage new.now)) }
     ensures kept { Continues P.Pages pages.old pages.new }
     ensures cause { HasCause (P.shows pages.old).faults (P.shows pages.new).faults (IsErrOf result PageErr.Failed) }
 {
@@ -132,12 +132,12 @@ pub fn take_lines<P: Pages>(
     requires within { at + count ≤ root.lines }
     requires small { root.lines < 2 ^ 61 }
     requires there { StandsTree P.Pages pages.old root }
-    ensures taken { IfOk result (λ taken. OfTree P.Pages pages.old root (λ lines. HasTree (P.shows pages.new).present taken.root (without_lines lines at count))) }
+    ensures taken { IfOk result (λ taken. TurnsTree P.Pages pages.old pages.new root taken.root (λ lines. without_lines lines at count)) }
     ensures bytes { IfOk result (λ taken. OfTree P.Pages pages.old root (λ lines. bytes_of lines < 2 ^ 63 → taken.bytes ≡ bytes_of (run_of lines at count))) }
     ensures lines { IfOk result (λ taken. taken.root.lines + count ≡ root.lines) }
     ensures none { IfOk result (λ taken. count ≡ 0 → (taken.root ≡ root) × IsUntouched P.Pages pages.old pages.new) }
-    ensures higher { IfOk result (λ taken. taken.root.height ≤ root.height + count) }
-    ensures differs { OnOk result (OfTree P.Pages pages.old root (λ lines. count ≤ 1 → All FitsPage (run_of lines at count) → DiffersBy P.Pages pages.old pages.new (2 * root.height + 4))) }
+    ensures level { IfOk result (λ taken. taken.root.height ≡ root.height) }
+    ensures works { OnOk result (WorksWhere P.Pages pages.old pages.new root (root.height + 1) (λ lines. (count ≤ 1) × All FitsPage (run_of lines at count))) }
     ensures kept { Continues P.Pages pages.old pages.new }
     ensures cause { HasCause (P.shows pages.old).faults (P.shows pages.new).faults (IsErrOf result PageErr.Failed) }
 {
@@ -173,9 +173,9 @@ fn replace_all<P: Pages>(
     requires come { 0 < length new.now }
     requires small { root.lines + length new.now < 2 ^ 61 }
     requires there { StandsTree P.Pages pages.old root }
-    ensures exchanged { IfOk result (λ taken. OfTree P.Pages pages.old root (λ lines. HasTree (P.shows pages.new).present taken.root (splice lines 0 root.lines (map stored_line new.now)))) }
-    ensures bytes { IfOk result (λ taken. OfTree P.Pages pages.old root (λ lines. bytes_of lines + bytes_of new.now < 2 ^ 63 → taken.bytes ≡ bytes_of (run_of lines 0 root.lines))) }
-    ensures differs { OnOk result (OfTree P.Pages pages.old root (λ lines. ExchangesLine lines 0 root.lines new.now → DiffersBy P.Pages pages.old pages.new (4 * root.height + 10))) }
+    ensures exchanged { IfOk result (λ taken. TurnsTree P.Pages pages.old pages.new root taken.root (λ lines. exchanged_lines lines 0 root.lines new.now)) }
+    ensures bytes { IfOk result (λ taken. CountsRun P.Pages pages.old root (bytes_of new.now) 0 root.lines taken.bytes) }
+    ensures works { OnOk result (WorksWhere P.Pages pages.old pages.new root (3 * root.height + 6) (λ lines. ExchangesLine lines 0 root.lines new.now)) }
     ensures kept { Continues P.Pages pages.old pages.new }
     ensures cause { HasCause (P.shows pages.old).faults (P.shows pages.new).faults (IsErrOf result PageErr.Failed) }
 {
@@ -206,9 +206,9 @@ pub fn exchange_lines<P: Pages>(
     requires small { root.lines + length new.now < 2 ^ 61 }
     requires few { root.lines + length new.now ≤ MAX_LINES + old }
     requires there { StandsTree P.Pages pages.old root }
-    ensures exchanged { IfOk result (λ taken. OfTree P.Pages pages.old root (λ lines. HasTree (P.shows pages.new).present taken.root (splice lines top old (map stored_line new.now)))) }
-    ensures bytes { IfOk result (λ taken. OfTree P.Pages pages.old root (λ lines. bytes_of lines + bytes_of new.now < 2 ^ 63 → taken.bytes ≡ bytes_of (run_of lines top old))) }
-    ensures differs { OnOk result (OfTree P.Pages pages.old root (λ lines. ExchangesLine lines top old new.now → DiffersBy P.Pages pages.old pages.new (4 * root.height + 10))) }
+    ensures exchanged { IfOk result (λ taken. TurnsTree P.Pages pages.old pages.new root taken.root (λ lines. exchanged_lines lines top old new.now)) }
+    ensures bytes { IfOk result (λ taken. CountsRun P.Pages pages.old root (bytes_of new.now) top old taken.bytes) }
+    ensures works { OnOk result (WorksWhere P.Pages pages.old pages.new root (3 * root.height + 6) (λ lines. ExchangesLine lines top old new.now)) }
     ensures kept { Continues P.Pages pages.old pages.new }
     ensures cause { HasCause (P.shows pages.old).faults (P.shows pages.new).faults (IsErrOf result PageErr.Failed) }
 {

@@ -7,13 +7,13 @@ ghost use Rattle.vs_text.specs.Limits.{IsShort};
 ghost use Rattle.vs_text.specs.declared.TheConstants.{MAX_LINES, MAX_TEXT_BYTES};
 ghost use Rattle.vs_edit.specs.Splices.{splice};
 ghost use Rattle.vs_tree_blocks.specs.Edits.{FitsPage};
-ghost use Rattle.vs_tree.specs.Calls.{DiffersLittle, OfText};
-ghost use Rattle.vs_tree.specs.Texts.{HasText, Fits, IsSmallSplice};
+ghost use Rattle.vs_tree.specs.Calls.{OfText, Splices, SplicesLittle, WorksLittle};
+ghost use Rattle.vs_tree.specs.Texts.{HasText, Fits};
 
 use crate::{Root, exchange_lines};
 use std::alloc::Global;
 use vs_pages::{PageErr, Pages};
-use vs_text::Line;
+use vs_text::{Line, MAX_TEXT_BYTES};
 
 /// The numbers of a text in pages: the number of levels between block 1 and the data blocks, and the numbers of lines and
 /// bytes of the text, with one byte for each line end. The text without lines has the lines of one empty line in its tree.
@@ -68,7 +68,7 @@ fn fill_text<P: Pages>(
     requires few_bytes { IsTrue P.tells → bytes_of new.now ≤ MAX_TEXT_BYTES }
     ensures text { IfOk result (λ extent. IsTrue P.tells → HasText (P.shows pages.new).present extent new.now) }
     ensures lines { IfOk result (λ extent. extent.lines ≡ length new.now) }
-    ensures differs { OnOk result (IsTrue P.tells → length new.now ≤ 1 → All FitsPage new.now → DiffersLittle P.Pages pages.old pages.new now) }
+    ensures works { OnOk result (IsTrue P.tells → length new.now ≤ 1 → All FitsPage new.now → WorksLittle P.Pages pages.old pages.new now) }
     ensures kept { Continues P.Pages pages.old pages.new }
     ensures cause { HasCause (P.shows pages.old).faults (P.shows pages.new).faults (IsErrOf result PageErr.Failed) }
 {
@@ -90,7 +90,7 @@ fn clear_text<P: Pages>(alloc: Global, pages: &mut P, now: Extent) -> Result<Ext
     requires full { 0 < now.lines }
     ensures text { IfOk result (λ extent. IsTrue P.tells → HasText (P.shows pages.new).present extent []) }
     ensures lines { IfOk result (λ extent. extent.lines ≡ 0) }
-    ensures differs { OnOk result (OfText P.Pages pages.old now (λ text. now.lines ≤ 1 → All FitsPage text → DiffersLittle P.Pages pages.old pages.new now)) }
+    ensures works { OnOk result (OfText P.Pages pages.old now (λ text. now.lines ≤ 1 → All FitsPage text → WorksLittle P.Pages pages.old pages.new now)) }
     ensures kept { Continues P.Pages pages.old pages.new }
     ensures cause { HasCause (P.shows pages.old).faults (P.shows pages.new).faults (IsErrOf result PageErr.Failed) }
 {
@@ -120,9 +120,9 @@ fn replace_lines<P: Pages>(
     requires few_lines { now.lines + length new.now ≤ MAX_LINES + old }
     requires short_lines { All IsShort new.now }
     requires few_bytes { OfText P.Pages pages.old now (λ text. bytes_of (splice text top old new.now) ≤ MAX_TEXT_BYTES) }
-    ensures text { IfOk result (λ extent. OfText P.Pages pages.old now (λ text. HasText (P.shows pages.new).present extent (splice text top old new.now))) }
+    ensures text { IfOk result (λ extent. Splices P.Pages pages.old pages.new now extent top old new.now) }
     ensures lines { IfOk result (λ extent. extent.lines + old ≡ now.lines + length new.now) }
-    ensures differs { OnOk result (OfText P.Pages pages.old now (λ text. IsSmallSplice text top old new.now → DiffersLittle P.Pages pages.old pages.new now)) }
+    ensures works { OnOk result (SplicesLittle P.Pages pages.old pages.new now top old new.now) }
     ensures kept { Continues P.Pages pages.old pages.new }
     ensures cause { HasCause (P.shows pages.old).faults (P.shows pages.new).faults (IsErrOf result PageErr.Failed) }
 {
@@ -139,8 +139,8 @@ fn replace_lines<P: Pages>(
     })
 }
 
-/// Puts lines in place of `old` lines of the text from line `top` on, counted from 0, and gives its numbers then.
-pub fn splice_text<P: Pages>(
+// Puts lines in place of `old` lines of the text from line `top` on, counted from 0, and gives its numbers then.
+fn splice_text<P: Pages>(
     alloc: Global,
     pages: &mut P,
     now: Extent,
@@ -154,9 +154,9 @@ pub fn splice_text<P: Pages>(
     requires few_lines { now.lines + length new.now ≤ MAX_LINES + old }
     requires short_lines { All IsShort new.now }
     requires few_bytes { OfText P.Pages pages.old now (λ text. bytes_of (splice text top old new.now) ≤ MAX_TEXT_BYTES) }
-    ensures text { IfOk result (λ extent. OfText P.Pages pages.old now (λ text. HasText (P.shows pages.new).present extent (splice text top old new.now))) }
+    ensures text { IfOk result (λ extent. Splices P.Pages pages.old pages.new now extent top old new.now) }
     ensures lines { IfOk result (λ extent. extent.lines + old ≡ now.lines + length new.now) }
-    ensures differs { OnOk result (OfText P.Pages pages.old now (λ text. IsSmallSplice text top old new.now → DiffersLittle P.Pages pages.old pages.new now)) }
+    ensures works { OnOk result (SplicesLittle P.Pages pages.old pages.new now top old new.now) }
     ensures kept { Continues P.Pages pages.old pages.new }
     ensures cause { HasCause (P.shows pages.old).faults (P.shows pages.new).faults (IsErrOf result PageErr.Failed) }
 {
@@ -167,4 +167,34 @@ pub fn splice_text<P: Pages>(
         return clear_text(alloc, pages, now);
     }
     replace_lines(alloc, pages, now, top, old, new)
+}
+
+/// Puts lines in place of others, and gives the numbers of the text then. After an error the pages may hold anything.
+pub fn splice_within<P: Pages>(
+    alloc: Global,
+    pages: &mut P,
+    now: Extent,
+    top: u64,
+    old: u64,
+    new: &[Line],
+) -> Result<Extent, PageErr>
+    requires valid { P.valid pages.old }
+    requires fits { Fits P.tells (P.shows pages.old).present now }
+    requires within { top + old ≤ now.lines }
+    requires few_lines { now.lines + length new.now ≤ MAX_LINES + old }
+    requires short_lines { All IsShort new.now }
+    requires few_bytes { OfText P.Pages pages.old now (λ text. bytes_of (splice text top old new.now) ≤ MAX_TEXT_BYTES) }
+    ensures text { IfOk result (λ extent. Splices P.Pages pages.old pages.new now extent top old new.now) }
+    ensures lines { IfOk result (λ extent. extent.lines + old ≡ now.lines + length new.now) }
+    ensures bytes { IfOk result (λ extent. extent.bytes ≤ MAX_TEXT_BYTES) }
+    ensures works { OnOk result (SplicesLittle P.Pages pages.old pages.new now top old new.now) }
+    ensures kept { Continues P.Pages pages.old pages.new }
+    ensures cause { HasCause (P.shows pages.old).faults (P.shows pages.new).faults (IsErrOf result PageErr.Failed) }
+{
+    let present = splice_text(alloc, pages, now, top, old, new)?;
+    if MAX_TEXT_BYTES < present.bytes {
+        pages.damaged();
+        return Err(PageErr::Failed);
+    }
+    Ok(present)
 }

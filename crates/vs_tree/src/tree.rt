@@ -1,20 +1,21 @@
 // The tree of a text, and the store that it makes with pages.
-ghost use Rattle.std.specs.Prelude.{◌≡◌, ◌≤◌, ◌<◌, ◌+◌, ◌++◌, [], All, IsErrOf, IfOk, OnOk, IsTrue, get_or, length, take, drop, refl};
+ghost use Rattle.std.specs.Prelude.{◌≡◌, ◌≤◌, ◌<◌, ◌+◌, ◌*◌, ◌++◌, [], All, IsErrOf, IfOk, OnErr, OnOk, IsTrue, get_or, length, refl};
 ghost use Rattle.std.proofs.Common.{◌∙◌};
 ghost use Rattle.vs_faults.specs.Faults.{HasCause};
 ghost use Rattle.vs_pages.specs.Calls.{Continues, OnlyReads};
+ghost use Rattle.vs_pages.specs.State.{history_of};
 ghost use Rattle.vs_text.specs.Text.{IsLine, bytes_of, file_of};
 ghost use Rattle.vs_text.specs.Limits.{IsShort};
 ghost use Rattle.vs_text.specs.declared.TheConstants.{MAX_LINES, MAX_TEXT_BYTES};
-ghost use Rattle.vs_edit.specs.Splices.{splice};
+ghost use Rattle.vs_edit.specs.Splices.{cut_out, splice};
 ghost use Rattle.vs_tree_blocks.specs.Blocks.{IsFresh};
 ghost use Rattle.vs_tree.specs.Reads.{AddsLines};
 
-use crate::{Extent, copy_stored, load_stored, splice_text, store_err};
+use crate::{Extent, copy_stored, load_stored, splice_within, store_err};
 use std::alloc::Global;
 use vs_edit::{LineStore, StoreErr};
 use vs_pages::{PageErr, Pages};
-use vs_text::{Line, MAX_LINE_BYTES, MAX_TEXT_BYTES, from_stored};
+use vs_text::{Line, MAX_LINE_BYTES, from_stored};
 use vs_tree_blocks::write_first;
 
 /// The text of a session as a tree of blocks in pages that are lent: its numbers as they are now, and as they were when the
@@ -29,8 +30,8 @@ pub struct LineTree {
 }
 
 impl LineTree {
-    ghost use Rattle.vs_tree.specs.Calls.{DiffersLittle, OfText};
-    ghost use Rattle.vs_tree.specs.Texts.{HasText, Fits, IsSmallSplice};
+    ghost use Rattle.vs_tree.specs.Calls.{OfText, Splices, SplicesAtMost, SplicesLittle};
+    ghost use Rattle.vs_tree.specs.Texts.{HasText, Fits};
 
     /// Writes the tree of the text without lines into the pages 1 and 2, and commits the pages.
     pub fn new<P: Pages>(alloc: Global, pages: &mut P) -> Result<LineTree, PageErr>
@@ -113,7 +114,7 @@ impl LineTree {
         requires valid { P.valid pages.old }
         requires fits { Fits P.tells (P.shows pages.old).present self.old.present }
         requires within { at + count ≤ self.old.present.lines }
-        ensures lines { OnOk result (OfText P.Pages pages.old self.old.present (λ text. into.new.items ≡ into.old.items ++ file_of (take count (drop at text)))) }
+        ensures lines { OnOk result (OfText P.Pages pages.old self.old.present (λ text. into.new.items ≡ into.old.items ++ file_of (cut_out text at count))) }
         ensures adds { OnOk result (AddsLines into.old.items into.new.items count) }
         ensures tree { self.new ≡ self.old }
         ensures kept { OnlyReads P.Pages pages.old pages.new }
@@ -122,7 +123,8 @@ impl LineTree {
         copy_stored(alloc, pages, self.present.root(), at, count, into)
     }
 
-    /// Puts lines in place of `old` lines from line `top` on, counted from 0. After an error the tree may only be rolled back.
+    /// Puts lines in place of `old` lines from line `top` on, counted from 0. After an error the tree and its pages are as
+    /// before.
     pub fn splice<P: Pages>(
         &mut self,
         alloc: Global,
@@ -137,21 +139,28 @@ impl LineTree {
         requires few_lines { self.old.present.lines + length new.now ≤ MAX_LINES + old }
         requires short_lines { All IsShort new.now }
         requires few_bytes { OfText P.Pages pages.old self.old.present (λ text. bytes_of (splice text top old new.now) ≤ MAX_TEXT_BYTES) }
-        ensures text { OnOk result (OfText P.Pages pages.old self.old.present (λ text. HasText (P.shows pages.new).present self.new.present (splice text top old new.now))) }
-        ensures fits { OnOk result (Fits P.tells (P.shows pages.new).present self.new.present) }
+        ensures text { OnOk result (Splices P.Pages pages.old pages.new self.old.present self.new.present top old new.now) }
+        ensures fits { Fits P.tells (P.shows pages.new).present self.new.present }
         ensures lines { OnOk result (self.new.present.lines + old ≡ self.old.present.lines + length new.now) }
-        ensures differs { OnOk result (OfText P.Pages pages.old self.old.present (λ text. IsSmallSplice text top old new.now → DiffersLittle P.Pages pages.old pages.new self.old.present)) }
+        ensures works { OnOk result (SplicesLittle P.Pages pages.old pages.new self.old.present top old new.now) }
+        ensures bound { OnOk result (SplicesAtMost P.Pages pages.old pages.new self.old.present top old new.now (5 * self.old.present.height + 12)) }
         ensures before { self.new.committed ≡ self.old.committed }
+        ensures same { OnErr result (self.new ≡ self.old) }
+        ensures back { OnErr result (IsTrue P.tells → history_of (P.shows pages.new) ≡ history_of (P.shows pages.old)) }
         ensures kept { Continues P.Pages pages.old pages.new }
         ensures cause { HasCause (P.shows pages.old).faults (P.shows pages.new).faults (IsErrOf result PageErr.Failed) }
     {
-        let present = splice_text(alloc, pages, self.present, top, old, new)?;
-        if MAX_TEXT_BYTES < present.bytes {
-            pages.damaged();
-            return Err(PageErr::Failed);
+        let mark = pages.mark();
+        match splice_within(alloc, pages, self.present, top, old, new) {
+            Ok(present) => {
+                self.present = present;
+                Ok(())
+            }
+            Err(error) => {
+                pages.back(mark);
+                Err(error)
+            }
         }
-        self.present = present;
-        Ok(())
     }
 
     /// Makes the numbers as they are now those of the last commit. The pages are committed beside it.
@@ -184,7 +193,8 @@ impl<'t, P: Pages + Drop> LineStore for TreeStore<'t, P> {
 
     ghost shows = { λ s. texts_of P.tells (P.shows s.pages) s.tree.now };
 
-    ghost valid = { λ s. P.valid s.pages × Fits P.tells (P.shows s.pages).present s.tree.now.present × Fits P.tells (P.shows s.pages).committed s.tree.now.committed };
+    ghost valid = { λ s. P.valid s.pages × Fits P.tells (P.shows s.pages).present s.tree.now.present
+        × Fits P.tells (P.shows s.pages).committed s.tree.now.committed };
 
     ghost safe = { λ s. P.valid s.pages × Fits P.tells (P.shows s.pages).committed s.tree.now.committed };
 

@@ -1,16 +1,16 @@
 -- Changes at a line, as the code is given them.
-use Rattle.std.specs.Prelude.{◌≡◌, ◌≢◌, ℕ, ◌+◌, ◌^◌, ◌<◌, ◌≤◌, nat_le, if◌then◌else◌, List, [], length, get_or, All, IsTrue, Some}
+use Rattle.std.specs.Prelude.{◌≡◌, ◌≢◌, ℕ, ◌+◌, ◌*◌, ◌^◌, ◌<◌, ◌≤◌, nat_le, if◌then◌else◌, List, [], length, get_or, All, IsTrue, Some}
 use Rattle.vs_data.specs.Blocks.{space_of}
 use Rattle.vs_pages.specs.Maps.{Map, pages_at, span}
 use Rattle.vs_pages.specs.declared.pages.Pages.{Ghosts}
 use Rattle.vs_tree_shape.specs.declared.entries.Entry.{Entry}
 use Rattle.vs_tree_shape.specs.Trees.{lines_of}
 use Rattle.vs_tree_shape.specs.Changes.{Change, ChangesBelow, HasLineBelow, Takes, edited, splice}
-use Rattle.vs_tree_shape.specs.Differs.{Differs}
+use Rattle.vs_tree_shape.specs.Works.{WorksBesideZero}
 use Rattle.vs_tree_blocks.specs.Blocks.{tree_format}
 use Rattle.vs_tree_blocks.specs.Cuts.{blocks_with, part, parted, room_in}
 use Rattle.vs_tree_blocks.specs.Runs.{lines_within}
-use Rattle.vs_tree_blocks.specs.Writes.{HasBlocks, Leaves, OfLines}
+use Rattle.vs_tree_blocks.specs.Writes.{HasBlocks, Leaves, OfLines, WorksBy}
 use Rattle.vs_tree_blocks.specs.declared.edit.Edit.{Edit}
 use Rattle.vs_tree_blocks.specs.declared.edit.Edited.{Edited}
 use Rattle.vs_tree_blocks.specs.declared.edit.Edit.TheVariants.{Before, After, Remove}
@@ -49,22 +49,45 @@ IsOnePageEdit (Before run) line = space_of run.now ≤ 4072
 IsOnePageEdit (After run) line = space_of run.now ≤ 4072
 IsOnePageEdit (Remove most) line = FitsPage line
 
--- A small edit at a line below the block leaves all but so many pages as they were.
-abbrev pub ChangesFew : Map → Map → Entry → ℕ → ℕ → Edit → ℕ → Type 0
-ChangesFew m n top depth at edit count = (a : HasLineBelow tree_format m top depth at) → IsOnePageEdit edit (get_or (lines_of depth a.tree) at []) → Differs m n count
+-- How many pages a small edit works at most below a block, so many levels above the data blocks: where lines come, the block
+-- and a new one at each level and three data blocks; where lines go, the blocks on the way.
+abbrev pub most_worked : Edit → ℕ → ℕ
+most_worked (Before run) depth = 2 * depth + 3
+most_worked (After run) depth = 2 * depth + 3
+most_worked (Remove most) depth = depth + 1
 
+-- the same for a whole tree, whose root may go on to two new blocks
+abbrev pub most_in_tree : Edit → ℕ → ℕ
+most_in_tree (Before run) height = 2 * height + 4
+most_in_tree (After run) height = 2 * height + 4
+most_in_tree (Remove most) height = height + 1
+
+-- how many entries stand at most in place of one after an edit below it
+abbrev pub most_entries : Edit → ℕ
+most_entries (Before run) = 3
+most_entries (After run) = 3
+most_entries (Remove most) = 1
+
+-- A small edit at a line below the block works so many pages at most.
+abbrev pub WorksBelow : Map → List ℕ → List ℕ → Entry → ℕ → ℕ → Edit → ℕ → Type 0
+WorksBelow m old new top depth at edit count =
+    (a : HasLineBelow tree_format m top depth at) → IsOnePageEdit edit (get_or (lines_of depth a.tree) at []) → WorksBesideZero old new count
+
+-- The same over a store, where it tells its pages.
 abbrev pub EditsFew : {P : Type 0} → Ghosts P → P → P → Entry → ℕ → ℕ → Edit → ℕ → Type 0
-EditsFew g old new top depth at edit count = IsTrue g.tells → ChangesFew (g.shows old).present (g.shows new).present top depth at edit count
+EditsFew g old new top depth at edit count = IsTrue g.tells → WorksBelow (g.shows old).present (g.shows old).worked (g.shows new).worked top depth at edit count
 
 -- The edit was made at a line below the block, and took out what the answer says.
 abbrev pub EditsBelow : {P : Type 0} → Ghosts P → P → P → Entry → ℕ → ℕ → Edit → Edited → Type 0
 EditsBelow g old new top depth at edit after =
-    IsTrue g.tells → ChangesBelow tree_format (g.shows old).present (g.shows new).present top depth at after.removed.bytes (change_of edit after.removed.lines) after.entries.items
+    IsTrue g.tells → ChangesBelow tree_format (g.shows old).present (g.shows new).present top depth at
+    after.removed.bytes (change_of edit after.removed.lines) after.entries.items
 
 -- The edit was made at the first line of a data block.
 abbrev pub EditsLong : {P : Type 0} → Ghosts P → P → P → Entry → Edit → Edited → Type 0
 EditsLong g old new entry edit after = OfLines g old entry (λ lines.
-    Leaves g old new entry (edited (change_of edit after.removed.lines) lines 0) after.entries.items × Takes (change_of edit after.removed.lines) lines 0 after.removed.bytes)
+    Leaves g old new entry (edited (change_of edit after.removed.lines) lines 0) after.entries.items
+    × Takes (change_of edit after.removed.lines) lines 0 after.removed.bytes)
 
 -- The blocks in place of a data block of so many pages with a run put in before its line `at`. A block of several pages has one line, and takes no other.
 abbrev pub blocks_put : ℕ → List ℕ → ℕ → List (List ℕ) → List (List (List ℕ))
@@ -76,11 +99,16 @@ blocks_after pages bytes at (Before run) gone = blocks_put pages bytes at run.no
 blocks_after pages bytes at (After run) gone = blocks_put pages bytes (at + 1) run.now
 blocks_after pages bytes at (Remove most) gone = part (splice (lines_within bytes) at gone [])
 
+-- A small edit of a data block with one line works so many pages at most.
+abbrev pub WorksLong : {P : Type 0} → Ghosts P → P → P → Entry → Edit → ℕ → Type 0
+WorksLong g old new entry edit count = OfLines g old entry (λ lines. IsOnePageEdit edit (get_or lines 0 []) → WorksBy g old new count)
+
 -- The lines stand in the blocks as the rules of splitting say.
 abbrev pub CutsBlock : {P : Type 0} → Ghosts P → P → P → Entry → ℕ → Edit → Edited → Type 0
 CutsBlock g old new entry at edit after =
     IsTrue g.tells → (bytes : List ℕ) → pages_at (g.shows old).present entry.block entry.pages ≡ Some bytes
-    → HasBlocks (g.shows old).present (g.shows new).present (λ k. span entry.block entry.pages k) (blocks_after entry.pages bytes at edit after.removed.lines) after.entries.items
+    → HasBlocks (g.shows old).present (g.shows new).present (λ k. span entry.block entry.pages k)
+    (blocks_after entry.pages bytes at edit after.removed.lines) after.entries.items
 
 -- a line that may stand in a data block: it has no zero byte, and is not too long
 pub record IsStored (line : List ℕ) : Type 0 where

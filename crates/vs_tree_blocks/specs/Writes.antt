@@ -1,14 +1,14 @@
--- What calls leave of the pages of a store: blocks in place of a block, and how many pages differ.
-use Rattle.std.specs.Prelude.{◌≡◌, ℕ, ◌+◌, ◌≤◌, IsTrue, List, length, map, Some, IsSome}
+-- What calls leave of the pages of a store: blocks in place of a block, and how many pages were worked.
+use Rattle.std.specs.Prelude.{◌≡◌, ℕ, ◌+◌, ◌≤◌, IsTrue, List, [], ◌∷◌, length, map, Some, IsSome}
 use Rattle.std.specs.List.{AllByRecursion, flat_map}
 use Rattle.vs_pages.specs.Maps.{Map, one, span, total, pages_at}
 use Rattle.vs_pages.specs.declared.pages.Pages.{Ghosts}
 use Rattle.vs_data.specs.Blocks.{lines_in}
 use Rattle.vs_tree_shape.specs.declared.entries.Entry.{Entry}
 use Rattle.vs_tree_shape.specs.Places.{lines_below}
-use Rattle.vs_tree_shape.specs.Trees.{Leaf, Tree, entry_of, lines_of, uses}
+use Rattle.vs_tree_shape.specs.Trees.{Leaf, Tree, entry_of, leaf, lines_of, uses}
 use Rattle.vs_tree_shape.specs.Changes.{Below, Replaces, ReplacedBy}
-use Rattle.vs_tree_shape.specs.Differs.{Differs}
+use Rattle.vs_tree_shape.specs.Works.{WorksBesideZero}
 use Rattle.vs_tree_blocks.specs.Blocks.{tree_format, lines_at, FitsFields}
 
 -- Data blocks with these lines stand in place of what used these pages, and the entries lead to them.
@@ -25,12 +25,17 @@ pub record IsWritten (Told : Type 0) (m n : Map) (block : ℕ) (blocks : List (L
   pub few : length entries ≤ 3
   pub lines : lines_below entries ≡ total (λ (ls : List (List ℕ)). length ls) blocks
 
+-- the same over a store, where it tells its pages
 abbrev pub Writes : {P : Type 0} → Ghosts P → P → P → ℕ → List (List (List ℕ)) → List Entry → Type 0
 Writes g old new block blocks entries = IsWritten (IsTrue g.tells) (g.shows old).present (g.shows new).present block blocks entries
 
--- at most so many pages differ
+-- at most so many different pages were worked, beside page 0
+abbrev pub WorksBy : {P : Type 0} → Ghosts P → P → P → ℕ → Type 0
+WorksBy g old new count = WorksBesideZero (g.shows old).worked (g.shows new).worked count
+
+-- the same where the store tells its pages
 abbrev pub Touches : {P : Type 0} → Ghosts P → P → P → ℕ → Type 0
-Touches g old new count = IsTrue g.tells → Differs (g.shows old).present (g.shows new).present count
+Touches g old new count = IsTrue g.tells → WorksBy g old new count
 
 -- a block of one page has these bytes
 abbrev pub HasPage : {P : Type 0} → Ghosts P → P → ℕ → List ℕ → Type 0
@@ -48,6 +53,16 @@ OfLines g s entry Holds = IsTrue g.tells → (lines : List (List ℕ)) → lines
 abbrev pub OfBlock : List ℕ → (List (List ℕ) → Type 0) → Type 0
 OfBlock bytes Holds = (lines : List (List ℕ)) → lines_in bytes ≡ Some lines → Holds lines
 
+-- Data blocks with these lines stand in place of a data block.
+abbrev pub LeavesBlocks : {P : Type 0} → Ghosts P → P → P → Entry → List (List (List ℕ)) → List Entry → Type 0
+LeavesBlocks g old new entry blocks entries =
+    IsTrue g.tells → HasBlocks (g.shows old).present (g.shows new).present (λ k. span entry.block entry.pages k) blocks entries
+
+-- A data block with these lines was added, to which the entry leads.
+abbrev pub AddsBlock : {P : Type 0} → Ghosts P → P → P → Entry → List (List ℕ) → Type 0
+AddsBlock g old new entry lines =
+    IsTrue g.tells → Replaces tree_format (g.shows old).present (g.shows new).present (λ k. 0) 0 (leaf entry.block entry.pages lines ∷ [])
+
 -- Trees with these lines stand in place of a data block.
 abbrev pub Leaves : {P : Type 0} → Ghosts P → P → P → Entry → List (List ℕ) → List Entry → Type 0
 Leaves g old new entry lines entries = ReplacedBy tree_format (g.shows old).present (g.shows new).present (λ k. span entry.block entry.pages k) 0 lines entries
@@ -57,4 +72,5 @@ Leaves g old new entry lines entries = ReplacedBy tree_format (g.shows old).pres
 abbrev pub StandsOver : {P : Type 0} → Ghosts P → P → P → ℕ → (ℕ → ℕ) → List Entry → List Entry → Type 0
 StandsOver g old new block depth entries above =
     IsTrue g.tells → (d : ℕ) (kids : List (Tree d)) → Below tree_format (g.shows old).present block d kids entries
-    → ReplacedBy tree_format (g.shows old).present (g.shows new).present (λ k. one block k + total (λ u. uses d u k) kids) (depth d) (flat_map (λ u. lines_of d u) kids) above
+    → ReplacedBy tree_format (g.shows old).present (g.shows new).present (λ k. one block k + total (λ u. uses d u k) kids)
+    (depth d) (flat_map (λ u. lines_of d u) kids) above

@@ -2,7 +2,7 @@
 ghost use Rattle.std.specs.Prelude.{◌≡◌, ◌≤◌, ◌<◌, ◌*◌, ◌^◌, ◌∷◌, [], IsErrOf, IfOk, OnOk, IsTrue, length};
 ghost use Rattle.vs_faults.specs.Faults.{HasCause};
 ghost use Rattle.vs_pages.specs.Calls.{Continues};
-ghost use Rattle.vs_tree_shape.specs.Differs.{Keeps, Differs};
+ghost use Rattle.vs_tree_shape.specs.Works.{WorksBesideZero, WorksOnly};
 ghost use Rattle.vs_tree_shape.specs.Changes.{Grown, Added};
 
 use std::alloc::Global;
@@ -14,7 +14,7 @@ fn grow_block<P: Pages>(alloc: Global, pages: &mut P, count: u32) -> Result<u64,
     requires some { 1 ≤ count }
     ensures grown { IfOk result (λ at. IsTrue P.tells → Grown (P.shows pages.old).present (P.shows pages.new).present at count) }
     ensures bound { IfOk result (λ at. at < 2 ^ 40) }
-    ensures keeps { IfOk result (λ at. IsTrue P.tells → count ≡ 1 → Keeps (P.shows pages.old).present (P.shows pages.new).present (at ∷ [])) }
+    ensures only { IfOk result (λ at. IsTrue P.tells → count ≡ 1 → WorksOnly (P.shows pages.old).worked (P.shows pages.new).worked (0 ∷ at ∷ [])) }
     ensures kept { Continues P.Pages pages.old pages.new }
     ensures cause { HasCause (P.shows pages.old).faults (P.shows pages.new).faults (IsErrOf result PageErr.Failed) }
 {
@@ -38,7 +38,7 @@ pub fn add_block<P: Pages>(
     requires size { length bytes.now ≡ 4096 * count }
     ensures added { IfOk result (λ at. IsTrue P.tells → Added (P.shows pages.old).present (P.shows pages.new).present at count bytes.now) }
     ensures bound { IfOk result (λ at. at < 2 ^ 40) }
-    ensures differs { OnOk result (IsTrue P.tells → count ≡ 1 → Differs (P.shows pages.old).present (P.shows pages.new).present 1) }
+    ensures works { OnOk result (IsTrue P.tells → count ≡ 1 → WorksBesideZero (P.shows pages.old).worked (P.shows pages.new).worked 1) }
     ensures kept { Continues P.Pages pages.old pages.new }
     ensures cause { HasCause (P.shows pages.old).faults (P.shows pages.new).faults (IsErrOf result PageErr.Failed) }
 {

@@ -4,7 +4,7 @@ ghost use Rattle.vs_faults.specs.Faults.{HasCause};
 ghost use Rattle.vs_pages.specs.Calls.{Continues};
 ghost use Rattle.vs_data.specs.Blocks.{space_of};
 ghost use Rattle.vs_tree_blocks.specs.Cuts.{parted};
-ghost use Rattle.vs_tree_blocks.specs.Parts.{IsBlock, page_lines};
+ghost use Rattle.vs_tree_blocks.specs.Parts.{IsBlock, lines_around, page_lines};
 ghost use Rattle.vs_tree_blocks.specs.Writes.{HasPage, IsThere, Touches, Writes};
 
 use crate::split::{Page, Parts, split_page};
@@ -26,8 +26,8 @@ fn write_between<P: Pages>(
     requires there { IsThere P.Pages pages.old block }
     requires first { IsBlock parts.now.first }
     requires second { IsBlock parts.now.second }
-    ensures wrote { IfOk result (λ entries. Writes P.Pages pages.old pages.new block (page_lines parts.now.first ∷ run.now ∷ page_lines parts.now.second ∷ []) entries.items) }
-    ensures differs { OnOk result (space_of run.now ≤ 4072 → Touches P.Pages pages.old pages.new 3) }
+    ensures wrote { IfOk result (λ entries. Writes P.Pages pages.old pages.new block (lines_around parts.now run.now) entries.items) }
+    ensures works { OnOk result (space_of run.now ≤ 4072 → Touches P.Pages pages.old pages.new 3) }
     ensures kept { Continues P.Pages pages.old pages.new }
     ensures cause { HasCause (P.shows pages.old).faults (P.shows pages.new).faults (IsErrOf result PageErr.Failed) }
 {
@@ -55,7 +55,7 @@ pub fn put_between<P: Pages>(
     requires some { 0 < page.view.count }
     requires at { at ≤ page.view.count }
     ensures wrote { IfOk result (λ entries. Writes P.Pages pages.old pages.new block (parted (page_lines page) at run.now) entries.items) }
-    ensures differs { OnOk result (space_of run.now ≤ 4072 → Touches P.Pages pages.old pages.new 3) }
+    ensures works { OnOk result (space_of run.now ≤ 4072 → Touches P.Pages pages.old pages.new 3) }
     ensures kept { Continues P.Pages pages.old pages.new }
     ensures cause { HasCause (P.shows pages.old).faults (P.shows pages.new).faults (IsErrOf result PageErr.Failed) }
 {
@@ -82,7 +82,7 @@ fn put_beside<P: Pages>(
     requires some { 0 < page.now.view.count }
     requires at { (at ≡ 0) ⊎ (at ≡ page.now.view.count) }
     ensures wrote { IfOk result (λ entries. Writes P.Pages pages.old pages.new block (parted (page_lines page.now) at run.now) entries.items) }
-    ensures differs { OnOk result (space_of run.now ≤ 4072 → Touches P.Pages pages.old pages.new 1) }
+    ensures works { OnOk result (space_of run.now ≤ 4072 → Touches P.Pages pages.old pages.new 1) }
     ensures kept { Continues P.Pages pages.old pages.new }
     ensures cause { HasCause (P.shows pages.old).faults (P.shows pages.new).faults (IsErrOf result PageErr.Failed) }
 {

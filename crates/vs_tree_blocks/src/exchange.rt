@@ -1,13 +1,13 @@
 // One entry of a pointer block, exchanged for others.
-ghost use Rattle.std.specs.Prelude.{◌≡◌, ◌≤◌, ◌<◌, ◌+◌, ◌-◌, ◌^◌, suc, IsErrOf, IfOk, OnOk, IsTrue, length, slice_set};
+ghost use Rattle.std.specs.Prelude.{◌≡◌, ◌≤◌, ◌<◌, ◌+◌, ◌-◌, ◌^◌, IsErrOf, IfOk, OnOk, IsTrue, length};
 ghost use Rattle.std.specs.List.{AllByRecursion};
 ghost use Rattle.vs_faults.specs.Faults.{HasCause};
 ghost use Rattle.vs_pages.specs.Calls.{Continues, OnlyReads};
 ghost use Rattle.vs_tree_shape.specs.Places.{lines_below, replaced};
 ghost use Rattle.vs_tree_shape.specs.Changes.{pointer_entry};
 ghost use Rattle.vs_tree_blocks.specs.Blocks.{FitsFields};
-ghost use Rattle.vs_tree_blocks.specs.Pointers.{HasEntry, HasRoot, Leads, OfEntries, PutsEntries, StandsAsRoot, levels_more, pointer_blocks};
-ghost use Rattle.vs_tree_blocks.specs.Writes.{StandsOver, Touches};
+ghost use Rattle.vs_tree_blocks.specs.Pointers.{HasEntry, HasRoot, OfReplaced, PutsEntry, StandsAsRoot, levels_more, OfEntries, ReplacesEntry, HalvesReplaced};
+ghost use Rattle.vs_tree_blocks.specs.Writes.{Touches};
 
 use crate::bytes::to_ptr;
 use crate::load_entries;
@@ -35,8 +35,8 @@ fn put_entry<P: Pages>(
     requires fields { FitsFields new }
     ensures entry { IfOk result (λ now. now ≡ pointer_entry top.block (top.lines - place.entry.lines + new.lines)) }
     ensures fields { IfOk result FitsFields }
-    ensures put { OnOk result (OfEntries P.Pages pages.old top.block (λ entries. PutsEntries P.Pages pages.old pages.new top.block (slice_set entries place.index new))) }
-    ensures differs { OnOk result (Touches P.Pages pages.old pages.new 1) }
+    ensures put { OnOk result (PutsEntry P.Pages pages.old pages.new top.block place.index new) }
+    ensures works { OnOk result (Touches P.Pages pages.old pages.new 1) }
     ensures kept { Continues P.Pages pages.old pages.new }
     ensures cause { HasCause (P.shows pages.old).faults (P.shows pages.new).faults (IsErrOf result PageErr.Failed) }
 {
@@ -64,7 +64,7 @@ fn load_replaced<P: Pages>(
     requires few { length by.now ≤ 3 }
     ensures entries { IfOk result (λ all. OfEntries P.Pages pages.old top.block (λ entries. all.items ≡ replaced entries place.index by.now)) }
     ensures fields { IfOk result (λ all. AllByRecursion FitsFields all.items) }
-    ensures few { IfOk result (λ all. length all.items ≤ 254) }
+    ensures few { IfOk result (λ all. length all.items ≤ 126 + length by.now) }
     ensures lines { IfOk result (λ all. lines_below all.items + place.entry.lines ≡ top.lines + lines_below by.now) }
     ensures kept { OnlyReads P.Pages pages.old pages.new }
     ensures cause { HasCause (P.shows pages.old).faults (P.shows pages.new).faults (IsErrOf result PageErr.Failed) }
@@ -95,12 +95,14 @@ pub fn exchange_entry<P: Pages>(
     requires block { top.block < 2 ^ 63 }
     requires fields { AllByRecursion FitsFields by.now }
     requires few { length by.now ≤ 3 }
-    ensures wrote { IfOk result (λ above. OfEntries P.Pages pages.old top.block (λ entries. StandsOver P.Pages pages.old pages.new top.block suc (replaced entries place.index by.now) above.items)) }
-    ensures blocks { IfOk result (λ above. OfEntries P.Pages pages.old top.block (λ entries. Leads P.Pages pages.new above.items (pointer_blocks (replaced entries place.index by.now)))) }
+    ensures wrote { IfOk result (λ above. ReplacesEntry P.Pages pages.old pages.new top.block place.index by.now above.items) }
+    ensures blocks { IfOk result (λ above. HalvesReplaced P.Pages pages.old pages.new top.block place.index by.now above.items) }
     ensures fields { IfOk result (λ above. AllByRecursion FitsFields above.items) }
     ensures few { IfOk result (λ above. length above.items ≤ 3) }
     ensures lines { IfOk result (λ above. lines_below above.items + place.entry.lines ≡ top.lines + lines_below by.now) }
-    ensures differs { OnOk result (Touches P.Pages pages.old pages.new 2) }
+    ensures works { OnOk result (Touches P.Pages pages.old pages.new 2) }
+    ensures one { OnOk result (length by.now ≤ 1 → Touches P.Pages pages.old pages.new 1) }
+    ensures single { IfOk result (λ above. length by.now ≤ 1 → length above.items ≤ 1) }
     ensures kept { Continues P.Pages pages.old pages.new }
     ensures cause { HasCause (P.shows pages.old).faults (P.shows pages.new).faults (IsErrOf result PageErr.Failed) }
 {
@@ -130,11 +132,13 @@ pub fn exchange_in_root<P: Pages>(
     requires small { top.lines + lines_below by.now < 2 ^ 63 + place.entry.lines }
     requires fields { AllByRecursion FitsFields by.now }
     requires few { length by.now ≤ 3 }
-    ensures wrote { IfOk result (λ more. OfEntries P.Pages pages.old 1 (λ entries. StandsAsRoot P.Pages pages.old pages.new (replaced entries place.index by.now) more)) }
+    ensures wrote { IfOk result (λ more. OfReplaced P.Pages pages.old 1 place.index by.now (λ entries. StandsAsRoot P.Pages pages.old pages.new entries more)) }
     ensures more { IfOk result (λ more. more ≤ 1) }
+    ensures level { IfOk result (λ more. length by.now ≤ 1 → more ≡ 0) }
     ensures deeper { IfOk result (λ more. OfEntries P.Pages pages.old 1 (λ entries. more ≡ levels_more (replaced entries place.index by.now))) }
-    ensures blocks { IfOk result (λ more. OfEntries P.Pages pages.old 1 (λ entries. HasRoot (P.shows pages.new).present (replaced entries place.index by.now) more)) }
-    ensures differs { OnOk result (Touches P.Pages pages.old pages.new 3) }
+    ensures blocks { IfOk result (λ more. OfReplaced P.Pages pages.old 1 place.index by.now (λ entries. HasRoot (P.shows pages.new).present entries more)) }
+    ensures works { OnOk result (Touches P.Pages pages.old pages.new 3) }
+    ensures one { OnOk result (length by.now ≤ 1 → Touches P.Pages pages.old pages.new 1) }
     ensures kept { Continues P.Pages pages.old pages.new }
     ensures cause { HasCause (P.shows pages.old).faults (P.shows pages.new).faults (IsErrOf result PageErr.Failed) }
 {

@@ -1,15 +1,13 @@
 // Data blocks of several pages, each with one line.
-ghost use Rattle.std.specs.Prelude.{◌≡◌, ◌≤◌, ◌<◌, ◌+◌, [], IsErrOf, IfOk, OnOk, IsTrue, length, get_or};
+ghost use Rattle.std.specs.Prelude.{◌≡◌, ◌≤◌, ◌<◌, ◌+◌, [], IsErrOf, IfOk, OnOk, IsTrue, length};
 ghost use Rattle.std.specs.List.{AllByRecursion};
 ghost use Rattle.vs_faults.specs.Faults.{HasCause};
 ghost use Rattle.vs_text.specs.Text.{bytes_of};
 ghost use Rattle.vs_pages.specs.Calls.{Continues};
-ghost use Rattle.vs_pages.specs.Maps.{span};
-ghost use Rattle.vs_tree_shape.specs.Differs.{Differs};
 ghost use Rattle.vs_tree_shape.specs.Places.{lines_below};
 ghost use Rattle.vs_tree_blocks.specs.Blocks.{FitsFields, LeadsToData};
-ghost use Rattle.vs_tree_blocks.specs.Edits.{added_by, CutsBlock, EditsLong, IsEdit, IsOnePageEdit, MayTake};
-ghost use Rattle.vs_tree_blocks.specs.Writes.{HasBlocks, OfLines};
+ghost use Rattle.vs_tree_blocks.specs.Edits.{added_by, CutsBlock, EditsLong, IsEdit, MayTake, most_entries, WorksLong};
+ghost use Rattle.vs_tree_blocks.specs.Writes.{LeavesBlocks, OfLines};
 
 use crate::data::text_of;
 use crate::{Edit, Edited, Removed, load_data};
@@ -22,7 +20,7 @@ fn remove_long<P: Pages>(alloc: Global, pages: &mut P, entry: Entry) -> Result<E
     requires valid { P.valid pages.old }
     requires several { 2 ≤ entry.pages }
     requires there { IsTrue P.tells → LeadsToData (P.shows pages.old).present entry }
-    ensures wrote { IfOk result (λ after. IsTrue P.tells → HasBlocks (P.shows pages.old).present (P.shows pages.new).present (λ k. span entry.block entry.pages k) [] after.entries.items) }
+    ensures wrote { IfOk result (λ after. LeavesBlocks P.Pages pages.old pages.new entry [] after.entries.items) }
     ensures gone { IfOk result (λ after. after.removed.lines ≡ 1) }
     ensures bytes { IfOk result (λ after. OfLines P.Pages pages.old entry (λ lines. after.removed.bytes ≡ bytes_of lines)) }
     ensures none { IfOk result (λ after. after.entries.items ≡ []) }
@@ -59,7 +57,8 @@ pub fn edit_long<P: Pages>(
     ensures fields { IfOk result (λ after. AllByRecursion FitsFields after.entries.items) }
     ensures few { IfOk result (λ after. length after.entries.items ≤ 3) }
     ensures lines { IfOk result (λ after. lines_below after.entries.items + after.removed.lines ≡ entry.lines + added_by edit.entry) }
-    ensures differs { OnOk result (OfLines P.Pages pages.old entry (λ lines. IsOnePageEdit edit.entry (get_or lines 0 []) → Differs (P.shows pages.old).present (P.shows pages.new).present 1)) }
+    ensures single { IfOk result (λ after. length after.entries.items ≤ most_entries edit.entry) }
+    ensures works { OnOk result (WorksLong P.Pages pages.old pages.new entry edit.entry 1) }
     ensures kept { Continues P.Pages pages.old pages.new }
     ensures cause { HasCause (P.shows pages.old).faults (P.shows pages.new).faults (IsErrOf result PageErr.Failed) }
 {

@@ -55,7 +55,8 @@ fn write_one<P: Pages>(
     ensures fields { IfOk result (λ above. AllByRecursion FitsFields above.items) }
     ensures few { IfOk result (λ above. length above.items ≤ 3) }
     ensures lines { IfOk result (λ above. lines_below above.items ≡ lines_below entries.now) }
-    ensures differs { OnOk result (Touches P.Pages pages.old pages.new 1) }
+    ensures works { OnOk result (Touches P.Pages pages.old pages.new 1) }
+    ensures single { IfOk result (λ above. length above.items ≤ 1) }
     ensures kept { Continues P.Pages pages.old pages.new }
     ensures cause { HasCause (P.shows pages.old).faults (P.shows pages.new).faults (IsErrOf result PageErr.Failed) }
 {
@@ -91,7 +92,7 @@ fn write_two<P: Pages>(
     ensures fields { IfOk result (λ above. AllByRecursion FitsFields above.items) }
     ensures few { IfOk result (λ above. length above.items ≤ 3) }
     ensures lines { IfOk result (λ above. lines_below above.items ≡ lines_below entries.now) }
-    ensures differs { OnOk result (Touches P.Pages pages.old pages.new 2) }
+    ensures works { OnOk result (Touches P.Pages pages.old pages.new 2) }
     ensures kept { Continues P.Pages pages.old pages.new }
     ensures cause { HasCause (P.shows pages.old).faults (P.shows pages.new).faults (IsErrOf result PageErr.Failed) }
 {
@@ -124,7 +125,9 @@ pub fn write_pointers<P: Pages>(
     ensures fields { IfOk result (λ above. AllByRecursion FitsFields above.items) }
     ensures few { IfOk result (λ above. length above.items ≤ 3) }
     ensures lines { IfOk result (λ above. lines_below above.items ≡ lines_below entries.items) }
-    ensures differs { OnOk result (Touches P.Pages pages.old pages.new 2) }
+    ensures works { OnOk result (Touches P.Pages pages.old pages.new 2) }
+    ensures one { OnOk result (length entries.items ≤ 127 → Touches P.Pages pages.old pages.new 1) }
+    ensures single { IfOk result (λ above. length entries.items ≤ 127 → length above.items ≤ 1) }
     ensures kept { Continues P.Pages pages.old pages.new }
     ensures cause { HasCause (P.shows pages.old).faults (P.shows pages.new).faults (IsErrOf result PageErr.Failed) }
 {
@@ -147,7 +150,7 @@ fn lift_root<P: Pages>(alloc: Global, pages: &mut P, entries: &[Entry]) -> Resul
     requires few { length entries.now ≤ 254 }
     ensures wrote { OnOk result (StandsOver P.Pages pages.old pages.new 1 (λ d. suc (suc d)) entries.now (pointer_entry 1 (lines_below entries.now) ∷ [])) }
     ensures blocks { OnOk result (IsTrue P.tells → IsHalvedBelow (P.shows pages.new).present entries.now) }
-    ensures differs { OnOk result (Touches P.Pages pages.old pages.new 3) }
+    ensures works { OnOk result (Touches P.Pages pages.old pages.new 3) }
     ensures kept { Continues P.Pages pages.old pages.new }
     ensures cause { HasCause (P.shows pages.old).faults (P.shows pages.new).faults (IsErrOf result PageErr.Failed) }
 {
@@ -178,7 +181,8 @@ pub fn write_root<P: Pages>(
     ensures more { IfOk result (λ more. more ≤ 1) }
     ensures deeper { IfOk result (λ more. more ≡ levels_more entries.items) }
     ensures blocks { IfOk result (λ more. IsTrue P.tells → HasRoot (P.shows pages.new).present entries.items more) }
-    ensures differs { OnOk result (Touches P.Pages pages.old pages.new 3) }
+    ensures works { OnOk result (Touches P.Pages pages.old pages.new 3) }
+    ensures one { OnOk result (length entries.items ≤ 127 → Touches P.Pages pages.old pages.new 1) }
     ensures kept { Continues P.Pages pages.old pages.new }
     ensures cause { HasCause (P.shows pages.old).faults (P.shows pages.new).faults (IsErrOf result PageErr.Failed) }
 {

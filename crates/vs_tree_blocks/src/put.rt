@@ -1,5 +1,5 @@
 // Runs of lines, put into a data block of one page or into the halves of one.
-ghost use Rattle.std.specs.Prelude.{◌≤◌, ◌<◌, ◌-◌, ◌^◌, ◌∷◌, [], Ok, IsErrOf, IfOk, OnOk};
+ghost use Rattle.std.specs.Prelude.{◌≤◌, ◌<◌, ◌-◌, ◌^◌, ◌∷◌, [], Ok, IsErrOf, IfOk, OnOk, length};
 ghost use Rattle.vs_faults.specs.Faults.{HasCause};
 ghost use Rattle.vs_pages.specs.Calls.{Continues};
 ghost use Rattle.vs_data.specs.Blocks.{free_space, space_of};
@@ -26,8 +26,8 @@ fn write_parts<P: Pages>(
     requires block { block < 2 ^ 63 }
     requires first { IsBlock parts.now.first }
     requires second { IsBlock parts.now.second }
-    ensures wrote { IfOk result (λ entries. Writes P.Pages pages.old pages.new block (page_lines parts.now.first ∷ page_lines parts.now.second ∷ []) entries.items) }
-    ensures differs { OnOk result (Touches P.Pages pages.old pages.new 2) }
+    ensures wrote { IfOk result (λ by. Writes P.Pages pages.old pages.new block (page_lines parts.now.first ∷ page_lines parts.now.second ∷ []) by.items) }
+    ensures works { OnOk result (Touches P.Pages pages.old pages.new 2) }
     ensures kept { Continues P.Pages pages.old pages.new }
     ensures cause { HasCause (P.shows pages.old).faults (P.shows pages.new).faults (IsErrOf result PageErr.Failed) }
 {
@@ -50,7 +50,8 @@ pub fn write_whole<P: Pages>(
     requires block { block < 2 ^ 63 }
     requires page { IsBlock page }
     ensures wrote { IfOk result (λ entries. Writes P.Pages pages.old pages.new block (page_lines page ∷ []) entries.items) }
-    ensures differs { OnOk result (Touches P.Pages pages.old pages.new 1) }
+    ensures works { OnOk result (Touches P.Pages pages.old pages.new 1) }
+    ensures single { IfOk result (λ entries. length entries.items ≤ 1) }
     ensures kept { Continues P.Pages pages.old pages.new }
     ensures cause { HasCause (P.shows pages.old).faults (P.shows pages.new).faults (IsErrOf result PageErr.Failed) }
 {
@@ -76,8 +77,8 @@ fn put_split<P: Pages>(
     requires some { 0 < page.view.count }
     requires at { at ≤ page.view.count }
     requires full { free_space page.view < space_of run.now }
-    ensures wrote { IfOk result (λ entries. Writes P.Pages pages.old pages.new block (split_with (page.view.text_end - 24) (page_lines page) at run.now) entries.items) }
-    ensures differs { OnOk result (space_of run.now ≤ 4072 → Touches P.Pages pages.old pages.new 3) }
+    ensures wrote { IfOk result (λ by. Writes P.Pages pages.old pages.new block (split_with (page.view.text_end - 24) (page_lines page) at run.now) by.items) }
+    ensures works { OnOk result (space_of run.now ≤ 4072 → Touches P.Pages pages.old pages.new 3) }
     ensures kept { Continues P.Pages pages.old pages.new }
     ensures cause { HasCause (P.shows pages.old).faults (P.shows pages.new).faults (IsErrOf result PageErr.Failed) }
 {
@@ -104,8 +105,8 @@ pub fn put_run<P: Pages>(
     requires page { IsBlock page }
     requires some { 0 < page.view.count }
     requires at { at ≤ page.view.count }
-    ensures wrote { IfOk result (λ entries. Writes P.Pages pages.old pages.new block (blocks_with (page.view.text_end - 24) (page_lines page) at run.now) entries.items) }
-    ensures differs { OnOk result (space_of run.now ≤ 4072 → Touches P.Pages pages.old pages.new 3) }
+    ensures wrote { IfOk result (λ by. Writes P.Pages pages.old pages.new block (blocks_with (page.view.text_end - 24) (page_lines page) at run.now) by.items) }
+    ensures works { OnOk result (space_of run.now ≤ 4072 → Touches P.Pages pages.old pages.new 3) }
     ensures kept { Continues P.Pages pages.old pages.new }
     ensures cause { HasCause (P.shows pages.old).faults (P.shows pages.new).faults (IsErrOf result PageErr.Failed) }
 {

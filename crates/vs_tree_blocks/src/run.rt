@@ -4,13 +4,12 @@ ghost use Rattle.std.specs.Prelude.{ℕ, List, IsTrue, length, false};
 ghost use Rattle.vs_faults.specs.Faults.{HasCause};
 ghost use Rattle.vs_pages.specs.Calls.{Continues};
 ghost use Rattle.vs_data.specs.Blocks.{lines_in, free_space, space_of};
-ghost use Rattle.vs_tree_shape.specs.Trees.{leaf};
-ghost use Rattle.vs_tree_shape.specs.Changes.{Replaces, splice};
-ghost use Rattle.vs_tree_blocks.specs.Blocks.{tree_format, FitsFields};
+ghost use Rattle.vs_tree_shape.specs.Changes.{splice};
+ghost use Rattle.vs_tree_blocks.specs.Blocks.{FitsFields};
 ghost use Rattle.vs_tree_blocks.specs.Edits.{IsStored};
 ghost use Rattle.vs_tree_blocks.specs.Parts.{IsBlock, IsPage, page_lines};
 ghost use Rattle.vs_tree_blocks.specs.Runs.{lines_within, pages_of};
-ghost use Rattle.vs_tree_blocks.specs.Writes.{Touches};
+ghost use Rattle.vs_tree_blocks.specs.Writes.{AddsBlock, Touches};
 
 use crate::add_block;
 use crate::split::Page;
@@ -125,11 +124,11 @@ impl Run {
     /// Adds the lines as a data block of their own.
     pub fn add<P: Pages>(&self, alloc: Global, pages: &mut P) -> Result<Entry, PageErr>
         requires valid { P.valid pages.old }
-        ensures added { IfOk result (λ new. IsTrue P.tells → Replaces tree_format (P.shows pages.old).present (P.shows pages.new).present (λ k. 0) 0 (leaf new.block new.pages self.now ∷ [])) }
+        ensures added { IfOk result (λ new. AddsBlock P.Pages pages.old pages.new new self.now) }
         ensures lines { IfOk result (λ new. new.lines ≡ length self.now) }
         ensures pages { IfOk result (λ new. new.pages ≡ pages_of self.now) }
         ensures fields { IfOk result FitsFields }
-        ensures differs { OnOk result (space_of self.now ≤ 4072 → Touches P.Pages pages.old pages.new 1) }
+        ensures works { OnOk result (space_of self.now ≤ 4072 → Touches P.Pages pages.old pages.new 1) }
         ensures kept { Continues P.Pages pages.old pages.new }
         ensures cause { HasCause (P.shows pages.old).faults (P.shows pages.new).faults (IsErrOf result PageErr.Failed) }
     {

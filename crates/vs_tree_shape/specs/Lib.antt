@@ -1,8 +1,8 @@
 pub mod Changes
 pub mod Depths
-pub mod Differs
 pub mod Paths
 pub mod Places
 pub mod Reads
 pub mod Sames
 pub mod Trees
+pub mod Works

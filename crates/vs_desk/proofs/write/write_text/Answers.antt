@@ -29,7 +29,7 @@ returns-clause-fits g c told lines syncs fits =
     let runs = c.write_in.ensures.others told (is_swap names) (swap_outside names paged.pair.files.named c.args.options.now s0.folder)
     (still_apart (is_swap names) s0.folder (g.F.World.is_folder c.args.host.now told) (still_fits paged s0.folder lines syncs fits)) in
     let same = c.write_in.ensures.same in
-    fits_changed paged _ s1.folder lines lines syncs refl (λ mark map le since. same.marks mark map since) (paged_same g.F.World.tells.folder _ _ _ _ lines told same fits.pages) (fits_kept paged s0.folder s1.folder lines syncs runs.now fits)
+    fits_changed paged _ s1.folder lines lines syncs refl same.since (paged_same g.F.World.tells.folder _ _ _ _ lines told same fits.pages) (fits_kept paged s0.folder s1.folder lines syncs runs.now fits)
 
 pub returns-clause-others : goal.returns-clause-others
 returns-clause-others g c told = c.write_in.ensures.others told

@@ -1,8 +1,15 @@
 use Rattle.std.proofs.Common.{◌*◌, ◌≤◌, length, arith, subst, sym}
+use Rattle.std.proofs.lemmas.List.{length-take}
 use Rattle.vs_pages.specs.Memory.{committed_of}
 use Rattle.vs_pair.specs.Writes.{HasRun}
 use Rattle.vs_pair.proofs.PageWrites.{run_alone, run_cut}
 use Rattle.vs_pair.proofs.writing.run_bytes.Goals as goal
+
+pub slice_bounds-page_or_zeros-end : goal.slice_bounds-page_or_zeros-end
+slice_bounds-page_or_zeros-end c = omega (arith, length-take 4096 c.args.run.now, c.requires.room, c.if-count-eq1.true)
+
+pub page_or_zeros-requires : goal.page_or_zeros-requires
+page_or_zeros-requires c = omega (arith, length-take 4096 c.args.run.now, c.requires.room, c.if-count-eq1.true)
 
 pub returns-then-count-eq1-clause-pages : goal.returns-then-count-eq1-clause-pages
 returns-then-count-eq1-clause-pages c =

@@ -1,5 +1,6 @@
 -- The blocks below change first, and the clauses on the store are those of the calls before.
-use Rattle.std.proofs.Common.{◌≡◌, ℕ, ◌+◌, ◌-◌, ◌*◌, List, IsTrue, IfOk, arith, refl, rules, sym, ap, subst}
+use Rattle.vs_tree.proofs.change.+edit_below.Goals as goal
+use Rattle.std.proofs.Common.{◌≡◌, ℕ, ◌-◌, List, IsTrue, IfOk, arith, refl, rules, sym, ap, subst, ◌≤◌, length}
 use Rattle.vs_faults.proofs.Causes.{risen_after}
 use Rattle.vs_pages.proofs.Steps.{Continues-trans, OnlyReads-continues}
 use Rattle.std.proofs.lemmas.Result.{on_ok_weaker}
@@ -9,11 +10,12 @@ use Rattle.vs_tree_shape.specs.Changes.{HasLineBelow, ChangesBelow}
 use Rattle.vs_tree_shape.specs.Places.{lines_below, replaced}
 use Rattle.vs_tree_shape.proofs.Steps.{above_down, above_entries, edited_pointers, pointers_there}
 use Rattle.vs_tree_blocks.specs.Blocks.{tree_format}
-use Rattle.vs_tree_blocks.specs.Edits.{change_of, ChangesFew}
+use Rattle.vs_tree_blocks.specs.Edits.{change_of, WorksBelow, most_entries, most_worked}
+use Rattle.vs_tree_blocks.specs.declared.edit.Edit.{Edit}
+use Rattle.vs_tree_blocks.specs.declared.edit.Edit.TheVariants.{Before, After, Remove}
 use Rattle.vs_tree_blocks.specs.declared.edit.Edited.{Edited}
-use Rattle.vs_tree.proofs.Bounds.{few_below}
+use Rattle.vs_tree.proofs.Bounds.{few_below, step_work}
 use Rattle.vs_tree.proofs.ChangeLemmas.{entries_kept, has_entry, promised, few_added}
-use Rattle.vs_tree.proofs.change.+edit_below.Goals as goal
 
 pub returns-then-depth-eq0-clause-wrote : goal.returns-then-depth-eq0-clause-wrote
 returns-then-depth-eq0-clause-wrote g t c =
@@ -78,21 +80,40 @@ returns-clause-wrote g t c = λ told.
 pub returns-clause-lines : goal.returns-clause-lines
 returns-clause-lines g t c = omega (arith, ap lines_below c.deref.ensures.value, c.in_ok-below.ensures.lines, c.in_ok-above.ensures.lines)
 
-pub returns-then-depth-eq0-clause-differs : goal.returns-then-depth-eq0-clause-differs
-returns-then-depth-eq0-clause-differs g t c = on_ok_weaker c.edit_data.result
+pub returns-then-depth-eq0-clause-works : goal.returns-then-depth-eq0-clause-works
+returns-then-depth-eq0-clause-works g t c = on_ok_weaker c.edit_data.result
     (λ few told.
     let none : c.args.depth ≡ 0 = c.if-depth-eq0.true in
-    let P : ℕ → Type 0 = λ d. ChangesFew (g.P.Pages.shows c.args.pages.now).present (g.P.Pages.shows c.edit_data.new.pages).present c.args.top d c.args.at c.args.edit (2 * d + 3) in
+    let P : ℕ → Type 0 = λ d. WorksBelow (g.P.Pages.shows c.args.pages.now).present (g.P.Pages.shows c.args.pages.now).worked (g.P.Pages.shows c.edit_data.new.pages).worked c.args.top d c.args.at c.args.edit (most_worked c.args.edit d) in
     subst P (sym none) (few told))
-    c.edit_data.ensures.differs
+    c.edit_data.ensures.works
 
 pub edit_data-requires-clause-there : goal.edit_data-requires-clause-there
 edit_data-requires-clause-there g t c = λ told. subst (λ (d : ℕ). HasLineBelow tree_format (g.P.Pages.shows c.args.pages.now).present c.args.top d c.args.at) c.if-depth-eq0.true (c.requires.there told)
 
-pub returns-clause-differs : goal.returns-clause-differs
-returns-clause-differs g t c = λ told.
+pub returns-clause-works : goal.returns-clause-works
+returns-clause-works g t c = λ told.
     let of = c.in_ok-place.ensures.place told in
-    few_below _ _ _ _ c.args.top _ c.args.depth c.args.at 2 (2 * c.args.depth + 3) c.args.edit of.entries c.in_ok-place.place c.if-depth-eq0.false of.reads of.is (c.find_below.ensures.kept.present told) refl (omega arith) (c.in_ok-below.ensures.differs told) (c.in_ok-above.ensures.differs told)
+    let up = step_work c.args.edit c.args.depth (length c.deref.result.now) _ _ c.if-depth-eq0.false (omega (arith, ap length c.deref.ensures.value, c.in_ok-below.ensures.single)) (c.in_ok-above.ensures.works told) (λ few. c.in_ok-above.ensures.one few told) in
+    few_below _ _ _ _ _ _ c.args.top _ c.args.depth c.args.at up.0 (most_worked c.args.edit c.args.depth) c.args.edit of.entries c.in_ok-place.place c.if-depth-eq0.false of.reads of.is (c.find_below.ensures.kept.present told) (c.find_below.ensures.kept.still.worked told) refl up.1 (c.in_ok-below.ensures.works told) up.2
+
+-- what an exchange of so many entries leaves at most
+few_single : (edit : Edit) (by above : ℕ) → by ≤ most_entries edit → above ≤ 3 → (by ≤ 1 → above ≤ 1) → above ≤ most_entries edit
+few_single (Before run) by above few most one = most
+few_single (After run) by above few most one = most
+few_single (Remove most) by above few all one = one few
+
+pub returns-clause-single : goal.returns-clause-single
+returns-clause-single g t c = few_single c.args.edit (length c.deref.result.now) _ (omega (arith, ap length c.deref.ensures.value, c.in_ok-below.ensures.single)) c.in_ok-above.ensures.few c.in_ok-above.ensures.single
+
+pub returns-in_err-below-clause-kept : goal.returns-in_err-below-clause-kept
+returns-in_err-below-clause-kept g t c = Continues-trans g.met.P.Pages.stays_on (OnlyReads-continues c.in_ok-place.ensures.kept) c.edit_below.ensures.kept
+
+pub returns-in_err-above-clause-kept : goal.returns-in_err-above-clause-kept
+returns-in_err-above-clause-kept g t c = Continues-trans g.met.P.Pages.stays_on (Continues-trans g.met.P.Pages.stays_on (OnlyReads-continues c.in_ok-place.ensures.kept) c.in_ok-below.ensures.kept) c.exchange_entry.ensures.kept
+
+pub returns-clause-kept : goal.returns-clause-kept
+returns-clause-kept g t c = Continues-trans g.met.P.Pages.stays_on (Continues-trans g.met.P.Pages.stays_on (OnlyReads-continues c.in_ok-place.ensures.kept) c.in_ok-below.ensures.kept) c.in_ok-above.ensures.kept
 
 pub returns-in_err-place-clause-kept : goal.returns-in_err-place-clause-kept
 returns-in_err-place-clause-kept g t c = OnlyReads-continues c.find_below.ensures.kept
@@ -103,26 +124,17 @@ returns-in_err-place-clause-cause g t c = record {
   risen = λ failed. c.find_below.ensures.cause.risen (search rules);
 }
 
-pub returns-in_err-below-clause-kept : goal.returns-in_err-below-clause-kept
-returns-in_err-below-clause-kept g t c = Continues-trans g.met.P.Pages.stays_on (OnlyReads-continues c.in_ok-place.ensures.kept) c.edit_below.ensures.kept
-
 pub returns-in_err-below-clause-cause : goal.returns-in_err-below-clause-cause
 returns-in_err-below-clause-cause g t c = record {
   later = omega (arith, c.in_ok-place.ensures.cause.later, c.edit_below.ensures.cause.later);
   risen = λ failed. risen_after (c.in_ok-place.ensures.cause.later) (c.edit_below.ensures.cause.risen (search rules));
 }
 
-pub returns-in_err-above-clause-kept : goal.returns-in_err-above-clause-kept
-returns-in_err-above-clause-kept g t c = Continues-trans g.met.P.Pages.stays_on (Continues-trans g.met.P.Pages.stays_on (OnlyReads-continues c.in_ok-place.ensures.kept) c.in_ok-below.ensures.kept) c.exchange_entry.ensures.kept
-
 pub returns-in_err-above-clause-cause : goal.returns-in_err-above-clause-cause
 returns-in_err-above-clause-cause g t c = record {
   later = omega (arith, c.in_ok-place.ensures.cause.later, c.in_ok-below.ensures.cause.later, c.exchange_entry.ensures.cause.later);
   risen = λ failed. risen_after (omega (arith, c.in_ok-place.ensures.cause.later, c.in_ok-below.ensures.cause.later)) (c.exchange_entry.ensures.cause.risen (search rules));
 }
-
-pub returns-clause-kept : goal.returns-clause-kept
-returns-clause-kept g t c = Continues-trans g.met.P.Pages.stays_on (Continues-trans g.met.P.Pages.stays_on (OnlyReads-continues c.in_ok-place.ensures.kept) c.in_ok-below.ensures.kept) c.in_ok-above.ensures.kept
 
 pub returns-clause-cause : goal.returns-clause-cause
 returns-clause-cause g t c = record {

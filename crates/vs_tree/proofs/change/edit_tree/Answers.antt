@@ -1,4 +1,5 @@
-use Rattle.std.proofs.Common.{◌≡◌, ℕ, ◌+◌, ◌-◌, ◌*◌, List, refl, arith, rules, sym, ap, subst, ◌∙◌}
+use Rattle.vs_tree.proofs.change.edit_tree.Goals as goal
+use Rattle.std.proofs.Common.{◌≡◌, ℕ, ◌-◌, List, refl, arith, rules, sym, ap, subst, ◌∙◌, length}
 use Rattle.vs_faults.proofs.Causes.{risen_after}
 use Rattle.vs_pages.specs.Maps.{Map}
 use Rattle.vs_pages.proofs.Steps.{Continues-trans, OnlyReads-continues}
@@ -8,11 +9,10 @@ use Rattle.vs_tree_shape.specs.Places.{lines_below, replaced}
 use Rattle.vs_tree_shape.proofs.Roots.{first_above, depth_short, not_flat, lines_edited}
 use Rattle.vs_tree_shape.proofs.Steps.{above_down, above_entries, pointers_there}
 use Rattle.vs_tree_blocks.specs.Blocks.{tree_format, entries_at, LeadsToPointers}
-use Rattle.vs_tree_blocks.specs.Edits.{change_of}
+use Rattle.vs_tree_blocks.specs.Edits.{change_of, most_in_tree}
 use Rattle.vs_tree_blocks.specs.Pointers.{HasEntry}
-use Rattle.vs_tree.proofs.Bounds.{few_below, few_lines}
+use Rattle.vs_tree.proofs.Bounds.{few_below, few_lines, root_work}
 use Rattle.vs_tree.proofs.ChangeLemmas.{entries_kept, has_entry, promised, few_added}
-use Rattle.vs_tree.proofs.change.edit_tree.Goals as goal
 
 pub damaged-requires-clause-silent : goal.damaged-requires-clause-silent
 damaged-requires-clause-silent g c = λ told. let r = c.requires.there told in
@@ -77,17 +77,27 @@ returns-clause-edited g c = λ told lines has.
     let now = entries_kept (g.P.Pages.shows c.args.pages.now).present (g.P.Pages.shows c.edit_below.new.pages).present 1 of.entries same reads in
     lines_edited _ _ _ _ c.args.root.height c.in_ok-more.more c.args.at c.in_ok-below.below.removed.bytes c.args.root.lines (change_of c.args.edit c.in_ok-below.below.removed.lines) lines of.entries c.in_ok-below.below.entries.items all c.in_ok-place.place has.lines_are has.count c.requires.within c.requires.small reads of.is mid promise (c.in_ok-more.ensures.wrote told of.entries now told)
 
-pub returns-clause-differs : goal.returns-clause-differs
-returns-clause-differs g c = λ told lines has slight.
+pub returns-clause-works : goal.returns-clause-works
+returns-clause-works g c = λ told lines has slight.
     let of = c.in_ok-place.ensures.place told in
     let reads = sym (ap (λ (e : Entry). entries_at (g.P.Pages.shows c.args.pages.now).present e.block) c.entry-top.ensures) ∙ of.reads in
-    few_lines _ _ c.args.root c.args.at (2 * c.args.root.height + 4) c.args.edit lines has c.requires.within c.requires.small slight
-    (few_below _ _ _ _ (pointer_entry 1 c.args.root.lines) _ c.args.root.height c.args.at 3 (2 * c.args.root.height + 4) c.args.edit of.entries c.in_ok-place.place (not_flat _ _ _ _ has.lines_are) reads of.is (c.find_below.ensures.kept.present told) c.saturating_sub.ensures (omega arith) (c.in_ok-below.ensures.differs told) (c.in_ok-more.ensures.differs told))
+    let up = root_work c.args.edit c.args.root.height (length c.deref.result.now) _ _ (not_flat _ _ _ _ has.lines_are) (omega (arith, ap length c.deref.ensures.value, c.in_ok-below.ensures.single)) (c.in_ok-more.ensures.works told) (λ few. c.in_ok-more.ensures.one few told) in
+    few_lines _ _ _ c.args.root c.args.at (most_in_tree c.args.edit c.args.root.height) c.args.edit lines has c.requires.within c.requires.small slight
+    (few_below _ _ _ _ _ _ (pointer_entry 1 c.args.root.lines) _ c.args.root.height c.args.at up.0 (most_in_tree c.args.edit c.args.root.height) c.args.edit of.entries c.in_ok-place.place (not_flat _ _ _ _ has.lines_are) reads of.is (c.find_below.ensures.kept.present told) (c.find_below.ensures.kept.still.worked told) c.saturating_sub.ensures up.1 (c.in_ok-below.ensures.works told) up.2)
+
+pub returns-clause-level : goal.returns-clause-level
+returns-clause-level g c = λ few. omega (arith, c.in_ok-more.ensures.level (omega (arith, ap length c.deref.ensures.value, c.in_ok-below.ensures.single, few)))
 
 pub returns-clause-kept : goal.returns-clause-kept
 returns-clause-kept g c =
     let on = g.met.P.Pages.stays_on in
     Continues-trans on (Continues-trans on (OnlyReads-continues c.find_below.ensures.kept) c.edit_below.ensures.kept) c.exchange_in_root.ensures.kept
+
+pub returns-in_err-below-clause-kept : goal.returns-in_err-below-clause-kept
+returns-in_err-below-clause-kept g c = Continues-trans g.met.P.Pages.stays_on (OnlyReads-continues c.find_below.ensures.kept) c.edit_below.ensures.kept
+
+pub returns-in_err-more-clause-kept : goal.returns-in_err-more-clause-kept
+returns-in_err-more-clause-kept g c = Continues-trans g.met.P.Pages.stays_on (Continues-trans g.met.P.Pages.stays_on (OnlyReads-continues c.find_below.ensures.kept) c.edit_below.ensures.kept) c.exchange_in_root.ensures.kept
 
 pub returns-in_err-place-clause-kept : goal.returns-in_err-place-clause-kept
 returns-in_err-place-clause-kept g c = OnlyReads-continues c.find_below.ensures.kept
@@ -98,17 +108,11 @@ returns-in_err-place-clause-cause g c = record {
   risen = λ failed. c.find_below.ensures.cause.risen (search rules);
 }
 
-pub returns-in_err-below-clause-kept : goal.returns-in_err-below-clause-kept
-returns-in_err-below-clause-kept g c = Continues-trans g.met.P.Pages.stays_on (OnlyReads-continues c.find_below.ensures.kept) c.edit_below.ensures.kept
-
 pub returns-in_err-below-clause-cause : goal.returns-in_err-below-clause-cause
 returns-in_err-below-clause-cause g c = record {
   later = omega (arith, c.find_below.ensures.cause.later, c.edit_below.ensures.cause.later);
   risen = λ failed. risen_after c.find_below.ensures.cause.later (c.edit_below.ensures.cause.risen (search rules));
 }
-
-pub returns-in_err-more-clause-kept : goal.returns-in_err-more-clause-kept
-returns-in_err-more-clause-kept g c = Continues-trans g.met.P.Pages.stays_on (Continues-trans g.met.P.Pages.stays_on (OnlyReads-continues c.find_below.ensures.kept) c.edit_below.ensures.kept) c.exchange_in_root.ensures.kept
 
 pub returns-in_err-more-clause-cause : goal.returns-in_err-more-clause-cause
 returns-in_err-more-clause-cause g c = record {

@@ -2,10 +2,11 @@ use Rattle.std.proofs.Common.{◌≡◌, ℕ, ◌+◌, ◌*◌, List, map, sym, 
 use Rattle.std.proofs.lemmas.Result.{IfOk-weaker, on_ok_weaker}
 use Rattle.vs_text.specs.Text.{bytes_of, stored_line}
 use Rattle.vs_tree_shape.specs.Changes.{splice}
-use Rattle.vs_tree_shape.proofs.Differences.{differs_then}
+use Rattle.vs_tree_shape.proofs.Working.{works_then}
 use Rattle.vs_tree.specs.declared.runs.Taken.{Taken}
 use Rattle.vs_tree.specs.Runs.{ExchangesLine, HasTree, without_lines, run_of}
 use Rattle.vs_tree.proofs.Rounds.{out_then_in}
+use Rattle.vs_pages.proofs.Steps.{Continues-trans}
 use Rattle.vs_tree.proofs.runs.exchange_lines.Goals as goal
 
 pub put_lines-requires-clause-there : goal.put_lines-requires-clause-there
@@ -22,11 +23,11 @@ returns-clause-exchanged g c = λ told lines has.
 pub returns-clause-bytes : goal.returns-clause-bytes
 returns-clause-bytes g c = λ told lines has few. c.in_ok-taken.ensures.bytes told lines has (omega (arith, few))
 
-pub returns-clause-differs : goal.returns-clause-differs
-returns-clause-differs g c = λ told lines has small.
-    differs_then _ _ _ (2 * c.args.root.height + 4) (2 * c.in_ok-taken.taken.root.height + 4) (4 * c.args.root.height + 10) (omega (arith, c.in_ok-taken.ensures.higher, small.few_out))
-    (c.in_ok-taken.ensures.differs told lines has small.few_out small.brief_out)
-    (c.in_ok-now.ensures.differs told (without_lines lines c.args.top c.args.old) (c.in_ok-taken.ensures.taken told lines has) small.few_in small.brief_in)
+pub returns-clause-works : goal.returns-clause-works
+returns-clause-works g c = λ told lines has small.
+    works_then _ _ _ (c.args.root.height + 1) (2 * c.in_ok-taken.taken.root.height + 4) (3 * c.args.root.height + 6) (omega (arith, c.in_ok-taken.ensures.level))
+    (c.in_ok-taken.ensures.works told lines has (small.few_out, small.brief_out))
+    (c.in_ok-now.ensures.works told (without_lines lines c.args.top c.args.old) (c.in_ok-taken.ensures.taken told lines has) (small.few_in, small.brief_in))
 
 pub returns-then-all_go-clause-exchanged : goal.returns-then-all_go-clause-exchanged
 returns-then-all_go-clause-exchanged g c = IfOk-weaker c.replace_all.result _ _
@@ -45,9 +46,15 @@ returns-then-all_go-clause-bytes g c = IfOk-weaker c.replace_all.result _ _
     bytes told lines has few ∙ ap (λ (k : ℕ). bytes_of (run_of lines k c.args.root.lines)) top ∙ ap (λ (k : ℕ). bytes_of (run_of lines c.args.top k)) old)
     c.replace_all.ensures.bytes
 
-pub returns-then-all_go-clause-differs : goal.returns-then-all_go-clause-differs
-returns-then-all_go-clause-differs g c = on_ok_weaker c.replace_all.result
+pub returns-then-all_go-clause-works : goal.returns-then-all_go-clause-works
+returns-then-all_go-clause-works g c = on_ok_weaker c.replace_all.result
     (λ few told lines has small.
     let top : c.args.top ≡ 0 = omega (arith, c.requires.within, (c.all_go.ensures.0 c.if-all_go.true)) in
     few told lines has (subst (λ (k : ℕ). ExchangesLine lines k c.args.root.lines c.args.new.now) top (subst (λ (k : ℕ). ExchangesLine lines c.args.top k c.args.new.now) (c.all_go.ensures.0 c.if-all_go.true) small)))
-    c.replace_all.ensures.differs
+    c.replace_all.ensures.works
+
+pub returns-in_err-now-clause-kept : goal.returns-in_err-now-clause-kept
+returns-in_err-now-clause-kept g c = Continues-trans g.met.P.Pages.stays_on c.take_lines.ensures.kept c.put_lines.ensures.kept
+
+pub returns-clause-kept : goal.returns-clause-kept
+returns-clause-kept g c = Continues-trans g.met.P.Pages.stays_on c.take_lines.ensures.kept c.put_lines.ensures.kept

@@ -1,7 +1,7 @@
 use Rattle.std.proofs.Common.{◌≡◌, ℕ, ◌+◌, ◌-◌, ◌*◌, ◌≤◌, List, length, take, drop, map, refl, sym, ap, subst, ◌∙◌, arith}
 use Rattle.vs_text.specs.Text.{stored_line}
 use Rattle.vs_pages.proofs.Steps.{Continues-none, Continues-trans}
-use Rattle.vs_tree_shape.proofs.Differences.{differs_none, differs_from}
+use Rattle.vs_tree_shape.proofs.Working.{works_none, works_from}
 use Rattle.vs_tree.specs.Runs.{HasTree, with_lines}
 use Rattle.vs_tree.specs.declared.walk.Root.{Root}
 use Rattle.vs_tree.proofs.Rounds.{put_next, rest_of, with_none}
@@ -15,8 +15,8 @@ runs-init g c = record {
   put = λ told lines has. subst (λ (xs : List (List ℕ)). HasTree (g.P.Pages.shows c.args.pages.now).present c.args.root xs) (sym (with_none lines c.args.at)) has;
   lines = omega arith;
   higher = omega arith;
-  start = λ none. (refl, λ told. refl);
-  differs = λ told lines has one brief. differs_none _ _ _ refl;
+  start = λ none. (refl, λ told. (refl, refl));
+  works = λ told lines has small. works_none _ _ _ refl;
   kept = Continues-none g.met.P.Pages.stays_itself c.requires.valid;
   faults = omega arith;
 }
@@ -42,11 +42,11 @@ runs-preserved g c =
       lines = omega (arith, c.in_ok-now.ensures.lines, inv.lines, size);
       higher = omega (arith, inv.higher, c.in_ok-now.ensures.higher, c.in_ok-run.ensures.some, size);
       start = λ none. absurd (omega (arith, none, c.in_ok-run.ensures.some, size));
-      differs = λ told lines has one brief.
-          let none : i ≡ 0 = omega (arith, one, c.runs-test.true) in
+      works = λ told lines has small.
+          let none : i ≡ 0 = omega (arith, small.0, c.runs-test.true) in
           let same = inv.start none in
-          differs_from _ (g.P.Pages.shows c.runs.pages).present _ (2 * c.runs.now.height + 4) (2 * c.args.root.height + 4) (omega (arith, ap (λ (r : Root). r.height) same.0)) (same.1 told)
-          (c.in_ok-now.ensures.differs told (with_lines lines c.args.at (take i new)) (inv.put told lines has) (slight_run new run c.len.result i run_is none one brief));
+          works_from _ (g.P.Pages.shows c.runs.pages).worked _ (2 * c.runs.now.height + 4) (2 * c.args.root.height + 4) (omega (arith, ap (λ (r : Root). r.height) same.0)) (same.1 told).1
+          (c.in_ok-now.ensures.works told (with_lines lines c.args.at (take i new)) (inv.put told lines has) (slight_run new run c.len.result i run_is none small.0 small.1));
       kept = Continues-trans g.met.P.Pages.stays_on inv.kept c.put_run.ensures.kept;
       faults = omega (arith, c.put_run.ensures.cause.later, inv.faults);
     }
@@ -55,3 +55,6 @@ pub returns-clause-put : goal.returns-clause-put
 returns-clause-put g c = λ told lines has.
     let all : take c.runs.put c.args.new.now ≡ c.args.new.now = take_all c.args.new.now c.runs.put (omega (arith, c.runs-test.false)) in
     subst (λ (xs : List (List ℕ)). HasTree (g.P.Pages.shows c.runs.pages).present c.runs.now (with_lines lines c.args.at xs)) all (c.runs.invariant.put told lines has)
+
+pub returns-in_err-now-clause-kept : goal.returns-in_err-now-clause-kept
+returns-in_err-now-clause-kept g c = Continues-trans g.met.P.Pages.stays_on c.runs.invariant.kept c.put_run.ensures.kept

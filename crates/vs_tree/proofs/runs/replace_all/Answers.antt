@@ -1,6 +1,6 @@
 use Rattle.std.proofs.Common.{◌≡◌, ℕ, ◌+◌, ◌-◌, ◌*◌, List, ap, subst, inl, arith, All}
 use Rattle.vs_pages.proofs.Steps.{Continues-trans}
-use Rattle.vs_tree_shape.proofs.Differences.{differs_then, differs_from}
+use Rattle.vs_tree_shape.proofs.Working.{works_then, works_from}
 use Rattle.vs_tree_blocks.specs.Edits.{FitsPage}
 use Rattle.vs_tree.specs.declared.walk.Root.{Root}
 use Rattle.vs_tree.specs.Runs.{HasTree, with_lines, without_lines}
@@ -45,15 +45,18 @@ returns-clause-bytes g c = λ told lines has few.
     let all = bytes_last lines c.args.new.now c.args.root.lines c.requires.some has.count in
     omega (arith, c.saturating_add.ensures, last, most, all, few, Rattle.vs_tree.proofs.Rounds.bytes_run lines 0 c.args.root.lines)
 
-pub returns-clause-differs : goal.returns-clause-differs
-returns-clause-differs g c = λ told lines has small.
+pub returns-clause-works : goal.returns-clause-works
+returns-clause-works g c = λ told lines has small.
     let nothing : c.args.root.lines - 1 ≡ 0 = omega (arith, small.few_out) in
     let same = c.in_ok-most.ensures.none nothing in
     let kept : List (List ℕ) = without_lines lines 0 (c.args.root.lines - 1) in
     let put = c.in_ok-now.ensures.put told kept (c.in_ok-most.ensures.taken told lines has) in
     let height = ap (λ (r : Root). r.height) same.0 in
-    differs_from _ (g.P.Pages.shows c.take_lines.new.pages).present _ (4 * c.in_ok-most.most.root.height + 10) (4 * c.args.root.height + 10) (omega (arith, height)) (same.1 told)
-    (differs_then _ _ _ (2 * c.in_ok-most.most.root.height + 4) (2 * c.in_ok-now.now.height + 4) (4 * c.in_ok-most.most.root.height + 10) (omega (arith, c.in_ok-now.ensures.higher, small.few_in))
-    (c.in_ok-now.ensures.differs told kept (c.in_ok-most.ensures.taken told lines has) small.few_in small.brief_in)
-    (c.in_ok-last.ensures.differs told (with_lines kept 0 c.args.new.now) put (omega arith)
-    (subst (λ (xs : List (List ℕ)). All FitsPage xs) (last_out lines c.args.new.now c.args.root.lines nothing c.requires.some) small.brief_out)))
+    works_from _ (g.P.Pages.shows c.take_lines.new.pages).worked _ (3 * c.in_ok-most.most.root.height + 6) (3 * c.args.root.height + 6) (omega (arith, height)) (same.1 told).1
+    (works_then _ _ _ (2 * c.in_ok-most.most.root.height + 4) (c.in_ok-now.now.height + 1) (3 * c.in_ok-most.most.root.height + 6) (omega (arith, c.in_ok-now.ensures.higher, small.few_in))
+    (c.in_ok-now.ensures.works told kept (c.in_ok-most.ensures.taken told lines has) (small.few_in, small.brief_in))
+    (c.in_ok-last.ensures.works told (with_lines kept 0 c.args.new.now) put
+    (omega arith, subst (λ (xs : List (List ℕ)). All FitsPage xs) (last_out lines c.args.new.now c.args.root.lines nothing c.requires.some) small.brief_out)))
+
+pub returns-in_err-now-clause-kept : goal.returns-in_err-now-clause-kept
+returns-in_err-now-clause-kept g c = Continues-trans g.met.P.Pages.stays_on c.take_lines.ensures.kept c.put_lines.ensures.kept

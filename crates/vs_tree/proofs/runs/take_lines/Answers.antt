@@ -1,12 +1,11 @@
-use Rattle.std.proofs.Common.{◌≡◌, ℕ, ◌+◌, ◌*◌, ◌≤◌, List, [], length, get_or, refl, sym, ap, subst, ◌∙◌, arith}
+use Rattle.std.proofs.Common.{◌≡◌, ℕ, ◌+◌, ◌≤◌, List, [], length, get_or, refl, sym, ap, subst, ◌∙◌, arith}
 use Rattle.vs_text.specs.Text.{bytes_of}
 use Rattle.vs_pages.proofs.Steps.{Continues-none, Continues-trans}
-use Rattle.vs_tree_shape.proofs.Differences.{differs_none, differs_from}
+use Rattle.vs_tree_shape.proofs.Working.{works_none, works_from}
 use Rattle.vs_tree_shape.specs.Trees.{HasLines}
 use Rattle.vs_tree_blocks.specs.Blocks.{tree_format}
 use Rattle.vs_tree_blocks.specs.Edits.{FitsPage}
 use Rattle.vs_tree.specs.Runs.{HasTree, without_lines, run_of}
-use Rattle.vs_tree.specs.declared.walk.Root.{Root}
 use Rattle.vs_tree.proofs.Rounds.{length_without, take_next, bytes_next, bytes_run, without_none}
 use Rattle.vs_tree.proofs.Bounds.{slight_at}
 use Rattle.vs_tree.proofs.runs.take_lines.Goals as goal
@@ -17,9 +16,9 @@ rounds-init g c = record {
   taken = λ told lines has. subst (λ (xs : List (List ℕ)). HasTree (g.P.Pages.shows c.args.pages.now).present c.args.root xs) (sym (without_none lines c.args.at)) has;
   bytes = λ told lines has few. refl;
   lines = omega arith;
-  higher = omega arith;
-  start = λ none. (refl, λ told. refl);
-  differs = λ told lines has one brief. differs_none _ _ _ refl;
+  level = refl;
+  start = λ none. (refl, λ told. (refl, refl));
+  works = λ told lines has small. works_none _ _ _ refl;
   kept = Continues-none g.met.P.Pages.stays_itself c.requires.valid;
   faults = omega arith;
 }
@@ -48,15 +47,15 @@ rounds-preserved g c =
           let after = c.in_ok-after.ensures.edited told (without_lines lines c.args.at c.rounds.removed) here in
           omega (arith, inv.bytes told lines has few, after.1.bytes_are, bytes_next lines c.args.at c.rounds.removed gone inside, bytes_run lines c.args.at (c.rounds.removed + gone), few, c.saturating_add-bytes.ensures);
       lines = omega (arith, c.in_ok-after.ensures.lines, inv.lines);
-      higher = omega (arith, inv.higher, c.in_ok-after.ensures.higher, took.0);
+      level = c.in_ok-after.ensures.level (omega arith) ∙ inv.level;
       start = λ none. absurd (omega (arith, none, took.0));
-      differs = λ told lines has one brief.
-          let none : c.rounds.removed ≡ 0 = omega (arith, one, c.rounds-test.true) in
+      works = λ told lines has small.
+          let none : c.rounds.removed ≡ 0 = omega (arith, small.0, c.rounds-test.true) in
           let same = inv.start none in
           let all : without_lines lines c.args.at c.rounds.removed ≡ lines = ap (λ (k : ℕ). without_lines lines c.args.at k) none ∙ without_none lines c.args.at in
-          let line = slight_at lines c.args.at c.args.count (omega (arith, c.rounds-test.true)) (omega (arith, has.count, c.requires.within, c.rounds-test.true)) brief in
-          differs_from _ (g.P.Pages.shows c.rounds.pages).present _ (2 * c.rounds.now.height + 4) (2 * c.args.root.height + 4) (omega (arith, ap (λ (r : Root). r.height) same.0)) (same.1 told)
-          (c.in_ok-after.ensures.differs told (without_lines lines c.args.at c.rounds.removed) (inv.taken told lines has) (subst (λ (xs : List (List ℕ)). FitsPage (get_or xs c.args.at [])) (sym all) line));
+          let line = slight_at lines c.args.at c.args.count (omega (arith, c.rounds-test.true)) (omega (arith, has.count, c.requires.within, c.rounds-test.true)) small.1 in
+          works_from _ (g.P.Pages.shows c.rounds.pages).worked _ (c.rounds.now.height + 1) (c.args.root.height + 1) (omega (arith, inv.level)) (same.1 told).1
+          (c.in_ok-after.ensures.works told (without_lines lines c.args.at c.rounds.removed) (inv.taken told lines has) (subst (λ (xs : List (List ℕ)). FitsPage (get_or xs c.args.at [])) (sym all) line));
       kept = Continues-trans g.met.P.Pages.stays_on inv.kept c.edit_tree.ensures.kept;
       faults = omega (arith, c.edit_tree.ensures.cause.later, inv.faults);
     }
@@ -73,3 +72,6 @@ pub returns-clause-taken : goal.returns-clause-taken
 returns-clause-taken g c = λ told lines has.
     let all : c.rounds.removed ≡ c.args.count = omega (arith, c.rounds.invariant.within, c.rounds-test.false) in
     subst (λ (i : ℕ). HasTree (g.P.Pages.shows c.rounds.pages).present c.rounds.now (without_lines lines c.args.at i)) all (c.rounds.invariant.taken told lines has)
+
+pub returns-in_err-after-clause-kept : goal.returns-in_err-after-clause-kept
+returns-in_err-after-clause-kept g c = Continues-trans g.met.P.Pages.stays_on c.rounds.invariant.kept c.edit_tree.ensures.kept

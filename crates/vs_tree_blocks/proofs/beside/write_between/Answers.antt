@@ -1,4 +1,5 @@
 -- The clauses on the store are those of the calls before.
+use Rattle.vs_tree_blocks.proofs.beside.write_between.Goals as goal
 use Rattle.std.proofs.Common.{◌≡◌, ℕ, [], ◌∷◌, length, refl, ap, sym, ◌∙◌, arith, rules}
 use Rattle.vs_faults.proofs.Causes.{risen_after}
 use Rattle.vs_pages.proofs.Steps.{Continues-trans}
@@ -7,8 +8,7 @@ use Rattle.vs_tree_blocks.specs.Parts.{page_lines}
 use Rattle.vs_tree_blocks.proofs.RunsLemmas.{told, page_small}
 use Rattle.vs_tree_blocks.proofs.PointersLemmas.{stored_as, added_as}
 use Rattle.vs_tree_blocks.proofs.DataLemmas.{entry_with, written_between}
-use Rattle.vs_tree_shape.proofs.Differences.{differs_put, differs_then}
-use Rattle.vs_tree_blocks.proofs.beside.write_between.Goals as goal
+use Rattle.vs_tree_shape.proofs.Working.{works_one, works_then}
 
 pub returns-clause-wrote : goal.returns-clause-wrote
 returns-clause-wrote g c =
@@ -24,9 +24,21 @@ returns-clause-wrote g c =
     (λ told-pages. added_as _ _ _ _ _ _ (c.in_ok-other.ensures.added told-pages) c.deref-2.ensures.value) b.lines_are
     (c.in_ok-vec.ensures.items ∙ ap (λ (e : Entry). e ∷ c.in_ok-new.new ∷ c.entry-two.result ∷ []) one ∙ ap (λ (e : Entry). entry_with c.args.block 1 (length (page_lines p.first)) ∷ c.in_ok-new.new ∷ e ∷ []) two)
 
-pub returns-clause-differs : goal.returns-clause-differs
-returns-clause-differs g c = λ few told-pages. differs_then _ _ _ 2 1 3 (omega arith)
-    (differs_then _ _ _ 1 1 2 (omega arith) (differs_put _ _ c.args.block _ (c.in_ok-touch.ensures.ok told-pages)) (c.in_ok-new.ensures.differs few told-pages)) (c.in_ok-other.ensures.differs told-pages refl)
+pub returns-clause-works : goal.returns-clause-works
+returns-clause-works g c = λ few told-pages. works_then _ _ _ 2 1 3 (omega arith)
+    (works_then _ _ _ 1 1 2 (omega arith) (works_one _ _ c.args.block (c.in_ok-touch.ensures.change.worked told-pages)) (c.in_ok-new.ensures.works few told-pages)) (c.in_ok-other.ensures.works told-pages refl)
+
+pub returns-in_err-new-clause-kept : goal.returns-in_err-new-clause-kept
+returns-in_err-new-clause-kept g c = Continues-trans g.met.P.Pages.stays_on c.in_ok-touch.ensures.kept c.add.ensures.kept
+
+pub returns-in_err-other-clause-kept : goal.returns-in_err-other-clause-kept
+returns-in_err-other-clause-kept g c = Continues-trans g.met.P.Pages.stays_on (Continues-trans g.met.P.Pages.stays_on c.in_ok-touch.ensures.kept c.in_ok-new.ensures.kept) c.add_block.ensures.kept
+
+pub returns-in_err-vec-clause-kept : goal.returns-in_err-vec-clause-kept
+returns-in_err-vec-clause-kept g c = Continues-trans g.met.P.Pages.stays_on (Continues-trans g.met.P.Pages.stays_on c.in_ok-touch.ensures.kept c.in_ok-new.ensures.kept) c.in_ok-other.ensures.kept
+
+pub returns-clause-kept : goal.returns-clause-kept
+returns-clause-kept g c = Continues-trans g.met.P.Pages.stays_on (Continues-trans g.met.P.Pages.stays_on c.in_ok-touch.ensures.kept c.in_ok-new.ensures.kept) c.in_ok-other.ensures.kept
 
 pub returns-in_err-touch-clause-kept : goal.returns-in_err-touch-clause-kept
 returns-in_err-touch-clause-kept g c = c.touch.ensures.kept
@@ -37,17 +49,11 @@ returns-in_err-touch-clause-cause g c = record {
   risen = λ failed. c.touch.ensures.cause.risen (search rules);
 }
 
-pub returns-in_err-new-clause-kept : goal.returns-in_err-new-clause-kept
-returns-in_err-new-clause-kept g c = Continues-trans g.met.P.Pages.stays_on c.in_ok-touch.ensures.kept c.add.ensures.kept
-
 pub returns-in_err-new-clause-cause : goal.returns-in_err-new-clause-cause
 returns-in_err-new-clause-cause g c = record {
   later = omega (arith, c.in_ok-touch.ensures.cause.later, c.add.ensures.cause.later);
   risen = λ failed. risen_after (c.in_ok-touch.ensures.cause.later) (c.add.ensures.cause.risen (search rules));
 }
-
-pub returns-in_err-other-clause-kept : goal.returns-in_err-other-clause-kept
-returns-in_err-other-clause-kept g c = Continues-trans g.met.P.Pages.stays_on (Continues-trans g.met.P.Pages.stays_on c.in_ok-touch.ensures.kept c.in_ok-new.ensures.kept) c.add_block.ensures.kept
 
 pub returns-in_err-other-clause-cause : goal.returns-in_err-other-clause-cause
 returns-in_err-other-clause-cause g c = record {
@@ -55,17 +61,11 @@ returns-in_err-other-clause-cause g c = record {
   risen = λ failed. risen_after (omega (arith, c.in_ok-touch.ensures.cause.later, c.in_ok-new.ensures.cause.later)) (c.add_block.ensures.cause.risen (search rules));
 }
 
-pub returns-in_err-vec-clause-kept : goal.returns-in_err-vec-clause-kept
-returns-in_err-vec-clause-kept g c = Continues-trans g.met.P.Pages.stays_on (Continues-trans g.met.P.Pages.stays_on c.in_ok-touch.ensures.kept c.in_ok-new.ensures.kept) c.in_ok-other.ensures.kept
-
 pub returns-in_err-vec-clause-cause : goal.returns-in_err-vec-clause-cause
 returns-in_err-vec-clause-cause g c = record {
   later = omega (arith, c.in_ok-touch.ensures.cause.later, c.in_ok-new.ensures.cause.later, c.in_ok-other.ensures.cause.later);
   risen = λ failed. absurd (search rules);
 }
-
-pub returns-clause-kept : goal.returns-clause-kept
-returns-clause-kept g c = Continues-trans g.met.P.Pages.stays_on (Continues-trans g.met.P.Pages.stays_on c.in_ok-touch.ensures.kept c.in_ok-new.ensures.kept) c.in_ok-other.ensures.kept
 
 pub returns-clause-cause : goal.returns-clause-cause
 returns-clause-cause g c = record {

@@ -1,3 +1,4 @@
+use Rattle.vs_tree_blocks.proofs.data.edit_data.Goals as goal
 use Rattle.std.proofs.Common.{◌≡◌, ◌≤◌, ◌-◌, ℕ, ◌+◌, List, [], length, take, drop, sym, ap, subst, ◌∙◌, arith, rules, get_or}
 use Rattle.vs_faults.proofs.Causes.{risen_after}
 use Rattle.vs_pages.proofs.Steps.{Continues-trans, OnlyReads-continues}
@@ -5,7 +6,9 @@ use Rattle.vs_tree_shape.specs.Changes.{ReplacedBy, edited, splice}
 use Rattle.vs_tree_blocks.specs.declared.edit.Edit.{Edit}
 use Rattle.vs_tree_blocks.specs.declared.edit.Edited.{Edited}
 use Rattle.vs_tree_blocks.specs.Cuts.{blocks_with, part, room_in}
-use Rattle.vs_tree_blocks.specs.Edits.{added_by, blocks_after, change_of, IsOnePageEdit}
+use Rattle.vs_tree_blocks.specs.Edits.{added_by, blocks_after, change_of, IsOnePageEdit, most_entries, most_worked}
+use Rattle.vs_tree_blocks.specs.declared.edit.Edit.TheVariants.{Before, After, Remove}
+use Rattle.vs_data.specs.Blocks.{space_of}
 use Rattle.vs_tree_blocks.specs.Runs.{lines_within}
 use Rattle.vs_tree_shape.proofs.Splices.{length_splice}
 use Rattle.vs_tree_blocks.proofs.CutsLemmas.{cut_count, part_count}
@@ -16,13 +19,11 @@ use Rattle.vs_tree_blocks.proofs.Outcomes.{if_ok_weaker, if_ok_both}
 use Rattle.vs_tree_blocks.proofs.EditedLemmas.{none_taken, takes_some, removed}
 use Rattle.vs_text.specs.Text.{bytes_of}
 use Rattle.vs_pages.specs.Maps.{span}
-use Rattle.vs_tree_blocks.proofs.DataLemmas.{count_is, at_alone}
+use Rattle.vs_tree_blocks.proofs.DataLemmas.{count_is, at_alone, promise_page, promise_long}
 use Rattle.vs_tree_shape.proofs.Walks.{above_lines}
-use Rattle.vs_tree_blocks.proofs.DataLemmas.{promise_page, promise_long}
 use Rattle.vs_tree_blocks.proofs.LoadLemmas.{alone_pages}
-use Rattle.vs_tree_shape.proofs.Differences.{differs_most, differs_from}
+use Rattle.vs_tree_shape.proofs.Working.{works_most, works_from}
 use Rattle.std.proofs.lemmas.Result.{on_ok_weaker}
-use Rattle.vs_tree_blocks.proofs.data.edit_data.Goals as goal
 
 pub edit_long-requires-clause-there : goal.edit_long-requires-clause-there
 edit_long-requires-clause-there g c = λ told. let a = c.requires.there told in record { lines = a.tree.lines; reads = (above_lines tree_format _ c.args.entry c.args.at a).0; count = a.lines }
@@ -77,19 +78,24 @@ returns-in-Remove-clause-wrote g c =
     (λ lines is lt. takes_some c.args.edit most lines c.args.at after.removed.lines count after.removed.bytes c.in-Remove.is took.0 (omega (arith, c.min-gone.ensures, c.from.ensures, count_is c.load_data.new.bytes.items c.in_ok-view.view lines c.in_ok-view.ensures.view is, c.requires.within, c.in_ok-view.ensures.count)) (took.1 ∙ ap (λ (ls : List (List ℕ)). bytes_of (take count (drop c.args.at ls))) (within_is c.load_data.new.bytes.items lines is))))
     c.remove_lines.ensures.wrote (if_ok_both c.remove_lines.result gone bytes _ (λ after a b. (a, b)) c.remove_lines.ensures.gone c.remove_lines.ensures.bytes)
 
-pub returns-then-entry-ne1-clause-differs : goal.returns-then-entry-ne1-clause-differs
-returns-then-entry-ne1-clause-differs g c = on_ok_weaker c.edit_long.result
+some_worked : (edit : Edit) → 1 ≤ most_worked edit 0
+some_worked (Before run) = omega arith
+some_worked (After run) = omega arith
+some_worked (Remove most) = omega arith
+
+pub returns-then-entry-ne1-clause-works : goal.returns-then-entry-ne1-clause-works
+returns-then-entry-ne1-clause-works g c = on_ok_weaker c.edit_long.result
     (λ few told a slight.
     let l = above_lines tree_format _ c.args.entry c.args.at a in
     let one = at_alone _ c.args.entry.block c.args.entry.pages a.tree.lines (alone_pages c.args.entry c.requires.fields c.if-entry-ne1.true) l.0 in
     let first : c.args.at ≡ 0 = omega (arith, one, a.within) in
-    differs_most _ _ 1 3 (omega arith) (few told a.tree.lines l.0 (subst (λ (k : ℕ). IsOnePageEdit c.args.edit (get_or a.tree.lines k [])) first slight)))
-    c.edit_long.ensures.differs
+    works_most _ _ 1 (most_worked c.args.edit 0) (some_worked c.args.edit) (few told a.tree.lines l.0 (subst (λ (k : ℕ). IsOnePageEdit c.args.edit (get_or a.tree.lines k [])) first slight)))
+    c.edit_long.ensures.works
 
-pub returns-in-Remove-clause-differs : goal.returns-in-Remove-clause-differs
-returns-in-Remove-clause-differs g c = on_ok_weaker c.remove_lines.result
-    (λ few told a slight. differs_from _ (g.P.Pages.shows c.load_data.new.pages).present _ 1 3 (omega arith) (c.load_data.ensures.kept.present told) (few told))
-    c.remove_lines.ensures.differs
+pub returns-in-Remove-clause-works : goal.returns-in-Remove-clause-works
+returns-in-Remove-clause-works g c = on_ok_weaker c.remove_lines.result
+    (λ few told a slight. works_from _ (g.P.Pages.shows c.load_data.new.pages).worked _ 1 (most_worked c.args.edit 0) (omega (arith, ap (λ (e : Edit). most_worked e 0) c.in-Remove.is)) (c.load_data.ensures.kept.still.worked told) (few told))
+    c.remove_lines.ensures.works
 
 pub returns-in_ok-entries-in-Before-clause-blocks : goal.returns-in_ok-entries-in-Before-clause-blocks
 returns-in_ok-entries-in-Before-clause-blocks g c = λ told bytes read.
@@ -158,6 +164,25 @@ returns-in-Remove-clause-lines g c =
     if_ok_both c.remove_lines.result _ (λ after. after.removed.lines ≡ c.min-gone.result) _
     (λ (after : Edited) wrote took. omega (arith, wrote.lines, part_count (splice ls c.args.at c.min-gone.result []), length_splice ls [] c.args.at c.min-gone.result within, took, t.count, c.in_ok-view.ensures.count, within, ap added_by c.in-Remove.is))
     c.remove_lines.ensures.wrote c.remove_lines.ensures.gone
+
+pub returns-in_ok-entries-in-Before-clause-works : goal.returns-in_ok-entries-in-Before-clause-works
+returns-in_ok-entries-in-Before-clause-works g c = λ told a slight.
+    let room : space_of c.in-Before.lines.now ≤ 4072 = subst (λ (e : Edit). IsOnePageEdit e (get_or a.tree.lines c.args.at [])) c.in-Before.is slight in
+    works_from _ (g.P.Pages.shows c.load_data.new.pages).worked _ 3 (most_worked c.args.edit 0) (omega (arith, ap (λ (e : Edit). most_worked e 0) c.in-Before.is)) (c.load_data.ensures.kept.still.worked told) (c.in_ok-entries-in-Before.ensures.works room told)
+
+pub returns-in_ok-entries-in-After-clause-works : goal.returns-in_ok-entries-in-After-clause-works
+returns-in_ok-entries-in-After-clause-works g c = λ told a slight.
+    let room : space_of c.in-After.lines.now ≤ 4072 = subst (λ (e : Edit). IsOnePageEdit e (get_or a.tree.lines c.args.at [])) c.in-After.is slight in
+    works_from _ (g.P.Pages.shows c.load_data.new.pages).worked _ 3 (most_worked c.args.edit 0) (omega (arith, ap (λ (e : Edit). most_worked e 0) c.in-After.is)) (c.load_data.ensures.kept.still.worked told) (c.in_ok-entries-in-After.ensures.works room told)
+
+pub returns-in_ok-entries-in-Before-clause-single : goal.returns-in_ok-entries-in-Before-clause-single
+returns-in_ok-entries-in-Before-clause-single g c = omega (arith, with_few c.in_ok-entries-in-Before.entries c.with.result c.with.ensures c.in_ok-entries-in-Before.ensures.wrote.few, ap most_entries c.in-Before.is)
+
+pub returns-in_ok-entries-in-After-clause-single : goal.returns-in_ok-entries-in-After-clause-single
+returns-in_ok-entries-in-After-clause-single g c = omega (arith, with_few c.in_ok-entries-in-After.entries c.with-in-After.result c.with-in-After.ensures c.in_ok-entries-in-After.ensures.wrote.few, ap most_entries c.in-After.is)
+
+pub returns-in-Remove-clause-single : goal.returns-in-Remove-clause-single
+returns-in-Remove-clause-single g c = if_ok_weaker c.remove_lines.result _ _ (λ (after : Edited) one. omega (arith, one, ap most_entries c.in-Remove.is)) c.remove_lines.ensures.single
 
 pub returns-then-entry-ne1-clause-kept : goal.returns-then-entry-ne1-clause-kept
 returns-then-entry-ne1-clause-kept g c = c.edit_long.ensures.kept

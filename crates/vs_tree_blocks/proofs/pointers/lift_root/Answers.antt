@@ -1,4 +1,5 @@
 -- Each half is written into a new block, and the clauses on the store are those of the calls before.
+use Rattle.vs_tree_blocks.proofs.pointers.lift_root.Goals as goal
 use Rattle.std.proofs.Common.{◌≡◌, refl, arith, rules}
 use Rattle.vs_faults.proofs.Causes.{cause_none, risen_after}
 use Rattle.vs_pages.proofs.Steps.{Continues-none, Continues-trans}
@@ -6,8 +7,7 @@ use Rattle.std.proofs.lemmas.Result.{on_ok_weaker}
 use Rattle.vs_pages.specs.Maps.{Map, lacks}
 use Rattle.vs_pages.proofs.MapsLemmas.{pages_at-there, span-first}
 use Rattle.vs_tree_blocks.proofs.PointersLemmas.{stored_as, added_as, parts_below, root_leads, root_lifted}
-use Rattle.vs_tree_shape.proofs.Differences.{differs_put, differs_then}
-use Rattle.vs_tree_blocks.proofs.pointers.lift_root.Goals as goal
+use Rattle.vs_tree_shape.proofs.Working.{works_one, works_then}
 
 pub entry_above-one-requires-clause-small : goal.entry_above-one-requires-clause-small
 entry_above-one-requires-clause-small g c = omega (arith, parts_below _ c.args.entries.now _ _ c.halve.ensures.first c.halve.ensures.second, c.requires.small)
@@ -27,10 +27,10 @@ returns-clause-wrote g c = on_ok_weaker c.touch.result
     (stored_as _ _ _ _ _ (touched told) c.deref-3.ensures.value c.in_ok-top.ensures.size) c.in_ok-top.ensures.entries refl below)
     c.touch.ensures.ok
 
-pub returns-clause-differs : goal.returns-clause-differs
-returns-clause-differs g c = on_ok_weaker c.touch.result
-    (λ touched told. differs_then _ _ _ 2 1 3 (omega arith) (differs_then _ _ _ 1 1 2 (omega arith) (c.in_ok-moved.ensures.differs told refl) (c.in_ok-other.ensures.differs told refl)) (differs_put _ _ 1 _ (touched told)))
-    c.touch.ensures.ok
+pub returns-clause-works : goal.returns-clause-works
+returns-clause-works g c = on_ok_weaker c.touch.result
+    (λ touched told. works_then _ _ _ 2 1 3 (omega arith) (works_then _ _ _ 1 1 2 (omega arith) (c.in_ok-moved.ensures.works told refl) (c.in_ok-other.ensures.works told refl)) (works_one _ _ 1 (touched.worked told)))
+    c.touch.ensures.change
 
 pub returns-clause-blocks : goal.returns-clause-blocks
 returns-clause-blocks g c = on_ok_weaker c.touch.result
@@ -43,6 +43,15 @@ returns-clause-blocks g c = on_ok_weaker c.touch.result
     c.entry_above-one.ensures.entry c.entry_above-two.ensures.entry
     (stored_as _ _ _ _ _ (touched told) c.deref-3.ensures.value c.in_ok-top.ensures.size) c.in_ok-top.ensures.entries refl)
     c.touch.ensures.ok
+
+pub returns-in_err-other-clause-kept : goal.returns-in_err-other-clause-kept
+returns-in_err-other-clause-kept g c = Continues-trans g.met.P.Pages.stays_on c.in_ok-moved.ensures.kept c.add_block-2.ensures.kept
+
+pub returns-in_err-top-clause-kept : goal.returns-in_err-top-clause-kept
+returns-in_err-top-clause-kept g c = Continues-trans g.met.P.Pages.stays_on c.in_ok-moved.ensures.kept c.in_ok-other.ensures.kept
+
+pub returns-clause-kept : goal.returns-clause-kept
+returns-clause-kept g c = Continues-trans g.met.P.Pages.stays_on (Continues-trans g.met.P.Pages.stays_on c.in_ok-moved.ensures.kept c.in_ok-other.ensures.kept) c.touch.ensures.kept
 
 pub returns-in_err-bytes-clause-kept : goal.returns-in_err-bytes-clause-kept
 returns-in_err-bytes-clause-kept g c = Continues-none g.met.P.Pages.stays_itself c.requires.valid
@@ -68,26 +77,17 @@ returns-in_err-more-clause-cause g c = record {
   risen = λ failed. absurd (search rules);
 }
 
-pub returns-in_err-other-clause-kept : goal.returns-in_err-other-clause-kept
-returns-in_err-other-clause-kept g c = Continues-trans g.met.P.Pages.stays_on c.in_ok-moved.ensures.kept c.add_block-2.ensures.kept
-
 pub returns-in_err-other-clause-cause : goal.returns-in_err-other-clause-cause
 returns-in_err-other-clause-cause g c = record {
   later = omega (arith, c.in_ok-moved.ensures.cause.later, c.add_block-2.ensures.cause.later);
   risen = λ failed. risen_after (c.in_ok-moved.ensures.cause.later) (c.add_block-2.ensures.cause.risen (search rules));
 }
 
-pub returns-in_err-top-clause-kept : goal.returns-in_err-top-clause-kept
-returns-in_err-top-clause-kept g c = Continues-trans g.met.P.Pages.stays_on c.in_ok-moved.ensures.kept c.in_ok-other.ensures.kept
-
 pub returns-in_err-top-clause-cause : goal.returns-in_err-top-clause-cause
 returns-in_err-top-clause-cause g c = record {
   later = omega (arith, c.in_ok-moved.ensures.cause.later, c.in_ok-other.ensures.cause.later);
   risen = λ failed. absurd (search rules);
 }
-
-pub returns-clause-kept : goal.returns-clause-kept
-returns-clause-kept g c = Continues-trans g.met.P.Pages.stays_on (Continues-trans g.met.P.Pages.stays_on c.in_ok-moved.ensures.kept c.in_ok-other.ensures.kept) c.touch.ensures.kept
 
 pub returns-clause-cause : goal.returns-clause-cause
 returns-clause-cause g c = record {

@@ -1,12 +1,12 @@
 -- Each half is written, and the clauses on the store are those of the calls before.
+use Rattle.vs_tree_blocks.proofs.pointers.write_two.Goals as goal
 use Rattle.std.proofs.Common.{ℕ, refl, ap, arith, rules}
 use Rattle.vs_faults.proofs.Causes.{cause_none, risen_after}
 use Rattle.vs_pages.proofs.Steps.{Continues-none, Continues-trans}
 use Rattle.vs_tree_shape.specs.declared.entries.Entry.{Entry}
 use Rattle.vs_tree_shape.specs.Places.{lines_below}
 use Rattle.vs_tree_blocks.proofs.PointersLemmas.{stored_as, added_as, parts_below, two_leads, two_written}
-use Rattle.vs_tree_shape.proofs.Differences.{differs_put, differs_then}
-use Rattle.vs_tree_blocks.proofs.pointers.write_two.Goals as goal
+use Rattle.vs_tree_shape.proofs.Working.{works_one, works_then}
 
 pub entry_above-one-requires-clause-small : goal.entry_above-one-requires-clause-small
 entry_above-one-requires-clause-small g c = omega (arith, parts_below _ c.args.entries.now _ _ c.halve.ensures.first c.halve.ensures.second, c.requires.small)
@@ -21,8 +21,8 @@ returns-clause-wrote g c = λ told d kids below.
     (added_as _ _ _ _ _ _ (c.in_ok-other.ensures.added told) c.deref-2.ensures.value) c.in_ok-more.ensures.entries
     c.entry_above-one.ensures.entry c.entry_above-two.ensures.entry c.in_ok-vec.ensures.items below
 
-pub returns-clause-differs : goal.returns-clause-differs
-returns-clause-differs g c = λ told. differs_then _ _ _ 1 1 2 (omega arith) (differs_put _ _ c.args.block _ (c.in_ok-touch.ensures.ok told)) (c.in_ok-other.ensures.differs told refl)
+pub returns-clause-works : goal.returns-clause-works
+returns-clause-works g c = λ told. works_then _ _ _ 1 1 2 (omega arith) (works_one _ _ c.args.block (c.in_ok-touch.ensures.change.worked told)) (c.in_ok-other.ensures.works told refl)
 
 pub returns-clause-lines : goal.returns-clause-lines
 returns-clause-lines g c =
@@ -35,6 +35,15 @@ returns-clause-blocks g c = λ told.
     (stored_as _ _ _ _ _ (c.in_ok-touch.ensures.ok told) c.deref.ensures.value c.in_ok-bytes.ensures.size) c.in_ok-bytes.ensures.entries
     (added_as _ _ _ _ _ _ (c.in_ok-other.ensures.added told) c.deref-2.ensures.value) c.in_ok-more.ensures.entries
     c.entry_above-one.ensures.entry c.entry_above-two.ensures.entry c.in_ok-vec.ensures.items
+
+pub returns-in_err-other-clause-kept : goal.returns-in_err-other-clause-kept
+returns-in_err-other-clause-kept g c = Continues-trans g.met.P.Pages.stays_on c.in_ok-touch.ensures.kept c.add_block.ensures.kept
+
+pub returns-in_err-vec-clause-kept : goal.returns-in_err-vec-clause-kept
+returns-in_err-vec-clause-kept g c = Continues-trans g.met.P.Pages.stays_on c.in_ok-touch.ensures.kept c.in_ok-other.ensures.kept
+
+pub returns-clause-kept : goal.returns-clause-kept
+returns-clause-kept g c = Continues-trans g.met.P.Pages.stays_on c.in_ok-touch.ensures.kept c.in_ok-other.ensures.kept
 
 pub returns-in_err-bytes-clause-kept : goal.returns-in_err-bytes-clause-kept
 returns-in_err-bytes-clause-kept g c = Continues-none g.met.P.Pages.stays_itself c.requires.valid
@@ -57,26 +66,17 @@ returns-in_err-touch-clause-cause g c = record {
   risen = λ failed. c.touch.ensures.cause.risen (search rules);
 }
 
-pub returns-in_err-other-clause-kept : goal.returns-in_err-other-clause-kept
-returns-in_err-other-clause-kept g c = Continues-trans g.met.P.Pages.stays_on c.in_ok-touch.ensures.kept c.add_block.ensures.kept
-
 pub returns-in_err-other-clause-cause : goal.returns-in_err-other-clause-cause
 returns-in_err-other-clause-cause g c = record {
   later = omega (arith, c.in_ok-touch.ensures.cause.later, c.add_block.ensures.cause.later);
   risen = λ failed. risen_after c.in_ok-touch.ensures.cause.later (c.add_block.ensures.cause.risen (search rules));
 }
 
-pub returns-in_err-vec-clause-kept : goal.returns-in_err-vec-clause-kept
-returns-in_err-vec-clause-kept g c = Continues-trans g.met.P.Pages.stays_on c.in_ok-touch.ensures.kept c.in_ok-other.ensures.kept
-
 pub returns-in_err-vec-clause-cause : goal.returns-in_err-vec-clause-cause
 returns-in_err-vec-clause-cause g c = record {
   later = omega (arith, c.in_ok-touch.ensures.cause.later, c.in_ok-other.ensures.cause.later);
   risen = λ failed. absurd (search rules);
 }
-
-pub returns-clause-kept : goal.returns-clause-kept
-returns-clause-kept g c = Continues-trans g.met.P.Pages.stays_on c.in_ok-touch.ensures.kept c.in_ok-other.ensures.kept
 
 pub returns-clause-cause : goal.returns-clause-cause
 returns-clause-cause g c = record {

@@ -1,9 +1,9 @@
 use Rattle.std.proofs.Common.{refl}
-use Rattle.vs_pair.proofs.Lending.{all_kept, ready_with, keeps_with}
+use Rattle.vs_pair.proofs.Lending.{ready_with, keeps_with}
 use Rattle.vs_pair.proofs.lent.PairPagesPages.rollback.Goals as goal
 
 pub returns-clause-valid : goal.returns-clause-valid
-returns-clause-valid g c told = ready_with c.args.self.now.pair.now c.rollback.new.self _ (all_kept _ _ _ c.rollback.ensures.stays) (c.requires.valid told)
+returns-clause-valid g c told = ready_with c.args.self.now.pair.now c.rollback.new.self _ c.rollback.ensures.stays (c.requires.valid told)
 
 pub returns-clause-stays : goal.returns-clause-stays
-returns-clause-stays g c = (refl, refl, keeps_with g.F.World.tells c.args.self.now.pair.now c.rollback.new.self (g.F.World.scene c.args.self.now.host.now) (all_kept _ _ _ c.rollback.ensures.stays))
+returns-clause-stays g c = (refl, refl, keeps_with g.F.World.tells c.args.self.now.pair.now c.rollback.new.self (g.F.World.scene c.args.self.now.host.now) c.rollback.ensures.stays)

@@ -1,10 +1,27 @@
-use Rattle.std.proofs.Common.{refl}
-use Rattle.vs_pair.proofs.Lending.{all_kept, ready_with, keeps_with}
+use Rattle.std.proofs.Common.{[], refl, arith, rules}
+use Rattle.std.proofs.lemmas.Result.{on_ok_weaker, on_err_weaker}
+use Rattle.vs_pages.proofs.Lending.{lent_change, lent_still}
+use Rattle.vs_pair.proofs.Lending.{ready_with, keeps_with}
 use Rattle.vs_pair.proofs.lent.PairPagesPages.touch.Goals as goal
 
 pub returns-clause-kept : goal.returns-clause-kept
 returns-clause-kept g c = record {
-  valid = λ told. ready_with c.args.self.now.pair.now c.touch.new.self _ (all_kept _ _ _ c.touch.ensures.kept.stays) (c.requires.valid told);
-  stays = (refl, refl, keeps_with g.F.World.tells c.args.self.now.pair.now c.touch.new.self (g.F.World.scene c.args.self.now.host.now) (all_kept _ _ _ c.touch.ensures.kept.stays));
+  valid = λ told. ready_with c.args.self.now.pair.now c.touch.new.self _ c.touch.ensures.kept.stays (c.requires.valid told);
+  stays = (refl, refl, keeps_with g.F.World.tells c.args.self.now.pair.now c.touch.new.self (g.F.World.scene c.args.self.now.host.now) c.touch.ensures.kept.stays);
   committed = λ told. c.touch.ensures.kept.committed refl;
+  commits = λ told. c.touch.ensures.kept.commits refl;
+  longer = c.touch.ensures.kept.longer;
+  grown = λ told. c.touch.ensures.kept.grown refl;
 }
+
+pub returns-clause-change : goal.returns-clause-change
+returns-clause-change g c = on_ok_weaker c.touch.result (λ change. lent_change g.F.World.tells.folder c.args.self.now.pair.now.pages c.args.self.now.pair.now.pages c.touch.new.self _ _ _ refl change) c.touch.ensures.change
+
+pub returns-clause-still : goal.returns-clause-still
+returns-clause-still g c = on_err_weaker c.touch.result (λ still. lent_still g.F.World.tells.folder c.args.self.now.pair.now.pages c.args.self.now.pair.now.pages c.touch.new.self _ _ refl still) c.touch.ensures.still
+
+pub returns-then-not-has-clause-still : goal.returns-then-not-has-clause-still
+returns-then-not-has-clause-still g c = lent_still _ c.args.self.now.pair.now.pages c.args.self.now.pair.now.pages c.args.self.now.pair.now.pages _ _ refl (record { count = refl; worked = λ told. refl; before = λ told. refl })
+
+pub returns-then-not-has-clause-kept : goal.returns-then-not-has-clause-kept
+returns-then-not-has-clause-kept g c = record { valid = search rules; stays = search rules; committed = λ told. refl; commits = λ told. refl; longer = omega arith; grown = λ told. ([], refl) }

@@ -1,7 +1,9 @@
-use Rattle.std.proofs.Common.{refl}
+use Rattle.std.proofs.Common.{ℕ, [], ◌∷◌, refl, sym, subst}
 use Rattle.vs_host.specs.Disk.{SyncsNames}
 use Rattle.vs_host.specs.Trace.{SyncedNames}
-use Rattle.vs_pair.specs.Pair.{sync_with}
+use Rattle.vs_pair.specs.declared.gate.Gate.TheVariants.{Open}
+use Rattle.vs_pair.specs.declared.side.Side.TheVariants.{Swo}
+use Rattle.vs_pair.specs.Pair.{Known, known_of, sync_with, IsFit}
 use Rattle.vs_pair.specs.Swap.{body_of}
 use Rattle.vs_pair.proofs.MadeFiles.{made_holds}
 use Rattle.vs_disk.proofs.Quiet.{none_call, none_then}
@@ -34,8 +36,16 @@ returns-clause-acts g c =
 
 pub returns-clause-ok : goal.returns-clause-ok
 returns-clause-ok g c told =
-    both_fit g.F.World.tells c.args.self.now.files.names c.args.self.now.files.named (sync_with c.args.self.now 1 c.args.head.now) (sync_with c.args.self.now 2 c.args.head.now) refl refl (g.F.World.scene c.args.host.now) c.requires.fresh c.args.self.now.pages c.committed_end.result refl refl c.committed_end.ensures.last (g.F.World.scene c.make.new.host).folder (g.F.World.scene c.make-2.new.host).folder (g.F.World.scene c.sync_names.new.self).folder (g.F.World.is_folder c.sync_names.new.self told)
-    (made_holds _ _ _ (c.in_ok-make.ensures.made told)) (c.make-2.ensures.acts.runs told).now (made_holds _ _ _ (c.in_ok-make-2.ensures.made told)) (c.in_ok-sync_names.ensures.ok told)
+    let known : ℕ → Known = λ commits. record (known_of c.args.self.now) {
+      newer = Swo;
+      gate = Open;
+      generation = 2;
+      newer_has = record { commits = commits; end = c.committed_end.result };
+      older_has = record { commits = commits; end = c.committed_end.result };
+    } in
+    subst (λ (n : ℕ). IsFit (known n) (g.F.World.scene c.sync_names.new.self).folder (sync_with c.args.self.now 2 c.args.head.now) [] (sync_with c.args.self.now 1 c.args.head.now ∷ [])) (sym c.commits.ensures)
+    (both_fit g.F.World.tells c.args.self.now.files.names c.args.self.now.files.named (sync_with c.args.self.now 1 c.args.head.now) (sync_with c.args.self.now 2 c.args.head.now) refl refl (g.F.World.scene c.args.host.now) c.requires.fresh c.args.self.now.pages c.committed_end.result refl refl c.committed_end.ensures.last (g.F.World.scene c.make.new.host).folder (g.F.World.scene c.make-2.new.host).folder (g.F.World.scene c.sync_names.new.self).folder (g.F.World.is_folder c.sync_names.new.self told)
+    (made_holds _ _ _ (c.in_ok-make.ensures.made told)) (c.make-2.ensures.acts.runs told).now (made_holds _ _ _ (c.in_ok-make-2.ensures.made told)) (c.in_ok-sync_names.ensures.ok told))
 
 pub returns-clause-ends : goal.returns-clause-ends
 returns-clause-ends g c told =

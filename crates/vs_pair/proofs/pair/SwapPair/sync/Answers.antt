@@ -1,8 +1,8 @@
-use Rattle.std.proofs.Common.{◌≡◌, ◌+◌, ◌∙◌, refl, sym, subst, ap}
+use Rattle.std.proofs.Common.{◌≡◌, ℕ, ◌+◌, ◌∙◌, refl, sym, subst, ap}
 use Rattle.std.specs.Prelude.{[], ◌∷◌}
 use Rattle.vs_host.specs.File.{Leaves}
 use Rattle.vs_host.specs.Disk.{ChangesFile, Name}
-use Rattle.vs_pages.specs.Memory.{committed_of}
+use Rattle.vs_pages.specs.Memory.{commits_of, committed_of}
 use Rattle.vs_pair.specs.declared.gate.Gate.{Gate}
 use Rattle.vs_pair.specs.declared.gate.Gate.TheVariants.{Open}
 use Rattle.vs_pair.specs.declared.side.Side.{Side}
@@ -80,22 +80,23 @@ returns-clause-ok g c told newest begun past fit =
     let body : Body = record { first = c.page_zero-first.result; pages = committed_of c.args.self.now.pages } in
     let same : body ≡ body_of files.names.file (sync_of c.args.self.now c.args.head.now) =
     body_is files.names.file (sync_of c.args.self.now c.args.head.now) c.as_str.result.now c.page_zero-first.result c.as_str.ensures c.page_zero-first.ensures.page in
-    let now : Side → Gate → Known = λ side gate. record files {
+    let now : Side → Gate → ℕ → Known = λ side gate commits. record files {
       newer = side;
       gate = gate;
       generation = files.generation + 1;
-      newer_has = record { mark = files.generation + 1; end = c.committed_end.result };
+      newer_has = record { commits = commits; end = c.committed_end.result };
       older_has = files.newer_has;
     } in
-    let after : IsFit (now (other_side files.newer) Open) (g.F.World.scene c.sync_file.new.host).folder (sync_of c.args.self.now c.args.head.now) [] (newest ∷ past) =
+    let after : IsFit (now (other_side files.newer) Open (commits_of files.pages).count) (g.F.World.scene c.sync_file.new.host).folder (sync_of c.args.self.now c.args.head.now) [] (newest ∷ past) =
     done files newest begun past _ fit (sync_of c.args.self.now c.args.head.now) refl c.requires.room (SyncStep files.gate (body_of files.names.file (sync_of c.args.self.now c.args.head.now))) _
     (moved c.swap_name-name.result.now (name_of files.names (other_side files.newer)) name body _ same (SyncStep files.gate) _ _ (c.sync_file.ensures.acts.runs told).now)
     (moved_has c.swap_name-name.result.now (name_of files.names (other_side files.newer)) name body _ same (λ b file. Leaves file (Holds b)) _ (c.in_ok-sync_file.ensures.stands told))
     c.committed_end.result refl c.committed_end.ensures.last in
-    subst (λ (s : Side). IsFit (now s c.sync_file.new.gate) (g.F.World.scene c.sync_file.new.host).folder (sync_of c.args.self.now c.args.head.now) [] (newest ∷ past))
+    subst (λ (s : Side). IsFit (now s c.sync_file.new.gate c.commits.result) (g.F.World.scene c.sync_file.new.host).folder (sync_of c.args.self.now c.args.head.now) [] (newest ∷ past))
     (sym c.other-older.ensures)
-    (subst (λ (h : Gate). IsFit (now (other_side files.newer) h) (g.F.World.scene c.sync_file.new.host).folder (sync_of c.args.self.now c.args.head.now) [] (newest ∷ past))
-    (sym c.in_ok-sync_file.ensures.opened) after)
+    (subst (λ (h : Gate). IsFit (now (other_side files.newer) h c.commits.result) (g.F.World.scene c.sync_file.new.host).folder (sync_of c.args.self.now c.args.head.now) [] (newest ∷ past))
+    (sym c.in_ok-sync_file.ensures.opened)
+    (subst (λ (n : ℕ). IsFit (now (other_side files.newer) Open n) (g.F.World.scene c.sync_file.new.host).folder (sync_of c.args.self.now c.args.head.now) [] (newest ∷ past)) (sym c.commits.ensures) after))
 
 pub returns-clause-grown : goal.returns-clause-grown
 returns-clause-grown g c told =
@@ -123,8 +124,8 @@ returns-clause-calls g c = c.sync_file.ensures.calls
 pub returns-clause-turned : goal.returns-clause-turned
 returns-clause-turned g c = refl
 
-pub returns-clause-marked : goal.returns-clause-marked
-returns-clause-marked g c = refl
+pub returns-clause-commits : goal.returns-clause-commits
+returns-clause-commits g c = c.commits.ensures
 
 pub returns-clause-ended : goal.returns-clause-ended
 returns-clause-ended g c = c.committed_end.ensures.past

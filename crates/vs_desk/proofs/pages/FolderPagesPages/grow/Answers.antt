@@ -1,0 +1,21 @@
+use Rattle.std.proofs.Common.{refl}
+use Rattle.std.proofs.lemmas.Result.{on_err_weaker, IfOk-weaker}
+use Rattle.vs_pages.proofs.Lending.{lent_change, lent_still}
+use Rattle.vs_desk.specs.PageLaws.{looks_none}
+use Rattle.vs_desk.proofs.pages.FolderPagesPages.grow.Goals as goal
+
+pub returns-clause-change : goal.returns-clause-change
+returns-clause-change g c = IfOk-weaker c.grow.result _ _ (λ at change. lent_change _ c.args.self.now.pages.now c.args.self.now.pages.now c.grow.new.self _ _ _ refl change) c.grow.ensures.change
+
+pub returns-clause-still : goal.returns-clause-still
+returns-clause-still g c = on_err_weaker c.grow.result (λ still. lent_still _ c.args.self.now.pages.now c.args.self.now.pages.now c.grow.new.self _ _ refl still) c.grow.ensures.still
+
+pub returns-clause-kept : goal.returns-clause-kept
+returns-clause-kept g c = record {
+  valid = tt;
+  stays = (refl, refl, looks_none g.F.World.tells (g.F.World.scene c.args.self.now.host.now), c.grow.ensures.kept.stays);
+  committed = λ told. c.grow.ensures.kept.committed refl;
+  commits = λ told. c.grow.ensures.kept.commits refl;
+  longer = c.grow.ensures.kept.longer;
+  grown = λ told. c.grow.ensures.kept.grown refl;
+}

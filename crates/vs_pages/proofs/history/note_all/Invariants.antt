@@ -1,0 +1,10 @@
+use Rattle.std.proofs.Common.{◌≡◌, length, take}
+use Rattle.vs_pages.specs.Table.{last_in, noted}
+use Rattle.vs_pages.specs.History.{numbers_in}
+use Rattle.vs_pages.proofs.history.note_all.Given as goal
+
+abbrev pub invariant-loop-i : goal.invariant-loop-i
+invariant-loop-i l = record {
+  len : length l.last.items ≡ length l.initial.last.items;
+  noted : last_in l.last.items ≡ noted (numbers_in (take l.i l.log)) l.commit (last_in l.initial.last.items);
+}
