@@ -8,7 +8,7 @@ use Rattle.vs_undo.specs.declared.parts.Node.{Node}
 use Rattle.vs_undo.specs.Ways.{node_at, parent_at, is_on, way_of, IsTree}
 use Rattle.vs_undo.specs.Numbers.{numbers}
 use Rattle.vs_undo.specs.History.{changed}
-use Rattle.vs_undo.specs.Beside.{is_beside, at_root, deeper, IsFlat, IsFlatter}
+use Rattle.vs_undo.specs.Beside.{is_beside, at_root, deeper, IsFlat, IsFlatter, stays}
 use Rattle.vs_undo.specs.Forgetting.{nodes_through}
 use Rattle.vs_undo.proofs.ChangeLemmas.{at_other, at_written, map-changed_same, was_there}
 use Rattle.vs_undo.proofs.DropLemmas.{past_way, way_of_step}
@@ -154,10 +154,6 @@ filter_both p q (x ∷ xs) (y ∷ ys) d count same =
       | true ↦ λ t. ap (λ z. z ∷ filter p xs) (here.1 t) ∙ ap (λ zs. y ∷ zs) rest
       | false ↦ λ t. rest
     ] refl
-
--- a change stays where its parent is not the oldest state, or it is the child that stays
-abbrev pub stays : ℕ → Node → Bool
-stays child node = not (node.parent == 0) || (node.number == child)
 
 module _ (child : ℕ) (first now : List Node) (f : IsFlatter child first now) (flat : IsFlat child now) where
   deep : (m k p : ℕ) → length (way_of first k) ≤ m → parent_at now k ≡ Some p → p ≢ 0 → is_on (way_of first k) child ≡ true

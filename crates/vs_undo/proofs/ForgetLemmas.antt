@@ -43,7 +43,7 @@ abbrev is_other : ℕ → Node → Bool
 is_other child node = (node.parent == 0) && not (node.number == child)
 
 -- the oldest state has one child
-lone_is : (child : ℕ) (nodes : List Node) → has_other_child child nodes ≡ false → (k : ℕ) → parent_at nodes k ≡ Some 0 → k ≡ child
+pub lone_is : (child : ℕ) (nodes : List Node) → has_other_child child nodes ≡ false → (k : ℕ) → parent_at nodes k ≡ Some 0 → k ≡ child
 lone_is child nodes none k is =
     let node = was_there (λ (n : Node). n.parent) (node_at nodes k) 0 is in
     let number = number_of nodes k node.0 node.1.0 in
@@ -57,11 +57,11 @@ lone_is child nodes none k is =
     ] refl
 
 -- another child of it
-other_there : (child : ℕ) (parts : Parts) → IsSound parts → has_other_child child parts.nodes ≡ true → (k : ℕ) × ((parent_at parts.nodes k ≡ Some 0) × (k ≢ child))
-other_there child parts sound some =
-    let at = any_at (is_other child) parts.nodes no_change some in
-    let node = get_or parts.nodes at.0 no_change in
-    let there = index_found parts.nodes at.0 no_change sound.numbers.rising at.1.0 in
+pub other_there : (child : ℕ) (nodes : List Node) → IsStrictlyIncreasing (numbers nodes) → has_other_child child nodes ≡ true → (k : ℕ) × ((parent_at nodes k ≡ Some 0) × (k ≢ child))
+other_there child nodes rising some =
+    let at = any_at (is_other child) nodes no_change some in
+    let node = get_or nodes at.0 no_change in
+    let there = index_found nodes at.0 no_change rising at.1.0 in
     let tests = both (node.parent == 0) (node.number == child) at.1.1 in
     let is : node.parent ≡ 0 = let e = tests.0 in grind (arith, nat_tests) in
     (node.number, (ap (option_map (λ (n : Node). n.parent)) there ∙ ap Some is, (let e = tests.1 in grind (arith, nat_tests))))
@@ -150,7 +150,7 @@ module _ (left : Remainder) (fresh : IsFresh left.tree) (many : 2 ≤ length lef
   once_fewer =
       elim (has_other_child eldest held) as (λ b. has_other_child eldest held ≡ b → length (if b then record left { tree = dropped eldest left.tree } else record { tree = promoted eldest left.tree; root = eldest }).tree.nodes < length held) [
         | true ↦ λ is.
-            let other = other_there eldest left.tree fresh.sound is in
+            let other = other_there eldest held fresh.sound.numbers.rising is in
             let differ : (other.0 == eldest) ≡ false = let d = other.1.1 in grind (arith, nat_tests) in
             let beside : is_on (way_of held other.0) eldest ≡ false = past.step other.0 0 other.1.0 ∙ (ap (λ b. b || is_on (way_of held 0) eldest) differ ∙ past.root) in
             only_fewer (λ k. is_on (way_of held k) eldest) held other.0 (known_some (node_at held other.0) 0 other.1.0) beside

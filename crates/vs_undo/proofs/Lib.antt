@@ -1,3 +1,6 @@
+pub mod FrontLemmas
+pub mod RaiseLemmas
+pub mod ForkLemmas
 pub mod BesideLemmas
 pub mod ChangeLemmas
 pub mod DepthLemmas

@@ -106,7 +106,7 @@ module _ (parts : Parts) (sound : IsSound parts) (child : ℕ) (top : parent_at 
       let before = was_there (λ (n : Node). n.parent) (node_at old k) p is in
       ap (option_map (λ (n : Node). n.parent)) (at_after k d ∙ ap (option_map (raised child)) before.1.0) ∙ ap Some (raised_parent child before.0 ∙ ap (up_from child) before.1.1)
 
-  parent_was : (k q : ℕ) → parent_at after.nodes k ≡ Some q → (k ≢ child) × ((p : ℕ) × ((parent_at old k ≡ Some p) × (up_from child p ≡ q)))
+  pub parent_was : (k q : ℕ) → parent_at after.nodes k ≡ Some q → (k ≢ child) × ((p : ℕ) × ((parent_at old k ≡ Some p) × (up_from child p ≡ q)))
   parent_was k q is =
       let now = was_there (λ (n : Node). n.parent) (node_at after.nodes k) q is in
       let w = was k now.0 now.1.0 in
@@ -114,13 +114,13 @@ module _ (parts : Parts) (sound : IsSound parts) (child : ℕ) (top : parent_at 
       (w.0, (before.parent, (ap (option_map (λ (n : Node). n.parent)) w.1.1.0, sym (raised_parent child before) ∙ (ap (λ (n : Node). n.parent) w.1.1.1 ∙ now.1.1))))
 
   -- parents other than the promoted one stay
-  up_other : (p : ℕ) → p ≢ child → up_from child p ≡ p
+  pub up_other : (p : ℕ) → p ≢ child → up_from child p ≡ p
   up_other p d = let e : (p == child) ≡ false = grind (arith, nat_tests) in ap (λ b. if b then 0 else p) e
 
-  up_child : up_from child child ≡ 0
+  pub up_child : up_from child child ≡ 0
   up_child = let e : (child == child) ≡ true = grind (arith, nat_tests) in ap (λ b. if b then 0 else child) e
 
-  or_child : (k : ℕ) → (k ≡ child) ⊎ (k ≢ child)
+  pub or_child : (k : ℕ) → (k ≡ child) ⊎ (k ≢ child)
   or_child k = elim (k == child) as (λ b. b ≡ (k == child) → (k ≡ child) ⊎ (k ≢ child)) [ true ↦ λ t. inl (grind (arith, nat_tests)) | false ↦ λ t. inr (grind (arith, nat_tests)) ] refl
 
   cut_other : (n : ℕ) (way : List ℕ) → n ≢ child → cut child (n ∷ way) ≡ n ∷ cut child way

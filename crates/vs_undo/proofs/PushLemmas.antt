@@ -89,13 +89,13 @@ module _ (entries : List Entry) (time : ℕ) (parts : Parts) (sound : IsSound pa
   ]
 
   -- a known parent was known, or is that of the new change
-  parent_was : (k p : ℕ) → parent_at grown.nodes k ≡ Some p → (parent_at parts.nodes k ≡ Some p) ⊎ ((k ≡ parts.last + 1) × (p ≡ parts.current))
+  pub parent_was : (k p : ℕ) → parent_at grown.nodes k ≡ Some p → (parent_at parts.nodes k ≡ Some p) ⊎ ((k ≡ parts.last + 1) × (p ≡ parts.current))
   parent_was k p is = elim (at_grown k) [
     | inl h ↦ inl (sym (ap (option_map (λ (n : Node). n.parent)) h.0) ∙ is)
     | inr h ↦ inr (h.0, let e : Some parts.current ≡ Some p = sym (ap (option_map (λ (n : Node). n.parent)) h.1) ∙ is in cc)
   ]
 
-  parent_after : (k : ℕ) → parent_at after.nodes k ≡ parent_at grown.nodes k
+  pub parent_after : (k : ℕ) → parent_at after.nodes k ≡ parent_at grown.nodes k
   parent_after k = with_child_parent parts.current (parts.last + 1) grown k
 
   way_stays : (way : List ℕ) → IsWay (λ k. parent_at parts.nodes k) way → IsWay (λ k. parent_at after.nodes k) way

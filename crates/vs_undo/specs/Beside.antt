@@ -29,3 +29,7 @@ pub record IsFlatter (child : ℕ) (nodes now : List Node) : Type 0 where
 -- No change lies below another child of the oldest state.
 abbrev pub IsFlat : ℕ → List Node → Type 0
 IsFlat child nodes = (k p : ℕ) → parent_at nodes k ≡ Some p → is_beside child nodes p ≡ false
+
+-- a change stays where its parent is not the oldest state, or it is the child that stays
+abbrev pub stays : ℕ → Node → Bool
+stays child node = not (node.parent == 0) || (node.number == child)

@@ -1,4 +1,5 @@
 pub mod Ways
+pub mod Lending
 pub mod Edges
 pub mod History
 pub mod Turns
@@ -13,3 +14,4 @@ pub mod Leaves
 pub mod Writes
 pub mod Forgetting
 pub mod Beside
+pub mod Forks

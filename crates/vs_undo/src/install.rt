@@ -8,28 +8,28 @@ ghost use Rattle.vs_undo.specs.declared.parts.Node.{Node};
 ghost use Rattle.vs_undo.specs.History.{changed, installed, with_child, with_entries};
 
 use crate::way::find;
-use crate::{Entries, Node, Parts};
+use crate::{Entries, Nodes, Parts};
 
-fn set_entries(nodes: &mut [Node], number: u64, entries: Entries)
+fn set_entries(nodes: &mut Nodes, number: u64, entries: Entries)
     requires { IsStrictlyIncreasing (numbers nodes.old) }
     ensures { nodes.new ≡ changed number (with_entries entries) nodes.old }
 {
-    if let Some(i) = find(nodes, number) {
-        nodes[i].entries = entries;
+    if let Some(i) = find(nodes.nodes(), number) {
+        nodes.node_mut(i).entries = entries;
     }
 }
 
-fn set_last_child(nodes: &mut [Node], number: u64, child: u64)
+fn set_last_child(nodes: &mut Nodes, number: u64, child: u64)
     requires { IsStrictlyIncreasing (numbers nodes.old) }
     ensures { nodes.new ≡ changed number (λ (node : Node). record node { last_child = child }) nodes.old }
 {
-    if let Some(i) = find(nodes, number) {
-        nodes[i].last_child = child;
+    if let Some(i) = find(nodes.nodes(), number) {
+        nodes.node_mut(i).last_child = child;
     }
 }
 
 /// Puts the turned entries into the changes of a path.
-pub(crate) fn install(nodes: &mut [Node], path: &[u64], turned: Vec<Entries>)
+pub(crate) fn install(nodes: &mut Nodes, path: &[u64], turned: Vec<Entries>)
     requires rising { IsStrictlyIncreasing (numbers nodes.old) }
     requires count { length turned.items ≡ length path.now }
     ensures { nodes.new ≡ installed path.now turned.items nodes.old }
@@ -48,8 +48,7 @@ pub(crate) fn set_child(parts: &mut Parts, parent: u64, child: u64)
     if parent == 0 {
         parts.root_child = child;
     } else {
-        let nodes = &mut parts.nodes;
-        set_last_child(&mut nodes.list, parent, child);
+        set_last_child(&mut parts.nodes, parent, child);
     }
 }
 

@@ -7,6 +7,7 @@ mod cross;
 mod edit;
 mod error;
 mod forget;
+mod forks;
 mod install;
 mod keep;
 mod laws;

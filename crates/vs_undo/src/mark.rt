@@ -17,11 +17,11 @@ fn unmark_one(node: &mut Node, save: u64)
     }
 }
 
-fn unmark(nodes: &mut [Node], save: u64)
+fn unmark(nodes: &mut Nodes, save: u64)
     ensures { nodes.new ≡ map (unmarked save) nodes.old }
 {
-    for node in nodes.iter_mut() {
-        unmark_one(node, save);
+    for place in 0..nodes.nodes().len() {
+        unmark_one(nodes.node_mut(place), save);
     }
 }
 
@@ -31,24 +31,17 @@ fn release(nodes: &mut Nodes, save: u64, in_use: bool)
     ensures { nodes.new ≡ map (unmarked save) nodes.old }
 {
     if in_use {
-        unmark(&mut nodes.list, save);
+        unmark(nodes, save);
     }
 }
 
-fn set_save(nodes: &mut [Node], number: u64, save: u64)
+fn set_save(nodes: &mut Nodes, number: u64, save: u64)
     requires { IsStrictlyIncreasing (numbers nodes.old) }
     ensures { nodes.new ≡ changed number (with_save save) nodes.old }
 {
-    if let Some(i) = find(nodes, number) {
-        nodes[i].save = save;
+    if let Some(i) = find(nodes.nodes(), number) {
+        nodes.node_mut(i).save = save;
     }
-}
-
-fn put_save(nodes: &mut Nodes, number: u64, save: u64)
-    requires { IsStrictlyIncreasing (numbers nodes.old) }
-    ensures { nodes.new ≡ changed number (with_save save) nodes.old }
-{
-    set_save(&mut nodes.list, number, save);
 }
 
 /// Puts the next save number on the current change.
@@ -61,7 +54,7 @@ pub(crate) fn mark(parts: &mut Parts) -> u64
     let in_use = parts.last_save == MAX_SAVE;
     if parts.current != 0 {
         release(&mut parts.nodes, save, in_use);
-        put_save(&mut parts.nodes, parts.current, save);
+        set_save(&mut parts.nodes, parts.current, save);
     }
     parts.last_save = save;
     save

@@ -1,6 +1,7 @@
 // A move to another state.
-ghost use Rattle.std.specs.Prelude.{◌≡◌, ◌⊎◌, ◌++◌, IfErr, IsTrue, OnOk, length};
+ghost use Rattle.std.specs.Prelude.{◌≡◌, ◌⊎◌, ◌++◌, ℕ, IfErr, IsTrue, OnOk, length};
 ghost use Rattle.std.specs.List.Sorted.{IsStrictlyIncreasing};
+ghost use Rattle.vs_undo.specs.Forks.{IsStraightBelow};
 ghost use Rattle.vs_undo.specs.Ways.{IsKept};
 ghost use Rattle.vs_undo.specs.Meetings.{IsMeeting, IsSettled};
 ghost use Rattle.vs_undo.specs.Numbers.{numbers};
@@ -22,8 +23,7 @@ fn turn(parts: &mut Parts, path: &[u64], turned: Vec<Entries>)
     requires count { length turned.items ≡ length path.now }
     ensures { parts.new ≡ record parts.old { nodes = installed path.now turned.items parts.old.nodes } }
 {
-    let nodes = &mut parts.nodes;
-    install(&mut nodes.list, path, turned);
+    install(&mut parts.nodes, path, turned);
 }
 
 // Makes the tree one that has arrived at a state, along a path whose edges are turned. It takes no memory.
@@ -53,6 +53,7 @@ pub(crate) fn move_to<S: LineStore>(
     ensures moved { OnOk result (HasMoved S.LineStore parts.old parts.new store.old store.new number) }
     ensures atomic { IsAtomic S.LineStore parts.old parts.new store.old store.new StoreErr.Failed result }
     ensures settled { OnOk result (IsSettled parts.new) }
+    ensures straight { (fork : ℕ) → IsStraightBelow fork parts.old.nodes → IsStraightBelow fork parts.new.nodes }
     ensures sound { IsSound parts.new }
 {
     let meeting = meeting_with(alloc, parts, number, settled)?;
@@ -86,6 +87,7 @@ pub(crate) fn go_to<S: LineStore>(
     ensures moved { OnOk result (HasMoved S.LineStore parts.old parts.new store.old store.new number) }
     ensures atomic { IsAtomic S.LineStore parts.old parts.new store.old store.new UndoErr.Failed result }
     ensures settled { IsTrue settled.new → IsSettled parts.new }
+    ensures straight { (fork : ℕ) → IsStraightBelow fork parts.old.nodes → IsStraightBelow fork parts.new.nodes }
     ensures sound { IsSound parts.new }
 {
     match move_to(alloc, parts, store, number, *settled) {

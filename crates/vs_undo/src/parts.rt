@@ -1,5 +1,8 @@
 // What a tree is made of.
-ghost use Rattle.std.specs.Prelude.{◌≡◌, ◌++◌, ◌∷◌, [], OnOk, OnErr};
+ghost use Rattle.std.specs.Prelude.{◌≡◌, ◌<◌, ◌≤◌, ◌++◌, ◌∷◌, [], OnOk, OnErr, drop, length, slice_index_or, vec_len};
+ghost use Rattle.std.specs.Borrow.{sem};
+ghost use Rattle.std.specs.List.{filter, remove};
+ghost use Rattle.vs_undo.specs.Beside.{stays};
 
 use std::alloc::AllocError;
 use std::marker::Model;
@@ -53,31 +56,45 @@ pub struct Node {
 /// The changes of a tree.
 #[derive(Drop)]
 pub struct Nodes {
-    pub(crate) list: Vec<Node>,
+    list: Vec<Node>,
+    // So many at the front of the list are of the tree no longer.
+    gone: usize,
 }
 
 impl Model for Nodes {
-    ghost use Rattle.std.specs.Prelude.{List};
+    ghost use Rattle.std.specs.Prelude.{◌≤◌, List, drop, vec_len};
     ghost use Rattle.vs_undo.specs.declared.parts.Node.{Node};
 
     ghost Value = { List Node };
 
-    ghost view = { λ nodes. nodes.list.items };
+    ghost view = { λ nodes. drop nodes.gone nodes.list.items };
+
+    ghost invariant = { λ nodes. nodes.gone ≤ vec_len nodes.list };
+}
+
+fn drop_front(list: &mut Vec<Node>, count: usize)
+    requires { count ≤ vec_len list.old }
+    ensures { list.new.items ≡ drop count list.old.items }
+{
+    list.rotate_left(count);
+    list.truncate(list.len() - count);
 }
 
 impl Nodes {
+    ghost use Rattle.vs_undo.specs.Lending.{LendsNode};
+
     /// The changes of a list. It takes no memory.
     pub fn of(list: Vec<Node>) -> Nodes
         ensures { result ≡ list.items }
     {
-        Nodes { list }
+        Nodes { list, gone: 0 }
     }
 
     /// The changes as a list.
     pub fn nodes(&self) -> &[Node]
         ensures { result.now ≡ self.now }
     {
-        self.list.as_slice()
+        &self.list[self.gone..]
     }
 
     pub(crate) fn push(&mut self, node: Node) -> Result<(), AllocError>
@@ -86,6 +103,48 @@ impl Nodes {
     {
         self.list.push(node)?;
         Ok(())
+    }
+
+    /// The change at a place, to be written.
+    pub(crate) fn node_mut(&mut self, place: usize) -> &mut Node
+        requires { place < length self.old }
+        ensures* writes_back { sem 𝓛 (LendsNode self.entry place result) }
+        ensures value { result.now ≡ slice_index_or self.old place result.now }
+    {
+        let place = self.gone + place;
+        &mut self.list[place]
+    }
+
+    /// Takes out the first change. Over many calls each takes the same time, however many changes there are.
+    pub(crate) fn drop_first(&mut self)
+        requires { 0 < length self.old }
+        ensures { self.new ≡ drop 1 self.old }
+    {
+        let first = &mut self.list[self.gone];
+        first.entries.list.clear();
+        self.gone += 1;
+        if self.gone > self.list.len() / 2 {
+            drop_front(&mut self.list, self.gone);
+            self.gone = 0;
+        }
+    }
+
+    /// Takes out the change at a place.
+    pub(crate) fn remove(&mut self, place: usize)
+        requires { place < length self.old }
+        ensures { self.new ≡ remove self.old place }
+    {
+        self.list.remove(self.gone + place);
+    }
+
+    /// Takes out the children of the oldest state other than this one.
+    pub(crate) fn drop_at_root(&mut self, child: u64)
+        ensures { self.new ≡ filter (stays child) self.old }
+    {
+        drop_front(&mut self.list, self.gone);
+        self.gone = 0;
+        self.list
+            .retain(|node| node.parent != 0 || node.number == child);
     }
 }
 

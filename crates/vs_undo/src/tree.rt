@@ -13,6 +13,7 @@ ghost use Rattle.vs_undo.specs.Errors.{IsMoveErr};
 
 use crate::add::push;
 use crate::forget::{forget, promoted_root};
+use crate::forks::fork_pushed;
 use crate::leaves::leaves_of;
 use crate::mark::mark;
 use crate::moves::go_to;
@@ -41,6 +42,8 @@ pub struct UndoTree {
     // Each state on the way of the current one is known to be the child last used of its parent, so a move writes no link above the
     // state where it turns.
     settled: bool,
+    // No state below this one has several children. Such states are looked for where the oldest may be one.
+    fork: u64,
 }
 
 // A value with much in it is dropped by a call.
@@ -49,6 +52,7 @@ impl Drop for UndoTree {
         let UndoTree {
             parts: _,
             settled: _,
+            fork: _,
         } = self;
     }
 }
@@ -61,12 +65,14 @@ impl Model for UndoTree {
     ghost use Rattle.std.specs.Prelude.{IsTrue};
     ghost use Rattle.vs_undo.specs.Sound.{IsSound};
     ghost use Rattle.vs_undo.specs.Meetings.{IsSettled};
+    ghost use Rattle.vs_undo.specs.Forks.{IsStraightBelow};
 
     ghost view = { λ tree. tree.parts };
 
     ghost invariant = { λ tree. record {
       sound : IsSound tree.parts;
       settled : IsTrue tree.settled → IsSettled tree.parts;
+      straight : IsStraightBelow tree.fork tree.parts.nodes;
     } };
 }
 
@@ -79,6 +85,7 @@ impl UndoTree {
         UndoTree {
             parts,
             settled: false,
+            fork: 0,
         }
     }
 
@@ -99,6 +106,7 @@ impl UndoTree {
         Ok(UndoTree {
             parts,
             settled: true,
+            fork: u64::MAX,
         })
     }
 
@@ -136,9 +144,11 @@ impl UndoTree {
         if parts.last >= MAX_NUMBER {
             return Err(UndoErr::NumbersFull);
         }
+        let fork = fork_pushed(parts, self.fork);
         push(alloc, parts, back, time)?;
+        self.fork = fork;
         let number = parts.last;
-        let root = forget(parts, levels, self.settled);
+        let root = forget(parts, levels, self.settled, &mut self.fork);
         Ok(Pushed {
             number,
             root: promoted_root(root),

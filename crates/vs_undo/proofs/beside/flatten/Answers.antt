@@ -11,7 +11,7 @@ loop-place-preserved c =
     let now = c.loop-place.nodes in
     let is = c.loop-place.invariant in
     let within : c.loop-place.place < length now =
-    omega (arith, c.loop-place-test.true, length-map now (λ (n : Node). n.number), length-map first (λ (n : Node). n.number), ap length is.numbers) in
+    omega (arith, c.loop-place-test.true, ap length c.nodes-place-end.ensures, length-map now (λ (n : Node). n.number), length-map first (λ (n : Node). n.number), ap length is.numbers) in
     passing_step c.args.child first now c.bring_up-again.new.nodes c.loop-place.place c.loop-place.again c.bring_up-again.result none is
     (passing_rising c.args.child first now c.loop-place.place c.loop-place.again is c.requires.rising) within
     (λ up. c.bring_up-again.ensures.up up none) c.bring_up-again.ensures.stays c.bring_up-again.ensures.beside
@@ -22,5 +22,5 @@ returns-clause-flat c = λ none.
     let now = c.loop-place.nodes in
     let is = c.loop-place.invariant in
     let all : length now ≤ c.loop-place.place =
-    omega (arith, c.loop-place-test.false, length-map now (λ (n : Node). n.number), length-map first (λ (n : Node). n.number), ap length is.numbers) in
+    omega (arith, c.loop-place-test.false, ap length c.nodes-place-end.ensures, length-map now (λ (n : Node). n.number), length-map first (λ (n : Node). n.number), ap length is.numbers) in
     passing_end c.args.child first now c.loop-place.place all (subst (IsPassing c.args.child first now c.loop-place.place) none is)

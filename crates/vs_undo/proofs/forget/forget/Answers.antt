@@ -7,21 +7,22 @@ pub forget-smaller : goal.forget-smaller
 forget-smaller c =
     let more : c.args.levels < length c.forget.parts.nodes = omega (arith, c.forget-test.true, ap length c.nodes.ensures) in
     (step_left c.args.levels (record { tree = c.forget.parts; root = c.forget.root }) (record { tree = c.forget_once-root.new.parts; root = c.forget_once-root.result })
-    c.requires.some c.forget.invariant.fresh more c.forget_once-root.ensures).0.1
+    c.requires.some c.forget.invariant.fresh more c.forget_once-root.ensures.left).0.1
 
 pub forget-preserved : goal.forget-preserved
 forget-preserved c =
     let more : c.args.levels < length c.forget.parts.nodes = omega (arith, c.forget-test.true, ap length c.nodes.ensures) in
     let step = step_left c.args.levels (record { tree = c.forget.parts; root = c.forget.root }) (record { tree = c.forget_once-root.new.parts; root = c.forget_once-root.result })
-    c.requires.some c.forget.invariant.fresh more c.forget_once-root.ensures in
+    c.requires.some c.forget.invariant.fresh more c.forget_once-root.ensures.left in
     record {
       fresh = step.0.0;
       settled = λ is. step_settled (record { tree = c.forget.parts; root = c.forget.root }) (record { tree = c.forget_once-root.new.parts; root = c.forget_once-root.result }) c.forget.invariant.fresh
-          (omega (arith, more, c.requires.some)) c.forget_once-root.ensures (c.forget.invariant.settled is);
+          (omega (arith, more, c.requires.some)) c.forget_once-root.ensures.left (c.forget.invariant.settled is);
+      straight = c.forget_once-root.ensures.straight;
       left = step.1 ∙ c.forget.invariant.left;
     }
 
-pub returns : goal.returns
-returns c =
+pub returns-clause-left : goal.returns-clause-left
+returns-clause-left c =
     let fits : length c.forget.parts.nodes ≤ c.args.levels = omega (arith, c.forget-test.false, ap length c.nodes.ensures) in
     sym c.forget.invariant.left ∙ none_left (length c.forget.parts.nodes) c.args.levels (record { tree = c.forget.parts; root = c.forget.root }) fits

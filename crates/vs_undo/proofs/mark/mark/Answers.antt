@@ -15,8 +15,8 @@ release-requires c = λ other k d within is.
     let save : c.min-save.result ≡ next_save parts = omega arith in
     unused parts c.requires room k d within (is ∙ save)
 
-pub put_save-requires : goal.put_save-requires
-put_save-requires c =
+pub set_save-requires : goal.set_save-requires
+set_save-requires c =
     let parts = c.args.parts.now in
     let save = c.min-save.result in
     let same = ap (map (λ (n : Node). n.number)) c.release.ensures ∙ map-mapped (λ (n : Node). n.number) (unmarked save) (unmarked_number save) parts.nodes in

@@ -8,10 +8,12 @@ use Rattle.vs_undo.specs.Ways.{node_at, IsWayOf}
 use Rattle.vs_undo.specs.Sound.{IsSound}
 use Rattle.vs_undo.specs.Meetings.{IsSettled}
 use Rattle.vs_undo.specs.Edges.{AreStates}
+use Rattle.vs_undo.specs.Forks.{IsStraightBelow}
 use Rattle.vs_undo.specs.Turns.{exchanged}
+use Rattle.vs_undo.proofs.ForkLemmas.{same_straight}
 use Rattle.vs_undo.specs.History.{arrived, links_of, moved}
 use Rattle.vs_undo.proofs.MeetingLemmas.{arrived_settled, met_between}
-use Rattle.vs_undo.proofs.MoveLemmas.{crosses_path, crossed, exchanged_after, links_of-arrived, same_way}
+use Rattle.vs_undo.proofs.MoveLemmas.{arrived_parent, crosses_path, crossed, exchanged_after, links_of-arrived, same_way}
 use Rattle.vs_undo.proofs.ReadyLemmas.{gone_back, settled}
 use Rattle.vs_undo.proofs.SoundLemmas.{arrived_sound}
 use Rattle.vs_undo.proofs.moves.move_to.Goals as goal
@@ -113,6 +115,12 @@ pub returns-in-Ok-clause-settled : goal.returns-in-Ok-clause-settled
 returns-in-Ok-clause-settled g c =
     let parts = c.args.parts.now in
     subst (λ (p : Parts). IsSettled p) (sym (after g c)) (arrived_settled c.in_ok-path.path.items c.in-Ok.turned.items (whole_to g c) parts c.args.number c.requires.sound.tree (way_to g c))
+
+pub returns-in-Ok-clause-straight : goal.returns-in-Ok-clause-straight
+returns-in-Ok-clause-straight g c = λ fork straight.
+    let parts = c.args.parts.now in
+    subst (λ (p : Parts). IsStraightBelow fork p.nodes) (sym (after g c))
+    (same_straight parts.nodes _ (arrived_parent c.in_ok-path.path.items c.in-Ok.turned.items (whole_to g c) parts) fork straight)
 
 pub returns-in-Ok-clause-sound : goal.returns-in-Ok-clause-sound
 returns-in-Ok-clause-sound g c =

@@ -16,3 +16,6 @@ go_to-requires-clause-kept g c =
     let parts = c.self.inside.parts in
     let some : parent_at parts.nodes parts.current ≡ Some c.in-Some.number = ap (λ (ns : List Node). parent_at ns parts.current) (sym c.nodes.ensures) ∙ (sym c.parent.ensures ∙ c.in-Some.is) in
     parent_kept parts.nodes parts.current c.in-Some.number c.self.invariant.sound.tree some
+
+pub invariant_of-self-2 : goal.invariant_of-self-2
+invariant_of-self-2 g c = record { sound = c.go_to.ensures.sound; settled = c.go_to.ensures.settled; straight = c.go_to.ensures.straight c.self.inside.fork c.self.invariant.straight }

@@ -22,3 +22,6 @@ returns-in_default-clause-err g c =
     let none = subst (λ w. (earlier_save parts.nodes w c.args.by ≡ 0) × (start w ≡ 0)) c.deref-2.ensures.value
     (subst (λ (ns : List Node). (earlier_save ns c.deref-2.result.now c.args.by ≡ 0) × (start c.deref-2.result.now ≡ 0)) c.nodes-3.ensures c.in_default.ensures.goal) in
     inl (refl, subst (λ (p : Parts). IsAtOldestWrite p c.args.by) c.self.view_is (record { way = way; is_way = is_way; fewer = none.0; oldest = sym is_way.starts ∙ none.1 }))
+
+pub invariant_of-self-2 : goal.invariant_of-self-2
+invariant_of-self-2 g c = record { sound = c.go_to.ensures.sound; settled = c.go_to.ensures.settled; straight = c.go_to.ensures.straight c.self.inside.fork c.self.invariant.straight }

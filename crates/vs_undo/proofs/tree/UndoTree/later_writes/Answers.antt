@@ -22,3 +22,9 @@ returns-in_default-clause-err g c =
     let none = subst (λ w. (later_save parts.nodes w c.args.by ≡ 0) × (start w ≡ last_number parts.nodes)) c.deref-2.ensures.value
     (subst (λ (ns : List Node). (later_save ns c.deref-2.result.now c.args.by ≡ 0) × (start c.deref-2.result.now ≡ last_number ns)) c.nodes-3.ensures c.in_default.ensures.goal) in
     inl (refl, subst (λ (p : Parts). IsAtNewestWrite p c.args.by) c.self.view_is (record { way = way; is_way = is_way; fewer = none.0; newest = sym is_way.starts ∙ none.1 }))
+
+pub invariant_of-self-2 : goal.invariant_of-self-2
+invariant_of-self-2 g c = record { sound = c.go_to.ensures.sound; settled = c.go_to.ensures.settled; straight = c.go_to.ensures.straight c.self.inside.fork c.self.invariant.straight }
+
+pub invariant_of-self-in_err-go_to : goal.invariant_of-self-in_err-go_to
+invariant_of-self-in_err-go_to g c = record { sound = c.go_to.ensures.sound; settled = c.go_to.ensures.settled; straight = c.go_to.ensures.straight c.self.inside.fork c.self.invariant.straight }
