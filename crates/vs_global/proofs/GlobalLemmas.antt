@@ -1,8 +1,10 @@
 -- The whole of a global command, by its parts.
 use Rattle.std.proofs.Common.{◌≡◌, ◌∙◌, ℕ, ◌-◌, Bool, not, List, length, Option, Some, None, Result, Ok, Err, refl, ap, sym, subst, arith}
+use Rattle.vs_faults.specs.Faults.{HasCause}
 use Rattle.vs_text.specs.Text.{bytes_of}
 use Rattle.vs_edit.specs.Splices.{splice, cut_out}
-use Rattle.vs_edit.specs.State.{TextState}
+use Rattle.vs_edit.specs.Calls.{CanGoBack}
+use Rattle.vs_edit.specs.State.{SameText, TextState}
 use Rattle.vs_edit.specs.declared.store.LineStore.{Ghosts}
 use Rattle.vs_exparse.specs.Bytes.{is_empty}
 use Rattle.vs_exparse.specs.Command.{Command}
@@ -109,3 +111,14 @@ allowed-from g view before lines made (plan.Splice top old new cursor) count was
 pub first-at : {S : Type 0} (g : Ghosts S) (view : S) (marks : Marks) (text : List (List ℕ)) (cursor : ℕ) (bits : List Bool) → (g.shows view).present.Is text
     → lines_of marks ≡ places 0 bits → length bits ≡ length text → IsAt g view marks (record { made = None; cursor = cursor }) (first_marked text cursor bits)
 first-at g view marks text cursor bits has are size = record { text = has; marked = are; size = size; made = refl; cursor = refl }
+
+-- what is known of a store while it is lent is known of it afterwards
+pub lent-back : {S : Type 0} (g : Ghosts S) (view now after : S) → after ≡ now → g.safe now → g.stays view now
+    → SameText (g.shows view).committed (g.shows now).committed → CanGoBack g view after
+lent-back {S} g view now after ends safe stays committed =
+    subst (λ (s : S). CanGoBack g view s) (sym ends) (record { valid = safe; stays = stays; committed = committed })
+
+pub lent-cause : {S : Type 0} (g : Ghosts S) (view now after : S) {Failed : Type 0} → after ≡ now
+    → HasCause (g.shows view).faults (g.shows now).faults Failed → HasCause (g.shows view).faults (g.shows after).faults Failed
+lent-cause {S} g view now after {Failed} ends cause =
+    subst (λ (s : S). HasCause (g.shows view).faults (g.shows s).faults Failed) (sym ends) cause

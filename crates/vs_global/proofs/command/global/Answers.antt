@@ -23,20 +23,20 @@ pub returns-clause-answers : goal.returns-clause-answers
 returns-clause-answers g c = λ text has.
     let marked = c.in_ok-taken.ensures.marked text has in
     let changes : List Bool → Result Effect ExErr = changed_at (command_of c.args.nested.now) text c.args.cursor in
-    subst (λ (meant : Result Effect ExErr). Answers meant c.change_all-plan.result) (sym (ap (λ (r : Result (List Bool) ExErr). on r changes) marked.is))
-    (c.change_all-plan.ensures.answers text marked.has.marks (c.in_ok-taken.ensures.kept.present.text text has) marked.has.are marked.has.size)
+    subst (λ (meant : Result Effect ExErr). Answers meant c.change-plan.result) (sym (ap (λ (r : Result (List Bool) ExErr). on r changes) marked.is))
+    (c.change-plan.ensures.answers text marked.has.marks (c.in_ok-taken.ensures.kept.present.text text has) marked.has.are marked.has.size)
 
 pub returns-clause-allowed : goal.returns-clause-allowed
 returns-clause-allowed g c =
     let law = g.met.S.LineStore in
     let taken = c.in_ok-taken.ensures.kept in
-    let back = SameText-trans taken.committed (SameText-trans c.change_all-plan.ensures.kept.committed c.rollback.ensures.present) in
+    let back = SameText-trans taken.committed (SameText-trans c.change-plan.ensures.kept.committed c.rollback.ensures.present) in
     let present = SameText-trans c.requires.committed back in
-    IfOk-weaker c.change_all-plan.result _ _
+    IfOk-weaker c.change-plan.result _ _
     (λ plan allows. allows-same (g.S.LineStore.shows c.marked_lines.new.view).present (g.S.LineStore.shows c.rollback.new.self).present plan
     (present.lines ∙ sym taken.present.lines)
     (λ text has.
     let was = law.tells_one c.args.view.now c.requires.valid (law.has_told c.rollback.new.self text has) in
     let same = law.has_one c.rollback.new.self text was.0 has (present.text was.0 was.1) in
     subst (λ (l : List (List ℕ)). (g.S.LineStore.shows c.marked_lines.new.view).present.Is l) (sym same) (taken.present.text was.0 was.1)) allows)
-    c.change_all-plan.ensures.allowed
+    c.change-plan.ensures.allowed

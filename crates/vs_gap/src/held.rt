@@ -1,0 +1,168 @@
+// Lines of a store that are held, and may be changed, while the store stays as it is.
+ghost use Rattle.std.specs.Prelude.{◌≡◌, ◌≤◌, ◌<◌, ◌⊎◌, ◌+◌, ◌^◌, [], IfOk, IsErrOf, OnOk, length};
+ghost use Rattle.vs_faults.specs.Faults.{HasCause};
+ghost use Rattle.vs_text.specs.declared.TheConstants.{MAX_LINES};
+ghost use Rattle.vs_edit.specs.Calls.{OnlyReads};
+ghost use Rattle.vs_edit.specs.State.{SameText};
+ghost use Rattle.vs_gap.specs.Held.{HoldsMore, IsExchanged, IsHeld, shown};
+
+use crate::gap::{GapLines, bytes_in};
+use std::alloc::{AllocError, Global};
+use vs_edit::{LineStore, StoreErr};
+use vs_reads::push_lines;
+use vs_text::{Line, MAX_TEXT_BYTES};
+
+// The number of lines that are read beyond those that are asked for.
+const LINES_AHEAD: u64 = 1_024;
+
+/// Lines that stand in the place of others of a text, and the number of bytes that the text has with them.
+#[derive(Drop)]
+pub struct Held {
+    /// The first of the lines in whose place they stand, counted from 0, and how many those are.
+    pub top: u64,
+    pub replaced: u64,
+    pub lines: GapLines,
+    pub bytes: u64,
+}
+
+impl Held {
+    /// No lines of the text of a store.
+    pub fn over<S: LineStore>(alloc: Global, store: &S) -> Held
+        requires { S.valid store.now }
+        ensures held { IsHeld (S.shows store.now).present result }
+        ensures shows { SameText (S.shows store.now).present (shown (S.shows store.now).present result) }
+        ensures only { SameText (shown (S.shows store.now).present result) (S.shows store.now).present }
+    {
+        Held {
+            top: 0,
+            replaced: 0,
+            lines: GapLines::new(alloc),
+            bytes: store.bytes(),
+        }
+    }
+
+    /// The same lines once more.
+    pub fn copy(&self, alloc: Global) -> Result<Held, AllocError>
+        ensures { IfOk result (λ copy. copy ≡ self.now) }
+    {
+        Ok(Held {
+            top: self.top,
+            replaced: self.replaced,
+            lines: self.lines.copy(alloc)?,
+            bytes: self.bytes,
+        })
+    }
+
+    /// Puts copies of new lines in the place of `old` lines from line `top` of the text on. After an `Err` any lines may be held.
+    pub fn exchange(&mut self, top: u64, old: u64, new: &[Line]) -> Result<(), AllocError>
+        requires from { self.old.top ≤ top }
+        requires to { top + old ≤ self.old.top + length self.old.lines }
+        requires few { length self.old.lines < 2 ^ 32 }
+        ensures { OnOk result (IsExchanged self.old top old new.now self.new) }
+    {
+        let gone = self
+            .lines
+            .splice((top - self.top) as usize, old as usize, new)?;
+        self.bytes = self
+            .bytes
+            .saturating_sub(gone)
+            .saturating_add(bytes_in(new))
+            .min(MAX_TEXT_BYTES);
+        Ok(())
+    }
+}
+
+// Holds the lines from this one on.
+fn hold_from<S: LineStore>(
+    alloc: Global,
+    held: &mut Held,
+    below: &mut S,
+    top: u64,
+) -> Result<(), StoreErr>
+    requires valid { S.valid below.old }
+    requires within { held.old.top + held.old.replaced ≤ (S.shows below.old).present.lines }
+    ensures holds { OnOk result (held.new.top ≤ top) }
+    ensures more { OnOk result (HoldsMore (S.shows below.old).present held.old held.new) }
+    ensures kept { OnlyReads S.LineStore below.old below.new }
+    ensures cause { HasCause (S.shows below.old).faults (S.shows below.new).faults (IsErrOf result StoreErr.Failed) }
+{
+    // called for its contract alone: the number of lines fits 64 bits
+    let _ = below.len();
+    if held.top <= top {
+        return Ok(());
+    }
+    let count = held.top - top;
+    let mut more = Vec::new(alloc);
+    push_lines(alloc, below, top, count, &mut more)?;
+    held.lines.prepend(more)?;
+    held.top = top;
+    held.replaced += count;
+    Ok(())
+}
+
+// Holds the lines up to this one, and some more where there are any.
+fn hold_to<S: LineStore>(
+    alloc: Global,
+    held: &mut Held,
+    below: &mut S,
+    end: u64,
+) -> Result<(), StoreErr>
+    requires valid { S.valid below.old }
+    requires within { held.old.top + held.old.replaced ≤ (S.shows below.old).present.lines }
+    requires few { (S.shows below.old).present.lines + length held.old.lines ≤ MAX_LINES + held.old.replaced }
+    requires reaches { end + held.old.replaced ≤ (S.shows below.old).present.lines + length held.old.lines }
+    ensures holds { OnOk result (end ≤ held.new.top + length held.new.lines) }
+    ensures top { OnOk result (held.new.top ≡ held.old.top) }
+    ensures more { OnOk result (HoldsMore (S.shows below.old).present held.old held.new) }
+    ensures kept { OnlyReads S.LineStore below.old below.new }
+    ensures cause { HasCause (S.shows below.old).faults (S.shows below.new).faults (IsErrOf result StoreErr.Failed) }
+{
+    let lines = below.len();
+    let held_to = held.top + held.lines.len() as u64;
+    if end <= held_to {
+        return Ok(());
+    }
+    let next = held.top + held.replaced;
+    let count = (end - held_to + LINES_AHEAD).min(lines - next);
+    let mut more = Vec::new(alloc);
+    push_lines(alloc, below, next, count, &mut more)?;
+    held.lines.append(more)?;
+    held.replaced += count;
+    Ok(())
+}
+
+// Where nothing is held, what is held next may stand anywhere: it is to begin at this line.
+fn seat(held: &mut Held, top: u64)
+    requires { length held.old.lines < 2 ^ 63 }
+    ensures lines { (held.new.lines ≡ held.old.lines) × (held.new.replaced ≡ held.old.replaced) × (held.new.bytes ≡ held.old.bytes) }
+    ensures place { (held.new.top ≡ held.old.top) ⊎ ((held.old.replaced ≡ 0) × (held.old.lines ≡ []) × (held.new.top ≡ top)) }
+{
+    if held.replaced == 0 && held.lines.len() == 0 {
+        held.top = top;
+    }
+}
+
+/// Holds `count` lines from line `top` on, as the text is with the lines that are held.
+pub(crate) fn hold<S: LineStore>(
+    alloc: Global,
+    held: &mut Held,
+    below: &mut S,
+    top: u64,
+    count: u64,
+) -> Result<(), StoreErr>
+    requires valid { S.valid below.old }
+    requires within { held.old.top + held.old.replaced ≤ (S.shows below.old).present.lines }
+    requires few { (S.shows below.old).present.lines + length held.old.lines ≤ MAX_LINES + held.old.replaced }
+    requires reaches { top + count + held.old.replaced ≤ (S.shows below.old).present.lines + length held.old.lines }
+    ensures from { OnOk result (held.new.top ≤ top) }
+    ensures to { OnOk result (top + count ≤ held.new.top + length held.new.lines) }
+    ensures more { OnOk result (HoldsMore (S.shows below.old).present held.old held.new) }
+    ensures kept { OnlyReads S.LineStore below.old below.new }
+    ensures cause { HasCause (S.shows below.old).faults (S.shows below.new).faults (IsErrOf result StoreErr.Failed) }
+{
+    let _ = below.len();
+    seat(held, top);
+    hold_from(alloc, held, below, top)?;
+    hold_to(alloc, held, below, top + count)?;
+    Ok(())
+}

@@ -1,0 +1,130 @@
+// A store that holds the lines of another that are changed.
+ghost use Rattle.std.specs.Prelude.{◌≡◌, Some, OnErr, OnOk};
+ghost use Rattle.vs_gap.specs.Held.{committed_of};
+
+use crate::held::{Held, hold};
+use std::alloc::{AllocError, Global};
+use vs_edit::{LineStore, StoreErr};
+use vs_text::Line;
+
+/// The lines that a store holds over another.
+#[derive(Drop)]
+pub struct Overlay {
+    pub present: Held,
+    /// What was held when the text was committed, where it may be something else than now.
+    pub committed: Option<Held>,
+}
+
+/// A store over another, which it only reads. It holds the lines from the first that was changed to the last one, and so takes into
+/// memory what is changed: it is meant for changes that stand near to each other, one after the other.
+#[derive(Drop)]
+pub struct GapStore<'s, S: LineStore> {
+    pub below: &'s mut S,
+    pub overlay: &'s mut Overlay,
+}
+
+impl Overlay {
+    // Keeps what was committed, which is what is held now where nothing else was kept.
+    fn keep_committed(&mut self, alloc: Global) -> Result<(), AllocError>
+        ensures ok { OnOk result (self.new.committed ≡ Some (committed_of self.old.present self.old.committed)) }
+        ensures err { OnErr result (self.new.committed ≡ self.old.committed) }
+        ensures present { self.new.present ≡ self.old.present }
+    {
+        if self.committed.is_none() {
+            self.committed = Some(self.present.copy(alloc)?);
+        }
+        Ok(())
+    }
+}
+
+impl<'s, S: LineStore> LineStore for GapStore<'s, S> {
+    ghost use Rattle.std.specs.Prelude.{◌≡◌, ℕ, List, length, refl};
+    ghost use Rattle.std.proofs.Common.{ap, subst, sym, ◌∙◌};
+    ghost use Rattle.vs_text.specs.Text.{IsText, bytes_of};
+    ghost use Rattle.vs_text.specs.Limits.{IsWithinLimits};
+    ghost use Rattle.vs_edit.specs.State.{SameText};
+    ghost use Rattle.vs_edit.proofs.Steps.{SameText-refl, SameText-trans};
+    ghost use Rattle.vs_gap.specs.Held.{IsHeld, committed_of, shown_over, told_with, with_held};
+
+    ghost tells = { S.tells };
+
+    ghost shows = { λ s. shown_over (S.shows s.below.now) s.overlay.now.present s.overlay.now.committed };
+
+    ghost valid = { λ s. S.valid s.below.now × IsHeld (S.shows s.below.now).present s.overlay.now.present
+        × IsHeld (S.shows s.below.now).present (committed_of s.overlay.now.present s.overlay.now.committed) };
+
+    ghost safe = { λ s. S.valid s.below.now × IsHeld (S.shows s.below.now).present (committed_of s.overlay.now.present s.overlay.now.committed) };
+
+    ghost stays = { λ a b. (b.below.ghost_name ≡ a.below.ghost_name) × S.stays a.below.now b.below.now
+        × SameText (S.shows a.below.now).present (S.shows b.below.now).present
+        × SameText (S.shows a.below.now).committed (S.shows b.below.now).committed };
+
+    ghost tells_one = { λ s v told. told_with (S.shows s.below.now).present s.overlay.now.present v.1 (S.tells_one s.below.now v.0 told) };
+
+    ghost told_one = { λ s v told. told_with (S.shows s.below.now).present (committed_of s.overlay.now.present s.overlay.now.committed) v.1
+        (S.tells_one s.below.now v.0 told) };
+
+    ghost has_told = { λ s text is. S.has_told s.below.now is.under is.has };
+
+    ghost has_one = { λ s a b is_a is_b. is_a.is ∙ ap (λ (text : List (List ℕ)). with_held text s.overlay.now.present)
+        (S.has_one s.below.now is_a.under is_b.under is_a.has is_b.has) ∙ sym is_b.is };
+
+    ghost has_lines = { λ s text is. ap (λ (xs : List (List ℕ)). length xs) is.is ∙ is.fits.lines };
+
+    ghost has_bytes = { λ s text is. ap bytes_of is.is ∙ is.fits.bytes };
+
+    ghost has_text = { λ s text v is. subst IsText (sym is.is) is.fits.sound.is_text };
+
+    ghost has_within = { λ s text v is. subst IsWithinLimits (sym is.is) is.fits.sound.within };
+
+    ghost few_lines = { λ s v. v.1.few_lines };
+
+    ghost few_bytes = { λ s v. v.1.few_bytes };
+
+    ghost is_safe = { λ s v. (v.0, v.2) };
+
+    ghost stays_itself = { λ s. (refl, S.stays_itself s.below.now, SameText-refl, SameText-refl) };
+
+    ghost stays_on = { λ p q r a b. (b.0 ∙ a.0, S.stays_on p.below.now q.below.now r.below.now a.1 b.1, SameText-trans a.2 b.2, SameText-trans a.3 b.3) };
+
+    fn len(&self) -> u64 {
+        self.below.len() + self.overlay.present.lines.len() as u64 - self.overlay.present.replaced
+    }
+
+    fn bytes(&self) -> u64 {
+        self.overlay.present.bytes
+    }
+
+    fn line(&mut self, alloc: Global, at: u64, into: &mut Vec<u8>) -> Result<(), StoreErr> {
+        let held = &self.overlay.present;
+        if at < held.top {
+            return self.below.line(alloc, at, into);
+        }
+        let count = held.lines.len() as u64;
+        let past = at - held.top;
+        if past >= count {
+            let place = at + held.replaced - count;
+            return self.below.line(alloc, place, into);
+        }
+        into.clear();
+        into.extend_from_slice(held.lines.line(past as usize).bytes())?;
+        Ok(())
+    }
+
+    fn splice(&mut self, alloc: Global, top: u64, old: u64, new: &[Line]) -> Result<(), StoreErr> {
+        self.overlay.keep_committed(alloc)?;
+        hold(alloc, &mut self.overlay.present, self.below, top, old)?;
+        self.overlay.present.exchange(top, old, new)?;
+        Ok(())
+    }
+
+    fn commit(&mut self) {
+        self.overlay.committed = None;
+    }
+
+    fn rollback(&mut self) {
+        if let Some(held) = self.overlay.committed.take() {
+            self.overlay.present = held;
+        }
+    }
+}
