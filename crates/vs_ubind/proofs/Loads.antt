@@ -1,5 +1,5 @@
 -- What is read of a file is its first bytes, or all of them.
-use Rattle.std.proofs.Common.{◌≡◌, ℕ, min, List, length, take, Option, Some, None, Result, Err, IfSome, inl, inr, refl, sym, ap, subst, ◌∙◌, arith}
+use Rattle.std.proofs.Common.{◌≡◌, ℕ, min, List, length, take, Option, Some, None, Result, Ok, Err, IfSome, IsErrAnd, inl, inr, refl, sym, ap, subst, ◌∙◌, arith}
 use Rattle.std.specs.Prelude.{IsErrOf, IsSomeAnd}
 use Rattle.std.proofs.lemmas.Bool.{cases_lt}
 use Rattle.std.proofs.lemmas.List.{take_all}
@@ -9,8 +9,10 @@ use Rattle.vs_ufile.specs.declared.error.UfKind.TheVariants as kind
 use Rattle.vs_ufile.specs.Decode.{Answers, no_memory}
 use Rattle.vs_ufile.specs.Signature.{IsUnreadable}
 use Rattle.vs_ubind.specs.declared.loading.LoadErr.{LoadErr}
-use Rattle.vs_ubind.specs.declared.loading.LoadErr.TheVariants.{Unreadable}
-use Rattle.vs_ubind.specs.Loading.{undecoded, undecoded_by}
+use Rattle.vs_ubind.specs.declared.loading.LoadErr.TheVariants.{Failed, Unreadable}
+use Rattle.vs_ubind.specs.declared.fetching.FetchErr.{FetchErr}
+use Rattle.vs_ubind.specs.declared.fetching.FetchErr.TheVariants as fetched
+use Rattle.vs_ubind.specs.Loading.{undecoded, undecoded_by, unfetched}
 
 -- ---- the bytes
 
@@ -29,6 +31,21 @@ first_of (Some bytes) size count first P there part few leads = elim (cases_lt 1
 pub all_of : (found : Option (List ℕ)) (size : ℕ) (read : List ℕ) (P : List ℕ → Type 0) → IsSomeAnd found (λ bytes. size ≡ length bytes) → IfSome found (λ bytes. read ≡ take size bytes) → P read → IsSomeAnd found P
 all_of None size read P there part holds = there
 all_of (Some bytes) size read P there part holds = subst P (part ∙ take_all size bytes (omega (arith, there))) holds
+
+-- ---- an error that is handed on
+
+pub just_handed : {T E : Type 0} (result : Result T E) (e : E) → IsErrAnd result (λ x. x ≡ e) → IsErrOf result e
+just_handed (Ok value) e is = absurd is
+just_handed (Err x) e is = ap (λ (y : _). Err y) is
+
+pub same_handed : {T U E : Type 0} (result : Result T E) (e error : E) → IsErrAnd result (λ x. x ≡ e) → IsErrOf {T = U} (Err e) error → IsErrOf result error
+same_handed (Ok value) e error is of = absurd is
+same_handed (Err x) e error is of = let one : e ≡ error = cc in ap (λ (y : _). Err y) (is ∙ one)
+
+-- a call failed where the file was looked for
+pub fetch_failed : {T U : Type 0} (result : Result T LoadErr) (e : FetchErr) → IsErrAnd result (λ x. x ≡ unfetched e) → IsErrOf {T = U} (Err e) fetched.Failed → IsErrOf result Failed
+fetch_failed (Ok value) e is of = absurd is
+fetch_failed (Err x) e is of = let one : e ≡ fetched.Failed = cc in ap (λ (y : LoadErr). Err y) (is ∙ ap unfetched one)
 
 -- ---- the refusal
 

@@ -1,5 +1,5 @@
 // How an undo file is read.
-ghost use Rattle.std.specs.Prelude.{◌≡◌, ◌≤◌, ◌⊎◌, None, Some, IfOk, IfSome, IsErrOf, IsSomeAnd, IsTrue, OnOk, length, take};
+ghost use Rattle.std.specs.Prelude.{◌≡◌, ◌≤◌, ◌⊎◌, None, Some, IfOk, IfSome, IsErrOf, IsSomeAnd, IsTrue, length, take};
 ghost use Rattle.vs_faults.specs.Faults.{HasCause};
 ghost use Rattle.vs_host.specs.World.{ReadsFolder, content_of};
 ghost use Rattle.vs_disk.specs.Runs.{NoneFails};
@@ -60,7 +60,7 @@ pub(crate) fn size_of<F: Folder>(host: &mut F, name: &str) -> Result<u64, FetchE
         → IsErrOf result FetchErr.NoFile ⊎ IsErrOf result FetchErr.Failed }
     ensures frame { ReadsFolder (F.scene host.old) (F.scene host.new) }
     ensures acts { Acts F.tells (λ before after. after ≡ before) (F.scene host.old) (F.scene host.new) }
-    ensures none { OnOk result (NoneFails F.tells (F.scene host.old) (F.scene host.new)) }
+    ensures none { ¬ (IsErrOf result FetchErr.Failed) → NoneFails F.tells (F.scene host.old) (F.scene host.new) }
     ensures cause { HasCause (F.scene host.old).folder_faults (F.scene host.new).folder_faults (IsErrOf result FetchErr.Failed) }
 {
     if !host.has(name)? {
@@ -83,7 +83,7 @@ pub(crate) fn first_bytes<F: Folder>(
     ensures there { IsErrOf result FetchErr.NoFile → ⊥ }
     ensures frame { ReadsFolder (F.scene host.old) (F.scene host.new) }
     ensures acts { Acts F.tells (λ before after. after ≡ before) (F.scene host.old) (F.scene host.new) }
-    ensures none { OnOk result (NoneFails F.tells (F.scene host.old) (F.scene host.new)) }
+    ensures none { ¬ (IsErrOf result FetchErr.Failed) → NoneFails F.tells (F.scene host.old) (F.scene host.new) }
     ensures cause { HasCause (F.scene host.old).folder_faults (F.scene host.new).folder_faults (IsErrOf result FetchErr.Failed) }
 {
     let mut bytes = vec![in alloc; 0u8; count as usize]?;
@@ -101,7 +101,7 @@ pub fn fetch<F: Folder>(alloc: Global, host: &mut F, names: &Names) -> Result<Ve
         → IsErrOf result FetchErr.NoFile ⊎ IsErrOf result FetchErr.Failed }
     ensures frame { ReadsFolder (F.scene host.old) (F.scene host.new) }
     ensures acts { Acts F.tells (λ before after. after ≡ before) (F.scene host.old) (F.scene host.new) }
-    ensures none { OnOk result (NoneFails F.tells (F.scene host.old) (F.scene host.new)) }
+    ensures none { ¬ (IsErrOf result FetchErr.Failed) → NoneFails F.tells (F.scene host.old) (F.scene host.new) }
     ensures cause { HasCause (F.scene host.old).folder_faults (F.scene host.new).folder_faults (IsErrOf result FetchErr.Failed) }
 {
     let name = names.undo.as_str();

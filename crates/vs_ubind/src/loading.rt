@@ -1,5 +1,5 @@
 // How the data of an undo file is read.
-ghost use Rattle.std.specs.Prelude.{◌≡◌, ◌⊎◌, None, IfOk, IsErrOf, IsSomeAnd, IsTrue, OnOk};
+ghost use Rattle.std.specs.Prelude.{◌≡◌, ◌⊎◌, None, IfOk, IsErrOf, IsSomeAnd, IsTrue};
 ghost use Rattle.vs_faults.specs.Faults.{HasCause};
 ghost use Rattle.vs_host.specs.World.{ReadsFolder, content_of};
 ghost use Rattle.vs_disk.specs.Runs.{NoneFails};
@@ -72,7 +72,7 @@ pub fn load<F: Folder>(alloc: Global, host: &mut F, names: &Names) -> Result<Fil
         → IsErrOf result LoadErr.NoFile ⊎ IsErrOf result LoadErr.Failed }
     ensures frame { ReadsFolder (F.scene host.old) (F.scene host.new) }
     ensures acts { Acts F.tells (λ before after. after ≡ before) (F.scene host.old) (F.scene host.new) }
-    ensures none { OnOk result (NoneFails F.tells (F.scene host.old) (F.scene host.new)) }
+    ensures none { ¬ (IsErrOf result LoadErr.Failed) → NoneFails F.tells (F.scene host.old) (F.scene host.new) }
     ensures cause { HasCause (F.scene host.old).folder_faults (F.scene host.new).folder_faults (IsErrOf result LoadErr.Failed) }
 {
     let name = names.undo.as_str();

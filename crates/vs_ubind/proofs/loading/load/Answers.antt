@@ -7,13 +7,13 @@ use Rattle.vs_ufile.specs.Decode.{IsUndoFile}
 use Rattle.vs_ufile.specs.Signature.{IsUnreadable}
 use Rattle.vs_ufile.specs.Values.{history_of}
 use Rattle.vs_ubind.proofs.Calls.{looked_then}
-use Rattle.vs_ubind.proofs.Loads.{all_of, decode_error, first_of, same_error}
+use Rattle.vs_ubind.proofs.Loads.{all_of, decode_error, fetch_failed, first_of, same_error}
 use Rattle.vs_ubind.proofs.loading.load.Goals as goal
 
 pub returns-in_err-first-clause-acts : goal.returns-in_err-first-clause-acts
 returns-in_err-first-clause-acts g c =
     let s0 : Scene = g.F.World.scene c.args.host.now in
-    looked_then g.F.World.tells s0 (g.F.World.scene c.size_of.new.host) (g.F.World.scene c.first_bytes.new.host) c.in_ok-size.ensures.none c.size_of.ensures.acts c.first_bytes.ensures.acts
+    looked_then g.F.World.tells s0 (g.F.World.scene c.size_of.new.host) (g.F.World.scene c.first_bytes.new.host) (c.in_ok-size.ensures.none (λ e. cc)) c.size_of.ensures.acts c.first_bytes.ensures.acts
 
 pub returns-in_err-check_signature-clause-unreadable : goal.returns-in_err-check_signature-clause-unreadable
 returns-in_err-check_signature-clause-unreadable g c error is told =
@@ -34,15 +34,15 @@ returns-in_err-check_signature-clause-unreadable g c error is told =
 pub returns-in_err-check_signature-clause-acts : goal.returns-in_err-check_signature-clause-acts
 returns-in_err-check_signature-clause-acts g c =
     let s0 : Scene = g.F.World.scene c.args.host.now in
-    looked_then g.F.World.tells s0 (g.F.World.scene c.size_of.new.host) (g.F.World.scene c.first_bytes.new.host) c.in_ok-size.ensures.none c.size_of.ensures.acts c.first_bytes.ensures.acts
+    looked_then g.F.World.tells s0 (g.F.World.scene c.size_of.new.host) (g.F.World.scene c.first_bytes.new.host) (c.in_ok-size.ensures.none (λ e. cc)) c.size_of.ensures.acts c.first_bytes.ensures.acts
 
 pub returns-in_err-bytes-clause-acts : goal.returns-in_err-bytes-clause-acts
 returns-in_err-bytes-clause-acts g c =
     let s0 : Scene = g.F.World.scene c.args.host.now in
     let s1 : Scene = g.F.World.scene c.size_of.new.host in
     let s2 : Scene = g.F.World.scene c.first_bytes.new.host in
-    let first = looked_then g.F.World.tells s0 s1 s2 c.in_ok-size.ensures.none c.size_of.ensures.acts c.first_bytes.ensures.acts in
-    looked_then g.F.World.tells s0 s2 (g.F.World.scene c.first_bytes-2.new.host) (none_then g.F.World.tells s0 s1 s2 c.in_ok-size.ensures.none c.in_ok-first.ensures.none) first c.first_bytes-2.ensures.acts
+    let first = looked_then g.F.World.tells s0 s1 s2 (c.in_ok-size.ensures.none (λ e. cc)) c.size_of.ensures.acts c.first_bytes.ensures.acts in
+    looked_then g.F.World.tells s0 s2 (g.F.World.scene c.first_bytes-2.new.host) (none_then g.F.World.tells s0 s1 s2 (c.in_ok-size.ensures.none (λ e. cc)) (c.in_ok-first.ensures.none (λ e. cc))) first c.first_bytes-2.ensures.acts
 
 pub returns-in_err-history-clause-unreadable : goal.returns-in_err-history-clause-unreadable
 returns-in_err-history-clause-unreadable g c error is told =
@@ -62,8 +62,8 @@ returns-in_err-history-clause-acts g c =
     let s0 : Scene = g.F.World.scene c.args.host.now in
     let s1 : Scene = g.F.World.scene c.size_of.new.host in
     let s2 : Scene = g.F.World.scene c.first_bytes.new.host in
-    let first = looked_then g.F.World.tells s0 s1 s2 c.in_ok-size.ensures.none c.size_of.ensures.acts c.first_bytes.ensures.acts in
-    looked_then g.F.World.tells s0 s2 (g.F.World.scene c.first_bytes-2.new.host) (none_then g.F.World.tells s0 s1 s2 c.in_ok-size.ensures.none c.in_ok-first.ensures.none) first c.first_bytes-2.ensures.acts
+    let first = looked_then g.F.World.tells s0 s1 s2 (c.in_ok-size.ensures.none (λ e. cc)) c.size_of.ensures.acts c.first_bytes.ensures.acts in
+    looked_then g.F.World.tells s0 s2 (g.F.World.scene c.first_bytes-2.new.host) (none_then g.F.World.tells s0 s1 s2 (c.in_ok-size.ensures.none (λ e. cc)) (c.in_ok-first.ensures.none (λ e. cc))) first c.first_bytes-2.ensures.acts
 
 pub returns-clause-found : goal.returns-clause-found
 returns-clause-found g c told =
@@ -83,12 +83,39 @@ returns-clause-acts g c =
     let s0 : Scene = g.F.World.scene c.args.host.now in
     let s1 : Scene = g.F.World.scene c.size_of.new.host in
     let s2 : Scene = g.F.World.scene c.first_bytes.new.host in
-    let first = looked_then g.F.World.tells s0 s1 s2 c.in_ok-size.ensures.none c.size_of.ensures.acts c.first_bytes.ensures.acts in
-    looked_then g.F.World.tells s0 s2 (g.F.World.scene c.first_bytes-2.new.host) (none_then g.F.World.tells s0 s1 s2 c.in_ok-size.ensures.none c.in_ok-first.ensures.none) first c.first_bytes-2.ensures.acts
+    let first = looked_then g.F.World.tells s0 s1 s2 (c.in_ok-size.ensures.none (λ e. cc)) c.size_of.ensures.acts c.first_bytes.ensures.acts in
+    looked_then g.F.World.tells s0 s2 (g.F.World.scene c.first_bytes-2.new.host) (none_then g.F.World.tells s0 s1 s2 (c.in_ok-size.ensures.none (λ e. cc)) (c.in_ok-first.ensures.none (λ e. cc))) first c.first_bytes-2.ensures.acts
 
 pub returns-clause-none : goal.returns-clause-none
-returns-clause-none g c =
+returns-clause-none g c calm =
     let s0 : Scene = g.F.World.scene c.args.host.now in
     let s1 : Scene = g.F.World.scene c.size_of.new.host in
     let s2 : Scene = g.F.World.scene c.first_bytes.new.host in
-    none_then g.F.World.tells s0 s2 (g.F.World.scene c.first_bytes-2.new.host) (none_then g.F.World.tells s0 s1 s2 c.in_ok-size.ensures.none c.in_ok-first.ensures.none) c.in_ok-bytes.ensures.none
+    none_then g.F.World.tells s0 s2 (g.F.World.scene c.first_bytes-2.new.host) (none_then g.F.World.tells s0 s1 s2 (c.in_ok-size.ensures.none (λ e. cc)) (c.in_ok-first.ensures.none (λ e. cc))) (c.in_ok-bytes.ensures.none (λ e. cc))
+
+pub returns-in_err-size-clause-none : goal.returns-in_err-size-clause-none
+returns-in_err-size-clause-none g c calm = c.in_err-size.ensures.none (λ failed. calm (fetch_failed c.from_residual.result _ c.from_residual.ensures.1 failed))
+
+pub returns-in_err-first-clause-none : goal.returns-in_err-first-clause-none
+returns-in_err-first-clause-none g c calm =
+    none_then g.F.World.tells (g.F.World.scene c.args.host.now) (g.F.World.scene c.size_of.new.host) (g.F.World.scene c.first_bytes.new.host) (c.in_ok-size.ensures.none (λ e. cc))
+    (c.in_err-first.ensures.none (λ failed. calm (fetch_failed c.from_residual-in_err-first.result _ c.from_residual-in_err-first.ensures.1 failed)))
+
+pub returns-in_err-check_signature-clause-none : goal.returns-in_err-check_signature-clause-none
+returns-in_err-check_signature-clause-none g c calm =
+    none_then g.F.World.tells (g.F.World.scene c.args.host.now) (g.F.World.scene c.size_of.new.host) (g.F.World.scene c.first_bytes.new.host) (c.in_ok-size.ensures.none (λ e. cc)) (c.in_ok-first.ensures.none (λ e. cc))
+
+pub returns-in_err-bytes-clause-none : goal.returns-in_err-bytes-clause-none
+returns-in_err-bytes-clause-none g c calm =
+    let s0 : Scene = g.F.World.scene c.args.host.now in
+    let s1 : Scene = g.F.World.scene c.size_of.new.host in
+    let s2 : Scene = g.F.World.scene c.first_bytes.new.host in
+    none_then g.F.World.tells s0 s2 (g.F.World.scene c.first_bytes-2.new.host) (none_then g.F.World.tells s0 s1 s2 (c.in_ok-size.ensures.none (λ e. cc)) (c.in_ok-first.ensures.none (λ e. cc)))
+    (c.in_err-bytes.ensures.none (λ failed. calm (fetch_failed c.from_residual-in_err-bytes.result _ c.from_residual-in_err-bytes.ensures.1 failed)))
+
+pub returns-in_err-history-clause-none : goal.returns-in_err-history-clause-none
+returns-in_err-history-clause-none g c calm =
+    let s0 : Scene = g.F.World.scene c.args.host.now in
+    let s1 : Scene = g.F.World.scene c.size_of.new.host in
+    let s2 : Scene = g.F.World.scene c.first_bytes.new.host in
+    none_then g.F.World.tells s0 s2 (g.F.World.scene c.first_bytes-2.new.host) (none_then g.F.World.tells s0 s1 s2 (c.in_ok-size.ensures.none (λ e. cc)) (c.in_ok-first.ensures.none (λ e. cc))) (c.in_ok-bytes.ensures.none (λ e. cc))
