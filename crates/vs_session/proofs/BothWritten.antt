@@ -8,13 +8,12 @@ use Rattle.vs_faults.specs.Faults.{HasCause, HasRisen}
 use Rattle.vs_host.specs.File.{File, IsFileImage}
 use Rattle.vs_host.specs.Disk.{Disk, Name, IsFolder, IsImageOf}
 use Rattle.vs_host.specs.Names.{AreNames}
-use Rattle.vs_host.specs.Trace.{Snapshot, Each}
 use Rattle.vs_host.specs.World.{Scene, ChangesFolder, ReadsFolder}
 use Rattle.vs_host.specs.declared.names.Names.{Names}
 use Rattle.vs_text.specs.Text.{file_of}
 use Rattle.vs_disk.specs.Images.{HoldsBytes, MayLeave}
 use Rattle.vs_disk.specs.Names.{SameAt}
-use Rattle.vs_disk.specs.Runs.{Runs, FailsLast, Looks}
+use Rattle.vs_disk.specs.Runs.{Runs, FailsLast, Looks, Quiet}
 use Rattle.vs_disk.proofs.Contents.{takes_then}
 use Rattle.vs_disk.proofs.Others.{same_none, same_then}
 use Rattle.vs_disk.proofs.Runs.{frames, reads_change, runs_as, runs_then}
@@ -28,7 +27,7 @@ use Rattle.vs_backup.specs.declared.options.WriteOptions.{WriteOptions}
 use Rattle.vs_backup.specs.declared.errors.WriteErr.{WriteErr}
 use Rattle.vs_backup.specs.declared.errors.WriteErr.TheVariants as error
 use Rattle.vs_backup.specs.declared.errors.Place.TheVariants.{Nowhere}
-use Rattle.vs_backup.specs.Writing.{IsUnseen}
+use Rattle.vs_backup.specs.Writing.{BecomesWritten, IsUnseen}
 use Rattle.vs_backup.proofs.Frames.{takes_spared}
 use Rattle.vs_machine.specs.Machine.{took_effect}
 use Rattle.vs_machine.specs.Replies.{Answer, says}
@@ -36,7 +35,6 @@ use Rattle.vs_machine.specs.declared.command.Outcome.{Outcome}
 use Rattle.vs_machine.specs.declared.command.Outcome.TheVariants.{Done, NoUndo}
 use Rattle.vs_undo.specs.History.{History, history_marked}
 use Rattle.vs_ubind.specs.Storing.{StoresBy}
-use Rattle.vs_safety.specs.Causes.{newest_count, folder_count}
 use Rattle.vs_safety.specs.Texts.{Sync, Text, Recovers, recoverable}
 use Rattle.vs_safety.specs.Undo.{HasStored, HasUndo, UndoWrite}
 use Rattle.vs_safety.specs.Writes.{Write, HasWritten, IsWholeIn, backup_for, new_bytes, state_now}
@@ -50,9 +48,12 @@ use Rattle.vs_desk.specs.Still.{KeepsLeft}
 use Rattle.vs_desk.specs.Writes.{KeepsSwap}
 use Rattle.vs_session.specs.declared.session.Session.{Session}
 use Rattle.vs_session.specs.Session.{SessionState, after_sync, is_fault, is_write, line_by, reply_of, state_after, sync_in, undo_after, write_in, write_reply, written_state}
-use Rattle.vs_session.specs.Stores.{HasFailedStoring, StoresUndo}
+use Rattle.vs_session.specs.Failures.{FailsOnce}
+use Rattle.vs_session.specs.Stores.{StoresUndo}
 use Rattle.vs_session.specs.Writes.{HasSynced, Wrote}
 use Rattle.vs_session.specs.Fits.{Answers, Fits, names_of}
+use Rattle.vs_session.proofs.Failing.{above_quiet, once_after}
+use Rattle.vs_session.proofs.SummaryLemmas.{fails_still}
 use Rattle.vs_session.proofs.Steps.{recovers_synced, risen_since, risen_until, works_runs}
 use Rattle.vs_session.proofs.FileWrites.{backup_named}
 use Rattle.vs_session.proofs.Stored.{fits_stored, undo_outside}
@@ -69,7 +70,7 @@ synced_looked state syncs before between next old mid new s reads looks still na
   frame = frames old mid new s.frame (reads_change mid new reads);
   runs = runs_then (folder.Syncing before.text) (λ a b. b ≡ a) (folder.Syncing before.text) old mid new (λ d syncing. syncing)
       (λ d is. subst (λ (e : Disk). folder.Syncing before.text old.folder e) (sym is) s.runs.now) s.frame s.runs looks;
-  above = subst (λ (scene : Scene). NoneAbove old scene) (sym still) s.above;
+  quiet = subst (λ (scene : Scene). Quiet old scene) (sym still) s.quiet;
   rises = subst (λ (d : Disk). Rises (names_of before) old.folder d) (sym looks.now) s.rises;
   names = names ∙ s.names;
   synced = fits;
@@ -91,6 +92,7 @@ wrote_nothing state syncs before after old new folder looks still fits now =
       left = runs_as (λ a b. b ≡ a) (KeepsLeft (WorksOn state.options.write (names_of before).file old.folder)) old new
           (λ d is. subst (λ (e : Disk). KeepsLeft (WorksOn state.options.write (names_of before).file old.folder) old.folder e) (sym is) (λ name out left may. may)) looks;
       above = subst (λ (scene : Scene). NoneAbove old scene) (sym still) (above_none old);
+      calls = record { done = tt; last = fails_still old new still; none = λ calm. absurd (calm (Nowhere, refl)) };
       fits = now;
     }
 
@@ -131,12 +133,6 @@ module _ (names : Names) (old new : Disk) (spares : SparesNames (two_names names
     fresh = λ none found may. inl (held (new_bytes write) new names.file holds found may);
   }
 
--- ---- the count of faults as the storing begins
-
-newest_within : (start : Scene) (n : ℕ) (moments : List Snapshot) → start.folder_faults ≤ n → Each (λ m. m.folder_faults ≤ n) moments → newest_count folder_count start moments ≤ n
-newest_within start n [] later each = later
-newest_within start n (m ∷ moments) later each = each.0
-
 -- ---- the step
 
 module _ (state : SessionState) (syncs : List Sync) (instruction : Instruction) (is : is_write instruction.parsed ≡ true) (before between : Session) (old mid : Scene) (s : HasSynced state syncs before between old mid)
@@ -164,11 +160,14 @@ module _ (state : SessionState) (syncs : List Sync) (instruction : Instruction) 
   abbrev work : FileWork
   work = BothFiles write undo
 
+  becomes : BecomesWritten names.file (file_of text) mid made
+  becomes = subst (λ (n : Names). BecomesWritten n.file (file_of text) mid made) s.names wrote.calls.done
+
   named : AreNames names
   named = are state syncs instruction is before between old mid s
 
   above : NoneAbove old made
-  above = above_then old mid made s.above wrote.above
+  above = above_then old mid made (above_quiet old mid s.quiet) wrote.above
 
   free : lacks state syncs instruction is before between old mid s ≡ false
   free = not_lacks state syncs instruction is before between old mid s after (Ok size) made second wrote size refl
@@ -237,13 +236,33 @@ module _ (state : SessionState) (syncs : List Sync) (instruction : Instruction) 
     absent = λ none gone. absurd (true≢false none);
   }
 
+  written : (outcome : Outcome) → took_effect outcome ≡ true → (((is_write instruction.parsed && true) && not (lacks state syncs instruction is before between old mid s)) && took_effect outcome) ≡ true
+  written outcome took = λ i. ((is i && true) && not (free i)) && took i
+
+  -- the calls after the sync
+  calls_by : (outcome : Outcome) → (outcome ≡ Done) ⊎ (outcome ≡ NoUndo) → took_effect outcome ≡ true → HasCause made.folder_faults new.folder_faults (is_fault outcome ≡ true) → StoresBy names.undo_new names.undo made new
+      → FailsLast made new → (is_fault outcome ≡ false → Quiet made new) → FailsOnce names state instruction (ended state syncs instruction is before between old mid s outcome at) mid new
+  calls_by outcome ended_as took cause calls last quiet = record {
+    writes = λ _. record {
+      wrote = made;
+      file = becomes;
+      above = wrote.above;
+      calls = calls;
+      last = last;
+      none = λ stored. elim ended_as [ inl done ↦ quiet (ap is_fault done) | inr none ↦ absurd (stored none) ];
+      unstored = λ none. cause.risen (ap is_fault none);
+    };
+    last = λ unwritten. absurd (true≢false (sym (written outcome took) ∙ unwritten));
+    none = λ unwritten. absurd (true≢false (sym (written outcome took) ∙ unwritten));
+  }
+
   -- however the storing ended
   answers_by : (outcome : Outcome) (reply : Answer) → took_effect outcome ≡ true → reply ≡ reply_of state instruction (ended state syncs instruction is before between old mid s outcome at)
       → ((true && not (is_fault outcome)) ≡ true → HasUndo names text (history_marked state.machine.history) new.folder) → (is_fault outcome ≡ true → HasRisen old.folder_faults new.folder_faults)
-      → (outcome ≡ NoUndo → HasFailedStoring names old new) → Answers state syncs instruction before after (mark state syncs instruction is before between old mid s outcome at) reply old new
-  answers_by outcome reply took replied stored cause unstored =
-      answers_free state syncs instruction is before between old mid s free true on after outcome at reply new names_after (λ none. refl) unstored replied
-      (fits_by state syncs instruction is before between old mid s after new.folder outcome at true (λ i. ((is i && true) && not (free i)) && took i) (fits_on new.folder stores.now.spares))
+      → FailsOnce names state instruction (ended state syncs instruction is before between old mid s outcome at) old new → Answers state syncs instruction before after (mark state syncs instruction is before between old mid s outcome at) reply old new
+  answers_by outcome reply took replied stored cause calls =
+      answers_free state syncs instruction is before between old mid s free true on after outcome at reply new names_after (λ none. refl) calls replied
+      (fits_by state syncs instruction is before between old mid s after new.folder outcome at true (written outcome took) (fits_on new.folder stores.now.spares))
       (works_runs names (Some work) (IsUnderWay names during (Some work)) Both old new (frames old made new frame third) (λ d both. both) both_runs)
       (subst (λ (done : Bool). HasWritten names write done (state_now old) (state_now new) × HasStored names undo (done && not (is_fault outcome)) (state_now old) (state_now new)) (sym took)
       (wrote_new, record { found = refl; stored = stored }))
@@ -267,17 +286,9 @@ module _ (state : SessionState) (syncs : List Sync) (instruction : Instruction) 
 
   pub answers_both : (outcome : Outcome) (reply : Answer) → (outcome ≡ Done) ⊎ (outcome ≡ NoUndo) → reply ≡ says (line_by outcome state.name (length text) size)
       → (outcome ≡ Done → HasUndo names text (history_marked state.machine.history) new.folder) → HasCause made.folder_faults new.folder_faults (is_fault outcome ≡ true)
-      → StoresBy names.undo_new names.undo made new → FailsLast made new → Answers state syncs instruction before after (mark state syncs instruction is before between old mid s outcome at) reply old new
-  answers_both outcome reply ended_as replied stored cause calls last =
+      → StoresBy names.undo_new names.undo made new → FailsLast made new → (is_fault outcome ≡ false → Quiet made new) → Answers state syncs instruction before after (mark state syncs instruction is before between old mid s outcome at) reply old new
+  answers_both outcome reply ended_as replied stored cause calls last quiet =
       answers_by outcome reply (took_as outcome ended_as) (replied ∙ line_is state syncs instruction is before between old mid s free outcome size bytes.0 ∙ replied_as outcome ended_as)
       (λ calm. stored (done_as outcome ended_as calm))
       (λ failed. risen_since old.folder_faults made.folder_faults new.folder_faults above.later (cause.risen failed))
-      (λ none. record {
-        began = made;
-        before = above.moments.added;
-        since = above.moments.is;
-        counted = newest_within old made.folder_faults above.moments.added above.later above.moments.each;
-        calls = calls;
-        last = last;
-        failed = cause.risen (ap is_fault none);
-      })
+      (once_after names state instruction (ended state syncs instruction is before between old mid s outcome at) old mid new s.quiet (calls_by outcome ended_as (took_as outcome ended_as) cause calls last quiet))

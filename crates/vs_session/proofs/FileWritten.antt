@@ -12,7 +12,7 @@ use Rattle.vs_backup.specs.Backups.{IsNoName, WorksOn}
 use Rattle.vs_backup.specs.Works.{SparesOthers}
 use Rattle.vs_undo.specs.History.{marked}
 use Rattle.vs_undo.specs.declared.parts.Parts.{Parts}
-use Rattle.vs_backup.specs.Writing.{IsFailed}
+use Rattle.vs_backup.specs.Writing.{FailsNoEarlier, IsFailed}
 use Rattle.vs_machine.specs.Replies.{Answer, says}
 use Rattle.vs_machine.specs.declared.command.Outcome.{Outcome}
 use Rattle.vs_safety.specs.Texts.{Sync, recoverable}
@@ -29,8 +29,8 @@ use Rattle.vs_session.proofs.Written.{Refuses, err_of}
 pub wrote : (state : SessionState) (syncs : List Sync) (before after : Session) (old new : Scene) (result : Result ℕ WriteErr) → Fits before old.folder state syncs
     → WritesFile before.options.write (names_of before) (file_of state.machine.text) old new result → (result ≡ Err error.NoBackupName → IsNoName before.options.write (names_of before).file true old.folder)
     → Runs (KeepsSwap (names_of before) (recoverable syncs)) old new → IsFolder old.folder → SparesOthers (WorksOn before.options.write (names_of before).file old.folder) old new
-    → Runs (KeepsLeft (WorksOn before.options.write (names_of before).file old.folder)) old new → NoneAbove old new → Fits after new.folder (state_to state result) syncs → Wrote state syncs before after result old new
-wrote state syncs before after old new result fits file no_name swap folder others left above now = record {
+    → Runs (KeepsLeft (WorksOn before.options.write (names_of before).file old.folder)) old new → NoneAbove old new → FailsNoEarlier (names_of before).file (file_of state.machine.text) old new result → Fits after new.folder (state_to state result) syncs → Wrote state syncs before after result old new
+wrote state syncs before after old new result fits file no_name swap folder others left above calls now = record {
   file = subst (λ (o : Options). WritesFile o.write (names_of before) (file_of state.machine.text) old new result) fits.options file;
   no_name = λ is. subst (λ (o : Options). IsNoName o.write (names_of before).file true old.folder) fits.options (no_name is);
   swap = swap;
@@ -38,6 +38,7 @@ wrote state syncs before after old new result fits file no_name swap folder othe
   others = subst (λ (o : Options). SparesOthers (WorksOn o.write (names_of before).file old.folder) old new) fits.options others;
   left = subst (λ (o : Options). Runs (KeepsLeft (WorksOn o.write (names_of before).file old.folder)) old new) fits.options left;
   above = above;
+  calls = calls;
   fits = now;
 }
 
@@ -65,6 +66,12 @@ pub failed_why : (why : WriteErr) (outcome : Outcome) → outcome ≡ outcome_to
 failed_why error.NoBackupName outcome ended fault = absurd (true≢false (sym fault ∙ ap is_fault ended))
 failed_why (error.Failed place) outcome ended fault = (place, refl)
 failed_why (error.NoMemory place) outcome ended fault = absurd (true≢false (sym fault ∙ ap is_fault ended))
+
+-- where no fault is answered, no call failed
+pub calm_why : (why : WriteErr) (outcome : Outcome) → outcome ≡ outcome_to why → is_fault outcome ≡ false → ¬ IsFailed (err_of why)
+calm_why error.NoBackupName outcome ended calm failed = let is = failed.1 in cc
+calm_why (error.Failed place) outcome ended calm failed = true≢false (sym (ap is_fault ended) ∙ calm)
+calm_why (error.NoMemory place) outcome ended calm failed = let is = failed.1 in cc
 
 -- ---- what was written
 

@@ -1,12 +1,13 @@
 -- The answer to `rundo`.
-use Rattle.std.proofs.Common.{◌≡◌, ℕ, Bool, true, false, cond, ◌&&◌, not, List, Option, Some, None, Result, Ok, Err, refl, sym, ◌∙◌, ap, subst}
+use Rattle.std.proofs.Common.{◌≡◌, ℕ, Bool, true, false, cond, ◌&&◌, not, List, Option, Some, None, Result, Ok, Err, IsTrue, refl, sym, ◌∙◌, ap, subst}
 use Rattle.std.proofs.lemmas.Bool.{true≢false}
 use Rattle.vs_faults.specs.Faults.{HasCause}
 use Rattle.vs_host.specs.Disk.{Disk, content_in}
 use Rattle.vs_host.specs.Names.{names_of_file}
-use Rattle.vs_host.specs.World.{Scene, ReadsFolder}
+use Rattle.vs_host.specs.World.{Scene, Tells, ReadsFolder}
 use Rattle.vs_host.specs.declared.names.Names.{Names}
 use Rattle.vs_disk.specs.Runs.{Looks}
+use Rattle.vs_backup.specs.Desks.{StopsAtFault}
 use Rattle.vs_exparse.specs.Command.Command.{ReadUndo}
 use Rattle.vs_exparse.specs.declared.command.ExErr.TheVariants.{E492}
 use Rattle.vs_excmd.specs.Request.{Instruction}
@@ -28,6 +29,7 @@ use Rattle.vs_session.specs.declared.taking.TakeErr.TheVariants as take
 use Rattle.vs_session.specs.Taken.{IsTaken, outcome_by, taken_reply}
 use Rattle.vs_session.specs.Session.{SessionState, Ended, HasFound, after_sync, answered, begins_after, begins_sync, carried, history_by, history_in, history_taken, is_fault, is_rundo, is_saved, is_write, lacks_name, options_after, quits, reply_of, session_reply, state_after, sync_in, undo_work, with_history, work_of, write_work, written_state}
 use Rattle.vs_session.specs.Fits.{Answers, Fits, names_of}
+use Rattle.vs_session.proofs.Failing.{once_stops}
 use Rattle.vs_session.proofs.SessionLemmas.{carried_still, saved_is}
 use Rattle.vs_session.proofs.Steps.{assemble_read, between_synced, no_write, recovers_synced, works_looks}
 
@@ -130,6 +132,15 @@ failed_taken (take.Misfit number) outcome ended fault = absurd (true≢false (sy
 failed_taken take.NoMemory outcome ended fault = absurd (true≢false (sym fault ∙ ap is_fault ended))
 failed_taken take.Failed outcome ended fault = refl
 
+-- and only that
+pub fault_taken : {T : Type 0} (error : TakeErr) → err_taken {T = T} error ≡ Err take.Failed → is_fault (outcome_by (Err error)) ≡ true
+fault_taken take.NoFile failed = absurd (cc)
+fault_taken (take.Unreadable why) failed = absurd (cc)
+fault_taken take.OtherText failed = absurd (cc)
+fault_taken (take.Misfit number) failed = absurd (cc)
+fault_taken take.NoMemory failed = absurd (cc)
+fault_taken take.Failed failed = refl
+
 -- the reply to a history that was taken
 pub read_line : (undo : Parts) (text : _) (history : History) (number changes : ℕ) → IsHistory undo text history → number ≡ undo.current → changes ≡ Rattle.std.specs.Prelude.length history.links.nodes
     → says (undo_file_read number changes) ≡ taken_reply (Ok history)
@@ -139,6 +150,7 @@ read_line undo text history number changes is number_is changes_are = λ i. says
 
 module _ (state : SessionState) (syncs : List Sync) (instruction : Instruction) (before : Session) (old : Scene) (fits : Fits before old.folder state syncs) (is : is_rundo instruction.parsed ≡ true) (after : Session)
     (read : Result History TakeErr) (outcome : Outcome) (at : ℕ) (reply : Answer) (new : Scene) (names_after : names_of after ≡ names_of before) (frame : ReadsFolder old new) (looks : Looks old new)
+    (tells : Tells) (told : IsTrue tells.folder) (stops : StopsAtFault tells (is_fault outcome ≡ true) old new)
     (taken : IsTaken state.machine.text (content_in old.folder (names_of before).undo) read) (outcome_is : outcome ≡ outcome_by read) (reply_as : reply ≡ taken_reply read)
     (cause : HasCause old.folder_faults new.folder_faults (is_fault outcome ≡ true)) (left : Fits after new.folder (with_history (history_in read) state) syncs) where
   abbrev names : Names
@@ -193,7 +205,8 @@ module _ (state : SessionState) (syncs : List Sync) (instruction : Instruction) 
 
   pub answers_read : Answers state syncs instruction before after mark reply old new
   answers_read =
-      assemble_read state syncs instruction before old (never_quits instruction.parsed _ is) fits after mark false read reply new None None found (λ unstored. absurd (never_unstored read (sym outcome_is ∙ unstored))) (ap (λ (c : Bool). cond c (Some (sync_in state false)) None) none_begun) work replied_as now
+      assemble_read state syncs instruction before old (never_quits instruction.parsed _ is) fits after mark false read reply new None None found
+      (once_stops names state instruction ended tells old new told (ap (λ (w : Bool). ((w && false) && not lacks) && took_effect outcome) (writes_none instruction.parsed is)) stops) (ap (λ (c : Bool). cond c (Some (sync_in state false)) None) none_begun) work replied_as now
       (record {
         works = works_looks names (IsUnderWay names syncs None) old new frame (no_write names syncs old.folder (recovers_synced names before old.folder state syncs refl fits)) looks;
         found = refl;

@@ -1,17 +1,18 @@
 -- One step of a session, as the run sees it: what its sync and its command do, one after the other.
-use Rattle.std.proofs.Common.{◌≡◌, inl, inr, ℕ, ◌≤◌, Bool, true, false, cond, ◌&&◌, ◌||◌, not, length, List, [], ◌∷◌, Option, Some, None, Result, Ok, Err, OnOk, OnErr, IsErr, is_ok, refl, sym, ◌∙◌, ap, subst, arith}
+use Rattle.std.proofs.Common.{◌≡◌, inl, inr, ℕ, ◌≤◌, Bool, true, false, cond, ◌&&◌, ◌||◌, not, length, List, [], ◌∷◌, Option, Some, None, Result, Ok, Err, OnOk, OnErr, IsErr, IsTrue, is_ok, refl, sym, ◌∙◌, ap, subst, arith}
 use Rattle.std.specs.Str.{bytes_eq}
 use Rattle.std.proofs.lemmas.Bool.{true≢false, cases_Bool}
 use Rattle.vs_faults.specs.Faults.{HasCause, HasRisen}
 use Rattle.vs_host.specs.Disk.{Disk, Name}
 use Rattle.vs_host.specs.Trace.{Snapshot}
-use Rattle.vs_host.specs.World.{Scene, ChangesFolder, ChangesClock, ReadsFolder}
+use Rattle.vs_host.specs.World.{Scene, Tells, ChangesFolder, ChangesClock, ReadsFolder}
 use Rattle.vs_host.specs.declared.names.Names.{Names}
 use Rattle.vs_disk.specs.Names.{SameAt}
-use Rattle.vs_disk.specs.Runs.{Inside, Runs, HasNoFault, Looks, Quiet}
+use Rattle.vs_disk.specs.Runs.{FailsLast, Inside, Runs, Looks, Quiet}
 use Rattle.vs_disk.proofs.Runs.{goes_then, goes_weaker, reads_change}
 use Rattle.vs_disk.proofs.Others.{same_none, same_then}
 use Rattle.vs_pair.specs.Pair.{Rises, is_swap, is_apart, is_foreign}
+use Rattle.vs_backup.specs.Desks.{StopsAtFault}
 use Rattle.vs_pair.proofs.MadeFiles.{same_weaker}
 use Rattle.vs_exparse.specs.Command.Command.{Write as WriteFile, WriteUndo, ReadUndo}
 use Rattle.vs_excmd.specs.Request.{Instruction}
@@ -21,13 +22,11 @@ use Rattle.vs_machine.specs.Replies.{Answer, refuses, device_fault}
 use Rattle.vs_machine.specs.declared.command.Mark.{Mark}
 use Rattle.vs_machine.specs.declared.command.Outcome.{Outcome}
 use Rattle.vs_machine.specs.declared.command.Outcome.TheVariants.{Fault, NoUndo}
-use Rattle.vs_safety.specs.Causes.{newest_count, folder_count}
 use Rattle.vs_safety.specs.Texts.{Sync, IsBetween, IsFlag, Recovers, RecoversOrNone, begun, recoverable}
 use Rattle.vs_safety.specs.Turns.{Turn, with_sync, last_turn}
 use Rattle.vs_safety.specs.FileWork.{FileWork}
 use Rattle.vs_safety.specs.Safety.{Spares, Works, IsUnderWay, Stepped}
 use Rattle.vs_undo.specs.History.{History}
-use Rattle.vs_desk.specs.Counts.{NoneAbove}
 use Rattle.vs_paged.specs.Fits as folder
 use Rattle.vs_paged.proofs.SyncLemmas.{fits_between, fits_recovers}
 use Rattle.vs_session.specs.declared.session.Session.{Session}
@@ -35,9 +34,10 @@ use Rattle.vs_session.specs.declared.session.Step.{Step}
 use Rattle.vs_session.specs.declared.session.Step.TheVariants as steps
 use Rattle.vs_session.specs.declared.taking.TakeErr.{TakeErr}
 use Rattle.vs_session.specs.declared.taking.TakeErr.TheVariants as take
-use Rattle.vs_session.specs.Session.{SessionState, Ended, HasFound, accepts_quit, after_sync, answered, begins_after, begins_sync, carried, history_by, history_taken, is_fault, is_rundo, is_write, is_wundo, lacks_name, own_reply, reply_of, session_reply, state_after, stores_both, sync_in, sync_of, undo_work, uses_files, with_history, work_of, write_work, writes_files, written_state}
+use Rattle.vs_session.specs.Session.{SessionState, Ended, HasFound, accepts_quit, after_sync, answered, begins_after, begins_sync, carried, history_by, history_taken, is_fault, is_rundo, is_write, is_wundo, lacks_name, own_reply, reply_of, session_reply, state_after, stores_both, sync_in, sync_of, undo_work, uses_files, with_history, work_of, write_work, writes_files, written_state, has_written}
 use Rattle.vs_session.specs.Fits.{Answers, Fits, HasSyncs, IsStep, Leaves, names_of}
-use Rattle.vs_session.specs.Stores.{HasFailedStoring}
+use Rattle.vs_session.specs.Failures.{FailsOnce}
+use Rattle.vs_session.proofs.Failing.{once_after, once_stops, once_unwritten, quiet_clock}
 use Rattle.vs_session.proofs.SessionLemmas.{counted_same}
 
 -- ---- work on the folder
@@ -96,13 +96,6 @@ flag_true names done old new rises = record { if_done = λ _. refl; rises = λ _
 
 pub flag_false : (names : Names) (old new : Disk) → (Rises names old new → ⊥) → IsFlag names false old new false
 flag_false names old new none = record { if_done = λ is. absurd (true≢false (sym is)); rises = λ _ is. absurd (true≢false (sym is)); if_rises = λ _ rises. absurd (none rises) }
-
--- where no call failed, no count is above that now
-pub above_quiet : (old new : Scene) → Quiet old new → NoneAbove old new
-above_quiet old new quiet = record {
-  later = omega (arith, quiet.folder);
-  moments = goes_weaker (HasNoFault old) (λ m. m.folder_faults ≤ new.folder_faults) (λ (m : Snapshot) none. omega (arith, none.folder, quiet.folder)) old.trace new.trace quiet.moments;
-}
 
 pub risen_since : (a b c : ℕ) → a ≤ b → HasRisen b c → HasRisen a c
 risen_since a b c le (inl less) = inl (omega (arith, le, less))
@@ -245,11 +238,11 @@ module _ (state : SessionState) (syncs : List Sync) (instruction : Instruction) 
   -- the answer, by the sync and the write that the command began, and by what it read
   pub assemble_read : (after : Session) (mark : Mark) (acknowledged : Bool) (read : Result History TakeErr) (reply : Answer) (new : Scene) (sync : Option Sync) (write : Option FileWork)
       → let ended : Ended = record { mark = mark; acknowledged = acknowledged; found = old.folder; read = read } in
-      HasFound state instruction ended → (mark.outcome ≡ NoUndo → HasFailedStoring (names_of before) old new) → sync_of state instruction ended ≡ sync → work_of state instruction ended ≡ write → reply ≡ reply_of state instruction ended
+      HasFound state instruction ended → FailsOnce (names_of before) state instruction ended old new → sync_of state instruction ended ≡ sync → work_of state instruction ended ≡ write → reply ≡ reply_of state instruction ended
       → Fits after new.folder (state_after state instruction ended) (with_sync sync syncs)
       → Stepped (names_of before) syncs (record { found = Some old.folder; sync = sync; write = write; done = took_effect mark.outcome; failed = is_fault mark.outcome; reply = (reply_of state instruction ended).bytes }) old new
       → Answers state syncs instruction before after mark reply old new
-  assemble_read after mark acknowledged read reply new sync write found unstored sync_is write_is replied now stepped =
+  assemble_read after mark acknowledged read reply new sync write found calls sync_is write_is replied now stepped =
       let ended : Ended = record { mark = mark; acknowledged = acknowledged; found = old.folder; read = read } in
       record {
         not_quit = goes_on;
@@ -260,17 +253,17 @@ module _ (state : SessionState) (syncs : List Sync) (instruction : Instruction) 
         fits = subst (λ (o : Option Sync). Fits after new.folder (state_after state instruction ended) (with_sync o syncs)) (sym sync_is) now;
         stepped = subst (λ (t : Turn). Stepped (names_of before) syncs t old new)
             (λ i. record { found = Some old.folder; sync = sym sync_is i; write = sym write_is i; done = took_effect mark.outcome; failed = is_fault mark.outcome; reply = (reply_of state instruction ended).bytes }) stepped;
-        unstored = unstored;
+        calls = calls;
       }
 
   -- that of a command which reads no undo file
   pub assemble : (after : Session) (mark : Mark) (acknowledged : Bool) (reply : Answer) (new : Scene) (sync : Option Sync) (write : Option FileWork) → is_rundo instruction.parsed ≡ false
-      → (mark.outcome ≡ NoUndo → stores_both state instruction (ended_with mark acknowledged) ≡ true) → (mark.outcome ≡ NoUndo → HasFailedStoring (names_of before) old new) → sync_of state instruction (ended_with mark acknowledged) ≡ sync → work_of state instruction (ended_with mark acknowledged) ≡ write → reply ≡ reply_of state instruction (ended_with mark acknowledged)
+      → (mark.outcome ≡ NoUndo → stores_both state instruction (ended_with mark acknowledged) ≡ true) → FailsOnce (names_of before) state instruction (ended_with mark acknowledged) old new → sync_of state instruction (ended_with mark acknowledged) ≡ sync → work_of state instruction (ended_with mark acknowledged) ≡ write → reply ≡ reply_of state instruction (ended_with mark acknowledged)
       → Fits after new.folder (state_after state instruction (ended_with mark acknowledged)) (with_sync sync syncs)
       → Stepped (names_of before) syncs (record { found = Some old.folder; sync = sync; write = write; done = took_effect mark.outcome; failed = is_fault mark.outcome; reply = (reply_of state instruction (ended_with mark acknowledged)).bytes }) old new
       → Answers state syncs instruction before after mark reply old new
-  assemble after mark acknowledged reply new sync write none both unstored sync_is write_is replied now stepped =
-      assemble_read after mark acknowledged unread reply new sync write (record { read = λ reads. absurd (true≢false (sym reads ∙ none)); unstored = both }) unstored sync_is write_is replied now stepped
+  assemble after mark acknowledged reply new sync write none both calls sync_is write_is replied now stepped =
+      assemble_read after mark acknowledged unread reply new sync write (record { read = λ reads. absurd (true≢false (sym reads ∙ none)); unstored = both }) calls sync_is write_is replied now stepped
 
   sync_is : (b : Bool) (mark : Mark) (acknowledged : Bool) → begins ≡ b → sync_of state instruction (ended_with mark acknowledged) ≡ cond b (Some (sync_in state acknowledged)) None
   sync_is b mark acknowledged is = ap (λ (c : Bool). cond c (Some (sync_in state acknowledged)) None) is
@@ -281,6 +274,9 @@ module _ (state : SessionState) (syncs : List Sync) (instruction : Instruction) 
     no_file mark acknowledged =
         ap (λ (w : Bool). cond ((w && acknowledged) && not lacks) (Some (write_work state old.folder)) (undo_work state old.folder instruction.parsed)) (plain_write instruction.parsed plain)
         ∙ plain_work state old.folder instruction.parsed plain
+
+    unwritten : (mark : Mark) (acknowledged : Bool) → has_written state instruction (ended_with mark acknowledged) ≡ false
+    unwritten mark acknowledged = ap (λ (w : Bool). ((w && acknowledged) && not lacks) && took_effect mark.outcome) (plain_write instruction.parsed plain)
 
     plainly : (after : Session) (mark : Mark) (acknowledged : Bool) (new : Scene) (b : Bool) (ss : List Sync) → begins ≡ b → Fits after new.folder (carried (after_sync state (b && acknowledged)) instruction mark) ss
         → Fits after new.folder (state_after state instruction (ended_with mark acknowledged)) ss
@@ -296,11 +292,12 @@ module _ (state : SessionState) (syncs : List Sync) (instruction : Instruction) 
         is ∙ ap (λ (o : Option Answer). answered mark.outcome o (machine.reply_of state.machine instruction mark)) (plain_reply state mark.outcome old.folder unread instruction.parsed plain)
 
     -- no sync
-    pub answers_plainly : (after : Session) (mark : Mark) (reply : Answer) (new : Scene) → (mark.outcome ≡ NoUndo → ⊥) → begins ≡ false → names_of after ≡ names_of before → ReadsFolder old new → Looks old new
-        → HasCause old.folder_faults new.folder_faults (is_fault mark.outcome ≡ true) → reply ≡ answered mark.outcome (own_reply instruction.parsed) (machine.reply_of state.machine instruction mark)
+    pub answers_plainly : (tells : Tells) → IsTrue tells.folder → (after : Session) (mark : Mark) (reply : Answer) (new : Scene) → (mark.outcome ≡ NoUndo → ⊥) → begins ≡ false → names_of after ≡ names_of before → ReadsFolder old new → Looks old new
+        → StopsAtFault tells (is_fault mark.outcome ≡ true) old new → HasCause old.folder_faults new.folder_faults (is_fault mark.outcome ≡ true) → reply ≡ answered mark.outcome (own_reply instruction.parsed) (machine.reply_of state.machine instruction mark)
         → Fits after new.folder (carried state instruction mark) syncs → Answers state syncs instruction before after mark reply old new
-    answers_plainly after mark reply new stored none names frame looks cause replied now =
-        assemble after mark false reply new None None (plain_read instruction.parsed plain) (λ is. absurd (stored is)) (λ is. absurd (stored is)) (sync_is false mark false none) (no_file mark false) (replied_plainly mark false reply replied) (plainly after mark false new false syncs none now)
+    answers_plainly tells told after mark reply new stored none names frame looks stops cause replied now =
+        assemble after mark false reply new None None (plain_read instruction.parsed plain) (λ is. absurd (stored is))
+        (once_stops (names_of before) state instruction (ended_with mark false) tells old new told (unwritten mark false) stops) (sync_is false mark false none) (no_file mark false) (replied_plainly mark false reply replied) (plainly after mark false new false syncs none now)
         (record {
           works = works_looks (names_of before) (IsUnderWay (names_of before) syncs None) old new frame
               (no_write (names_of before) syncs old.folder (recovers_synced (names_of before) before old.folder state syncs refl fits)) looks;
@@ -313,22 +310,24 @@ module _ (state : SessionState) (syncs : List Sync) (instruction : Instruction) 
         })
 
     -- a sync that was acknowledged, and the command after it
-    pub answers_synced : (between after : Session) (mark : Mark) (reply : Answer) (mid new : Scene) → (mark.outcome ≡ NoUndo → ⊥) → begins ≡ true → names_of between ≡ names_of before → names_of after ≡ names_of before → ChangesFolder old mid
-        → Runs (folder.Syncing before.text) old mid → old.folder_faults ≤ mid.folder_faults → Rises (names_of before) old.folder mid.folder → Fits between mid.folder (after_sync state true) (sync_in state true ∷ syncs)
-        → ReadsFolder mid new → Looks mid new → HasCause mid.folder_faults new.folder_faults (is_fault mark.outcome ≡ true)
+    pub answers_synced : (tells : Tells) → IsTrue tells.folder → (between after : Session) (mark : Mark) (reply : Answer) (mid new : Scene) → (mark.outcome ≡ NoUndo → ⊥) → begins ≡ true → names_of between ≡ names_of before → names_of after ≡ names_of before → ChangesFolder old mid
+        → Runs (folder.Syncing before.text) old mid → Quiet old mid → old.folder_faults ≤ mid.folder_faults → Rises (names_of before) old.folder mid.folder → Fits between mid.folder (after_sync state true) (sync_in state true ∷ syncs)
+        → ReadsFolder mid new → Looks mid new → StopsAtFault tells (is_fault mark.outcome ≡ true) mid new → HasCause mid.folder_faults new.folder_faults (is_fault mark.outcome ≡ true)
         → reply ≡ answered mark.outcome (own_reply instruction.parsed) (machine.reply_of state.machine instruction mark)
         → Fits after new.folder (carried (after_sync state true) instruction mark) (sync_in state true ∷ syncs) → Answers state syncs instruction before after mark reply old new
-    answers_synced between after mark reply mid new stored begun same names frame runs later rises synced second looks cause replied now =
-        assemble after mark true reply new (Some (sync_in state true)) None (plain_read instruction.parsed plain) (λ is. absurd (stored is)) (λ is. absurd (stored is)) (sync_is true mark true begun) (no_file mark true) (replied_plainly mark true reply replied) (plainly after mark true new true (sync_in state true ∷ syncs) begun now)
+    answers_synced tells told between after mark reply mid new stored begun same names frame runs quiet later rises synced second looks stops cause replied now =
+        assemble after mark true reply new (Some (sync_in state true)) None (plain_read instruction.parsed plain) (λ is. absurd (stored is))
+        (let ended = ended_with mark true in once_after (names_of before) state instruction ended old mid new quiet (once_stops (names_of before) state instruction ended tells mid new told (unwritten mark true) stops)) (sync_is true mark true begun) (no_file mark true) (replied_plainly mark true reply replied) (plainly after mark true new true (sync_in state true ∷ syncs) begun now)
         (looked_synced before after state syncs (carried (after_sync state true) instruction mark) (took_effect mark.outcome) (is_fault mark.outcome) (reply_of state instruction (ended_with mark true)).bytes old mid new fits between same names frame runs rises synced
         (ap (λ (s : Scene). s.folder) second) (reads_change mid new second) looks (λ failed. risen_since old.folder_faults mid.folder_faults new.folder_faults later (cause.risen failed)) now)
 
   -- a sync that failed
-  pub answers_failed : (after : Session) (at : ℕ) (reply : Answer) (new : Scene) → begins ≡ true → names_of after ≡ names_of before → ChangesFolder old new → Runs (folder.Syncing before.text) old new
+  pub answers_failed : (after : Session) (at : ℕ) (reply : Answer) (new : Scene) → begins ≡ true → names_of after ≡ names_of before → ChangesFolder old new → Runs (folder.Syncing before.text) old new → FailsLast old new
       → HasRisen old.folder_faults new.folder_faults → reply ≡ refuses device_fault → (Rises (names_of before) old.folder new.folder → ⊥) → Fits after new.folder state (sync_in state false ∷ syncs)
       → Answers state syncs instruction before after (record { outcome = Fault; at = at }) reply old new
-  answers_failed after at reply new begun names frame runs risen replied none now =
-      assemble after mark false reply new (Some (sync_in state false)) None (begun_read state.steps instruction.parsed begun) (λ is. absurd (cc)) (λ is. absurd (cc)) (sync_is true mark false begun)
+  answers_failed after at reply new begun names frame runs last risen replied none now =
+      assemble after mark false reply new (Some (sync_in state false)) None (begun_read state.steps instruction.parsed begun) (λ is. absurd (cc))
+      (once_unwritten (names_of before) state instruction (ended_with mark false) old new (and_false _) last (λ calm. absurd (true≢false calm))) (sync_is true mark false begun)
       (ap (λ (w : Bool). cond (w && not lacks) (Some (write_work state old.folder)) (undo_work state old.folder instruction.parsed)) (and_false writes)
       ∙ begun_work state.steps state old.folder instruction.parsed begun) replied stays
       (record {
@@ -362,11 +361,6 @@ module _ (state : SessionState) (syncs : List Sync) (instruction : Instruction) 
 
 -- ---- the clock before it
 
--- no count of faults is the clock's
-counted_before : (start : Scene) (answers : List ℕ) (moments : List Snapshot) (n : ℕ) → newest_count folder_count (record start { answers = answers }) moments ≤ n → newest_count folder_count start moments ≤ n
-counted_before start answers [] n le = le
-counted_before start answers (m ∷ moments) n le = le
-
 pub answers_from : (state : SessionState) (syncs : List Sync) (instruction : Instruction) (before after : Session) (mark : Mark) (reply : Answer) (old mid new : Scene) → ChangesClock old mid
     → Answers state syncs instruction before after mark reply mid new → Answers state syncs instruction before after mark reply old new
 answers_from state syncs instruction before after mark reply old mid new clock is =
@@ -388,9 +382,7 @@ answers_from state syncs instruction before after mark reply old mid new clock i
         cause = now.stepped.cause;
         between = now.stepped.between;
       };
-      unstored = λ is.
-          let storing = now.unstored is in
-          record { began = storing.began; before = storing.before; since = storing.since; counted = counted_before old mid.answers storing.before storing.began.folder_faults storing.counted; calls = storing.calls; last = storing.last; failed = storing.failed };
+      calls = once_after (names_of before) state instruction now.ended old (record old { answers = mid.answers }) new (quiet_clock old mid.answers) now.calls;
     }
 
 -- ---- what a call answered
@@ -402,6 +394,10 @@ when_ok (Err why) A ok a = absurd (true≢false (sym ok))
 pub when_err : {T E : Type 0} (result : Result T E) (A : Type 0) → is_ok result ≡ false → OnErr result A → A
 when_err (Ok value) A not_ok a = absurd (true≢false not_ok)
 when_err (Err why) A not_ok a = a
+
+pub unless_err : {T E : Type 0} (result : Result T E) (A : Type 0) → ¬ IsErr result → OnOk result A → A
+unless_err (Ok value) A done a = a
+unless_err (Err why) A done a = absurd (done refl)
 
 pub not_ok : {T E : Type 0} (result : Result T E) → is_ok result ≡ false → IsErr result
 not_ok (Ok value) is = absurd (true≢false is)

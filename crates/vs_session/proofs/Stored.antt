@@ -1,12 +1,12 @@
 -- The answer to `wundo`, and the calls that store an undo file.
-use Rattle.std.proofs.Common.{◌≡◌, ◌⊎◌, inl, inr, ℕ, Bool, true, false, cond, ◌&&◌, not, List, [], ◌++◌, Option, Some, None, Result, Ok, Err, refl, sym, ◌∙◌, ap, subst}
+use Rattle.std.proofs.Common.{◌≡◌, ◌⊎◌, inl, inr, ℕ, Bool, true, false, cond, ◌&&◌, not, List, [], ◌++◌, Option, Some, None, Result, Ok, Err, IsTrue, refl, sym, ◌∙◌, ap, subst}
 use Rattle.std.specs.Prelude.{IsSomeAnd, OnOk}
 use Rattle.std.proofs.lemmas.Bool.{true≢false}
 use Rattle.std.proofs.lemmas.List.{append-nil}
 use Rattle.vs_faults.specs.Faults.{HasCause}
 use Rattle.vs_host.specs.Disk.{Disk, Name}
 use Rattle.vs_host.specs.Names.{AreNames, temporary}
-use Rattle.vs_host.specs.World.{Scene, ChangesFolder, ReadsFolder}
+use Rattle.vs_host.specs.World.{Scene, Tells, ChangesFolder, ReadsFolder}
 use Rattle.vs_host.specs.declared.names.Names.{Names}
 use Rattle.vs_disk.specs.Images.{Takes}
 use Rattle.vs_disk.specs.Runs.{Inside, Runs, Looks}
@@ -19,6 +19,7 @@ use Rattle.vs_pair.proofs.FitLemmas.{at_side}
 use Rattle.vs_exparse.specs.Command.Command.{WriteUndo}
 use Rattle.vs_exparse.specs.declared.command.ExErr.TheVariants.{E492}
 use Rattle.vs_excmd.specs.Request.{Instruction}
+use Rattle.vs_backup.specs.Desks.{StopsAtFault}
 use Rattle.vs_backup.specs.Works.{Spares as SparesNames, IsOutside, two_names}
 use Rattle.vs_backup.proofs.Frames.{spares_none}
 use Rattle.vs_backup.proofs.NamesApart.{temporary_apart}
@@ -46,6 +47,7 @@ use Rattle.vs_session.specs.declared.session.Session.{Session}
 use Rattle.vs_session.specs.Session.{SessionState, Ended, accepts_quit, after_sync, answered, begins_after, begins_sync, carried, is_fault, is_rundo, is_write, is_wundo, lacks_name, options_after, quits, reply_of, session_reply, state_after, sync_in, undo_in, undo_work, with_history, work_of, write_work, written_state}
 use Rattle.vs_session.specs.Stores.{StoresUndo}
 use Rattle.vs_session.specs.Fits.{Answers, Fits, names_of}
+use Rattle.vs_session.proofs.Failing.{once_stops}
 use Rattle.vs_session.proofs.SessionLemmas.{carried_still}
 use Rattle.vs_session.proofs.UndoNames.{new_name, undo_apart}
 use Rattle.vs_session.proofs.Steps.{assemble, between_synced, no_history, unread, works_runs}
@@ -200,7 +202,7 @@ options_stay options NoUndo parsed is = absurd (true≢false (sym is))
 
 module _ (state : SessionState) (syncs : List Sync) (instruction : Instruction) (before : Session) (old : Scene) (fits : Fits before old.folder state syncs) (is : is_wundo instruction.parsed ≡ true) (after : Session)
     (outcome : Outcome) (at : ℕ) (reply : Answer) (new : Scene) (names_after : names_of after ≡ names_of before) (frame : ChangesFolder old new)
-    (runs : Runs (StoresUndo (names_of before) state.machine.text state.machine.history) old new)
+    (tells : Tells) (told : IsTrue tells.folder) (stops : StopsAtFault tells (is_fault outcome ≡ true) old new) (runs : Runs (StoresUndo (names_of before) state.machine.text state.machine.history) old new)
     (stored : outcome ≡ Done → HasUndo (names_of before) state.machine.text state.machine.history new.folder) (cause : HasCause old.folder_faults new.folder_faults (is_fault outcome ≡ true)) (never : outcome ≡ NoUndo → ⊥)
     (reply_to : reply ≡ answered outcome (Some (says undo_file_written)) (machine.reply_of state.machine instruction (record { outcome = outcome; at = at }))) (left : Fits after new.folder state syncs) where
   abbrev names : Names
@@ -278,7 +280,8 @@ module _ (state : SessionState) (syncs : List Sync) (instruction : Instruction) 
 
   pub answers_stored : Answers state syncs instruction before after mark reply old new
   answers_stored =
-      assemble state syncs instruction before old goes_on fits after mark false reply new None (Some (UndoFile undo)) (no_read instruction.parsed is) (λ unstored. absurd (never unstored)) (λ unstored. absurd (never unstored)) (ap (λ (c : Bool). cond c (Some (sync_in state false)) None) none_begun) work replied_as now
+      assemble state syncs instruction before old goes_on fits after mark false reply new None (Some (UndoFile undo)) (no_read instruction.parsed is) (λ unstored. absurd (never unstored))
+      (once_stops names state instruction ended tells old new told (ap (λ (w : Bool). ((w && false) && not lacks) && took_effect outcome) (no_write instruction.parsed is)) stops) (ap (λ (c : Bool). cond c (Some (sync_in state false)) None) none_begun) work replied_as now
       (record {
         found = refl;
         works = works;

@@ -1,6 +1,6 @@
 -- The answer to `w`, after the sync that it begins was acknowledged: the moments of the sync and of the write one after the other, and
 -- what is left.
-use Rattle.std.proofs.Common.{◌≡◌, ◌⊎◌, inl, inr, ℕ, ◌+◌, ◌≤◌, Bool, true, false, cond, ◌&&◌, not, length, List, ◌∷◌, Option, Some, None, Result, Ok, Err, IfOk, is_ok, refl, sym, ◌∙◌, ap, subst}
+use Rattle.std.proofs.Common.{◌≡◌, ◌⊎◌, inl, inr, ℕ, ◌+◌, ◌≤◌, Bool, true, false, cond, ◌&&◌, not, length, List, [], ◌∷◌, Option, Some, None, Result, Ok, Err, IfOk, is_ok, refl, sym, ◌∙◌, ap, subst}
 use Rattle.std.proofs.lemmas.Bool.{true≢false, cases_Bool}
 use Rattle.vs_faults.specs.Faults.{HasCause, HasRisen}
 use Rattle.vs_host.specs.Disk.{Disk}
@@ -11,8 +11,8 @@ use Rattle.vs_host.specs.declared.names.Names.{Names}
 use Rattle.vs_text.specs.Text.{file_of}
 use Rattle.vs_disk.specs.Images.{HoldsBytes}
 use Rattle.vs_disk.specs.Names.{SameAt}
-use Rattle.vs_disk.specs.Runs.{Inside, Runs, Looks}
-use Rattle.vs_disk.proofs.Runs.{frames, goes_weaker, runs_as, runs_then}
+use Rattle.vs_disk.specs.Runs.{Inside, Runs, Looks, Quiet}
+use Rattle.vs_disk.proofs.Runs.{fails_none, frames, goes_weaker, quiet_none, runs_as, runs_then}
 use Rattle.vs_pair.specs.Pair.{Rises, is_apart, is_swap}
 use Rattle.vs_pair.proofs.Others.{rises_kept}
 use Rattle.vs_excmd.specs.Request.{Instruction}
@@ -21,6 +21,7 @@ use Rattle.vs_backup.specs.declared.errors.WriteErr.{WriteErr}
 use Rattle.vs_backup.specs.declared.errors.WriteErr.TheVariants as error
 use Rattle.vs_backup.specs.Backups.{IsNoName, WorksOn}
 use Rattle.vs_backup.specs.Works.{SparesOthers}
+use Rattle.vs_backup.specs.Writing.{FailsNoEarlier}
 use Rattle.vs_machine.specs.Machine as machine
 use Rattle.vs_machine.specs.Machine.{took_effect}
 use Rattle.vs_machine.specs.Replies.{Answer, says, refuses, device_fault, no_backup_name, out_of_memory, written_line}
@@ -42,7 +43,8 @@ use Rattle.vs_session.specs.declared.session.Session.{Session}
 use Rattle.vs_session.specs.Session.{SessionState, Ended, accepts_quit, after_sync, answered, begins_sync, carried, is_fault, is_write, lacks_name, line_by, reply_of, state_after, stores_both, sync_in, undo_after, undo_work, with_history, write_in, write_reply, write_work, written_state}
 use Rattle.vs_session.specs.Writes.{HasSynced, Wrote, state_to}
 use Rattle.vs_session.specs.Fits.{Answers, Fits, names_of}
-use Rattle.vs_session.specs.Stores.{HasFailedStoring}
+use Rattle.vs_session.specs.Failures.{FailsOnce}
+use Rattle.vs_session.proofs.Failing.{above_quiet, once_after, once_unwritten}
 use Rattle.vs_session.proofs.Steps.{assemble, between_synced, flag_true, looked_synced, no_history, risen_since, unread, works_runs}
 use Rattle.vs_session.proofs.FileWrites.{undo_same}
 use Rattle.vs_session.proofs.UndoNames.{undo_unworked}
@@ -56,6 +58,7 @@ record Did (names : Names) (options : WriteOptions) (text : Text) (syncs : List 
   pub swap : Runs (KeepsSwap names (recoverable syncs)) mid new
   pub others : SparesOthers (WorksOn options names.file mid.folder) mid new
   pub left : Runs (KeepsLeft (WorksOn options names.file mid.folder)) mid new
+  pub calls : FailsNoEarlier names.file (file_of text) mid new result
 
 -- A moment of the write, over a folder as the command found it.
 pub record Moment (names : Names) (write : Write) (syncs : List Sync) (old d : Disk) : Type 0 where
@@ -111,6 +114,9 @@ module _ (state : SessionState) (syncs : List Sync) (instruction : Instruction) 
 
   lacks_here : lacks_name options names.file old.folder ≡ lacks
   lacks_here = ap (λ (n : List ℕ). lacks_name options n old.folder) file_name
+
+  later : old.folder_faults ≤ mid.folder_faults
+  later = (above_quiet old mid s.quiet).later
 
   same : SameAt (is_apart names) old.folder mid.folder
   same = s.runs.now.spared text syncs s.fits.stands.text
@@ -169,7 +175,7 @@ module _ (state : SessionState) (syncs : List Sync) (instruction : Instruction) 
 
   module _ (after : Session) (result : Result ℕ WriteErr) (new : Scene) (second : ChangesFolder mid new) (wrote : Wrote (after_sync state true) all between after result mid new) where
     did : Did names options text all mid new result
-    did = subst (λ (n : Names). Did n options text all mid new result) s.names (record { file = wrote.file; no_name = wrote.no_name; swap = wrote.swap; others = wrote.others; left = wrote.left })
+    did = subst (λ (n : Names). Did n options text all mid new result) s.names (record { file = wrote.file; no_name = wrote.no_name; swap = wrote.swap; others = wrote.others; left = wrote.left; calls = wrote.calls })
 
     abbrev Base : Snapshot → Type 0
     Base m = Inside mid (KeepsSwap names (recoverable all) mid.folder) m
@@ -225,20 +231,20 @@ module _ (state : SessionState) (syncs : List Sync) (instruction : Instruction) 
     written_rises = rises_kept names mid.folder new.folder did.swap.now.same old.folder s.rises
 
     pub has_left : HasWritten names write (is_ok result) (state_now old) (state_now new)
-    has_left = has_written names are options text old.folder mid new same result did.file old.folder_faults s.above.later
+    has_left = has_written names are options text old.folder mid new same result did.file old.folder_faults later
 
     pub bytes_left : IfOk result (λ size. (size ≡ length (file_of text)) × HoldsBytes names.file (file_of text) new.folder)
-    bytes_left = (facts names are options text old.folder mid new same result did.file old.folder_faults s.above.later).written
+    bytes_left = (facts names are options text old.folder mid new same result did.file old.folder_faults later).written
 
     -- where no backup name is free, nothing is done
     looked : lacks ≡ true → Looks mid new × ((size : ℕ) → result ≡ Ok size → ⊥)
-    looked taken = lacks_looks names are options text old.folder mid new same result did.file old.folder_faults s.above.later (lacks_here ∙ taken)
+    looked taken = lacks_looks names are options text old.folder mid new same result did.file old.folder_faults later (lacks_here ∙ taken)
 
     pub not_lacks : (size : ℕ) → result ≡ Ok size → lacks ≡ false
     not_lacks size ok = elim (cases_Bool lacks) [ inl taken ↦ absurd ((looked taken).1 size ok) | inr free ↦ free ]
 
     never : lacks ≡ false → result ≡ Err error.NoBackupName → ⊥
-    never free none = true≢false (sym (named_lacks names are options text old.folder mid new same result did.file old.folder_faults s.above.later (did.no_name none)) ∙ lacks_here ∙ free)
+    never free none = true≢false (sym (named_lacks names are options text old.folder mid new same result did.file old.folder_faults later (did.no_name none)) ∙ lacks_here ∙ free)
 
   -- ---- what it is to the run
 
@@ -266,13 +272,13 @@ module _ (state : SessionState) (syncs : List Sync) (instruction : Instruction) 
 
   -- where the file may be written
   module _ (free : lacks ≡ false) (b : Bool) (flag : state.options.undofile ≡ b) where
-    pub answers_free : (after : Session) (outcome : Outcome) (at : ℕ) (reply : Answer) (new : Scene) → names_of after ≡ names → (outcome ≡ NoUndo → b ≡ true) → (outcome ≡ NoUndo → HasFailedStoring names old new) → reply ≡ reply_of state instruction (ended outcome at)
+    pub answers_free : (after : Session) (outcome : Outcome) (at : ℕ) (reply : Answer) (new : Scene) → names_of after ≡ names → (outcome ≡ NoUndo → b ≡ true) → FailsOnce names state instruction (ended outcome at) old new → reply ≡ reply_of state instruction (ended outcome at)
         → Fits after new.folder (state_after state instruction (ended outcome at)) all → Works names (Some (work_by b)) (IsUnderWay names under (Some (work_by b))) old new
         → HasLeft names (work_by b) (took_effect outcome) (is_fault outcome) (state_now old) (state_now new) → IsWholeAt names (work_by b) new.folder → Rises names old.folder new.folder
         → (is_fault outcome ≡ true → HasRisen old.folder_faults new.folder_faults) → Answers state syncs instruction before after (mark outcome at) reply old new
-    answers_free after outcome at reply new names_after both unstored replied now works wrote whole rises cause =
+    answers_free after outcome at reply new names_after both calls replied now works wrote whole rises cause =
         assemble state syncs instruction before old goes_on s.fits after (mark outcome at) true reply new (Some (sync_in state true)) (Some (work_by b)) (no_read instruction.parsed is)
-        (λ none. (λ i. ((is i && true) && not (free i)) && (flag ∙ both none) i)) unstored sync_is
+        (λ none. (λ i. ((is i && true) && not (free i)) && (flag ∙ both none) i)) calls sync_is
         ((λ i. cond ((is i && true) && not (free i)) (Some (write_work state old.folder)) (undo_work state old.folder instruction.parsed)) ∙ (λ i. Some (work_by (flag i)))) replied now
         (record {
           found = refl;
@@ -290,65 +296,72 @@ module _ (state : SessionState) (syncs : List Sync) (instruction : Instruction) 
     abbrev IsAnswer : Outcome → Answer → Type 0
     IsAnswer outcome reply = Answers state syncs instruction before after (mark outcome at) reply old new
 
+    -- no call failed of what goes before, and of the write none but the last one
+    calls : (outcome : Outcome) → (((is_write instruction.parsed && true) && not lacks) && took_effect outcome) ≡ false → (is_fault outcome ≡ false → Quiet mid new) → FailsOnce names state instruction (ended outcome at) old new
+    calls outcome unwritten quiet =
+        once_after names state instruction (ended outcome at) old mid new s.quiet (once_unwritten names state instruction (ended outcome at) mid new unwritten wrote.calls.last quiet)
+
     -- no backup name is free
-    refused_taken : lacks ≡ true → (outcome : Outcome) (reply : Answer) → (outcome ≡ NoUndo → ⊥) → reply ≡ reply_of state instruction (ended outcome at) → (is_fault outcome ≡ true → HasRisen old.folder_faults new.folder_faults)
+    refused_taken : lacks ≡ true → (outcome : Outcome) (reply : Answer) → (outcome ≡ NoUndo → ⊥) → (is_fault outcome ≡ false → Quiet mid new) → reply ≡ reply_of state instruction (ended outcome at) → (is_fault outcome ≡ true → HasRisen old.folder_faults new.folder_faults)
         → IsAnswer outcome reply
-    refused_taken taken outcome reply stored replied cause =
+    refused_taken taken outcome reply stored quiet replied cause =
         let looks = (looked after (Err why) new second wrote taken).0 in
-        let now : Fits after new.folder (state_after state instruction (ended outcome at)) all = stays after new.folder outcome at (λ i. ((is i && true) && not (taken i)) && took_effect outcome) wrote.fits in
-        assemble state syncs instruction before old goes_on s.fits after (mark outcome at) true reply new (Some (sync_in state true)) None (no_read instruction.parsed is) (λ none. absurd (stored none)) (λ none. absurd (stored none)) sync_is
+        let unwritten : (((is_write instruction.parsed && true) && not lacks) && took_effect outcome) ≡ false = λ i. ((is i && true) && not (taken i)) && took_effect outcome in
+        let now : Fits after new.folder (state_after state instruction (ended outcome at)) all = stays after new.folder outcome at unwritten wrote.fits in
+        assemble state syncs instruction before old goes_on s.fits after (mark outcome at) true reply new (Some (sync_in state true)) None (no_read instruction.parsed is) (λ none. absurd (stored none)) (calls outcome unwritten quiet) sync_is
         ((λ i. cond ((is i && true) && not (taken i)) (Some (write_work state old.folder)) (undo_work state old.folder instruction.parsed)) ∙ no_undo state old.folder instruction.parsed is) replied now
         (looked_synced before after state syncs (state_after state instruction (ended outcome at)) (took_effect outcome) (is_fault outcome) (reply_of state instruction (ended outcome at)).bytes old mid new s.fits between s.names names_after
         s.frame s.runs s.rises s.synced looks.now second looks cause now)
 
-    refused_free : lacks ≡ false → (outcome : Outcome) (reply : Answer) → (outcome ≡ NoUndo → ⊥) → took_effect outcome ≡ false → reply ≡ reply_of state instruction (ended outcome at)
+    refused_free : lacks ≡ false → (outcome : Outcome) (reply : Answer) → (outcome ≡ NoUndo → ⊥) → (is_fault outcome ≡ false → Quiet mid new) → took_effect outcome ≡ false → reply ≡ reply_of state instruction (ended outcome at)
         → (is_fault outcome ≡ true → HasRisen old.folder_faults new.folder_faults) → IsAnswer outcome reply
-    refused_free free outcome reply stored none replied cause =
+    refused_free free outcome reply stored quiet none replied cause =
         let b : Bool = state.options.undofile in
+        let unwritten : (((is_write instruction.parsed && true) && not lacks) && took_effect outcome) ≡ false = λ i. ((is i && true) && not (free i)) && none i in
         let runs = written_runs after (Err why) new second wrote in
-        answers_free free b refl after outcome at reply new names_after (λ unstored. absurd (stored unstored)) (λ unstored. absurd (stored unstored)) replied
-        (stays after new.folder outcome at (λ i. ((is i && true) && not (free i)) && none i) wrote.fits)
+        answers_free free b refl after outcome at reply new names_after (λ unstored. absurd (stored unstored)) (calls outcome unwritten quiet) replied
+        (stays after new.folder outcome at unwritten wrote.fits)
         (works_runs names (Some (work_by b)) (IsUnderWay names under (Some (work_by b))) AtMoment old new (written_frame after (Err why) new second wrote) (lead b) runs)
         (left_by b (took_effect outcome) (is_fault outcome) new
         (subst (λ (done : Bool). HasWritten names write done (state_now old) (state_now new)) (sym none) (has_left after (Err why) new second wrote))
         (record { found = refl; stored = λ done. absurd (true≢false (sym done ∙ ap (λ (c : Bool). c && not (is_fault outcome)) none)) }))
         (whole_by b new.folder runs.now) (written_rises after (Err why) new second wrote) cause
 
-    refused_by : (outcome : Outcome) (reply : Answer) → (outcome ≡ NoUndo → ⊥) → took_effect outcome ≡ false → reply ≡ reply_of state instruction (ended outcome at) → (is_fault outcome ≡ true → HasRisen old.folder_faults new.folder_faults)
+    refused_by : (outcome : Outcome) (reply : Answer) → (outcome ≡ NoUndo → ⊥) → (is_fault outcome ≡ false → Quiet mid new) → took_effect outcome ≡ false → reply ≡ reply_of state instruction (ended outcome at) → (is_fault outcome ≡ true → HasRisen old.folder_faults new.folder_faults)
         → IsAnswer outcome reply
-    refused_by outcome reply stored none replied cause = elim (cases_Bool lacks) [
-      | inl taken ↦ refused_taken taken outcome reply stored replied cause
-      | inr free ↦ refused_free free outcome reply stored none replied cause
+    refused_by outcome reply stored quiet none replied cause = elim (cases_Bool lacks) [
+      | inl taken ↦ refused_taken taken outcome reply stored quiet replied cause
+      | inr free ↦ refused_free free outcome reply stored quiet none replied cause
     ]
 
     as_answer : (o outcome : Outcome) (r reply : Answer) → outcome ≡ o → reply ≡ r → IsAnswer o r → IsAnswer outcome reply
     as_answer o outcome r reply o_is r_is answer = subst (λ (p : Outcome). IsAnswer p reply) (sym o_is) (subst (λ (a : Answer). IsAnswer o a) (sym r_is) answer)
 
     refused_fault : HasRisen mid.folder_faults new.folder_faults → IsAnswer Fault (refuses device_fault)
-    refused_fault risen = refused_by Fault (refuses device_fault) (λ e. absurd (cc)) refl refl (λ _. risen_since old.folder_faults mid.folder_faults new.folder_faults s.above.later risen)
+    refused_fault risen = refused_by Fault (refuses device_fault) (λ e. absurd (cc)) (λ calm. absurd (true≢false calm)) refl refl (λ _. risen_since old.folder_faults mid.folder_faults new.folder_faults later risen)
 
-    refused_memory : IsAnswer NoMemory (refuses out_of_memory)
-    refused_memory = refused_by NoMemory (refuses out_of_memory) (λ e. absurd (cc)) refl refl (λ e. absurd (true≢false (sym e)))
+    refused_memory : Quiet mid new → IsAnswer NoMemory (refuses out_of_memory)
+    refused_memory quiet = refused_by NoMemory (refuses out_of_memory) (λ e. absurd (cc)) (λ _. quiet) refl refl (λ e. absurd (true≢false (sym e)))
 
-    refused_name : why ≡ error.NoBackupName → IsAnswer Done (refuses no_backup_name)
-    refused_name unnamed = elim (cases_Bool lacks) [
-      | inl taken ↦ refused_taken taken Done (refuses no_backup_name) (λ e. absurd (cc))
+    refused_name : why ≡ error.NoBackupName → Quiet mid new → IsAnswer Done (refuses no_backup_name)
+    refused_name unnamed quiet = elim (cases_Bool lacks) [
+      | inl taken ↦ refused_taken taken Done (refuses no_backup_name) (λ e. absurd (cc)) (λ _. quiet)
           (ap (λ (c : Bool). cond c (refuses no_backup_name) (says (written_line state.name (length text) (length (file_of text))))) (sym taken) ∙ replied_done at) (λ e. absurd (true≢false (sym e)))
       | inr free ↦ absurd (never after (Err why) new second wrote free (ap err_of unnamed))
     ]
 
-    by_fault : (outcome : Outcome) (reply : Answer) → HasCause mid.folder_faults new.folder_faults (is_fault outcome ≡ true) → ((outcome ≡ NoMemory) × (reply ≡ refuses out_of_memory)) ⊎ ((outcome ≡ Fault) × (reply ≡ refuses device_fault))
+    by_fault : (outcome : Outcome) (reply : Answer) → (is_fault outcome ≡ false → Quiet mid new) → HasCause mid.folder_faults new.folder_faults (is_fault outcome ≡ true) → ((outcome ≡ NoMemory) × (reply ≡ refuses out_of_memory)) ⊎ ((outcome ≡ Fault) × (reply ≡ refuses device_fault))
         → IsAnswer outcome reply
-    by_fault outcome reply cause (inl memory) = as_answer NoMemory outcome (refuses out_of_memory) reply memory.0 memory.1 refused_memory
-    by_fault outcome reply cause (inr fault) = as_answer Fault outcome (refuses device_fault) reply fault.0 fault.1 (refused_fault (cause.risen (ap is_fault fault.0)))
+    by_fault outcome reply quiet cause (inl memory) = as_answer NoMemory outcome (refuses out_of_memory) reply memory.0 memory.1 (refused_memory (quiet (ap is_fault memory.0)))
+    by_fault outcome reply quiet cause (inr fault) = as_answer Fault outcome (refuses device_fault) reply fault.0 fault.1 (refused_fault (cause.risen (ap is_fault fault.0)))
 
-    by_why : (w : WriteErr) → why ≡ w → (outcome : Outcome) (reply : Answer) → HasCause mid.folder_faults new.folder_faults (is_fault outcome ≡ true) → Refuses w outcome reply → IsAnswer outcome reply
-    by_why error.NoBackupName w_is outcome reply cause answer = as_answer Done outcome (refuses no_backup_name) reply answer.0 answer.1 (refused_name w_is)
-    by_why (error.Failed place) w_is outcome reply cause answer = by_fault outcome reply cause answer
-    by_why (error.NoMemory place) w_is outcome reply cause answer = by_fault outcome reply cause answer
+    by_why : (w : WriteErr) → why ≡ w → (outcome : Outcome) (reply : Answer) → (is_fault outcome ≡ false → Quiet mid new) → HasCause mid.folder_faults new.folder_faults (is_fault outcome ≡ true) → Refuses w outcome reply → IsAnswer outcome reply
+    by_why error.NoBackupName w_is outcome reply quiet cause answer = as_answer Done outcome (refuses no_backup_name) reply answer.0 answer.1 (refused_name w_is (quiet (ap is_fault answer.0)))
+    by_why (error.Failed place) w_is outcome reply quiet cause answer = by_fault outcome reply quiet cause answer
+    by_why (error.NoMemory place) w_is outcome reply quiet cause answer = by_fault outcome reply quiet cause answer
 
-    pub answers_refused : (outcome : Outcome) (reply : Answer) → HasCause mid.folder_faults new.folder_faults (is_fault outcome ≡ true) → Refuses why outcome reply → IsAnswer outcome reply
-    answers_refused outcome reply cause answer = by_why why refl outcome reply cause answer
+    pub answers_refused : (outcome : Outcome) (reply : Answer) → (is_fault outcome ≡ false → Quiet mid new) → HasCause mid.folder_faults new.folder_faults (is_fault outcome ≡ true) → Refuses why outcome reply → IsAnswer outcome reply
+    answers_refused outcome reply quiet cause answer = by_why why refl outcome reply quiet cause answer
 
   -- ---- a write that was carried out
 
@@ -358,14 +371,22 @@ module _ (state : SessionState) (syncs : List Sync) (instruction : Instruction) 
       ap (λ (n : ℕ). says (line_by outcome state.name (length text) n)) size_is
       ∙ ap (λ (c : Bool). cond c (refuses no_backup_name) (says (line_by outcome state.name (length text) (length (file_of text))))) (sym free)
 
+  written : lacks ≡ false → (((is_write instruction.parsed && true) && not lacks) && true) ≡ true
+  written free = λ i. ((is i && true) && not (free i)) && true
+
   module _ (size : ℕ) (at : ℕ) (after : Session) (reply : Answer) (new : Scene) (second : ChangesFolder mid new) (names_after : names_of after ≡ names) (wrote : Wrote (after_sync state true) all between after (Ok size) mid new)
       (off : state.options.undofile ≡ false) (reply_to : reply ≡ says (written_line state.name (length text) size)) where
     pub answers_alone : Answers state syncs instruction before after (mark Done at) reply old new
     answers_alone =
         let free : lacks ≡ false = not_lacks after (Ok size) new second wrote size refl in
         let runs = written_runs after (Ok size) new second wrote in
-        answers_free free false off after Done at reply new names_after (λ e. absurd (cc)) (λ e. absurd (cc))
+        answers_free free false off after Done at reply new names_after (λ e. absurd (cc))
+        (once_after names state instruction (ended Done at) old mid new s.quiet (record {
+          writes = λ _. record { wrote = new; file = (did after (Ok size) new second wrote).calls.done; above = wrote.above; calls = record { added = []; is = refl; calls = inl tt }; last = fails_none new; none = λ _. quiet_none new; unstored = λ e. absurd (cc) };
+          last = λ unwritten. absurd (true≢false (sym (written free) ∙ unwritten));
+          none = λ unwritten. absurd (true≢false (sym (written free) ∙ unwritten));
+        }))
         (reply_to ∙ line_is free Done size (bytes_left after (Ok size) new second wrote).0 ∙ replied_done at)
-        (fits_by after new.folder Done at true (λ i. ((is i && true) && not (free i)) && true) wrote.fits)
+        (fits_by after new.folder Done at true (written free) wrote.fits)
         (works_runs names (Some (EditedFile write)) (IsUnderWay names under (Some (EditedFile write))) AtMoment old new (written_frame after (Ok size) new second wrote) (lead false) runs)
         (has_left after (Ok size) new second wrote) (whole_by false new.folder runs.now) (written_rises after (Ok size) new second wrote) (λ e. absurd (true≢false (sym e)))

@@ -4,6 +4,7 @@ use Rattle.vs_faults.specs.Faults.{HasCause}
 use Rattle.vs_host.specs.Disk.{Disk}
 use Rattle.vs_host.specs.World.{Tells, Scene, ChangesFolder, ReadsFolder}
 use Rattle.vs_disk.specs.Runs.{FailsLast, Looks, Runs, NoneFails}
+use Rattle.vs_backup.specs.Desks.{StopsAtFault}
 use Rattle.vs_pair.specs.Pair.{Rises}
 use Rattle.vs_pair.specs.Steps.{IsFresh}
 use Rattle.vs_excmd.specs.Request.{Instruction, IsRequest}
@@ -46,10 +47,11 @@ abbrev pub AnswersRequest : Tells → Request → Step → Session → Session �
 AnswersRequest tells request step before after old new =
     IsTrue tells.folder → (state : SessionState) (syncs : List Sync) (instruction : Instruction) → Fits before old.folder state syncs → IsRequest request instruction → IsStep step state syncs instruction before after old new
 
--- The folder was only looked at, and its faults have risen where a call failed.
+-- The folder was only looked at, and its faults have risen where a call failed. That one was the last.
 pub record OnlyReads (tells : Tells) (Failed : Type 0) (old new : Scene) : Type 0 where
   pub frame : ReadsFolder old new
   pub looks : IsTrue tells.folder → Looks old new
+  pub stops : StopsAtFault tells Failed old new
   pub cause : HasCause old.folder_faults new.folder_faults Failed
 
 -- The session goes on with the same file and the same number of syncs, and its undo tree fits its text. Nothing but the folder, its
@@ -61,10 +63,11 @@ pub record GoesOn (Failed : Type 0) (before after : Session) (old new : Scene) :
   pub undo : FitsUndo after
   pub cause : HasCause old.folder_faults new.folder_faults Failed
 
--- The same, and the folder was only looked at.
+-- The same, and the folder was only looked at. A call that failed was the last one.
 pub record GoesOnReading (tells : Tells) (Failed : Type 0) (before after : Session) (old new : Scene) : Type 0 where
   pub frame : ReadsFolder old new
   pub looks : IsTrue tells.folder → Looks old new
+  pub stops : StopsAtFault tells Failed old new
   pub file : SameFile before after
   pub generation : generation_of after ≡ generation_of before
   pub undo : FitsUndo after
@@ -93,11 +96,11 @@ pub record Finishes (tells : Tells) (session : Session) (old new : Scene) (how :
 
 -- These bytes were stored as the undo file of the session, as far as the calls went: where they are the undo file of a text and a
 -- history, a stop leaves what was there before or them whole. No call was made but those of the storing, none but the last one failed,
--- and the session fits the folder in each state that it fitted it in before.
+-- and none unless that is answered. The session fits the folder in each state that it fitted it in before.
 pub record StoresBytes (tells : Tells) (Failed : Type 0) (session : Session) (bytes : List ℕ) (old new : Scene) : Type 0 where
   pub runs : IsTrue tells.folder → (text : Text) (history : History) → IsUndoOf text history bytes → Runs (StoresUndo (names_of session) text history) old new
   pub fits : KeepsState tells session session old.folder new.folder
   pub calls : IsTrue tells.folder → StoresBy (names_of session).undo_new (names_of session).undo old new
-  pub last : IsTrue tells.folder → FailsLast old new
+  pub stops : StopsAtFault tells Failed old new
   pub frame : ChangesFolder old new
   pub cause : HasCause old.folder_faults new.folder_faults Failed

@@ -9,7 +9,6 @@ use Rattle.vs_pair.specs.Pair.{is_foreign}
 use Rattle.vs_pair.specs.Steps.{IsAbsent}
 use Rattle.vs_excmd.specs.Request.{Instruction}
 use Rattle.vs_machine.specs.declared.command.Mark.{Mark}
-use Rattle.vs_machine.specs.declared.command.Outcome.TheVariants.{NoUndo}
 use Rattle.vs_machine.specs.Replies.{Answer}
 use Rattle.vs_safety.specs.Texts.{Sync, RecoversOrNone, recoverable}
 use Rattle.vs_safety.specs.Safety.{Stepped, Works}
@@ -19,8 +18,8 @@ use Rattle.vs_session.specs.declared.session.Session.{Session}
 use Rattle.vs_session.specs.declared.session.Step.{Step}
 use Rattle.vs_session.specs.declared.session.Step.TheVariants as step
 use Rattle.vs_session.specs.Session.{SessionState, Ended, HasFound, accepts_quit, reply_of, state_after, syncs_after, is_fault, turn_of}
+use Rattle.vs_session.specs.Failures.{FailsOnce}
 use Rattle.vs_session.specs.Standing.{FitsState}
-use Rattle.vs_session.specs.Stores.{HasFailedStoring}
 use Rattle.vs_session.specs.Summary.{acknowledged_in}
 use Rattle.vs_session.specs.Opened.{Opened, text_in}
 
@@ -84,7 +83,7 @@ pub record SameFile (old new : Session) : Type 0 where
 -- ---- one step
 
 -- The session answered a command: the reply, the state and the syncs are those of the state before, and at each moment what may be
--- recovered is recovered. Where it says that the undo file was not stored, the last call was the one that failed of its storing.
+-- recovered is recovered.
 pub record Answers (state : SessionState) (syncs : List Sync) (instruction : Instruction) (before after : Session) (mark : Mark) (reply : Answer) (old new : Scene) : Type 0 where
   pub not_quit : accepts_quit state instruction ≡ false
   pub ended : Ended
@@ -93,7 +92,7 @@ pub record Answers (state : SessionState) (syncs : List Sync) (instruction : Ins
   pub reply_is : reply ≡ reply_of state instruction ended
   pub fits : Fits after new.folder (state_after state instruction ended) (syncs_after state instruction ended syncs)
   pub stepped : Stepped (names_of before) syncs (turn_of state instruction ended) old new
-  pub unstored : mark.outcome ≡ NoUndo → HasFailedStoring (names_of before) old new
+  pub calls : FailsOnce (names_of before) state instruction ended old new
 
 -- a command was answered, or an accepted `q` or `q!` changed nothing
 abbrev pub IsStep : Step → SessionState → List Sync → Instruction → Session → Session → Scene → Scene → Type 0

@@ -7,5 +7,6 @@ pub mod Summary
 pub mod Fits
 pub mod Writes
 pub mod Stores
+pub mod Failures
 pub mod Calls
 pub mod Lent

@@ -3,10 +3,11 @@ use Rattle.std.specs.Prelude.{◌≡◌, ◌∷◌, ℕ, true, List, Result, Ok,
 use Rattle.vs_host.specs.Disk.{IsFolder}
 use Rattle.vs_host.specs.World.{Scene, ChangesFolder}
 use Rattle.vs_text.specs.Text.{file_of}
-use Rattle.vs_disk.specs.Runs.{Runs}
+use Rattle.vs_disk.specs.Runs.{Quiet, Runs}
 use Rattle.vs_pair.specs.Pair.{Rises}
 use Rattle.vs_backup.specs.Backups.{IsNoName, WorksOn}
 use Rattle.vs_backup.specs.Works.{SparesOthers}
+use Rattle.vs_backup.specs.Writing.{FailsNoEarlier}
 use Rattle.vs_backup.specs.declared.errors.WriteErr.{WriteErr}
 use Rattle.vs_backup.specs.declared.errors.WriteErr.TheVariants as error
 use Rattle.vs_machine.specs.declared.command.Outcome.{Outcome}
@@ -38,7 +39,7 @@ abbrev pub state_to : SessionState → Result ℕ WriteErr → SessionState
 state_to state (Ok size) = written_state state
 state_to state (Err why) = state
 
--- What a write that answered so did to the file, its backup, the swap files and all other names.
+-- What a write that answered so did to the file, its backup, the swap files and all other names, and which of its calls failed.
 pub record Wrote (state : SessionState) (syncs : List Sync) (before after : Session) (result : Result ℕ WriteErr) (old new : Scene) : Type 0 where
   pub file : WritesFile state.options.write (names_of before) (file_of state.machine.text) old new result
   pub no_name : result ≡ Err error.NoBackupName → IsNoName state.options.write (names_of before).file true old.folder
@@ -47,14 +48,16 @@ pub record Wrote (state : SessionState) (syncs : List Sync) (before after : Sess
   pub others : SparesOthers (WorksOn state.options.write (names_of before).file old.folder) old new
   pub left : Runs (KeepsLeft (WorksOn state.options.write (names_of before).file old.folder)) old new
   pub above : NoneAbove old new
+  pub calls : FailsNoEarlier (names_of before).file (file_of state.machine.text) old new result
   pub fits : Fits after new.folder (state_to state result) syncs
 
--- From a state with these syncs the text was synced, and that is acknowledged. After that the folder was at most looked at.
+-- From a state with these syncs the text was synced, and that is acknowledged. After that the folder was at most looked at. No call
+-- failed.
 pub record HasSynced (state : SessionState) (syncs : List Sync) (before after : Session) (old new : Scene) : Type 0 where
   pub fits : Fits before old.folder state syncs
   pub frame : ChangesFolder old new
   pub runs : Runs (Syncing before.text) old new
-  pub above : NoneAbove old new
+  pub quiet : Quiet old new
   pub rises : Rises (names_of before) old.folder new.folder
   pub names : names_of after ≡ names_of before
   pub synced : Fits after new.folder (after_sync state true) (sync_in state true ∷ syncs)

@@ -153,6 +153,7 @@ impl Session {
     }
 
     // Has the machine carry a command out that the session does not answer itself.
+    #[tactic(auto, using(vs_backup::proofs::Stops::stops_still))]
     fn run_machine<F: Folder>(
         &mut self,
         alloc: Global,
@@ -200,6 +201,7 @@ impl Session {
     }
 
     // Carries a command out that is no accepted quit, after the sync that it begins.
+    #[tactic(auto, using(vs_backup::proofs::Stops::stops_still))]
     fn carry_out<F: Folder>(
         &mut self,
         alloc: Global,

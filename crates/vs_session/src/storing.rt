@@ -1,6 +1,7 @@
 // The storing of a session's undo file.
 ghost use Rattle.std.specs.Prelude.{◌≡◌, List, true, IsErr, IsErrOf, IsTrue, OnOk};
 ghost use Rattle.vs_disk.specs.Runs.{Runs};
+ghost use Rattle.vs_backup.specs.Desks.{StopsAtFault};
 ghost use Rattle.vs_excmd.specs.Request.{Instruction};
 ghost use Rattle.vs_undo.specs.History.{History};
 ghost use Rattle.vs_safety.specs.Texts.{Sync, Text};
@@ -35,6 +36,7 @@ impl Session {
         ensures stored { OnOk result (IsTrue F.tells.folder → (state : SessionState) (syncs : List Sync) → Fits self.old (F.scene host.old).folder state syncs
             → HasUndo (names_of self.old) state.machine.text state.machine.history (F.scene host.new).folder) }
         ensures fits { KeepsState F.tells self.old self.new (F.scene host.old).folder (F.scene host.new).folder }
+        ensures stops { StopsAtFault F.tells (IsErrOf result StoreErr.Failed) (F.scene host.old) (F.scene host.new) }
         ensures kept { GoesOn (IsErrOf result StoreErr.Failed) self.old self.new (F.scene host.old) (F.scene host.new) }
     {
         let bytes = self.undo_bytes(alloc, host, false)?;

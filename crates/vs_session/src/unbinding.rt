@@ -77,6 +77,7 @@ fn unbind_text<F: Folder>(
 impl Session {
     /// The bytes of the undo file of the text with its history, as it is or as it will be after the next write. The folder is only
     /// looked at.
+    #[tactic(auto, using(vs_backup::proofs::Stops::stops_still))]
     pub(crate) fn undo_bytes<F: Folder>(
         &mut self,
         alloc: Global,

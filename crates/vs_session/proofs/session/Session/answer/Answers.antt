@@ -12,9 +12,9 @@ returns-clause-step g c told state syncs instruction fits is =
     let no_wundo : is_wundo instruction.parsed ≡ false = sym (ap is_wundo is.parsed) ∙ sym c.is_wundo.ensures ∙ c.if-is_wundo.false in
     let no_rundo : is_rundo instruction.parsed ≡ false = sym (ap is_rundo is.parsed) ∙ sym c.is_rundo.ensures ∙ c.if-is_rundo.false in
     let plain : uses_files instruction.parsed ≡ false = λ i. (no_write i || no_wundo i) || no_rundo i in
-    answers_plainly state syncs instruction c.args.self.now old (quits_is c.args.self.now old.folder state syncs instruction _ false fits is.parsed c.requires.goes_on) fits plain c.carry_out-outcome.new.self _ _ new c.carry_out-outcome.ensures.stored
+    answers_plainly state syncs instruction c.args.self.now old (quits_is c.args.self.now old.folder state syncs instruction _ false fits is.parsed c.requires.goes_on) fits plain g.F.World.tells told c.carry_out-outcome.new.self _ _ new c.carry_out-outcome.ensures.stored
     (begins_is c.args.self.now old.folder state syncs instruction _ false fits is.parsed (sym c.begins_sync.ensures ∙ c.if-begins_sync.false)) c.carry_out-outcome.ensures.kept.file.names c.carry_out-outcome.ensures.kept.frame
-    (c.carry_out-outcome.ensures.kept.looks told) c.carry_out-outcome.ensures.kept.cause (c.carry_out-outcome.ensures.reply told state syncs instruction fits is) (c.carry_out-outcome.ensures.fits told state syncs instruction fits is)
+    (c.carry_out-outcome.ensures.kept.looks told) c.carry_out-outcome.ensures.kept.stops c.carry_out-outcome.ensures.kept.cause (c.carry_out-outcome.ensures.reply told state syncs instruction fits is) (c.carry_out-outcome.ensures.fits told state syncs instruction fits is)
 
 pub returns-then-is_write-clause-step : goal.returns-then-is_write-clause-step
 returns-then-is_write-clause-step g c told state syncs instruction fits is = c.answer_write.ensures.step told state syncs instruction fits (sym (ap is_write is.parsed) ∙ sym c.is_write.ensures ∙ c.if-is_write.true)

@@ -1,6 +1,6 @@
 use Rattle.std.proofs.Common.{◌∷◌, true, false, refl, ◌∙◌}
 use Rattle.vs_session.specs.Session.{after_sync, sync_in}
-use Rattle.vs_session.proofs.Steps.{above_quiet, answers_failed}
+use Rattle.vs_session.proofs.Steps.{answers_failed}
 use Rattle.vs_session.proofs.WriteCommand.{begins_is, never_quits}
 use Rattle.vs_session.proofs.session.Session.answer_write.Goals as goal
 
@@ -19,7 +19,7 @@ returns-in-Ok-clause-step g c told state syncs instruction fits is =
       fits = fits;
       frame = c.in-Ok.ensures.acts.frame;
       runs = c.in-Ok.ensures.acts.runs told;
-      above = above_quiet old (g.F.World.scene c.sync.new.host) (c.in-Ok.ensures.none.quiet told);
+      quiet = c.in-Ok.ensures.none.quiet told;
       rises = c.in-Ok.ensures.rises told;
       names = c.in-Ok.ensures.file.names;
       synced = c.in-Ok.ensures.ok told state syncs fits;
@@ -30,5 +30,5 @@ returns-in-Err-clause-step g c told state syncs instruction fits is =
     let old = g.F.World.scene c.args.host.now in
     let new = g.F.World.scene c.sync.new.host in
     answers_failed state syncs instruction c.args.self.now old (never_quits instruction.parsed _ is) fits c.sync.new.self c.args.at _ new
-    (begins_is state.steps instruction.parsed is) c.in-Err.ensures.file.names c.in-Err.ensures.acts.frame (c.in-Err.ensures.acts.runs told)
+    (begins_is state.steps instruction.parsed is) c.in-Err.ensures.file.names c.in-Err.ensures.acts.frame (c.in-Err.ensures.acts.runs told) (c.in-Err.ensures.acts.last told)
     (c.in-Err.ensures.cause.risen refl) c.device_fault.ensures (c.in-Err.ensures.stays told) (c.in-Err.ensures.err told state syncs fits)

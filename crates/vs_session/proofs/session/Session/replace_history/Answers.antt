@@ -1,6 +1,9 @@
-use Rattle.std.proofs.Common.{Ok, Err, refl, ap, ◌∙◌}
+use Rattle.std.proofs.Common.{Ok, Err, refl, sym, ap, ◌∙◌}
+use Rattle.std.proofs.lemmas.Bool.{true≢false}
 use Rattle.vs_faults.proofs.Causes.{HasCause-weaker}
-use Rattle.vs_session.proofs.Replaced.{err_taken, failed_taken, fits_replaced, read_line}
+use Rattle.vs_backup.proofs.Stops.{stops_as}
+use Rattle.vs_session.specs.Session.{is_fault}
+use Rattle.vs_session.proofs.Replaced.{err_taken, failed_taken, fault_taken, fits_replaced, read_line}
 use Rattle.vs_session.proofs.session.Session.replace_history.Goals as goal
 
 pub returns-in-Ok-clause-read : goal.returns-in-Ok-clause-read
@@ -22,8 +25,23 @@ pub returns-in-Err-clause-kept : goal.returns-in-Err-clause-kept
 returns-in-Err-clause-kept g c = record {
   frame = c.in-Err.ensures.reads.frame;
   looks = c.in-Err.ensures.reads.looks;
+  stops = stops_as _ _ _ _ _ (λ calm failed. calm (ap is_fault c.refused.ensures.outcome ∙ fault_taken c.in-Err.error failed)) c.in-Err.ensures.reads.stops;
   file = c.in-Err.ensures.file;
   generation = c.in-Err.ensures.generation;
   undo = c.in-Err.ensures.undo c.requires.usable.undo;
   cause = HasCause-weaker c.in-Err.ensures.reads.cause (λ fault. ap err_taken (failed_taken c.in-Err.error _ c.refused.ensures.outcome fault));
 }
+
+pub returns-in-Ok-clause-kept : goal.returns-in-Ok-clause-kept
+returns-in-Ok-clause-kept g c =
+    let reads = c.in-Ok.ensures.reads in
+    let file = c.in-Ok.ensures.file in
+    record {
+      frame = reads.frame;
+      looks = reads.looks;
+      stops = stops_as _ _ _ _ _ (λ _ e. cc) reads.stops;
+      file = record { name = file.name; found = file.found; names = file.names };
+      generation = c.in-Ok.ensures.generation;
+      undo = c.in-Ok.ensures.counts;
+      cause = record { later = reads.cause.later; risen = λ e. absurd (true≢false (sym e)) };
+    }

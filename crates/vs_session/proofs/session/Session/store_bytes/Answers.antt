@@ -1,4 +1,5 @@
 use Rattle.vs_session.specs.Fits.{names_of}
+use Rattle.vs_session.proofs.Steps.{unless_err}
 use Rattle.vs_session.proofs.Stored.{both_ok, fits_stored, stores_runs}
 use Rattle.vs_session.proofs.session.Session.store_bytes.Goals as goal
 
@@ -9,7 +10,7 @@ returns-clause-stores g c = record {
   fits = λ told state syncs fits.
       fits_stored c.args.self.now _ _ state syncs c.args.self.now.text.pair.files.named (c.store.ensures.acts.runs told).now fits;
   calls = c.store.ensures.calls;
-  last = c.store.ensures.acts.last;
+  stops = record { last = c.store.ensures.acts.last; none = λ told calm. (unless_err c.store.result _ calm c.store.ensures.none).quiet told };
   frame = c.store.ensures.acts.frame;
   cause = c.store.ensures.cause;
 }

@@ -1,3 +1,6 @@
+use Rattle.std.proofs.Common.{refl}
+use Rattle.vs_host.specs.World.{Scene}
+use Rattle.vs_backup.proofs.Stops.{stops_as, stops_then}
 use Rattle.vs_session.specs.Fits.{names_of}
 use Rattle.vs_session.proofs.Stored.{stored_bytes, stored_runs, stores_looked}
 use Rattle.vs_session.proofs.session.Session.store_undo.Goals as goal
@@ -32,3 +35,13 @@ returns-clause-runs g c told state syncs fits =
 
 pub returns-clause-fits : goal.returns-clause-fits
 returns-clause-fits g c told state syncs fits = c.in-Err.ensures.stores.fits told state syncs (c.in_ok-bytes.ensures.fits told state syncs fits)
+
+pub returns-in-Ok-clause-stops : goal.returns-in-Ok-clause-stops
+returns-in-Ok-clause-stops g c =
+    let old : Scene = g.F.World.scene c.args.host.now in
+    stops_then g.F.World.tells _ _ old (g.F.World.scene c.undo_bytes.new.host) (g.F.World.scene c.store_bytes.new.host) (λ e. cc) c.in_ok-bytes.ensures.kept.stops (stops_as _ _ _ _ _ (λ _ e. cc) c.in-Ok.ensures.stores.stops)
+
+pub returns-clause-stops : goal.returns-clause-stops
+returns-clause-stops g c =
+    let old : Scene = g.F.World.scene c.args.host.now in
+    stops_then g.F.World.tells _ _ old (g.F.World.scene c.undo_bytes.new.host) (g.F.World.scene c.store_bytes.new.host) (λ e. cc) c.in_ok-bytes.ensures.kept.stops (stops_as _ _ _ _ _ (λ calm _. calm refl) c.in-Err.ensures.stores.stops)

@@ -2,7 +2,7 @@ use Rattle.std.proofs.Common.{◌∷◌, true, refl, ◌∙◌}
 use Rattle.vs_machine.specs.declared.command.Outcome.TheVariants.{Done}
 use Rattle.vs_session.specs.Session.{after_sync, sync_in}
 use Rattle.vs_session.proofs.Calls.{GoesOn-weaker}
-use Rattle.vs_session.proofs.FileWritten.{failed_why, numbers, refuses_as}
+use Rattle.vs_session.proofs.FileWritten.{calm_why, failed_why, numbers, refuses_as}
 use Rattle.vs_session.proofs.Written.{answers_alone, answers_refused}
 use Rattle.vs_session.proofs.session.Session.write_alone.Goals as goal
 
@@ -18,8 +18,9 @@ pub returns-in-Err-clause-step : goal.returns-in-Err-clause-step
 returns-in-Err-clause-step g c told state syncs instruction before start at is off s =
     let mid = g.F.World.scene c.args.host.now in
     let new = g.F.World.scene c.write.new.host in
+    let wrote = c.in-Err.ensures.wrote told (after_sync state true) (sync_in state true ∷ syncs) s.synced in
     answers_refused state syncs instruction is before c.args.self.now start mid s c.in-Err.why at c.write.new.self new c.in-Err.ensures.kept.frame (c.in-Err.ensures.kept.file.names ∙ s.names)
-    (c.in-Err.ensures.wrote told (after_sync state true) (sync_in state true ∷ syncs) s.synced) _ _
+    wrote _ _ (λ calm. wrote.calls.none (calm_why c.in-Err.why _ c.refused.ensures.outcome calm))
     (record { later = c.in-Err.ensures.kept.cause.later; risen = λ fault. c.in-Err.ensures.kept.cause.risen (failed_why c.in-Err.why _ c.refused.ensures.outcome fault) })
     (refuses_as c.in-Err.why _ _ c.refused.ensures.outcome c.refused.ensures.reply)
 

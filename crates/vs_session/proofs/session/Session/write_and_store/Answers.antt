@@ -1,4 +1,5 @@
-use Rattle.std.proofs.Common.{◌∷◌, true, refl, ◌∙◌, subst}
+use Rattle.std.proofs.Common.{◌∷◌, true, refl, sym, ◌∙◌, subst}
+use Rattle.std.proofs.lemmas.Bool.{true≢false}
 use Rattle.vs_host.specs.declared.names.Names.{Names}
 use Rattle.vs_disk.specs.Runs.{Runs}
 use Rattle.vs_undo.specs.History.{history_marked}
@@ -9,7 +10,7 @@ use Rattle.vs_session.specs.Session.{after_sync, sync_in}
 use Rattle.vs_session.specs.Stores.{StoresUndo}
 use Rattle.vs_session.proofs.BothWritten.{answers_both}
 use Rattle.vs_session.proofs.Calls.{GoesOn-weaker}
-use Rattle.vs_session.proofs.FileWritten.{failed_why, numbers, refuses_as}
+use Rattle.vs_session.proofs.FileWritten.{calm_why, failed_why, numbers, refuses_as}
 use Rattle.vs_session.proofs.Written.{answers_refused}
 use Rattle.vs_session.proofs.session.Session.write_and_store.Goals as goal
 
@@ -28,14 +29,16 @@ returns-in-Ok-clause-step g c told state syncs instruction before start at is on
     (store.reply ∙ numbers after made.folder _ _ _ _ _ c.in-Ok.bytes wrote.fits refl refl)
     (λ done. subst (λ (n : Names). HasUndo n state.machine.text history new.folder) same (store.stored done told state.machine.text history undo_is))
     store.stores.cause
-    (subst (λ (n : Names). StoresBy n.undo_new n.undo made new) same (store.stores.calls told)) (store.stores.last told)
+    (subst (λ (n : Names). StoresBy n.undo_new n.undo made new) same (store.stores.calls told)) (store.stores.stops.last told)
+    (λ calm. store.stores.stops.none told (λ fault. true≢false (sym fault ∙ calm)))
 
 pub returns-in-Err-clause-step : goal.returns-in-Err-clause-step
 returns-in-Err-clause-step g c told state syncs instruction before start at is on s undo_is =
     let mid = g.F.World.scene c.args.host.now in
     let new = g.F.World.scene c.write.new.host in
+    let wrote = c.in-Err.ensures.wrote told (after_sync state true) (sync_in state true ∷ syncs) s.synced in
     answers_refused state syncs instruction is before c.args.self.now start mid s c.in-Err.why at c.write.new.self new c.in-Err.ensures.kept.frame (c.in-Err.ensures.kept.file.names ∙ s.names)
-    (c.in-Err.ensures.wrote told (after_sync state true) (sync_in state true ∷ syncs) s.synced) _ _
+    wrote _ _ (λ calm. wrote.calls.none (calm_why c.in-Err.why _ c.refused.ensures.outcome calm))
     (record { later = c.in-Err.ensures.kept.cause.later; risen = λ fault. c.in-Err.ensures.kept.cause.risen (failed_why c.in-Err.why _ c.refused.ensures.outcome fault) })
     (refuses_as c.in-Err.why _ _ c.refused.ensures.outcome c.refused.ensures.reply)
 

@@ -1,0 +1,63 @@
+-- Which calls of a command failed, over calls that follow one another.
+use Rattle.std.proofs.Common.{◌≡◌, ◌≤◌, ℕ, Bool, true, false, List, IsTrue, refl, sym, ◌∙◌, subst, arith}
+use Rattle.std.proofs.lemmas.Bool.{true≢false}
+use Rattle.vs_host.specs.World.{Scene, Tells}
+use Rattle.vs_host.specs.Trace.{Snapshot}
+use Rattle.vs_host.specs.declared.names.Names.{Names}
+use Rattle.vs_disk.specs.Runs.{FailsLast, HasNoFault, Quiet}
+use Rattle.vs_disk.proofs.Quiet.{last_then, quiet_then}
+use Rattle.vs_disk.proofs.Runs.{goes_none, goes_weaker, quiet_none}
+use Rattle.vs_backup.specs.Desks.{StopsAtFault}
+use Rattle.vs_backup.specs.Writing.{BecomesWritten}
+use Rattle.vs_desk.specs.Counts.{NoneAbove}
+use Rattle.vs_desk.specs.PageLaws.{above_then}
+use Rattle.vs_excmd.specs.Request.{Instruction}
+use Rattle.vs_session.specs.Session.{SessionState, Ended, has_written, is_fault}
+use Rattle.vs_session.specs.Failures.{FailsOnce}
+
+-- where no call failed, no count is above that now
+pub above_quiet : (old new : Scene) → Quiet old new → NoneAbove old new
+above_quiet old new quiet = record {
+  later = omega (arith, quiet.folder);
+  moments = goes_weaker (HasNoFault old) (λ m. m.folder_faults ≤ new.folder_faults) (λ (m : Snapshot) none. omega (arith, none.folder, quiet.folder)) old.trace new.trace quiet.moments;
+}
+
+-- no call was made
+pub quiet_still : (old new : Scene) → new ≡ old → Quiet old new
+quiet_still old new is = subst (λ (s : Scene). Quiet old s) (sym is) (quiet_none old)
+
+-- nor by the clock
+pub quiet_clock : (old : Scene) (answers : List ℕ) → Quiet old (record old { answers = answers })
+quiet_clock old answers = record { moments = goes_none (HasNoFault old) old.trace; script = refl; out = refl; folder = refl }
+
+-- a file that becomes written after calls that did not fail
+pub written_after : (name bytes : List ℕ) (old mid new : Scene) → Quiet old mid → BecomesWritten name bytes mid new → BecomesWritten name bytes old new
+written_after name bytes old mid new quiet file = record { written = file.written; quiet = quiet_then old mid file.written quiet file.quiet; holds = file.holds; later = file.later }
+
+module _ (names : Names) (state : SessionState) (instruction : Instruction) (ended : Ended) where
+  -- a command that did not write the file
+  pub once_unwritten : (old new : Scene) → has_written state instruction ended ≡ false → FailsLast old new → (is_fault ended.mark.outcome ≡ false → Quiet old new) → FailsOnce names state instruction ended old new
+  once_unwritten old new unwritten last none = record { writes = λ is. absurd (true≢false (sym is ∙ unwritten)); last = λ _. last; none = λ _ calm. none calm }
+
+  pub once_stops : (tells : Tells) (old new : Scene) → IsTrue tells.folder → has_written state instruction ended ≡ false → StopsAtFault tells (is_fault ended.mark.outcome ≡ true) old new
+      → FailsOnce names state instruction ended old new
+  once_stops tells old new told unwritten stops =
+      once_unwritten old new unwritten (stops.last told) (λ calm. stops.none told (λ fault. true≢false (sym fault ∙ calm)))
+
+  -- calls before it that did not fail
+  pub once_after : (old mid new : Scene) → Quiet old mid → FailsOnce names state instruction ended mid new → FailsOnce names state instruction ended old new
+  once_after old mid new quiet once = record {
+    writes = λ is.
+        let first = once.writes is in
+        record {
+          wrote = first.wrote;
+          file = written_after names.file _ old mid first.wrote quiet first.file;
+          above = above_then old mid first.wrote (above_quiet old mid quiet) first.above;
+          calls = first.calls;
+          last = first.last;
+          none = first.none;
+          unstored = first.unstored;
+        };
+    last = λ is. last_then old mid new quiet (once.last is);
+    none = λ is calm. quiet_then old mid new quiet (once.none is calm);
+  }

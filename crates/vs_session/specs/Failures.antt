@@ -1,0 +1,32 @@
+-- Which calls of a command failed.
+use Rattle.std.specs.Prelude.{◌≡◌, ℕ, true, false, List}
+use Rattle.vs_faults.specs.Faults.{HasRisen}
+use Rattle.vs_host.specs.World.{Scene}
+use Rattle.vs_host.specs.declared.names.Names.{Names}
+use Rattle.vs_disk.specs.Runs.{FailsLast, Quiet}
+use Rattle.vs_text.specs.Text.{file_of}
+use Rattle.vs_backup.specs.Writing.{BecomesWritten}
+use Rattle.vs_ubind.specs.Storing.{StoresBy}
+use Rattle.vs_desk.specs.Counts.{NoneAbove}
+use Rattle.vs_excmd.specs.Request.{Instruction}
+use Rattle.vs_machine.specs.declared.command.Outcome.TheVariants.{NoUndo}
+use Rattle.vs_session.specs.Session.{SessionState, Ended, has_written, is_fault}
+
+-- Between two scenes the file of these names was written, and the calls after that are those of storing the undo file. No call failed
+-- until the file had these bytes in each image, and of the calls after that which take the backup away, none but the last one. Of those
+-- of the storing none failed; or where the storing did, the last one did and no other.
+pub record WritesFirst (names : Names) (bytes : List ℕ) (Unstored : Type 0) (old new : Scene) : Type 0 where
+  pub wrote : Scene
+  pub file : BecomesWritten names.file bytes old wrote
+  pub above : NoneAbove old wrote
+  pub calls : StoresBy names.undo_new names.undo wrote new
+  pub last : FailsLast wrote new
+  pub none : ¬ Unstored → Quiet wrote new
+  pub unstored : Unstored → HasRisen wrote.folder_faults new.folder_faults
+
+-- Which calls of a command failed that ended so: where it wrote the file, none before the file was written; else none but the last one,
+-- and none at all unless that is answered.
+pub record FailsOnce (names : Names) (state : SessionState) (instruction : Instruction) (ended : Ended) (old new : Scene) : Type 0 where
+  pub writes : has_written state instruction ended ≡ true → WritesFirst names (file_of state.machine.text) (ended.mark.outcome ≡ NoUndo) old new
+  pub last : has_written state instruction ended ≡ false → FailsLast old new
+  pub none : has_written state instruction ended ≡ false → is_fault ended.mark.outcome ≡ false → Quiet old new
