@@ -4,7 +4,7 @@ ghost use Rattle.vs_faults.specs.Faults.{HasCause, IsQuiet};
 ghost use Rattle.vs_host.specs.Names.{is_allowed, names_of_file};
 ghost use Rattle.vs_host.specs.World.{content_of};
 ghost use Rattle.vs_pair.specs.Acts.{Acts};
-ghost use Rattle.vs_pair.specs.Steps.{IsFresh};
+ghost use Rattle.vs_pair.specs.Steps.{BothMoved, IsFresh};
 ghost use Rattle.vs_text.specs.Limits.{IsWithinLimits};
 ghost use Rattle.vs_text.specs.Text.{lines_of};
 ghost use Rattle.vs_machine.specs.Replies.{opening_of};
@@ -84,6 +84,7 @@ impl Session {
         ensures name { IfOk result (λ session. (string_bytes session.name ≡ name.now) × (names_of session ≡ names_of_file name.now)) }
         ensures generation { IfOk result (λ session. generation_of session ≡ 2) }
         ensures undo { IfOk result (λ session. FitsUndo session) }
+        ensures moved { OnOk result (IsTrue (H.tells).folder → BothMoved (names_of_file name.now) (H.scene host.new).folder) }
         ensures swap { IsErrOf result OpenErr.SwapFound → IsTrue (H.tells).folder → HasSwap (names_of_file name.now) (H.scene host.old).folder }
         ensures barred { IsTrue (H.tells).folder → HasSwap (names_of_file name.now) (H.scene host.old).folder
             → IsErrOf result OpenErr.SwapFound ⊎ IsErrOf result OpenErr.Failed ⊎ IsErrOf result OpenErr.NoMemory }

@@ -3,7 +3,7 @@ use Rattle.vs_host.specs.Disk.{Disk}
 use Rattle.vs_host.specs.Names.{names_of_file}
 use Rattle.vs_host.specs.World.{Scene}
 use Rattle.vs_pair.specs.Acts.{Acts}
-use Rattle.vs_pair.specs.Steps.{IsFresh}
+use Rattle.vs_pair.specs.Steps.{BothMoved, IsFresh}
 use Rattle.vs_safety.specs.Texts.{Text}
 use Rattle.vs_safety.specs.Turns as turns
 use Rattle.vs_paged.specs.Fits as folder
@@ -93,3 +93,6 @@ invariant_of-result-clause-named g c = c.in_ok-text.ensures.names ∙ ap names_o
 
 pub invariant_of-result-clause-short : goal.invariant_of-result-clause-short
 invariant_of-result-clause-short g c = subst (λ (n : List ℕ). length n ≤ 200) (sym c.in_ok-kept.ensures.ok) (allowed_short c.args.name.now c.requires.name)
+
+pub returns-clause-moved : goal.returns-clause-moved
+returns-clause-moved g c = λ told. subst (λ (n : List ℕ). BothMoved (names_of_file n) (g.H.World.scene c.start.new.host).folder) c.in_ok-opening.ensures.name (c.in_ok-text.ensures.moved told)
