@@ -1,296 +1,310 @@
--- How a run begins and ends: the opening and its reply, a stop, and an accepted quit, each with the promise that it keeps.
-use Rattle.std.proofs.Common.{◌≡◌, inl, inr, ℕ, ◌+◌, ◌<◌, ◌≤◌, min, List, [], ◌∷◌, ◌++◌, length, length-append, length-take, take, drop, refl, sym, ◌∙◌, ap, subst, arith, append_assoc}
+-- How a run ends: in its opening, between two commands, in a command or its reply, or by an accepted quit, each with the promise that it keeps.
+use Rattle.std.proofs.Common.{◌≡◌, ◌⊎◌, inl, inr, ℕ, ◌+◌, ◌<◌, ◌≤◌, min, List, [], ◌∷◌, ◌++◌, length, length-append, length-take, take, drop, refl, sym, ◌∙◌, ap, subst, arith, append_assoc}
+use Rattle.std.specs.Prelude.{None}
 use Rattle.std.proofs.lemmas.List.{append-nil, take_all, take-append-drop}
 use Rattle.std.proofs.lemmas.Bool.{cases_lt}
 use Rattle.vs_host.specs.Disk.{Disk}
 use Rattle.vs_host.specs.Trace.{WroteOutput, Snapshot, Each}
 use Rattle.vs_host.specs.World.{Scene, IsRecorded, LeavesTrace, snapshot_of}
-use Rattle.vs_host.specs.Names.{AreNames}
 use Rattle.vs_host.specs.declared.names.Names.{Names}
 use Rattle.vs_disk.specs.Names.{SameAt}
-use Rattle.std.specs.Prelude.{None}
 use Rattle.vs_disk.specs.Runs.{Inside}
 use Rattle.vs_disk.proofs.Runs.{Each-append, Each-weaker}
 use Rattle.vs_disk.proofs.Others.{same_then}
-use Rattle.vs_pair.proofs.MadeFiles.{same_weaker}
 use Rattle.vs_pair.specs.Pair.{is_foreign}
-use Rattle.vs_safety.specs.Texts.{Text, recoverable, Recovers, RecoversOrNone, NoneLeft, IsBetween}
-use Rattle.vs_safety.specs.Writes.{State}
-use Rattle.vs_safety.specs.Turns.{Turn, Ran, quit_run, all_turns, behind, all_written, after_turns, opened, replies, quit_line, SparesOthers, KeepsUndo}
-use Rattle.vs_safety.specs.Stretches.{HasStretch, IsShorter, IsFirst, BeginsAsAtStart, KeepsSince}
-use Rattle.vs_safety.specs.Safety.{IsFirstPart, opened_at, IsSafe, IsCrashSafe, Spares, Works, Writes}
-use Rattle.vs_safety.specs.Going.{Sound, Course, HasEnded, Opened, Going, Halted, IsStill, UndoStands}
-use Rattle.vs_safety.proofs.Texts.{or_none, between_recovers}
-use Rattle.vs_safety.proofs.UndoFiles.{undo_foreign, undo_none, undo_spared}
-use Rattle.vs_safety.proofs.Splits.{each_weaker}
-use Rattle.vs_safety.proofs.Moments.{part_same, part_of, part_then, part_long, opens_stays, keeps_since, keeps_same, ended_stretch, total, kept_before, kept_stays, kept_whole, course_more, works_sound, shorter}
+use Rattle.vs_pair.proofs.MadeFiles.{same_weaker}
+use Rattle.vs_safety.specs.Texts.{Text, Sync, recoverable, Recovers, RecoversOrNone, NoneLeft}
+use Rattle.vs_safety.specs.Writes.{State, state_now}
+use Rattle.vs_safety.specs.Turns.{Turn, Closing, NotBegun, LastSync, Quits, with_begun, with_sync, with_closing, opened, replies, behind, last_turn, quit_line}
+use Rattle.vs_safety.specs.Stretches.{IsFirst, IsShorter, EachTurn, HasStretch}
+use Rattle.vs_safety.specs.Safety.{IsFirstPart, opened_at, IsKept, IsSafe, IsCrashSafe, Spares, Works, Writes, Stepped, IsUnderWay}
+use Rattle.vs_safety.specs.History.{History, Open, After, opened_text, opening_reply, syncs_of, written_by, turns_then, replied_at, ran_of, Begins, HasBegun, Replied, Waits}
+use Rattle.vs_safety.proofs.Texts.{or_none, ended_within, between_recovers, recovers_more}
+use Rattle.vs_safety.proofs.UndoFiles.{undo_spared}
+use Rattle.vs_safety.proofs.Moments.{part_same, part_of, part_then, part_long, first_in, opens_stays, each_both}
+use Rattle.vs_safety.proofs.Histories.{then_is, syncs_are, written_are, replied_is, place_is, quit_turns}
+use Rattle.vs_safety.proofs.SoFar.{IsNext, SoFar, parts_shorter, found_now, kept_step, kept_steps, steps_parts, stretch_is, answers_on, recorded, kept_before, kept_opening, opening_parts, so_far, so_far_now}
 
--- ---- names of others
+-- nothing of a reply was written
+pub writes_none : (reply : List ℕ) (now : Scene) → Writes 0 reply now now
+writes_none reply now = record { output = sym (append-nil now.output); folder = refl; faults = refl; added = inr (record { folder = refl; output = refl; trace = refl }) }
 
--- work that writes no file
-spared_on : (names : Names) (turns : List Turn) (start old new : Disk) → SparesOthers names turns start old → SameAt (is_foreign names) old new → SparesOthers names turns start new
-spared_on names turns start old new spared same inside foreign all = same_then inside start old new (spared inside foreign all) (same_weaker (is_foreign names) inside old new foreign same)
-
-spared_none : (names : Names) (old new : Disk) → SameAt (is_foreign names) old new → SparesOthers names [] old new
-spared_none names old new same inside foreign all = same_weaker (is_foreign names) inside old new foreign same
-
--- ---- the promise of a run that stopped
-
-plain_output : (start : Scene) (opening written : List ℕ) (ran : Ran) → ran.opening ≡ opening → replies (all_turns ran) ≡ written → behind ran.closing ≡ [] → (start.output ++ opening) ++ written ≡ start.output ++ all_written ran
-plain_output start opening written ran opened all none =
-    append_assoc start.output opening written
-    ∙ (λ i. start.output ++ (sym opened i ++ sym all i))
-    ∙ ap (λ (l : List ℕ). start.output ++ l) (sym (append-nil (ran.opening ++ replies (all_turns ran))))
-    ∙ ap (λ (l : List ℕ). start.output ++ ((ran.opening ++ replies (all_turns ran)) ++ l)) (sym none)
-
-pub halted_safe : (names : Names) (start now : Scene) (ran : Ran) → behind ran.closing ≡ [] → Halted names start now ran.text ran.opening (all_turns ran) → IsCrashSafe names start now ran
-halted_safe names start now ran none halted = record {
-  moments = halted.moments;
-  added = halted.course.added;
-  at_start = halted.course.at_start;
-  opens = halted.opens;
-  safe = Each-weaker (Sound names start now halted.moments ran.text ran.opening (all_turns ran)) (IsSafe names start now halted.moments ran)
-      (λ m sound. record {
-        output = sound.output;
-        kept = inl sound.kept;
-        gone = λ quits long. absurd (omega (arith, ap (λ (l : List ℕ). length l) (sym none ∙ ap behind quits)));
-      })
-      halted.moments halted.course.sound;
-  output = part_then now.output _ (start.output ++ all_written ran) halted.output (part_of _ _ (sym (plain_output start ran.opening (replies (all_turns ran)) ran refl refl none)));
-  stretches = halted.stretches;
+-- all of it was written
+all_replied : (reply : List ℕ) (old new : Scene) (n : ℕ) → 0 < length reply → length reply ≤ n → Writes n reply old new → Replied reply old new
+all_replied reply old new n some le writes = record {
+  some = some;
+  writes = record {
+    output = writes.output ∙ ap (λ (l : List ℕ). old.output ++ l) (take_all n reply le ∙ sym (take_all (length reply) reply (omega arith)));
+    folder = writes.folder;
+    faults = writes.faults;
+    added = writes.added;
+  };
 }
+
+-- an output that may lack the end of what is written next
+cut_part : (now new tail : List ℕ) (n : ℕ) → new ≡ now ++ take n tail → IsFirstPart new (now ++ tail)
+cut_part now new tail n is =
+    (drop n tail, ap (λ (l : List ℕ). now ++ l) (sym (take-append-drop n tail)) ∙ sym (append_assoc now (take n tail) (drop n tail)) ∙ ap (λ (l : List ℕ). l ++ drop n tail) (sym is))
 
 -- ---- the opening
 
-module _ (names : Names) (start : Scene) (text : Text) (opening : List ℕ) (some : 0 < length opening) where
-  or_none_one : Disk → Type 0
-  or_none_one disk = RecoversOrNone names (text ∷ []) disk
-
-  opening_course : (now : Scene) → start.folder.pending ≡ [] → RecoversOrNone names (text ∷ []) start.folder → (works : Works names None (RecoversOrNone names (text ∷ [])) start now) → Course names start now text opening [] works.moments.added
-  opening_course now settled at_start works = record {
-    added = works.moments.is;
-    at_start = at_start;
-    settled = settled;
-    sound = works_sound names start text opening None (RecoversOrNone names (text ∷ [])) start now works.moments.added []
-        (λ m same all. kept_before names start text opening works.moments.added [] m (omega (arith, same, some)) all.folder all.spared) works;
-    spared = spared_none names start.folder now.folder works.spared;
-  }
-
-  -- nothing of the opening reply is written
-  not_begun : {A : Type 0} (now : Scene) → opened_at start opening ≤ length now.output → now.output ≡ start.output → A
-  not_begun now le same = absurd (omega (arith, le, some, ap (λ (l : List ℕ). length l) same))
-
-  -- the file was not opened
-  pub not_opened : (now : Scene) → start.folder.pending ≡ [] → RecoversOrNone names (text ∷ []) start.folder → Works names None (RecoversOrNone names (text ∷ [])) start now → Halted names start now text opening []
-  not_opened now settled at_start works = record {
-    moments = works.moments.added;
-    course = opening_course now settled at_start works;
-    output = (opening ++ [], append_assoc start.output opening [] ∙ ap (λ (l : List ℕ). l ++ (opening ++ [])) (sym works.output));
-    opens = λ le. not_begun now le works.output;
-    stretches = tt;
-  }
-
-  pub opening_ends : (now : Scene) → AreNames names → start.folder.pending ≡ [] → RecoversOrNone names (text ∷ []) start.folder → Works names None (RecoversOrNone names (text ∷ [])) start now → IsBetween names (opened text) now.folder
-      → Opened names start now text opening
-  opening_ends now are settled at_start works between = record {
-    moments = works.moments.added;
-    course = opening_course now settled at_start works;
-    output = works.output;
-    between = between;
-    undo = record { foreign = undo_foreign names are; keeps = undo_none names start.folder now.folder (undo_foreign names are) works.spared };
-  }
-
-  -- it was opened, and a call that comes before the reply had no memory
-  pub opened_halts : (now : Scene) → Opened names start now text opening → Halted names start now text opening []
-  opened_halts now opened_here = record {
-    moments = opened_here.moments;
-    course = opened_here.course;
-    output = (opening ++ [], append_assoc start.output opening [] ∙ ap (λ (l : List ℕ). l ++ (opening ++ [])) (sym opened_here.output));
-    opens = λ le. not_begun now le opened_here.output;
-    stretches = tt;
-  }
-
-  -- the snapshot of the write of the opening reply
-  module _ (now new : Scene) (opened_here : Opened names start now text opening) (n : ℕ) (writes : Writes n opening now new) where
-    all_recovers : Recovers names (text ∷ []) new.folder
-    all_recovers = subst (λ (d : Disk). Recovers names (text ∷ []) d) (sym writes.folder) (between_recovers names (opened text) now.folder opened_here.between)
-
-    grown : length new.output ≡ length start.output + min n (length opening)
-    grown = ap (λ (l : List ℕ). length l) writes.output ∙ length-append now.output (take n opening)
-        ∙ (λ i. length (opened_here.output i) + length-take n opening i)
-
-    undo : UndoStands names start.folder [] new.folder
-    undo = subst (λ (d : Disk). UndoStands names start.folder [] d) (sym writes.folder) opened_here.undo
-
-    spared : SparesOthers names [] start.folder new.folder
-    spared = subst (λ (d : Disk). SparesOthers names [] start.folder d) (sym writes.folder) opened_here.course.spared
-
-    abbrev written : Snapshot
-    written = snapshot_of new WroteOutput []
-
-    all_spared : SameAt (is_foreign names) start.folder new.folder
-    all_spared = spared (is_foreign names) (λ name is. is) tt
-
-    -- the first one with the whole reply
-    first : (k : ℕ) → length start.output < k → k ≤ length new.output → IsFirst k (written ∷ opened_here.moments) written
-    first k lt le = record {
-      newer = [];
-      older = opened_here.moments;
-      is = refl;
-      reached = le;
-      not_before = shorter names start text opening k now [] opened_here.moments (omega (arith, lt, ap (λ (l : List ℕ). length l) opened_here.output)) opened_here.course;
-    }
-
-    sound : Sound names start new (written ∷ opened_here.moments) text opening [] written
-    sound = record {
-      output = part_same new.output;
-      kept = elim (cases_lt (length new.output) (opened_at start opening)) [
-        | inl lt ↦ kept_before names start text opening (written ∷ opened_here.moments) [] written lt (or_none names (text ∷ []) new.folder all_recovers) all_spared
-        | inr le ↦ kept_whole names start text opening (written ∷ opened_here.moments) [] written (omega (arith, le)) all_recovers spared
-            (record { since = written; begins = first _ (omega (arith, some)) (omega (arith, le)); keeps = keeps_same names None new.folder new.folder refl }) undo.keeps
-      ];
-    }
-
-    begins_so : opened_at start opening ≤ length new.output → BeginsAsAtStart names start.folder (written ∷ opened_here.moments) (opened_at start opening)
-    begins_so le = record { first = written; begins = first _ (omega (arith, some)) le; same = all_spared }
-
-    course_with : IsRecorded WroteOutput [] now new → Course names start new text opening [] (written ∷ opened_here.moments)
-    course_with told = course_more names start text opening now new [] opened_here.moments (written ∷ []) told (take n opening, writes.output) (sound, tt) spared opened_here.course
-
-    course_without : LeavesTrace now new → Course names start new text opening [] opened_here.moments
-    course_without left = course_more names start text opening now new [] opened_here.moments [] left.trace (take n opening, writes.output) tt spared opened_here.course
-
-    -- it was cut short, or whole
-    pub opening_cut : Halted names start new text opening []
-    opening_cut = elim writes.added [
-      | inl told ↦ record { moments = written ∷ opened_here.moments; course = course_with told; output = rest; opens = begins_so; stretches = tt }
-      | inr left ↦ record { moments = opened_here.moments; course = course_without left; output = rest; opens = λ le. not_begun new le (left.output ∙ opened_here.output); stretches = tt }
-    ]
-      where
-        rest : IsFirstPart new.output ((start.output ++ opening) ++ [])
-        rest = (
-          drop n opening,
-          append-nil (start.output ++ opening) ∙ (λ i. sym opened_here.output i ++ sym (take-append-drop n opening) i) ∙ sym (append_assoc now.output (take n opening) (drop n opening))
-              ∙ ap (λ (l : List ℕ). l ++ drop n opening) (sym writes.output),
-        )
-
-    -- it was whole
-    pub opening_written : length opening ≤ n → Going names start new text opening []
-    opening_written le = elim writes.added [
-      | inr left ↦ absurd (omega (arith, grown, le, some, ap (λ (l : List ℕ). length l) left.output, ap (λ (l : List ℕ). length l) opened_here.output))
-      | inl told ↦ record {
-        moments = written ∷ opened_here.moments;
-        course = course_with told;
-        opens = begins_so (omega (arith, grown, le));
-        output = writes.output ∙ (λ i. opened_here.output i ++ take_all n opening le i) ∙ sym (append-nil (start.output ++ opening));
-        ended = tt;
-        here = written;
-        begins = first (length new.output) (omega (arith, grown, le, some)) (omega arith);
-        state = refl;
-        still = (
-          λ le. refl,
-          Each-weaker (IsShorter (length new.output)) (IsStill new) (λ one less le. absurd (omega (arith, less, le))) opened_here.moments
-              (shorter names start text opening (length new.output) now [] opened_here.moments (omega (arith, grown, le, some, ap (λ (l : List ℕ). length l) opened_here.output)) opened_here.course),
-        );
-        between = subst (λ (d : Disk). IsBetween names (opened text) d) (sym writes.folder) opened_here.between;
-        undo = undo;
+module _ (names : Names) (text : Text) (opening : List ℕ) (start now : Scene) (opens : Begins names text start now) where
+  -- its reply is not whole
+  opening_stops : (new : Scene) (newest : List Snapshot) (n : ℕ) → new.trace ≡ newest ++ now.trace → new.output ≡ now.output ++ take n opening → length new.output < opened_at start opening → 0 < length opening
+      → Each (λ m. (m.output ≡ new.output) × RecoversOrNone names (text ∷ []) m.folder × SameAt (is_foreign names) start.folder m.folder) newest → IsCrashSafe names start new (ran_of (Open text opening) NotBegun)
+  opening_stops new newest n added output lt some each =
+      let all : List Snapshot = newest ++ opens.works.moments.added in
+      let Moment : Snapshot → Type 0 = IsSafe names start new all (ran_of (Open text opening) NotBegun) in
+      record {
+        moments = all;
+        added = added ∙ ap (λ (ms : List Snapshot). newest ++ ms) opens.works.moments.is ∙ sym (append_assoc newest opens.works.moments.added start.trace);
+        at_start = opens.at_start;
+        opens = λ le. absurd (omega (arith, le, lt));
+        safe = Each-append Moment newest opens.works.moments.added
+            (Each-weaker (λ m. (m.output ≡ new.output) × RecoversOrNone names (text ∷ []) m.folder × SameAt (is_foreign names) start.folder m.folder) Moment
+            (λ m one. record {
+              output = part_of m.output new.output (sym one.0);
+              kept = inl (kept_before names text opening start now all [] m (omega (arith, lt, ap (λ (l : List ℕ). length l) one.0)) one.1 one.2);
+              gone = λ quits. absurd (cc);
+            })
+            newest each)
+            (Each-weaker (λ m. IsFirstPart m.output new.output × IsKept names start all text opening [] m) Moment (λ m one. record { output = one.0; kept = inl one.1; gone = λ quits. absurd (cc) }) opens.works.moments.added
+            (each_both (λ m. IsFirstPart m.output new.output) (IsKept names start all text opening []) opens.works.moments.added
+            (opening_parts names text opening start now opens new.output (take n opening, output)) (kept_opening names text opening start now opens all [] some)));
+        output = part_then new.output (now.output ++ opening) _ (cut_part now.output new.output opening n output)
+            ([], ap (λ (l : List ℕ). start.output ++ l) (append-nil (opening ++ []) ∙ append-nil opening) ∙ ap (λ (l : List ℕ). l ++ opening) (sym opens.works.output) ∙ sym (append-nil (now.output ++ opening)));
+        stretches = tt;
       }
-    ]
+
+  pub not_opened : 0 < length opening → IsCrashSafe names start now (ran_of (Open text opening) NotBegun)
+  not_opened some = opening_stops now [] 0 refl (sym (append-nil now.output)) (omega (arith, some, ap (λ (l : List ℕ). length l) opens.works.output)) some tt
+
+-- ---- after it
+
+-- The end of a run whose replies so far are those of a history: what is left of its output is `tail`, of which n bytes were written.
+module _ (names : Names) (start : Scene) (past : History) (now new : Scene) (so_far : SoFar names start past now) (newest : List Snapshot) (rest turns : List Turn) (closing : Closing) where
+  abbrev all : List Snapshot
+  all = newest ++ so_far.moments
+
+  abbrev Moment : Snapshot → Type 0
+  Moment = IsSafe names start new all (record { text = opened_text past; opening = opening_reply past; turns = turns; closing = closing })
+
+  ends_so : new.trace ≡ newest ++ now.trace → with_closing turns closing ≡ turns_then past rest → IsNext rest now.folder → (n : ℕ) (tail : List ℕ) → replies rest ++ behind closing ≡ tail → new.output ≡ now.output ++ take n tail
+      → Each Moment newest → EachTurn (HasStretch names all new) (replied_at start past) rest
+      → IsCrashSafe names start new (record { text = opened_text past; opening = opening_reply past; turns = turns; closing = closing })
+  ends_so added are next n tail tail_is output safe stretches = record {
+    moments = all;
+    added = added ∙ ap (λ (ms : List Snapshot). newest ++ ms) so_far.added ∙ sym (append_assoc newest so_far.moments start.trace);
+    at_start = so_far.at_start;
+    opens = λ le. opens_stays names start.folder so_far.moments newest _ so_far.opens;
+    safe = Each-append Moment newest so_far.moments safe (older so_far.moments so_far.parts (so_far.kept all newest rest refl next));
+    output = part_then new.output (now.output ++ tail) _ (cut_part now.output new.output tail n output) ([], whole ∙ sym (append-nil (now.output ++ tail)));
+    stretches = subst (λ (ts : List Turn). EachTurn (HasStretch names all new) (opened_at start (opening_reply past)) ts) (sym are) (so_far.stretches all newest new rest refl stretches);
+  }
+    where
+      whole : start.output ++ ((opening_reply past ++ replies (with_closing turns closing)) ++ behind closing) ≡ now.output ++ tail
+      whole =
+          ap (λ (ts : List Turn). start.output ++ ((opening_reply past ++ replies ts) ++ behind closing)) are
+          ∙ ap (λ (l : List ℕ). start.output ++ (l ++ behind closing)) (written_are past rest)
+          ∙ ap (λ (l : List ℕ). start.output ++ l) (append_assoc (written_by past) (replies rest) (behind closing))
+          ∙ ap (λ (l : List ℕ). start.output ++ (written_by past ++ l)) tail_is
+          ∙ sym (append_assoc start.output (written_by past) tail) ∙ ap (λ (l : List ℕ). l ++ tail) (sym so_far.output)
+
+      -- where it quits, all replies are whole
+      no_later : closing ≡ Quits → replied_at start past ≤ opened_at start (opening_reply past) + length (replies turns)
+      no_later quits = omega (arith, ap (λ (ts : List Turn). length (replies ts)) (sym (quit_turns turns closing quits) ∙ are), replied_is start past rest)
+
+      older : (moments : List Snapshot) → Each (λ m. IsFirstPart m.output now.output) moments → Each (IsKept names start all (opened_text past) (opening_reply past) (turns_then past rest)) moments → Each Moment moments
+      older [] parts kept = tt
+      older (m ∷ ms) parts kept = (
+        record {
+          output = part_then m.output now.output new.output parts.0 (take n tail, output);
+          kept = inl (subst (λ (ts : List Turn). IsKept names start all (opened_text past) (opening_reply past) ts m) (sym are) kept.0);
+          gone = λ quits more. absurd (omega (arith, more, no_later quits, part_long m.output now.output parts.0, so_far.long));
+        },
+        older ms parts.1 kept.1,
+      )
+
+-- between two commands
+pub stops_here : (names : Names) (start : Scene) (past : History) (now : Scene) → SoFar names start past now → (turns : List Turn) (closing : Closing) → with_closing turns closing ≡ turns_then past [] → behind closing ≡ []
+    → IsCrashSafe names start now (record { text = opened_text past; opening = opening_reply past; turns = turns; closing = closing })
+stops_here names start past now so_far turns closing are none =
+    ends_so names start past now now so_far [] [] turns closing refl are tt 0 [] none (sym (append-nil now.output)) tt tt
+
+-- in a command, or in its reply
+module _ (names : Names) (start : Scene) (past : History) (now ended : Scene) (so_far : SoFar names start past now) (turn : Turn) (some : 0 < length turn.reply) (stepped : Stepped names (syncs_of past) turn now ended)
+    (turns : List Turn) (closing : Closing) (are : with_closing turns closing ≡ turns_then past (turn ∷ [])) (none : behind closing ≡ []) where
+  abbrev steps : List Snapshot
+  steps = stepped.works.moments.added
+
+  abbrev Whole : Scene → Type 0
+  Whole new = IsCrashSafe names start new (record { text = opened_text past; opening = opening_reply past; turns = turns; closing = closing })
+
+  long_ended : length ended.output ≡ replied_at start past
+  long_ended = ap (λ (l : List ℕ). length l) stepped.works.output ∙ so_far.long
+
+  -- as the command left the folder
+  left : (d : Disk) → d ≡ ended.folder → Spares names turn.write (IsUnderWay names (with_begun turn.sync (syncs_of past)) turn.write) now.folder d
+  left d same = subst (λ (d : Disk). Spares names turn.write (IsUnderWay names (with_begun turn.sync (syncs_of past)) turn.write) now.folder d) (sym same) (record {
+    folder = record {
+      recovers = recovers_more names _ _ ended.folder (ended_within turn.sync (syncs_of past)) (between_recovers names (with_sync turn.sync (syncs_of past)) ended.folder stepped.between);
+      whole = stepped.whole;
+    };
+    spared = stepped.works.spared;
+  })
+
+  cut : (new : Scene) (n : ℕ) (newest : List Snapshot) → new.trace ≡ newest ++ ended.trace → new.output ≡ ended.output ++ take n turn.reply → new.folder ≡ ended.folder → state_now ended ≡ state_now new
+      → length new.output < replied_at start past + length turn.reply → Each (λ m. (m.output ≡ new.output) × (m.folder ≡ ended.folder)) newest → Whole new
+  cut new n newest added output folder same lt each =
+      let all : List Snapshot = (newest ++ steps) ++ so_far.moments in
+      let Moment : Snapshot → Type 0 = IsSafe names start new all (record { text = opened_text past; opening = opening_reply past; turns = turns; closing = closing }) in
+      let Kept : Snapshot → Type 0 = IsKept names start all (opened_text past) (opening_reply past) (turns_then past (turn ∷ [])) in
+      let Stepping : Snapshot → Type 0 = Inside ended (Spares names turn.write (IsUnderWay names (with_begun turn.sync (syncs_of past)) turn.write) now.folder) in
+      let le : replied_at start past ≤ length new.output = omega (arith, long_ended, ap (λ (l : List ℕ). length l) output, length-append ended.output (take n turn.reply)) in
+      let part : IsFirstPart ended.output new.output = (take n turn.reply, output) in
+      let begun : (m : Snapshot) → IsFirstPart m.output new.output → IsKept names start all (opened_text past) (opening_reply past) (turns_then past (turn ∷ [])) m → Moment m = λ m first kept. record {
+        output = first;
+        kept = inl (subst (λ (ts : List Turn). IsKept names start all (opened_text past) (opening_reply past) ts m) (sym are) kept);
+        gone = λ quits. absurd (let no : length (behind closing) ≡ length quit_line = ap (λ (c : Closing). length (behind c)) quits in omega (arith, no, ap (λ (l : List ℕ). length l) none));
+      } in
+      ends_so names start past now new so_far (newest ++ steps) (turn ∷ []) turns closing
+      (added ∙ ap (λ (ms : List Snapshot). newest ++ ms) stepped.works.moments.is ∙ sym (append_assoc newest steps now.trace)) are (some, found_now names start past turn now ended so_far stepped) n turn.reply
+      (ap (λ (l : List ℕ). (turn.reply ++ []) ++ l) none ∙ append-nil (turn.reply ++ []) ∙ append-nil turn.reply) (output ∙ ap (λ (l : List ℕ). l ++ take n turn.reply) stepped.works.output)
+      (Each-append Moment newest steps
+      (Each-weaker (λ m. (m.output ≡ new.output) × (m.folder ≡ ended.folder)) Moment
+      (λ m one. begun m (part_of m.output new.output (sym one.0))
+      (kept_step names start past turn now ended so_far stepped all (newest ++ steps) [] m refl (omega (arith, le, ap (λ (l : List ℕ). length l) one.0)) (omega (arith, lt, ap (λ (l : List ℕ). length l) one.0)) (left m.folder one.1)))
+      newest each)
+      (Each-weaker (λ m. Stepping m × Kept m) Moment (λ m one. begun m (part_then m.output ended.output new.output (part_of m.output ended.output (sym one.0.output)) part) one.1) steps
+      (each_both Stepping Kept steps stepped.works.moments.each (kept_steps names start past turn now ended so_far stepped all (newest ++ steps) [] refl some)))) (
+        stretch_is names start past turn now ended so_far stepped all (newest ++ steps) new (state_now new) refl same
+            (inr (all_shorter newest part each, refl)),
+        tt,
+      )
+    where
+      all_shorter : (newest : List Snapshot) → IsFirstPart ended.output new.output → Each (λ m. (m.output ≡ new.output) × (m.folder ≡ ended.folder)) newest
+          → Each (IsShorter (replied_at start past + length turn.reply)) ((newest ++ steps) ++ so_far.moments)
+      all_shorter newest part each = subst (λ (ms : List Snapshot). Each (IsShorter (replied_at start past + length turn.reply)) ms) (sym (append_assoc newest steps so_far.moments))
+          (parts_shorter (replied_at start past + length turn.reply) new.output (newest ++ (steps ++ so_far.moments)) lt
+          (Each-append (λ m. IsFirstPart m.output new.output) newest (steps ++ so_far.moments)
+          (Each-weaker (λ m. (m.output ≡ new.output) × (m.folder ≡ ended.folder)) (λ m. IsFirstPart m.output new.output) (λ m one. part_of m.output new.output (sym one.0)) newest each)
+          (steps_parts names start past turn now ended so_far stepped new.output part)))
+
+  pub stops_in : (new : Scene) (n : ℕ) → Writes n turn.reply ended new → Whole new
+  stops_in new n writes =
+      let long : length new.output ≡ replied_at start past + min n (length turn.reply) =
+      ap (λ (l : List ℕ). length l) writes.output ∙ length-append ended.output (take n turn.reply) ∙ (λ i. long_ended i + length-take n turn.reply i) in
+      let same : state_now ended ≡ state_now new = λ i. record { folder = sym writes.folder i; faults = sym writes.faults i } in
+      elim (cases_lt n (length turn.reply)) [
+        | inr le ↦
+            let replied : Replied turn.reply ended new = all_replied turn.reply ended new n some le writes in
+            stops_here names start (After past turn) new (answers_on names start past turn now ended so_far stepped new replied (recorded turn.reply ended new replied)) turns closing are none
+        | inl lt ↦ elim writes.added [
+          | inl told ↦ cut new n (snapshot_of new WroteOutput [] ∷ []) told writes.output writes.folder same (omega (arith, long, lt)) ((refl, writes.folder), tt)
+          | inr left ↦ cut new n [] left.trace writes.output writes.folder same (omega (arith, long, lt)) tt
+        ]
+      ]
+
+-- in the opening reply
+module _ (names : Names) (text : Text) (opening : List ℕ) (start now : Scene) (has : HasBegun names text start now) where
+  pub opening_cut : (new : Scene) (n : ℕ) → 0 < length opening → Writes n opening now new → IsCrashSafe names start new (ran_of (Open text opening) NotBegun)
+  opening_cut new n some writes =
+      let long : length new.output ≡ length start.output + min n (length opening) =
+      ap (λ (l : List ℕ). length l) writes.output ∙ length-append now.output (take n opening) ∙ (λ i. length (has.begins.works.output i) + length-take n opening i) in
+      elim (cases_lt n (length opening)) [
+        | inr le ↦
+            let replied : Replied opening now new = all_replied opening now new n some le writes in
+            stops_here names start (Open text opening) new (so_far names start (Open text opening) new (now, has, replied)) [] NotBegun refl refl
+        | inl lt ↦ elim writes.added [
+          | inl told ↦ opening_stops names text opening start now has.begins new (snapshot_of new WroteOutput [] ∷ []) n told writes.output (omega (arith, long, lt)) some (
+            (
+              refl,
+              or_none names (text ∷ []) new.folder (subst (λ (d : Disk). Recovers names (text ∷ []) d) (sym writes.folder) (between_recovers names (opened text) now.folder has.between)),
+              subst (λ (d : Disk). SameAt (is_foreign names) start.folder d) (sym writes.folder) has.begins.works.spared,
+            ),
+            tt,
+          )
+          | inr left ↦ opening_stops names text opening start now has.begins new [] n left.trace writes.output (omega (arith, long, lt)) some tt
+        ]
+      ]
 
 -- ---- an accepted quit
 
-module _ (names : Names) (start now : Scene) (text : Text) (opening : List ℕ) (turns : List Turn) (going : Going names start now text opening turns) where
-  abbrev ran : Ran
-  ran = quit_run text opening turns
+module _ (names : Names) (start : Scene) (past : History) (now mid : Scene) (so_far : SoFar names start past now) (works : Works names None (RecoversOrNone names (recoverable (syncs_of past))) now mid) where
+  abbrev removals : List Snapshot
+  removals = works.moments.added
 
-  abbrev left : Disk → Type 0
-  left disk = RecoversOrNone names (recoverable (after_turns (opened text) turns)) disk
+  module _ (all newest : List Snapshot) (are : all ≡ newest ++ so_far.moments) (new : Scene) where
+    -- a folder in which the swap files are being removed
+    left_at : (m : Snapshot) → IsFirstPart m.output new.output → replied_at start past ≤ length m.output → RecoversOrNone names (recoverable (syncs_of past)) m.folder → SameAt (is_foreign names) now.folder m.folder
+        → (replied_at start past < length m.output → NoneLeft names m.folder) → IsSafe names start new all (ran_of past Quits) m
+    left_at m part le recovers same gone = record {
+      output = part;
+      kept = inr (record {
+        quits = refl;
+        whole = omega (arith, le, place_is start past);
+        recovers = subst (λ (syncs : List Sync). RecoversOrNone names (recoverable syncs) m.folder) (sym (syncs_are past [])) recovers;
+        spared = λ inside foreign avoid. same_then inside start.folder now.folder m.folder (so_far.stands.spared inside foreign avoid) (same_weaker (is_foreign names) inside now.folder m.folder foreign same);
+        keeps = record {
+          since = so_far.here;
+          begins = subst (λ (k : ℕ). IsFirst k all so_far.here) (sym (place_is start past)) (first_in (replied_at start past) all newest so_far.moments so_far.here are so_far.begins);
+          keeps = subst (λ (d : Disk). SameAt (is_foreign names) d m.folder) (sym (ap (λ (s : State). s.folder) so_far.state)) same;
+        };
+        undo = undo_spared names start.folder now.folder m.folder (turns_then past []) so_far.stands.foreign same so_far.stands.undo;
+      });
+      gone = λ quits more. gone (omega (arith, more, place_is start past));
+    }
 
-  long_now : length now.output ≡ total names start text opening turns
-  long_now =
-      ap (λ (l : List ℕ). length l) going.output ∙ length-append (start.output ++ opening) (replies turns) ∙ ap (λ (n : ℕ). n + length (replies turns)) (length-append start.output opening)
+    left_each : IsFirstPart mid.output new.output → Each (IsSafe names start new all (ran_of past Quits)) removals
+    left_each part = Each-weaker (Inside mid (Spares names None (RecoversOrNone names (recoverable (syncs_of past))) now.folder)) (IsSafe names start new all (ran_of past Quits))
+        (λ m inside. let long : length m.output ≡ replied_at start past = ap (λ (l : List ℕ). length l) (inside.output ∙ works.output) ∙ so_far.long in
+        left_at m (part_then m.output mid.output new.output (part_of m.output mid.output (sym inside.output)) part) (omega (arith, long)) inside.folder.folder inside.folder.spared (λ more. absurd (omega (arith, more, long))))
+        removals works.moments.each
 
-  output_is : (new : Scene) (n : ℕ) → new.output ≡ now.output ++ take n quit_line → IsFirstPart new.output (start.output ++ all_written ran)
-  output_is new n output = (
-    drop n quit_line,
-    sym (append_assoc start.output (opening ++ replies turns) quit_line) ∙ ap (λ (l : List ℕ). l ++ quit_line) (sym (append_assoc start.output opening (replies turns)) ∙ sym going.output)
-        ∙ ap (λ (l : List ℕ). now.output ++ l) (sym (take-append-drop n quit_line)) ∙ sym (append_assoc now.output (take n quit_line) (drop n quit_line)) ∙ ap (λ (l : List ℕ). l ++ drop n quit_line) (sym output),
-  )
+  -- of the last line n bytes were written, or nothing was called any more
+  pub quits_in : (new : Scene) (n : ℕ) → Writes n quit_line mid new → LeavesTrace mid new ⊎ NoneLeft names mid.folder → IsCrashSafe names start new (ran_of past Quits)
+  quits_in new n writes either = elim either [
+    | inl same ↦ without same
+    | inr gone ↦ elim writes.added [ inl told ↦ with_line gone told | inr same ↦ without same ]
+  ]
+    where
+      part : IsFirstPart mid.output new.output
+      part = (take n quit_line, writes.output)
 
-  -- no name has changed since the last reply was whole
-  keeps_none : (newer : List Snapshot) (folder : Disk) → SameAt (is_foreign names) now.folder folder → KeepsSince names (newer ++ going.moments) (total names start text opening turns) None folder
-  keeps_none newer folder same = keeps_since names going.moments newer _ _ None going.here folder long_now going.begins
-      (subst (λ (d : Disk). SameAt (is_foreign names) d folder) (sym (ap (λ (s : State). s.folder) going.state)) same)
+      long : length new.output ≡ replied_at start past + min n (length quit_line)
+      long = ap (λ (l : List ℕ). length l) writes.output ∙ length-append mid.output (take n quit_line) ∙ (λ i. (ap (λ (l : List ℕ). length l) works.output ∙ so_far.long) i + length-take n quit_line i)
 
-  -- the moments before it, and those since
-  leaves : (new : Scene) (newer : List Snapshot) → new.trace ≡ newer ++ now.trace → (n : ℕ) → new.output ≡ now.output ++ take n quit_line → Each (IsSafe names start new (newer ++ going.moments) ran) newer
-      → IsCrashSafe names start new ran
-  leaves new newer is n output safe = record {
-    moments = newer ++ going.moments;
-    added = is ∙ ap (λ (ms : List Snapshot). newer ++ ms) going.course.added ∙ sym (append_assoc newer going.moments start.trace);
-    at_start = going.course.at_start;
-    opens = λ le. opens_stays names start.folder going.moments newer _ going.opens;
-    safe = Each-append (IsSafe names start new (newer ++ going.moments) ran) newer going.moments safe
-        (Each-weaker (Sound names start now going.moments text opening turns) (IsSafe names start new (newer ++ going.moments) ran)
-        (λ m sound. record {
-          output = part_then m.output now.output new.output sound.output (take n quit_line, output);
-          kept = inl (kept_stays names start text opening going.moments newer turns m sound.kept);
-          gone = λ quits long. absurd (omega (arith, long, part_long m.output now.output sound.output, long_now));
-        })
-        going.moments going.course.sound);
-    output = output_is new n output;
-    stretches = each_weaker (HasEnded names going.moments) (HasStretch names (newer ++ going.moments) new) (λ from to turn ended. ended_stretch names going.moments newer from to turn ended new) turns (opened_at start opening) going.ended;
-  }
+      off : (newest : List Snapshot) → new.trace ≡ newest ++ now.trace → Each (IsSafe names start new (newest ++ so_far.moments) (ran_of past Quits)) newest → IsCrashSafe names start new (ran_of past Quits)
+      off newest added safe = ends_so names start past now new so_far newest [] (turns_then past []) Quits added refl tt n quit_line refl (writes.output ∙ ap (λ (l : List ℕ). l ++ take n quit_line) works.output) safe tt
 
-  module _ (mid : Scene) (works : Works names None left now mid) where
-    removing : (new : Scene) (newer : List Snapshot) → IsFirstPart mid.output new.output → (m : Snapshot) → Inside mid (Spares names None left now.folder) m → IsSafe names start new (newer ++ going.moments) ran m
-    removing new newer part m inside =
-        let long : length m.output ≡ length now.output = ap (λ (l : List ℕ). length l) (inside.output ∙ works.output) in
-        record {
-          output = part_then m.output mid.output new.output (part_of m.output mid.output (sym inside.output)) part;
-          kept = inr (record {
-            quits = refl;
-            whole = omega (arith, long, long_now);
-            recovers = inside.folder.folder;
-            spared = spared_on names turns start.folder now.folder m.folder going.course.spared inside.folder.spared;
-            keeps = keeps_none newer m.folder inside.folder.spared;
-            undo = undo_spared names start.folder now.folder m.folder turns going.undo.foreign inside.folder.spared going.undo.keeps;
-          });
-          gone = λ quits more. absurd (omega (arith, more, long, long_now));
-        }
+      without : LeavesTrace mid new → IsCrashSafe names start new (ran_of past Quits)
+      without same = off removals (same.trace ∙ works.moments.is) (left_each (removals ++ so_far.moments) removals refl new part)
 
-    all_removing : (new : Scene) (newer : List Snapshot) → IsFirstPart mid.output new.output → Each (IsSafe names start new (newer ++ going.moments) ran) works.moments.added
-    all_removing new newer part =
-        Each-weaker (Inside mid (Spares names None left now.folder)) (IsSafe names start new (newer ++ going.moments) ran) (removing new newer part) works.moments.added works.moments.each
-
-    -- the run stops in the removal, or after it
-    pub quit_stops : IsCrashSafe names start mid ran
-    quit_stops = leaves mid works.moments.added works.moments.is 0 (works.output ∙ sym (append-nil now.output))
-        (all_removing mid works.moments.added (part_same mid.output))
-
-    -- and the last line is written, or a part of it
-    pub quit_written : (new : Scene) (n : ℕ) → Writes n quit_line mid new → NoneLeft names mid.folder → IsCrashSafe names start new ran
-    quit_written new n writes gone =
-        let output : new.output ≡ now.output ++ take n quit_line = writes.output ∙ ap (λ (l : List ℕ). l ++ take n quit_line) works.output in
-        let part : IsFirstPart mid.output new.output = (take n quit_line, writes.output) in
-        let last : Snapshot = snapshot_of new WroteOutput [] in
-        let long : length now.output ≤ length new.output = omega (arith, ap (λ (l : List ℕ). length l) output, length-append now.output (take n quit_line)) in
-        let none : NoneLeft names new.folder = subst (λ (d : Disk). NoneLeft names d) (sym writes.folder) gone in
-        elim writes.added [
-          | inr same ↦ leaves new works.moments.added (same.trace ∙ works.moments.is) n output (all_removing new works.moments.added part)
-          | inl told ↦ leaves new (last ∷ works.moments.added) (told ∙ ap (λ (ms : List Snapshot). last ∷ ms) works.moments.is) n output (
-            record {
-              output = part_same new.output;
-              kept = inr (record {
-                quits = refl;
-                whole = omega (arith, long, long_now);
-                recovers = λ image whole. inl (none image whole);
-                spared = subst (λ (d : Disk). SparesOthers names turns start.folder d) (sym writes.folder) (spared_on names turns start.folder now.folder mid.folder going.course.spared works.spared);
-                keeps = keeps_none (last ∷ works.moments.added) new.folder (subst (λ (d : Disk). SameAt (is_foreign names) now.folder d) (sym writes.folder) works.spared);
-                undo = subst (λ (d : Disk). KeepsUndo names start.folder turns [] d) (sym writes.folder) (undo_spared names start.folder now.folder mid.folder turns going.undo.foreign works.spared going.undo.keeps);
-              });
-              gone = λ quits more. none;
-            },
-            all_removing new (last ∷ works.moments.added) part,
+      with_line : NoneLeft names mid.folder → IsRecorded WroteOutput [] mid new → IsCrashSafe names start new (ran_of past Quits)
+      with_line gone told =
+          let m : Snapshot = snapshot_of new WroteOutput [] in
+          let none : NoneLeft names new.folder = subst (λ (d : Disk). NoneLeft names d) (sym writes.folder) gone in
+          off (m ∷ removals) (told ∙ ap (λ (ms : List Snapshot). m ∷ ms) works.moments.is) (
+            left_at ((m ∷ removals) ++ so_far.moments) (m ∷ removals) refl new m (part_same new.output) (omega (arith, long)) (λ image whole. inl (none image whole))
+                (subst (λ (d : Disk). SameAt (is_foreign names) now.folder d) (sym writes.folder) works.spared) (λ more. none),
+            left_each ((m ∷ removals) ++ so_far.moments) (m ∷ removals) refl new part,
           )
-        ]
+
+-- ---- of a history
+
+module _ (names : Names) (start : Scene) (past : History) (now : Scene) (waits : Waits names start past now) where
+  here_now : SoFar names start past now
+  here_now = so_far_now names start past now waits
+
+  pub stopped : IsCrashSafe names start now (ran_of past NotBegun)
+  stopped = stops_here names start past now here_now (turns_then past []) NotBegun refl refl
+
+  pub cut_turn : (ended new : Scene) (turn : Turn) (n : ℕ) → 0 < length turn.reply → Stepped names (syncs_of past) turn now ended → Writes n turn.reply ended new → IsCrashSafe names start new (ran_of (After past turn) NotBegun)
+  cut_turn ended new turn n some stepped writes = stops_in names start past now ended here_now turn some stepped (turns_then past (turn ∷ [])) NotBegun refl refl new n writes
+
+  pub cut_sync : (ended new : Scene) (sync : Sync) (n : ℕ) → Stepped names (syncs_of past) (last_turn sync) now ended → Writes n (last_turn sync).reply ended new → IsCrashSafe names start new (ran_of past (LastSync sync))
+  cut_sync ended new sync n stepped writes =
+      stops_in names start past now ended here_now (last_turn sync) (omega arith) stepped (turns_then past []) (LastSync sync) (sym (then_is past (last_turn sync ∷ []))) refl new n writes
+
+  pub quits : (mid new : Scene) (n : ℕ) → Works names None (RecoversOrNone names (recoverable (syncs_of past))) now mid → Writes n quit_line mid new → LeavesTrace mid new ⊎ NoneLeft names mid.folder → IsCrashSafe names start new (ran_of past Quits)
+  quits mid new n works writes gone = quits_in names start past now mid here_now works new n writes gone

@@ -2,7 +2,8 @@ pub mod Texts
 pub mod UndoFiles
 pub mod Splits
 pub mod Moments
-pub mod Going
+pub mod Histories
+pub mod SoFar
 pub mod Endings
 pub mod Causes
 pub mod Works

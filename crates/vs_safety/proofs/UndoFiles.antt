@@ -83,10 +83,6 @@ none_push : (turn : Turn) (turns : List Turn) → has_stored turn ≡ false → 
 none_push turn [] is none = (is, tt)
 none_push turn (first ∷ turns) is none = (none.0, none_push turn turns is none.1)
 
-none_front : (turn : Turn) (turns : List Turn) → NoneStored (turns ++ turn ∷ []) → NoneStored turns
-none_front turn [] none = tt
-none_front turn (first ∷ turns) none = (none.0, none_front turn turns none.1)
-
 last_push : (turn : Turn) (turns : List Turn) (left : Option (List ℕ)) → has_stored turn ≡ false → IsLastUndo turns left → IsLastUndo (turns ++ turn ∷ []) left
 last_push turn [] left is last = absurd last
 last_push turn (first ∷ turns) left is (inl here) = inl (none_push turn turns is here.0, here.1)
@@ -95,15 +91,6 @@ last_push turn (first ∷ turns) left is (inr later) = inr (last_push turn turns
 last_own : (turn : Turn) (turns : List Turn) (left : Option (List ℕ)) → IsUndoBy turn.write left → IsLastUndo (turns ++ turn ∷ []) left
 last_own turn [] left own = inl (tt, own)
 last_own turn (first ∷ turns) left own = inr (last_own turn turns left own)
-
-last_front : (turn : Turn) (turns : List Turn) (left : Option (List ℕ)) → IsLastUndo (turns ++ turn ∷ []) left → IsLastUndo turns left ⊎ IsUndoBy turn.write left
-last_front turn [] left (inl here) = inr here.1
-last_front turn [] left (inr none) = absurd none
-last_front turn (first ∷ turns) left (inl here) = inl (inl (none_front turn turns here.0, here.1))
-last_front turn (first ∷ turns) left (inr later) = elim (last_front turn turns left later) [
-  | inl was ↦ inl (inr was)
-  | inr own ↦ inr own
-]
 
 module _ (names : Names) (start : Disk) (turn : Turn) (turns : List Turn) where
   abbrev Before : Option (List ℕ) → Type 0
@@ -136,18 +123,6 @@ module _ (names : Names) (start : Disk) (turn : Turn) (turns : List Turn) where
       after is (inl (inl none)) = inl (none_push turn turns is none.0, none.1)
       after is (inl (inr last)) = inr (last_push turn turns left is last)
       after is (inr own) = inr (last_own turn turns left own)
-
-  -- what stands after it might stand while it was under way
-  pub undo_begun : (disk : Disk) → KeepsUndo names start (turns ++ turn ∷ []) [] disk → KeepsUndo names start turns (turn ∷ []) disk
-  undo_begun disk keeps left may = begun (keeps left may)
-    where
-      begun : After left ⊎ ⊥ → Before left ⊎ IsUndoBy turn.write left
-      begun (inl (inl none)) = inl (inl (none_front turn turns none.0, none.1))
-      begun (inl (inr last)) = elim (last_front turn turns left last) [
-        | inl was ↦ inl (inr was)
-        | inr own ↦ inr own
-      ]
-      begun (inr none) = absurd none
 
   -- where no next one was known, the command may be it
   pub undo_next : (disk : Disk) → KeepsUndo names start turns [] disk → KeepsUndo names start turns (turn ∷ []) disk

@@ -5,5 +5,5 @@ pub mod FileWork
 pub mod Turns
 pub mod Stretches
 pub mod Safety
-pub mod Going
+pub mod History
 pub mod Causes

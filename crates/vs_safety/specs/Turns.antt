@@ -149,10 +149,6 @@ pub record Ran : Type 0 where
   pub turns : List Turn
   pub closing : Closing
 
--- a run that answered these commands, and then came to an accepted quit
-abbrev pub quit_run : Text → List ℕ → List Turn → Ran
-quit_run text opening turns = record { text = text; opening = opening; turns = turns; closing = Quits }
-
 -- the commands, and the sync at the script's end as one more
 abbrev pub with_closing : List Turn → Closing → List Turn
 with_closing turns NotBegun = turns

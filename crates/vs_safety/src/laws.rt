@@ -2,18 +2,17 @@
 ghost use Rattle.std.specs.Prelude.{◌≡◌, ◌⊎◌, ◌↔◌, ◌+◌, ◌<◌, ◌≤◌, ◌∷◌, [], ◌++◌, ℕ, List, None, length, true};
 ghost use Rattle.vs_faults.specs.Faults.{HasRisen};
 ghost use Rattle.vs_host.specs.Disk.{Disk, Name};
-ghost use Rattle.vs_host.specs.Names.{AreNames};
 ghost use Rattle.vs_host.specs.Trace.{Snapshot};
-ghost use Rattle.vs_host.specs.World.{Scene};
+ghost use Rattle.vs_host.specs.World.{LeavesTrace, Scene};
 ghost use Rattle.vs_host.specs.declared.names.Names.{Names};
 ghost use Rattle.vs_disk.specs.Images.{HoldsBytes};
 ghost use Rattle.vs_disk.specs.Runs.{FailsLast};
 ghost use Rattle.vs_pair.specs.Pair.{is_foreign};
 ghost use Rattle.vs_safety.specs.Texts.{Text, Sync, IsOneOf, IsTextOfOne, IsNewestOf, IsBetween, NoneLeft, Recovers, RecoversOrNone, recoverable};
-ghost use Rattle.vs_safety.specs.Turns.{Turn, Ran, IsSplit, after_turns, all_turns, behind, opened, quit_line, quit_run, replies};
+ghost use Rattle.vs_safety.specs.Turns.{Turn, IsSplit, NotBegun, LastSync, Quits, last_turn, preserved_line, quit_line, replies};
 ghost use Rattle.vs_safety.specs.Stretches.{IsFirst, KeepsSince};
-ghost use Rattle.vs_safety.specs.Safety.{IsCrashSafe, Looks, Stepped, Works, Writes};
-ghost use Rattle.vs_safety.specs.Going.{Going, Halted, Opened, Stepping};
+ghost use Rattle.vs_safety.specs.Safety.{IsCrashSafe, Stepped, Works, Writes};
+ghost use Rattle.vs_safety.specs.History.{History, Open, After, Begins, HasBegun, Waits, ran_of, syncs_of};
 ghost use Rattle.vs_safety.specs.Causes.{IsCounted, RoseLast, folder_count};
 
 /// Between two commands recovery gives the text of the last acknowledged sync, or of one that was begun since, and these are
@@ -30,50 +29,31 @@ pub fn splitting()
         → from + length (replies others) ≤ n → length others ≤ length first }
 {}
 
-/// A run opens its file, and writes the opening reply.
+/// A run that stopped before the reply to its opening was whole kept its promise.
 pub fn opening()
-    ensures fails { (names : Names) (start now : Scene) (text : Text) (line : List ℕ) → 0 < length line → start.folder.pending ≡ []
-        → RecoversOrNone names (text ∷ []) start.folder
-        → Works names None (RecoversOrNone names (text ∷ [])) start now → Halted names start now text line [] }
-    ensures opens { (names : Names) (start now : Scene) (text : Text) (line : List ℕ) → 0 < length line → AreNames names → start.folder.pending ≡ []
-        → RecoversOrNone names (text ∷ []) start.folder → Works names None (RecoversOrNone names (text ∷ [])) start now → IsBetween names (opened text) now.folder → Opened names start now text line }
-    ensures stops { (names : Names) (start now : Scene) (text : Text) (line : List ℕ) → 0 < length line → Opened names start now text line
-        → Halted names start now text line [] }
-    ensures cut { (names : Names) (start now new : Scene) (text : Text) (line : List ℕ) (n : ℕ) → 0 < length line → Opened names start now text line
-        → Writes n line now new
-        → Halted names start new text line [] }
-    ensures written { (names : Names) (start now new : Scene) (text : Text) (line : List ℕ) (n : ℕ) → 0 < length line → Opened names start now text line
-        → Writes n line now new
-        → length line ≤ n → Going names start new text line [] }
+    ensures fails { (names : Names) (start now : Scene) (text : Text) (reply : List ℕ) → 0 < length reply → Begins names text start now
+        → IsCrashSafe names start now (ran_of (Open text reply) NotBegun) }
+    ensures cut { (names : Names) (start now new : Scene) (text : Text) (reply : List ℕ) (n : ℕ) → 0 < length reply → HasBegun names text start now
+        → Writes n reply now new → IsCrashSafe names start new (ran_of (Open text reply) NotBegun) }
 {}
 
-/// One turn of a run: it looks, takes a command, and writes the reply; it may stop at each of these.
-pub fn turning()
-    ensures looks { (names : Names) (start now new : Scene) (text : Text) (line : List ℕ) (turns : List Turn) → Looks now new
-        → Going names start now text line turns
-        → Going names start new text line turns }
-    ensures stops { (names : Names) (start now : Scene) (text : Text) (line : List ℕ) (turns : List Turn) → Going names start now text line turns
-        → Halted names start now text line turns }
-    ensures steps { (names : Names) (start now new : Scene) (text : Text) (line : List ℕ) (turns : List Turn) (turn : Turn) → 0 < length turn.reply
-        → Stepped names (after_turns (opened text) turns) turn now new → Going names start now text line turns → Stepping names start new text line turns turn }
-    ensures fails { (names : Names) (start now : Scene) (text : Text) (line : List ℕ) (turns : List Turn) (turn : Turn) → 0 < length turn.reply
-        → Stepping names start now text line turns turn → Halted names start now text line (turns ++ turn ∷ []) }
-    ensures cut { (names : Names) (start now new : Scene) (text : Text) (line : List ℕ) (turns : List Turn) (turn : Turn) (n : ℕ) → 0 < length turn.reply
-        → Stepping names start now text line turns turn → Writes n turn.reply now new → Halted names start new text line (turns ++ turn ∷ []) }
-    ensures written { (names : Names) (start now new : Scene) (text : Text) (line : List ℕ) (turns : List Turn) (turn : Turn) → 0 < length turn.reply
-        → Stepping names start now text line turns turn → Writes (length turn.reply) turn.reply now new → Going names start new text line (turns ++ turn ∷ []) }
+/// So did one that stopped between two commands, or in one of them or its reply.
+pub fn running()
+    ensures stops { (names : Names) (start now : Scene) (past : History) → Waits names start past now
+        → IsCrashSafe names start now (ran_of past NotBegun) }
+    ensures cut { (names : Names) (start now ended new : Scene) (past : History) (turn : Turn) (n : ℕ) → Waits names start past now
+        → 0 < length turn.reply → Stepped names (syncs_of past) turn now ended → Writes n turn.reply ended new
+        → IsCrashSafe names start new (ran_of (After past turn) NotBegun) }
 {}
 
-/// A run that stopped, or that came to an accepted quit, kept its promise.
+/// And one that came to the script's end or to an accepted quit.
 pub fn ending()
-    ensures stopped { (names : Names) (start now : Scene) (ran : Ran) → behind ran.closing ≡ [] → Halted names start now ran.text ran.opening (all_turns ran)
-        → IsCrashSafe names start now ran }
-    ensures leaves { (names : Names) (start now new : Scene) (text : Text) (line : List ℕ) (turns : List Turn) → Going names start now text line turns
-        → Works names None (RecoversOrNone names (recoverable (after_turns (opened text) turns))) now new → IsCrashSafe names start new (quit_run text line turns) }
-    ensures quits { (names : Names) (start now mid new : Scene) (text : Text) (line : List ℕ) (turns : List Turn) (n : ℕ)
-        → Going names start now text line turns
-        → Works names None (RecoversOrNone names (recoverable (after_turns (opened text) turns))) now mid → Writes n quit_line mid new
-        → NoneLeft names mid.folder → IsCrashSafe names start new (quit_run text line turns) }
+    ensures syncs { (names : Names) (start now ended new : Scene) (past : History) (sync : Sync) (n : ℕ) → Waits names start past now
+        → Stepped names (syncs_of past) (last_turn sync) now ended → Writes n preserved_line ended new
+        → IsCrashSafe names start new (ran_of past (LastSync sync)) }
+    ensures quits { (names : Names) (start now mid new : Scene) (past : History) (n : ℕ) → Waits names start past now
+        → Works names None (RecoversOrNone names (recoverable (syncs_of past))) now mid → Writes n quit_line mid new
+        → LeavesTrace mid new ⊎ NoneLeft names mid.folder → IsCrashSafe names start new (ran_of past Quits) }
 {}
 
 /// While no command works on files, each name but those of the pair has in every image what it had there when the last reply was

@@ -4,4 +4,4 @@
 
 mod laws;
 
-pub use laws::{ending, failing, lasting, opening, splitting, standing, turning};
+pub use laws::{ending, failing, lasting, opening, running, splitting, standing};

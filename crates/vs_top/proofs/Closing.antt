@@ -1,43 +1,43 @@
 -- How a run closes: the last sync or the removal, and the last line, each with what it answers and the promise.
-use Rattle.std.proofs.Common.{◌≡◌, inl, inr, ℕ, ◌≤◌, ◌+◌, Bool, true, false, not, if◌then◌else◌, List, [], ◌∷◌, ◌++◌, length, take, All, Option, None, IsTrue, IsErrAnd, Ok, Err, refl, sym, ap, subst, ◌∙◌, append_assoc, arith}
-use Rattle.std.proofs.lemmas.Bool.{true≢false}
-use Rattle.std.proofs.lemmas.List.{length-append, take_all}
+use Rattle.std.proofs.Common.{◌≡◌, ◌⊎◌, inl, inr, ℕ, ◌≤◌, ◌+◌, Bool, true, false, not, if◌then◌else◌, List, [], ◌∷◌, ◌++◌, length, take, All, Option, None, IsTrue, IsErrAnd, Ok, Err, refl, sym, ap, subst, ◌∙◌, append_assoc, arith}
+use Rattle.std.proofs.lemmas.List.{take_all}
 use Rattle.vs_faults.specs.Faults.{HasRisen}
 use Rattle.vs_faults.proofs.Causes.{risen_after}
 use Rattle.vs_host.specs.Disk.{Disk, Name, IsImage, IsImageOf}
 use Rattle.vs_host.specs.Names.{names_of_file}
 use Rattle.vs_host.specs.Trace.{WroteOutput, Snapshot}
-use Rattle.vs_host.specs.World.{Tells, Scene, ChangesOutput, snapshot_of}
+use Rattle.vs_host.specs.World.{Tells, Scene, ChangesOutput, LeavesTrace, snapshot_of}
 use Rattle.vs_host.specs.declared.names.Names.{Names}
 use Rattle.vs_pair.specs.Pair.{Image, NoneThere, Rises}
 use Rattle.vs_pair.specs.Steps.{IsAbsent, IsFresh}
-use Rattle.vs_excmd.specs.Request.{Instruction}
 use Rattle.vs_script.specs.Ahead.{script_limit}
 use Rattle.vs_machine.specs.declared.command.Mark.{Mark}
 use Rattle.vs_safety.specs.Texts.{Sync, RecoversOrNone, recoverable}
-use Rattle.vs_safety.specs.Turns.{Turn, Closing, LastSync, Quits, last_turn, after_turns, opened, preserved_line, quit_line}
+use Rattle.vs_safety.specs.Turns.{Closing, LastSync, Quits, last_turn, preserved_line, quit_line}
 use Rattle.vs_safety.specs.Safety.{IsCrashSafe, IsAdded, Works, Writes, Stepped}
-use Rattle.vs_safety.specs.Going.{Stepping}
-use Rattle.vs_safety.specs.Stretches.{IsFirst}
+use Rattle.vs_safety.specs.History.{History, syncs_of}
 use Rattle.vs_safety.specs.Writes.{State}
 use Rattle.vs_safety.specs.Causes.{IsCounted, output_count, folder_count}
-use Rattle.vs_safety.proofs.Going.{going_steps, reply_cut, stepping_halts}
-use Rattle.vs_safety.proofs.Endings.{halted_safe, quit_stops, quit_written}
+use Rattle.vs_safety.proofs.SoFar.{SoFar, so_far_now}
+use Rattle.vs_safety.proofs.Endings.{cut_sync, quits, writes_none}
 use Rattle.vs_safety.proofs.Causes.{rose_at, rose_last}
-use Rattle.vs_safety.proofs.Moments.{first_stays}
 use Rattle.vs_session.specs.declared.session.Session.{Session}
 use Rattle.vs_session.specs.declared.ending.End.{End}
 use Rattle.vs_session.specs.declared.ending.End.TheVariants as end
-use Rattle.vs_session.specs.Session.{SessionState, Ended, sync_in, states_after, turns_of}
+use Rattle.vs_session.specs.Session.{SessionState, sync_in}
+use Rattle.vs_session.specs.Opened.{Opened}
 use Rattle.vs_session.specs.Calls.{Finishes}
 use Rattle.vs_session.specs.Fits.{HasSyncs, HasSwap}
-use Rattle.vs_top.specs.Run.{TellsRun, Did, KeepsMarks, HasSince, HasNoFaultSince, HasRisenSince, KeepsSwap, Closes, AnswersAll, HasRun, RunsEdit, answered_at, counts_of, OnlyFolder, FaultHasCause, IsTimed, opened_file, ran_of, written, closing_line}
-use Rattle.vs_top.specs.Turns.{text_at, opening_at, Told, KeepsOpenFile, StopsAt, IsAtClose}
+use Rattle.vs_top.specs.History.{Past, history_of, state_of, written}
+use Rattle.vs_top.specs.Promise.{HasRun, RunsEdit}
+use Rattle.vs_top.specs.Run.{TellsRun, Did, KeepsMarks, HasNoFaultSince, HasRisenSince, KeepsSwap, Closes, AnswersAll, counts_of, OnlyFolder, FaultHasCause, IsTimed, opened_file, ran_of, closing_line}
+use Rattle.vs_top.specs.Turns.{Told, KeepsOpenFile, StopsAt, IsAtClose}
 use Rattle.vs_top.specs.declared.ending.Ending.{Ending}
 use Rattle.vs_top.specs.Ending.{ending_in}
 use Rattle.std.specs.declared.result.Result.{Result}
 use Rattle.vs_top.specs.declared.ending.Ending.TheVariants as ending
-use Rattle.vs_top.proofs.Pushes.{replies_same, flip_clean}
+use Rattle.vs_top.proofs.Pushes.{flip_clean}
+use Rattle.vs_top.proofs.Turning.{since_reply}
 use Rattle.vs_top.proofs.Counting.{only_then, only_folder, only_output, causes_on, counted_works}
 
 absent_image : (name : Name) (disk : Disk) → IsAbsent name disk → (image : Image) → IsImage disk image → image name ≡ None
@@ -64,50 +64,37 @@ line_is : (how : End) (ok : Bool) (state : SessionState) → line_of how ≡ clo
 line_is end.Sync ok state = refl
 line_is end.Quit ok state = refl
 
-by_clean : (clean : Bool) (name : List ℕ) (old new : Scene) (marks : List Mark) (did : Did) → KeepsMarks (opened_file old name) marks did → AnswersAll (not clean) (opened_file old name) old new did
+by_clean : (clean : Bool) (name : List ℕ) (old new : Scene) (marks : List Mark) (did : Did) → KeepsMarks (opened_file old name) marks did.past → AnswersAll (not clean) (opened_file old name) old new did
     → KeepsSwap (opened_file old name) did new.folder → ((HasSwap (names_of_file name) old.folder → ⊥) → IsCrashSafe (names_of_file name) old new (ran_of name old did)) → HasRun name old new (if clean then ending.Done else ending.WithErrors) marks
-by_clean true name old new marks did kept answered left safe = record { did = did; kept = kept; answered = answered; safe = safe; left = left; failed = tt; looks = λ early. absurd (true≢false (sym early)) }
-by_clean false name old new marks did kept answered left safe = record { did = did; kept = kept; answered = answered; safe = safe; left = left; failed = tt; looks = λ early. absurd (true≢false (sym early)) }
+by_clean true name old new marks did kept answered left safe = record { did = did; kept = kept; answered = answered; safe = safe; left = left; last = tt }
+by_clean false name old new marks did kept answered left safe = record { did = did; kept = kept; answered = answered; safe = safe; left = left; last = tt }
 
 module _ (tells : Tells) (name : List ℕ) (old now mid : Scene) (session : Session) (marks : List Mark) (clean : Bool) (told : TellsRun tells) (keeps : KeepsOpenFile tells name old now session marks)
-    (commands : List Instruction) (ends : List Ended) (here : Told name old now session marks clean commands ends) where
+    (past : Past) (here : Told name old now session marks clean past) where
   abbrev names : Names
   names = names_of_file name
 
-  abbrev state : SessionState
-  state = states_after (opened_file old name).state commands ends
+  abbrev file : Opened
+  file = opened_file old name
 
-  abbrev turns : List Turn
-  turns = turns_of (opened_file old name).state commands ends
+  abbrev state : SessionState
+  state = state_of file.state past
+
+  abbrev history : History
+  history = history_of file past
 
   abbrev syncs : List Sync
-  syncs = after_turns (opened (text_at old name)) turns
+  syncs = syncs_of history
 
   abbrev did : End → Bool → Did
-  did how ok = record { commands = commands; ends = ends; closing = closing_of how ok state }
+  did how ok = record { past = past; closing = closing_of how ok state }
 
-  kept : (how : End) (ok : Bool) → KeepsMarks (opened_file old name) marks (did how ok)
-  kept how ok = record { one_each = here.one_each; marks_are = here.marks_are; are_answered = here.are_answered }
-
-  closes : (how : End) (ok : Bool) → StopsAt how (opened_file old name) old now commands ends → (new : Scene) → new.script ≡ now.script → Closes ok (opened_file old name) old new (did how ok)
+  closes : (how : End) (ok : Bool) → StopsAt how file old now past → (new : Scene) → new.script ≡ now.script → Closes ok file old new (did how ok)
   closes end.Sync ok stops new script = inl (record { all = stops.0; ended = script ∙ stops.1; closing = refl })
   closes end.Quit ok stops new script = inr (record { quit = stops.0; rest = stops.1; before = stops.2; accepted = stops.3; closing = refl })
 
-  output_is : now.output ≡ old.output ++ written (opened_file old name) commands ends
-  output_is =
-      here.going.output ∙ append_assoc old.output (opening_at old name) (Rattle.vs_safety.specs.Turns.replies turns)
-      ∙ ap (λ (l : List ℕ). old.output ++ (opening_at old name ++ l)) (replies_same (opened_file old name).state commands ends)
-
-  -- since the last reply
-  since : (how : End) (ok : Bool) (new : Scene) (newer : List Snapshot) → new.trace ≡ newer ++ now.trace → (P : Snapshot → Type 0) → P here.going.here → HasSince (answered_at (opened_file old name) old (did how ok)) old new P
-  since how ok new newer is P has = record {
-    moments = newer ++ here.going.moments;
-    added = is ∙ ap (λ (ms : List Snapshot). newer ++ ms) here.going.course.added ∙ sym (append_assoc newer here.going.moments old.trace);
-    first = here.going.here;
-    begins = subst (λ (n : ℕ). IsFirst n (newer ++ here.going.moments) here.going.here) (ap (λ (l : List ℕ). length l) output_is ∙ length-append old.output (written (opened_file old name) commands ends))
-        (first_stays (length now.output) here.going.moments newer here.going.here here.going.begins);
-    has = has;
-  }
+  so_far : SoFar names old history now
+  so_far = so_far_now names old history now here.waits
 
   -- what the trace has more
   pub more_mid : (how : End) (ok : Bool) → Finishes tells session now mid how ok → (newer : List Snapshot) × (mid.trace ≡ newer ++ now.trace)
@@ -123,27 +110,26 @@ module _ (tells : Tells) (name : List ℕ) (old now mid : Scene) (session : Sess
         | inr left ↦ (more.0, left.trace ∙ more.1)
       ]
 
-  same_faults : here.going.here.folder_faults ≡ now.folder_faults
-  same_faults = ap (λ (s : State). s.faults) here.going.state
+  same_faults : so_far.here.folder_faults ≡ now.folder_faults
+  same_faults = ap (λ (s : State). s.faults) so_far.state
 
   -- and no call has failed
-  no_fault : (how : End) (new : Scene) (newer : List Snapshot) → new.trace ≡ newer ++ now.trace → new.folder_faults ≡ mid.folder_faults → Finishes tells session now mid how true → HasNoFaultSince (opened_file old name) old new (did how true)
-  no_fault how new newer is faults finishes = since how true new newer is (λ m. new.folder_faults ≡ m.folder_faults) (faults ∙ (finishes.none refl).faults ∙ sym same_faults)
+  no_fault : (how : End) (new : Scene) (newer : List Snapshot) → new.trace ≡ newer ++ now.trace → new.folder_faults ≡ mid.folder_faults → Finishes tells session now mid how true → HasNoFaultSince file old new (did how true)
+  no_fault how new newer is faults finishes = since_reply names old history now new so_far newer is (λ m. new.folder_faults ≡ m.folder_faults) (faults ∙ (finishes.none refl).faults ∙ sym same_faults)
 
   -- and the last sync was made
   risen : (how : End) (new : Scene) (newer : List Snapshot) → new.trace ≡ newer ++ now.trace → new.folder ≡ mid.folder → Finishes tells session now mid how true
       → HasRisenSince (closing_of how true state) (opened_file old name) old new (did how true)
   risen end.Sync new newer is folder finishes =
-      let here_folder : here.going.here.folder ≡ now.folder = ap (λ (s : State). s.folder) here.going.state in
-      since end.Sync true new newer is (λ m. Rises names m.folder new.folder)
-      (subst (λ (d : Disk). Rises names here.going.here.folder d) (sym folder)
+      let here_folder : so_far.here.folder ≡ now.folder = ap (λ (s : State). s.folder) so_far.state in
+      since_reply names old history now new so_far newer is (λ m. Rises names m.folder new.folder)
+      (subst (λ (d : Disk). Rises names so_far.here.folder d) (sym folder)
       (subst (λ (d : Disk). Rises names d mid.folder) (sym here_folder)
       (subst (λ (n : Names). Rises n now.folder mid.folder) keeps.names (finishes.rises refl refl told.folder))))
   risen end.Quit new newer is folder finishes = tt
 
-  stepping : (ok : Bool) → Finishes tells session now mid end.Sync ok → Stepping names old mid (text_at old name) (opening_at old name) turns (last_turn (sync_in state ok))
-  stepping ok finishes = going_steps names old (text_at old name) (opening_at old name) now mid turns (last_turn (sync_in state ok)) (omega arith)
-      (subst (λ (n : Names). Stepped n syncs (last_turn (sync_in state ok)) now mid) keeps.names (finishes.sync refl told.folder state syncs here.fits)) here.going
+  stepping : (ok : Bool) → Finishes tells session now mid end.Sync ok → Stepped names syncs (last_turn (sync_in state ok)) now mid
+  stepping ok finishes = subst (λ (n : Names). Stepped n syncs (last_turn (sync_in state ok)) now mid) keeps.names (finishes.sync refl told.folder state syncs here.fits)
 
   -- some session fits the folder after the last sync, or an accepted quit has removed the swap files
   left : (how : End) (ok : Bool) (new : Scene) → new.folder ≡ mid.folder → Finishes tells session now mid how ok → KeepsSwap (opened_file old name) (did how ok) new.folder
@@ -155,77 +141,69 @@ module _ (tells : Tells) (name : List ℕ) (old now mid : Scene) (session : Sess
   removal : (ok : Bool) → Finishes tells session now mid end.Quit ok → Works names None (RecoversOrNone names (recoverable syncs)) now mid
   removal ok finishes = subst (λ (n : Names). Works n None (RecoversOrNone n (recoverable syncs)) now mid) keeps.names (finishes.quit refl told.folder state syncs here.fits).works
 
-  -- the session's end failed
-  failed_safe : (how : End) → Finishes tells session now mid how false → IsCrashSafe names old mid (ran_of name old (did how false))
-  failed_safe end.Sync finishes = halted_safe names old mid (ran_of name old (did end.Sync false)) refl (stepping_halts names old (text_at old name) (opening_at old name) mid turns (last_turn (sync_in state false)) (omega arith) (stepping false finishes))
-  failed_safe end.Quit finishes = quit_stops names old now (text_at old name) (opening_at old name) turns here.going mid (removal false finishes)
-
-  -- the last line was written in part, or whole
-  cut_safe : (how : End) (new : Scene) (n : ℕ) → Finishes tells session now mid how true → Writes n (closing_line (closing_of how true state)) mid new → IsCrashSafe names old new (ran_of name old (did how true))
-  cut_safe end.Sync new n finishes writes =
-      halted_safe names old new (ran_of name old (did end.Sync true)) refl
-      (reply_cut names old (text_at old name) (opening_at old name) mid new turns (last_turn (sync_in state true)) (omega arith) (stepping true finishes) n writes)
-  cut_safe end.Quit new n finishes writes =
-      quit_written names old now (text_at old name) (opening_at old name) turns here.going mid (removal true finishes) new n writes
-      (fresh_image names mid.folder (subst (λ (k : Names). IsFresh k mid.folder) keeps.names (finishes.gone refl refl told.folder)))
+  -- n bytes of the last line were written
+  ends_safe : (how : End) (ok : Bool) (new : Scene) (n : ℕ) → Finishes tells session now mid how ok → Writes n (line_of how) mid new → LeavesTrace mid new ⊎ (ok ≡ true) → IsCrashSafe names old new (ran_of name old (did how ok))
+  ends_safe end.Sync ok new n finishes writes either = cut_sync names old history now here.waits mid new (sync_in state ok) n (stepping ok finishes) writes
+  ends_safe end.Quit ok new n finishes writes either = quits names old history now here.waits mid new n (removal ok finishes) writes (elim either [
+    | inl left ↦ inl left
+    | inr done ↦ inr (fresh_image names mid.folder (subst (λ (k : Names). IsFresh k mid.folder) keeps.names (finishes.gone done refl told.folder)))
+  ])
 
   -- the count of the output up to the last line
   counted : (how : End) → Finishes tells session now mid how true → IsCounted output_count old mid
   counted end.Sync finishes =
       counted_works names None _ old now mid (ap (λ (s : Scene). s.out_faults) finishes.frame)
-      (subst (λ (n : Names). Stepped n syncs (last_turn (sync_in state true)) now mid) keeps.names (finishes.sync refl told.folder state syncs here.fits)).works here.counted.output
+      (stepping true finishes).works here.counted.output
   counted end.Quit finishes = counted_works names None _ old now mid (ap (λ (s : Scene). s.out_faults) finishes.frame) (removal true finishes) here.counted.output
 
-  mid_output : (how : End) (ok : Bool) → Finishes tells session now mid how ok → mid.output ≡ old.output ++ written (opened_file old name) commands ends
-  mid_output how ok finishes = ap (λ (s : Scene). s.output) finishes.frame ∙ output_is
+  mid_output : (how : End) (ok : Bool) → Finishes tells session now mid how ok → mid.output ≡ old.output ++ written file past
+  mid_output how ok finishes = ap (λ (s : Scene). s.output) finishes.frame ∙ so_far.output
 
-  pub run_fails : (how : End) → StopsAt how (opened_file old name) old now commands ends → Finishes tells session now mid how false → HasRisen now.folder_faults mid.folder_faults → HasRun name old mid ending.FolderFault marks
+  pub run_fails : (how : End) → StopsAt how file old now past → Finishes tells session now mid how false → HasRisen now.folder_faults mid.folder_faults → HasRun name old mid ending.FolderFault marks
   run_fails how stops finishes rose = record {
     did = did how false;
-    kept = kept how false;
+    kept = here.kept;
     answered = inr (record { closes = closes how false stops mid (ap (λ (s : Scene). s.script) finishes.frame); output = mid_output how false finishes });
-    safe = λ free. failed_safe how finishes;
+    safe = λ free. ends_safe how false mid 0 finishes (writes_none (line_of how) mid) (inl (record { folder = refl; output = refl; trace = refl }));
     left = inr (left how false mid refl finishes);
-    failed = rose_last folder_count old now mid (λ m none. none.folder) (finishes.last told.folder) rose here.counted.folder;
-    looks = λ early. absurd (true≢false (sym early));
+    last = rose_last folder_count old now mid (λ m none. none.folder) (finishes.last told.folder) rose here.counted.folder;
   }
 
-  pub run_cut : (how : End) (new : Scene) (n : ℕ) → StopsAt how (opened_file old name) old now commands ends → Finishes tells session now mid how true
+  pub run_cut : (how : End) (new : Scene) (n : ℕ) → StopsAt how file old now past → Finishes tells session now mid how true
       → Writes n (closing_line (closing_of how true state)) mid new → new.script ≡ mid.script → HasRisen mid.out_faults new.out_faults → HasRun name old new ending.OutputFault marks
   run_cut how new n stops finishes writes script rose = record {
     did = did how true;
-    kept = kept how true;
+    kept = here.kept;
     answered = inr (record {
       closes = closes how true stops new (script ∙ ap (λ (s : Scene). s.script) finishes.frame);
       count = n;
       no_fault = no_fault how new (more_new how true new finishes writes.added).0 (more_new how true new finishes writes.added).1 writes.faults finishes;
       risen = risen how new (more_new how true new finishes writes.added).0 (more_new how true new finishes writes.added).1 writes.folder finishes;
-      output = writes.output ∙ ap (λ (l : List ℕ). l ++ take n (closing_line (closing_of how true state))) (mid_output how true finishes) ∙ append_assoc old.output (written (opened_file old name) commands ends) (take n (closing_line (closing_of how true state)));
+      output = writes.output ∙ ap (λ (l : List ℕ). l ++ take n (closing_line (closing_of how true state))) (mid_output how true finishes) ∙ append_assoc old.output (written file past) (take n (closing_line (closing_of how true state)));
     });
-    safe = λ free. cut_safe how new n finishes writes;
+    safe = λ free. ends_safe how true new n finishes (subst (λ (l : List ℕ). Writes n l mid new) (sym (line_is how true state)) writes) (inr refl);
     left = left how true new writes.folder finishes;
-    failed = rose_at output_count old mid new WroteOutput [] writes.added rose (counted how finishes);
-    looks = λ early. absurd (true≢false (sym early));
+    last = rose_at output_count old mid new WroteOutput [] writes.added rose (counted how finishes);
   }
 
-  all_answered : (how : End) (new : Scene) → StopsAt how (opened_file old name) old now commands ends → Finishes tells session now mid how true → new.output ≡ mid.output ++ closing_line (closing_of how true state) → new.script ≡ mid.script
+  all_answered : (how : End) (new : Scene) → StopsAt how file old now past → Finishes tells session now mid how true → new.output ≡ mid.output ++ closing_line (closing_of how true state) → new.script ≡ mid.script
       → new.folder_faults ≡ mid.folder_faults → new.folder ≡ mid.folder → IsAdded WroteOutput [] mid new → AnswersAll (not clean) (opened_file old name) old new (did how true)
   all_answered how new stops finishes output script faults folder added = record {
     closes = closes how true stops new (script ∙ ap (λ (s : Scene). s.script) finishes.frame);
     no_fault = no_fault how new (more_new how true new finishes added).0 (more_new how true new finishes added).1 faults finishes;
     risen = risen how new (more_new how true new finishes added).0 (more_new how true new finishes added).1 folder finishes;
-    output = output ∙ ap (λ (l : List ℕ). l ++ closing_line (closing_of how true state)) (mid_output how true finishes) ∙ append_assoc old.output (written (opened_file old name) commands ends) (closing_line (closing_of how true state));
+    output = output ∙ ap (λ (l : List ℕ). l ++ closing_line (closing_of how true state)) (mid_output how true finishes) ∙ append_assoc old.output (written file past) (closing_line (closing_of how true state));
     errors_are = flip_clean clean _ here.errors;
   }
 
-  pub run_ends : (how : End) (new : Scene) → StopsAt how (opened_file old name) old now commands ends → Finishes tells session now mid how true
+  pub run_ends : (how : End) (new : Scene) → StopsAt how file old now past → Finishes tells session now mid how true
       → Writes (length (closing_line (closing_of how true state))) (closing_line (closing_of how true state)) mid new → new.script ≡ mid.script → HasRun name old new (if clean then ending.Done else ending.WithErrors) marks
   run_ends how new stops finishes writes script =
       let line : List ℕ = closing_line (closing_of how true state) in
-      by_clean clean name old new marks (did how true) (kept how true)
+      by_clean clean name old new marks (did how true) here.kept
       (all_answered how new stops finishes (writes.output ∙ ap (λ (l : List ℕ). mid.output ++ l) (take_all (length line) line (omega arith))) script writes.faults writes.folder writes.added)
       (left how true new writes.folder finishes)
-      (λ free. cut_safe how new (length line) finishes writes)
+      (λ free. ends_safe how true new (length line) finishes (subst (λ (l : List ℕ). Writes (length line) l mid new) (sym (line_is how true state)) writes) (inr refl))
 
 -- ---- over any host
 
@@ -238,7 +216,7 @@ module _ (tells : Tells) (name : List ℕ) (old now mid : Scene) (session : Sess
   close_fails finishes rose =
       let only : OnlyFolder (counts_of now) (counts_of mid) = only_folder now mid finishes.frame finishes.cause.later in
       record {
-        told = λ told. let here = at.told told in run_fails tells name old now mid session marks clean told at.keeps here.0 here.1 here.2 how here.3 finishes rose;
+        told = λ told. let here = at.told told in run_fails tells name old now mid session marks clean told at.keeps here.0 here.1 how here.2 finishes rose;
         swap = λ told is. absurd (cc);
         barred = λ told has. absurd (at.keeps.free told has);
         file = λ told. tt;
@@ -260,7 +238,7 @@ module _ (tells : Tells) (name : List ℕ) (old now mid : Scene) (session : Sess
         told = λ told.
             let here = at.told told in
             let cut = wrote told.output in
-            run_cut tells name old now mid session marks clean told at.keeps here.0 here.1 here.2 how new cut.0 here.3 finishes
+            run_cut tells name old now mid session marks clean told at.keeps here.0 here.1 how new cut.0 here.2 finishes
             (record { output = cut.1 ∙ ap (λ (l : List ℕ). mid.output ++ take cut.0 l) (line_is how true _); folder = ap (λ (s : Scene). s.folder) frame; faults = faults; added = added told.folder })
             (ap (λ (s : Scene). s.script) frame) rose;
         swap = λ told is. absurd (cc);
@@ -286,8 +264,8 @@ module _ (tells : Tells) (name : List ℕ) (old now mid : Scene) (session : Sess
       (record { script = ap (λ (s : Scene). s.script_faults) frame ∙ only.script; output = quiet ∙ only.output; later = omega (arith, only.later, faults) })
       (λ told.
       let here = at.told told in
-      let line : List ℕ = closing_line (closing_of how true (states_after (opened_file old name).state here.0 here.1)) in
-      run_ends tells name old now mid session marks clean told at.keeps here.0 here.1 here.2 how new here.3 finishes
+      let line : List ℕ = closing_line (closing_of how true (state_of (opened_file old name).state here.0)) in
+      run_ends tells name old now mid session marks clean told at.keeps here.0 here.1 how new here.2 finishes
       (record {
         output = wrote told.output ∙ ap (λ (l : List ℕ). mid.output ++ l) (line_is how true _ ∙ sym (take_all (length line) line (omega arith)));
         folder = ap (λ (s : Scene). s.folder) frame;

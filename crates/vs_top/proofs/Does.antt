@@ -3,7 +3,8 @@ use Rattle.std.proofs.Common.{◌≡◌, inl, inr, ℕ, List, [], subst}
 use Rattle.vs_host.specs.World.{Tells, Scene}
 use Rattle.vs_machine.specs.declared.command.Mark.{Mark}
 use Rattle.vs_top.specs.Forms.{Does, IsBuilt, IsForm, Performs}
-use Rattle.vs_top.specs.Stress.{IsStress, RunsStress}
+use Rattle.vs_top.specs.Promise.{RunsStress}
+use Rattle.vs_top.specs.Stress.{IsStress}
 use Rattle.vs_top.specs.declared.ending.Ending.{Ending}
 use Rattle.vs_top.specs.declared.ending.Ending.TheVariants as ending
 use Rattle.vs_top.specs.declared.form.Mode.{Mode}

@@ -8,7 +8,6 @@ use Rattle.vs_host.specs.Disk.{Disk, IsImage, content_in}
 use Rattle.vs_host.specs.Names.{AreNames, names_of_file}
 use Rattle.vs_host.specs.World.{Tells, Scene, content_of}
 use Rattle.vs_host.specs.declared.names.Names.{Names}
-use Rattle.vs_disk.specs.Runs.{Looks}
 use Rattle.vs_disk.proofs.Contents.{leads_nowhere}
 use Rattle.vs_disk.proofs.Steps.{one_state}
 use Rattle.vs_pair.specs.Acts.{Acts}
@@ -23,7 +22,8 @@ use Rattle.vs_safety.specs.Turns.{opened}
 use Rattle.vs_safety.specs.Safety.{Works}
 use Rattle.vs_safety.specs.Causes.{output_count, folder_count}
 use Rattle.vs_safety.proofs.Works.{works_from}
-use Rattle.vs_safety.proofs.Endings.{halted_safe, not_opened, opening_ends}
+use Rattle.vs_safety.specs.History.{Begins}
+use Rattle.vs_safety.proofs.Endings.{not_opened}
 use Rattle.vs_safety.proofs.Causes.{counted_none, rose_last}
 use Rattle.vs_paged.proofs.SyncLemmas.{fits_between}
 use Rattle.vs_session.specs.Session.{is_fault}
@@ -33,7 +33,9 @@ use Rattle.vs_session.specs.declared.open.OpenErr.TheVariants as opening
 use Rattle.vs_session.specs.Open.{IsTooLarge, OnlyLooks}
 use Rattle.vs_session.specs.Fits.{Fits, HasOpened, HasSwap, IsSettled, Opens, names_of}
 use Rattle.vs_top.specs.Ending.{open_ending}
-use Rattle.vs_top.specs.Run.{TellsRun, Did, HasRun, RunsEdit, Counts, counts_of, OnlyFolder, FaultHasCause, FileFits, EndsBarred, IsBarred, IsThrough, IsThroughMark, IsUnhindered, opened_file, ran_of}
+use Rattle.vs_top.specs.Promise.{HasRun, RunsEdit, row}
+use Rattle.vs_top.specs.Unhindered.{IsThrough, IsThroughMark, IsUnhindered}
+use Rattle.vs_top.specs.Run.{TellsRun, counts_of, FaultHasCause, FileFits, EndsBarred, IsBarred, opened_file}
 use Rattle.vs_top.specs.Turns.{text_at, opening_at, IsOpened}
 use Rattle.vs_top.specs.declared.ending.Ending.{Ending}
 use Rattle.vs_top.specs.declared.ending.Ending.TheVariants as ending
@@ -80,20 +82,20 @@ module _ (tells : Tells) (name : List ℕ) (old new : Scene) (pending : IsTrue t
   works told free = works_from (names_of_file name) (RecoversOrNone (names_of_file name) (text_at old name ∷ [])) (Opens name) old old new refl refl refl acts.frame (acts.runs told.folder)
       (λ d opens. record { folder = opens.safe free; spared = opens.spared })
 
+  begins : TellsRun tells → (HasSwap (names_of_file name) old.folder → ⊥) → Begins (names_of_file name) (text_at old name) old new
+  begins told free = record { settled = pending told.folder; at_start = at_start told free; works = works told free }
+
   -- the file was not opened
   module _ (marks : List Mark) (none : marks ≡ []) where
-    run_none : (end : Ending) → TellsRun tells → Rattle.vs_top.specs.Run.AnsweredBy end (opened_file old name) old new marks did_none → Rattle.vs_top.specs.Run.FailedBy end old new
-        → Rattle.vs_top.specs.Run.LeftBy end (opened_file old name) old new did_none → (IsTrue (Rattle.vs_top.specs.Run.is_early end) → Looks old new)
+    run_none : (end : Ending) → TellsRun tells → (row end).answered (opened_file old name) old new marks did_none → (row end).last old new → (row end).left (opened_file old name) old new did_none
         → HasRun name old new end marks
-    run_none end told answered failed left looks = record {
+    run_none end told answered last left = record {
       did = did_none;
       kept = kept_none name old marks none;
       answered = answered;
-      safe = λ free. halted_safe (names_of_file name) old new (ran_of name old did_none) refl
-          (not_opened (names_of_file name) old (text_at old name) (opening_at old name) (opening_some name (opened_file old name).found) new (pending told.folder) (at_start told free) (works told free));
+      safe = λ free. not_opened (names_of_file name) (text_at old name) (opening_at old name) old new (begins told free) (opening_some name (opened_file old name).found);
       left = left;
-      failed = failed;
-      looks = looks;
+      last = last;
     }
 
     output_same : new.output ≡ old.output
@@ -110,9 +112,9 @@ module _ (tells : Tells) (name : List ℕ) (old new : Scene) (pending : IsTrue t
         → (IsTrue tells.folder → HasSwap (names_of_file name) old.folder → (error ≡ opening.SwapFound) ⊎ (error ≡ opening.Failed) ⊎ (error ≡ opening.NoMemory))
         → (IsTrue tells.folder → HasSwap (names_of_file name) old.folder → OnlyLooks tells old new) → ((error ≡ opening.Failed → ⊥) → OnlyLooks tells old new) → RunsEdit tells name old new (open_ending error) marks
     open_fails opening.SwapFound failed quiet limit swap barred barred_looks looks = record {
-      told = λ told. run_none ending.SwapFound told (record { none = none; output = output_same }) tt tt (λ early. (looks (λ is. absurd (cc))).runs told.folder);
+      told = λ told. run_none ending.SwapFound told (record { none = none; output = output_same }) ((looks (λ is. absurd (cc))).runs told.folder) tt;
       swap = λ told is. swap refl told;
-      barred = λ told has. only_looked tells old new ending.SwapFound marks tt none (barred_looks told has) told;
+      barred = λ told has. only_looked tells old new ending.SwapFound marks (inl refl) none (barred_looks told has) told;
       file = λ told. tt;
       taken = λ told. script_long 0;
       counts = all_quiet (quiet (λ is. absurd (cc)));
@@ -121,9 +123,9 @@ module _ (tells : Tells) (name : List ℕ) (old new : Scene) (pending : IsTrue t
     }
     open_fails opening.Failed failed quiet limit swap barred barred_looks looks = record {
       told = λ told. run_none ending.FolderFault told (inl (record { none = none; output = output_same })) (rose_last folder_count old old new (λ m no_fault. no_fault.folder) (acts.last told.folder) (failed refl) (counted_none folder_count old))
-          (inl refl) (λ early. absurd (true≢false (sym early)));
+          (inl refl);
       swap = λ told is. absurd (cc);
-      barred = λ told has. only_looked tells old new ending.FolderFault marks tt none (barred_looks told has) told;
+      barred = λ told has. only_looked tells old new ending.FolderFault marks (inr (inr refl)) none (barred_looks told has) told;
       file = λ told. tt;
       taken = λ told. script_long _;
       counts = (failed refl, only_folder old new acts.frame acts.later);
@@ -131,9 +133,9 @@ module _ (tells : Tells) (name : List ℕ) (old new : Scene) (pending : IsTrue t
       times = λ told. no_times old new marks none (ap (λ (s : Scene). s.answers) acts.frame);
     }
     open_fails opening.NoMemory failed quiet limit swap barred barred_looks looks = record {
-      told = λ told. run_none ending.NoMemory told (inl (record { none = none; output = output_same })) tt (refl, inl ((looks (λ is. absurd (cc))).runs told.folder)) (λ early. absurd (true≢false (sym early)));
+      told = λ told. run_none ending.NoMemory told (inl (record { none = none; output = output_same })) tt (refl, inl ((looks (λ is. absurd (cc))).runs told.folder));
       swap = λ told is. absurd (cc);
-      barred = λ told has. only_looked tells old new ending.NoMemory marks tt none (barred_looks told has) told;
+      barred = λ told has. only_looked tells old new ending.NoMemory marks (inr (inl refl)) none (barred_looks told has) told;
       file = λ told. tt;
       taken = λ told. script_long _;
       counts = only_folder old new acts.frame acts.later;
@@ -141,7 +143,7 @@ module _ (tells : Tells) (name : List ℕ) (old new : Scene) (pending : IsTrue t
       times = λ told. no_times old new marks none (ap (λ (s : Scene). s.answers) acts.frame);
     }
     open_fails (opening.TextLimit size) failed quiet limit swap barred barred_looks looks = record {
-      told = λ told. run_none (ending.TextLimit size) told (record { none = none; output = output_same }) tt tt (λ early. (looks (λ is. absurd (cc))).runs told.folder);
+      told = λ told. run_none (ending.TextLimit size) told (record { none = none; output = output_same }) ((looks (λ is. absurd (cc))).runs told.folder) tt;
       swap = λ told is. absurd (cc);
       barred = λ told has. elim (barred told has) [ inl is ↦ absurd (cc) | inr more ↦ elim more [ inl is ↦ absurd (cc) | inr is ↦ absurd (cc) ] ];
       file = λ told. (limit size refl).passes told;
@@ -158,9 +160,11 @@ module _ (tells : Tells) (name : List ℕ) (old new : Scene) (pending : IsTrue t
     told = λ told. record {
       file = has told.folder;
       fits = fits told.folder;
-      opened_here = opening_ends (names_of_file name) old (text_at old name) (opening_at old name) (opening_some name (opened_file old name).found) new
-          (subst AreNames names (fits told.folder).stands.text.fit.named) (pending told.folder) (at_start told (free told.folder)) (works told (free told.folder))
-          (subst (λ (n : Names). IsBetween n (opened (text_at old name)) new.folder) names (fits_between session.text new.folder _ _ (fits told.folder).stands.text));
+      begun = record {
+        begins = begins told (free told.folder);
+        named = subst AreNames names (fits told.folder).stands.text.fit.named;
+        between = subst (λ (n : Names). IsBetween n (opened (text_at old name)) new.folder) names (fits_between session.text new.folder _ _ (fits told.folder).stands.text);
+      };
       counted = counted_works (names_of_file name) None _ old old new (ap (λ (s : Scene). s.out_faults) acts.frame) (works told (free told.folder)) (counted_none output_count old);
     };
     keeps = record { free = free; file = file; names = names; counts = only_folder old new acts.frame acts.later; causes = All-nil (FaultHasCause (counts_of old) (counts_of new)) };
@@ -175,22 +179,30 @@ runs_same tells one other old new end end' marks marks' same ended kept runs =
     subst (λ (n : List ℕ). RunsEdit tells n old new end' marks') same
     (subst (λ (e : Ending). RunsEdit tells one old new e marks') (sym ended) (subst (λ (l : List Mark). RunsEdit tells one old new end l) (sym kept) runs))
 
+-- an ending that is neither of a file with a swap file nor of a script that could not be read, where no call failed and the file is within its limits
+pub through_row : (end : Ending) (old new : Scene) (file : Option (List ℕ)) → (row end).counts (counts_of old) (counts_of new) → (row end).file file → FileFits file → (HasRisen old.out_faults new.out_faults → ⊥)
+    → (HasRisen old.folder_faults new.folder_faults → ⊥) → (end ≡ ending.SwapFound → ⊥) → (end ≡ ending.ScriptFault → ⊥) → (end ≡ ending.ScriptTooLong → ⊥) → IsThrough end
+through_row ending.Done old new file counts is fits out folder swap script long = inl refl
+through_row ending.WithErrors old new file counts is fits out folder swap script long = inr (inl refl)
+through_row ending.Usage old new file counts is fits out folder swap script long = absurd counts
+through_row ending.SwapFound old new file counts is fits out folder swap script long = absurd (swap refl)
+through_row ending.NoSwap old new file counts is fits out folder swap script long = absurd counts
+through_row ending.ScriptFault old new file counts is fits out folder swap script long = absurd (script refl)
+through_row ending.OutputFault old new file counts is fits out folder swap script long = absurd (out counts.0)
+through_row ending.FolderFault old new file counts is fits out folder swap script long = absurd (folder counts.0)
+through_row ending.NoMemory old new file counts is fits out folder swap script long = inr (inr refl)
+through_row ending.Encrypted old new file counts is fits out folder swap script long = absurd counts
+through_row ending.NotSwap old new file counts is fits out folder swap script long = absurd counts
+through_row ending.Salvaged old new file counts is fits out folder swap script long = absurd counts
+through_row (ending.TextLimit size) old new file counts is fits out folder swap script long = absurd (passes_no_limit file size fits is)
+through_row ending.ScriptTooLong old new file counts is fits out folder swap script long = absurd (long refl)
+
 -- a run within all limits whose calls succeed comes to its end, or has no memory
 pub through : (tells : Tells) (name : List ℕ) (old new : Scene) (end : Ending) (marks : List Mark) → RunsEdit tells name old new end marks → IsUnhindered tells name old new → IsThrough end
-through tells name old new ending.Done marks runs free = tt
-through tells name old new ending.WithErrors marks runs free = tt
-through tells name old new ending.Usage marks runs free = (runs.told free.told).answered
-through tells name old new ending.SwapFound marks runs free = free.free (runs.swap free.told.folder refl)
-through tells name old new ending.NoSwap marks runs free = runs.counts
-through tells name old new ending.ScriptFault marks runs free = free.no_script_fault runs.counts.0
-through tells name old new ending.OutputFault marks runs free = free.no_out_fault runs.counts.0
-through tells name old new ending.FolderFault marks runs free = free.no_folder_fault runs.counts.0
-through tells name old new ending.NoMemory marks runs free = tt
-through tells name old new ending.Encrypted marks runs free = runs.counts
-through tells name old new ending.NotSwap marks runs free = runs.counts
-through tells name old new ending.Salvaged marks runs free = runs.counts
-through tells name old new (ending.TextLimit size) marks runs free = passes_no_limit (content_of old name) size free.file (runs.file free.told.folder)
-through tells name old new ending.ScriptTooLong marks runs free = omega (arith, free.script, (runs.told free.told).answered.longer)
+through tells name old new end marks runs free =
+    through_row end old new (content_of old name) runs.counts (runs.file free.told.folder) free.file free.no_out_fault free.no_folder_fault (λ is. free.free (runs.swap free.told.folder is))
+    (λ is. let same = subst (λ (e : Ending). RunsEdit tells name old new e marks) is runs in free.no_script_fault same.counts.0)
+    (λ is. let same = subst (λ (e : Ending). RunsEdit tells name old new e marks) is runs in absurd (omega (arith, free.script, (same.told free.told).answered.longer)))
 
 pub through_outcome : (o : Outcome) → (is_fault o ≡ true → ⊥) → (o ≡ outcome.Done) ⊎ (o ≡ outcome.NoMemory)
 through_outcome outcome.Done no_fault = inl refl
@@ -203,17 +215,4 @@ through_marks tells name old new end marks runs free = λ k d within. through_ou
 
 -- a run over a file is never one with other words
 pub not_usage : (tells : Tells) (name : List ℕ) (old new : Scene) (end : Ending) (marks : List Mark) → RunsEdit tells name old new end marks → end ≡ ending.Usage → ⊥
-not_usage tells name old new ending.Done marks runs is = absurd (cc)
-not_usage tells name old new ending.WithErrors marks runs is = absurd (cc)
-not_usage tells name old new ending.Usage marks runs is = runs.counts
-not_usage tells name old new ending.SwapFound marks runs is = absurd (cc)
-not_usage tells name old new ending.NoSwap marks runs is = absurd (cc)
-not_usage tells name old new ending.ScriptFault marks runs is = absurd (cc)
-not_usage tells name old new ending.OutputFault marks runs is = absurd (cc)
-not_usage tells name old new ending.FolderFault marks runs is = absurd (cc)
-not_usage tells name old new ending.NoMemory marks runs is = absurd (cc)
-not_usage tells name old new ending.Encrypted marks runs is = absurd (cc)
-not_usage tells name old new ending.NotSwap marks runs is = absurd (cc)
-not_usage tells name old new ending.Salvaged marks runs is = absurd (cc)
-not_usage tells name old new (ending.TextLimit size) marks runs is = absurd (cc)
-not_usage tells name old new ending.ScriptTooLong marks runs is = absurd (cc)
+not_usage tells name old new end marks runs is = subst (λ (e : Ending). (row e).counts (counts_of old) (counts_of new)) is runs.counts

@@ -1,7 +1,6 @@
 -- The opening of a run and its first reply, and what the run answered where it stops there.
 use Rattle.std.proofs.Common.{◌≡◌, inl, inr, ℕ, ◌<◌, true, List, [], ◌∷◌, ◌++◌, length, take, map, All, Option, Some, None, IsTrue, string_bytes, refl, sym, ap, subst, ◌∙◌, append-nil, arith}
 use Rattle.std.specs.Prelude.{codes, decimal}
-use Rattle.std.proofs.lemmas.Bool.{true≢false}
 use Rattle.std.proofs.lemmas.List.{take_all, length-append}
 use Rattle.std.proofs.lemmas.List.Elements.{All-nil}
 use Rattle.vs_faults.specs.Faults.{HasRisen}
@@ -14,12 +13,15 @@ use Rattle.vs_machine.specs.Replies.{Answer, opening_of}
 use Rattle.vs_machine.specs.declared.command.Mark.{Mark}
 use Rattle.vs_safety.specs.Turns.{NotBegun, opened}
 use Rattle.vs_safety.specs.Safety.{IsAdded, Writes}
+use Rattle.vs_safety.specs.History.{Replied}
 use Rattle.vs_safety.specs.Causes.{output_count}
-use Rattle.vs_safety.proofs.Endings.{halted_safe, opened_halts, opening_cut, opening_written}
+use Rattle.vs_safety.proofs.SoFar.{recorded, waits_first}
+use Rattle.vs_safety.proofs.Endings.{not_opened, opening_cut}
 use Rattle.vs_safety.proofs.Causes.{rose_at}
 use Rattle.vs_session.specs.declared.session.Session.{Session}
 use Rattle.vs_session.specs.Fits.{Fits}
-use Rattle.vs_top.specs.Run.{TellsRun, Did, KeepsMarks, RunsEdit, Counts, counts_of, FaultHasCause, IsTimed, commands_within, opened_file, ran_of}
+use Rattle.vs_top.specs.Promise.{RunsEdit}
+use Rattle.vs_top.specs.Run.{TellsRun, Did, KeepsMarks, Counts, counts_of, FaultHasCause, IsTimed, commands_within, opened_file}
 use Rattle.vs_top.specs.Turns.{text_at, opening_at, IsOpened}
 use Rattle.vs_top.specs.declared.ending.Ending.TheVariants as ending
 use Rattle.vs_top.proofs.Counting.{only_output, all_counted}
@@ -36,10 +38,10 @@ opening_some name (Some (lines, bytes)) = ends_some (codes "\"" ++ name ++ codes
 
 -- nothing was answered
 abbrev pub did_none : Did
-did_none = record { commands = []; ends = []; closing = NotBegun }
+did_none = record { past = []; closing = NotBegun }
 
-pub kept_none : (name : List ℕ) (old : Scene) (marks : List Mark) → marks ≡ [] → KeepsMarks (opened_file old name) marks did_none
-kept_none name old marks none = record { one_each = refl; marks_are = none; are_answered = tt }
+pub kept_none : (name : List ℕ) (old : Scene) (marks : List Mark) → marks ≡ [] → KeepsMarks (opened_file old name) marks []
+kept_none name old marks none = record { marks_are = none; are_answered = tt }
 
 pub no_times : (old now : Scene) (marks : List Mark) → marks ≡ [] → now.answers ≡ old.answers → IsTimed old now marks
 no_times old now marks none same = record {
@@ -60,11 +62,10 @@ module _ (tells : Tells) (name : List ℕ) (old now : Scene) (session : Session)
         record {
           did = did_none;
           kept = kept_none name old marks none;
-          answered = inl (record { none = none; output = here.opened_here.output });
-          safe = λ free. halted_safe (names_of_file name) old now (ran_of name old did_none) refl (opened_halts (names_of_file name) old (text_at old name) (opening_at old name) (opening_some name (opened_file old name).found) now here.opened_here);
+          answered = inl (record { none = none; output = here.begun.begins.works.output });
+          safe = λ free. not_opened (names_of_file name) (text_at old name) (opening_at old name) old now here.begun.begins (opening_some name (opened_file old name).found);
           left = (refl, inr (session, at.keeps.names, here.fits));
-          failed = tt;
-          looks = λ early. absurd (true≢false (sym early));
+          last = tt;
         };
     swap = λ told is. absurd (cc);
     barred = λ told has. absurd (at.keeps.free told has);
@@ -106,14 +107,12 @@ module _ (tells : Tells) (name : List ℕ) (old now : Scene) (session : Session)
                   first = (commands_within old.script, refl);
                   closing = refl;
                   count = cut.0;
-                  output = writes.output ∙ (λ i. here.opened_here.output i ++ take cut.0 (sym (append-nil (opening_at old name)) i));
+                  output = writes.output ∙ ap (λ (l : List ℕ). l ++ take cut.0 (opening_at old name)) here.begun.begins.works.output;
                   whole = omega arith;
                 });
-                safe = λ free. halted_safe (names_of_file name) old new (ran_of name old did_none) refl
-                    (opening_cut (names_of_file name) old (text_at old name) (opening_at old name) (opening_some name (opened_file old name).found) now new here.opened_here cut.0 writes);
+                safe = λ free. opening_cut (names_of_file name) (text_at old name) (opening_at old name) old now here.begun new cut.0 (opening_some name (opened_file old name).found) writes;
                 left = (session, at.keeps.names, subst (λ (d : Disk). Fits session d (opened_file old name).state (opened (text_at old name))) (sym writes.folder) here.fits);
-                failed = rose_at output_count old now new WroteOutput [] writes.added rose here.counted;
-                looks = λ early. absurd (true≢false (sym early));
+                last = rose_at output_count old now new WroteOutput [] writes.added rose here.counted;
               };
           swap = λ told is. absurd (cc);
           barred = λ told has. absurd (at.keeps.free told has);
@@ -136,20 +135,14 @@ module _ (tells : Tells) (name : List ℕ) (old now : Scene) (session : Session)
           told = λ told.
               let here = at.told told in
               let writes = writes_of told (length (opening_at old name)) (wrote told.output ∙ ap (λ (l : List ℕ). now.output ++ l) (sym (take_all (length (opening_at old name)) reply.bytes (omega (arith, ap (λ (l : List ℕ). length l) (bytes_are told)))))) in
-              let going = opening_written (names_of_file name) old (text_at old name) (opening_at old name) (opening_some name (opened_file old name).found) now new here.opened_here (length (opening_at old name)) writes (omega arith) in (
-                [],
+              let replied : Replied (opening_at old name) now new = record { some = opening_some name (opened_file old name).found; writes = writes } in (
                 [],
                 record {
-                  one_each = refl;
-                  marks_are = none;
-                  are_answered = tt;
+                  kept = kept_none name old marks none;
                   errors = refl;
                   fits = subst (λ (d : Disk). Fits session d (opened_file old name).state (opened (text_at old name))) (sym writes.folder) here.fits;
-                  going = going;
-                  counted = elim writes.added [
-                    | inl told_here ↦ all_counted old now new told_here here.opened_here.moments here.opened_here.course.added
-                    | inr left ↦ absurd (omega (arith, opening_some name (opened_file old name).found, ap (λ (l : List ℕ). length l) left.output, ap (λ (l : List ℕ). length l) (wrote told.output), length-append now.output reply.bytes, ap (λ (l : List ℕ). length l) (bytes_are told)))
-                  ];
+                  waits = waits_first (names_of_file name) old (text_at old name) (opening_at old name) now new here.begun replied;
+                  counted = all_counted old now new (recorded (opening_at old name) now new replied) here.begun.begins.works.moments.added here.begun.begins.works.moments.is;
                 },
                 read_start fresh old new fresh_is (ap (λ (s : Scene). s.script) frame ∙ at.script),
               );

@@ -1,14 +1,13 @@
 -- A command of a run: the step and its reply, whole or cut short, and an accepted quit.
-use Rattle.std.proofs.Common.{◌≡◌, inl, inr, ℕ, ◌≤◌, ◌<◌, ◌+◌, Bool, true, not, ◌&&◌, ◌||◌, List, [], ◌∷◌, ◌++◌, length, take, map, All, IsTrue, Ok, refl, sym, ap, subst, ◌∙◌, append_assoc, append-nil, arith}
-use Rattle.std.proofs.lemmas.Bool.{true≢false}
-use Rattle.std.proofs.lemmas.List.{take_all, length-append}
+use Rattle.std.proofs.Common.{◌≡◌, inl, ℕ, ◌≤◌, ◌<◌, ◌+◌, Bool, true, not, ◌&&◌, ◌||◌, List, [], ◌∷◌, ◌++◌, length, take, map, All, IsTrue, Ok, refl, sym, ap, subst, ◌∙◌, append_assoc, append-nil, arith}
+use Rattle.std.proofs.lemmas.List.{take_all}
 use Rattle.std.proofs.lemmas.List.Elements.{All-nil, All-cons, All-append}
-use Rattle.std.proofs.Math.Seq.{take-append_seam, take-append-add}
+use Rattle.std.proofs.Math.Seq.{take-append-add}
 use Rattle.vs_faults.specs.Faults.{HasRisen}
 use Rattle.vs_faults.proofs.Causes.{risen_before, risen_after}
 use Rattle.vs_host.specs.Disk.{Disk}
 use Rattle.vs_host.specs.Names.{names_of_file}
-use Rattle.vs_host.specs.Trace.{WroteOutput}
+use Rattle.vs_host.specs.Trace.{WroteOutput, Snapshot}
 use Rattle.vs_host.specs.World.{Tells, Scene, ChangesOutput}
 use Rattle.vs_host.specs.declared.names.Names.{Names}
 use Rattle.vs_excmd.specs.Request.{Instruction, IsRequest}
@@ -20,35 +19,29 @@ use Rattle.vs_machine.specs.Machine.{is_done}
 use Rattle.vs_machine.specs.Replies.{Answer}
 use Rattle.vs_machine.specs.declared.command.Mark.{Mark}
 use Rattle.vs_safety.specs.Texts.{Sync}
-use Rattle.vs_safety.specs.Turns.{Turn, NotBegun, with_sync, after_turns, opened, replies}
+use Rattle.vs_safety.specs.Turns.{Turn, NotBegun}
 use Rattle.vs_safety.specs.Safety.{IsAdded, Looks, Writes, Stepped}
-use Rattle.vs_safety.specs.Going.{Going, Stepping, Halted}
+use Rattle.vs_safety.specs.History.{History, Replied, Waits, syncs_of}
 use Rattle.vs_safety.specs.Causes.{output_count}
-use Rattle.vs_safety.proofs.Splits.{after_push}
-use Rattle.vs_safety.proofs.Going.{going_looks, going_steps, reply_written, reply_cut}
-use Rattle.vs_safety.proofs.Endings.{halted_safe}
+use Rattle.vs_safety.proofs.SoFar.{recorded, so_far_now, waits_next, waits_on}
+use Rattle.vs_safety.proofs.Endings.{cut_turn}
 use Rattle.vs_safety.proofs.Causes.{rose_at}
 use Rattle.vs_session.specs.declared.session.Session.{Session}
 use Rattle.vs_session.specs.declared.session.Step.{Step}
 use Rattle.vs_session.specs.declared.session.Step.TheVariants as step
 use Rattle.vs_session.specs.declared.ending.End.TheVariants as end
-use Rattle.vs_session.specs.Session.{SessionState, Ended, is_fault, accepts_quit, reply_of, state_after, states_after, syncs_after, turn_of, turns_of, replies_of, any_error}
+use Rattle.vs_session.specs.Session.{SessionState, is_fault, accepts_quit, state_after, syncs_after, turn_of}
+use Rattle.vs_session.specs.Opened.{Opened}
 use Rattle.vs_session.specs.Fits.{Answers, Fits, StepsIn, names_of}
-use Rattle.vs_top.specs.Run.{TellsRun, Did, KeepsMarks, HasRun, RunsEdit, counts_of, OnlyFolder, FaultHasCause, commands_within, opened_file, ran_of, written, written_before}
-use Rattle.vs_top.specs.Turns.{text_at, opening_at, Told, KeepsOpenFile, IsAtClose}
+use Rattle.vs_top.specs.History.{Past, any_error, commands_then, history_of, marks_of, state_of, written}
+use Rattle.vs_top.specs.Promise.{HasRun, RunsEdit}
+use Rattle.vs_top.specs.Run.{TellsRun, KeepsMarks, counts_of, OnlyFolder, FaultHasCause, commands_within, opened_file}
+use Rattle.vs_top.specs.Turns.{Told, KeepsOpenFile, IsAtClose}
 use Rattle.vs_top.specs.declared.ending.Ending.TheVariants as ending
-use Rattle.vs_top.proofs.Pushes.{replies_same, states_push, turns_push, none_push, errors_push, and_not, map_push}
+use Rattle.vs_top.proofs.Pushes.{and_not, map_push}
 use Rattle.vs_top.proofs.Counting.{only_then, only_output, only_script, causes_on, counted_works, counted_reads, all_counted}
 use Rattle.vs_top.proofs.Turning.{reads_look, IsTurn}
 use Rattle.vs_top.proofs.Reading.{fresh_reader, HasRead, read_on, read_in, read_within, done_is_all, all_ahead, counts_on, few_taken}
-
--- commands that have no end yet have no reply
-replies_extra : (state : SessionState) (commands more : List Instruction) (ends : List Ended) → length ends ≡ length commands → replies_of state (commands ++ more) ends ≡ replies_of state commands ends
-replies_extra state [] [] [] same = refl
-replies_extra state [] (d ∷ more) [] same = refl
-replies_extra state [] more (x ∷ ends) same = absurd (omega (arith, same))
-replies_extra state (d ∷ commands) more [] same = absurd (omega (arith, same))
-replies_extra state (d ∷ commands) more (x ∷ ends) same = ap (λ (l : List ℕ). (reply_of state d x).bytes ++ l) (replies_extra (state_after state d x) commands more ends (omega (arith, same)))
 
 -- What a step did that was answered, over any host.
 pub record HasStepped (tells : Tells) (read stepped : Scene) (session after : Session) (request : Request) (mark : Mark) (reply : Answer) : Type 0 where
@@ -60,40 +53,34 @@ pub record HasStepped (tells : Tells) (read stepped : Scene) (session after : Se
   pub names : names_of after ≡ names_of session
   pub clock : IsTrue tells.clock → stepped.answers ≡ read.answers ++ mark.at ∷ []
 
-one_more : (commands : List Instruction) (ends : List Ended) (c : Instruction) (e : Ended) → length ends ≡ length commands → length (ends ++ e ∷ []) ≡ length (commands ++ c ∷ [])
-one_more commands ends c e same = omega (arith, same, length-append ends (e ∷ []), length-append commands (c ∷ []))
-
 module _ {T : Type 0} {x : T} (tells : Tells) (name : List ℕ) (old now read stepped : Scene) (session session' : Session) (fresh reader reader' : Ahead) (marks : List Mark) (clean : Bool) (request : Request) (mark : Mark) (reply : Answer)
     (reads : ReadsScript tells (Ok x) now read) (track : KeepsTrack tells (Ok x) reader reader' now read)
     (step : HasStepped tells read stepped session session' request mark reply) (some : 0 < length reply.bytes) where
-  module _ (told : TellsRun tells) (commands : List Instruction) (ends : List Ended) (here : Told name old now session marks clean commands ends) (had : HasRead fresh reader old now commands) (keeps : names_of session ≡ names_of_file name)
+  module _ (told : TellsRun tells) (past : Past) (here : Told name old now session marks clean past) (had : HasRead fresh reader old now (commands_then past)) (keeps : names_of session ≡ names_of_file name)
       (taken : TakesRequest request reader reader' now read) where
     abbrev names : Names
     names = names_of_file name
 
-    abbrev first : SessionState
-    first = (opened_file old name).state
+    abbrev file : Opened
+    file = opened_file old name
 
     abbrev state : SessionState
-    state = states_after first commands ends
+    state = state_of file.state past
 
-    abbrev turns : List Turn
-    turns = turns_of first commands ends
+    abbrev history : History
+    history = history_of file past
 
-    abbrev syncs : List Sync
-    syncs = after_turns (opened (text_at old name)) turns
+    waits : Waits names old history read
+    waits = waits_on names old history now read here.waits (reads_look now read reads.frame (reads.last told.folder))
 
-    looked : Going names old read (text_at old name) (opening_at old name) turns
-    looked = going_looks names old (text_at old name) (opening_at old name) now read turns (reads_look now read reads.frame (reads.last told.folder)) here.going
-
-    answers : Answers state syncs taken.first session session' mark reply read stepped
-    answers = step.step told.folder state syncs taken.first (subst (λ (d : Disk). Fits session d state syncs) (sym (ap (λ (s : Scene). s.folder) reads.frame)) here.fits) taken.meant
-
-    abbrev ended : Ended
-    ended = answers.ended
+    answers : Answers state (syncs_of history) taken.first session session' mark reply read stepped
+    answers = step.step told.folder state (syncs_of history) taken.first (subst (λ (d : Disk). Fits session d state (syncs_of history)) (sym (ap (λ (s : Scene). s.folder) reads.frame)) here.fits) taken.meant
 
     abbrev turn : Turn
-    turn = turn_of state taken.first ended
+    turn = turn_of state taken.first answers.ended
+
+    abbrev past' : Past
+    past' = record { instruction = taken.first; ended = answers.ended } ∷ past
 
     same_bytes : reply.bytes ≡ turn.reply
     same_bytes = ap (λ (a : Answer). a.bytes) answers.reply_is
@@ -101,116 +88,60 @@ module _ {T : Type 0} {x : T} (tells : Tells) (name : List ℕ) (old now read st
     some_turn : 0 < length turn.reply
     some_turn = omega (arith, some, ap (λ (l : List ℕ). length l) same_bytes)
 
-    stepping : Stepping names old stepped (text_at old name) (opening_at old name) turns turn
-    stepping = going_steps names old (text_at old name) (opening_at old name) read stepped turns turn some_turn (subst (λ (n : Names). Stepped n syncs (turn_of state taken.first ended) read stepped) keeps answers.stepped) looked
+    stepping : Stepped names (syncs_of history) turn read stepped
+    stepping = subst (λ (n : Names). Stepped n (syncs_of history) turn read stepped) keeps answers.stepped
 
-    abbrev commands' : List Instruction
-    commands' = commands ++ taken.first ∷ []
-
-    abbrev ends' : List Ended
-    ends' = ends ++ ended ∷ []
-
-    turns_are : turns_of first commands' ends' ≡ turns ++ turn ∷ []
-    turns_are = turns_push taken.first ended first commands ends here.one_each
-
-    abbrev did : Did
-    did = record { commands = commands'; ends = ends'; closing = NotBegun }
-
-    kept_did : (marks' : List Mark) → marks' ≡ marks ++ mark ∷ [] → KeepsMarks (opened_file old name) marks' did
-    kept_did marks' kept = record {
-      one_each = one_more commands ends taken.first ended here.one_each;
-      marks_are = kept ∙ ap (λ (l : List Mark). l ++ mark ∷ []) here.marks_are ∙ ap (λ (m : Mark). map (λ (e : Ended). e.mark) ends ++ m ∷ []) (sym answers.mark_is) ∙ sym (map_push (λ (e : Ended). e.mark) ends ended);
-      are_answered = none_push taken.first ended first commands ends here.one_each here.are_answered answers.not_quit answers.found;
+    kept_now : (marks' : List Mark) → marks' ≡ marks ++ mark ∷ [] → KeepsMarks file marks' past'
+    kept_now marks' kept = record {
+      marks_are = kept ∙ ap (λ (l : List Mark). l ++ mark ∷ []) here.kept.marks_are ∙ ap (λ (m : Mark). marks_of past ++ m ∷ []) (sym answers.mark_is);
+      are_answered = (answers.not_quit, answers.found, here.kept.are_answered);
     }
 
-    written_are : old.output ++ (opening_at old name ++ replies (turns ++ turn ∷ [])) ≡ old.output ++ written (opened_file old name) commands' ends'
-    written_are =
-        ap (λ (ts : List Turn). old.output ++ (opening_at old name ++ replies ts)) (sym turns_are)
-        ∙ ap (λ (l : List ℕ). old.output ++ (opening_at old name ++ l)) (replies_same first commands' ends')
+    fits_on : (new : Scene) → new.folder ≡ stepped.folder → Fits session' new.folder (state_of file.state past') (syncs_of (history_of file past'))
+    fits_on new same = subst (λ (d : Disk). Fits session' d (state_of file.state past') (syncs_of (history_of file past'))) (sym same) answers.fits
 
-    syncs_are : after_turns (opened (text_at old name)) (turns_of first commands' ends') ≡ with_sync turn.sync syncs
-    syncs_are = ap (λ (ts : List Turn). after_turns (opened (text_at old name)) ts) turns_are ∙ after_push turn turns (opened (text_at old name))
-
-    fits_after_step : Fits session' stepped.folder (states_after first commands' ends') (after_turns (opened (text_at old name)) (turns_of first commands' ends'))
-    fits_after_step =
-        subst (λ (ss : List Sync). Fits session' stepped.folder (states_after first commands' ends') ss) (sym syncs_are)
-        (subst (λ (s : SessionState). Fits session' stepped.folder s (with_sync turn.sync syncs)) (sym (states_push taken.first ended first commands ends here.one_each)) answers.fits)
+    stepped_output : stepped.output ≡ old.output ++ written file past
+    stepped_output = stepping.works.output ∙ (so_far_now names old history read waits).output
 
     -- the reply was written in part
-    run_cut : (new : Scene) (n : ℕ) (marks' : List Mark) → marks' ≡ marks ++ mark ∷ [] → Writes n reply.bytes stepped new → HasRisen stepped.out_faults new.out_faults → (rest : List Instruction) × (commands_within old.script ≡ commands' ++ rest)
-        → HasRun name old new ending.OutputFault marks'
+    run_cut : (new : Scene) (n : ℕ) (marks' : List Mark) → marks' ≡ marks ++ mark ∷ [] → Writes n reply.bytes stepped new → HasRisen stepped.out_faults new.out_faults
+        → (rest : List Instruction) × (commands_within old.script ≡ commands_then past' rest) → HasRun name old new ending.OutputFault marks'
     run_cut new n marks' kept writes rose within =
         let writes' : Writes n turn.reply stepped new = subst (λ (l : List ℕ). Writes n l stepped new) same_bytes writes in
-        let halted = reply_cut names old (text_at old name) (opening_at old name) stepped new turns turn some_turn stepping n writes' in
-        let front : List ℕ = written (opened_file old name) commands ends in
-        let was : stepped.output ≡ old.output ++ front =
-        stepping.output ∙ append_assoc old.output (opening_at old name) (replies turns) ∙ ap (λ (l : List ℕ). old.output ++ (opening_at old name ++ l)) (replies_same first commands ends) in
-        let all : written (opened_file old name) commands' ends' ≡ front ++ turn.reply =
-        ap (λ (l : List ℕ). opening_at old name ++ l) (sym (replies_same first commands' ends') ∙ ap replies turns_are ∙ Rattle.vs_safety.proofs.Splits.replies_push turn turns ∙ ap (λ (l : List ℕ). l ++ turn.reply) (replies_same first commands ends))
-        ∙ sym (append_assoc (opening_at old name) (replies_of first commands ends) turn.reply) in
+        let front : List ℕ = written file past in
         record {
-          did = did;
-          kept = kept_did marks' kept;
+          did = record { past = past'; closing = NotBegun };
+          kept = kept_now marks' kept;
           answered = inl (record {
             first = within;
             closing = refl;
             count = length front + n;
-            output = writes'.output ∙ ap (λ (l : List ℕ). l ++ take n turn.reply) was ∙ append_assoc old.output front (take n turn.reply)
-                ∙ ap (λ (l : List ℕ). old.output ++ l) (sym (take-append-add front turn.reply n)) ∙ ap (λ (l : List ℕ). old.output ++ take (length front + n) l) (sym all);
-            whole = whole_before;
+            output = writes'.output ∙ ap (λ (l : List ℕ). l ++ take n turn.reply) stepped_output ∙ append_assoc old.output front (take n turn.reply)
+                ∙ ap (λ (l : List ℕ). old.output ++ l) (sym (take-append-add front turn.reply n));
+            whole = omega arith;
           });
-          safe = λ free. halted_safe names old new (ran_of name old did) refl (subst (λ (ts : List Turn). Halted names old new (text_at old name) (opening_at old name) ts) (sym turns_are) halted);
-          left = (
-            session',
-            step.names ∙ keeps,
-            subst (λ (d : Disk). Fits session' d (states_after first commands' ends') (after_turns (opened (text_at old name)) (turns_of first commands' ends'))) (sym writes.folder) fits_after_step,
-          );
-          failed = rose_at output_count old stepped new WroteOutput [] writes.added rose
-              (counted_works names turn.write _ old read stepped (ap (λ (s : Scene). s.out_faults) step.frame) (subst (λ (k : Names). Stepped k syncs (turn_of state taken.first ended) read stepped) keeps answers.stepped).works
+          safe = λ free. cut_turn names old history read waits stepped new turn n some_turn stepping writes';
+          left = (session', step.names ∙ keeps, fits_on new writes.folder);
+          last = rose_at output_count old stepped new WroteOutput [] writes.added rose
+              (counted_works names turn.write _ old read stepped (ap (λ (s : Scene). s.out_faults) step.frame) stepping.works
               (counted_reads old now read reads.frame (reads.quiet (λ is. cc)) (reads.all told.folder) here.counted).output);
-          looks = λ early. absurd (true≢false (sym early));
         }
-      where
-        before_last : (es : List Ended) → written_before (opened_file old name) commands' (es ++ ended ∷ []) ≡ written (opened_file old name) commands' (take (length es) (es ++ ended ∷ []))
-        before_last [] = refl
-        before_last (x ∷ es) =
-            let size : length (es ++ ended ∷ []) ≡ length (x ∷ es) = length-append es (ended ∷ []) ∙ omega arith in
-            ap (λ k. written (opened_file old name) commands' (take k (x ∷ (es ++ ended ∷ [])))) size
-
-        whole_before : length (written_before (opened_file old name) commands' ends') ≤ length (written (opened_file old name) commands ends) + n
-        whole_before =
-            let same : written_before (opened_file old name) commands' ends' ≡ written (opened_file old name) commands ends =
-            before_last ends ∙ ap (λ (l : List Ended). written (opened_file old name) commands' l) (take-append_seam ends (ended ∷ []))
-            ∙ ap (λ (l : List ℕ). opening_at old name ++ l) (replies_extra first commands (taken.first ∷ []) ends here.one_each) in
-            rw same (omega arith)
 
     -- it is whole
     told_on : (new : Scene) (marks' : List Mark) (one : Bool) → marks' ≡ marks ++ mark ∷ [] → (writes : Writes (length reply.bytes) reply.bytes stepped new) → one ≡ (is_done mark.outcome && not reply.is_error)
-        → Told name old new session' marks' (clean && one) commands' ends'
+        → Told name old new session' marks' (clean && one) past'
     told_on new marks' one kept writes cleans =
-        let writes' : Writes (length turn.reply) turn.reply stepped new = subst (λ (l : List ℕ). Writes (length l) l stepped new) same_bytes writes in
-        let going = reply_written names old (text_at old name) (opening_at old name) stepped new turns turn some_turn stepping writes' in
-        let was = kept_did marks' kept in
+        let replied : Replied turn.reply stepped new = record { some = some_turn; writes = subst (λ (l : List ℕ). Writes (length l) l stepped new) same_bytes writes } in
+        let so_far = so_far_now names old history read waits in
         record {
-          one_each = was.one_each;
-          marks_are = was.marks_are;
-          are_answered = was.are_answered;
-          errors = ap (λ (b : Bool). clean && b) (cleans ∙ ap (λ (m : Mark). is_done m.outcome && not reply.is_error) (sym answers.mark_is)) ∙ ap (λ (b : Bool). b && (is_done ended.mark.outcome && not reply.is_error)) here.errors ∙ and_not (any_error first commands ends) (is_done ended.mark.outcome) reply.is_error
-              ∙ ap (λ (a : Answer). not (any_error first commands ends || (not (is_done ended.mark.outcome) || a.is_error))) answers.reply_is
-              ∙ ap not (sym (errors_push taken.first ended first commands ends here.one_each));
-          fits = subst (λ (d : Disk). Fits session' d (states_after first commands' ends') (after_turns (opened (text_at old name)) (turns_of first commands' ends'))) (sym writes.folder) fits_after_step;
-          going = subst (λ (ts : List Turn). Going names old new (text_at old name) (opening_at old name) ts) (sym turns_are) going;
-          counted = elim writes'.added [
-            | inl told_here ↦ all_counted old stepped new told_here stepping.moments stepping.course.added
-            | inr left ↦ absurd (omega (
-              arith,
-              some_turn,
-              ap (λ (l : List ℕ). length l) left.output,
-              ap (λ (l : List ℕ). length l) writes'.output,
-              length-append stepped.output (take (length turn.reply) turn.reply),
-              ap (λ (l : List ℕ). length l) (take_all (length turn.reply) turn.reply (omega arith)),
-            ))
-          ];
+          kept = kept_now marks' kept;
+          errors = ap (λ (b : Bool). clean && b) (cleans ∙ ap (λ (m : Mark). is_done m.outcome && not reply.is_error) (sym answers.mark_is))
+              ∙ ap (λ (b : Bool). b && (is_done answers.ended.mark.outcome && not reply.is_error)) here.errors ∙ and_not (any_error file.state past) (is_done answers.ended.mark.outcome) reply.is_error
+              ∙ ap (λ (a : Answer). not (any_error file.state past || (not (is_done answers.ended.mark.outcome) || a.is_error))) answers.reply_is;
+          fits = fits_on new writes.folder;
+          waits = waits_next names old history turn read stepped new waits stepping replied;
+          counted = all_counted old stepped new (recorded turn.reply stepped new replied) (stepping.works.moments.added ++ so_far.moments)
+              (stepping.works.moments.is ∙ ap (λ (ms : List Snapshot). stepping.works.moments.added ++ ms) so_far.added ∙ sym (append_assoc stepping.works.moments.added so_far.moments old.trace));
         }
 
   module _ (new : Scene) (marks' : List Mark) (kept : marks' ≡ marks ++ mark ∷ []) (fresh_is : fresh ≡ fresh_reader) (taken : IsTrue tells.script → TakesRequest request reader reader' now read) (frame : ChangesOutput stepped new)
@@ -255,16 +186,16 @@ module _ {T : Type 0} {x : T} (tells : Tells) (name : List ℕ) (old now read st
     writes_of : (n : ℕ) → new.output ≡ stepped.output ++ take n reply.bytes → TellsRun tells → Writes n reply.bytes stepped new
     writes_of n output told = record { output = output; folder = ap (λ (s : Scene). s.folder) frame; faults = faults; added = added told.folder }
 
-    pub cut_turn : (IsTrue tells.output → (n : ℕ) × (new.output ≡ stepped.output ++ take n reply.bytes)) → HasRisen stepped.out_faults new.out_faults → RunsEdit tells name old new ending.OutputFault marks'
-    cut_turn wrote rose =
+    pub cut_reply : (IsTrue tells.output → (n : ℕ) × (new.output ≡ stepped.output ++ take n reply.bytes)) → HasRisen stepped.out_faults new.out_faults → RunsEdit tells name old new ending.OutputFault marks'
+    cut_reply wrote rose =
         let only = only_output stepped new frame in
         record {
           told = λ told.
               let here = turn.told told in
               let cut = wrote told.output in
               let t = taken told.script in
-              let within = read_within fresh reader' old read (here.0 ++ t.first ∷ []) fresh_is (read_on fresh reader reader' old now read here.0 request here.3 t) (track.ended told.script) (counts_now told.script) track.limit in
-              run_cut told here.0 here.1 here.2 here.3 turn.keeps.names t new cut.0 marks' kept (writes_of cut.0 cut.1 told) rose within;
+              let within = read_within fresh reader' old read (λ rest. commands_then here.0 (t.first ∷ rest)) fresh_is (read_on fresh reader reader' old now read (commands_then here.0) request here.2 t) (track.ended told.script) (counts_now told.script) track.limit in
+              run_cut told here.0 here.1 here.2 turn.keeps.names t new cut.0 marks' kept (writes_of cut.0 cut.1 told) rose within;
           swap = λ told is. absurd (cc);
           barred = λ told has. absurd (turn.keeps.free told has);
           file = turn.keeps.file;
@@ -284,10 +215,9 @@ module _ {T : Type 0} {x : T} (tells : Tells) (name : List ℕ) (old now read st
           let here = turn.told told in
           let t = taken told.script in
           let writes = writes_of (length reply.bytes) (wrote told.output ∙ ap (λ (l : List ℕ). stepped.output ++ l) (sym (take_all (length reply.bytes) reply.bytes (omega arith)))) told in (
-            commands' told here.0 here.1 here.2 here.3 turn.keeps.names t,
-            ends' told here.0 here.1 here.2 here.3 turn.keeps.names t,
-            told_on told here.0 here.1 here.2 here.3 turn.keeps.names t new marks' one kept writes cleans,
-            had_on told here t,
+            past' told here.0 here.1 here.2 turn.keeps.names t,
+            told_on told here.0 here.1 here.2 turn.keeps.names t new marks' one kept writes cleans,
+            read_in fresh reader' old read new (λ rest. commands_then here.0 (t.first ∷ rest)) (read_on fresh reader reader' old now read (commands_then here.0) request here.2 t) script_same,
           );
       keeps = record {
         free = turn.keeps.free;
@@ -303,23 +233,17 @@ module _ {T : Type 0} {x : T} (tells : Tells) (name : List ℕ) (old now read st
       counts = λ told. omega (arith, counts_now told, ap (λ (l : List ℕ). length l) script_same);
       times = times_now;
     }
-      where
-        had_on : (told : TellsRun tells) (here : (commands : List Instruction) × (ends : List Ended) × Told name old now session marks clean commands ends × HasRead fresh reader old now commands) (t : TakesRequest request reader reader' now read)
-            → HasRead fresh reader' old new (commands' told here.0 here.1 here.2 here.3 turn.keeps.names t)
-        had_on told here t = read_in fresh reader' old read new (here.0 ++ t.first ∷ []) (read_on fresh reader reader' old now read here.0 request here.3 t) script_same
 
 -- ---- where a run begins to close
 
 -- what is known after a read that succeeded
 told_read : {T : Type 0} {x : T} (tells : Tells) (name : List ℕ) (old now read : Scene) (session : Session) (marks : List Mark) (clean : Bool) → ReadsScript tells (Ok x) now read
-    → TellsRun tells → (commands : List Instruction) (ends : List Ended) → Told name old now session marks clean commands ends → Told name old read session marks clean commands ends
-told_read tells name old now read session marks clean reads told commands ends here = record {
-  one_each = here.one_each;
-  marks_are = here.marks_are;
-  are_answered = here.are_answered;
+    → TellsRun tells → (past : Past) → Told name old now session marks clean past → Told name old read session marks clean past
+told_read tells name old now read session marks clean reads told past here = record {
+  kept = here.kept;
   errors = here.errors;
-  fits = subst (λ (d : Disk). Fits session d (states_after (opened_file old name).state commands ends) (after_turns (opened (text_at old name)) (turns_of (opened_file old name).state commands ends))) (sym (ap (λ (s : Scene). s.folder) reads.frame)) here.fits;
-  going = going_looks (names_of_file name) old (text_at old name) (opening_at old name) now read (turns_of (opened_file old name).state commands ends) (reads_look now read reads.frame (reads.last told.folder)) here.going;
+  fits = subst (λ (d : Disk). Fits session d (state_of (opened_file old name).state past) (syncs_of (history_of (opened_file old name) past))) (sym (ap (λ (s : Scene). s.folder) reads.frame)) here.fits;
+  waits = waits_on (names_of_file name) old (history_of (opened_file old name) past) now read here.waits (reads_look now read reads.frame (reads.last told.folder));
   counted = counted_reads old now read reads.frame (reads.quiet (λ is. cc)) (reads.all told.folder) here.counted;
 }
 
@@ -336,24 +260,22 @@ keeps_read tells name old now read session marks reads keeps =
     }
 
 -- an accepted quit changes nothing that is told
-told_same : (name : List ℕ) (old read stepped : Scene) (session session' : Session) (marks : List Mark) (clean : Bool) (commands : List Instruction) (ends : List Ended) → Told name old read session marks clean commands ends → session' ≡ session
-    → stepped.trace ≡ read.trace → stepped.folder ≡ read.folder → stepped.folder_faults ≡ read.folder_faults → StepsIn read stepped → Told name old stepped session' marks clean commands ends
-told_same name old read stepped session session' marks clean commands ends here same trace folder faults frame =
+told_same : (name : List ℕ) (old read stepped : Scene) (session session' : Session) (marks : List Mark) (clean : Bool) (past : Past) → Told name old read session marks clean past → session' ≡ session
+    → stepped.trace ≡ read.trace → stepped.folder ≡ read.folder → stepped.folder_faults ≡ read.folder_faults → StepsIn read stepped → Told name old stepped session' marks clean past
+told_same name old read stepped session session' marks clean past here same trace folder faults frame =
     let looks : Looks read stepped = record {
       moments = record { added = []; is = trace; each = tt };
       output = ap (λ (s : Scene). s.output) frame;
       folder = folder;
       faults = faults;
     } in
-    let first : SessionState = states_after (opened_file old name).state commands ends in
-    let syncs : List Sync = after_turns (opened (text_at old name)) (turns_of (opened_file old name).state commands ends) in
+    let state : SessionState = state_of (opened_file old name).state past in
+    let history : History = history_of (opened_file old name) past in
     record {
-      one_each = here.one_each;
-      marks_are = here.marks_are;
-      are_answered = here.are_answered;
+      kept = here.kept;
       errors = here.errors;
-      fits = subst (λ (x : Session). Fits x stepped.folder first syncs) (sym same) (subst (λ (d : Disk). Fits session d first syncs) (sym folder) here.fits);
-      going = going_looks (names_of_file name) old (text_at old name) (opening_at old name) read stepped (turns_of (opened_file old name).state commands ends) looks here.going;
+      fits = subst (λ (x : Session). Fits x stepped.folder state (syncs_of history)) (sym same) (subst (λ (d : Disk). Fits session d state (syncs_of history)) (sym folder) here.fits);
+      waits = waits_on (names_of_file name) old history read stepped here.waits looks;
       counted = record {
         script = record { moments = here.counted.script.moments; added = trace ∙ here.counted.script.added; newest = here.counted.script.newest ∙ sym (ap (λ (s : Scene). s.script_faults) frame) };
         output = record { moments = here.counted.output.moments; added = trace ∙ here.counted.output.added; newest = here.counted.output.newest ∙ sym (ap (λ (s : Scene). s.out_faults) frame) };
@@ -367,7 +289,7 @@ pub at_end : {T : Type 0} {x : T} (tells : Tells) (name : List ℕ) (old now rea
 at_end tells name old now read session fresh reader reader' marks clean new reads track none turn = record {
   told = λ told.
       let here = turn.told told in
-      (here.0, here.1, told_read tells name old now read session marks clean reads told here.0 here.1 here.2, (done_is_all old now read fresh reader reader' here.0 new here.3 (none told.script), (none told.script).script));
+      (here.0, told_read tells name old now read session marks clean reads told here.0 here.1, (done_is_all old now read fresh reader reader' (commands_then here.0) new here.2 (none told.script), (none told.script).script));
   keeps = keeps_read tells name old now read session marks reads turn.keeps;
   taken = λ told. few_taken fresh reader' old read new (counts_on fresh reader reader' old now read (turn.counts told) (track.counts told)) track.limit;
   times = λ told. record { more = []; one = omega arith; is = ap (λ (s : Scene). s.answers) reads.frame ∙ turn.times told ∙ sym (append-nil (old.answers ++ map (λ mark. mark.at) marks)) };
@@ -387,12 +309,11 @@ at_quit tells name old now read stepped session session' fresh reader reader' ma
       told = λ told.
           let here = turn.told told in
           let t = taken told.script in
-          let there = told_read tells name old now read session marks clean reads told here.0 here.1 here.2 in
+          let there = told_read tells name old now read session marks clean reads told here.0 here.1 in
           let done = step told.folder _ _ t.first there.fits t.meant in (
             here.0,
-            here.1,
-            told_same name old read stepped session session' marks clean here.0 here.1 there done.1 done.2 done.3 done.4 frame,
-            (t.first, _, sym (all_ahead old fresh new) ∙ here.3.ahead ∙ ap (λ (l : List Instruction). here.0 ++ l) t.ahead, done.0),
+            told_same name old read stepped session session' marks clean here.0 there done.1 done.2 done.3 done.4 frame,
+            (t.first, _, sym (all_ahead old fresh new) ∙ here.2.ahead ∙ ap (commands_then here.0) t.ahead, done.0),
           );
       keeps = record {
         free = keeps.free;

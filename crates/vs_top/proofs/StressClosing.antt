@@ -8,21 +8,23 @@ use Rattle.vs_edit.specs.declared.store.StoreErr.TheVariants as store
 use Rattle.vs_machine.specs.declared.command.Mark.{Mark}
 use Rattle.vs_safety.specs.Texts.{Sync}
 use Rattle.vs_safety.specs.Safety.{IsAdded}
+use Rattle.vs_safety.specs.History.{syncs_of}
 use Rattle.vs_session.specs.declared.session.Session.{Session}
 use Rattle.vs_session.specs.declared.ending.End.TheVariants as end
 use Rattle.vs_session.specs.declared.summary.Summary.{Summary}
-use Rattle.vs_session.specs.Session.{SessionState, Ended}
+use Rattle.vs_session.specs.Session.{SessionState}
 use Rattle.vs_session.specs.Calls.{Finishes}
 use Rattle.vs_session.specs.Fits.{Fits, names_of}
 use Rattle.vs_session.specs.Summary.{summary_of}
 use Rattle.vs_stress.specs.Arguments.{summary_line}
 use Rattle.vs_stress.specs.Commands.{stress_commands}
 use Rattle.vs_top.specs.Ending.{store_ending}
-use Rattle.vs_top.specs.Run.{Did}
-use Rattle.vs_top.specs.Stress.{TellsStress, RunsStress, stress_line, stress_state, stress_syncs}
+use Rattle.vs_top.specs.History.{Past}
+use Rattle.vs_top.specs.Promise.{RunsStress}
+use Rattle.vs_top.specs.Stress.{TellsStress, stress_history, stress_line, stress_state}
 use Rattle.vs_top.specs.StressTurns.{IsStressTurn}
 use Rattle.vs_top.specs.declared.ending.Ending.TheVariants as ending
-use Rattle.vs_top.proofs.StressEnds.{did_of, line_cut, no_memory, no_summary, removal_fails, still_ends, stress_ends, turn_still}
+use Rattle.vs_top.proofs.StressEnds.{line_cut, no_memory, no_summary, removal_fails, still_ends, stress_ends, turn_still}
 
 -- What asking a session for its summary did.
 pub record HasSummed (tells : Tells) (now new : Scene) (session after : Session) : Type 0 where
@@ -40,9 +42,9 @@ module _ (OfHost : Scene → Type 0) (tells : Tells) (count : ℕ) (old now new 
   after_summary : IsStressTurn OfHost tells old new after marks clean (stress_commands count)
   after_summary = turn_still OfHost tells old now session marks clean (stress_commands count) turn new after summed.frame summed.later summed.still summed.names summed.fits
 
-  ends_same : (told : TellsStress tells) → (turn.told told).0 ≡ (after_summary.told told).0
+  past_same : (told : TellsStress tells) → (turn.told told).0 ≡ (after_summary.told told).0
   unfolding after_summary
-  ends_same told = still_ends OfHost tells old now session marks clean (stress_commands count) turn new after summed.frame summed.later summed.still summed.names summed.fits told
+  past_same told = still_ends OfHost tells old now session marks clean (stress_commands count) turn new after summed.frame summed.later summed.still summed.names summed.fits told
 
   -- there was no memory
   pub close_no_memory : RunsStress OfHost tells count old new ending.NoMemory marks
@@ -61,16 +63,12 @@ module _ (OfHost : Scene → Type 0) (tells : Tells) (count : ℕ) (old now new 
     some : 0 < length line
     some = subst (λ (l : List ℕ). 0 < length l) (sym made) (line_some count summary.lines summary.changes summary.syncs summary.digest)
 
-    line_of : (did : Did) → summary ≡ summary_of (stress_state old did) (stress_syncs old did) → line ≡ stress_line count old did
-    line_of did same = made ∙ ap (λ (s : Summary). summary_line count s.lines s.changes s.syncs s.digest) same
-
-    summary_is : (told : TellsStress tells) → (ends : List Ended) → (turn.told told).0 ≡ ends → summary ≡ summary_of (stress_state old (did_of (stress_commands count) ends)) (stress_syncs old (did_of (stress_commands count) ends))
-    summary_is told ends same =
-        is told.folder (stress_state old (did_of (stress_commands count) (turn.told told).0)) (stress_syncs old (did_of (stress_commands count) (turn.told told).0)) (turn.told told).1.fits
-        ∙ ap (λ (es : List Ended). summary_of (stress_state old (did_of (stress_commands count) es)) (stress_syncs old (did_of (stress_commands count) es))) same
-
-    line_is : (told : TellsStress tells) → line ≡ stress_line count old (did_of (stress_commands count) (after_summary.told told).0)
-    line_is told = line_of (did_of (stress_commands count) (after_summary.told told).0) (summary_is told (after_summary.told told).0 (ends_same told))
+    line_is : (told : TellsStress tells) → line ≡ stress_line count old (after_summary.told told).0
+    line_is told = made ∙ ap (λ (s : Summary). summary_line count s.lines s.changes s.syncs s.digest) (summary_is (after_summary.told told).0 (past_same told))
+      where
+        summary_is : (past : Past) → (turn.told told).0 ≡ past → summary ≡ summary_of (stress_state old past) (syncs_of (stress_history old past))
+        summary_is past same = is told.folder (stress_state old (turn.told told).0) (syncs_of (stress_history old (turn.told told).0)) (turn.told told).2.fits
+            ∙ ap (λ (p : Past). summary_of (stress_state old p) (syncs_of (stress_history old p))) same
 
     -- it was not written whole
     pub close_cut : (mid : Scene) → ChangesOutput new mid → (IsTrue tells.folder → IsAdded WroteOutput [] new mid) → (IsTrue tells.output → (n : ℕ) × (mid.output ≡ new.output ++ take n line)) → HasRisen new.out_faults mid.out_faults

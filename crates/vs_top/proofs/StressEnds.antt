@@ -1,7 +1,6 @@
 -- The opening and the end of the stress mode, and what it answered where it stops.
 use Rattle.std.proofs.Common.{◌≡◌, ◌⊎◌, inl, inr, ℕ, ◌≤◌, ◌<◌, ◌+◌, Bool, true, false, not, if◌then◌else◌, List, [], ◌∷◌, ◌++◌, length, take, map, All, None, IsTrue, Ok, Err, IsErrAnd, refl, sym, ap, subst, ◌∙◌, append_assoc, append-nil, arith}
 use Rattle.std.specs.declared.result.Result.{Result}
-use Rattle.std.proofs.lemmas.Bool.{true≢false}
 use Rattle.std.proofs.lemmas.Bool.Decides.{leb_tells}
 use Rattle.std.proofs.lemmas.List.{length-append, take_all}
 use Rattle.vs_faults.specs.Faults.{HasRisen}
@@ -19,7 +18,8 @@ use Rattle.vs_pair.specs.Steps.{IsFresh}
 use Rattle.vs_excmd.specs.Request.{Instruction}
 use Rattle.vs_machine.specs.declared.command.Mark.{Mark}
 use Rattle.vs_safety.specs.Texts.{Text, Sync, IsBetween, Recovers, RecoversOrNone, recoverable}
-use Rattle.vs_safety.specs.Turns.{NotBegun, Turn, after_turns, opened}
+use Rattle.vs_safety.specs.Turns.{NotBegun, Turn}
+use Rattle.vs_safety.specs.History.{syncs_of}
 use Rattle.vs_safety.specs.Safety.{IsAdded, Spares, Works}
 use Rattle.vs_safety.specs.Causes.{IsCounted, RoseLast, folder_count, output_count}
 use Rattle.vs_safety.proofs.Causes.{rose_at, rose_last}
@@ -27,27 +27,30 @@ use Rattle.vs_safety.proofs.Texts.{between_recovers}
 use Rattle.vs_paged.proofs.SyncLemmas.{fits_between}
 use Rattle.vs_session.specs.declared.session.Session.{Session}
 use Rattle.vs_session.specs.declared.ending.End.TheVariants as end
-use Rattle.vs_session.specs.Session.{SessionState, Ended, states_after, turns_of}
+use Rattle.vs_session.specs.Session.{SessionState}
 use Rattle.vs_session.specs.Calls.{Finishes}
 use Rattle.vs_session.specs.Fits.{Fits, names_of}
 use Rattle.vs_stress.specs.Commands.{stress_commands}
 use Rattle.vs_top.specs.Ending.{ending_in}
+use Rattle.vs_top.specs.History.{Past, any_error}
+use Rattle.vs_top.specs.Promise.{HasStress, RunsStress, row}
 use Rattle.vs_top.specs.Run.{Did, FaultHasCause, KeepsMarks, IsTimed, OnlyFolder, counts_of, opened_file}
-use Rattle.vs_top.specs.Stress.{TellsStress, HasStress, HasStressed, HasStretches, IsBeforeLine, IsBehind, IsStressMoment, IsStressSafe, RunsStress, StressEnds, StressedBy, folder_after, is_up_to, stress_line, stress_name, stress_text}
+use Rattle.vs_top.specs.Stress.{TellsStress, HasStressed, HasStretches, IsBeforeLine, IsBehind, IsStressMoment, IsStressSafe, StressEnds, folder_after, is_up_to, stress_history, stress_line, stress_name, stress_state, stress_text, stress_turns}
 use Rattle.vs_top.specs.StressTurns.{IsStressTurn}
 use Rattle.vs_top.specs.declared.ending.Ending.{Ending}
 use Rattle.vs_top.specs.declared.ending.Ending.TheVariants as ending
 use Rattle.vs_top.proofs.Counting.{all_counted, causes_on, only_folder, only_output, only_then}
 use Rattle.vs_top.proofs.Pushes.{flip_clean}
-use Rattle.vs_top.proofs.StressFolders.{folders_on, later_read, later_written, stretches_later, stretches_on, told_folder}
+use Rattle.vs_top.proofs.StressSteps.{commands_are}
+use Rattle.vs_top.proofs.StressFolders.{stress_syncs, folders_on, later_read, later_written, stretches_later, stretches_on, told_folder}
 
 -- ---- what is known, as the end of it
 
 abbrev names : Names
 names = names_of_file stress_name
 
-abbrev pub did_of : List Instruction → List Ended → Did
-did_of commands ends = record { commands = commands; ends = ends; closing = NotBegun }
+abbrev pub did_of : Past → Did
+did_of past = record { past = past; closing = NotBegun }
 
 pub at_moment : (start : Scene) (text : Text) (turns : List Turn) (line : List ℕ) (m : Snapshot) → IsBeforeLine names start text turns m → IsStressMoment names start text turns line m
 at_moment start text turns line m is = record { spared = is.spared; recovers = elim is.recovers [ inl opening ↦ inl opening | inr command ↦ inr (inl command) ] }
@@ -61,34 +64,32 @@ full_last start now moments added (inl less) = absurd (omega (arith, less))
 full_last start now moments added (inr full) = record { last = []; earlier = moments; one = omega arith; is = added; rose = inr full }
 
 module _ (OfHost : Scene → Type 0) (tells : Tells) (old now : Scene) (session : Session) (marks : List Mark) (clean : Bool) (commands : List Instruction) (turn : IsStressTurn OfHost tells old now session marks clean commands) where
-  moments_now : (told : TellsStress tells) (line : List ℕ) → let here = turn.told told in Each (IsStressMoment names old (stress_text old) (turns_of (opened_file old stress_name).state commands here.0) line) here.1.moments
+  moments_now : (told : TellsStress tells) (line : List ℕ) → let here = turn.told told in Each (IsStressMoment names old (stress_text old) (stress_turns old here.0) line) here.2.moments
   moments_now told line =
       let here = turn.told told in
-      let turns = turns_of (opened_file old stress_name).state commands here.0 in
-      Each-weaker (IsBeforeLine names old (stress_text old) turns) (IsStressMoment names old (stress_text old) turns line) (λ m is. at_moment old (stress_text old) turns line m is) here.1.moments here.1.safe
+      let turns = stress_turns old here.0 in
+      Each-weaker (IsBeforeLine names old (stress_text old) turns) (IsStressMoment names old (stress_text old) turns line) (λ m is. at_moment old (stress_text old) turns line m is) here.2.moments here.2.safe
 
-  safe_now : (told : TellsStress tells) (line : List ℕ) → let here = turn.told told in IsStressSafe OfHost names old now (stress_text old) (turns_of (opened_file old stress_name).state commands here.0) line
+  safe_now : (told : TellsStress tells) (line : List ℕ) → let here = turn.told told in IsStressSafe OfHost names old now (stress_text old) (stress_turns old here.0) line
   safe_now told line =
-      let here = turn.told told in record { moments = here.1.moments; added = here.1.added; safe = moments_now told line; spared = here.1.spared; steps = here.1.steps }
+      let here = turn.told told in record { moments = here.2.moments; added = here.2.added; safe = moments_now told line; spared = here.2.spared; steps = here.2.steps }
 
   -- the run stops before it writes the line
-  pub stops : (count : ℕ) (end : Ending) → (told : TellsStress tells) → StressedBy end count old now marks (did_of commands (turn.told told).0) → Rattle.vs_top.specs.Run.FailedBy end old now → Rattle.vs_top.specs.Run.is_early end ≡ false
-      → HasStress OfHost count old now end marks
-  stops count end told answered failed late =
+  pub stops : (count : ℕ) (end : Ending) → (told : TellsStress tells) → (row end).stressed count old now marks (did_of (turn.told told).0) → (row end).last old now → HasStress OfHost count old now end marks
+  stops count end told answered last =
       let here = turn.told told in
       record {
-        did = did_of commands here.0;
-        kept = record { one_each = here.1.one_each; marks_are = here.1.marks_are; are_answered = here.1.are_answered };
+        did = did_of here.0;
+        kept = here.2.kept;
         answered = answered;
-        safe = λ free. safe_now told (stress_line count old (did_of commands here.0));
-        failed = failed;
-        looks = λ early. absurd (true≢false (sym early ∙ late));
+        safe = λ free. safe_now told (stress_line count old here.0);
+        last = last;
       }
 
   -- there is no memory
   pub no_memory : (count : ℕ) (rest : List Instruction) → stress_commands count ≡ commands ++ rest → RunsStress OfHost tells count old now ending.NoMemory marks
   no_memory count rest is = record {
-    told = λ told. stops count ending.NoMemory told (record { rest = rest; first = is; output = (turn.told told).1.output }) tt refl;
+    told = λ told. stops count ending.NoMemory told (record { rest = rest; first = is ∙ sym (ap (λ (l : List Instruction). l ++ rest) (turn.told told).1) ∙ sym (commands_are (turn.told told).0 rest); output = (turn.told told).2.output }) tt;
     swap = λ told same. absurd (cc);
     barred = λ told has. absurd (turn.keeps.free told has);
     file = λ told. tt;
@@ -103,7 +104,7 @@ module _ (OfHost : Scene → Type 0) (tells : Tells) (old now : Scene) (session 
   no_summary count was all rose later last = record {
     told = λ told.
         let here = turn.told told in
-        stops count ending.FolderFault told (inr (inl (record { all = all; output = here.1.output ∙ sym (append-nil old.output) }))) (full_last old now here.1.moments here.1.added (last told.folder)) refl;
+        stops count ending.FolderFault told (inr (inl (record { all = here.1 ∙ all; output = here.2.output ∙ sym (append-nil old.output) }))) (full_last old now here.2.moments here.2.added (last told.folder));
     swap = λ told same. absurd (cc);
     barred = λ told has. absurd (turn.keeps.free told has);
     file = λ told. tt;
@@ -121,22 +122,21 @@ module _ (OfHost : Scene → Type 0) (tells : Tells) (old now : Scene) (session 
         let here = turn.told told in
         let is = still told.folder in (
           here.0,
+          here.1,
           record {
-            one_each = here.1.one_each;
-            marks_are = here.1.marks_are;
-            are_answered = here.1.are_answered;
-            errors = here.1.errors;
-            fits = fits told.folder _ _ here.1.fits;
-            moments = here.1.moments;
-            added = ap (λ (s : Scene). s.trace) is ∙ here.1.added;
-            safe = here.1.safe;
-            spared = subst (λ (s : Scene). Rattle.vs_disk.specs.Names.SameAt (is_foreign names) old.folder s.folder) (sym is) here.1.spared;
-            steps = subst (λ (s : Scene). HasStretches OfHost names old here.1.moments (turns_of (opened_file old stress_name).state commands here.0) s.folder_faults) (sym is) here.1.steps;
-            newest_at_start = here.1.newest_at_start;
-            newest = subst HasNewest (sym is) here.1.newest;
-            output = ap (λ (s : Scene). s.output) is ∙ here.1.output;
-            answers = ap (λ (s : Scene). length s.answers) is ∙ here.1.answers;
-            counted = subst (λ (s : Scene). IsCounted output_count old s) (sym is) here.1.counted;
+            kept = here.2.kept;
+            errors = here.2.errors;
+            fits = fits told.folder _ _ here.2.fits;
+            moments = here.2.moments;
+            added = ap (λ (s : Scene). s.trace) is ∙ here.2.added;
+            safe = here.2.safe;
+            spared = subst (λ (s : Scene). Rattle.vs_disk.specs.Names.SameAt (is_foreign names) old.folder s.folder) (sym is) here.2.spared;
+            steps = subst (λ (s : Scene). HasStretches OfHost names old here.2.moments (stress_turns old here.0) s.folder_faults) (sym is) here.2.steps;
+            newest_at_start = here.2.newest_at_start;
+            newest = subst HasNewest (sym is) here.2.newest;
+            output = ap (λ (s : Scene). s.output) is ∙ here.2.output;
+            answers = ap (λ (s : Scene). length s.answers) is ∙ here.2.answers;
+            counted = subst (λ (s : Scene). IsCounted output_count old s) (sym is) here.2.counted;
           },
         );
     keeps = record {
@@ -160,23 +160,23 @@ module _ (OfHost : Scene → Type 0) (tells : Tells) (old now : Scene) (session 
   -- ---- the line
 
   module _ (count : ℕ) (all : commands ≡ stress_commands count) (line : List ℕ) (some : 0 < length line)
-      (line_is : (told : TellsStress tells) → line ≡ stress_line count old (did_of commands (turn.told told).0)) where
-    abbrev ends : TellsStress tells → List Ended
-    ends told = (turn.told told).0
+      (line_is : (told : TellsStress tells) → line ≡ stress_line count old (turn.told told).0) where
+    abbrev past : TellsStress tells → Past
+    past told = (turn.told told).0
 
     abbrev turns : TellsStress tells → List Turn
-    turns told = turns_of (opened_file old stress_name).state commands (ends told)
+    turns told = stress_turns old (past told)
 
     -- the line as the commands have it
     abbrev told_line : TellsStress tells → List ℕ
-    told_line told = stress_line count old (did_of commands (ends told))
+    told_line told = stress_line count old (past told)
 
     -- what is known of the folder after the write of the line, or of a part of it
     put_safe : (new : Scene) → ChangesOutput now new → (IsTrue tells.folder → IsAdded WroteOutput [] now new) → (told : TellsStress tells) → (n : ℕ) → new.output ≡ old.output ++ take n (told_line told)
         → IsStressSafe OfHost names old new (stress_text old) (turns told) (told_line told)
     put_safe new frame added told n output =
-        let here = (turn.told told).1 in
-        let syncs : List Sync = after_turns (opened (stress_text old)) (turns told) in
+        let here = (turn.told told).2 in
+        let syncs : List Sync = syncs_of (stress_history old (past told)) in
         let folder : new.folder ≡ now.folder = ap (λ (s : Scene). s.folder) frame in
         let answers : length new.answers ≡ length old.answers + length (turns told) = ap (λ (s : Scene). length s.answers) frame ∙ here.answers in
         let between : IsBetween names syncs now.folder = subst (λ (n : Names). IsBetween n syncs now.folder) turn.keeps.names (fits_between session.text now.folder _ _ here.fits.stands.text) in
@@ -189,7 +189,8 @@ module _ (OfHost : Scene → Type 0) (tells : Tells) (old now : Scene) (session 
           recovers = inr (inr (inl (record {
             answered = answers;
             written = (n, output);
-            recovers = subst (λ (d : Disk). Recovers names (recoverable syncs) d) (sym folder) (between_recovers names syncs now.folder between);
+            recovers = subst (λ (ss : List Sync). Recovers names (recoverable ss) new.folder) (sym (stress_syncs old (past told) []))
+                (subst (λ (d : Disk). Recovers names (recoverable syncs) d) (sym folder) (between_recovers names syncs now.folder between));
           })));
         } in
         let same : (k : ℕ) → 0 ≤ k → k ≤ 0 + length (turns told) → folder_after old here.moments k ≡ folder_after old (last ∷ here.moments) k = λ k least most.
@@ -197,7 +198,7 @@ module _ (OfHost : Scene → Type 0) (tells : Tells) (old now : Scene) (session 
           elim (leb_tells (length (turns told)) k) [
             | inl end ↦
                 let is : k ≡ length (turns told) = omega (arith, most, end.1) in
-                inr (folder ∙ sym (told_folder OfHost old now session marks clean commands (ends told) here) ∙ ap (λ (k : ℕ). folder_after old here.moments k) (sym is))
+                inr (folder ∙ sym (told_folder OfHost old now session marks clean (past told) here) ∙ ap (λ (k : ℕ). folder_after old here.moments k) (sym is))
             | inr earlier ↦ inl (later_read old k last (omega (arith, answers, earlier.1)))
           ],
           tt,
@@ -223,14 +224,13 @@ module _ (OfHost : Scene → Type 0) (tells : Tells) (old now : Scene) (session 
           told = λ told.
               let here = turn.told told in
               let cut = wrote told.output in
-              let output : new.output ≡ old.output ++ take cut.0 (told_line told) = cut.1 ∙ ap (λ (l : List ℕ). l ++ take cut.0 line) here.1.output ∙ ap (λ (l : List ℕ). old.output ++ take cut.0 l) (line_is told) in
+              let output : new.output ≡ old.output ++ take cut.0 (told_line told) = cut.1 ∙ ap (λ (l : List ℕ). l ++ take cut.0 line) here.2.output ∙ ap (λ (l : List ℕ). old.output ++ take cut.0 l) (line_is told) in
               record {
-                did = did_of commands here.0;
-                kept = record { one_each = here.1.one_each; marks_are = here.1.marks_are; are_answered = here.1.are_answered };
-                answered = (cut.0, record { all = all; output = output });
+                did = did_of here.0;
+                kept = here.2.kept;
+                answered = (cut.0, record { all = here.1 ∙ all; output = output });
                 safe = λ free. put_safe new frame added told cut.0 output;
-                failed = rose_at output_count old now new WroteOutput [] (added told.folder) rose here.1.counted;
-                looks = λ early. absurd (true≢false (sym early));
+                last = rose_at output_count old now new WroteOutput [] (added told.folder) rose here.2.counted;
               };
           swap = λ told same. absurd (cc);
           barred = λ told has. absurd (turn.keeps.free told has);
@@ -264,10 +264,10 @@ module _ (OfHost : Scene → Type 0) (tells : Tells) (old now : Scene) (session 
 
       module _ (told : TellsStress tells) where
         abbrev syncs : List Sync
-        syncs = after_turns (opened (stress_text old)) (turns told)
+        syncs = syncs_of (stress_history old (past told))
 
         mid_output : mid.output ≡ old.output ++ told_line told
-        mid_output = wrote told.output ∙ ap (λ (l : List ℕ). l ++ line) (turn.told told).1.output ∙ ap (λ (l : List ℕ). old.output ++ l) (line_is told)
+        mid_output = wrote told.output ∙ ap (λ (l : List ℕ). l ++ line) (turn.told told).2.output ∙ ap (λ (l : List ℕ). old.output ++ l) (line_is told)
 
         long_line : length old.output < length (old.output ++ told_line told)
         long_line = omega (arith, some, ap (λ (l : List ℕ). length l) (line_is told), length-append old.output (told_line told))
@@ -278,7 +278,7 @@ module _ (OfHost : Scene → Type 0) (tells : Tells) (old now : Scene) (session 
         works : Works names None (RecoversOrNone names (recoverable syncs)) mid new
         works =
             subst (λ (n : Names). Works n None (RecoversOrNone n (recoverable syncs)) mid new) turn.keeps.names
-            (finishes.quit refl told.folder _ syncs (subst (λ (d : Disk). Fits session d (states_after (opened_file old stress_name).state commands (ends told)) syncs) (sym (ap (λ (s : Scene). s.folder) frame)) (turn.told told).1.fits)).works
+            (finishes.quit refl told.folder _ syncs (subst (λ (d : Disk). Fits session d (stress_state old (past told)) syncs) (sym (ap (λ (s : Scene). s.folder) frame)) (turn.told told).2.fits)).works
 
         -- a moment of the removal
         abbrev OfRemoval : Snapshot → Type 0
@@ -288,9 +288,9 @@ module _ (OfHost : Scene → Type 0) (tells : Tells) (old now : Scene) (session 
         removal m inside = record {
           spared = same_then (is_foreign names) old.folder mid.folder m.folder mid_safe.spared inside.folder.spared;
           recovers = inr (inr (inr (record {
-            answered = inside.answered ∙ ap (λ (s : Scene). length s.answers) finishes.frame ∙ ap (λ (s : Scene). length s.answers) frame ∙ (turn.told told).1.answers;
+            answered = inside.answered ∙ ap (λ (s : Scene). length s.answers) finishes.frame ∙ ap (λ (s : Scene). length s.answers) frame ∙ (turn.told told).2.answers;
             written = inside.output ∙ works.output ∙ mid_output;
-            recovers = inside.folder.folder;
+            recovers = subst (λ (ss : List Sync). RecoversOrNone names (recoverable ss) m.folder) (sym (stress_syncs old (past told) [])) inside.folder.folder;
           })));
         }
 
@@ -318,15 +318,15 @@ module _ (OfHost : Scene → Type 0) (tells : Tells) (old now : Scene) (session 
                   (stretches_on OfHost names old was.moments works.moments.added (turns told) mid.folder_faults all_behind same_folders was.steps);
             }
 
-        stressed : HasStressed count old new (did_of commands (ends told)) (told_line told)
-        stressed = record { all = all; output = works.output ∙ mid_output }
+        stressed : HasStressed count old new (did_of (past told)) (told_line told)
+        stressed = record { all = (turn.told told).1 ∙ all; output = works.output ∙ mid_output }
 
-        kept : KeepsMarks (opened_file old stress_name) marks (did_of commands (ends told))
-        kept = let here = (turn.told told).1 in record { one_each = here.one_each; marks_are = here.marks_are; are_answered = here.are_answered }
+        kept : KeepsMarks (opened_file old stress_name) marks (past told)
+        kept = (turn.told told).2.kept
 
         counted : IsCounted folder_count old mid
         counted = elim (added told.folder) [
-          | inl told_here ↦ (all_counted old now mid told_here (turn.told told).1.moments (turn.told told).1.added).folder
+          | inl told_here ↦ (all_counted old now mid told_here (turn.told told).2.moments (turn.told told).2.added).folder
           | inr left ↦ absurd (omega (arith, some, ap (λ (l : List ℕ). length l) left.output, ap (λ (l : List ℕ). length l) (wrote told.output), length-append now.output line))
         ]
 
@@ -334,12 +334,11 @@ module _ (OfHost : Scene → Type 0) (tells : Tells) (old now : Scene) (session 
       pub removal_fails : HasRisen mid.folder_faults new.folder_faults → RunsStress OfHost tells count old new ending.FolderFault marks
       removal_fails rose = record {
         told = λ told. record {
-          did = did_of commands (ends told);
+          did = did_of (past told);
           kept = kept told;
           answered = inr (inr (stressed told));
           safe = λ free. end_safe told;
-          failed = rose_last folder_count old mid new (λ m no_fault. no_fault.folder) (finishes.last told.folder) rose (counted told);
-          looks = λ early. absurd (true≢false (sym early));
+          last = rose_last folder_count old mid new (λ m no_fault. no_fault.folder) (finishes.last told.folder) rose (counted told);
         };
         swap = λ told same. absurd (cc);
         barred = λ told has. absurd (turn.keeps.free told has);
@@ -352,20 +351,20 @@ module _ (OfHost : Scene → Type 0) (tells : Tells) (old now : Scene) (session 
 
       -- all is done
       pub stress_ends : ok ≡ true → RunsStress OfHost tells count old new (if clean then ending.Done else ending.WithErrors) marks
-      stress_ends done = by_clean clean (λ told. (turn.told told).1.errors)
+      stress_ends done = by_clean clean (λ told. (turn.told told).2.errors)
         where
-          ends_as : (b : Bool) → ((told : TellsStress tells) → b ≡ not (Rattle.vs_session.specs.Session.any_error (opened_file old stress_name).state commands (ends told))) → (told : TellsStress tells)
-              → StressEnds (not b) count old new (did_of commands (ends told))
+          ends_as : (b : Bool) → ((told : TellsStress tells) → b ≡ not (any_error (opened_file old stress_name).state (past told))) → (told : TellsStress tells)
+              → StressEnds (not b) count old new (did_of (past told))
           ends_as b errors told = record {
             stressed = stressed told;
             errors_are = flip_clean b _ (errors told);
             gone = subst (λ (n : Names). IsFresh n new.folder) turn.keeps.names (finishes.gone done refl told.folder);
           }
 
-          by_clean : (b : Bool) → ((told : TellsStress tells) → b ≡ not (Rattle.vs_session.specs.Session.any_error (opened_file old stress_name).state commands (ends told)))
+          by_clean : (b : Bool) → ((told : TellsStress tells) → b ≡ not (any_error (opened_file old stress_name).state (past told)))
               → RunsStress OfHost tells count old new (if b then ending.Done else ending.WithErrors) marks
           by_clean true errors = record {
-            told = λ told. record { did = did_of commands (ends told); kept = kept told; answered = ends_as true errors told; safe = λ free. end_safe told; failed = tt; looks = λ early. absurd (true≢false (sym early)) };
+            told = λ told. record { did = did_of (past told); kept = kept told; answered = ends_as true errors told; safe = λ free. end_safe told; last = tt };
             swap = λ told same. absurd (cc);
             barred = λ told has. absurd (turn.keeps.free told has);
             file = turn.keeps.file;
@@ -375,7 +374,7 @@ module _ (OfHost : Scene → Type 0) (tells : Tells) (old now : Scene) (session 
             times = times_new;
           }
           by_clean false errors = record {
-            told = λ told. record { did = did_of commands (ends told); kept = kept told; answered = ends_as false errors told; safe = λ free. end_safe told; failed = tt; looks = λ early. absurd (true≢false (sym early)) };
+            told = λ told. record { did = did_of (past told); kept = kept told; answered = ends_as false errors told; safe = λ free. end_safe told; last = tt };
             swap = λ told same. absurd (cc);
             barred = λ told has. absurd (turn.keeps.free told has);
             file = turn.keeps.file;

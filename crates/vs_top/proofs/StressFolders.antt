@@ -10,14 +10,14 @@ use Rattle.vs_host.specs.Trace.{Snapshot, Each}
 use Rattle.vs_host.specs.World.{Scene, HasNewest}
 use Rattle.vs_host.specs.declared.names.Names.{Names}
 use Rattle.vs_disk.proofs.Runs.{Each-append, Each-weaker}
-use Rattle.vs_excmd.specs.Request.{Instruction}
 use Rattle.vs_machine.specs.declared.command.Mark.{Mark}
 use Rattle.vs_safety.specs.Texts.{Text}
-use Rattle.vs_safety.specs.Turns.{Turn}
+use Rattle.vs_safety.specs.Turns.{Turn, after_turns, opened}
+use Rattle.vs_safety.specs.History.{syncs_of, turns_then}
 use Rattle.vs_session.specs.declared.session.Session.{Session}
-use Rattle.vs_session.specs.Session.{Ended, turns_of}
-use Rattle.vs_top.specs.Run.{opened_file}
-use Rattle.vs_top.specs.Stress.{HasCount, HasEnds, HasSteps, HasStretches, IsBeforeLine, IsBehind, folder_after, is_up_to, stress_name, stress_text}
+use Rattle.vs_session.specs.Session.{turn_of}
+use Rattle.vs_top.specs.History.{Past}
+use Rattle.vs_top.specs.Stress.{HasCount, HasEnds, HasSteps, HasStretches, IsBeforeLine, IsBehind, folder_after, is_up_to, stress_history, stress_name, stress_state, stress_text, stress_turns}
 use Rattle.vs_top.specs.StressTurns.{StressTold}
 
 -- ---- which moments are behind a command
@@ -39,6 +39,12 @@ before_line names start text turns n most m is = elim is.recovers [
       let rest : List Turn = at.turn ∷ at.rest in
       up_to start n m (omega (arith, at.answered, most, ap (λ (ts : List Turn). length ts) at.turns_are, length-append at.first rest)) (omega (arith, ap (λ (l : List ℕ). length l) at.written))
 ]
+
+-- ---- the syncs
+
+pub stress_syncs : (old : Scene) (past : Past) (rest : List Turn) → after_turns (opened (stress_text old)) (turns_then (stress_history old past) rest) ≡ after_turns (syncs_of (stress_history old past)) rest
+stress_syncs old [] rest = refl
+stress_syncs old (last ∷ past) rest = stress_syncs old past (turn_of (stress_state old past) last.instruction last.ended ∷ rest)
 
 -- ---- the folder
 
@@ -63,10 +69,10 @@ folder_now start now n (m ∷ older) first last added each =
     let same : m ≡ last.newest = ap (λ (ms : List Snapshot). get_or ms 0 m) (sym added ∙ last.is) in
     ap (λ (b : Bool). if b then m.folder else folder_after start older n) each.0 ∙ ap (λ (m : Snapshot). m.folder) same ∙ last.folder
 
-pub told_folder : (OfHost : Scene → Type 0) (old now : Scene) (session : Session) (marks : List Mark) (clean : Bool) (commands : List Instruction) (ends : List Ended) (here : StressTold OfHost old now session marks clean commands ends)
-    → folder_after old here.moments (length (turns_of (opened_file old stress_name).state commands ends)) ≡ now.folder
-told_folder OfHost old now session marks clean commands ends here =
-    let turns = turns_of (opened_file old stress_name).state commands ends in
+pub told_folder : (OfHost : Scene → Type 0) (old now : Scene) (session : Session) (marks : List Mark) (clean : Bool) (past : Past) (here : StressTold OfHost old now session marks clean past)
+    → folder_after old here.moments (length (stress_turns old past)) ≡ now.folder
+told_folder OfHost old now session marks clean past here =
+    let turns = stress_turns old past in
     folder_now old now (length turns) here.moments here.newest_at_start here.newest here.added
     (Each-weaker (IsBeforeLine (names_of_file stress_name) old (stress_text old) turns) (λ m. is_up_to old (length turns) m ≡ true)
     (before_line (names_of_file stress_name) old (stress_text old) turns (length turns) (omega arith)) here.moments here.safe)

@@ -1,19 +1,20 @@
 -- The arguments of the stress mode, and what comes of it where no call fails.
-use Rattle.std.proofs.Common.{◌≡◌, ℕ, List, [], ◌∷◌, All, Option, Some, None, IfSome, get_or, refl, sym, ◌∙◌, ap, subst, arith}
+use Rattle.std.proofs.Common.{◌≡◌, ℕ, List, [], ◌∷◌, All, Option, Some, None, IfSome, get_or, sym, ◌∙◌, ap, subst, arith}
 use Rattle.std.specs.Prelude.{codes}
 use Rattle.std.specs.Str.Parse.{digits_value}
 use Rattle.vs_stress.specs.Arguments.{IsCount}
 use Rattle.vs_host.specs.World.{Tells, Scene, content_of}
 use Rattle.vs_machine.specs.declared.command.Mark.{Mark}
 use Rattle.vs_top.specs.Forms.{IsForm, word_of}
-use Rattle.vs_top.specs.Run.{CountsBy, IsThrough, IsThroughMark, counts_of}
-use Rattle.vs_top.specs.Stress.{IsStress, IsStressUnhindered, RunsStress, stress_name}
+use Rattle.vs_top.specs.Promise.{RunsStress, row}
+use Rattle.vs_top.specs.Unhindered.{IsStressUnhindered, IsThrough, IsThroughMark}
+use Rattle.vs_top.specs.Run.{counts_of}
+use Rattle.vs_top.specs.Stress.{IsStress, stress_name}
 use Rattle.vs_top.specs.declared.ending.Ending.{Ending}
 use Rattle.vs_top.specs.declared.ending.Ending.TheVariants as ending
 use Rattle.vs_top.specs.declared.form.Mode.{Mode}
 use Rattle.vs_top.specs.declared.form.Mode.TheVariants as mode
-use Rattle.vs_top.proofs.Edits.{through_outcome}
-use Rattle.vs_top.proofs.Limits.{passes_no_limit}
+use Rattle.vs_top.proofs.Edits.{through_outcome, through_row}
 use Rattle.vs_top.proofs.Words.{same_second}
 
 -- no other mode begins with its letter
@@ -39,23 +40,13 @@ one_count words a b first second =
     sym first.2.says ∙ ap (λ (word : List ℕ). digits_value 10 word) same ∙ second.2.says
 
 pub never_usage : (OfHost : Scene → Type 0) (tells : Tells) (count : ℕ) (old new : Scene) (end : Ending) (marks : List Mark) → RunsStress OfHost tells count old new end marks → end ≡ ending.Usage → ⊥
-never_usage OfHost tells count old new end marks runs is = subst (λ (e : Ending). CountsBy e (counts_of old) (counts_of new)) is runs.counts
+never_usage OfHost tells count old new end marks runs is = subst (λ (e : Ending). (row e).counts (counts_of old) (counts_of new)) is runs.counts
 
-pub stress_through : (OfHost : Scene → Type 0) (tells : Tells) (count : ℕ) (old new : Scene) (end : Ending) (marks : List Mark) → RunsStress OfHost tells count old new end marks → IsStressUnhindered tells old new → IsThrough end
-stress_through OfHost tells count old new ending.Done marks runs free = tt
-stress_through OfHost tells count old new ending.WithErrors marks runs free = tt
-stress_through OfHost tells count old new ending.Usage marks runs free = runs.counts
-stress_through OfHost tells count old new ending.SwapFound marks runs free = free.free (runs.swap free.told.folder refl)
-stress_through OfHost tells count old new ending.NoSwap marks runs free = runs.counts
-stress_through OfHost tells count old new ending.ScriptFault marks runs free = (runs.told free.told).answered
-stress_through OfHost tells count old new ending.OutputFault marks runs free = free.no_out_fault runs.counts.0
-stress_through OfHost tells count old new ending.FolderFault marks runs free = free.no_folder_fault runs.counts.0
-stress_through OfHost tells count old new ending.NoMemory marks runs free = tt
-stress_through OfHost tells count old new ending.Encrypted marks runs free = runs.counts
-stress_through OfHost tells count old new ending.NotSwap marks runs free = runs.counts
-stress_through OfHost tells count old new ending.Salvaged marks runs free = runs.counts
-stress_through OfHost tells count old new (ending.TextLimit size) marks runs free = passes_no_limit (content_of old stress_name) size free.file (runs.file free.told.folder)
-stress_through OfHost tells count old new ending.ScriptTooLong marks runs free = (runs.told free.told).answered
+pub stress_ends : (OfHost : Scene → Type 0) (tells : Tells) (count : ℕ) (old new : Scene) (end : Ending) (marks : List Mark) → RunsStress OfHost tells count old new end marks → IsStressUnhindered tells old new → IsThrough end
+stress_ends OfHost tells count old new end marks runs free =
+    through_row end old new (content_of old stress_name) runs.counts (runs.file free.told.folder) free.file free.no_out_fault free.no_folder_fault (λ is. free.free (runs.swap free.told.folder is))
+    (λ is. let same = subst (λ (e : Ending). RunsStress OfHost tells count old new e marks) is runs in (same.told free.told).answered)
+    (λ is. let same = subst (λ (e : Ending). RunsStress OfHost tells count old new e marks) is runs in (same.told free.told).answered)
 
 pub stress_marks : (OfHost : Scene → Type 0) (tells : Tells) (count : ℕ) (old new : Scene) (end : Ending) (marks : List Mark) → RunsStress OfHost tells count old new end marks → IsStressUnhindered tells old new → All IsThroughMark marks
 stress_marks OfHost tells count old new end marks runs free = λ k d within. through_outcome (get_or marks k d).outcome (λ is. free.no_folder_fault (runs.causes k d within is))

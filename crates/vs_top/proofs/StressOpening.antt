@@ -1,13 +1,12 @@
 -- The opening of the stress mode, and what comes of it where it fails.
 use Rattle.std.proofs.Common.{◌≡◌, ◌⊎◌, inl, inr, ℕ, true, List, [], ◌++◌, length, IsTrue, refl, sym, ap, ◌∙◌, append-nil, arith}
-use Rattle.std.proofs.lemmas.Bool.{true≢false}
 use Rattle.std.proofs.lemmas.List.Elements.{All-nil}
 use Rattle.vs_faults.specs.Faults.{HasRisen, IsQuiet}
 use Rattle.vs_host.specs.Names.{names_of_file}
 use Rattle.vs_host.specs.Trace.{Snapshot, Each}
 use Rattle.vs_host.specs.World.{Tells, Scene, HasNewest, content_of}
 use Rattle.vs_host.specs.declared.names.Names.{Names}
-use Rattle.vs_disk.specs.Runs.{Inside, Looks}
+use Rattle.vs_disk.specs.Runs.{Inside}
 use Rattle.vs_disk.proofs.Runs.{Each-weaker}
 use Rattle.vs_pair.specs.Acts.{Acts}
 use Rattle.vs_machine.specs.declared.command.Mark.{Mark}
@@ -21,8 +20,9 @@ use Rattle.vs_session.specs.Open.{IsTooLarge, OnlyLooks}
 use Rattle.vs_session.specs.Fits.{Fits, HasSwap, Opens, names_of}
 use Rattle.vs_stress.specs.Commands.{stress_commands}
 use Rattle.vs_top.specs.Ending.{open_ending}
-use Rattle.vs_top.specs.Run.{FailedBy, FileFits, FaultHasCause, counts_of, is_early, opened_file}
-use Rattle.vs_top.specs.Stress.{TellsStress, HasStress, HasStretches, IsBeforeLine, IsStressMoment, RunsStress, StressedBy, is_up_to, stress_line, stress_name, stress_text}
+use Rattle.vs_top.specs.Promise.{HasStress, RunsStress, row}
+use Rattle.vs_top.specs.Run.{FileFits, FaultHasCause, counts_of, opened_file}
+use Rattle.vs_top.specs.Stress.{TellsStress, HasStretches, IsBeforeLine, IsStressMoment, is_up_to, stress_line, stress_name, stress_text}
 use Rattle.vs_top.specs.StressTurns.{IsStressTurn}
 use Rattle.vs_top.specs.declared.ending.Ending.{Ending}
 use Rattle.vs_top.specs.declared.ending.Ending.TheVariants as ending
@@ -49,8 +49,8 @@ module _ (OfHost : Scene → Type 0) (tells : Tells) (old new : Scene) (acts : A
 
   -- it was not opened
   module _ (count : ℕ) (marks : List Mark) (none : marks ≡ []) where
-    stress_none : (end : Ending) → TellsStress tells → StressedBy end count old new marks did_none → FailedBy end old new → (IsTrue (is_early end) → Looks old new) → HasStress OfHost count old new end marks
-    stress_none end told answered failed looks = record {
+    stress_none : (end : Ending) → TellsStress tells → (row end).stressed count old new marks did_none → (row end).last old new → HasStress OfHost count old new end marks
+    stress_none end told answered last = record {
       did = did_none;
       kept = kept_none stress_name old marks none;
       answered = answered;
@@ -59,12 +59,11 @@ module _ (OfHost : Scene → Type 0) (tells : Tells) (old new : Scene) (acts : A
           record {
             moments = runs.moments.added;
             added = runs.moments.is;
-            safe = Each-weaker (Inside old (Opens stress_name old.folder)) (IsStressMoment names old (stress_text old) [] (stress_line count old did_none)) (λ m inside. at_moment old (stress_text old) [] (stress_line count old did_none) m (before free m inside)) runs.moments.added runs.moments.each;
+            safe = Each-weaker (Inside old (Opens stress_name old.folder)) (IsStressMoment names old (stress_text old) [] (stress_line count old [])) (λ m inside. at_moment old (stress_text old) [] (stress_line count old []) m (before free m inside)) runs.moments.added runs.moments.each;
             spared = runs.now.spared;
             steps = first_count runs.moments.added runs.moments.is (Each-weaker (Inside old (Opens stress_name old.folder)) (λ m. is_up_to old 0 m ≡ true) (up_to_none free) runs.moments.added runs.moments.each);
           };
-      failed = failed;
-      looks = looks;
+      last = last;
     }
 
     output_same : new.output ≡ old.output
@@ -78,9 +77,9 @@ module _ (OfHost : Scene → Type 0) (tells : Tells) (old new : Scene) (acts : A
         → (IsTrue tells.folder → HasSwap names old.folder → (error ≡ opening.SwapFound) ⊎ (error ≡ opening.Failed) ⊎ (error ≡ opening.NoMemory))
         → (IsTrue tells.folder → HasSwap names old.folder → OnlyLooks tells old new) → ((error ≡ opening.Failed → ⊥) → OnlyLooks tells old new) → RunsStress OfHost tells count old new (open_ending error) marks
     stress_open_fails opening.SwapFound failed quiet limit swap barred barred_looks looks = record {
-      told = λ told. stress_none ending.SwapFound told (record { none = none; output = output_same }) tt (λ early. (looks (λ is. absurd (cc))).runs told.folder);
+      told = λ told. stress_none ending.SwapFound told (record { none = none; output = output_same }) ((looks (λ is. absurd (cc))).runs told.folder);
       swap = λ told is. swap refl told;
-      barred = λ told has. only_looked tells old new ending.SwapFound marks tt none (barred_looks told has) told;
+      barred = λ told has. only_looked tells old new ending.SwapFound marks (inl refl) none (barred_looks told has) told;
       file = λ told. tt;
       script = ap (λ (s : Scene). s.script) acts.frame;
       counts = all_quiet (quiet (λ is. absurd (cc)));
@@ -89,9 +88,9 @@ module _ (OfHost : Scene → Type 0) (tells : Tells) (old new : Scene) (acts : A
     }
     stress_open_fails opening.Failed failed quiet limit swap barred barred_looks looks = record {
       told = λ told. stress_none ending.FolderFault told (inl (record { none = none; output = output_same }))
-          (rose_last folder_count old old new (λ m no_fault. no_fault.folder) (acts.last told.folder) (failed refl) (counted_none folder_count old)) (λ early. absurd (true≢false (sym early)));
+          (rose_last folder_count old old new (λ m no_fault. no_fault.folder) (acts.last told.folder) (failed refl) (counted_none folder_count old));
       swap = λ told is. absurd (cc);
-      barred = λ told has. only_looked tells old new ending.FolderFault marks tt none (barred_looks told has) told;
+      barred = λ told has. only_looked tells old new ending.FolderFault marks (inr (inr refl)) none (barred_looks told has) told;
       file = λ told. tt;
       script = ap (λ (s : Scene). s.script) acts.frame;
       counts = (failed refl, only_folder old new acts.frame acts.later);
@@ -99,9 +98,9 @@ module _ (OfHost : Scene → Type 0) (tells : Tells) (old new : Scene) (acts : A
       times = λ told. no_times old new marks none (ap (λ (s : Scene). s.answers) acts.frame);
     }
     stress_open_fails opening.NoMemory failed quiet limit swap barred barred_looks looks = record {
-      told = λ told. stress_none ending.NoMemory told (record { rest = stress_commands count; first = refl; output = output_same }) tt (λ early. absurd (true≢false (sym early)));
+      told = λ told. stress_none ending.NoMemory told (record { rest = stress_commands count; first = refl; output = output_same }) tt;
       swap = λ told is. absurd (cc);
-      barred = λ told has. only_looked tells old new ending.NoMemory marks tt none (barred_looks told has) told;
+      barred = λ told has. only_looked tells old new ending.NoMemory marks (inr (inl refl)) none (barred_looks told has) told;
       file = λ told. tt;
       script = ap (λ (s : Scene). s.script) acts.frame;
       counts = only_folder old new acts.frame acts.later;
@@ -109,7 +108,7 @@ module _ (OfHost : Scene → Type 0) (tells : Tells) (old new : Scene) (acts : A
       times = λ told. no_times old new marks none (ap (λ (s : Scene). s.answers) acts.frame);
     }
     stress_open_fails (opening.TextLimit size) failed quiet limit swap barred barred_looks looks = record {
-      told = λ told. stress_none (ending.TextLimit size) told (record { none = none; output = output_same }) tt (λ early. (looks (λ is. absurd (cc))).runs told.folder);
+      told = λ told. stress_none (ending.TextLimit size) told (record { none = none; output = output_same }) ((looks (λ is. absurd (cc))).runs told.folder);
       swap = λ told is. absurd (cc);
       barred = λ told has. elim (barred told has) [ inl is ↦ absurd (cc) | inr more ↦ elim more [ inl is ↦ absurd (cc) | inr is ↦ absurd (cc) ] ];
       file = λ told. (limit size refl).passes told;
@@ -127,10 +126,9 @@ module _ (OfHost : Scene → Type 0) (tells : Tells) (old new : Scene) (acts : A
     told = λ told.
         let runs = acts.runs told.folder in (
           [],
+          refl,
           record {
-            one_each = refl;
-            marks_are = refl;
-            are_answered = tt;
+            kept = record { marks_are = refl; are_answered = tt };
             errors = refl;
             fits = fits told.folder;
             moments = runs.moments.added;

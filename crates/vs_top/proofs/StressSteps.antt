@@ -19,21 +19,23 @@ use Rattle.vs_excmd.specs.declared.request.Request.{Request}
 use Rattle.vs_machine.specs.Machine.{is_done}
 use Rattle.vs_machine.specs.Replies.{Answer}
 use Rattle.vs_machine.specs.declared.command.Mark.{Mark}
-use Rattle.vs_safety.specs.Texts.{Text, Sync}
-use Rattle.vs_safety.specs.Turns.{Turn, with_begun, with_sync, after_turns, opened}
+use Rattle.vs_safety.specs.Texts.{Text, Sync, Recovers, recoverable}
+use Rattle.vs_safety.specs.Turns.{Turn, with_begun}
+use Rattle.vs_safety.specs.History.{syncs_of}
 use Rattle.vs_safety.specs.FileWork.{FileWork}
 use Rattle.vs_safety.specs.Safety.{IsUnderWay, Spares, Stepped, Works}
-use Rattle.vs_safety.proofs.Splits.{after_push}
+use Rattle.vs_safety.proofs.Histories.{then_is}
 use Rattle.vs_session.specs.declared.session.Session.{Session}
-use Rattle.vs_session.specs.Session.{SessionState, Ended, is_write, lacks_name, states_after, turn_of, turns_of, any_error, undo_work, write_work, writes_files}
-use Rattle.vs_session.specs.Fits.{Answers, Fits}
+use Rattle.vs_session.specs.Session.{SessionState, Ended, is_write, lacks_name, turn_of, undo_work, write_work, writes_files}
+use Rattle.vs_session.specs.Fits.{Answers}
+use Rattle.vs_top.specs.History.{Past, any_error, commands_then, marks_of}
 use Rattle.vs_top.specs.Run.{counts_of, FaultHasCause, opened_file}
-use Rattle.vs_top.specs.Stress.{TellsStress, HasEnds, HasStretches, IsBeforeLine, IsBehind, folder_after, is_up_to, stress_name, stress_text}
+use Rattle.vs_top.specs.Stress.{TellsStress, HasEnds, HasStretches, IsBeforeLine, IsBehind, folder_after, is_up_to, stress_history, stress_name, stress_state, stress_text, stress_turns}
 use Rattle.vs_top.specs.StressTurns.{IsStressTurn, StressTold}
 use Rattle.vs_top.proofs.Counting.{causes_on, counted_works}
-use Rattle.vs_top.proofs.Pushes.{and_not, errors_push, map_push, none_push, states_push, turns_push}
+use Rattle.vs_top.proofs.Pushes.{and_not, map_push}
 use Rattle.vs_top.proofs.Stepping.{HasStepped}
-use Rattle.vs_top.proofs.StressFolders.{before_line, counts_now, folder_now, folders_on, later_read, stretches_on, stretches_push, told_folder}
+use Rattle.vs_top.proofs.StressFolders.{stress_syncs, before_line, counts_now, folder_now, folders_on, later_read, stretches_on, stretches_push, told_folder}
 
 -- the moments so far, with one command more
 pub moment_on : (names : Names) (start : Scene) (text : Text) (turns : List Turn) (turn : Turn) (m : Snapshot) → IsBeforeLine names start text turns m → IsBeforeLine names start text (turns ++ turn ∷ []) m
@@ -53,6 +55,14 @@ moment_on names start text turns turn m is = record {
   ];
 }
 
+-- the commands in their order
+pub commands_are : (past : Past) (rest : List Instruction) → commands_then past rest ≡ commands_then past [] ++ rest
+commands_are past rest = appended past [] rest
+  where
+    appended : (past : Past) (more rest : List Instruction) → commands_then past (more ++ rest) ≡ commands_then past more ++ rest
+    appended [] more rest = refl
+    appended (last ∷ past) more rest = appended past (last.instruction ∷ more) rest
+
 -- a command that writes no other file
 no_work : (state : SessionState) (found : Disk) (acknowledged lacks : Bool) (parsed : _) → writes_files parsed ≡ false
     → (if (is_write parsed && acknowledged) && not lacks then Some (write_work state found) else undo_work state found parsed) ≡ None
@@ -65,48 +75,36 @@ writes_none state instruction ended plain = no_work state ended.found ended.ackn
 
 module _ (OfHost : Scene → Type 0) (tells : Tells) (old now new : Scene) (session after : Session) (marks : List Mark) (clean : Bool) (request : Request) (mark : Mark) (reply : Answer) (instruction : Instruction) (commands : List Instruction)
     (step : HasStepped tells now new session after request mark reply) (newest : IsTrue tells.folder → HasNewest new) (of_host : OfHost new) (meant : IsRequest request instruction) (plain : writes_files instruction.parsed ≡ false) (turn : IsStressTurn OfHost tells old now session marks clean commands) where
-  module _ (told : TellsStress tells) (ends : List Ended) (here : StressTold OfHost old now session marks clean commands ends) where
+  module _ (told : TellsStress tells) (past : Past) (here : StressTold OfHost old now session marks clean past) where
     abbrev names : Names
     names = names_of_file stress_name
 
-    abbrev first : SessionState
-    first = (opened_file old stress_name).state
-
     abbrev state : SessionState
-    state = states_after first commands ends
+    state = stress_state old past
 
     abbrev turns : List Turn
-    turns = turns_of first commands ends
+    turns = stress_turns old past
 
     abbrev syncs : List Sync
-    syncs = after_turns (opened (stress_text old)) turns
+    syncs = syncs_of (stress_history old past)
 
     answers : Answers state syncs instruction session after mark reply now new
     answers = step.step told.folder state syncs instruction here.fits meant
 
-    abbrev ended : Ended
-    ended = answers.ended
-
     abbrev one : Turn
-    one = turn_of state instruction ended
+    one = turn_of state instruction answers.ended
 
     stepped : Stepped names syncs one now new
     stepped = subst (λ (n : Names). Stepped n syncs one now new) turn.keeps.names answers.stepped
 
     works : Works names None (IsUnderWay names (with_begun one.sync syncs) None) now new
-    works = subst (λ (w : Option FileWork). Works names w (IsUnderWay names (with_begun one.sync syncs) w) now new) (writes_none state instruction ended plain) stepped.works
+    works = subst (λ (w : Option FileWork). Works names w (IsUnderWay names (with_begun one.sync syncs) w) now new) (writes_none state instruction answers.ended plain) stepped.works
 
-    abbrev commands' : List Instruction
-    commands' = commands ++ instruction ∷ []
+    abbrev past' : Past
+    past' = record { instruction = instruction; ended = answers.ended } ∷ past
 
-    abbrev ends' : List Ended
-    ends' = ends ++ ended ∷ []
-
-    turns_are : turns_of first commands' ends' ≡ turns ++ one ∷ []
-    turns_are = turns_push instruction ended first commands ends here.one_each
-
-    syncs_are : after_turns (opened (stress_text old)) (turns_of first commands' ends') ≡ with_sync one.sync syncs
-    syncs_are = ap (λ (ts : List Turn). after_turns (opened (stress_text old)) ts) turns_are ∙ after_push one turns (opened (stress_text old))
+    turns_are : stress_turns old past' ≡ turns ++ one ∷ []
+    turns_are = then_is (stress_history old past) (one ∷ [])
 
     long_now : length new.answers ≡ length old.answers + (length turns + 1)
     long_now =
@@ -116,7 +114,15 @@ module _ (OfHost : Scene → Type 0) (tells : Tells) (old now new : Scene) (sess
     moment_here : (m : Snapshot) → Inside new (Spares names None (IsUnderWay names (with_begun one.sync syncs) None) now.folder) m → IsBeforeLine names old (stress_text old) (turns ++ one ∷ []) m
     moment_here m inside = record {
       spared = same_then (is_foreign names) old.folder now.folder m.folder here.spared inside.folder.spared;
-      recovers = inr (record { first = turns; turn = one; rest = []; turns_are = refl; answered = inside.answered ∙ long_now; written = inside.output ∙ works.output ∙ here.output; recovers = inside.folder.folder.recovers });
+      recovers = inr (record {
+        first = turns;
+        turn = one;
+        rest = [];
+        turns_are = refl;
+        answered = inside.answered ∙ long_now;
+        written = inside.output ∙ works.output ∙ here.output;
+        recovers = subst (λ (ss : List Sync). Recovers names (recoverable (with_begun one.sync ss)) m.folder) (sym (stress_syncs old past [])) inside.folder.folder.recovers;
+      });
     }
 
     abbrev newer : List Snapshot
@@ -143,7 +149,7 @@ module _ (OfHost : Scene → Type 0) (tells : Tells) (old now new : Scene) (sess
         (λ m inside. inl (later_read old n m (omega (arith, inside.answered, long_now, most)))) newer works.moments.each))
 
     found_folder : now.folder ≡ folder_after old moments (length turns)
-    found_folder = sym (told_folder OfHost old now session marks clean commands ends here) ∙ same_before (length turns) (omega arith) (omega arith)
+    found_folder = sym (told_folder OfHost old now session marks clean past here) ∙ same_before (length turns) (omega arith) (omega arith)
 
     left_folder : new.folder ≡ folder_after old moments (length turns + 1)
     left_folder =
@@ -175,21 +181,19 @@ module _ (OfHost : Scene → Type 0) (tells : Tells) (old now new : Scene) (sess
         (stretches_on OfHost names old here.moments newer turns now.folder_faults behind_before same_before here.steps)
         (counts_now OfHost old new (length turns + 1) moments of_host added all_up_to) ends_here
 
-    told_on : StressTold OfHost old new after (marks ++ mark ∷ []) (clean && (is_done mark.outcome && not reply.is_error)) commands' ends'
+    told_on : StressTold OfHost old new after (marks ++ mark ∷ []) (clean && (is_done mark.outcome && not reply.is_error)) past'
     told_on =
-        let last : List Ended = ended ∷ [] in
-        let more : List Instruction = instruction ∷ [] in
         let one_turn : List Turn = one ∷ [] in
+        let errors : Bool = any_error (opened_file old stress_name).state past in
         record {
-          one_each = omega (arith, here.one_each, length-append ends last, length-append commands more);
-          marks_are = ap (λ (l : List Mark). l ++ mark ∷ []) here.marks_are ∙ ap (λ (m : Mark). map (λ (e : Ended). e.mark) ends ++ m ∷ []) (sym answers.mark_is) ∙ sym (map_push (λ (e : Ended). e.mark) ends ended);
-          are_answered = none_push instruction ended first commands ends here.one_each here.are_answered answers.not_quit answers.found;
-          errors = ap (λ (b : Bool). clean && b) (ap (λ (m : Mark). is_done m.outcome && not reply.is_error) (sym answers.mark_is)) ∙ ap (λ (b : Bool). b && (is_done ended.mark.outcome && not reply.is_error)) here.errors
-              ∙ and_not (any_error first commands ends) (is_done ended.mark.outcome) reply.is_error
-              ∙ ap (λ (a : Answer). not (any_error first commands ends || (not (is_done ended.mark.outcome) || a.is_error))) answers.reply_is
-              ∙ ap not (sym (errors_push instruction ended first commands ends here.one_each));
-          fits = subst (λ (ss : List Sync). Fits after new.folder (states_after first commands' ends') ss) (sym syncs_are)
-              (subst (λ (s : SessionState). Fits after new.folder s (with_sync one.sync syncs)) (sym (states_push instruction ended first commands ends here.one_each)) answers.fits);
+          kept = record {
+            marks_are = ap (λ (l : List Mark). l ++ mark ∷ []) here.kept.marks_are ∙ ap (λ (m : Mark). marks_of past ++ m ∷ []) (sym answers.mark_is);
+            are_answered = (answers.not_quit, answers.found, here.kept.are_answered);
+          };
+          errors = ap (λ (b : Bool). clean && b) (ap (λ (m : Mark). is_done m.outcome && not reply.is_error) (sym answers.mark_is)) ∙ ap (λ (b : Bool). b && (is_done answers.ended.mark.outcome && not reply.is_error)) here.errors
+              ∙ and_not errors (is_done answers.ended.mark.outcome) reply.is_error
+              ∙ ap (λ (a : Answer). not (errors || (not (is_done answers.ended.mark.outcome) || a.is_error))) answers.reply_is;
+          fits = answers.fits;
           moments = moments;
           added = added;
           safe = subst (λ (ts : List Turn). Each (IsBeforeLine names old (stress_text old) ts) moments) (sym turns_are) safe;
@@ -207,7 +211,12 @@ module _ (OfHost : Scene → Type 0) (tells : Tells) (old now new : Scene) (sess
   turn_on =
       let before = turn.keeps.counts in
       record {
-        told = λ told. let was = turn.told told in (was.0 ++ ended told was.0 was.1 ∷ [], told_on told was.0 was.1);
+        told = λ told.
+            let was = turn.told told in (
+              past' told was.0 was.2,
+              commands_are was.0 (instruction ∷ []) ∙ ap (λ (l : List Instruction). l ++ instruction ∷ []) was.1,
+              told_on told was.0 was.2,
+            );
         keeps = record {
           free = turn.keeps.free;
           file = turn.keeps.file;

@@ -1,6 +1,5 @@
 -- One turn of a run: a read of the script, a step and its reply, and what the run answered where it stops in one of these.
 use Rattle.std.proofs.Common.{◌≡◌, inr, ℕ, ◌+◌, Bool, List, [], ◌∷◌, ◌++◌, length, take, map, IsTrue, OnOk, Result, Ok, Err, refl, sym, ap, subst, ◌∙◌, append_assoc, append-nil, arith}
-use Rattle.std.proofs.lemmas.Bool.{true≢false}
 use Rattle.std.proofs.lemmas.List.{length-append}
 use Rattle.std.proofs.Math.Seq.{take-append_seam}
 use Rattle.vs_faults.specs.Faults.{HasRisen}
@@ -8,6 +7,7 @@ use Rattle.vs_host.specs.Disk.{Disk}
 use Rattle.vs_host.specs.Names.{names_of_file}
 use Rattle.vs_host.specs.Trace.{Snapshot, Each}
 use Rattle.vs_host.specs.World.{Tells, Scene, ChangesScript}
+use Rattle.vs_host.specs.declared.names.Names.{Names}
 use Rattle.vs_disk.proofs.Runs.{Each-append, Each-weaker}
 use Rattle.vs_excmd.specs.Request.{Instruction}
 use Rattle.vs_excmd.specs.declared.request.Request.{Request}
@@ -17,21 +17,24 @@ use Rattle.vs_script.specs.Requests.{TakesRequest, whole_commands}
 use Rattle.vs_script.specs.declared.reader.ScriptErr.{ScriptErr}
 use Rattle.vs_script.specs.declared.reader.ScriptErr.TheVariants as script_error
 use Rattle.vs_machine.specs.declared.command.Mark.{Mark}
-use Rattle.vs_safety.specs.Turns.{Turn, NotBegun, after_turns, opened, replies}
+use Rattle.vs_safety.specs.Turns.{NotBegun}
 use Rattle.vs_safety.specs.Safety.{IsCrashSafe, Looks}
-use Rattle.vs_safety.specs.Going.{Going}
+use Rattle.vs_safety.specs.History.{History, Waits, replied_at, syncs_of, written_by}
 use Rattle.vs_safety.specs.Stretches.{IsFirst}
+use Rattle.vs_safety.specs.Writes.{state_in, state_now}
 use Rattle.vs_safety.specs.Causes.{newest_count, IsCounted, RoseLast, script_count}
-use Rattle.vs_safety.proofs.Going.{going_looks, going_halts}
-use Rattle.vs_safety.proofs.Endings.{halted_safe}
+use Rattle.vs_safety.proofs.Moments.{first_in}
+use Rattle.vs_safety.proofs.SoFar.{SoFar, so_far_now, waits_on}
+use Rattle.vs_safety.proofs.Endings.{stopped}
 use Rattle.vs_session.specs.declared.session.Session.{Session}
-use Rattle.vs_session.specs.Session.{Ended, states_after, turns_of}
+use Rattle.vs_session.specs.Opened.{Opened}
 use Rattle.vs_session.specs.Fits.{Fits, names_of}
 use Rattle.vs_top.specs.Ending.{script_ending}
-use Rattle.vs_top.specs.Run.{TellsRun, Did, KeepsMarks, HasAnswered, KeepsSwap, HasRun, RunsEdit, counts_of, IsTimed, opened_file, ran_of, written}
-use Rattle.vs_top.specs.Turns.{text_at, opening_at, Told, KeepsOpenFile}
+use Rattle.vs_top.specs.History.{Past, commands_then, history_of, state_of}
+use Rattle.vs_top.specs.Promise.{HasRun, RunsEdit}
+use Rattle.vs_top.specs.Run.{TellsRun, Did, HasAnswered, HasSince, KeepsSwap, counts_of, IsTimed, opened_file, ran_of}
+use Rattle.vs_top.specs.Turns.{Told, KeepsOpenFile}
 use Rattle.vs_top.specs.declared.ending.Ending.TheVariants as ending
-use Rattle.vs_top.proofs.Pushes.{replies_same}
 use Rattle.vs_top.proofs.Counting.{only_script, causes_on}
 use Rattle.vs_top.proofs.Reading.{fresh_reader, HasRead, read_on, read_within, were_read, stops_run, counts_on, few_taken}
 
@@ -73,7 +76,7 @@ rose_reading old now new reads rose counted = record {
 -- ---- what is known at each turn
 
 pub record IsTurn (tells : Tells) (name : List ℕ) (old now : Scene) (session : Session) (fresh reader : Ahead) (marks : List Mark) (clean : Bool) : Type 0 where
-  pub told : TellsRun tells → (commands : List Instruction) × (ends : List Ended) × Told name old now session marks clean commands ends × HasRead fresh reader old now commands
+  pub told : TellsRun tells → (past : Past) × Told name old now session marks clean past × HasRead fresh reader old now (commands_then past)
   pub keeps : KeepsOpenFile tells name old now session marks
   pub counts : IsTrue tells.script → CountsTaken fresh reader old now
   pub times : IsTrue tells.clock → now.answers ≡ old.answers ++ map (λ mark. mark.at) marks
@@ -81,97 +84,91 @@ pub record IsTurn (tells : Tells) (name : List ℕ) (old now : Scene) (session :
 no_more : (now : Scene) (old : List ℕ) (marks : List Mark) → now.answers ≡ old ++ map (λ mark. mark.at) marks → now.answers ≡ (old ++ map (λ mark. mark.at) marks) ++ []
 no_more now old marks is = is ∙ sym (append-nil (old ++ map (λ mark. mark.at) marks))
 
+-- ---- what holds of the snapshot of the last reply
+
+pub since_reply : (names : Names) (start : Scene) (past : History) (now new : Scene) (so_far : SoFar names start past now) (newer : List Snapshot) → new.trace ≡ newer ++ now.trace → (P : Snapshot → Type 0) → P so_far.here
+    → HasSince (length start.output + length (written_by past)) start new P
+since_reply names start past now new so_far newer added P has = record {
+  moments = newer ++ so_far.moments;
+  added = added ∙ ap (λ (ms : List Snapshot). newer ++ ms) so_far.added ∙ sym (append_assoc newer so_far.moments start.trace);
+  first = so_far.here;
+  begins = subst (λ (n : ℕ). IsFirst n (newer ++ so_far.moments) so_far.here) (sym so_far.long ∙ ap (λ (l : List ℕ). length l) so_far.output ∙ length-append start.output (written_by past))
+      (first_in (replied_at start past) (newer ++ so_far.moments) newer so_far.moments so_far.here refl so_far.begins);
+  has = has;
+}
+
 -- ---- the run stops after a read
 
 module _ {T : Type 0} {result : Result T ScriptErr} (tells : Tells) (name : List ℕ) (old now read : Scene) (session : Session) (fresh reader reader' : Ahead) (marks : List Mark) (clean : Bool) (new : fresh ≡ fresh_reader)
     (reads : ReadsScript tells result now read) (track : KeepsTrack tells result reader reader' now read) where
-  module _ (told : TellsRun tells) (commands : List Instruction) (ends : List Ended) (here : Told name old now session marks clean commands ends) (had : HasRead fresh reader old now commands) (same : names_of session ≡ names_of_file name) where
-    abbrev turns : List Turn
-    turns = turns_of (opened_file old name).state commands ends
+  module _ (told : TellsRun tells) (past : Past) (here : Told name old now session marks clean past) (had : HasRead fresh reader old now (commands_then past)) (same : names_of session ≡ names_of_file name) where
+    abbrev file : Opened
+    file = opened_file old name
 
     abbrev did : Did
-    did = record { commands = commands; ends = ends; closing = NotBegun }
+    did = record { past = past; closing = NotBegun }
 
-    kept : KeepsMarks (opened_file old name) marks did
-    kept = record { one_each = here.one_each; marks_are = here.marks_are; are_answered = here.are_answered }
-
-    looked : Going (names_of_file name) old read (text_at old name) (opening_at old name) turns
-    looked = going_looks (names_of_file name) old (text_at old name) (opening_at old name) now read turns (reads_look now read reads.frame (reads.last told.folder)) here.going
+    waits : Waits (names_of_file name) old (history_of file past) read
+    waits = waits_on (names_of_file name) old (history_of file past) now read here.waits (reads_look now read reads.frame (reads.last told.folder))
 
     safe : IsCrashSafe (names_of_file name) old read (ran_of name old did)
-    safe = halted_safe (names_of_file name) old read (ran_of name old did) refl (going_halts (names_of_file name) old (text_at old name) (opening_at old name) read turns looked)
+    safe = stopped (names_of_file name) old (history_of file past) read waits
 
-    output_is : read.output ≡ old.output ++ written (opened_file old name) commands ends
-    output_is =
-        looked.output ∙ append_assoc old.output (opening_at old name) (replies turns)
-        ∙ ap (λ (l : List ℕ). old.output ++ (opening_at old name ++ l)) (replies_same (opened_file old name).state commands ends)
-
-    answered : HasAnswered (opened_file old name) old read did
-    answered = record {
-      output = output_is;
-      closing = refl;
-      stays = record {
-        moments = looked.moments;
-        added = looked.course.added;
-        first = looked.here;
-        begins = subst (λ (n : ℕ). IsFirst n looked.moments looked.here) (ap (λ (l : List ℕ). length l) output_is ∙ length-append old.output (written (opened_file old name) commands ends)) looked.begins;
-        has = sym looked.state;
-      };
-    }
+    answered : HasAnswered file old read did
+    answered =
+        let so_far = so_far_now (names_of_file name) old (history_of file past) read waits in
+        record { output = so_far.output; closing = refl; stays = since_reply (names_of_file name) old (history_of file past) read read so_far [] refl (λ m. state_now read ≡ state_in m) (sym so_far.state) }
 
     -- the session still fits the folder
-    left : KeepsSwap (opened_file old name) did read.folder
-    left = (session, same, subst (λ (d : Disk). Fits session d (states_after (opened_file old name).state commands ends) (after_turns (opened (text_at old name)) turns)) (sym (ap (λ (s : Scene). s.folder) reads.frame)) here.fits)
+    left : KeepsSwap file did read.folder
+    left = (session, same, subst (λ (d : Disk). Fits session d (state_of file.state past) (syncs_of (history_of file past))) (sym (ap (λ (s : Scene). s.folder) reads.frame)) here.fits)
 
     run_fails : Stops script_error.Failed whole_commands [] reader reader' now read → HasRisen now.script_faults read.script_faults → HasRun name old read ending.ScriptFault marks
     run_fails stop rose =
-        let found = stops_run script_error.Failed old now read fresh reader reader' commands new had stop in
+        let found = stops_run script_error.Failed old now read fresh reader reader' (commands_then past) new had stop in
         record {
           did = did;
-          kept = kept;
+          kept = here.kept;
           answered = record { taken = found.taken; script = found.script ∙ ap (λ (l : List ℕ). found.taken ++ l) (sym found.is_left); commands = found.whole; answered = answered };
           safe = λ free. safe;
           left = left;
-          failed = rose_reading old now read (reads.last told.folder) rose here.counted.script;
-          looks = λ early. absurd (true≢false (sym early));
+          last = rose_reading old now read (reads.last told.folder) rose here.counted.script;
         }
 
     run_too_long : Stops script_error.TooLong whole_commands [] reader reader' now read → HasRun name old read ending.ScriptTooLong marks
     run_too_long stop =
-        let found = stops_run script_error.TooLong old now read fresh reader reader' commands new had stop in
+        let found = stops_run script_error.TooLong old now read fresh reader reader' (commands_then past) new had stop in
         let long : length found.taken ≡ script_limit = sym found.count ∙ found.is_left.2 in
         let size : length old.script ≡ length found.taken + length found.left = ap (λ (l : List ℕ). length l) found.script ∙ length-append found.taken found.left in
         let front : take script_limit old.script ≡ found.taken =
         ap (λ (l : List ℕ). take script_limit l) found.script ∙ ap (λ n. take n (found.taken ++ found.left)) (sym long) ∙ take-append_seam found.taken found.left in
         record {
           did = did;
-          kept = kept;
+          kept = here.kept;
           answered = record { longer = omega (arith, long, found.is_left.0, size); commands = found.whole ∙ ap whole_commands (sym front); answered = answered };
           safe = λ free. safe;
           left = left;
-          failed = tt;
-          looks = λ early. absurd (true≢false (sym early));
+          last = tt;
         }
 
     run_no_memory : (request : Request) (taken : TakesRequest request reader reader' now read) → HasSeen reader' read → CountsTaken fresh reader' old read → HasRun name old read ending.NoMemory marks
     run_no_memory request taken seen counts =
-        let next = commands ++ taken.first ∷ [] in
-        let has : HasRead fresh reader' old read next = read_on fresh reader reader' old now read commands request had taken in
+        let next : List Instruction → List Instruction = λ rest. commands_then past (taken.first ∷ rest) in
+        let has : HasRead fresh reader' old read next = read_on fresh reader reader' old now read (commands_then past) request had taken in
         let within = read_within fresh reader' old read next new has seen counts track.limit in
         record {
           did = did;
-          kept = kept;
+          kept = here.kept;
           answered = inr (record {
             next = taken.first;
             rest = within.0;
-            first = within.1 ∙ append_assoc commands (taken.first ∷ []) within.0;
-            read = were_read fresh reader' old read next reader'.ended refl new has seen;
+            first = within.1;
+            read = were_read fresh reader' old read past taken.first reader'.ended refl new has seen;
             answered = answered;
           });
           safe = λ free. safe;
           left = (refl, inr left);
-          failed = tt;
-          looks = λ early. absurd (true≢false (sym early));
+          last = tt;
         }
 
   module _ (turn : IsTurn tells name old now session fresh reader marks clean) where
@@ -185,7 +182,7 @@ module _ {T : Type 0} {result : Result T ScriptErr} (tells : Tells) (name : List
         let only = only_script now read reads.frame in
         let before = turn.keeps.counts in
         record {
-          told = λ told. let here = turn.told told in run_fails told here.0 here.1 here.2 here.3 turn.keeps.names (stops told.script) (reads.cause.risen was);
+          told = λ told. let here = turn.told told in run_fails told here.0 here.1 here.2 turn.keeps.names (stops told.script) (reads.cause.risen was);
           swap = λ told is. absurd (cc);
           barred = λ told has. absurd (turn.keeps.free told has);
           file = turn.keeps.file;
@@ -205,7 +202,7 @@ module _ {T : Type 0} {result : Result T ScriptErr} (tells : Tells) (name : List
         let only = only_script now read reads.frame in
         let before = turn.keeps.counts in
         record {
-          told = λ told. let here = turn.told told in run_too_long told here.0 here.1 here.2 here.3 turn.keeps.names (stops told.script);
+          told = λ told. let here = turn.told told in run_too_long told here.0 here.1 here.2 turn.keeps.names (stops told.script);
           swap = λ told is. absurd (cc);
           barred = λ told has. absurd (turn.keeps.free told has);
           file = turn.keeps.file;
@@ -235,7 +232,7 @@ module _ {T : Type 0} {result : Result T ScriptErr} (tells : Tells) (name : List
         record {
           told = λ told.
               let here = turn.told told in
-              run_no_memory told here.0 here.1 here.2 here.3 turn.keeps.names request (taken told.script) (track.ended told.script) (counts_on fresh reader reader' old now read (turn.counts told.script) (counts told.script));
+              run_no_memory told here.0 here.1 here.2 turn.keeps.names request (taken told.script) (track.ended told.script) (counts_on fresh reader reader' old now read (turn.counts told.script) (counts told.script));
           swap = λ told is. absurd (cc);
           barred = λ told has. absurd (turn.keeps.free told has);
           file = λ told. tt;

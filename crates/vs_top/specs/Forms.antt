@@ -13,8 +13,9 @@ use Rattle.vs_top.specs.declared.ending.Ending.TheVariants as ending
 use Rattle.vs_top.specs.declared.form.Mode.{Mode}
 use Rattle.vs_top.specs.declared.form.Mode.TheVariants as mode
 use Rattle.vs_top.specs.Ending.{ended_by, recovered_by}
-use Rattle.vs_top.specs.Run.{RunsEdit}
-use Rattle.vs_top.specs.Stress.{IsStress, RunsStress}
+use Rattle.vs_top.specs.Promise.{RunsEdit}
+use Rattle.vs_top.specs.Promise.{RunsStress}
+use Rattle.vs_top.specs.Stress.{IsStress}
 
 -- the first argument of a form
 abbrev pub word_of : Mode → List ℕ

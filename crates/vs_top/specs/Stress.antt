@@ -7,22 +7,19 @@ use Rattle.vs_host.specs.Trace.{Snapshot, Each, WroteOutput}
 use Rattle.vs_host.specs.World.{Tells, Scene, content_of}
 use Rattle.vs_host.specs.declared.names.Names.{Names}
 use Rattle.vs_disk.specs.Names.{SameAt}
-use Rattle.vs_disk.specs.Runs.{Looks}
 use Rattle.vs_pair.specs.Pair.{is_foreign}
 use Rattle.vs_pair.specs.Steps.{IsFresh}
 use Rattle.vs_excmd.specs.Request.{Instruction}
-use Rattle.vs_machine.specs.declared.command.Mark.{Mark}
-use Rattle.vs_safety.specs.Texts.{Text, Sync, Recovers, RecoversOrNone, IsFlag, recoverable}
+use Rattle.vs_safety.specs.Texts.{Text, Recovers, RecoversOrNone, IsFlag, recoverable}
 use Rattle.vs_safety.specs.Turns.{Turn, with_begun, after_turns, opened}
-use Rattle.vs_session.specs.Session.{SessionState, states_after, turns_of}
+use Rattle.vs_safety.specs.History.{History, syncs_of, turns_then}
+use Rattle.vs_session.specs.Session.{SessionState}
 use Rattle.vs_session.specs.Opened.{text_in}
-use Rattle.vs_session.specs.Fits.{HasSwap}
 use Rattle.vs_session.specs.Summary.{summary_of}
 use Rattle.vs_stress.specs.Arguments.{IsCount, summary_line}
 use Rattle.vs_stress.specs.Commands.{stress_commands}
-use Rattle.vs_top.specs.Run.{Did, KeepsMarks, AnswersNone, CountsBy, FailedBy, FaultHasCause, HasFile, IsBarred, IsTimed, FileFits, counts_of, is_early, opened_file, refuses_any}
-use Rattle.vs_top.specs.declared.ending.Ending.{Ending}
-use Rattle.vs_top.specs.declared.ending.Ending.TheVariants as ending
+use Rattle.vs_top.specs.History.{Past, any_error, commands_then, history_of, state_of}
+use Rattle.vs_top.specs.Run.{Did, opened_file}
 
 -- the file of the stress mode
 abbrev pub stress_name : List ℕ
@@ -44,56 +41,40 @@ pub record TellsStress (tells : Tells) : Type 0 where
 abbrev pub stress_text : Scene → Text
 stress_text old = text_in (content_of old stress_name)
 
--- the commands as turns, and the state and the syncs after them
-abbrev pub stress_turns : Scene → Did → List Turn
-stress_turns old did = turns_of (opened_file old stress_name).state did.commands did.ends
+-- the history of the stress mode, as far as safety goes
+abbrev pub stress_history : Scene → Past → History
+stress_history old past = history_of (opened_file old stress_name) past
+
+-- its commands as turns
+abbrev pub stress_turns : Scene → Past → List Turn
+stress_turns old past = turns_then (stress_history old past) []
 
 -- the state after these commands of the stress mode
-abbrev pub stress_state : Scene → Did → SessionState
-stress_state old did = states_after (opened_file old stress_name).state did.commands did.ends
-
--- the syncs of these commands of the stress mode
-abbrev pub stress_syncs : Scene → Did → List Sync
-stress_syncs old did = after_turns (opened (stress_text old)) (stress_turns old did)
+abbrev pub stress_state : Scene → Past → SessionState
+stress_state old past = state_of (opened_file old stress_name).state past
 
 -- the line with the summary after these commands
-abbrev pub stress_line : ℕ → Scene → Did → List ℕ
-stress_line count old did =
-    let summary = summary_of (stress_state old did) (stress_syncs old did) in summary_line count summary.lines summary.changes summary.syncs summary.digest
+abbrev pub stress_line : ℕ → Scene → Past → List ℕ
+stress_line count old past =
+    let summary = summary_of (stress_state old past) (syncs_of (stress_history old past)) in
+    summary_line count summary.lines summary.changes summary.syncs summary.digest
 
 -- All commands were answered, and this was written.
 pub record HasStressed (count : ℕ) (old new : Scene) (did : Did) (written : List ℕ) : Type 0 where
-  pub all : did.commands ≡ stress_commands count
+  pub all : commands_then did.past [] ≡ stress_commands count
   pub output : new.output ≡ old.output ++ written
 
 -- The whole line was written, and the swap files were removed.
 pub record StressEnds (errors : Bool) (count : ℕ) (old new : Scene) (did : Did) : Type 0 where
-  pub stressed : HasStressed count old new did (stress_line count old did)
-  pub errors_are : refuses_any (opened_file old stress_name) did.commands did.ends ≡ errors
+  pub stressed : HasStressed count old new did (stress_line count old did.past)
+  pub errors_are : any_error (opened_file old stress_name).state did.past ≡ errors
   pub gone : IsFresh (names_of_file stress_name) new.folder
 
 -- The first commands were answered, and nothing was written.
 pub record IsStressing (count : ℕ) (old new : Scene) (did : Did) : Type 0 where
   pub rest : List Instruction
-  pub first : stress_commands count ≡ did.commands ++ rest
+  pub first : stress_commands count ≡ commands_then did.past rest
   pub output : new.output ≡ old.output
-
--- what the stress mode answered, by its ending
-abbrev pub StressedBy : Ending → ℕ → Scene → Scene → List Mark → Did → Type 0
-StressedBy ending.Done count old new marks did = StressEnds false count old new did
-StressedBy ending.WithErrors count old new marks did = StressEnds true count old new did
-StressedBy ending.Usage count old new marks did = ⊥
-StressedBy ending.SwapFound count old new marks did = AnswersNone old new marks
-StressedBy ending.NoSwap count old new marks did = ⊥
-StressedBy ending.ScriptFault count old new marks did = ⊥
-StressedBy ending.OutputFault count old new marks did = (n : ℕ) × HasStressed count old new did (take n (stress_line count old did))
-StressedBy ending.FolderFault count old new marks did = AnswersNone old new marks ⊎ HasStressed count old new did [] ⊎ HasStressed count old new did (stress_line count old did)
-StressedBy ending.NoMemory count old new marks did = IsStressing count old new did
-StressedBy ending.Encrypted count old new marks did = ⊥
-StressedBy ending.NotSwap count old new marks did = ⊥
-StressedBy ending.Salvaged count old new marks did = ⊥
-StressedBy (ending.TextLimit size) count old new marks did = AnswersNone old new marks
-StressedBy ending.ScriptTooLong count old new marks did = ⊥
 
 -- ---- the folder between two commands
 
@@ -189,7 +170,8 @@ pub record IsBeforeLine (names : Names) (start : Scene) (text : Text) (turns : L
 -- And so at any moment.
 pub record IsStressMoment (names : Names) (start : Scene) (text : Text) (turns : List Turn) (line : List ℕ) (moment : Snapshot) : Type 0 where
   pub spared : SameAt (is_foreign names) start.folder moment.folder
-  pub recovers : IsAtOpening names start text moment ⊎ IsAtCommand names start text turns moment ⊎ IsAtLine names start text turns line moment ⊎ IsAtRemoval names start text turns line moment
+  pub recovers : IsAtOpening names start text moment ⊎ IsAtCommand names start text turns moment ⊎ IsAtLine names start text turns line moment
+      ⊎ IsAtRemoval names start text turns line moment
 
 -- So it is at each moment from one scene to another, for the commands and the line that follows them.
 pub record IsStressSafe (OfHost : Scene → Type 0) (names : Names) (start now : Scene) (text : Text) (turns : List Turn) (line : List ℕ) : Type 0 where
@@ -198,33 +180,3 @@ pub record IsStressSafe (OfHost : Scene → Type 0) (names : Names) (start now :
   pub safe : Each (IsStressMoment names start text turns line) moments
   pub spared : SameAt (is_foreign names) start.folder now.folder
   pub steps : HasStretches OfHost names start moments turns now.folder_faults
-
--- ---- a run
-
--- What it did, over a host that tells: its commands and how they ended.
-pub record HasStress (OfHost : Scene → Type 0) (count : ℕ) (old new : Scene) (end : Ending) (marks : List Mark) : Type 0 where
-  pub did : Did
-  pub kept : KeepsMarks (opened_file old stress_name) marks did
-  pub answered : StressedBy end count old new marks did
-  pub safe : (HasSwap (names_of_file stress_name) old.folder → ⊥) → IsStressSafe OfHost (names_of_file stress_name) old new (stress_text old) (stress_turns old did) (stress_line count old did)
-  pub failed : FailedBy end old new
-  pub looks : IsTrue (is_early end) → Looks old new
-
--- What the stress mode does, by its ending, where these are the scenes of the hosts of a type. The script is not read.
-pub record RunsStress (OfHost : Scene → Type 0) (tells : Tells) (count : ℕ) (old new : Scene) (end : Ending) (marks : List Mark) : Type 0 where
-  pub told : TellsStress tells → HasStress OfHost count old new end marks
-  pub swap : IsTrue tells.folder → end ≡ ending.SwapFound → HasSwap (names_of_file stress_name) old.folder
-  pub barred : IsTrue tells.folder → HasSwap (names_of_file stress_name) old.folder → IsBarred old new end marks
-  pub file : IsTrue tells.folder → HasFile end (content_of old stress_name)
-  pub script : new.script ≡ old.script
-  pub counts : CountsBy end (counts_of old) (counts_of new)
-  pub causes : All (FaultHasCause (counts_of old) (counts_of new)) marks
-  pub times : IsTrue tells.clock → IsTimed old new marks
-
--- The file is within its limits, no swap file is there, and no count of faults rose.
-pub record IsStressUnhindered (tells : Tells) (old new : Scene) : Type 0 where
-  pub told : TellsStress tells
-  pub free : HasSwap (names_of_file stress_name) old.folder → ⊥
-  pub file : FileFits (content_of old stress_name)
-  pub no_out_fault : ¬ HasRisen old.out_faults new.out_faults
-  pub no_folder_fault : ¬ HasRisen old.folder_faults new.folder_faults

@@ -1,5 +1,5 @@
 -- What is known of the stress mode between two of its commands.
-use Rattle.std.specs.Prelude.{ℕ, Bool, not, List, ◌≡◌, ◌+◌, ◌++◌, length, map, IsTrue}
+use Rattle.std.specs.Prelude.{ℕ, Bool, not, List, [], ◌≡◌, ◌+◌, ◌++◌, length, map, IsTrue}
 use Rattle.vs_host.specs.Names.{names_of_file}
 use Rattle.vs_host.specs.Trace.{Snapshot, Each}
 use Rattle.vs_host.specs.World.{Tells, Scene, HasNewest}
@@ -7,38 +7,36 @@ use Rattle.vs_disk.specs.Names.{SameAt}
 use Rattle.vs_pair.specs.Pair.{is_foreign}
 use Rattle.vs_excmd.specs.Request.{Instruction}
 use Rattle.vs_machine.specs.declared.command.Mark.{Mark}
-use Rattle.vs_safety.specs.Turns.{after_turns, opened}
+use Rattle.vs_safety.specs.History.{syncs_of}
 use Rattle.vs_safety.specs.Causes.{IsCounted, output_count}
 use Rattle.vs_session.specs.declared.session.Session.{Session}
-use Rattle.vs_session.specs.Session.{Ended, states_after, turns_of, any_error}
 use Rattle.vs_session.specs.Fits.{Fits}
 use Rattle.vs_stress.specs.Commands.{stress_commands}
-use Rattle.vs_top.specs.Run.{AreAnswered, opened_file}
-use Rattle.vs_top.specs.Stress.{TellsStress, HasStretches, IsBeforeLine, stress_name, stress_text}
+use Rattle.vs_top.specs.History.{Past, any_error, commands_then}
+use Rattle.vs_top.specs.Run.{KeepsMarks, opened_file}
+use Rattle.vs_top.specs.Stress.{TellsStress, HasStretches, IsBeforeLine, stress_history, stress_name, stress_state, stress_text, stress_turns}
 use Rattle.vs_top.specs.Turns.{KeepsOpenFile}
 
 -- These commands were answered, and nothing was written.
-pub record StressTold (OfHost : Scene → Type 0) (old now : Scene) (session : Session) (marks : List Mark) (clean : Bool) (commands : List Instruction) (ends : List Ended) : Type 0 where
-  pub one_each : length ends ≡ length commands
-  pub marks_are : marks ≡ map (λ ended. ended.mark) ends
-  pub are_answered : AreAnswered (opened_file old stress_name).state commands ends
-  pub errors : clean ≡ not (any_error (opened_file old stress_name).state commands ends)
-  pub fits : Fits session now.folder (states_after (opened_file old stress_name).state commands ends)
-      (after_turns (opened (stress_text old)) (turns_of (opened_file old stress_name).state commands ends))
+pub record StressTold (OfHost : Scene → Type 0) (old now : Scene) (session : Session) (marks : List Mark) (clean : Bool) (past : Past) : Type 0 where
+  pub kept : KeepsMarks (opened_file old stress_name) marks past
+  pub errors : clean ≡ not (any_error (opened_file old stress_name).state past)
+  pub fits : Fits session now.folder (stress_state old past) (syncs_of (stress_history old past))
   pub moments : List Snapshot
   pub added : now.trace ≡ moments ++ old.trace
-  pub safe : Each (IsBeforeLine (names_of_file stress_name) old (stress_text old) (turns_of (opened_file old stress_name).state commands ends)) moments
+  pub safe : Each (IsBeforeLine (names_of_file stress_name) old (stress_text old) (stress_turns old past)) moments
   pub spared : SameAt (is_foreign (names_of_file stress_name)) old.folder now.folder
-  pub steps : HasStretches OfHost (names_of_file stress_name) old moments (turns_of (opened_file old stress_name).state commands ends) now.folder_faults
+  pub steps : HasStretches OfHost (names_of_file stress_name) old moments (stress_turns old past) now.folder_faults
   pub newest_at_start : HasNewest old
   pub newest : HasNewest now
   pub output : now.output ≡ old.output
-  pub answers : length now.answers ≡ length old.answers + length (turns_of (opened_file old stress_name).state commands ends)
+  pub answers : length now.answers ≡ length old.answers + length (stress_turns old past)
   pub counted : IsCounted output_count old now
 
 -- over any host
-pub record IsStressTurn (OfHost : Scene → Type 0) (tells : Tells) (old now : Scene) (session : Session) (marks : List Mark) (clean : Bool) (commands : List Instruction) : Type 0 where
-  pub told : TellsStress tells → (ends : List Ended) × StressTold OfHost old now session marks clean commands ends
+pub record IsStressTurn (OfHost : Scene → Type 0) (tells : Tells) (old now : Scene) (session : Session) (marks : List Mark) (clean : Bool)
+    (commands : List Instruction) : Type 0 where
+  pub told : TellsStress tells → (past : Past) × (commands_then past [] ≡ commands) × StressTold OfHost old now session marks clean past
   pub keeps : KeepsOpenFile tells stress_name old now session marks
   pub script : now.script ≡ old.script
   pub times : IsTrue tells.clock → now.answers ≡ old.answers ++ map (λ mark. mark.at) marks

@@ -1,22 +1,22 @@
 -- What is known of a run after its file was opened, between two commands, and where it begins to close.
-use Rattle.std.specs.Prelude.{ℕ, Bool, true, not, List, [], ◌∷◌, ◌≡◌, ◌≤◌, ◌+◌, ◌++◌, All, length, map, IsTrue}
+use Rattle.std.specs.Prelude.{ℕ, Bool, true, not, List, [], ◌∷◌, ◌≡◌, ◌≤◌, ◌+◌, All, length, IsTrue}
 use Rattle.vs_host.specs.Names.{names_of_file}
 use Rattle.vs_host.specs.World.{Tells, Scene, content_of}
 use Rattle.vs_excmd.specs.Request.{Instruction}
 use Rattle.vs_script.specs.Ahead.{script_limit}
 use Rattle.vs_machine.specs.Replies.{opening_of}
 use Rattle.vs_machine.specs.declared.command.Mark.{Mark}
-use Rattle.vs_safety.specs.Turns.{after_turns, opened}
-use Rattle.vs_safety.specs.Going as going
-use Rattle.vs_safety.specs.Going.{Going}
+use Rattle.vs_safety.specs.Turns.{opened}
+use Rattle.vs_safety.specs.History.{HasBegun, Waits, syncs_of}
 use Rattle.vs_safety.specs.Causes.{IsCounted, script_count, output_count, folder_count}
 use Rattle.vs_session.specs.declared.session.Session.{Session}
 use Rattle.vs_session.specs.declared.ending.End.{End}
 use Rattle.vs_session.specs.declared.ending.End.TheVariants as end
-use Rattle.vs_session.specs.Session.{Ended, accepts_quit, states_after, turns_of, any_error}
+use Rattle.vs_session.specs.Session.{accepts_quit}
 use Rattle.vs_session.specs.Opened.{Opened, text_in}
 use Rattle.vs_session.specs.Fits.{Fits, HasOpened, HasSwap, names_of}
-use Rattle.vs_top.specs.Run.{TellsRun, AreAnswered, counts_of, OnlyFolder, FaultHasCause, FileFits, IsTimed, commands_in, opened_file}
+use Rattle.vs_top.specs.History.{Past, any_error, commands_then, history_of, state_of}
+use Rattle.vs_top.specs.Run.{TellsRun, KeepsMarks, counts_of, OnlyFolder, FaultHasCause, FileFits, IsTimed, commands_in, opened_file}
 
 -- the text that a run opens, and its opening reply
 abbrev pub text_at : Scene → List ℕ → List (List ℕ)
@@ -32,21 +32,19 @@ pub record AreCounted (old now : Scene) : Type 0 where
   pub output : IsCounted output_count old now
   pub folder : IsCounted folder_count old now
 
--- These commands were answered, and their replies are whole.
-pub record Told (name : List ℕ) (old now : Scene) (session : Session) (marks : List Mark) (clean : Bool) (commands : List Instruction) (ends : List Ended) : Type 0 where
-  pub one_each : length ends ≡ length commands
-  pub marks_are : marks ≡ map (λ ended. ended.mark) ends
-  pub are_answered : AreAnswered (opened_file old name).state commands ends
-  pub errors : clean ≡ not (any_error (opened_file old name).state commands ends)
-  pub fits : Fits session now.folder (states_after (opened_file old name).state commands ends) (after_turns (opened (text_at old name)) (turns_of (opened_file old name).state commands ends))
-  pub going : Going (names_of_file name) old now (text_at old name) (opening_at old name) (turns_of (opened_file old name).state commands ends)
+-- These commands were answered, and the run waits for the next one.
+pub record Told (name : List ℕ) (old now : Scene) (session : Session) (marks : List Mark) (clean : Bool) (past : Past) : Type 0 where
+  pub kept : KeepsMarks (opened_file old name) marks past
+  pub errors : clean ≡ not (any_error (opened_file old name).state past)
+  pub fits : Fits session now.folder (state_of (opened_file old name).state past) (syncs_of (history_of (opened_file old name) past))
+  pub waits : Waits (names_of_file name) old (history_of (opened_file old name) past) now
   pub counted : AreCounted old now
 
 -- The file was opened, and nothing was written.
 pub record ToldOpen (name : List ℕ) (old now : Scene) (session : Session) : Type 0 where
   pub file : HasOpened (opened_file old name) session
   pub fits : Fits session now.folder (opened_file old name).state (opened (text_at old name))
-  pub opened_here : going.Opened (names_of_file name) old now (text_at old name) (opening_at old name)
+  pub begun : HasBegun (names_of_file name) (text_at old name) old now
   pub counted : IsCounted output_count old now
 
 -- What a run over any host keeps: the file was within its limits and had no swap file, the names are those of the file, and but for
@@ -66,14 +64,15 @@ pub record IsOpened (tells : Tells) (name : List ℕ) (old now : Scene) (session
   pub answers : now.answers ≡ old.answers
 
 -- the script was read to its end, or the next command is an accepted quit
-abbrev pub StopsAt : End → Opened → Scene → Scene → List Instruction → List Ended → Type 0
-StopsAt end.Sync file old now commands ends = (commands ≡ commands_in old) × (now.script ≡ [])
-StopsAt end.Quit file old now commands ends =
-    (quit : Instruction) × (rest : List Instruction) × (commands_in old ≡ commands ++ quit ∷ rest) × (accepts_quit (states_after file.state commands ends) quit ≡ true)
+abbrev pub StopsAt : End → Opened → Scene → Scene → Past → Type 0
+StopsAt end.Sync file old now past = (commands_then past [] ≡ commands_in old) × (now.script ≡ [])
+StopsAt end.Quit file old now past =
+    (quit : Instruction) × (rest : List Instruction) × (commands_in old ≡ commands_then past (quit ∷ rest))
+    × (accepts_quit (state_of file.state past) quit ≡ true)
 
 -- all commands that are to be answered were, and the session is about to end
 pub record IsAtClose (tells : Tells) (name : List ℕ) (old now : Scene) (session : Session) (marks : List Mark) (how : End) (clean : Bool) : Type 0 where
-  pub told : TellsRun tells → (commands : List Instruction) × (ends : List Ended) × Told name old now session marks clean commands ends × StopsAt how (opened_file old name) old now commands ends
+  pub told : TellsRun tells → (past : Past) × Told name old now session marks clean past × StopsAt how (opened_file old name) old now past
   pub keeps : KeepsOpenFile tells name old now session marks
   pub taken : IsTrue tells.script → length old.script ≤ length now.script + script_limit
   pub times : IsTrue tells.clock → IsTimed old now marks

@@ -11,7 +11,7 @@ ghost use Rattle.vs_safety.specs.Safety.{IsAdded};
 ghost use Rattle.vs_safety.specs.Turns.{preserved_line, quit_line};
 ghost use Rattle.vs_session.specs.Calls.{Finishes, FitsFolder};
 ghost use Rattle.vs_session.specs.Fits.{FitsUndo, generation_of};
-ghost use Rattle.vs_top.specs.Run.{RunsEdit};
+ghost use Rattle.vs_top.specs.Promise.{RunsEdit};
 ghost use Rattle.vs_top.specs.Turns.{IsAtClose, IsOpened};
 
 use crate::ending::Ending;

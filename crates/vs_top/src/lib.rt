@@ -4,9 +4,11 @@
 mod edit;
 mod ending;
 mod form;
+mod laws;
 mod runs;
 mod stress;
 
 pub use ending::Ending;
 pub use form::Mode;
+pub use laws::{edit_through, mode_due, stress_through};
 pub use runs::{Report, run};

@@ -1,14 +1,13 @@
 // The top call, and the forms of its arguments.
-ghost use Rattle.std.specs.Prelude.{◌≡◌, ◌≢◌, ◌⊎◌, ◌<◌, ◌^◌, [], List, ℕ, length, map, All, IsTrue, string_bytes};
+ghost use Rattle.std.specs.Prelude.{◌≡◌, ◌<◌, ◌^◌, [], List, ℕ, length, map, IsTrue, string_bytes};
 ghost use Rattle.vs_host.specs.Names.{is_allowed, names_of_file};
-ghost use Rattle.vs_modes.specs.Recover.{RunsRecover, remains_in};
+ghost use Rattle.vs_modes.specs.Recover.{RunsRecover};
 ghost use Rattle.vs_modes.specs.Info.{RunsInfo};
 ghost use Rattle.vs_modes.specs.Discard.{RunsDiscard};
 ghost use Rattle.vs_top.specs.Ending.{status_of, ending_in, ended_by, recovered_by};
-ghost use Rattle.vs_top.specs.Due.{IsOnlyDue, IsSpared};
 ghost use Rattle.vs_top.specs.Forms.{Does, EndsBy, IsBuilt, IsForm, Performs};
-ghost use Rattle.vs_top.specs.Stress.{IsSceneOf, IsStress, IsStressUnhindered, RunsStress};
-ghost use Rattle.vs_top.specs.Run.{IsThrough, IsThroughMark, IsUnhindered, RunsEdit};
+ghost use Rattle.vs_top.specs.Promise.{RunsEdit, RunsStress};
+ghost use Rattle.vs_top.specs.Stress.{IsSceneOf, IsStress};
 
 use crate::edit::edit;
 use crate::ending::Ending;
@@ -98,8 +97,8 @@ fn perform_words<H: Host>(
 
 /// Does what the arguments say: `edit NAME` runs the script of the host over the file of a name, `recover NAME`, `info NAME` and
 /// `discard NAME` go to its swap files, and `stress N` tries a session with N commands of its own. With other arguments it ends
-/// with `Usage`, takes no memory and makes no call. Where nothing hinders it, it comes to its end: the clauses `through`, `due` and
-/// `stresses` say so, and follow from those of the modes.
+/// with `Usage`, takes no memory and makes no call. Where nothing hinders it, it comes to its end: that is a law of each mode
+/// ([`edit_through`](crate::edit_through), [`stress_through`](crate::stress_through), [`mode_due`](crate::mode_due)).
 pub fn run<H: Host>(alloc: Global, words: &[String], host: &mut H) -> Report
     requires clock { IsTrue (H.tells).clock → length (H.scene host.old).answers < 2 ^ 62 }
     requires settled { IsTrue (H.tells).folder → (H.scene host.old).folder.pending ≡ [] }
@@ -107,22 +106,15 @@ pub fn run<H: Host>(alloc: Global, words: &[String], host: &mut H) -> Report
     ensures idle { result.ending ≡ Ending.Usage → (H.scene host.new ≡ H.scene host.old) × (result.marks.items ≡ []) }
     ensures edit { (name : List ℕ) → IsForm (map string_bytes words.now) Mode.Edit name →
         RunsEdit H.tells name (H.scene host.old) (H.scene host.new) result.ending result.marks.items }
-    ensures through { (name : List ℕ) → IsForm (map string_bytes words.now) Mode.Edit name → IsUnhindered H.tells name (H.scene host.old) (H.scene host.new) →
-        IsThrough result.ending × All IsThroughMark result.marks.items }
     ensures recover { (name : List ℕ) → IsForm (map string_bytes words.now) Mode.Recover name →
         EndsBy recovered_by (RunsRecover H.tells (names_of_file name) (H.scene host.old) (H.scene host.new)) result.ending result.marks.items }
     ensures info { (name : List ℕ) → IsForm (map string_bytes words.now) Mode.Info name →
         EndsBy ended_by (RunsInfo H.tells (names_of_file name) (H.scene host.old) (H.scene host.new)) result.ending result.marks.items }
     ensures discard { (name : List ℕ) → IsForm (map string_bytes words.now) Mode.Discard name →
         EndsBy ended_by (RunsDiscard H.tells (names_of_file name) (H.scene host.old) (H.scene host.new)) result.ending result.marks.items }
-    ensures due { (mode : Mode) (name : List ℕ) → IsForm (map string_bytes words.now) mode name → mode ≢ Mode.Edit → IsTrue (H.tells).folder →
-        IsSpared (H.scene host.old) (H.scene host.new) →
-        (result.ending ≡ Ending.NoMemory) ⊎ IsOnlyDue mode (remains_in (H.scene host.old) (names_of_file name)) result.ending }
     ensures other { ¬ IsBuilt (map string_bytes words.now) → result.ending ≡ Ending.Usage }
     ensures stress { (count : ℕ) → IsStress (map string_bytes words.now) count →
         RunsStress (IsSceneOf H.scene) H.tells count (H.scene host.old) (H.scene host.new) result.ending result.marks.items }
-    ensures stresses { (count : ℕ) → IsStress (map string_bytes words.now) count → IsStressUnhindered H.tells (H.scene host.old) (H.scene host.new) →
-        IsThrough result.ending × All IsThroughMark result.marks.items }
 {
     let mut marks = Vec::new(alloc);
     let ending = perform_words(alloc, words, host, &mut marks);

@@ -9,7 +9,8 @@ ghost use Rattle.vs_session.specs.Fits.{Fits, FitsUndo, generation_of};
 ghost use Rattle.vs_session.specs.Session.{SessionState, quits, writes_files};
 ghost use Rattle.vs_stress.specs.Commands.{stress_commands};
 ghost use Rattle.vs_top.specs.Ending.{ending_in};
-ghost use Rattle.vs_top.specs.Stress.{IsSceneOf, RunsStress};
+ghost use Rattle.vs_top.specs.Promise.{RunsStress};
+ghost use Rattle.vs_top.specs.Stress.{IsSceneOf};
 ghost use Rattle.vs_top.specs.StressTurns.{IsStressTurn, StopsStress};
 
 use crate::edit::{ending_of, finish, is_clean, keep, put};

@@ -1,15 +1,15 @@
-use Rattle.std.proofs.Common.{◌≡◌, ◌∙◌, ℕ, List, ◌++◌, ◌∷◌, [], take, refl, length, ap, sym, subst, arith, None, Ok, rules}
+use Rattle.std.proofs.Common.{◌≡◌, ◌∙◌, ℕ, List, ◌++◌, ◌∷◌, [], refl, length, ap, sym, subst, arith, None, Ok, rules}
 use Rattle.std.proofs.lemmas.Grind.{common_steps}
 use Rattle.vs_host.specs.World.{Scene}
 use Rattle.vs_machine.specs.declared.command.Mark.{Mark}
 use Rattle.std.proofs.lemmas.List.{length-append}
 use Rattle.vs_session.specs.Fits.{Fits, IsStep, IsTimed}
 use Rattle.vs_top.specs.Ending.{ending_in}
-use Rattle.vs_top.specs.Run.{RunsEdit}
+use Rattle.vs_top.specs.Promise.{RunsEdit}
 use Rattle.vs_top.proofs.Requests.{some_command}
 use Rattle.vs_top.proofs.Closing.{at_ending}
 use Rattle.vs_top.proofs.Turning.{reader_stopped, no_memory_left}
-use Rattle.vs_top.proofs.Stepping.{cut_turn, next_turn, at_end, at_quit, quit_step, fits_after}
+use Rattle.vs_top.proofs.Stepping.{cut_reply, next_turn, at_end, at_quit, quit_step, fits_after}
 use Rattle.vs_top.proofs.Reading.{fresh_seen}
 use Rattle.vs_top.proofs.Opening.{no_memory_yet, cut_opening, first_turn}
 use Rattle.vs_top.proofs.edit.serve.Goals as goal
@@ -133,7 +133,7 @@ requests-preserved g c = record {
 pub returns-in_err-put-2 : goal.returns-in_err-put-2
 returns-in_err-put-2 g c = λ name old at.
     at_ending g.H.World.tells name old (g.H.World.scene c.put-in-Some.new.host) c.keep.new.marks.items c.from_residual-in_err-put-2.result _ _ c.from_residual-in_err-put-2.ensures.1 c.in_err-put-2.ensures.out
-    (cut_turn g.H.World.tells name old (g.H.World.scene c.requests.host) (g.H.World.scene c.next_request.new.host) (g.H.World.scene c.step.new.host) c.requests.session c.step.new.self c.in_ok-reader.reader c.requests.reader c.next_request.new.self c.requests.marks.items c.requests.clean c.in-Some.request c.in-Answer.mark c.in-Answer.reply
+    (cut_reply g.H.World.tells name old (g.H.World.scene c.requests.host) (g.H.World.scene c.next_request.new.host) (g.H.World.scene c.step.new.host) c.requests.session c.step.new.self c.in_ok-reader.reader c.requests.reader c.next_request.new.self c.requests.marks.items c.requests.clean c.in-Some.request c.in-Answer.mark c.in-Answer.reply
     c.in_ok-request.ensures.reads c.in_ok-request.ensures.track (record { step = c.in-Answer.ensures.step; frame = c.step.ensures.frame; later = c.step.ensures.cause.later; risen = c.in-Answer.ensures.cause.risen; names = c.step.ensures.file.names; clock = c.in-Answer.ensures.clock }) c.put-in-Some.ensures.some (g.H.World.scene c.put-in-Some.new.host) c.keep.new.marks.items (c.keep.ensures ∙ ap (λ (l : List Mark). l ++ c.in-Answer.mark ∷ []) c.reserve.ensures.items) c.requests.invariant.fresh
     (rw c.in-Some.is at c.in_ok-request.ensures.request) c.put-in-Some.ensures.frame c.put-in-Some.ensures.added (c.requests.invariant.turn name old at) c.in_err-put-2.ensures.err (c.in_err-put-2.ensures.cause.risen refl))
 

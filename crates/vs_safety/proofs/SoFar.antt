@@ -1,0 +1,397 @@
+-- A run between two commands: what stands in the folder, and that each moment so far is one that the promise allows, whatever comes next.
+use Rattle.std.proofs.Common.{◌≡◌, inl, inr, ℕ, ◌+◌, ◌<◌, ◌≤◌, List, [], ◌∷◌, ◌++◌, length, length-append, true, refl, sym, ◌∙◌, ap, subst, arith, append_assoc}
+use Rattle.std.specs.Prelude.{None, IfSome}
+use Rattle.std.proofs.lemmas.List.{take_all}
+use Rattle.vs_faults.specs.Faults.{HasRisen}
+use Rattle.vs_host.specs.Disk.{Disk}
+use Rattle.vs_host.specs.Trace.{WroteOutput, Snapshot, Each}
+use Rattle.vs_host.specs.World.{Scene, IsRecorded, snapshot_of}
+use Rattle.vs_host.specs.declared.names.Names.{Names}
+use Rattle.vs_disk.specs.Names.{SameAt}
+use Rattle.vs_disk.specs.Runs.{Inside}
+use Rattle.vs_disk.proofs.Runs.{Each-append, Each-weaker, goes_then, goes_weaker}
+use Rattle.vs_pair.specs.Pair.{is_foreign}
+use Rattle.vs_pair.proofs.MadeFiles.{same_weaker}
+use Rattle.vs_safety.specs.Texts.{Text, Sync, recoverable, Recovers, RecoversOrNone, IsFlag, IsBetween}
+use Rattle.vs_safety.specs.Writes.{State, state_in, state_now}
+use Rattle.vs_safety.specs.FileWork.{HasLeft, IsFoundIn, Keeps}
+use Rattle.vs_safety.specs.Turns.{Turn, with_begun, with_next, opened, replies, EndsAfter, KeepsUndo, SparesOthers, next_of, next_write, IsWholeNext}
+use Rattle.vs_safety.specs.Stretches.{IsFirst, IsShorter, IsEnd, EachTurn, HasStretch, KeepsSince, BeginsAsAtStart}
+use Rattle.vs_safety.specs.Safety.{IsFirstPart, opened_at, IsKept, Looks, Stepped, Spares, IsUnderWay}
+use Rattle.vs_safety.specs.History.{History, Open, After, opened_text, opening_reply, syncs_of, written_by, turns_then, replied_at, Begins, HasBegun, Replied, CameTo, Waits}
+use Rattle.vs_safety.proofs.Texts.{begun_within, between_recovers, recovers_more}
+use Rattle.vs_safety.proofs.UndoFiles.{undo_foreign, undo_moment, undo_end, undo_under_way, undo_ended, undo_next, undo_none}
+use Rattle.vs_safety.proofs.Splits.{spared_front}
+use Rattle.vs_safety.proofs.Moments.{part_same, part_of, part_then, part_long, first_in, opens_stays, keeps_same, spared_step, whole_found, written_found}
+use Rattle.vs_safety.proofs.Histories.{then_is, syncs_are, place_is}
+
+-- the first of these commands begins in this folder, and its reply is not empty
+abbrev pub IsNext : List Turn → Disk → Type 0
+IsNext [] folder = Unit {0}
+IsNext (turn ∷ rest) folder = (0 < length turn.reply) × IfSome turn.write (λ work. IsFoundIn work folder)
+
+-- What stands in the folder after the turns of a history.
+pub record Stands (names : Names) (start : Disk) (past : History) (folder : Disk) : Type 0 where
+  pub settled : start.pending ≡ []
+  pub between : IsBetween names (syncs_of past) folder
+  pub spared : SparesOthers names (turns_then past []) start folder
+  pub foreign : is_foreign names names.undo ≡ true
+  pub undo : KeepsUndo names start (turns_then past []) [] folder
+
+-- ---- a moment at which the replies of a history are whole
+
+module _ (names : Names) (start : Scene) (past : History) (all : List Snapshot) (rest : List Turn) (m : Snapshot) (le : replied_at start past ≤ length m.output) where
+  abbrev Kept : List Turn → Type 0
+  Kept turns = IsKept names start all (opened_text past) (opening_reply past) turns m
+
+  kept_running : EndsAfter (length m.output) (replied_at start past) rest → Recovers names (recoverable (with_next (syncs_of past) rest)) m.folder
+      → SparesOthers names (turns_then past [] ++ next_of rest) start.folder m.folder → KeepsSince names all (replied_at start past) (next_write rest) m.folder
+      → KeepsUndo names start.folder (turns_then past []) rest m.folder → IsWholeNext names rest m.folder → Kept (turns_then past rest)
+  kept_running next recovers spared keeps undo whole =
+      let place : opened_at start (opening_reply past) + length (replies (turns_then past [])) ≡ replied_at start past = place_is start past in
+      record {
+        before = λ below. absurd (omega (arith, below, le, place));
+        spared = λ below. absurd (omega (arith, below, le, place));
+        running = λ at. record {
+          first = turns_then past [];
+          rest = rest;
+          split = record { turns_are = then_is past rest; whole = omega (arith, place, le); next = subst (λ (k : ℕ). EndsAfter (length m.output) k rest) (sym place) next };
+          recovers = subst (λ (syncs : List Sync). Recovers names (recoverable (with_next syncs rest)) m.folder) (sym (syncs_are past [])) recovers;
+          spared = spared;
+          keeps = subst (λ (k : ℕ). KeepsSince names all k (next_write rest) m.folder) (sym place) keeps;
+          undo = undo;
+          whole = whole;
+        };
+      }
+
+-- nothing has changed since the last of them
+kept_still : (names : Names) (start : Scene) (past : History) (all : List Snapshot) (rest : List Turn) (m since : Snapshot) → length m.output ≡ replied_at start past → Stands names start.folder past m.folder → IsNext rest m.folder
+    → IsFirst (replied_at start past) all since → since.folder ≡ m.folder → IsKept names start all (opened_text past) (opening_reply past) (turns_then past rest) m
+kept_still names start past all [] m since long stands next begins same =
+    kept_running names start past all [] m (omega (arith, long)) tt (between_recovers names (syncs_of past) m.folder stands.between)
+    (spared_front names (turns_then past []) [] start.folder m.folder stands.spared)
+    (record { since = since; begins = begins; keeps = keeps_same names None since.folder m.folder (sym same) }) stands.undo tt
+kept_still names start past all (turn ∷ rest) m since long stands next begins same =
+    kept_running names start past all (turn ∷ rest) m (omega (arith, long)) (omega (arith, long, next.0))
+    (recovers_more names _ _ m.folder (begun_within turn.sync (syncs_of past)) (between_recovers names (syncs_of past) m.folder stands.between))
+    (spared_front names (turns_then past []) (turn ∷ []) start.folder m.folder stands.spared)
+    (record { since = since; begins = begins; keeps = keeps_same names turn.write since.folder m.folder (sym same) })
+    (undo_next names start.folder turn (turns_then past []) m.folder stands.undo) (whole_found names turn.write m.folder next.1)
+
+-- the next command is under way
+pub kept_part : (names : Names) (start : Scene) (past : History) (all : List Snapshot) (turn : Turn) (rest : List Turn) (m since : Snapshot) → replied_at start past ≤ length m.output → length m.output < replied_at start past + length turn.reply
+    → Stands names start.folder past since.folder → IfSome turn.write (λ work. IsFoundIn work since.folder) → IsFirst (replied_at start past) all since
+    → Spares names turn.write (IsUnderWay names (with_begun turn.sync (syncs_of past)) turn.write) since.folder m.folder
+    → IsKept names start all (opened_text past) (opening_reply past) (turns_then past (turn ∷ rest)) m
+kept_part names start past all turn rest m since le lt stands found begins spares =
+    kept_running names start past all (turn ∷ rest) m le lt spares.folder.recovers
+    (spared_step names turn (turns_then past []) start.folder since.folder m.folder stands.settled stands.spared spares.spared)
+    (record { since = since; begins = begins; keeps = spares.spared })
+    (undo_under_way names start.folder turn (turns_then past []) since.folder m.folder stands.undo (undo_moment names turn.write since.folder m.folder stands.foreign found spares.spared spares.folder.whole))
+    spares.folder.whole
+
+-- ---- the history goes on
+
+stands_after : (names : Names) (start : Disk) (past : History) (turn : Turn) (old new : Scene) → Stands names start past old.folder → Stepped names (syncs_of past) turn old new → Stands names start (After past turn) new.folder
+stands_after names start past turn old new stands stepped =
+    let turns : List Turn = turns_then past [] in
+    let found : IfSome turn.write (λ work. IsFoundIn work old.folder) = written_found names turn.write turn.done turn.failed (state_now old) (state_now new) stepped.wrote in
+    record {
+      settled = stands.settled;
+      between = stepped.between;
+      spared = subst (λ (ts : List Turn). SparesOthers names ts start new.folder) (sym (then_is past (turn ∷ [])))
+          (spared_step names turn turns start old.folder new.folder stands.settled stands.spared stepped.works.spared);
+      foreign = stands.foreign;
+      undo = subst (λ (ts : List Turn). KeepsUndo names start ts [] new.folder) (sym (then_is past (turn ∷ [])))
+          (undo_ended names start turn turns new.folder
+          (undo_under_way names start turn turns old.folder new.folder stands.undo (undo_moment names turn.write old.folder new.folder stands.foreign found stepped.works.spared stepped.whole))
+          (undo_end names turn (state_now old) (state_now new) stepped.wrote));
+    }
+
+-- What is known of a run with this history, where its last reply is whole and only looks came since.
+pub record SoFar (names : Names) (start : Scene) (past : History) (now : Scene) : Type 0 where
+  pub moments : List Snapshot
+  pub added : now.trace ≡ moments ++ start.trace
+  pub parts : Each (λ m. IsFirstPart m.output now.output) moments
+  pub output : now.output ≡ start.output ++ written_by past
+  pub long : length now.output ≡ replied_at start past
+  -- the snapshot of the last reply
+  pub here : Snapshot
+  pub begins : IsFirst (replied_at start past) moments here
+  pub state : state_in here ≡ state_now now
+  pub at_start : RecoversOrNone names (opened_text past ∷ []) start.folder
+  pub stands : Stands names start.folder past now.folder
+  pub opens : BeginsAsAtStart names start.folder moments (opened_at start (opening_reply past))
+  -- whatever comes next, in a longer trace
+  pub kept : (all newer : List Snapshot) (rest : List Turn) → all ≡ newer ++ moments → IsNext rest now.folder
+      → Each (IsKept names start all (opened_text past) (opening_reply past) (turns_then past rest)) moments
+  pub stretches : (all newer : List Snapshot) (new : Scene) (rest : List Turn) → all ≡ newer ++ moments → EachTurn (HasStretch names all new) (replied_at start past) rest
+      → EachTurn (HasStretch names all new) (opened_at start (opening_reply past)) (turns_then past rest)
+
+parts_on : (one other : List ℕ) (moments : List Snapshot) → IsFirstPart one other → Each (λ m. IsFirstPart m.output one) moments → Each (λ m. IsFirstPart m.output other) moments
+parts_on one other moments part parts = Each-weaker (λ m. IsFirstPart m.output one) (λ m. IsFirstPart m.output other) (λ m first. part_then m.output one other first part) moments parts
+
+pub parts_shorter : (n : ℕ) (output : List ℕ) (moments : List Snapshot) → length output < n → Each (λ m. IsFirstPart m.output output) moments → Each (IsShorter n) moments
+parts_shorter n output moments lt parts = Each-weaker (λ m. IsFirstPart m.output output) (IsShorter n) (λ m first. omega (arith, lt, part_long m.output output first)) moments parts
+
+module _ (names : Names) (start : Scene) (past : History) where
+  -- calls that only look
+  pub looks_on : (now new : Scene) → SoFar names start past now → Looks now new → SoFar names start past new
+  looks_on now new so_far looks =
+      let newest : List Snapshot = looks.moments.added in
+      let older : List Snapshot = so_far.moments in
+      let Still : Snapshot → Type 0 = λ m. (m.output ≡ now.output) × (m.folder ≡ now.folder) in
+      let here_folder : so_far.here.folder ≡ now.folder = ap (λ (s : State). s.folder) so_far.state in
+      record {
+        moments = newest ++ older;
+        added = looks.moments.is ∙ ap (λ (ms : List Snapshot). newest ++ ms) so_far.added ∙ sym (append_assoc newest older start.trace);
+        parts = Each-append (λ m. IsFirstPart m.output new.output) newest older
+            (Each-weaker Still (λ m. IsFirstPart m.output new.output) (λ m still. part_of m.output new.output (looks.output ∙ sym still.0)) newest looks.moments.each)
+            (parts_on now.output new.output older (part_of now.output new.output looks.output) so_far.parts);
+        output = looks.output ∙ so_far.output;
+        long = ap (λ (l : List ℕ). length l) looks.output ∙ so_far.long;
+        here = so_far.here;
+        begins = first_in (replied_at start past) (newest ++ older) newest older so_far.here refl so_far.begins;
+        state = so_far.state ∙ (λ i. record { folder = sym looks.folder i; faults = sym looks.faults i });
+        at_start = so_far.at_start;
+        stands = subst (λ (d : Disk). Stands names start.folder past d) (sym looks.folder) so_far.stands;
+        opens = opens_stays names start.folder older newest _ so_far.opens;
+        kept = λ all newer rest are next.
+            let Kept : Snapshot → Type 0 = IsKept names start all (opened_text past) (opening_reply past) (turns_then past rest) in
+            let farther : all ≡ (newer ++ newest) ++ older = are ∙ sym (append_assoc newer newest older) in
+            Each-append Kept newest older
+            (Each-weaker Still Kept
+            (λ m still. kept_still names start past all rest m so_far.here (ap (λ (l : List ℕ). length l) still.0 ∙ so_far.long)
+            (subst (λ (d : Disk). Stands names start.folder past d) (sym still.1) so_far.stands) (subst (λ (d : Disk). IsNext rest d) (looks.folder ∙ sym still.1) next)
+            (first_in (replied_at start past) all (newer ++ newest) older so_far.here farther so_far.begins) (here_folder ∙ sym still.1))
+            newest looks.moments.each)
+            (so_far.kept all (newer ++ newest) rest farther (subst (λ (d : Disk). IsNext rest d) looks.folder next));
+        stretches = λ all newer end rest are each. so_far.stretches all (newer ++ newest) end rest (are ∙ sym (append_assoc newer newest older)) each;
+      }
+
+  module _ (turn : Turn) (now ended : Scene) (so_far : SoFar names start past now) (stepped : Stepped names (syncs_of past) turn now ended) where
+    abbrev older : List Snapshot
+    older = so_far.moments
+
+    abbrev steps : List Snapshot
+    steps = stepped.works.moments.added
+
+    here_folder : so_far.here.folder ≡ now.folder
+    here_folder = ap (λ (s : State). s.folder) so_far.state
+
+    pub found_now : IfSome turn.write (λ work. IsFoundIn work now.folder)
+    found_now = written_found names turn.write turn.done turn.failed (state_now now) (state_now ended) stepped.wrote
+
+    long_ended : length ended.output ≡ replied_at start past
+    long_ended = ap (λ (l : List ℕ). length l) stepped.works.output ∙ so_far.long
+
+    -- a moment of it
+    pub kept_step : (all newer : List Snapshot) (rest : List Turn) (m : Snapshot) → all ≡ newer ++ older → replied_at start past ≤ length m.output → length m.output < replied_at start past + length turn.reply
+        → Spares names turn.write (IsUnderWay names (with_begun turn.sync (syncs_of past)) turn.write) now.folder m.folder
+        → IsKept names start all (opened_text past) (opening_reply past) (turns_then past (turn ∷ rest)) m
+    kept_step all newer rest m are le lt spares =
+        kept_part names start past all turn rest m so_far.here le lt (subst (λ (d : Disk). Stands names start.folder past d) (sym here_folder) so_far.stands)
+        (subst (λ (d : Disk). IfSome turn.write (λ work. IsFoundIn work d)) (sym here_folder) found_now)
+        (first_in (replied_at start past) all newer older so_far.here are so_far.begins)
+        (subst (λ (d : Disk). Spares names turn.write (IsUnderWay names (with_begun turn.sync (syncs_of past)) turn.write) d m.folder) (sym here_folder) spares)
+
+    -- its own moments
+    pub kept_steps : (all newer : List Snapshot) (rest : List Turn) → all ≡ newer ++ older → 0 < length turn.reply → Each (IsKept names start all (opened_text past) (opening_reply past) (turns_then past (turn ∷ rest))) steps
+    kept_steps all newer rest are some =
+        Each-weaker (Inside ended (Spares names turn.write (IsUnderWay names (with_begun turn.sync (syncs_of past)) turn.write) now.folder)) (IsKept names start all (opened_text past) (opening_reply past) (turns_then past (turn ∷ rest)))
+        (λ m inside. let long : length m.output ≡ replied_at start past = ap (λ (l : List ℕ). length l) inside.output ∙ long_ended in
+        kept_step all newer rest m are (omega (arith, long)) (omega (arith, long, some)) inside.folder)
+        steps stepped.works.moments.each
+
+    pub steps_parts : (output : List ℕ) → IsFirstPart ended.output output → Each (λ m. IsFirstPart m.output output) (steps ++ older)
+    steps_parts output part =
+        Each-append (λ m. IsFirstPart m.output output) steps older
+        (Each-weaker (Inside ended (Spares names turn.write (IsUnderWay names (with_begun turn.sync (syncs_of past)) turn.write) now.folder)) (λ m. IsFirstPart m.output output)
+        (λ m inside. part_then m.output ended.output output (part_of m.output ended.output (sym inside.output)) part) steps stepped.works.moments.each)
+        (parts_on now.output output older (part_then now.output ended.output output (part_of now.output ended.output stepped.works.output) part) so_far.parts)
+
+    pub steps_added : ended.trace ≡ (steps ++ older) ++ start.trace
+    steps_added = stepped.works.moments.is ∙ ap (λ (ms : List Snapshot). steps ++ ms) so_far.added ∙ sym (append_assoc steps older start.trace)
+
+    -- its stretch, where the folder at its end is as the command left it
+    pub stretch_is : (all newer : List Snapshot) (new : Scene) (last : State) → all ≡ newer ++ older → state_now ended ≡ last → IsEnd (replied_at start past + length turn.reply) all new last
+        → HasStretch names all new (replied_at start past) (replied_at start past + length turn.reply) turn
+    stretch_is all newer new last are same ends =
+        let Stretch : State → State → Type 0 = λ first end.
+        IfSome turn.found (λ found. found ≡ first.folder) × IfSome turn.sync (λ sync. IsFlag names turn.done first.folder end.folder sync.acknowledged)
+        × IfSome turn.write (λ work. HasLeft names work turn.done turn.failed first end) × Keeps names turn.write first.folder end.folder × (turn.failed ≡ true → HasRisen first.faults end.faults) in
+        let here : Stretch (state_in so_far.here) last = subst (λ (first : State). Stretch first last) (sym so_far.state)
+        (subst (λ (end : State). Stretch (state_now now) end) same (stepped.found, stepped.flag, stepped.wrote, stepped.works.spared, stepped.cause)) in
+        record {
+          first = so_far.here;
+          last = last;
+          begins = first_in (replied_at start past) all newer older so_far.here are so_far.begins;
+          ends = ends;
+          found = here.0;
+          flag = here.1;
+          wrote = here.2;
+          keeps = here.3;
+          cause = here.4;
+        }
+
+    -- its reply is whole
+    pub answers_on : (new : Scene) → Replied turn.reply ended new → IsRecorded WroteOutput [] ended new → SoFar names start (After past turn) new
+    answers_on new replied told =
+        let output : new.output ≡ ended.output ++ turn.reply = replied.writes.output ∙ ap (λ (l : List ℕ). ended.output ++ l) (take_all (length turn.reply) turn.reply (omega arith)) in
+        let long : length new.output ≡ replied_at start past + length turn.reply = ap (λ (l : List ℕ). length l) output ∙ length-append ended.output turn.reply ∙ ap (λ (n : ℕ). n + length turn.reply) long_ended in
+        let m : Snapshot = snapshot_of new WroteOutput [] in
+        let same : state_now ended ≡ state_in m = λ i. record { folder = sym replied.writes.folder i; faults = sym replied.writes.faults i } in
+        let stands : Stands names start.folder (After past turn) new.folder =
+        subst (λ (d : Disk). Stands names start.folder (After past turn) d) (sym replied.writes.folder) (stands_after names start.folder past turn now ended so_far.stands stepped) in
+        let here : IsFirst (replied_at start past + length turn.reply) (m ∷ (steps ++ older)) m = record {
+          newer = [];
+          older = steps ++ older;
+          is = refl;
+          reached = omega (arith, long);
+          not_before = parts_shorter (replied_at start past + length turn.reply) ended.output (steps ++ older) (omega (arith, long_ended, replied.some)) (steps_parts ended.output (part_same ended.output));
+        } in
+        record {
+          moments = m ∷ (steps ++ older);
+          added = told ∙ ap (λ (ms : List Snapshot). m ∷ ms) steps_added;
+          parts = (part_same new.output, steps_parts new.output (turn.reply, output));
+          output = output ∙ ap (λ (l : List ℕ). l ++ turn.reply) (stepped.works.output ∙ so_far.output) ∙ append_assoc start.output (written_by past) turn.reply;
+          long = long;
+          here = m;
+          begins = here;
+          state = refl;
+          at_start = so_far.at_start;
+          stands = stands;
+          opens = opens_stays names start.folder older (m ∷ steps) _ so_far.opens;
+          kept = λ all newer rest are next.
+              let farther : all ≡ (newer ++ m ∷ steps) ++ older = are ∙ sym (append_assoc newer (m ∷ steps) older) in (
+                kept_still names start (After past turn) all rest m m long stands next (first_in (replied_at start past + length turn.reply) all newer (m ∷ (steps ++ older)) m are here) refl,
+                Each-append (IsKept names start all (opened_text past) (opening_reply past) (turns_then past (turn ∷ rest))) steps older
+                    (kept_steps all (newer ++ m ∷ steps) rest farther replied.some)
+                    (so_far.kept all (newer ++ m ∷ steps) (turn ∷ rest) farther (replied.some, found_now)),
+              );
+          stretches = λ all newer end rest are each.
+              let farther : all ≡ (newer ++ m ∷ steps) ++ older = are ∙ sym (append_assoc newer (m ∷ steps) older) in
+              so_far.stretches all (newer ++ m ∷ steps) end (turn ∷ rest) farther
+              (stretch_is all (newer ++ m ∷ steps) end (state_in m) farther same (inl (m, first_in (replied_at start past + length turn.reply) all newer (m ∷ (steps ++ older)) m are here, refl)), each);
+        }
+
+-- a reply that is not empty is recorded
+pub recorded : (reply : List ℕ) (old new : Scene) → Replied reply old new → IsRecorded WroteOutput [] old new
+recorded reply old new replied = elim replied.writes.added [
+  | inl told ↦ told
+  | inr left ↦
+      absurd (omega (arith, replied.some, ap (λ (l : List ℕ). length l) (sym left.output ∙ replied.writes.output ∙ ap (λ (l : List ℕ). old.output ++ l) (take_all (length reply) reply (omega arith))), length-append old.output reply))
+]
+
+-- ---- the opening
+
+module _ (names : Names) (text : Text) (opening : List ℕ) (start now : Scene) where
+  -- a moment before the opening reply is whole
+  pub kept_before : (all : List Snapshot) (turns : List Turn) (m : Snapshot) → length m.output < opened_at start opening → RecoversOrNone names (text ∷ []) m.folder → SameAt (is_foreign names) start.folder m.folder
+      → IsKept names start all text opening turns m
+  kept_before all turns m lt recovers spared = record { before = λ below. recovers; spared = λ below. spared; running = λ le. absurd (omega (arith, lt, le)) }
+
+  module _ (opens : Begins names text start now) where
+    abbrev looked : List Snapshot
+    looked = opens.works.moments.added
+
+    pub kept_opening : (all : List Snapshot) (turns : List Turn) → 0 < length opening → Each (IsKept names start all text opening turns) looked
+    kept_opening all turns some =
+        Each-weaker (Inside now (Spares names None (RecoversOrNone names (text ∷ [])) start.folder)) (IsKept names start all text opening turns)
+        (λ m inside. kept_before all turns m (omega (arith, some, ap (λ (l : List ℕ). length l) (inside.output ∙ opens.works.output))) inside.folder.folder inside.folder.spared)
+        looked opens.works.moments.each
+
+    pub opening_parts : (output : List ℕ) → IsFirstPart now.output output → Each (λ m. IsFirstPart m.output output) looked
+    opening_parts output part =
+        Each-weaker (Inside now (Spares names None (RecoversOrNone names (text ∷ [])) start.folder)) (λ m. IsFirstPart m.output output)
+        (λ m inside. part_then m.output now.output output (part_of m.output now.output (sym inside.output)) part) looked opens.works.moments.each
+
+  spared_none : (new : Disk) → SameAt (is_foreign names) start.folder new → SparesOthers names [] start.folder new
+  spared_none new same inside foreign all = same_weaker (is_foreign names) inside start.folder new foreign same
+
+  -- and where it is
+  opening_on : (new : Scene) → HasBegun names text start now → Replied opening now new → IsRecorded WroteOutput [] now new → SoFar names start (Open text opening) new
+  opening_on new has replied told =
+      let m : Snapshot = snapshot_of new WroteOutput [] in
+      let moments : List Snapshot = looked has.begins in
+      let output : new.output ≡ now.output ++ opening = replied.writes.output ∙ ap (λ (l : List ℕ). now.output ++ l) (take_all (length opening) opening (omega arith)) in
+      let outputs : new.output ≡ start.output ++ opening = output ∙ ap (λ (l : List ℕ). l ++ opening) has.begins.works.output in
+      let long : length new.output ≡ opened_at start opening = ap (λ (l : List ℕ). length l) outputs ∙ length-append start.output opening in
+      let same : SameAt (is_foreign names) start.folder new.folder = subst (λ (d : Disk). SameAt (is_foreign names) start.folder d) (sym replied.writes.folder) has.begins.works.spared in
+      let stands : Stands names start.folder (Open text opening) new.folder = record {
+        settled = has.begins.settled;
+        between = subst (λ (d : Disk). IsBetween names (opened text) d) (sym replied.writes.folder) has.between;
+        spared = spared_none new.folder same;
+        foreign = undo_foreign names has.named;
+        undo = undo_none names start.folder new.folder (undo_foreign names has.named) same;
+      } in
+      let here : IsFirst (opened_at start opening) (m ∷ moments) m = record {
+        newer = [];
+        older = moments;
+        is = refl;
+        reached = omega (arith, long);
+        not_before = parts_shorter (opened_at start opening) now.output moments (omega (arith, replied.some, ap (λ (l : List ℕ). length l) has.begins.works.output)) (opening_parts has.begins now.output (part_same now.output));
+      } in
+      record {
+        moments = m ∷ moments;
+        added = told ∙ ap (λ (ms : List Snapshot). m ∷ ms) has.begins.works.moments.is;
+        parts = (part_same new.output, opening_parts has.begins new.output (opening, output));
+        output = outputs;
+        long = long;
+        here = m;
+        begins = here;
+        state = refl;
+        at_start = has.begins.at_start;
+        stands = stands;
+        opens = record { first = m; begins = here; same = same };
+        kept = λ all newer rest are next. (
+          kept_still names start (Open text opening) all rest m m long stands next (first_in (opened_at start opening) all newer (m ∷ moments) m are here) refl,
+          kept_opening has.begins all rest replied.some,
+        );
+        stretches = λ all newer end rest are each. each;
+      }
+
+-- ---- all of it, by the history
+
+pub so_far : (names : Names) (start : Scene) (past : History) (now : Scene) → CameTo names start past now → SoFar names start past now
+so_far names start (Open text opening) now came = opening_on names text opening start came.0 now came.1 came.2 (recorded opening came.0 now came.2)
+so_far names start (After past turn) now came =
+    let last = came.2 in
+    answers_on names start past turn last.asked last.ended (looks_on names start past came.0 last.asked (so_far names start past came.0 came.1) last.looks) last.stepped now last.replied (recorded turn.reply last.ended now last.replied)
+
+pub so_far_now : (names : Names) (start : Scene) (past : History) (now : Scene) → Waits names start past now → SoFar names start past now
+so_far_now names start past now waits = looks_on names start past waits.found now (so_far names start past waits.found waits.came) waits.looks
+
+-- ---- the run goes on
+
+looks_none : (now : Scene) → Looks now now
+looks_none now = record { moments = record { added = []; is = refl; each = tt }; output = refl; folder = refl; faults = refl }
+
+-- it looks
+pub waits_on : (names : Names) (start : Scene) (past : History) (now new : Scene) → Waits names start past now → Looks now new → Waits names start past new
+waits_on names start past now new waits looks =
+    let Still : Scene → Snapshot → Type 0 = λ s m. (m.output ≡ s.output) × (m.folder ≡ s.folder) in
+    record {
+      found = waits.found;
+      came = waits.came;
+      looks = record {
+        moments = goes_then (Still waits.found) waits.found.trace now.trace new.trace waits.looks.moments
+            (goes_weaker (Still now) (Still waits.found) (λ m still. (still.0 ∙ waits.looks.output, still.1 ∙ waits.looks.folder)) now.trace new.trace looks.moments);
+        output = looks.output ∙ waits.looks.output;
+        folder = looks.folder ∙ waits.looks.folder;
+        faults = looks.faults ∙ waits.looks.faults;
+      };
+    }
+
+-- it has opened its file
+pub waits_first : (names : Names) (start : Scene) (text : Text) (opening : List ℕ) (mid now : Scene) → HasBegun names text start mid → Replied opening mid now → Waits names start (Open text opening) now
+waits_first names start text opening mid now has replied = record { found = now; came = (mid, has, replied); looks = looks_none now }
+
+-- it has answered a command
+pub waits_next : (names : Names) (start : Scene) (past : History) (turn : Turn) (now ended new : Scene) → Waits names start past now → Stepped names (syncs_of past) turn now ended → Replied turn.reply ended new
+    → Waits names start (After past turn) new
+waits_next names start past turn now ended new waits stepped replied = record {
+  found = new;
+  came = (waits.found, waits.came, record { asked = now; ended = ended; looks = waits.looks; stepped = stepped; replied = replied });
+  looks = looks_none new;
+}

@@ -1,0 +1,86 @@
+-- The history of a run, as far as safety goes, and how its calls led from the scene at its start to the one at which it stands.
+use Rattle.std.specs.Prelude.{◌≡◌, ℕ, ◌+◌, ◌<◌, List, [], ◌∷◌, ◌++◌, length, None}
+use Rattle.vs_host.specs.Names.{AreNames}
+use Rattle.vs_host.specs.World.{Scene}
+use Rattle.vs_host.specs.declared.names.Names.{Names}
+use Rattle.vs_safety.specs.Texts.{Text, Sync, RecoversOrNone, IsBetween}
+use Rattle.vs_safety.specs.Turns.{Turn, Closing, Ran, with_sync, opened}
+use Rattle.vs_safety.specs.Safety.{Looks, Stepped, Works, Writes, opened_at}
+
+-- What a run has done: it opened a file with this text and wrote this reply, and after that it answered commands, one turn each.
+pub data History : Type 0 where
+  Open : Text → List ℕ → History
+  After : History → Turn → History
+
+-- the text that it opened
+abbrev pub opened_text : History → Text
+opened_text (Open text opening) = text
+opened_text (After past turn) = opened_text past
+
+-- the reply to the opening
+abbrev pub opening_reply : History → List ℕ
+opening_reply (Open text opening) = opening
+opening_reply (After past turn) = opening_reply past
+
+-- its syncs, the newest first
+abbrev pub syncs_of : History → List Sync
+syncs_of (Open text opening) = opened text
+syncs_of (After past turn) = with_sync turn.sync (syncs_of past)
+
+-- all replies, one after another
+abbrev pub written_by : History → List ℕ
+written_by (Open text opening) = opening
+written_by (After past turn) = written_by past ++ turn.reply
+
+-- its turns in the order in which they were answered, and then these
+abbrev pub turns_then : History → List Turn → List Turn
+turns_then (Open text opening) rest = rest
+turns_then (After past turn) rest = turns_then past (turn ∷ rest)
+
+-- how long the output is where all replies are whole in it
+abbrev pub replied_at : Scene → History → ℕ
+replied_at start (Open text opening) = opened_at start opening
+replied_at start (After past turn) = replied_at start past + length turn.reply
+
+-- the run as the promise sees it, where it closed so
+abbrev pub ran_of : History → Closing → Ran
+ran_of history closing = record { text = opened_text history; opening = opening_reply history; turns = turns_then history []; closing = closing }
+
+-- ---- what led from one turn to the next
+
+-- Work that is to open the file, from a folder in which no change of a name was pending.
+pub record Begins (names : Names) (text : Text) (start now : Scene) : Type 0 where
+  pub settled : start.folder.pending ≡ []
+  pub at_start : RecoversOrNone names (text ∷ []) start.folder
+  pub works : Works names None (RecoversOrNone names (text ∷ [])) start now
+
+-- The file was opened, and nothing was written.
+pub record HasBegun (names : Names) (text : Text) (start now : Scene) : Type 0 where
+  pub begins : Begins names text start now
+  pub named : AreNames names
+  pub between : IsBetween names (opened text) now.folder
+
+-- A reply was written whole. It is not empty.
+pub record Replied (reply : List ℕ) (old new : Scene) : Type 0 where
+  pub some : 0 < length reply
+  pub writes : Writes (length reply) reply old new
+
+-- After these syncs, from where the reply before was whole: the run looked, carried out a command, and wrote its reply.
+pub record Answered (names : Names) (syncs : List Sync) (turn : Turn) (found now : Scene) : Type 0 where
+  pub asked : Scene
+  pub ended : Scene
+  pub looks : Looks found asked
+  pub stepped : Stepped names syncs turn asked ended
+  pub replied : Replied turn.reply ended now
+
+-- The calls of a run with this history led from one scene to another, where its last reply was whole: one turn after the other, each from
+-- where the one before it ended.
+abbrev pub CameTo : Names → Scene → History → Scene → Type 0
+CameTo names start (Open text opening) now = (mid : Scene) × HasBegun names text start mid × Replied opening mid now
+CameTo names start (After past turn) now = (found : Scene) × CameTo names start past found × Answered names (syncs_of past) turn found now
+
+-- The run waits for its next command: its last reply is whole, and since then it only looked.
+pub record Waits (names : Names) (start : Scene) (history : History) (now : Scene) : Type 0 where
+  pub found : Scene
+  pub came : CameTo names start history found
+  pub looks : Looks found now

@@ -1,0 +1,40 @@
+// Laws of a run that nothing hinders. They do nothing: their contracts are the laws.
+ghost use Rattle.std.specs.Prelude.{◌≡◌, ◌≢◌, ◌⊎◌, ℕ, List, All, IsTrue};
+ghost use Rattle.vs_host.specs.Names.{names_of_file};
+ghost use Rattle.vs_host.specs.World.{Scene, Tells};
+ghost use Rattle.vs_machine.specs.declared.command.Mark.{Mark};
+ghost use Rattle.vs_modes.specs.Recover.{remains_in};
+ghost use Rattle.vs_top.specs.Due.{IsOnlyDue, IsSpared};
+ghost use Rattle.vs_top.specs.Forms.{Performs};
+ghost use Rattle.vs_top.specs.Promise.{RunsEdit, RunsStress};
+ghost use Rattle.vs_top.specs.Stress.{IsSceneOf};
+ghost use Rattle.vs_top.specs.Unhindered.{IsStressUnhindered, IsThrough, IsThroughMark, IsUnhindered};
+ghost use Rattle.vs_top.specs.declared.ending.Ending.{Ending};
+ghost use Rattle.vs_top.specs.declared.ending.Ending.TheVariants as ending;
+ghost use Rattle.vs_top.specs.declared.form.Mode.{Mode};
+ghost use Rattle.vs_top.specs.declared.form.Mode.TheVariants as mode;
+
+use vs_host::Host;
+
+/// An `edit` that nothing hinders comes to its end, or has no memory.
+pub fn edit_through()
+    ensures ends { (tells : Tells) (name : List ℕ) (old new : Scene) (end : Ending) (marks : List Mark) → RunsEdit tells name old new end marks
+        → IsUnhindered tells name old new → IsThrough end }
+    ensures marks { (tells : Tells) (name : List ℕ) (old new : Scene) (end : Ending) (marks : List Mark) → RunsEdit tells name old new end marks
+        → IsUnhindered tells name old new → All IsThroughMark marks }
+{}
+
+/// So does a `stress`.
+pub fn stress_through<H: Host>()
+    ensures ends { (count : ℕ) (old new : Scene) (end : Ending) (marks : List Mark) → RunsStress (IsSceneOf H.scene) H.tells count old new end marks
+        → IsStressUnhindered H.tells old new → IsThrough end }
+    ensures marks { (count : ℕ) (old new : Scene) (end : Ending) (marks : List Mark) → RunsStress (IsSceneOf H.scene) H.tells count old new end marks
+        → IsStressUnhindered H.tells old new → All IsThroughMark marks }
+{}
+
+/// Another mode of which no call fails ends as it is to end, and in no other way, or has no memory.
+pub fn mode_due()
+    ensures { (which : Mode) (tells : Tells) (name : List ℕ) (old new : Scene) (end : Ending) (marks : List Mark)
+        → Performs which tells name old new end marks → which ≢ mode.Edit → IsTrue tells.folder → IsSpared old new
+        → (end ≡ ending.NoMemory) ⊎ IsOnlyDue which (remains_in old (names_of_file name)) end }
+{}
