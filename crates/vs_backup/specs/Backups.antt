@@ -1,5 +1,6 @@
 -- Which backup a write makes.
-use Rattle.std.specs.Prelude.{◌≡◌, ℕ, zero, suc, ◌+◌, ◌-◌, Bool, true, false, List, [], ◌∷◌, ◌++◌, length, map, take, codes, Option, Some, None, is_some, IsSome, IsTrue, if◌then◌else◌, ◌||◌}
+use Rattle.std.specs.Prelude.{◌≡◌, ℕ, zero, suc, ◌+◌, ◌-◌, Bool, true, false, List, [], ◌∷◌, ◌++◌, length, map, take, codes, Option, Some, None, is_some}
+use Rattle.std.specs.Prelude.{IsSome, IsTrue, if◌then◌else◌, ◌||◌}
 use Rattle.vs_host.specs.Disk.{Disk, Name, content_in}
 use Rattle.vs_host.specs.Names.{temporary}
 use Rattle.vs_backup.specs.declared.options.CopyMode.{CopyMode}
@@ -61,4 +62,5 @@ pub data WorksOn (options : WriteOptions) (name : Name) (disk : Disk) (other : N
   TheFile : other ≡ name → WorksOn options name disk other
   TheNewFile : content_in disk name ≡ None → other ≡ temporary name → WorksOn options name disk other
   TheBackup : (backup : Name) → IsSome (content_in disk name) → backup_of options name disk ≡ Some backup → other ≡ backup → WorksOn options name disk other
-  TheCopy : (backup : Name) → IsSome (content_in disk name) → backup_of options name disk ≡ Some backup → copies options.copy ≡ true → other ≡ temporary backup → WorksOn options name disk other
+  TheCopy : (backup : Name) → IsSome (content_in disk name) → backup_of options name disk ≡ Some backup
+      → copies options.copy ≡ true → other ≡ temporary backup → WorksOn options name disk other

@@ -19,7 +19,8 @@ pub record Continues {D : Type 0} (scene : D → Scene) (IsValid : D → Type 0)
   pub cause : HasCause (scene old).folder_faults (scene new).folder_faults Failed
 
 -- The same, and no call but the last one failed.
-pub record GoesOn {D : Type 0} (tells : Tells) (scene : D → Scene) (IsValid : D → Type 0) (Stays : D → D → Type 0) (Failed : Type 0) (old new : D) : Type 0 where
+pub record GoesOn {D : Type 0} (tells : Tells) (scene : D → Scene) (IsValid : D → Type 0) (Stays : D
+    → D → Type 0) (Failed : Type 0) (old new : D) : Type 0 where
   pub valid : IsValid new
   pub stays : Stays old new
   pub frame : ChangesFolder (scene old) (scene new)
@@ -27,7 +28,8 @@ pub record GoesOn {D : Type 0} (tells : Tells) (scene : D → Scene) (IsValid : 
   pub stops : StopsAtFault tells Failed (scene old) (scene new)
 
 -- The same, and the folder did not change either.
-pub record OnlyReads {D : Type 0} (tells : Tells) (scene : D → Scene) (IsValid : D → Type 0) (Stays : D → D → Type 0) (Failed : Type 0) (old new : D) : Type 0 where
+pub record OnlyReads {D : Type 0} (tells : Tells) (scene : D → Scene) (IsValid : D → Type 0) (Stays : D
+    → D → Type 0) (Failed : Type 0) (old new : D) : Type 0 where
   pub valid : IsValid new
   pub stays : Stays old new
   pub frame : ReadsFolder (scene old) (scene new)

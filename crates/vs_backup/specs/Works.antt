@@ -12,9 +12,11 @@ use Rattle.vs_disk.specs.Runs.{Runs, Looks}
 abbrev pub one_name : Name → Name → Type 0
 one_name a name = name ≡ a
 
+-- These two names.
 abbrev pub two_names : Name → Name → Name → Type 0
 two_names a b name = (name ≡ a) ⊎ (name ≡ b)
 
+-- These three names.
 abbrev pub three_names : Name → Name → Name → Name → Type 0
 three_names a b c name = (name ≡ a) ⊎ ((name ≡ b) ⊎ (name ≡ c))
 
@@ -57,7 +59,8 @@ HasNew name old new = (number : ℕ) → names_of new name ≡ Some number → I
 
 -- A file that stands under the name is a new one, or the one that stood there, as it was.
 abbrev pub Renews : Name → Disk → Disk → Type 0
-Renews name old new = (number : ℕ) → names_of new name ≡ Some number → IsUnused number old ⊎ ((names_of old name ≡ Some number) × (new.files number ≡ old.files number))
+Renews name old new = (number : ℕ) → names_of new name ≡ Some number
+    → IsUnused number old ⊎ ((names_of old name ≡ Some number) × (new.files number ≡ old.files number))
 
 -- so it is for each name of this set but one
 abbrev pub RenewsBut : (Name → Type 0) → Name → Disk → Disk → Type 0

@@ -1,5 +1,6 @@
 -- What a write promises of the file and its backup.
-use Rattle.std.specs.Prelude.{◌≡◌, ◌⊎◌, ℕ, List, [], length, Option, Some, None, IsSomeAnd, IfOk, OnOk, OnErr, IsErr, IsErrOf, IsTrue, Result, Ok, Err, Bool, true, false}
+use Rattle.std.specs.Prelude.{◌≡◌, ◌⊎◌, ℕ, List, [], length, Option, Some, None, IsSomeAnd, IfOk, OnOk, OnErr, IsErr, IsErrOf, IsTrue, Result, Ok, Err}
+use Rattle.std.specs.Prelude.{Bool, true, false}
 use Rattle.vs_faults.specs.Faults.{HasRisen}
 use Rattle.vs_text.specs.Text.{file_of}
 use Rattle.vs_host.specs.File.{Leaves}
@@ -8,7 +9,8 @@ use Rattle.vs_host.specs.Names.{temporary}
 use Rattle.vs_host.specs.World.{Scene, content_of}
 use Rattle.vs_disk.specs.Images.{HoldsBytes, IsSynced, MayLeave, Takes}
 use Rattle.vs_disk.specs.Runs.{FailsLast, Looks, Quiet, Runs}
-use Rattle.vs_backup.specs.Works.{HasSynced, IsGone, LeadsAway, LeadsTo, Narrowed, Renews, RenewsBut, Spares, SparesOthers, StandsUnder, one_name, two_names, three_names}
+use Rattle.vs_backup.specs.Works.{HasSynced, IsGone, LeadsAway, LeadsTo, Narrowed, Renews, RenewsBut, Spares, SparesOthers, StandsUnder, one_name}
+use Rattle.vs_backup.specs.Works.{two_names, three_names}
 use Rattle.vs_backup.specs.Backups.{copies}
 use Rattle.vs_backup.specs.declared.options.WriteOptions.{WriteOptions}
 use Rattle.vs_backup.specs.declared.errors.Place.{Place}
@@ -182,7 +184,8 @@ pub record MakesAnew (name backup : Name) (number : ℕ) (old : List ℕ) (befor
 
 -- the same of a file that may be guarded, where the folder is told
 pub record MakesAnewFrom (told : Bool) (name backup : Name) (before after : Scene) : Type 0 where
-  pub each : IsTrue told → (number : ℕ) (old : List ℕ) → (backup ≡ name → ⊥) → IsGuarded name backup number old before.folder → MakesAnew name backup number old before after
+  pub each : IsTrue told → (number : ℕ) (old : List ℕ) → (backup ≡ name → ⊥) → IsGuarded name backup number old before.folder
+      → MakesAnew name backup number old before after
 
 -- A stop may leave no file under the name.
 pub record MayBeAbsent (told : Bool) (name : Name) (after : Scene) : Type 0 where
@@ -198,7 +201,8 @@ pub record IsFilledFirm (told : Bool) (name : Name) (has : List (List ℕ) → T
 
 -- Before the two syncs at the beginning, that of the file first, nothing has changed. After them, at each moment, in each image, the
 -- file or its backup is whole, the backup name has the old bytes whole or what it might have before, and other names are left alone.
-pub record BeginsWhole (copying keep : Bool) (name temporary backup : Name) (old new : List ℕ) (before after : Scene) (result : Result ℕ WriteErr) : Type 0 where
+pub record BeginsWhole (copying keep : Bool) (name temporary backup : Name) (old new : List ℕ)
+    (before after : Scene) (result : Result ℕ WriteErr) : Type 0 where
   pub begun : Scene
   pub looked : Runs Narrowed before begun
   pub order : HasSynced name begun
@@ -211,7 +215,8 @@ pub record BeginsWhole (copying keep : Bool) (name temporary backup : Name) (old
   pub anew : copying ≡ true → Runs (Renews temporary) begun after
 
 -- A write over a file that is there, with this backup, which is kept or removed.
-pub record WritesBacked (copying keep : Bool) (name temporary backup : Name) (old new : List ℕ) (before after : Scene) (result : Result ℕ WriteErr) : Type 0 where
+pub record WritesBacked (copying keep : Bool) (name temporary backup : Name) (old new : List ℕ)
+    (before after : Scene) (result : Result ℕ WriteErr) : Type 0 where
   pub moments : BeginsWhole copying keep name temporary backup old new before after result ⊎ (Runs Narrowed before after × IsErr result)
   pub others : SparesOthers (backed_names copying name temporary backup) before after
   pub written : IfOk result (λ size. (size ≡ length new) × HoldsBytes name new after.folder)
@@ -227,7 +232,8 @@ pub record WritesBacked (copying keep : Bool) (name temporary backup : Name) (ol
 
 -- such a write with these options
 abbrev pub WritesWith : WriteOptions → Name → Name → List ℕ → List ℕ → Scene → Scene → Result ℕ WriteErr → Type 0
-WritesWith options name backup old new before after result = WritesBacked (copies options.copy) options.backup name (temporary backup) backup old new before after result
+WritesWith options name backup old new before after result = WritesBacked (copies options.copy) options.backup name
+    (temporary backup) backup old new before after result
 
 -- Before the two syncs at the beginning, that of the file first, nothing has changed. After them only the file does, which stays where
 -- it is.

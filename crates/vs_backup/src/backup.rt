@@ -75,7 +75,8 @@ fn write_copying<D: Desk>(
     requires names { AreApart (D.reads desk.old) name.now backup.now temporary.now }
     requires buffer { length piece.old.items ≡ PIECE }
     requires settled { IsTrue (D.tells).folder → (old : List ℕ) × IsSettled name.now old (D.scene desk.old).folder }
-    ensures over { IsTrue (D.tells).folder → (old : List ℕ) → IsSettled name.now old (D.scene desk.old).folder → (text : List (List ℕ)) → D.has_text desk.old text
+    ensures over { IsTrue (D.tells).folder → (old : List ℕ) → IsSettled name.now old (D.scene desk.old).folder
+        → (text : List (List ℕ)) → D.has_text desk.old text
         → WritesOver true name.now temporary.now backup.now old (file_of text) (D.scene desk.old) (D.scene desk.new) result }
     ensures no_name { IsErrOf result WriteErr.NoBackupName → ⊥ }
     ensures kept { GoesOn D.tells D.scene D.valid D.stays (IsFailed result) desk.old desk.new }
@@ -148,7 +149,8 @@ fn write_moving<D: Desk>(
     requires apart_backup { D.reads desk.old backup.now → ⊥ }
     requires differ_name { name.now ≢ backup.now }
     requires settled { IsTrue (D.tells).folder → (old : List ℕ) × IsSettled name.now old (D.scene desk.old).folder }
-    ensures over { IsTrue (D.tells).folder → (old : List ℕ) → IsSettled name.now old (D.scene desk.old).folder → (text : List (List ℕ)) → D.has_text desk.old text
+    ensures over { IsTrue (D.tells).folder → (old : List ℕ) → IsSettled name.now old (D.scene desk.old).folder
+        → (text : List (List ℕ)) → D.has_text desk.old text
         → (temporary : Name) → WritesOver false name.now temporary backup.now old (file_of text) (D.scene desk.old) (D.scene desk.new) result }
     ensures no_name { IsErrOf result WriteErr.NoBackupName → ⊥ }
     ensures kept { GoesOn D.tells D.scene D.valid D.stays (IsFailed result) desk.old desk.new }
@@ -178,7 +180,8 @@ fn write_over<D: Desk>(
     requires names { AreApart (D.reads desk.old) name.now backup.now temporary.now }
     requires buffer { length piece.old.items ≡ PIECE }
     requires settled { IsTrue (D.tells).folder → (old : List ℕ) × IsSettled name.now old (D.scene desk.old).folder }
-    ensures over { IsTrue (D.tells).folder → (old : List ℕ) → IsSettled name.now old (D.scene desk.old).folder → (text : List (List ℕ)) → D.has_text desk.old text
+    ensures over { IsTrue (D.tells).folder → (old : List ℕ) → IsSettled name.now old (D.scene desk.old).folder
+        → (text : List (List ℕ)) → D.has_text desk.old text
         → WritesOver copying name.now temporary.now backup.now old (file_of text) (D.scene desk.old) (D.scene desk.new) result }
     ensures no_name { IsErrOf result WriteErr.NoBackupName → ⊥ }
     ensures kept { GoesOn D.tells D.scene D.valid D.stays (IsFailed result) desk.old desk.new }
@@ -206,7 +209,8 @@ fn write_backed<D: Desk>(
     requires settled { IsTrue (D.tells).folder → (old : List ℕ) × IsSettled name.now old (D.scene desk.old).folder }
     requires order { IsTrue (D.tells).folder → HasSynced name.now (D.scene desk.old) }
     requires free { keep ≡ false → IsTrue (D.tells).folder → content_of (D.scene desk.old) backup.now ≡ None }
-    ensures backed { IsTrue (D.tells).folder → (old : List ℕ) → IsSettled name.now old (D.scene desk.old).folder → (text : List (List ℕ)) → D.has_text desk.old text
+    ensures backed { IsTrue (D.tells).folder → (old : List ℕ) → IsSettled name.now old (D.scene desk.old).folder
+        → (text : List (List ℕ)) → D.has_text desk.old text
         → WritesBacked copying keep name.now temporary.now backup.now old (file_of text) (D.scene desk.old) (D.scene desk.new) result }
     ensures no_name { IsErrOf result WriteErr.NoBackupName → ⊥ }
     ensures calls { IsTrue (D.tells).folder → (text : List (List ℕ)) → D.has_text desk.old text
@@ -238,7 +242,8 @@ pub(crate) fn write_with_backup<D: Desk>(
     requires buffer { length piece.old.items ≡ PIECE }
     requires there { IsTrue (D.tells).folder → IsSome (content_of (D.scene desk.old) name.now) }
     requires free { keep ≡ false → IsTrue (D.tells).folder → content_of (D.scene desk.old) backup.now ≡ None }
-    ensures backed { IsTrue (D.tells).folder → (old : List ℕ) → content_of (D.scene desk.old) name.now ≡ Some old → (text : List (List ℕ)) → D.has_text desk.old text
+    ensures backed { IsTrue (D.tells).folder → (old : List ℕ) → content_of (D.scene desk.old) name.now ≡ Some old
+        → (text : List (List ℕ)) → D.has_text desk.old text
         → WritesBacked copying keep name.now temporary.now backup.now old (file_of text) (D.scene desk.old) (D.scene desk.new) result }
     ensures no_name { IsErrOf result WriteErr.NoBackupName → ⊥ }
     ensures calls { IsTrue (D.tells).folder → (text : List (List ℕ)) → D.has_text desk.old text

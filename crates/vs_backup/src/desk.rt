@@ -97,8 +97,10 @@ pub trait Desk: World {
         requires valid { valid self.old }
         requires apart { reads self.old name.now → ⊥ }
         requires there { IsTrue (Self.tells).folder → IsSomeAnd (content_of (Self.scene self.old) name.now) (λ bytes. at ≤ length bytes) }
-        ensures ok { OnOk result (IsTrue (Self.tells).folder → ChangesFile name.now (Writes at piece.now) (Self.scene self.old).folder (Self.scene self.new).folder) }
-        ensures some { IsTrue (Self.tells).folder → ChangesFile name.now (WritesSome at (length piece.now)) (Self.scene self.old).folder (Self.scene self.new).folder }
+        ensures ok { OnOk result (IsTrue (Self.tells).folder
+            → ChangesFile name.now (Writes at piece.now) (Self.scene self.old).folder (Self.scene self.new).folder) }
+        ensures some { IsTrue (Self.tells).folder
+            → ChangesFile name.now (WritesSome at (length piece.now)) (Self.scene self.old).folder (Self.scene self.new).folder }
         ensures quiet { OnOk result ((Self.scene self.new).folder_faults ≡ (Self.scene self.old).folder_faults) }
         ensures told { IsTrue (Self.tells).folder → IsTold Wrote (name.now ∷ []) result (Self.scene self.old) (Self.scene self.new) }
         ensures kept { GoesOn Self.tells Self.scene valid stays (IsErr result) self.old self.new };
@@ -132,7 +134,8 @@ pub trait Desk: World {
         requires apart_to { reads self.old to.now → ⊥ }
         requires there { IsTrue (Self.tells).folder → IsSome (content_of (Self.scene self.old) from.now) }
         requires differ { IsTrue (Self.tells).folder → from.now ≢ to.now }
-        ensures ok { OnOk result (IsTrue (Self.tells).folder → ChangesNames (Renames from.now to.now) (Self.scene self.old).folder (Self.scene self.new).folder) }
+        ensures ok { OnOk result (IsTrue (Self.tells).folder
+            → ChangesNames (Renames from.now to.now) (Self.scene self.old).folder (Self.scene self.new).folder) }
         ensures err { OnErr result ((Self.scene self.new).folder ≡ (Self.scene self.old).folder) }
         ensures quiet { OnOk result ((Self.scene self.new).folder_faults ≡ (Self.scene self.old).folder_faults) }
         ensures told { IsTrue (Self.tells).folder → IsTold Renamed (from.now ∷ to.now ∷ []) result (Self.scene self.old) (Self.scene self.new) }

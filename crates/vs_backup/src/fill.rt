@@ -153,7 +153,8 @@ fn copy_piece<D: Desk>(
     requires apart { D.reads desk.old from.now → ⊥ }
     requires apart_to { D.reads desk.old to.now → ⊥ }
     requires few { length buffer.old ≤ PIECE }
-    requires there { IsTrue (D.tells).folder → (bytes : List ℕ) × (content_of (D.scene desk.old) from.now ≡ Some bytes) × (at + length buffer.old ≤ length bytes)
+    requires there { IsTrue (D.tells).folder
+        → (bytes : List ℕ) × (content_of (D.scene desk.old) from.now ≡ Some bytes) × (at + length buffer.old ≤ length bytes)
         × (content_of (D.scene desk.old) to.now ≡ Some (take at bytes)) }
     ensures runs { IsTrue (D.tells).folder → Runs (ChangesOne to.now) (D.scene desk.old) (D.scene desk.new) }
     ensures ok { OnOk result (IsTrue (D.tells).folder → (bytes : List ℕ) → content_of (D.scene desk.old) from.now ≡ Some bytes

@@ -22,7 +22,8 @@ pub(crate) fn write_plain<D: Desk>(
     requires valid { D.valid desk.old }
     requires apart { D.reads desk.old name.now → ⊥ }
     requires there { IsTrue (D.tells).folder → IsSome (content_of (D.scene desk.old) name.now) }
-    ensures plain { IsTrue (D.tells).folder → (old : List ℕ) → content_of (D.scene desk.old) name.now ≡ Some old → (text : List (List ℕ)) → D.has_text desk.old text
+    ensures plain { IsTrue (D.tells).folder → (old : List ℕ) → content_of (D.scene desk.old) name.now ≡ Some old
+        → (text : List (List ℕ)) → D.has_text desk.old text
         → WritesPlain name.now old (file_of text) (D.scene desk.old) (D.scene desk.new) result }
     ensures kept { GoesOn D.tells D.scene D.valid D.stays (IsErrOf result Stop.Failed) desk.old desk.new }
 {

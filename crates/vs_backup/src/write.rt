@@ -70,7 +70,8 @@ fn write_named<D: Desk>(
     requires apart_temporary { D.reads desk.old (temporary backup.now) → ⊥ }
     requires there { IsTrue (D.tells).folder → IsSome (content_of (D.scene desk.old) name.now) }
     requires free { options.now.backup ≡ false → IsTrue (D.tells).folder → content_of (D.scene desk.old) backup.now ≡ None }
-    ensures backed { IsTrue (D.tells).folder → (old : List ℕ) → content_of (D.scene desk.old) name.now ≡ Some old → (text : List (List ℕ)) → D.has_text desk.old text
+    ensures backed { IsTrue (D.tells).folder → (old : List ℕ) → content_of (D.scene desk.old) name.now ≡ Some old
+        → (text : List (List ℕ)) → D.has_text desk.old text
         → WritesWith options.now name.now backup.now old (file_of text) (D.scene desk.old) (D.scene desk.new) result }
     ensures no_name { IsErrOf result WriteErr.NoBackupName → ⊥ }
     ensures calls { IsTrue (D.tells).folder → (text : List (List ℕ)) → D.has_text desk.old text
@@ -128,7 +129,8 @@ fn write_unbacked<D: Desk>(alloc: Global, desk: &mut D, name: &str) -> Result<u6
     requires valid { D.valid desk.old }
     requires apart { D.reads desk.old name.now → ⊥ }
     requires there { IsTrue (D.tells).folder → IsSome (content_of (D.scene desk.old) name.now) }
-    ensures plain { IsTrue (D.tells).folder → (old : List ℕ) → content_of (D.scene desk.old) name.now ≡ Some old → (text : List (List ℕ)) → D.has_text desk.old text
+    ensures plain { IsTrue (D.tells).folder → (old : List ℕ) → content_of (D.scene desk.old) name.now ≡ Some old
+        → (text : List (List ℕ)) → D.has_text desk.old text
         → WritesPlain name.now old (file_of text) (D.scene desk.old) (D.scene desk.new) result }
     ensures kept { GoesOn D.tells D.scene D.valid D.stays (IsErrOf result Stop.Failed) desk.old desk.new }
 {
@@ -167,8 +169,10 @@ fn write_chosen<D: Desk>(
     ensures backed { IsTrue (D.tells).folder → (old : List ℕ) → content_of (D.scene desk.old) name.now ≡ Some old
         → (backup : Name) → backup_of options.now name.now (D.scene desk.old).folder ≡ Some backup → (text : List (List ℕ)) → D.has_text desk.old text
         → WritesWith options.now name.now backup old (file_of text) (D.scene desk.old) (D.scene desk.new) result }
-    ensures all_taken { IsTrue (D.tells).folder → backup_of options.now name.now (D.scene desk.old).folder ≡ None → FindsNoName (D.scene desk.old) (D.scene desk.new) result }
-    ensures no_name { IsErrOf result WriteErr.NoBackupName → (options.now.backup ≡ false) × (IsTrue (D.tells).folder → backup_of options.now name.now (D.scene desk.old).folder ≡ None) }
+    ensures all_taken { IsTrue (D.tells).folder → backup_of options.now name.now (D.scene desk.old).folder ≡ None
+        → FindsNoName (D.scene desk.old) (D.scene desk.new) result }
+    ensures no_name { IsErrOf result WriteErr.NoBackupName
+        → (options.now.backup ≡ false) × (IsTrue (D.tells).folder → backup_of options.now name.now (D.scene desk.old).folder ≡ None) }
     ensures calls { IsTrue (D.tells).folder → (text : List (List ℕ)) → D.has_text desk.old text
         → FailsNoEarlier name.now (file_of text) (D.scene desk.old) (D.scene desk.new) result }
     ensures kept { Continues D.scene D.valid D.stays (IsFailed result) desk.old desk.new }
@@ -253,10 +257,12 @@ pub fn write_out<D: Desk>(
 
     // A file that is not there.
     ensures fresh { IsTrue (D.tells).folder → content_of (D.scene desk.old) names.now.file ≡ None → (text : List (List ℕ)) → D.has_text desk.old text
-        → IsUnseen (D.scene desk.old) (D.scene desk.new) result ⊎ WritesNew names.now.file_new names.now.file (file_of text) (D.scene desk.old) (D.scene desk.new) result }
+        → IsUnseen (D.scene desk.old) (D.scene desk.new) result
+        ⊎ WritesNew names.now.file_new names.now.file (file_of text) (D.scene desk.old) (D.scene desk.new) result }
 
     // The other names, whatever is there.
-    ensures others { IsTrue (D.tells).folder → SparesOthers (WorksOn options.now names.now.file (D.scene desk.old).folder) (D.scene desk.old) (D.scene desk.new) }
+    ensures others { IsTrue (D.tells).folder
+        → SparesOthers (WorksOn options.now names.now.file (D.scene desk.old).folder) (D.scene desk.old) (D.scene desk.new) }
 
     // The calls that failed.
     ensures calls { IsTrue (D.tells).folder → (text : List (List ℕ)) → D.has_text desk.old text

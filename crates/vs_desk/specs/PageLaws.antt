@@ -53,5 +53,6 @@ pub above_then : (old mid new : Scene) → NoneAbove old mid → NoneAbove mid n
 above_then old mid new first second = record {
   later = omega (arith, first.later, second.later);
   moments = goes_then (λ m. m.folder_faults ≤ new.folder_faults) old.trace mid.trace new.trace
-      (goes_weaker (λ m. m.folder_faults ≤ mid.folder_faults) (λ m. m.folder_faults ≤ new.folder_faults) (λ (m : Snapshot) le. omega (arith, le, second.later)) old.trace mid.trace first.moments) second.moments;
+      (goes_weaker (λ m. m.folder_faults ≤ mid.folder_faults) (λ m. m.folder_faults ≤ new.folder_faults)
+      (λ (m : Snapshot) le. omega (arith, le, second.later)) old.trace mid.trace first.moments) second.moments;
 }

@@ -46,7 +46,8 @@ impl<'t, 'p, 'h, F: Folder> Desk for PagedDesk<'t, 'p, 'h, F> {
 
     ghost valid = { λ desk. Fits F.tells.folder (present_of desk.pages.pages.now) desk.tree.now.present };
 
-    ghost stays = { λ a b. (b.tree.ghost_name ≡ a.tree.ghost_name) × (b.pages.pages.ghost_name ≡ a.pages.pages.ghost_name) × (b.pages.host.ghost_name ≡ a.pages.host.ghost_name)
+    ghost stays = { λ a b. (b.tree.ghost_name ≡ a.tree.ghost_name) × (b.pages.pages.ghost_name ≡ a.pages.pages.ghost_name)
+        × (b.pages.host.ghost_name ≡ a.pages.host.ghost_name)
         × SamePages F.tells.folder a.pages.pages.now b.pages.pages.now a.tree.now b.tree.now
         × (IsTrue F.tells.folder → NoneAbove (F.scene a.pages.host.now) (F.scene b.pages.host.now)) };
 
@@ -58,7 +59,8 @@ impl<'t, 'p, 'h, F: Folder> Desk for PagedDesk<'t, 'p, 'h, F> {
 
     ghost few_lines = { λ desk valid. valid.few };
 
-    ghost stays_itself = { λ desk. (refl, refl, refl, same_none F.tells.folder desk.pages.pages.now desk.tree.now, λ told. above_none (F.scene desk.pages.host.now)) };
+    ghost stays_itself = { λ desk.
+        (refl, refl, refl, same_none F.tells.folder desk.pages.pages.now desk.tree.now, λ told. above_none (F.scene desk.pages.host.now)) };
 
     ghost stays_on = { λ p q r first second. (
       second.0 ∙ first.0,

@@ -1,5 +1,6 @@
 -- What a store, its marks and what was done so far are, while nested commands are carried out.
-use Rattle.std.specs.Prelude.{ℕ, Bool, false, ◌≡◌, ◌+◌, ◌-◌, ◌<◌, ◌≤◌, ◌^◌, ⊤, if◌then◌else◌, nat_lt, List, ◌++◌, All, length, take, drop, Option, Some, None, Result, Ok, Err}
+use Rattle.std.specs.Prelude.{ℕ, Bool, false, ◌≡◌, ◌+◌, ◌-◌, ◌<◌, ◌≤◌, ◌^◌, ⊤, if◌then◌else◌, nat_lt, List, ◌++◌, All, length, take, drop, Option, Some}
+use Rattle.std.specs.Prelude.{None, Result, Ok, Err}
 use Rattle.vs_edit.specs.declared.store.LineStore.{Ghosts}
 use Rattle.vs_text.specs.Text.{bytes_of}
 use Rattle.vs_text.specs.Limits.{IsShort}
@@ -141,6 +142,7 @@ abbrev pub Carries : {S : Type 0} → Ghosts S → Command → ℕ → S → Mar
 Carries g command line view marks run later_view later_marks later_run =
     (at : Marked) → IsAt g view marks run at → CarriedTo g command (record at { cursor = line + 1 }) later_view later_marks later_run
 
+-- A command at a line is refused with this error, as the definition refuses it.
 abbrev pub Refuses : {S : Type 0} → Ghosts S → Command → ℕ → S → Marks → Run → PlanErr → Type 0
 Refuses g command line view marks run error =
     (at : Marked) → IsAt g view marks run at → IsRefused (carried_out command (record at { cursor = line + 1 })) error

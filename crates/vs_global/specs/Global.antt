@@ -1,5 +1,6 @@
 -- Commands that are carried out at each of the lines that match, or that do not.
-use Rattle.std.specs.Prelude.{ℕ, Bool, true, false, ◌+◌, ◌-◌, not, if◌then◌else◌, nat_lt, min, zero, suc, List, [], ◌∷◌, ◌++◌, length, take, map, replicate, option_map, Option, Some, None, Result, Ok, Err}
+use Rattle.std.specs.Prelude.{ℕ, Bool, true, false, ◌+◌, ◌-◌, not, if◌then◌else◌, nat_lt, min, zero, suc, List, [], ◌∷◌, ◌++◌, length, take, map}
+use Rattle.std.specs.Prelude.{replicate, option_map, Option, Some, None, Result, Ok, Err}
 use Rattle.vs_edit.specs.Splices.{splice, cut_out}
 use Rattle.vs_exparse.specs.Bytes.{is_empty}
 use Rattle.vs_exparse.specs.Command.{Command}
@@ -64,10 +65,12 @@ abbrev pub moved_marks : List Bool → Place → List Bool
 moved_marks marks place =
     let size = size_of place.lines in exchanged_marks (exchanged_marks marks (before place.lines) size 0) (come_to place) 0 size
 
+-- Whether a command moves lines.
 abbrev pub is_move : Command → Bool
 is_move (Move range to) = true
 is_move command = false
 
+-- the marks after a change by a command: they go along with lines that are moved
 abbrev pub marks_by : Command → List Bool → Place → effects.Change → List Bool
 marks_by command marks place change = if is_move command then moved_marks marks place else exchanged_marks marks change.top change.old (length change.new)
 
@@ -86,6 +89,7 @@ abbrev pub untouched_by : effects.Change → ℕ → Option Untouched → Option
 untouched_by change lines None = Some (record { lo = change.top; tail = lines - (change.top + change.old) })
 untouched_by change lines (Some made) = Some (record { lo = min made.lo change.top; tail = min made.tail (lines - (change.top + change.old)) })
 
+-- the marked lines after what a command does, which may be nothing
 abbrev pub changed_by : Command → Marked → Place → Effect → Marked
 changed_by command at place None = at
 changed_by command at place (Some change) = record {
@@ -100,6 +104,7 @@ abbrev pub is_E486 : ExErr → Bool
 is_E486 E486 = true
 is_E486 error = false
 
+-- what a command came to; a line at which it finds nothing stays as it is
 abbrev pub unless_E486 : Marked → Result Marked ExErr → Result Marked ExErr
 unless_E486 at (Ok after) = Ok after
 unless_E486 at (Err error) = if is_E486 error then Ok at else Err error
@@ -123,6 +128,7 @@ abbrev pub next_marked : Command → (Marked → Result Marked ExErr) → Marked
 next_marked command go at None = Ok at
 next_marked command go at (Some line) = on (carried_out command (taken_at at line)) go
 
+-- what comes of a command at each marked line, the first one first, for so many lines at most
 abbrev pub all_marked : ℕ → Command → Marked → Result Marked ExErr
 all_marked zero command at = Ok at
 all_marked (suc n) command at = next_marked command (all_marked n command) at (first_mark at.marks)
@@ -137,6 +143,7 @@ whole_by text now cursor (Some made) = Some (record {
   cursor = cursor;
 })
 
+-- what all of it does to a text, as one change
 abbrev pub whole_change : List (List ℕ) → Marked → Effect
 whole_change text after = whole_by text after.text after.cursor after.made
 

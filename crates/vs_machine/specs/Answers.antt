@@ -28,7 +28,8 @@ pub record IsIn {S : Type 0} (g : Ghosts S) (store : S) (tree : Parts) (line : �
 
 -- The reply is the machine's to what a command comes to in a state, where a change is kept as this says, and the store, the tree and
 -- the cursor are in the state after it. The number is the one that the oldest state had before a change.
-pub record AnswersAs {S : Type 0} (g : Ghosts S) (state : State) (keep : Keep) (meaning : Meaning) (answered : Answered) (store : S) (tree : Parts) : Type 0 where
+pub record AnswersAs {S : Type 0} (g : Ghosts S) (state : State) (keep : Keep) (meaning : Meaning)
+    (answered : Answered) (store : S) (tree : Parts) : Type 0 where
   pub reply : answered.reply ≡ done_reply state meaning
   pub after : IsIn g store tree answered.cursor (done_state state keep meaning)
   pub oldest : answered.oldest ≡ done_oldest state keep meaning

@@ -101,7 +101,7 @@ undo_file_read number changes = codes "undo file read, at " ++ decimal number ++
 abbrev pub no_undo_file : List ℕ
 no_undo_file = codes "no undo file"
 
--- the replies to `rundo` of a file that cannot be read as an undo file
+-- the reply to `rundo` of a file that is no undo file
 abbrev pub not_undo_file : List ℕ
 not_undo_file = codes "not an undo file"
 

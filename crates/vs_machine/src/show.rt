@@ -75,7 +75,8 @@ pub(crate) fn print<S: LineStore>(
     requires valid { S.valid store.old }
     requires form { HasCount showing.count }
     ensures answers { IfOk result (λ answered. (state : State) (keep : Keep) (tree : Parts) → IsIn S.LineStore store.old tree cursor state →
-        AnswersAs S.LineStore state keep (printing (shown_lines showing.numbers state.text) (shown_by showing (length state.text) state.cursor)) answered store.new tree) }
+        AnswersAs S.LineStore state keep
+        (printing (shown_lines showing.numbers state.text) (shown_by showing (length state.text) state.cursor)) answered store.new tree) }
     ensures kept { OnlyReads S.LineStore store.old store.new }
     ensures cause { HasCause (S.shows store.old).faults (S.shows store.new).faults (IsErrOf result StoreErr.Failed) }
 {

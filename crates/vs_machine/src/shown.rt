@@ -60,7 +60,8 @@ fn printed_with_numbers<S: LineStore>(
     requires valid { S.valid store.old }
     requires some { 0 < span.first }
     requires lies { IsSpanIn (S.shows store.old).present.lines span }
-    ensures bytes { IfOk result (λ bytes. (text : List (List ℕ)) → (S.shows store.old).present.Is text → bytes.items ≡ file_of (numbered span.first (lines_in text span))) }
+    ensures bytes { IfOk result (λ bytes. (text : List (List ℕ)) → (S.shows store.old).present.Is text
+        → bytes.items ≡ file_of (numbered span.first (lines_in text span))) }
     ensures some { IfOk result (λ bytes. 0 < length bytes.items) }
     ensures kept { OnlyReads S.LineStore store.old store.new }
     ensures cause { HasCause (S.shows store.old).faults (S.shows store.new).faults (IsErrOf result StoreErr.Failed) }
@@ -88,7 +89,8 @@ pub(crate) fn shown_lines<S: LineStore>(
     requires valid { S.valid store.old }
     requires some { 0 < span.first }
     requires lies { IsSpanIn (S.shows store.old).present.lines span }
-    ensures bytes { IfOk result (λ bytes. (text : List (List ℕ)) → (S.shows store.old).present.Is text → bytes.items ≡ file_of (shown_lines numbers text span)) }
+    ensures bytes { IfOk result (λ bytes. (text : List (List ℕ)) → (S.shows store.old).present.Is text
+        → bytes.items ≡ file_of (shown_lines numbers text span)) }
     ensures some { IfOk result (λ bytes. 0 < length bytes.items) }
     ensures kept { OnlyReads S.LineStore store.old store.new }
     ensures cause { HasCause (S.shows store.old).faults (S.shows store.new).faults (IsErrOf result StoreErr.Failed) }

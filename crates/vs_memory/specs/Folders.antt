@@ -1,5 +1,6 @@
 -- A folder in memory, and what the calls make of a folder.
-use Rattle.std.specs.Prelude.{◌≤◌, ◌+◌, nat_eq, nat_lt, IsTrue, Bool, true, if◌then◌else◌, ℕ, List, [], ◌∷◌, ◌++◌, map, reverse, take, drop, length, get_or, Some, None, All, string_bytes}
+use Rattle.std.specs.Prelude.{◌≤◌, ◌+◌, nat_eq, nat_lt, IsTrue, Bool, true, if◌then◌else◌, ℕ, List, [], ◌∷◌, ◌++◌, map, reverse, take, drop, length}
+use Rattle.std.specs.Prelude.{get_or, Some, None, All, string_bytes}
 use Rattle.std.specs.declared.option.Option.{Option}
 use Rattle.vs_host.specs.File.{File, synced_file}
 use Rattle.vs_host.specs.Disk.{Disk, Name, Directory, Creates, Renames, Removes, after_changes, names_of}
@@ -9,9 +10,11 @@ use Rattle.vs_memory.specs.declared.names.NameChange.TheVariants.{Create, Rename
 use Rattle.vs_memory.specs.declared.file.MemFile.{MemFile}
 use Rattle.vs_memory.specs.declared.file.Changed.{Changed}
 
+-- a folder without a file
 abbrev pub no_names : Directory
 no_names name = None
 
+-- a change of names as the model of a folder has it
 abbrev pub change_of : NameChange → Disks.Change
 change_of (Create name number) = Creates (string_bytes name) number
 change_of (Rename from to) = Renames (string_bytes from) (string_bytes to)
@@ -30,6 +33,7 @@ abbrev pub undone : List Changed → List ℕ → List ℕ
 undone [] bytes = bytes
 undone (range ∷ ranges) bytes = undone ranges (before_change range bytes)
 
+-- a file as the model has it
 abbrev pub file_of : MemFile → File
 file_of file = record {
   bytes = file.bytes.items;
@@ -39,6 +43,7 @@ file_of file = record {
   greatest = file.greatest;
 }
 
+-- the file of a number
 abbrev pub file_at : List MemFile → ℕ → File
 file_at files number = get_or (map file_of files) number (synced_file [])
 
@@ -61,6 +66,7 @@ on_number (Some number) change disk = record {
   pending = disk.pending;
 }
 
+-- a change of the file to which a name leads
 abbrev pub on_file : Name → (File → File) → Disk → Disk
 on_file name change disk = on_number (names_of disk name) change disk
 
@@ -87,9 +93,11 @@ is_below made (Create name number) = nat_lt number made
 is_below made (Rename from to) = true
 is_below made (Remove name) = true
 
+-- The files of a change of names were made before.
 abbrev pub IsBelow : ℕ → NameChange → Type 0
 IsBelow made change = IsTrue (is_below made change)
 
+-- The numbers of a folder in memory fit each other.
 pub record IsMemFolder (changes : List NameChange) (unsynced made : ℕ) : Type 0 where
   pub within : unsynced ≤ length changes
   pub below : All (IsBelow made) changes

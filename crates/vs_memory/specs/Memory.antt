@@ -23,9 +23,11 @@ pub record Memory : Type 0 where
   pub failing : List ℕ
   pub stop : ℕ
 
+-- the folder that the calls of a host have left
 abbrev pub folder_of : Memory → Disk
 folder_of host = disk_after host.base host.log
 
+-- the output that they have written
 abbrev pub output_of : Memory → List ℕ
 output_of host = output_after host.log
 
@@ -66,6 +68,7 @@ answered host = record host { answers = host.answers ++ host.clock ∷ [] }
 abbrev pub counted : Memory → Memory
 counted host = record host { calls = min (host.calls + 1) (2 ^ 64 - 1) }
 
+-- how many calls of a part have failed
 abbrev pub faults_of : Part → Memory → ℕ
 faults_of Part.Script host = host.script_faults
 faults_of Part.Out host = host.out_faults
@@ -77,6 +80,7 @@ faulted Part.Script host = record host { script_faults = min (host.script_faults
 faulted Part.Out host = record host { out_faults = min (host.out_faults + 1) (2 ^ 64 - 1) }
 faulted Part.Folder host = record host { folder_faults = min (host.folder_faults + 1) (2 ^ 64 - 1) }
 
+-- what the log says of a call: whether it was done, and at which count of faults
 abbrev pub entry_of : Call → Bool → Memory → Entry
 entry_of call done host = record {
   call = call;

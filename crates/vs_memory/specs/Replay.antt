@@ -32,6 +32,7 @@ CanPlay (WriteAt name at piece) disk = IfSome (content_in disk (string_bytes nam
 CanPlay (Cut name len) disk = IfSome (content_in disk (string_bytes name)) (λ bytes. len ≤ length bytes)
 CanPlay call disk = Unit {0}
 
+-- the kind of a call
 abbrev pub kind_of : Call → Kind
 kind_of Read = ReadScript
 kind_of (Write piece) = WroteOutput
@@ -46,6 +47,7 @@ kind_of (Rename from to) = Kinds.Renamed
 kind_of (Remove name) = Kinds.Removed
 kind_of SyncNames = Kinds.SyncedNames
 
+-- the names that a call is given
 abbrev pub names_in : Call → List Name
 names_in Read = []
 names_in (Write piece) = []
@@ -69,6 +71,7 @@ with_put name bytes disk = record {
   pending = [];
 }
 
+-- a folder in which there was never a file
 abbrev pub empty_disk : Disk
 empty_disk = record { files = λ number. synced_file []; made = 0; synced = no_names; pending = [] }
 
@@ -82,6 +85,7 @@ abbrev pub disk_after : List (List ℕ × List ℕ) → List Entry → Disk
 disk_after base [] = base_disk base
 disk_after base (entry ∷ log) = if entry.done then played entry.call (disk_after base log) else disk_after base log
 
+-- the output after the calls of a log
 abbrev pub output_after : List Entry → List ℕ
 output_after [] = []
 output_after (entry ∷ log) = if entry.done then said entry.call (output_after log) else output_after log
@@ -103,6 +107,7 @@ logged base entry log = record {
   names = names_in entry.call;
 }
 
+-- a snapshot after each call of a log, the last one first
 abbrev pub trace_after : List (List ℕ × List ℕ) → List Entry → List Snapshot
 trace_after base [] = began base ∷ []
 trace_after base (entry ∷ log) = logged base entry log ∷ trace_after base log

@@ -1,5 +1,6 @@
 -- The names of a folder that is played lead to files as in a folder.
-use Rattle.std.proofs.Common.{◌≡◌, ◌≢◌, ◌⊎◌, inl, inr, ℕ, zero, suc, ◌+◌, ◌<◌, ◌≤◌, Bool, true, false, cond, List, [], ◌∷◌, drop, Option, Some, None, refl, sym, ◌∙◌, subst, arith}
+use Rattle.std.proofs.Common.{◌≡◌, ◌≢◌, ◌⊎◌, inl, inr, ℕ, zero, suc, ◌+◌, ◌<◌, ◌≤◌, Bool, true, false, cond, List, [], ◌∷◌, drop, Option, Some, None, refl}
+use Rattle.std.proofs.Common.{sym, ◌∙◌, subst, arith}
 use Rattle.std.specs.Str.{bytes_eq}
 use Rattle.std.proofs.lemmas.Bool.{cases_Bool, cond-true, cond-false, false≢true}
 use Rattle.std.proofs.lemmas.Slice.Eq.{bytes_eq-Decides}
@@ -19,6 +20,7 @@ pub record AreValid (names : Directory) (made : ℕ) : Type 0 where
   pub apart : (one other : Name) (number : ℕ) → names one ≡ Some number → names other ≡ Some number → one ≡ other
   pub below : (name : Name) (number : ℕ) → names name ≡ Some number → number < made
 
+-- Whatever a stop loses of the names, each leads to a file that was made.
 abbrev pub IsValid : Disk → Type 0
 IsValid disk = (lost : ℕ) → AreValid (names_at disk lost) disk.made
 
@@ -153,15 +155,18 @@ base_valid ((name, bytes) ∷ base) lost =
 pub disk_valid : (base : List (List ℕ × List ℕ)) (log : List Entry) → IsValid (disk_after base log)
 disk_valid base [] = base_valid base
 disk_valid base (entry ∷ log) = elim (cases_Bool entry.done) [
-  | inl done ↦ subst (λ (d : Disk). IsValid d) (sym (cond-true entry.done (played entry.call (disk_after base log)) (disk_after base log) done)) (played_valid entry.call (disk_after base log) (disk_valid base log))
-  | inr not ↦ subst (λ (d : Disk). IsValid d) (sym (cond-false entry.done (played entry.call (disk_after base log)) (disk_after base log) not)) (disk_valid base log)
+  | inl done ↦ subst (λ (d : Disk). IsValid d) (sym (cond-true entry.done (played entry.call (disk_after base log)) (disk_after base log) done))
+      (played_valid entry.call (disk_after base log) (disk_valid base log))
+  | inr not ↦ subst (λ (d : Disk). IsValid d) (sym (cond-false entry.done (played entry.call (disk_after base log)) (disk_after base log) not))
+      (disk_valid base log)
 ]
 
 pub is_folder : (base : List (List ℕ × List ℕ)) (log : List Entry) → IsFolder (disk_after base log)
 is_folder base log = record { apart = λ lost one other number leads also. (disk_valid base log lost).apart one other number leads also }
 
 -- the number of the next file is that of none
-pub is_fresh : (base : List (List ℕ × List ℕ)) (log : List Entry) (lost : ℕ) (name : Name) → names_at (disk_after base log) lost name ≢ Some (disk_after base log).made
+pub is_fresh : (base : List (List ℕ × List ℕ)) (log : List Entry) (lost : ℕ) (name : Name)
+    → names_at (disk_after base log) lost name ≢ Some (disk_after base log).made
 is_fresh base log lost name leads = let lt = (disk_valid base log lost).below name (disk_after base log).made leads in absurd (omega arith)
 
 -- the trace with its newest snapshot

@@ -19,7 +19,8 @@ LeavesAll old new = new ≡ record old { folder = new.folder; trace = new.trace 
 -- Nothing was written. A call on the folder failed, and nothing but the folder changed.
 abbrev pub LeavesFailed : Scene → Scene → Type 0
 LeavesFailed old new =
-    HasRisen old.folder_faults new.folder_faults × (old.folder_faults ≤ new.folder_faults) × (new ≡ record old { folder = new.folder; folder_faults = new.folder_faults; trace = new.trace })
+    HasRisen old.folder_faults new.folder_faults × (old.folder_faults ≤ new.folder_faults)
+    × (new ≡ record old { folder = new.folder; folder_faults = new.folder_faults; trace = new.trace })
 
 -- What changed but for the folder and the trace: the output where something was to be written, and the count of the calls
 -- that the refusal names, which rose. Else no count rose.
@@ -40,7 +41,8 @@ AnswersBy Wanted Refused tells (Err why) old new = Refused why
 
 -- What a mode does whose folder goes by the step at each moment, that is to write these bytes with each answer, and that may be
 -- refused for these reasons.
-pub record RunsMode {T : Type 0} (step : Disk → Disk → Type 0) (Wanted : T → List ℕ → Type 0) (Refused : ModeErr → Type 0) (tells : Tells) (old new : Scene) (result : Ended T) : Type 0 where
+pub record RunsMode {T : Type 0} (step : Disk → Disk → Type 0) (Wanted : T → List ℕ → Type 0) (Refused : ModeErr
+    → Type 0) (tells : Tells) (old new : Scene) (result : Ended T) : Type 0 where
   pub leaves : LeavesBy result old new
   pub proceeds : IsTrue tells.folder → Proceeds step old new
   pub answer : IsTrue tells.folder → AnswersBy Wanted Refused tells result old new

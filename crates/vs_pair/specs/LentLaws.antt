@@ -18,7 +18,8 @@ keeps_none tells pair scene = record {
 reads_then : (old mid new : Scene) → ReadsFolder old mid → ReadsFolder mid new → ReadsFolder old new
 reads_then old mid new first second = second ∙ ap (λ (s : Scene). record s { folder_faults = new.folder_faults; trace = new.trace }) first
 
-pub keeps_then : (tells : Tells) (a b c : SwapPair) (old mid new : Scene) → KeepsFiles tells a b old mid → KeepsFiles tells b c mid new → KeepsFiles tells a c old new
+pub keeps_then : (tells : Tells) (a b c : SwapPair) (old mid new : Scene) → KeepsFiles tells a b old mid
+    → KeepsFiles tells b c mid new → KeepsFiles tells a c old new
 keeps_then tells a b c old mid new first second = record {
   files = second.files ∙ first.files;
   since = pages.keeps_then a.pages b.pages c.pages first.since second.since;

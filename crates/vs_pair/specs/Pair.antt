@@ -23,19 +23,23 @@ use Rattle.vs_pair.specs.declared.written.Written.{Written}
 use Rattle.vs_pair.specs.Swap.{Synced, body_of, IsOpen, HasBody, Holds, Fits, MayBeClosed}
 use Rattle.vs_pair.specs.Stale.{Keeps}
 
+-- what each name leads to in a folder as a stop leaves it
 abbrev pub Image : Type 0
 Image = Name → Option (List ℕ)
 
 -- ---- the names
 
+-- the other one of the two swap files
 abbrev pub other_side : Side → Side
 other_side Swp = Swo
 other_side Swo = Swp
 
+-- the name of a swap file
 abbrev pub name_of : Names → Side → Name
 name_of names Swp = names.swp
 name_of names Swo = names.swo
 
+-- the name under which a swap file is made, before it takes its own
 abbrev pub temporary_of : Names → Side → Name
 temporary_of names Swp = names.swp_new
 temporary_of names Swo = names.swo_new
@@ -52,11 +56,13 @@ is_apart names name = not (is_swap names name)
 abbrev pub is_pair_name : Names → Name → Bool
 is_pair_name names name = is_swap names name || (bytes_eq names.swp_new name || bytes_eq names.swo_new name)
 
+-- Whether the pair has no business with a name.
 abbrev pub is_foreign : Names → Name → Bool
 is_foreign names name = not (is_pair_name names name)
 
 -- ---- what two files offer
 
+-- A sync is one of these.
 abbrev pub IsIn : Synced → List Synced → Type 0
 IsIn sync [] = ⊥
 IsIn sync (first ∷ rest) = (sync ≡ first) ⊎ IsIn sync rest
@@ -96,11 +102,14 @@ pub record Offers (names : Names) (older : List Synced) (image : Image) (sync : 
 abbrev pub Recovers : Names → List Synced → List Synced → Disk → Type 0
 Recovers names syncs older disk = (image : Image) → IsImage disk image → (sync : Synced) × IsIn sync syncs × Offers names older image sync
 
+-- Neither swap file is there.
 abbrev pub NoneThere : Names → Image → Type 0
 NoneThere names image = (image names.swp ≡ None) × (image names.swo ≡ None)
 
+-- A stop leaves what recovery turns into the text of one of these syncs, or neither swap file.
 abbrev pub RecoversOrNone : Names → List Synced → List Synced → Disk → Type 0
-RecoversOrNone names syncs older disk = (image : Image) → IsImage disk image → NoneThere names image ⊎ ((sync : Synced) × IsIn sync syncs × Offers names older image sync)
+RecoversOrNone names syncs older disk = (image : Image) → IsImage disk image
+    → NoneThere names image ⊎ ((sync : Synced) × IsIn sync syncs × Offers names older image sync)
 
 -- ---- a pair that was started
 
@@ -115,6 +124,7 @@ pub record Known : Type 0 where
   pub newer_has : Written
   pub older_has : Written
 
+-- what a pair knows of its two files, as its fields say it
 abbrev pub known_of : SwapPair → Known
 known_of pair = record {
   names = pair.files.names;
@@ -134,10 +144,12 @@ sync_with pair generation head = record { generation = generation; head = head; 
 abbrev pub sync_of : SwapPair → Head → Synced
 sync_of pair head = sync_with pair (pair.files.generation + 1) head
 
+-- The file of the older sync has the text of one that was acknowledged before the newest.
 pub record IsEarlier (newest older : Synced) (past : List Synced) : Type 0 where
   pub member : IsIn older past
   pub less : older.generation < newest.generation
 
+-- The other file is of a later sync: one that was begun since the newest acknowledged one, and whose opening failed.
 pub record IsLater (newest older : Synced) (begun : List Synced) (file : File) : Type 0 where
   pub member : IsIn older begun
   pub more : newest.generation < older.generation
@@ -206,7 +218,9 @@ IsAbove names disk generation =
 
 -- the file stands in each image of the new folder, with a generation above each that stood in some image of the old one
 abbrev pub RisesAt : Names → Side → Disk → Disk → Type 0
-RisesAt names side old new = (image : Image) → IsImage new image → (g : ℕ) × (text : List (List ℕ)) × StandsIn (image (name_of names side)) g text × IsAbove names old g
+RisesAt names side old new = (image : Image) → IsImage new image
+    → (g : ℕ) × (text : List (List ℕ)) × StandsIn (image (name_of names side)) g text × IsAbove names old g
 
+-- One of the two swap files is written anew.
 abbrev pub Rises : Names → Disk → Disk → Type 0
 Rises names old new = (side : Side) × RisesAt names side old new

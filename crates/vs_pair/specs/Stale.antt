@@ -31,6 +31,7 @@ pub record Keeps (gate : Gate) (pages : MemPages) (written : Written) (map : Map
 
 -- ---- how much is written
 
+-- 1 where this is so, else 0
 abbrev pub one_if : Bool → ℕ
 one_if true = 1
 one_if false = 0

@@ -16,7 +16,8 @@ impl SwapPair {
         requires started { 2 ≤ self.files.generation }
         requires fits { IsTrue F.tells.folder → HasFit (known_of self) (F.scene host.old).folder }
         ensures acts { Acts F.tells (Ending (known_of self)) (F.scene host.old) (F.scene host.new) }
-        ensures gone { OnOk result (IsTrue F.tells.folder → IsAbsent self.files.names.swp (F.scene host.new).folder × IsAbsent self.files.names.swo (F.scene host.new).folder) }
+        ensures gone { OnOk result (IsTrue F.tells.folder
+            → IsAbsent self.files.names.swp (F.scene host.new).folder × IsAbsent self.files.names.swo (F.scene host.new).folder) }
         ensures none { OnOk result (NoneFails F.tells (F.scene host.old) (F.scene host.new)) }
         ensures cause { HasCause (F.scene host.old).folder_faults (F.scene host.new).folder_faults (IsErr result) }
     {

@@ -15,14 +15,16 @@ ghost use Rattle.vs_pair.specs.Steps.{IsFresh};
 /// Between two calls one file stands in every image for the last acknowledged sync, and what may be recovered is that sync or
 /// one that was begun since.
 pub fn fitting()
-    ensures between { (files : Known) (disk : Disk) (newest : Synced) (begun past : List Synced) → IsFit files disk newest begun past → IsBetween files.names newest begun past disk }
+    ensures between { (files : Known) (disk : Disk) (newest : Synced) (begun past : List Synced)
+        → IsFit files disk newest begun past → IsBetween files.names newest begun past disk }
     ensures recovers { (files : Known) (disk : Disk) (newest : Synced) (begun past : List Synced) → IsFit files disk newest begun past
         → Recovers files.names (newest ∷ begun) (newest ∷ past) disk }
 {}
 
 /// From two files that offer a sync of a text, that text is recovered.
 pub fn recovering()
-    ensures text { (names : Names) (older : List Synced) (image : Image) (sync : Synced) (text : List (List ℕ)) → IsTrue (is_allowed names.file) → IsTextOf sync text
+    ensures text { (names : Names) (older : List Synced) (image : Image) (sync : Synced) (text : List (List ℕ))
+        → IsTrue (is_allowed names.file) → IsTextOf sync text
         → Offers names older image sync → Recovered (image names.swp) (image names.swo) text }
     ensures head { (names : Names) (sync : Synced) (c : List ℕ) → IsTrue (is_allowed names.file) → sync.generation < 2 ^ 64 → Holds (body_of names.file sync) c
         → reading_of (take 4096 c) ≡ Ok (zero_of sync.generation sync.head) }
@@ -30,9 +32,11 @@ pub fn recovering()
 
 /// Calls that leave the swap files, whatever they do to other names, leave all that is said of them; so does a sync of the names.
 pub fn leaving()
-    ensures fit { (files : Known) (old new : Disk) (newest : Synced) (begun past : List Synced) → SameAt (is_swap files.names) old new → IsFit files old newest begun past
+    ensures fit { (files : Known) (old new : Disk) (newest : Synced) (begun past : List Synced)
+        → SameAt (is_swap files.names) old new → IsFit files old newest begun past
         → IsFit files new newest begun past }
-    ensures recovers { (names : Names) (old new : Disk) (syncs older : List Synced) → SameAt (is_swap names) old new → Recovers names syncs older old → Recovers names syncs older new }
+    ensures recovers { (names : Names) (old new : Disk) (syncs older : List Synced) → SameAt (is_swap names) old new
+        → Recovers names syncs older old → Recovers names syncs older new }
     ensures rises { (names : Names) (start old new : Disk) → SameAt (is_swap names) old new → Rises names start old → Rises names start new }
     ensures names { (names : Names) (old new : Disk) → SyncsNames old new → SameAt (is_swap names) old new }
 {}

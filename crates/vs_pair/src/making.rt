@@ -40,7 +40,8 @@ pub(crate) fn make_file<F: Folder>(
     requires size { length first.now ≡ 4096 }
     requires differ { temporary.now ≢ name.now }
     requires absent { IsTrue F.tells.folder → IsAbsent name.now (F.scene host.old).folder }
-    ensures acts { Acts F.tells (Makes temporary.now name.now (record { first = first.now; pages = committed_of pages.now })) (F.scene host.old) (F.scene host.new) }
+    ensures acts { Acts F.tells (Makes temporary.now name.now (record { first = first.now; pages = committed_of pages.now }))
+        (F.scene host.old) (F.scene host.new) }
     ensures made { OnOk result (IsTrue F.tells.folder
         → FileHas (F.scene host.new).folder name.now (λ file. Leaves file (IsMade (record { first = first.now; pages = committed_of pages.now })))) }
     ensures moved { OnOk result (IsTrue F.tells.folder → names_of (F.scene host.new).folder temporary.now ≡ None) }

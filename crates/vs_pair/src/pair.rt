@@ -73,9 +73,11 @@ impl SwapPair {
         requires fits { IsTrue F.tells.folder → HasFit (known_of self.old) (F.scene host.old).folder }
 
         ensures acts { Acts F.tells (Syncing (known_of self.old) (sync_of self.old head.now)) (F.scene host.old) (F.scene host.new) }
-        ensures ok { OnOk result (IsTrue F.tells.folder → (newest : Synced) (begun past : List Synced) → IsFit (known_of self.old) (F.scene host.old).folder newest begun past
+        ensures ok { OnOk result (IsTrue F.tells.folder → (newest : Synced) (begun past : List Synced)
+            → IsFit (known_of self.old) (F.scene host.old).folder newest begun past
             → IsFit (known_of self.new) (F.scene host.new).folder (sync_of self.old head.now) [] (newest ∷ past)) }
-        ensures err { OnErr result (IsTrue F.tells.folder → (newest : Synced) (begun past : List Synced) → IsFit (known_of self.old) (F.scene host.old).folder newest begun past
+        ensures err { OnErr result (IsTrue F.tells.folder → (newest : Synced) (begun past : List Synced)
+            → IsFit (known_of self.old) (F.scene host.old).folder newest begun past
             → IsFit (known_of self.new) (F.scene host.new).folder newest (sync_of self.old head.now ∷ begun) past) }
 
         // The file comes to go up to its last page, or goes as far as before.
@@ -85,7 +87,8 @@ impl SwapPair {
         // Some file stands in every image with a generation above all before, exactly where the sync is acknowledged.
         ensures rises { OnOk result (IsTrue F.tells.folder → (text : List (List ℕ)) → IsTextOf (sync_of self.old head.now) text
             → Rises self.old.files.names (F.scene host.old).folder (F.scene host.new).folder) }
-        ensures stays { OnErr result (IsTrue F.tells.folder → (newest : Synced) (begun past : List Synced) → IsFit (known_of self.old) (F.scene host.old).folder newest begun past
+        ensures stays { OnErr result (IsTrue F.tells.folder → (newest : Synced) (begun past : List Synced)
+            → IsFit (known_of self.old) (F.scene host.old).folder newest begun past
             → (text : List (List ℕ)) → IsTextOf newest text → Rises self.old.files.names (F.scene host.old).folder (F.scene host.new).folder → ⊥) }
         ensures pages { self.new.pages ≡ self.old.pages }
         ensures names { self.new.files.names ≡ self.old.files.names }

@@ -28,7 +28,8 @@ impl SwapPair {
         head: &Head,
     ) -> Result<(), Failed>
         requires absent { IsTrue F.tells.folder → IsAbsent (name_of self.now.files.names side) (F.scene host.old).folder }
-        ensures acts { Acts F.tells (Makes (temporary_of self.now.files.names side) (name_of self.now.files.names side) (body_of self.now.files.names.file (sync_with self.now generation head.now)))
+        ensures acts { Acts F.tells (Makes (temporary_of self.now.files.names side) (name_of self.now.files.names side)
+            (body_of self.now.files.names.file (sync_with self.now generation head.now)))
             (F.scene host.old) (F.scene host.new) }
         ensures made { OnOk result (IsTrue F.tells.folder → FileHas (F.scene host.new).folder (name_of self.now.files.names side)
             (λ file. Leaves file (IsMade (body_of self.now.files.names.file (sync_with self.now generation head.now))))) }
@@ -52,7 +53,8 @@ impl SwapPair {
     pub fn start<F: Folder>(&mut self, host: &mut F, head: &Head) -> Result<(), Failed>
         requires new { self.old.files.generation ≡ 0 }
         requires fresh { IsTrue F.tells.folder → IsFresh self.old.files.names (F.scene host.old).folder }
-        ensures acts { Acts F.tells (Starting self.old.files.names (sync_with self.old 1 head.now) (sync_with self.old 2 head.now)) (F.scene host.old) (F.scene host.new) }
+        ensures acts { Acts F.tells (Starting self.old.files.names (sync_with self.old 1 head.now) (sync_with self.old 2 head.now))
+            (F.scene host.old) (F.scene host.new) }
         ensures ok { OnOk result (IsTrue F.tells.folder
             → IsFit (known_of self.new) (F.scene host.new).folder (sync_with self.old 2 head.now) [] (sync_with self.old 1 head.now ∷ [])) }
         ensures ends { OnOk result (IsTrue F.tells.folder → BothEnd self.old.files.names (committed_of self.old.pages) (F.scene host.new).folder) }

@@ -116,7 +116,8 @@ pub(crate) fn write_pages<F: Folder>(
     // At each moment each image has an identifier from before.
     ensures acts { Acts F.tells (ChangesFile name.now KeepsMark) (F.scene host.old) (F.scene host.new) }
     ensures written { OnOk result (IsTrue F.tells.folder
-        → ChangesFile name.now (WritesBody (record { first = first.now; pages = committed_of pages.now })) (F.scene host.old).folder (F.scene host.new).folder) }
+        → ChangesFile name.now (WritesBody (record { first = first.now; pages = committed_of pages.now }))
+        (F.scene host.old).folder (F.scene host.new).folder) }
     ensures none { OnOk result (NoneFails F.tells (F.scene host.old) (F.scene host.new)) }
     ensures cause { HasCause (F.scene host.old).folder_faults (F.scene host.new).folder_faults (IsErr result) }
     ensures calls { (end : ℕ) → IsEnd pages.now end → CallsAtMost F.tells (F.scene host.old) (F.scene host.new) (2 + stale_below pages.now written.now end) }
@@ -188,16 +189,20 @@ pub(crate) fn sync_file<F: Folder>(
     written: &Written,
 ) -> Result<(), Failed>
     requires size { length first.now ≡ 4096 }
-    requires fits { IsTrue F.tells.folder → (before : Body) × FileHas (F.scene host.old).folder name.now (Fits gate.old before) × Keeps gate.old pages.now written.now before.pages }
+    requires fits { IsTrue F.tells.folder
+        → (before : Body) × FileHas (F.scene host.old).folder name.now (Fits gate.old before) × Keeps gate.old pages.now written.now before.pages }
 
     // At each moment each image is not open, or has the body before or this one.
-    ensures acts { Acts F.tells (ChangesFile name.now (SyncStep gate.old (record { first = first.now; pages = committed_of pages.now }))) (F.scene host.old) (F.scene host.new) }
+    ensures acts { Acts F.tells (ChangesFile name.now (SyncStep gate.old (record { first = first.now; pages = committed_of pages.now })))
+        (F.scene host.old) (F.scene host.new) }
     ensures opened { OnOk result (gate.new ≡ Gate.Open) }
     ensures stands { OnOk result (IsTrue F.tells.folder
         → FileHas (F.scene host.new).folder name.now (λ file. Leaves file (Holds (record { first = first.now; pages = committed_of pages.now })))) }
-    ensures grown { OnOk result (IsTrue F.tells.folder → ChangesFile name.now (Lengthens (committed_of pages.now)) (F.scene host.old).folder (F.scene host.new).folder) }
+    ensures grown { OnOk result (IsTrue F.tells.folder
+        → ChangesFile name.now (Lengthens (committed_of pages.now)) (F.scene host.old).folder (F.scene host.new).folder) }
     ensures failed { OnErr result (IsTrue F.tells.folder
-        → ChangesFile name.now (FailedSync gate.old gate.new (record { first = first.now; pages = committed_of pages.now })) (F.scene host.old).folder (F.scene host.new).folder) }
+        → ChangesFile name.now (FailedSync gate.old gate.new (record { first = first.now; pages = committed_of pages.now }))
+        (F.scene host.old).folder (F.scene host.new).folder) }
     ensures none { OnOk result (NoneFails F.tells (F.scene host.old) (F.scene host.new)) }
     ensures cause { HasCause (F.scene host.old).folder_faults (F.scene host.new).folder_faults (IsErr result) }
     ensures calls { (end : ℕ) → IsEnd pages.now end → CallsAtMost F.tells (F.scene host.old) (F.scene host.new) (6 + stale_below pages.now written.now end) }

@@ -1,5 +1,6 @@
 -- What is left of a script: what was read ahead, and what the host has left. How a reader takes lines of it.
-use Rattle.std.specs.Prelude.{ℕ, Bool, true, false, ◌==◌, if◌then◌else◌, List, [], ◌∷◌, ◌++◌, ◌≡◌, ◌+◌, ◌-◌, ◌<◌, ◌≤◌, length, take, Result, IsTrue, OnErr, OnOk}
+use Rattle.std.specs.Prelude.{ℕ, Bool, true, false, ◌==◌, if◌then◌else◌, List, [], ◌∷◌, ◌++◌, ◌≡◌, ◌+◌, ◌-◌, ◌<◌, ◌≤◌, length, take, Result, IsTrue, OnErr}
+use Rattle.std.specs.Prelude.{OnOk}
 use Rattle.vs_exparse.specs.Bytes.{max_line_bytes}
 use Rattle.vs_host.specs.World.{Tells, Scene}
 use Rattle.vs_script.specs.declared.reader.ScriptErr.{ScriptErr}

@@ -84,7 +84,8 @@ pub record SameFile (old new : Session) : Type 0 where
 
 -- The session answered a command: the reply, the state and the syncs are those of the state before, and at each moment what may be
 -- recovered is recovered.
-pub record Answers (state : SessionState) (syncs : List Sync) (instruction : Instruction) (before after : Session) (mark : Mark) (reply : Answer) (old new : Scene) : Type 0 where
+pub record Answers (state : SessionState) (syncs : List Sync) (instruction : Instruction) (before after : Session)
+    (mark : Mark) (reply : Answer) (old new : Scene) : Type 0 where
   pub not_quit : accepts_quit state instruction ≡ false
   pub ended : Ended
   pub mark_is : ended.mark ≡ mark

@@ -1,5 +1,6 @@
 -- What a session is between two commands, and what a command comes to in it.
-use Rattle.std.specs.Prelude.{ℕ, ◌+◌, length, is_some, is_none, Bool, true, false, ◌≡◌, ◌==◌, ◌&&◌, ◌||◌, nat_le, not, min, if◌then◌else◌, List, [], ◌∷◌, ◌++◌, Option, Some, None, Result, Ok, Err}
+use Rattle.std.specs.Prelude.{ℕ, ◌+◌, length, is_some, is_none, Bool, true, false, ◌≡◌, ◌==◌, ◌&&◌, ◌||◌, nat_le, not, min, if◌then◌else◌, List, [], ◌∷◌}
+use Rattle.std.specs.Prelude.{◌++◌, Option, Some, None, Result, Ok, Err}
 use Rattle.vs_host.specs.Disk.{Disk, content_in}
 use Rattle.vs_host.specs.Names.{names_of_file}
 use Rattle.vs_text.specs.Text.{file_of}
@@ -159,7 +160,8 @@ undo_work state found parsed = None
 
 -- the files that a command writes beside the swap files
 abbrev pub work_of : SessionState → Instruction → Ended → Option FileWork
-work_of state instruction ended = if begins_write state instruction ended then Some (write_work state ended.found) else undo_work state ended.found instruction.parsed
+work_of state instruction ended = if begins_write state instruction ended then Some
+    (write_work state ended.found) else undo_work state ended.found instruction.parsed
 
 -- whether the file was written
 abbrev pub has_written : SessionState → Instruction → Ended → Bool
@@ -174,7 +176,8 @@ stores_both state instruction ended = begins_write state instruction ended && st
 -- What is known of a command that ended so: `rundo` found this in the folder, and its mark says so; and only a `w` that was to store
 -- the undo file says that it was not stored.
 pub record HasFound (state : SessionState) (instruction : Instruction) (ended : Ended) : Type 0 where
-  pub read : is_rundo instruction.parsed ≡ true → IsTaken state.machine.text (content_in ended.found (names_of_file state.name).undo) ended.read × (ended.mark.outcome ≡ outcome_by ended.read)
+  pub read : is_rundo instruction.parsed ≡ true
+      → IsTaken state.machine.text (content_in ended.found (names_of_file state.name).undo) ended.read × (ended.mark.outcome ≡ outcome_by ended.read)
   pub unstored : ended.mark.outcome ≡ NoUndo → stores_both state instruction ended ≡ true
 
 -- the history that `rundo` takes from what it found
@@ -217,7 +220,8 @@ line_by outcome name lines bytes = written_line name lines bytes
 -- the reply to a write that ended so: what was written, or that no backup name is free
 abbrev pub write_reply : SessionState → Outcome → Disk → Answer
 write_reply state outcome found =
-    if lacks_name state.options.write state.name found then refuses no_backup_name else says (line_by outcome state.name (length state.machine.text) (length (file_of state.machine.text)))
+    if lacks_name state.options.write state.name found then refuses no_backup_name else says
+    (line_by outcome state.name (length state.machine.text) (length (file_of state.machine.text)))
 
 -- the session's reply to a command that had its effect, found the folder so, and there this undo file
 abbrev pub session_reply : SessionState → Outcome → Disk → Result History TakeErr → Result Command ExErr → Option Answer
@@ -235,7 +239,8 @@ answered outcome own reply = reply
 -- the reply to a command that ended so
 abbrev pub reply_of : SessionState → Instruction → Ended → Answer
 reply_of state instruction ended =
-    answered ended.mark.outcome (session_reply state ended.mark.outcome ended.found ended.read instruction.parsed) (machine.reply_of state.machine instruction ended.mark)
+    answered ended.mark.outcome (session_reply state ended.mark.outcome ended.found ended.read instruction.parsed)
+    (machine.reply_of state.machine instruction ended.mark)
 
 -- whether `q` or `q!` is accepted: `q!` always, and `q` where the current state is the one that was opened or last written
 abbrev pub quits : Result Command ExErr → Bool → Bool
@@ -314,28 +319,3 @@ turn_of state instruction ended = record {
   failed = is_fault ended.mark.outcome;
   reply = (reply_of state instruction ended).bytes;
 }
-
--- commands that ended so, as turns
-abbrev pub turns_of : SessionState → List Instruction → List Ended → List Turn
-turns_of state [] ends = []
-turns_of state (command ∷ commands) [] = []
-turns_of state (command ∷ commands) (ended ∷ ends) = turn_of state command ended ∷ turns_of (state_after state command ended) commands ends
-
--- the state after commands that ended so
-abbrev pub states_after : SessionState → List Instruction → List Ended → SessionState
-states_after state [] ends = state
-states_after state (command ∷ commands) [] = state
-states_after state (command ∷ commands) (ended ∷ ends) = states_after (state_after state command ended) commands ends
-
--- the replies of a run, as far as commands ended
-abbrev pub replies_of : SessionState → List Instruction → List Ended → List ℕ
-replies_of state [] ends = []
-replies_of state (command ∷ commands) [] = []
-replies_of state (command ∷ commands) (ended ∷ ends) = (reply_of state command ended).bytes ++ replies_of (state_after state command ended) commands ends
-
--- whether some reply of a run is an error, or some command did not end as Done
-abbrev pub any_error : SessionState → List Instruction → List Ended → Bool
-any_error state [] ends = false
-any_error state (command ∷ commands) [] = false
-any_error state (command ∷ commands) (ended ∷ ends) =
-    (not (is_done ended.mark.outcome) || (reply_of state command ended).is_error) || any_error (state_after state command ended) commands ends

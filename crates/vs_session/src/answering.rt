@@ -31,10 +31,12 @@ fn answer_in<F: Folder>(
     requires form { IsFormed request.now }
     requires some { 1 ≤ keep.levels }
     ensures reply { IfOk result (λ answered. IsTrue F.tells.folder → (state : State) (instruction : Instruction)
-        → Stands pair.old.pages tree.old history.old state → cursor ≡ state.cursor → IsRequest request.now instruction → answered.reply ≡ done_reply state (meaning_at state instruction)) }
+        → Stands pair.old.pages tree.old history.old state → cursor ≡ state.cursor → IsRequest request.now instruction
+        → answered.reply ≡ done_reply state (meaning_at state instruction)) }
     ensures state { IfOk result (λ answered. IsTrue F.tells.folder → (state : State) (instruction : Instruction)
         → Stands pair.old.pages tree.old history.old state → cursor ≡ state.cursor → IsRequest request.now instruction
-        → let after = done_state state keep (meaning_at state instruction) in Stands pair.new.pages tree.new history.new after × (answered.cursor ≡ after.cursor)) }
+        → let after = done_state state keep (meaning_at state instruction) in Stands pair.new.pages tree.new history.new after
+        × (answered.cursor ≡ after.cursor)) }
     ensures oldest { IfOk result (λ answered. IsTrue F.tells.folder → (state : State) (instruction : Instruction)
         → Stands pair.old.pages tree.old history.old state → cursor ≡ state.cursor → IsRequest request.now instruction
         → answered.oldest ≡ done_oldest state keep (meaning_at state instruction)) }
@@ -68,7 +70,8 @@ pub(crate) fn answer_text<F: Folder>(
         → answered.reply ≡ done_reply state (meaning_at state instruction)) }
     ensures state { IfOk result (λ answered. IsTrue F.tells.folder → (state : State) (syncs : List Sync) (instruction : Instruction)
         → FitsState text.old history.old (F.scene host.old).folder state syncs → cursor ≡ state.cursor → IsRequest request.now instruction
-        → let after = done_state state keep (meaning_at state instruction) in FitsState text.new history.new (F.scene host.new).folder after syncs × (answered.cursor ≡ after.cursor)) }
+        → let after = done_state state keep (meaning_at state instruction) in FitsState text.new history.new (F.scene host.new).folder after syncs
+        × (answered.cursor ≡ after.cursor)) }
     ensures oldest { IfOk result (λ answered. IsTrue F.tells.folder → (state : State) (syncs : List Sync) (instruction : Instruction)
         → FitsState text.old history.old (F.scene host.old).folder state syncs → cursor ≡ state.cursor → IsRequest request.now instruction
         → answered.oldest ≡ done_oldest state keep (meaning_at state instruction)) }

@@ -59,7 +59,8 @@ impl Session {
     fn replace_history<F: Folder>(&mut self, alloc: Global, host: &mut F) -> (Outcome, Reply)
         requires usable { IsUsable F.tells self.old (F.scene host.old).folder }
         ensures read { IsTrue F.tells.folder → (state : SessionState) (syncs : List Sync) → Fits self.old (F.scene host.old).folder state syncs
-            → (read : Result History TakeErr) × IsTaken state.machine.text (content_of (F.scene host.old) (names_of self.old).undo) read × (result.0 ≡ outcome_by read) × (result.1 ≡ taken_reply read)
+            → (read : Result History TakeErr) × IsTaken state.machine.text (content_of (F.scene host.old) (names_of self.old).undo) read
+            × (result.0 ≡ outcome_by read) × (result.1 ≡ taken_reply read)
             × Fits self.new (F.scene host.new).folder (with_history (history_in read) state) syncs }
         ensures kept { GoesOnReading F.tells (is_fault result.0 ≡ true) self.old self.new (F.scene host.old) (F.scene host.new) }
     {

@@ -167,7 +167,8 @@ impl Session {
         ensures reply { IsTrue F.tells.folder → (state : SessionState) (syncs : List Sync) (instruction : Instruction)
             → Fits self.old (F.scene host.old).folder state syncs
             → IsRequest request.now instruction → result.1 ≡ machine_reply state.machine instruction (record { outcome = result.0; at = at }) }
-        ensures fits { CarriesRequest F.tells request.now (record { outcome = result.0; at = at }) self.old self.new (F.scene host.old).folder (F.scene host.new).folder }
+        ensures fits { CarriesRequest F.tells request.now (record { outcome = result.0; at = at }) self.old self.new
+            (F.scene host.old).folder (F.scene host.new).folder }
         ensures kept { GoesOnReading F.tells (is_fault result.0 ≡ true) self.old self.new (F.scene host.old) (F.scene host.new) }
         ensures stored { result.0 ≢ Outcome.NoUndo }
     {
@@ -215,7 +216,8 @@ impl Session {
             → Fits self.old (F.scene host.old).folder state syncs
             → IsRequest request.now instruction →
             result.1 ≡ answered result.0 (own_reply instruction.parsed) (machine_reply state.machine instruction (record { outcome = result.0; at = at })) }
-        ensures fits { CarriesRequest F.tells request.now (record { outcome = result.0; at = at }) self.old self.new (F.scene host.old).folder (F.scene host.new).folder }
+        ensures fits { CarriesRequest F.tells request.now (record { outcome = result.0; at = at }) self.old self.new
+            (F.scene host.old).folder (F.scene host.new).folder }
         ensures kept { GoesOnReading F.tells (is_fault result.0 ≡ true) self.old self.new (F.scene host.old) (F.scene host.new) }
         ensures stored { result.0 ≢ Outcome.NoUndo }
     {

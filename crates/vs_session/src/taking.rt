@@ -75,7 +75,8 @@ fn bind_undo<F: Folder>(
     ensures taken { IfOk result (λ undo. IsTrue F.tells.folder → (lines : Text) (syncs : List Sync) (bytes : List ℕ)
         → paged.Fits text.old (F.scene host.old).folder lines syncs
         → IsUndoFile (history_of contents.now) bytes
-        → (history : History) × IsTaken lines (Some bytes) (Ok history) × IsHistory undo lines history × (length contents.now.changes.items ≡ length history.links.nodes)) }
+        → (history : History) × IsTaken lines (Some bytes) (Ok history) × IsHistory undo lines history
+        × (length contents.now.changes.items ≡ length history.links.nodes)) }
     ensures refused { IfErr result (λ error. IsTrue F.tells.folder → (lines : Text) (syncs : List Sync) (bytes : List ℕ)
         → paged.Fits text.old (F.scene host.old).folder lines syncs
         → IsUndoFile (history_of contents.now) bytes → IsTaken lines (Some bytes) (Err error)) }
@@ -102,7 +103,8 @@ impl Session {
         requires fits { FitsFolder F.tells self.old (F.scene host.old).folder }
         ensures taken { IfOk result (λ taken. IsTrue F.tells.folder → (state : SessionState) (syncs : List Sync)
             → Fits self.old (F.scene host.old).folder state syncs
-            → (history : History) × IsTaken state.machine.text (content_of (F.scene host.old) (names_of self.old).undo) (Ok history) × IsHistory taken.tree state.machine.text history
+            → (history : History) × IsTaken state.machine.text (content_of (F.scene host.old) (names_of self.old).undo) (Ok history)
+            × IsHistory taken.tree state.machine.text history
             × (taken.changes ≡ length history.links.nodes)) }
         ensures refused { IfErr result (λ error. IsTrue F.tells.folder → (state : SessionState) (syncs : List Sync)
             → Fits self.old (F.scene host.old).folder state syncs

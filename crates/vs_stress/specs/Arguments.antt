@@ -15,5 +15,6 @@ pub record IsCount (word : List ℕ) (count : ℕ) : Type 0 where
 -- the number of commands, of lines, of changes and of syncs, and the digest
 abbrev pub summary_line : ℕ → ℕ → ℕ → ℕ → List ℕ → List ℕ
 summary_line count lines changes syncs digest =
-    codes "stress " ++ (decimal count ++ codes ": ") ++ (decimal lines ++ codes " lines, ") ++ (decimal changes ++ codes " changes, ") ++ (decimal syncs ++ codes " syncs, ")
+    codes "stress " ++ (decimal count ++ codes ": ") ++ (decimal lines ++ codes " lines, ") ++
+    (decimal changes ++ codes " changes, ") ++ (decimal syncs ++ codes " syncs, ")
     ++ encode_lower digest ++ 10 ∷ []

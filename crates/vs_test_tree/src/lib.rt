@@ -14,6 +14,8 @@ mod generated;
 #[cfg(test)]
 mod layout;
 #[cfg(test)]
+mod marks;
+#[cfg(test)]
 mod splices;
 #[cfg(test)]
 mod stores;

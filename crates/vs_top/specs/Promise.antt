@@ -15,7 +15,8 @@ use Rattle.vs_safety.specs.Causes.{RoseLast, script_count, output_count, folder_
 use Rattle.vs_session.specs.Open.{PassesLimit}
 use Rattle.vs_session.specs.Opened.{Opened}
 use Rattle.vs_session.specs.Fits.{HasSwap}
-use Rattle.vs_top.specs.Run.{TellsRun, Did, KeepsMarks, AnswersNone, AnswersAll, AnswersTaken, AnswersLimit, LacksMemory, IsCutShort, IsCutLast, FailsToClose, KeepsSwap, Counts, counts_of, OnlyFolder, FaultHasCause, FileFits, IsBarred, IsTimed, opened_file, ran_of}
+use Rattle.vs_top.specs.Run.{TellsRun, Did, KeepsMarks, AnswersNone, AnswersAll, AnswersTaken, AnswersLimit, LacksMemory, IsCutShort, IsCutLast}
+use Rattle.vs_top.specs.Run.{FailsToClose, KeepsSwap, Counts, counts_of, OnlyFolder, FaultHasCause, FileFits, IsBarred, IsTimed, opened_file, ran_of}
 use Rattle.vs_top.specs.Stress.{TellsStress, HasStressed, IsStressing, IsStressSafe, StressEnds, stress_line, stress_name, stress_text, stress_turns}
 use Rattle.vs_top.specs.declared.ending.Ending.{Ending}
 use Rattle.vs_top.specs.declared.ending.Ending.TheVariants as ending

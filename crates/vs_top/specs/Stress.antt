@@ -1,5 +1,6 @@
 -- What the stress mode does: it answers commands of its own over a session, and writes what the session has come to.
-use Rattle.std.specs.Prelude.{ℕ, Bool, true, false, List, ◌∷◌, [], ◌≡◌, ◌≤◌, ◌+◌, ◌⊎◌, ◌++◌, ◌&&◌, if◌then◌else◌, All, codes, length, take, nat_le, IsTrue, IfSome, Some}
+use Rattle.std.specs.Prelude.{ℕ, Bool, true, false, List, ◌∷◌, [], ◌≡◌, ◌≤◌, ◌+◌, ◌⊎◌, ◌++◌, ◌&&◌, if◌then◌else◌, All, codes, length, take, nat_le, IsTrue}
+use Rattle.std.specs.Prelude.{IfSome, Some}
 use Rattle.vs_faults.specs.Faults.{HasRisen}
 use Rattle.vs_host.specs.Disk.{Disk}
 use Rattle.vs_host.specs.Names.{names_of_file}
