@@ -1,14 +1,15 @@
 -- What one write leaves, and how moments go on after a part in which no call failed.
-use Rattle.std.proofs.Common.{◌≡◌, ℕ, List, [], ◌∷◌, ◌++◌, take, drop, Result, IsErr, IsTrue, inl, inr, ap}
+use Rattle.std.proofs.Common.{◌≡◌, ◌≤◌, ◌+◌, ℕ, List, [], ◌∷◌, ◌++◌, length, take, drop, Result, IsErr, IsTrue, inl, inr, ap, ◌∙◌, arith}
+use Rattle.std.proofs.lemmas.List.{length-append}
 use Rattle.std.proofs.lemmas.List.{take-append-drop}
 use Rattle.vs_faults.specs.Faults.{HasCause}
 use Rattle.vs_host.specs.Disk.{Disk, Name}
 use Rattle.vs_host.specs.Trace.{Kind, Snapshot, GoesOn, WroteOutput}
 use Rattle.vs_host.specs.World.{Tells, Scene, IsTold, ChangesOutput, snapshot_of}
-use Rattle.vs_disk.specs.Runs.{Quiet}
+use Rattle.vs_disk.specs.Runs.{Inside, Quiet, Runs}
 use Rattle.vs_disk.proofs.Runs.{fails_none, fails_call, quiet_none, quiet_call, goes_none, goes_then, goes_weaker}
 use Rattle.vs_disk.proofs.Quiet.{last_then}
-use Rattle.vs_modes.specs.Moments.{Proceeds, IsSame}
+use Rattle.vs_modes.specs.Moments.{IsSame, IsUnwritten, Proceeds, WritesLast}
 use Rattle.vs_modes.specs.Output.{WritesPart, Outputs, NoWriteFails}
 
 -- ---- the moments
@@ -35,6 +36,29 @@ proceeds_then S T U old mid new weak joins quiet first second = record {
       (goes_weaker (λ m. T mid.folder m.folder) (λ m. U old.folder m.folder) (λ m. joins m.folder) mid.trace new.trace second.moments);
   now = joins new.folder second.now;
   last = last_then old mid new quiet second.last;
+}
+
+-- ---- what was written by the last call
+
+pub unwritten_none : (scene : Scene) → GoesOn (IsUnwritten scene) scene.trace scene.trace
+unwritten_none scene = goes_none (IsUnwritten scene) scene.trace
+
+pub unwritten_runs : (step : Disk → Disk → Type 0) (old new : Scene) → Runs step old new → GoesOn (IsUnwritten old) old.trace new.trace
+unwritten_runs step old new runs = goes_weaker (Inside old (step old.folder)) (IsUnwritten old) (λ m inside. inside.output) old.trace new.trace runs.moments
+
+-- nothing was written
+pub writes_nothing : (old new : Scene) → GoesOn (IsUnwritten old) old.trace new.trace → WritesLast old new
+writes_nothing old new goes = record { last = []; earlier = goes.added; one = omega arith; is = goes.is; unwritten = goes.each }
+
+-- one call more, which may have written
+pub writes_last : (P : Snapshot → Type 0) (old mid new : Scene) → GoesOn (IsUnwritten old) old.trace mid.trace → GoesOn P mid.trace new.trace → length new.trace ≤ length mid.trace + 1
+    → WritesLast old new
+writes_last P old mid new goes more few = record {
+  last = more.added;
+  earlier = goes.added;
+  one = let size = ap (λ (ms : List Snapshot). length ms) more.is ∙ length-append more.added mid.trace in omega (arith, size, few);
+  is = more.is ∙ ap (λ (ms : List Snapshot). more.added ++ ms) goes.is;
+  unwritten = goes.each;
 }
 
 -- ---- calls on the output

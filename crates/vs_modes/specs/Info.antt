@@ -1,9 +1,10 @@
 -- What `info` does.
-use Rattle.std.specs.Prelude.{◌≡◌, ◌≤◌, ℕ, List, ◌++◌, length, Option, None, ⊤}
+use Rattle.std.specs.Prelude.{◌≡◌, ◌≤◌, ◌+◌, ℕ, List, ◌++◌, length, Option, None, ⊤}
 use Rattle.vs_host.specs.Disk.{Name}
 use Rattle.vs_host.specs.declared.names.Names.{Names}
 use Rattle.vs_host.specs.World.{Tells, Scene, content_of}
 use Rattle.vs_recover.specs.Infos.{IsInfo}
+use Rattle.vs_recover.specs.Reading.{blocks_at}
 use Rattle.vs_modes.specs.declared.error.ModeErr.{ModeErr}
 use Rattle.vs_modes.specs.declared.error.ModeErr.TheVariants as refusal
 use Rattle.vs_modes.specs.Moments.{IsSame}
@@ -24,4 +25,4 @@ RefusesInfo swp swo why = ⊤
 abbrev pub RunsInfo : Tells → Names → Scene → Scene → Ended (Unit {0}) → Type 0
 RunsInfo tells names old new result =
     RunsMode IsSame (λ done. AreInfos (content_of old names.swp) (content_of old names.swo) names.swp names.swo)
-    (RefusesInfo (content_of old names.swp) (content_of old names.swo)) tells old new result
+    (RefusesInfo (content_of old names.swp) (content_of old names.swo)) tells (6 + blocks_at old names.swp + blocks_at old names.swo + 1) old new result

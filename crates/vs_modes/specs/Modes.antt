@@ -5,7 +5,8 @@ use Rattle.vs_host.specs.Disk.{Disk}
 use Rattle.vs_host.specs.World.{Tells, Scene}
 use Rattle.vs_modes.specs.declared.error.ModeErr.{ModeErr}
 use Rattle.vs_modes.specs.declared.error.ModeErr.TheVariants as refusal
-use Rattle.vs_modes.specs.Moments.{Proceeds}
+use Rattle.vs_disk.specs.Runs.{CallsAtMost}
+use Rattle.vs_modes.specs.Moments.{Proceeds, WritesLast}
 use Rattle.vs_modes.specs.Output.{WritesPart}
 
 -- a mode did its work and answers this, or why it did not
@@ -39,10 +40,12 @@ AnswersBy {T} Wanted Refused tells (Err refusal.OutputFailed) old new =
     (answer : T) × (bytes : List ℕ) × Wanted answer bytes × (IsTrue tells.output → WritesPart bytes old.output new.output)
 AnswersBy Wanted Refused tells (Err why) old new = Refused why
 
--- What a mode does whose folder goes by the step at each moment, that is to write these bytes with each answer, and that may be
--- refused for these reasons.
-pub record RunsMode {T : Type 0} (step : Disk → Disk → Type 0) (Wanted : T → List ℕ → Type 0) (Refused : ModeErr
-    → Type 0) (tells : Tells) (old new : Scene) (result : Ended T) : Type 0 where
+-- What a mode does whose folder goes by the step at each moment, that is to write these bytes with each answer, by its last call of
+-- at most so many, and that may be refused for these reasons.
+pub record RunsMode {T : Type 0} (step : Disk → Disk → Type 0) (Wanted : T → List ℕ → Type 0) (Refused : ModeErr → Type 0) (tells : Tells) (most : ℕ)
+    (old new : Scene) (result : Ended T) : Type 0 where
   pub leaves : LeavesBy result old new
   pub proceeds : IsTrue tells.folder → Proceeds step old new
+  pub calls : CallsAtMost tells old new most
+  pub order : IsTrue tells.folder → WritesLast old new
   pub answer : IsTrue tells.folder → AnswersBy Wanted Refused tells result old new

@@ -69,9 +69,14 @@ RefusesRecover remains refusal.Encrypted = NoneStands remains.swp remains.swo ×
 RefusesRecover remains refusal.NotSwap = NoneStands remains.swp remains.swo × IsNoSwap (salvaged_in remains)
 RefusesRecover remains why = ⊤
 
+-- how many calls find what is written: a choice, and a salvage of one of the two files
+abbrev pub most_reads : Remains → ℕ
+most_reads remains = 8 + blocks_of remains.swp + blocks_of remains.swo + (most_calls remains.swp remains.original + most_calls remains.swo remains.original)
+
 -- `recover` of the file with these names: nothing in the folder changes.
 abbrev pub RunsRecover : Tells → Names → Scene → Scene → Ended Recovery → Type 0
-RunsRecover tells names old new result = RunsMode IsSame (IsRecovery (remains_in old names)) (RefusesRecover (remains_in old names)) tells old new result
+RunsRecover tells names old new result =
+    RunsMode IsSame (IsRecovery (remains_in old names)) (RefusesRecover (remains_in old names)) tells (most_reads (remains_in old names) + 1) old new result
 
 -- ---- what was found, before it is written
 
@@ -94,7 +99,3 @@ recovery_by (suc more) = recovery.Marked
 abbrev pub found_recovery : Found → Recovery
 found_recovery (found.Text text) = recovery.Whole
 found_recovery (found.Salvage salvaged) = recovery_by salvaged.markers
-
--- how many calls find what is written: a choice, and a salvage of one of the two files
-abbrev pub most_reads : Remains → ℕ
-most_reads remains = 8 + blocks_of remains.swp + blocks_of remains.swo + (most_calls remains.swp remains.original + most_calls remains.swo remains.original)

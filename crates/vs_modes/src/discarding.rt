@@ -4,7 +4,7 @@ ghost use Rattle.vs_faults.specs.Faults.{HasCause};
 ghost use Rattle.vs_host.specs.Disk.{names_of};
 ghost use Rattle.vs_host.specs.Names.{is_allowed, names_of_file};
 ghost use Rattle.vs_host.specs.World.{content_of};
-ghost use Rattle.vs_disk.specs.Runs.{NoneFails};
+ghost use Rattle.vs_disk.specs.Runs.{CallsAtMost, NoneFails};
 ghost use Rattle.vs_pair.specs.Acts.{Acts};
 ghost use Rattle.vs_pair.specs.Steps.{IsFresh};
 ghost use Rattle.vs_modes.specs.Discard.{Discards, MayRemove, RunsDiscard, discard_line, is_any_there};
@@ -20,6 +20,7 @@ fn remove_file<F: Folder>(host: &mut F, name: &str) -> Result<bool, Failed>
     ensures value { IfOk result (λ there. IsTrue F.tells.folder → there ≡ is_some (content_of (F.scene host.old) name.now)) }
     ensures gone { OnOk result (IsTrue F.tells.folder → names_of (F.scene host.new).folder name.now ≡ None) }
     ensures none { OnOk result (NoneFails F.tells (F.scene host.old) (F.scene host.new)) }
+    ensures calls { CallsAtMost F.tells (F.scene host.old) (F.scene host.new) 2 }
     ensures cause { HasCause (F.scene host.old).folder_faults (F.scene host.new).folder_faults (IsErr result) }
 {
     let there = host.has(name)?;
@@ -35,6 +36,7 @@ fn remove_both<F: Folder>(host: &mut F, names: &Names) -> Result<bool, Failed>
     ensures value { IfOk result (λ some. IsTrue F.tells.folder → some ≡ is_any_there names.now (F.scene host.old)) }
     ensures gone { OnOk result (IsTrue F.tells.folder → IsFresh names.now (F.scene host.new).folder) }
     ensures none { OnOk result (NoneFails F.tells (F.scene host.old) (F.scene host.new)) }
+    ensures calls { CallsAtMost F.tells (F.scene host.old) (F.scene host.new) 5 }
     ensures cause { HasCause (F.scene host.old).folder_faults (F.scene host.new).folder_faults (IsErr result) }
 {
     let second = remove_file(host, names.swo.as_str())?;

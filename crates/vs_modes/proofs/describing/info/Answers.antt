@@ -1,7 +1,8 @@
-use Rattle.std.proofs.Common.{refl, sym, subst}
+use Rattle.std.proofs.Common.{◌+◌, refl, sym, subst}
 use Rattle.vs_host.specs.declared.names.Names.{Names}
 use Rattle.vs_host.specs.Names.{names_of_file}
 use Rattle.vs_host.specs.World.{Scene, content_of}
+use Rattle.vs_recover.specs.Reading.{blocks_at}
 use Rattle.vs_recover.specs.declared.error.RecErr.{RecErr}
 use Rattle.vs_modes.specs.Refusals.{refusal_of}
 use Rattle.vs_modes.specs.declared.error.ModeErr.TheVariants as refusal
@@ -17,7 +18,7 @@ returns-in_err-names g c =
     let s0 : Scene = g.H.World.scene c.args.host.now in
     let names : Names = names_of_file c.args.name.now in
     subst (λ (r : Ended (Unit {0})). RunsInfo g.H.World.tells names s0 s0 r) (refused_as c.from_residual.result refusal.NoMemory c.from_residual.ensures.1)
-    (mode_idle IsSame (λ done. AreInfos (content_of s0 names.swp) (content_of s0 names.swo) names.swp names.swo) (RefusesInfo (content_of s0 names.swp) (content_of s0 names.swo)) g.H.World.tells s0 refl tt)
+    (mode_idle IsSame (λ done. AreInfos (content_of s0 names.swp) (content_of s0 names.swo) names.swp names.swo) (RefusesInfo (content_of s0 names.swp) (content_of s0 names.swo)) g.H.World.tells (6 + blocks_at s0 names.swp + blocks_at s0 names.swo + 1) s0 refl tt)
 
 pub returns-in_err-lines : goal.returns-in_err-lines
 returns-in_err-lines g c =
@@ -37,6 +38,6 @@ returns g c =
     let s2 : Scene = g.H.World.scene c.write_bytes.new.out in
     let names : Names = c.in_ok-names.names in
     subst (λ (n : Names). RunsInfo g.H.World.tells n s0 s2 c.write_bytes.result) c.in_ok-names.ensures.names
-    (mode_written IsSame (λ done. AreInfos (content_of s0 names.swp) (content_of s0 names.swo) names.swp names.swo) (RefusesInfo (content_of s0 names.swp) (content_of s0 names.swo)) g.H.World.tells s0 s1 s2 c.deref.result.now c.write_bytes.result
+    (mode_written IsSame (λ done. AreInfos (content_of s0 names.swp) (content_of s0 names.swo) names.swp names.swo) (RefusesInfo (content_of s0 names.swp) (content_of s0 names.swo)) g.H.World.tells (6 + blocks_at s0 names.swp + blocks_at s0 names.swo) s0 s1 s2 c.deref.result.now c.write_bytes.result
     (λ told. subst (AreInfos (content_of s0 names.swp) (content_of s0 names.swo) names.swp names.swo) (sym c.deref.ensures.value) (infos_are (content_of s0 names.swp) (content_of s0 names.swo) names.swp names.swo c.in_ok-lines.lines (c.in_ok-lines.ensures.answer told)))
-    (reads_ready s0 s1 c.in_ok-lines.ensures.reading) c.write_bytes.ensures.outputs c.write_bytes.ensures.cause c.write_bytes.ensures.none c.write_bytes.ensures.failed c.write_bytes.ensures.ok c.write_bytes.ensures.err)
+    (reads_ready s0 s1 c.in_ok-lines.ensures.reading) c.write_bytes.ensures.outputs c.write_bytes.ensures.calls c.write_bytes.ensures.cause c.write_bytes.ensures.none c.write_bytes.ensures.failed c.write_bytes.ensures.ok c.write_bytes.ensures.err)

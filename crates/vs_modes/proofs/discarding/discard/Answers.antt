@@ -21,7 +21,7 @@ returns-in_err-found g c =
     let s1 : Scene = g.H.World.scene c.remove_both.new.host in
     let names : Names = names_of_file c.args.name.now in
     subst (λ (r : Ended (Unit {0})). RunsDiscard g.H.World.tells names s0 s1 r) (refused_as c.from_residual-in_err-found.result refusal.FolderFailed c.from_residual-in_err-found.ensures.1)
-    (subst (λ (n : Names). RunsDiscard g.H.World.tells n s0 s1 (failed_as refusal.FolderFailed)) c.in_ok-names.ensures.names (discard_failed g.H.World.tells c.in_ok-names.names s0 s1 c.remove_both.ensures.acts (c.in_err-found.ensures.cause.risen refl)))
+    (subst (λ (n : Names). RunsDiscard g.H.World.tells n s0 s1 (failed_as refusal.FolderFailed)) c.in_ok-names.ensures.names (discard_failed g.H.World.tells c.in_ok-names.names s0 s1 c.remove_both.ensures.acts c.remove_both.ensures.calls (c.in_err-found.ensures.cause.risen refl)))
 
 pub returns : goal.returns
 returns g c =
@@ -29,5 +29,5 @@ returns g c =
     let s1 : Scene = g.H.World.scene c.remove_both.new.host in
     let s2 : Scene = g.H.World.scene c.write_bytes.new.out in
     subst (λ (n : Names). RunsDiscard g.H.World.tells n s0 s2 c.write_bytes.result) c.in_ok-names.ensures.names
-    (discard_written g.H.World.tells c.in_ok-names.names s0 s1 s2 c.in_ok-found.found c.discard_line.result.now c.write_bytes.result c.in_ok-found.ensures.value c.discard_line.ensures c.remove_both.ensures.acts c.in_ok-found.ensures.none c.in_ok-found.ensures.gone
-    c.write_bytes.ensures.outputs c.write_bytes.ensures.cause c.write_bytes.ensures.none c.write_bytes.ensures.failed c.write_bytes.ensures.ok c.write_bytes.ensures.err)
+    (discard_written g.H.World.tells c.in_ok-names.names s0 s1 s2 c.in_ok-found.found c.discard_line.result.now c.write_bytes.result c.in_ok-found.ensures.value c.discard_line.ensures c.remove_both.ensures.acts c.in_ok-found.ensures.none c.remove_both.ensures.calls c.in_ok-found.ensures.gone
+    c.write_bytes.ensures.outputs c.write_bytes.ensures.calls c.write_bytes.ensures.cause c.write_bytes.ensures.none c.write_bytes.ensures.failed c.write_bytes.ensures.ok c.write_bytes.ensures.err)

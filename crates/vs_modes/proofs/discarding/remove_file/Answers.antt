@@ -1,7 +1,7 @@
-use Rattle.std.proofs.Common.{inr, refl, subst}
+use Rattle.std.proofs.Common.{◌≤◌, arith, inr, refl, subst}
 use Rattle.vs_host.specs.Disk.{Disk, ChangesNames, Removes}
 use Rattle.vs_host.specs.Trace.{Looked, Removed}
-use Rattle.vs_disk.proofs.Quiet.{none_call, none_then}
+use Rattle.vs_disk.proofs.Quiet.{calls_one, calls_then, calls_within, none_call, none_then}
 use Rattle.vs_pair.proofs.Acts.{acts_then}
 use Rattle.vs_pair.proofs.Calls.{look_acts, look_none, either_acts}
 use Rattle.vs_modes.specs.Discard.{MayRemove}
@@ -37,3 +37,17 @@ pub returns-in_ok-remove-clause-none : goal.returns-in_ok-remove-clause-none
 returns-in_ok-remove-clause-none g c =
     none_then g.F.World.tells _ _ _ (look_none g.F.World.tells Looked _ c.has.result _ _ c.has.ensures.frame c.has.ensures.told c.in_ok-there.ensures.quiet)
     (none_call g.F.World.tells Removed _ c.remove.result _ _ c.remove.ensures.frame c.remove.ensures.told c.in_ok-remove.ensures.quiet)
+
+pub returns-in_err-there-clause-calls : goal.returns-in_err-there-clause-calls
+returns-in_err-there-clause-calls g c = calls_within g.F.World.tells _ _ 1 2 (omega arith) (calls_one g.F.World.tells Looked _ c.has.result _ _ c.has.ensures.told)
+
+pub returns-else-there-clause-calls : goal.returns-else-there-clause-calls
+returns-else-there-clause-calls g c = calls_within g.F.World.tells _ _ 1 2 (omega arith) (calls_one g.F.World.tells Looked _ c.has.result _ _ c.has.ensures.told)
+
+pub returns-in_err-remove-clause-calls : goal.returns-in_err-remove-clause-calls
+returns-in_err-remove-clause-calls g c =
+    calls_then g.F.World.tells _ _ _ 1 1 2 (omega arith) (calls_one g.F.World.tells Looked _ c.has.result _ _ c.has.ensures.told) (calls_one g.F.World.tells Removed _ c.remove.result _ _ c.remove.ensures.told)
+
+pub returns-in_ok-remove-clause-calls : goal.returns-in_ok-remove-clause-calls
+returns-in_ok-remove-clause-calls g c =
+    calls_then g.F.World.tells _ _ _ 1 1 2 (omega arith) (calls_one g.F.World.tells Looked _ c.has.result _ _ c.has.ensures.told) (calls_one g.F.World.tells Removed _ c.remove.result _ _ c.remove.ensures.told)

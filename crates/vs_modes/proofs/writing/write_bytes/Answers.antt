@@ -1,3 +1,5 @@
+use Rattle.vs_host.specs.Trace.{WroteOutput}
+use Rattle.vs_disk.proofs.Quiet.{calls_one}
 use Rattle.vs_modes.proofs.OutputLaws.{none_call, outputs_call, part_written}
 use Rattle.vs_modes.proofs.writing.write_bytes.Goals as goal
 
@@ -12,3 +14,9 @@ returns-in-Err-clause-outputs g c = outputs_call g.O.World.tells _ c.write.resul
 
 pub returns-in-Err-clause-err : goal.returns-in-Err-clause-err
 returns-in-Err-clause-err g c = λ told. part_written c.args.bytes.now _ _ (c.in-Err.ensures.err told)
+
+pub returns-in-Ok-clause-calls : goal.returns-in-Ok-clause-calls
+returns-in-Ok-clause-calls g c = calls_one g.O.World.tells WroteOutput _ c.write.result _ _ c.write.ensures.told
+
+pub returns-in-Err-clause-calls : goal.returns-in-Err-clause-calls
+returns-in-Err-clause-calls g c = calls_one g.O.World.tells WroteOutput _ c.write.result _ _ c.write.ensures.told
