@@ -12,10 +12,6 @@ use Rattle.vs_disk.specs.Images.{Takes}
 use Rattle.vs_disk.specs.Runs.{Inside, Runs, Looks}
 use Rattle.vs_disk.proofs.Runs.{goes_weaker, reads_change, runs_as, runs_then}
 use Rattle.vs_pair.specs.Pair.{is_swap}
-use Rattle.vs_pair.specs.declared.side.Side.{Side}
-use Rattle.vs_pair.specs.declared.side.Side.TheVariants.{Swp, Swo}
-use Rattle.vs_pair.specs.Pair.{name_of}
-use Rattle.vs_pair.proofs.FitLemmas.{at_side}
 use Rattle.vs_exparse.specs.Command.Command.{WriteUndo}
 use Rattle.vs_exparse.specs.declared.command.ExErr.TheVariants.{E492}
 use Rattle.vs_excmd.specs.Request.{Instruction}
@@ -47,6 +43,7 @@ use Rattle.vs_session.specs.declared.session.Session.{Session}
 use Rattle.vs_session.specs.Session.{SessionState, Ended, accepts_quit, after_sync, answered, begins_after, begins_sync, carried, is_fault, is_rundo, is_write, is_wundo, lacks_name, options_after, quits, reply_of, session_reply, state_after, sync_in, undo_in, undo_work, with_history, work_of, write_work, written_state}
 use Rattle.vs_session.specs.Stores.{StoresUndo}
 use Rattle.vs_session.specs.Fits.{Answers, Fits, names_of}
+use Rattle.vs_session.proofs.Cleared.{cleared_stored, swap_name}
 use Rattle.vs_session.proofs.Failing.{once_stops}
 use Rattle.vs_session.proofs.SessionLemmas.{carried_still}
 use Rattle.vs_session.proofs.UndoNames.{new_name, undo_apart}
@@ -128,17 +125,8 @@ error_is why = Err why
 -- ---- the swap files
 
 module _ (names : Names) (are : AreNames names) where
-  side_name : (side : Side) → (name_of names side ≡ names.swp) ⊎ (name_of names side ≡ names.swo)
-  side_name Swp = inl refl
-  side_name Swo = inr refl
-
-  swap_name : (name : Name) → is_swap names name ≡ true → (name ≡ names.swp) ⊎ (name ≡ names.swo)
-  swap_name name is =
-      let at = at_side names name (ap not is) in
-      subst (λ (n : Name). (n ≡ names.swp) ⊎ (n ≡ names.swo)) (sym at.1) (side_name at.0)
-
   swap_as : (name other : Name) → name ≡ other → is_swap names name ≡ true → (other ≡ names.swp) ⊎ (other ≡ names.swo)
-  swap_as name other same is = subst (λ (n : Name). (n ≡ names.swp) ⊎ (n ≡ names.swo)) same (swap_name name is)
+  swap_as name other same is = subst (λ (n : Name). (n ≡ names.swp) ⊎ (n ≡ names.swo)) same (swap_name names name is)
 
   -- the storing works on no swap file
   pub undo_outside : IsOutside (two_names names.undo_new names.undo) (is_swap names)
@@ -281,7 +269,8 @@ module _ (state : SessionState) (syncs : List Sync) (instruction : Instruction) 
   pub answers_stored : Answers state syncs instruction before after mark reply old new
   answers_stored =
       assemble state syncs instruction before old goes_on fits after mark false reply new None (Some (UndoFile undo)) (no_read instruction.parsed is) (λ unstored. absurd (never unstored))
-      (once_stops names state instruction ended tells old new told (ap (λ (w : Bool). ((w && false) && not lacks) && took_effect outcome) (no_write instruction.parsed is)) stops) (ap (λ (c : Bool). cond c (Some (sync_in state false)) None) none_begun) work replied_as now
+      (once_stops names state instruction ended tells old new told (ap (λ (w : Bool). ((w && false) && not lacks) && took_effect outcome) (no_write instruction.parsed is)) stops)
+      (λ done. cleared_stored names fits.stands.text.fit.named old.folder new.folder runs.now.spares (stored done).3) (ap (λ (c : Bool). cond c (Some (sync_in state false)) None) none_begun) work replied_as now
       (record {
         found = refl;
         works = works;

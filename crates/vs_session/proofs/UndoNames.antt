@@ -54,7 +54,7 @@ module _ (names : Names) (are : AreNames names) where
   backup_outside backup is (inl new) = let size = ap length new in let longer = is.longer in let long = undo_long in let more = new_long in omega arith
   backup_outside backup is (inr undo) = let size = ap length undo in let longer = is.longer in let long = undo_long in omega arith
 
-  not_temporary : (other : Name) → names.undo ≢ temporary other
+  pub not_temporary : (other : Name) → names.undo ≢ temporary other
   not_temporary other same =
       let ends : (hidden names.file ++ codes ".un") ++ 126 ∷ [] ≡ (other ++ codes ".vsne") ++ 119 ∷ [] =
       append_assoc (hidden names.file) (codes ".un") (126 ∷ []) ∙ sym undo_name ∙ same ∙ sym (append_assoc other (codes ".vsne") (119 ∷ [])) in

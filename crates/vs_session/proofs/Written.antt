@@ -42,8 +42,9 @@ use Rattle.vs_desk.proofs.Stillness.{still_fits}
 use Rattle.vs_session.specs.declared.session.Session.{Session}
 use Rattle.vs_session.specs.Session.{SessionState, Ended, accepts_quit, after_sync, answered, begins_sync, carried, is_fault, is_write, lacks_name, line_by, reply_of, state_after, stores_both, sync_in, undo_after, undo_work, with_history, write_in, write_reply, write_work, written_state}
 use Rattle.vs_session.specs.Writes.{HasSynced, Wrote, state_to}
-use Rattle.vs_session.specs.Fits.{Answers, Fits, names_of}
+use Rattle.vs_session.specs.Fits.{Answers, Fits, LeavesNoneMade, names_of}
 use Rattle.vs_session.specs.Failures.{FailsOnce}
+use Rattle.vs_session.proofs.Cleared.{cleared_same, cleared_synced, cleared_then, cleared_written}
 use Rattle.vs_session.proofs.Failing.{above_quiet, once_after, once_unwritten}
 use Rattle.vs_session.proofs.Steps.{assemble, between_synced, flag_true, looked_synced, no_history, risen_since, unread, works_runs}
 use Rattle.vs_session.proofs.FileWrites.{undo_same}
@@ -233,6 +234,10 @@ module _ (state : SessionState) (syncs : List Sync) (instruction : Instruction) 
     pub has_left : HasWritten names write (is_ok result) (state_now old) (state_now new)
     has_left = has_written names are options text old.folder mid new same result did.file old.folder_faults later
 
+    pub cleared_by : (size : ℕ) → result ≡ Ok size → LeavesNoneMade old.folder new.folder
+    cleared_by size ok = cleared_then old.folder mid.folder new.folder (cleared_synced names are old.folder mid.folder same)
+        (cleared_written names are options (file_of text) size mid new (subst (λ (r : Result ℕ WriteErr). WritesFile options names (file_of text) mid new r) ok did.file) did.others)
+
     pub bytes_left : IfOk result (λ size. (size ≡ length (file_of text)) × HoldsBytes names.file (file_of text) new.folder)
     bytes_left = (facts names are options text old.folder mid new same result did.file old.folder_faults later).written
 
@@ -272,13 +277,13 @@ module _ (state : SessionState) (syncs : List Sync) (instruction : Instruction) 
 
   -- where the file may be written
   module _ (free : lacks ≡ false) (b : Bool) (flag : state.options.undofile ≡ b) where
-    pub answers_free : (after : Session) (outcome : Outcome) (at : ℕ) (reply : Answer) (new : Scene) → names_of after ≡ names → (outcome ≡ NoUndo → b ≡ true) → FailsOnce names state instruction (ended outcome at) old new → reply ≡ reply_of state instruction (ended outcome at)
+    pub answers_free : (after : Session) (outcome : Outcome) (at : ℕ) (reply : Answer) (new : Scene) → names_of after ≡ names → (outcome ≡ NoUndo → b ≡ true) → FailsOnce names state instruction (ended outcome at) old new → (outcome ≡ Done → LeavesNoneMade old.folder new.folder) → reply ≡ reply_of state instruction (ended outcome at)
         → Fits after new.folder (state_after state instruction (ended outcome at)) all → Works names (Some (work_by b)) (IsUnderWay names under (Some (work_by b))) old new
         → HasLeft names (work_by b) (took_effect outcome) (is_fault outcome) (state_now old) (state_now new) → IsWholeAt names (work_by b) new.folder → Rises names old.folder new.folder
         → (is_fault outcome ≡ true → HasRisen old.folder_faults new.folder_faults) → Answers state syncs instruction before after (mark outcome at) reply old new
-    answers_free after outcome at reply new names_after both calls replied now works wrote whole rises cause =
+    answers_free after outcome at reply new names_after both calls cleared replied now works wrote whole rises cause =
         assemble state syncs instruction before old goes_on s.fits after (mark outcome at) true reply new (Some (sync_in state true)) (Some (work_by b)) (no_read instruction.parsed is)
-        (λ none. (λ i. ((is i && true) && not (free i)) && (flag ∙ both none) i)) calls sync_is
+        (λ none. (λ i. ((is i && true) && not (free i)) && (flag ∙ both none) i)) calls cleared sync_is
         ((λ i. cond ((is i && true) && not (free i)) (Some (write_work state old.folder)) (undo_work state old.folder instruction.parsed)) ∙ (λ i. Some (work_by (flag i)))) replied now
         (record {
           found = refl;
@@ -308,7 +313,8 @@ module _ (state : SessionState) (syncs : List Sync) (instruction : Instruction) 
         let looks = (looked after (Err why) new second wrote taken).0 in
         let unwritten : (((is_write instruction.parsed && true) && not lacks) && took_effect outcome) ≡ false = λ i. ((is i && true) && not (taken i)) && took_effect outcome in
         let now : Fits after new.folder (state_after state instruction (ended outcome at)) all = stays after new.folder outcome at unwritten wrote.fits in
-        assemble state syncs instruction before old goes_on s.fits after (mark outcome at) true reply new (Some (sync_in state true)) None (no_read instruction.parsed is) (λ none. absurd (stored none)) (calls outcome unwritten quiet) sync_is
+        assemble state syncs instruction before old goes_on s.fits after (mark outcome at) true reply new (Some (sync_in state true)) None (no_read instruction.parsed is) (λ none. absurd (stored none)) (calls outcome unwritten quiet)
+        (λ _. cleared_then old.folder mid.folder new.folder (cleared_synced names are old.folder mid.folder same) (cleared_same mid.folder new.folder looks.now)) sync_is
         ((λ i. cond ((is i && true) && not (taken i)) (Some (write_work state old.folder)) (undo_work state old.folder instruction.parsed)) ∙ no_undo state old.folder instruction.parsed is) replied now
         (looked_synced before after state syncs (state_after state instruction (ended outcome at)) (took_effect outcome) (is_fault outcome) (reply_of state instruction (ended outcome at)).bytes old mid new s.fits between s.names names_after
         s.frame s.runs s.rises s.synced looks.now second looks cause now)
@@ -319,7 +325,8 @@ module _ (state : SessionState) (syncs : List Sync) (instruction : Instruction) 
         let b : Bool = state.options.undofile in
         let unwritten : (((is_write instruction.parsed && true) && not lacks) && took_effect outcome) ≡ false = λ i. ((is i && true) && not (free i)) && none i in
         let runs = written_runs after (Err why) new second wrote in
-        answers_free free b refl after outcome at reply new names_after (λ unstored. absurd (stored unstored)) (calls outcome unwritten quiet) replied
+        answers_free free b refl after outcome at reply new names_after (λ unstored. absurd (stored unstored)) (calls outcome unwritten quiet)
+        (λ done. absurd (true≢false (sym (ap took_effect done) ∙ none))) replied
         (stays after new.folder outcome at unwritten wrote.fits)
         (works_runs names (Some (work_by b)) (IsUnderWay names under (Some (work_by b))) AtMoment old new (written_frame after (Err why) new second wrote) (lead b) runs)
         (left_by b (took_effect outcome) (is_fault outcome) new
@@ -385,7 +392,7 @@ module _ (state : SessionState) (syncs : List Sync) (instruction : Instruction) 
           writes = λ _. record { wrote = new; file = (did after (Ok size) new second wrote).calls.done; above = wrote.above; calls = record { added = []; is = refl; calls = inl tt }; last = fails_none new; none = λ _. quiet_none new; unstored = λ e. absurd (cc) };
           last = λ unwritten. absurd (true≢false (sym (written free) ∙ unwritten));
           none = λ unwritten. absurd (true≢false (sym (written free) ∙ unwritten));
-        }))
+        })) (λ _. cleared_by after (Ok size) new second wrote size refl)
         (reply_to ∙ line_is free Done size (bytes_left after (Ok size) new second wrote).0 ∙ replied_done at)
         (fits_by after new.folder Done at true (written free) wrote.fits)
         (works_runs names (Some (EditedFile write)) (IsUnderWay names under (Some (EditedFile write))) AtMoment old new (written_frame after (Ok size) new second wrote) (lead false) runs)

@@ -35,20 +35,21 @@ pub record IsUsable (tells : Tells) (session : Session) (disk : Disk) : Type 0 w
 
 -- The session is still in each state that it was in, and the folder has the swap files of the same syncs.
 abbrev pub KeepsState : Tells → Session → Session → Disk → Disk → Type 0
-KeepsState tells before after was now = IsTrue tells.folder → (state : SessionState) (syncs : List Sync)
-    → Fits before was state syncs → Fits after now state syncs
+KeepsState tells before after was now =
+    IsTrue tells.folder → (state : SessionState) (syncs : List Sync) → Fits before was state syncs → Fits after now state syncs
 
 -- Where the folder is told, the session has carried out the command that a request stands for, in each state that it was in.
 abbrev pub CarriesRequest : Tells → Request → Mark → Session → Session → Disk → Disk → Type 0
 CarriesRequest tells request mark before after was now =
-    IsTrue tells.folder → (state : SessionState) (syncs : List Sync) (instruction : Instruction) → Fits before was state syncs
-    → IsRequest request instruction → Fits after now (carried state instruction mark) syncs
+    IsTrue tells.folder → (state : SessionState) (syncs : List Sync) (instruction : Instruction) → Fits before was state syncs → IsRequest request instruction
+    → Fits after now (carried state instruction mark) syncs
 
 -- Where the folder is told, the step answers the command that a request stands for, in each state that the session was in.
 abbrev pub AnswersRequest : Tells → Request → Step → Session → Session → Scene → Scene → Type 0
 AnswersRequest tells request step before after old new =
     IsTrue tells.folder → (state : SessionState) (syncs : List Sync) (instruction : Instruction) → Fits before old.folder state syncs
-    → IsRequest request instruction → IsStep step state syncs instruction before after old new
+    → IsRequest request instruction
+    → IsStep step state syncs instruction before after old new
 
 -- The folder was only looked at, and its faults have risen where a call failed. That one was the last.
 pub record OnlyReads (tells : Tells) (Failed : Type 0) (old new : Scene) : Type 0 where
@@ -92,8 +93,8 @@ pub record Finishes (tells : Tells) (session : Session) (old new : Scene) (how :
   pub fits : how ≡ end.Sync → IsTrue tells.folder → (state : SessionState) (syncs : List Sync) → Fits session old.folder state syncs
       → HasSyncs (names_of session) (sync_in state done ∷ syncs) new.folder
   pub rises : done ≡ true → how ≡ end.Sync → IsTrue tells.folder → Rises (names_of session) old.folder new.folder
-  pub quit : how ≡ end.Quit → IsTrue tells.folder → (state : SessionState) (syncs : List Sync)
-      → Fits session old.folder state syncs → Leaves (names_of session) syncs old new
+  pub quit : how ≡ end.Quit → IsTrue tells.folder → (state : SessionState) (syncs : List Sync) → Fits session old.folder state syncs
+      → Leaves (names_of session) syncs old new
   pub gone : done ≡ true → how ≡ end.Quit → IsTrue tells.folder → IsFresh (names_of session) new.folder
   pub last : IsTrue tells.folder → FailsLast old new
   pub none : done ≡ true → NoneFails tells old new

@@ -1,6 +1,6 @@
 -- What a session is between two commands, and what a command comes to in it.
-use Rattle.std.specs.Prelude.{ℕ, ◌+◌, length, is_some, is_none, Bool, true, false, ◌≡◌, ◌==◌, ◌&&◌, ◌||◌, nat_le, not, min, if◌then◌else◌, List, [], ◌∷◌}
-use Rattle.std.specs.Prelude.{◌++◌, Option, Some, None, Result, Ok, Err}
+use Rattle.std.specs.Prelude.{ℕ, ◌+◌, length, is_some, is_none, Bool, true, false, ◌≡◌, ◌==◌, ◌&&◌, ◌||◌, nat_le}
+use Rattle.std.specs.Prelude.{not, min, if◌then◌else◌, List, [], ◌∷◌, ◌++◌, Option, Some, None, Result, Ok, Err}
 use Rattle.vs_host.specs.Disk.{Disk, content_in}
 use Rattle.vs_host.specs.Names.{names_of_file}
 use Rattle.vs_text.specs.Text.{file_of}
@@ -160,8 +160,8 @@ undo_work state found parsed = None
 
 -- the files that a command writes beside the swap files
 abbrev pub work_of : SessionState → Instruction → Ended → Option FileWork
-work_of state instruction ended = if begins_write state instruction ended then Some
-    (write_work state ended.found) else undo_work state ended.found instruction.parsed
+work_of state instruction ended =
+    if begins_write state instruction ended then Some (write_work state ended.found) else undo_work state ended.found instruction.parsed
 
 -- whether the file was written
 abbrev pub has_written : SessionState → Instruction → Ended → Bool
@@ -176,8 +176,8 @@ stores_both state instruction ended = begins_write state instruction ended && st
 -- What is known of a command that ended so: `rundo` found this in the folder, and its mark says so; and only a `w` that was to store
 -- the undo file says that it was not stored.
 pub record HasFound (state : SessionState) (instruction : Instruction) (ended : Ended) : Type 0 where
-  pub read : is_rundo instruction.parsed ≡ true
-      → IsTaken state.machine.text (content_in ended.found (names_of_file state.name).undo) ended.read × (ended.mark.outcome ≡ outcome_by ended.read)
+  pub read : is_rundo instruction.parsed ≡ true → IsTaken state.machine.text (content_in ended.found (names_of_file state.name).undo) ended.read
+      × (ended.mark.outcome ≡ outcome_by ended.read)
   pub unstored : ended.mark.outcome ≡ NoUndo → stores_both state instruction ended ≡ true
 
 -- the history that `rundo` takes from what it found
@@ -220,8 +220,8 @@ line_by outcome name lines bytes = written_line name lines bytes
 -- the reply to a write that ended so: what was written, or that no backup name is free
 abbrev pub write_reply : SessionState → Outcome → Disk → Answer
 write_reply state outcome found =
-    if lacks_name state.options.write state.name found then refuses no_backup_name else says
-    (line_by outcome state.name (length state.machine.text) (length (file_of state.machine.text)))
+    if lacks_name state.options.write state.name found then refuses no_backup_name
+    else says (line_by outcome state.name (length state.machine.text) (length (file_of state.machine.text)))
 
 -- the session's reply to a command that had its effect, found the folder so, and there this undo file
 abbrev pub session_reply : SessionState → Outcome → Disk → Result History TakeErr → Result Command ExErr → Option Answer

@@ -13,5 +13,9 @@ acknowledged_in (sync ∷ syncs) = if sync.acknowledged then acknowledged_in syn
 
 -- the summary of a session in this state, after these syncs
 abbrev pub summary_of : SessionState → List Sync → Summary
-summary_of state syncs = record
-    { lines = length state.machine.text; changes = last_of state.machine; syncs = acknowledged_in syncs; digest = digest_of state.machine.text }
+summary_of state syncs = record {
+  lines = length state.machine.text;
+  changes = last_of state.machine;
+  syncs = acknowledged_in syncs;
+  digest = digest_of state.machine.text;
+}

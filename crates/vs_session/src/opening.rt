@@ -9,7 +9,7 @@ ghost use Rattle.vs_text.specs.Limits.{IsWithinLimits};
 ghost use Rattle.vs_text.specs.Text.{lines_of};
 ghost use Rattle.vs_machine.specs.Replies.{opening_of};
 ghost use Rattle.vs_safety.specs.Turns as turns;
-ghost use Rattle.vs_session.specs.Fits.{Fits, FitsUndo, HasOpened, HasSwap, IsSettled, Opens, generation_of, names_of};
+ghost use Rattle.vs_session.specs.Fits.{Fits, FitsUndo, HasOpened, HasSwap, IsSettled, LeavesNoneMade, Opens, generation_of, names_of};
 ghost use Rattle.vs_session.specs.Open.{IsLook, IsReading, IsTooLarge, KeepsToLimits, OnlyLooks};
 ghost use Rattle.vs_session.specs.Opened.{opened, sizes_of, text_in};
 
@@ -85,6 +85,7 @@ impl Session {
         ensures generation { IfOk result (λ session. generation_of session ≡ 2) }
         ensures undo { IfOk result (λ session. FitsUndo session) }
         ensures moved { OnOk result (IsTrue (H.tells).folder → BothMoved (names_of_file name.now) (H.scene host.new).folder) }
+        ensures cleared { OnOk result (IsTrue (H.tells).folder → LeavesNoneMade (H.scene host.old).folder (H.scene host.new).folder) }
         ensures swap { IsErrOf result OpenErr.SwapFound → IsTrue (H.tells).folder → HasSwap (names_of_file name.now) (H.scene host.old).folder }
         ensures barred { IsTrue (H.tells).folder → HasSwap (names_of_file name.now) (H.scene host.old).folder
             → IsErrOf result OpenErr.SwapFound ⊎ IsErrOf result OpenErr.Failed ⊎ IsErrOf result OpenErr.NoMemory }

@@ -1,12 +1,13 @@
-use Rattle.std.proofs.Common.{◌≤◌, ◌∙◌, ℕ, List, min, length, refl, sym, ap, subst, arith}
+use Rattle.std.proofs.Common.{◌≤◌, ◌∙◌, ℕ, IsTrue, List, min, length, refl, sym, ap, subst, arith}
 use Rattle.vs_host.specs.Disk.{Disk}
-use Rattle.vs_host.specs.Names.{names_of_file}
+use Rattle.vs_host.specs.Names.{AreNames, is_allowed, names_of_file}
 use Rattle.vs_host.specs.World.{Scene}
 use Rattle.vs_pair.specs.Acts.{Acts}
 use Rattle.vs_pair.specs.Steps.{BothMoved, IsFresh}
 use Rattle.vs_safety.specs.Texts.{Text}
 use Rattle.vs_safety.specs.Turns as turns
 use Rattle.vs_paged.specs.Fits as folder
+use Rattle.vs_session.proofs.Cleared.{cleared_same, cleared_started, cleared_then}
 use Rattle.vs_session.proofs.OpenLemmas.{handed_back, never_over, allowed_short}
 use Rattle.vs_session.proofs.LookLemmas.{looks_none, is_fresh, opens_looks, opens_then}
 use Rattle.vs_session.proofs.session.Session.open.Goals as goal
@@ -96,3 +97,13 @@ invariant_of-result-clause-short g c = subst (λ (n : List ℕ). length n ≤ 20
 
 pub returns-clause-moved : goal.returns-clause-moved
 returns-clause-moved g c = λ told. subst (λ (n : List ℕ). BothMoved (names_of_file n) (g.H.World.scene c.start.new.host).folder) c.in_ok-opening.ensures.name (c.in_ok-text.ensures.moved told)
+
+pub returns-clause-cleared : goal.returns-clause-cleared
+returns-clause-cleared g c = λ told.
+    let old = g.H.World.scene c.args.host.now in
+    let mid = g.H.World.scene c.read_text.new.host in
+    let new = g.H.World.scene c.start.new.host in
+    let names = names_of_file c.in_ok-opening.opening.name in
+    let are : AreNames names = record { allowed = subst (λ (n : List ℕ). IsTrue (is_allowed n)) (sym c.in_ok-opening.ensures.name) c.requires.name; others = refl } in
+    cleared_then old.folder mid.folder new.folder (cleared_same old.folder mid.folder (ap (λ (s : Scene). s.folder) c.in_ok-opening.ensures.reading.look.frame))
+    (cleared_started names are mid.folder new.folder (c.in_ok-text.ensures.acts.runs told).now.spared (c.in_ok-text.ensures.moved told))

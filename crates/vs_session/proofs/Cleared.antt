@@ -1,0 +1,191 @@
+-- The names under which files are made that are renamed then: what a command leaves of them.
+use Rattle.std.proofs.Common.{◌≡◌, ◌≢◌, ◌⊎◌, inl, inr, ℕ, Bool, true, false, ◌&&◌, ◌||◌, not, codes, length, List, [], ◌∷◌, ◌++◌, Option, Some, None, IsSome, Result, Ok, Err, OnOk, refl, sym, ◌∙◌, ap, subst, append_assoc, arith}
+use Rattle.std.specs.List.{ends_with, list_all}
+use Rattle.std.specs.Prelude.{nat_eq, nat_le}
+use Rattle.std.specs.Str.{bytes_eq}
+use Rattle.std.proofs.lemmas.Bool.{true≢false, cases_Bool}
+use Rattle.std.proofs.lemmas.Bool.Decides.{Decides-eqb}
+use Rattle.std.proofs.lemmas.List.{same_from_push}
+use Rattle.std.proofs.lemmas.Slice.Eq.{bytes_eq-Decides, ends_is}
+use Rattle.vs_host.specs.Disk.{Disk, Name, names_at, names_of}
+use Rattle.vs_host.specs.Names.{AreNames, is_name_byte, is_reserved, temporary}
+use Rattle.vs_host.specs.World.{Scene, content_of}
+use Rattle.vs_host.specs.declared.names.Names.{Names}
+use Rattle.vs_disk.specs.Names.{SameAt}
+use Rattle.vs_disk.proofs.Steps.{itself}
+use Rattle.vs_pair.specs.Pair.{is_apart, is_foreign, is_swap}
+use Rattle.vs_pair.specs.Pair.{name_of}
+use Rattle.vs_pair.specs.Steps.{BothMoved}
+use Rattle.vs_pair.specs.declared.side.Side.{Side}
+use Rattle.vs_pair.specs.declared.side.Side.TheVariants.{Swp, Swo}
+use Rattle.vs_pair.proofs.FitLemmas.{at_side}
+use Rattle.vs_backup.specs.Backups.{IsBackupName, WorksOn, backup_of, copies}
+use Rattle.vs_backup.specs.Backups.WorksOn.{TheFile, TheNewFile, TheBackup, TheCopy}
+use Rattle.vs_backup.specs.Works.{IsGone, Spares as SparesNames, SparesOthers, two_names}
+use Rattle.vs_backup.specs.Writing.{IsUnseen, WritesNew, WritesWith, nowhere}
+use Rattle.vs_backup.specs.declared.options.WriteOptions.{WriteOptions}
+use Rattle.vs_backup.proofs.Choosing.{some_name}
+use Rattle.vs_backup.proofs.NamesApart.{new_name, temporary_apart}
+use Rattle.vs_desk.specs.Writes.{WritesFile}
+use Rattle.vs_desk.proofs.Spared.{chosen_name}
+use Rattle.vs_session.specs.Fits.{LeavesNoneMade}
+use Rattle.vs_session.proofs.UndoNames.{not_temporary}
+
+pub cleared_same : (old new : Disk) → new ≡ old → LeavesNoneMade old new
+cleared_same old new is made was = subst (λ (d : Disk). IsGone (temporary made) d) (sym is) was
+
+pub cleared_then : (old mid new : Disk) → LeavesNoneMade old mid → LeavesNoneMade mid new → LeavesNoneMade old new
+cleared_then old mid new first second made was = second made (first made was)
+
+-- a name that is left alone
+gone_same : (inside : Name → Bool) (name : Name) (old new : Disk) → SameAt inside old new → inside name ≡ true → IsGone name old → IsGone name new
+gone_same inside name old new same is gone lost = let at = same.back lost in at.1 name is ∙ gone at.0
+
+-- of which no file is known, so that no other name leads to it
+gone_spared : (on : Name → Type 0) (name : Name) (old new : Scene) → SparesOthers on old new → (on name → ⊥) → IsGone name old.folder → IsGone name new.folder
+gone_spared on name old new spares out gone =
+    let runs = spares (bytes_eq name) (λ other is works. out (subst on (sym ((bytes_eq-Decides name other).0 is)) works))
+    (record {
+      alone = λ lost one other number is outside leads there.
+          let clash : None ≡ Some number = sym (gone lost) ∙ ap (names_at old.folder lost) ((bytes_eq-Decides name one).0 is) ∙ leads in cc;
+    }) in
+    gone_same (bytes_eq name) name old.folder new.folder runs.now (itself name) gone
+
+reserved_last : (a b r : Bool) → r ≡ true → (a && (b && not r)) ≡ true → ⊥
+reserved_last true true r is all = true≢false (sym all ∙ ap not is)
+reserved_last true false r is all = true≢false (sym all)
+reserved_last false b r is all = true≢false (sym all)
+
+or_true : (a r : Bool) → r ≡ true → (a || r) ≡ true
+or_true true r is = refl
+or_true false r is = is
+
+some_is : (a b : Name) → Some a ≡ Some b → a ≡ b
+some_is a b e = cc
+
+temporary_end : (name : Name) → temporary name ≡ (name ++ codes ".vsne") ++ 119 ∷ []
+temporary_end name = sym (append_assoc name (codes ".vsne") (119 ∷ []))
+
+-- ---- the names
+
+module _ (names : Names) where
+  side_name : (side : Side) → (name_of names side ≡ names.swp) ⊎ (name_of names side ≡ names.swo)
+  side_name Swp = inl refl
+  side_name Swo = inr refl
+
+  -- a swap file has one of the two names
+  pub swap_name : (name : Name) → is_swap names name ≡ true → (name ≡ names.swp) ⊎ (name ≡ names.swo)
+  swap_name name is =
+      let at = at_side names name (ap not is) in
+      subst (λ (n : Name). (n ≡ names.swp) ⊎ (n ≡ names.swo)) (sym at.1) (side_name at.0)
+
+module _ (names : Names) (are : AreNames names) where
+  -- none of these names is that of a file, of its backup or of a swap file
+  file_unmade : (made : Name) → temporary made ≢ names.file
+  file_unmade made same =
+      let last : ends_with nat_eq names.file (codes ".vsnew") ≡ true = (ends_is Decides-eqb names.file (codes ".vsnew") _ refl).1 made (sym same) in
+      reserved_last (nat_le 1 (length names.file) && nat_le (length names.file) 200) (list_all is_name_byte names.file) (is_reserved names.file)
+      (or_true (bytes_eq names.file (codes ".") || bytes_eq names.file (codes "..")) (ends_with nat_eq names.file (codes ".vsnew")) last) are.allowed
+
+  backup_unmade : (made backup : Name) → IsBackupName names.file backup → temporary made ≢ backup
+  backup_unmade made backup named same =
+      let last = (same_from_push (made ++ codes ".vsne") named.stem 119 126 (sym (temporary_end made) ∙ same ∙ named.ends)).1 in omega arith
+
+  swap_unmade : (made : Name) → is_swap names (temporary made) ≡ false
+  swap_unmade made = elim (cases_Bool (is_swap names (temporary made))) [
+    | inl swap ↦ absurd (temporary_apart names are made (swap_name names (temporary made) swap))
+    | inr other ↦ other
+  ]
+
+  -- the making of the swap files
+  pub cleared_started : (old new : Disk) → SameAt (is_foreign names) old new → BothMoved names new → LeavesNoneMade old new
+  cleared_started old new same moved made was = by (cases_Bool (bytes_eq names.swp_new (temporary made))) (cases_Bool (bytes_eq names.swo_new (temporary made)))
+    where
+      by : (bytes_eq names.swp_new (temporary made) ≡ true) ⊎ (bytes_eq names.swp_new (temporary made) ≡ false) → (bytes_eq names.swo_new (temporary made) ≡ true) ⊎ (bytes_eq names.swo_new (temporary made) ≡ false)
+          → IsGone (temporary made) new
+      by (inl swp) swo = subst (λ (n : Name). IsGone n new) ((bytes_eq-Decides names.swp_new (temporary made)).0 swp) moved.0
+      by (inr swp) (inl swo) = subst (λ (n : Name). IsGone n new) ((bytes_eq-Decides names.swo_new (temporary made)).0 swo) moved.1
+      by (inr swp) (inr swo) = gone_same (is_foreign names) (temporary made) old new same (λ i. not (swap_unmade made i || (swp i || swo i))) was
+
+  -- a sync
+  pub cleared_synced : (old new : Disk) → SameAt (is_apart names) old new → LeavesNoneMade old new
+  cleared_synced old new same made was = gone_same (is_apart names) (temporary made) old new same (ap not (swap_unmade made)) was
+
+  -- the storing of an undo file
+  pub cleared_stored : (old new : Disk) → SparesNames (two_names names.undo_new names.undo) old new → IsGone names.undo_new new → LeavesNoneMade old new
+  cleared_stored old new spares gone made was = elim (cases_Bool (bytes_eq (temporary made) names.undo_new)) [
+    | inl same ↦ subst (λ (n : Name). IsGone n new) (sym ((bytes_eq-Decides (temporary made) names.undo_new).0 same)) gone
+    | inr other ↦ gone_same (bytes_eq (temporary made)) (temporary made) old new
+        (spares (bytes_eq (temporary made)) (λ name is on. outside other (subst (two_names names.undo_new names.undo) (sym ((bytes_eq-Decides (temporary made) name).0 is)) on))) (itself (temporary made)) was
+  ]
+    where
+      outside : bytes_eq (temporary made) names.undo_new ≡ false → two_names names.undo_new names.undo (temporary made) → ⊥
+      outside other (inl new) = true≢false (sym ((bytes_eq-Decides (temporary made) names.undo_new).1 new) ∙ other)
+      outside other (inr undo) = not_temporary names are made (sym undo)
+
+  -- a write that was carried out
+  module _ (options : WriteOptions) (bytes : List ℕ) (size : ℕ) (old new : Scene) (file : WritesFile options names bytes old new (Ok size)) (others : SparesOthers (WorksOn options names.file old.folder) old new)
+      (made : Name) (was : IsGone (temporary made) old.folder) where
+    abbrev On : Name → Type 0
+    On = WorksOn options names.file old.folder
+
+    abbrev Gone : Type 0
+    Gone = IsGone (temporary made) new.folder
+
+    unworked : (On (temporary made) → ⊥) → Gone
+    unworked out = gone_spared On (temporary made) old new others out was
+
+    -- of a new file
+    renamed_by : (answer : _) → Ok size ≡ nowhere answer → OnOk answer ((other : Name) → two_names names.file_new names.file other → (other ≡ names.file → ⊥) → IsGone other new.folder) → IsGone names.file_new new.folder
+    renamed_by (Ok count) is aside = aside names.file_new (inl refl) (λ same. file_unmade names.file (sym (new_name names are) ∙ same))
+    renamed_by (Err why) is aside = absurd (cc)
+
+    renamed : IsUnseen old new (Ok size) ⊎ WritesNew names.file_new names.file bytes old new (Ok size) → IsGone names.file_new new.folder
+    renamed (inl unseen) = let failed = unseen.failed in absurd (cc)
+    renamed (inr fresh) = renamed_by fresh.answer fresh.is fresh.fresh.aside
+
+    unworked_new : content_of old names.file ≡ None → bytes_eq (temporary made) names.file_new ≡ false → On (temporary made) → ⊥
+    unworked_new none other (TheFile same) = file_unmade made same
+    unworked_new none other (TheNewFile absent same) = true≢false (sym ((bytes_eq-Decides (temporary made) names.file_new).1 (same ∙ sym (new_name names are))) ∙ other)
+    unworked_new none other (TheBackup backup there chosen same) = let clash = subst (λ (o : Option (List ℕ)). IsSome o) none there in cc
+    unworked_new none other (TheCopy backup there chosen copied same) = let clash = subst (λ (o : Option (List ℕ)). IsSome o) none there in cc
+
+    of_new : content_of old names.file ≡ None → Gone
+    of_new none = elim (cases_Bool (bytes_eq (temporary made) names.file_new)) [
+      | inl same ↦ subst (λ (n : Name). IsGone n new.folder) (sym ((bytes_eq-Decides (temporary made) names.file_new).0 same)) (renamed (file.fresh none))
+      | inr other ↦ unworked (unworked_new none other)
+    ]
+
+    -- of one that was there
+    copied_aside : (backup : Name) (was_bytes : List ℕ) → copies options.copy ≡ true → IsUnseen old new (Ok size) ⊎ WritesWith options names.file backup was_bytes bytes old new (Ok size) → IsGone (temporary backup) new.folder
+    copied_aside backup was_bytes copied (inl unseen) = let failed = unseen.failed in absurd (cc)
+    copied_aside backup was_bytes copied (inr backed) = backed.aside copied
+
+    unworked_copy : (was_bytes : List ℕ) → content_of old names.file ≡ Some was_bytes → ((backup : Name) → backup_of options names.file old.folder ≡ Some backup → copies options.copy ≡ true → temporary made ≡ temporary backup → ⊥)
+        → On (temporary made) → ⊥
+    unworked_copy was_bytes there out (TheFile same) = file_unmade made same
+    unworked_copy was_bytes there out (TheNewFile absent same) = let clash = sym absent ∙ there in cc
+    unworked_copy was_bytes there out (TheBackup backup some chosen same) = backup_unmade made backup (chosen_name options names.file old.folder backup (some_name names.file are.allowed) chosen) same
+    unworked_copy was_bytes there out (TheCopy backup some chosen copied same) = out backup chosen copied same
+
+    of_copy : (was_bytes : List ℕ) → content_of old names.file ≡ Some was_bytes → (backup : Name) → backup_of options names.file old.folder ≡ Some backup → copies options.copy ≡ true → Gone
+    of_copy was_bytes there backup chosen copied = elim (cases_Bool (bytes_eq (temporary made) (temporary backup))) [
+      | inl same ↦ subst (λ (n : Name). IsGone n new.folder) (sym ((bytes_eq-Decides (temporary made) (temporary backup)).0 same)) (copied_aside backup was_bytes copied (file.backed was_bytes there backup chosen))
+      | inr other ↦ unworked (unworked_copy was_bytes there (λ other_backup other_chosen _ same.
+          let one : Some other_backup ≡ Some backup = sym other_chosen ∙ chosen in
+          true≢false (sym ((bytes_eq-Decides (temporary made) (temporary backup)).1 (same ∙ ap temporary (some_is other_backup backup one))) ∙ other)))
+    ]
+
+    of_there : (was_bytes : List ℕ) → content_of old names.file ≡ Some was_bytes → (chosen : Option Name) → backup_of options names.file old.folder ≡ chosen → Gone
+    of_there was_bytes there None is = unworked (unworked_copy was_bytes there (λ backup chosen _ same. let clash = sym is ∙ chosen in cc))
+    of_there was_bytes there (Some backup) is = elim (cases_Bool (copies options.copy)) [
+      | inl copied ↦ of_copy was_bytes there backup is copied
+      | inr moved ↦ unworked (unworked_copy was_bytes there (λ other chosen copied same. true≢false (sym copied ∙ moved)))
+    ]
+
+    of_content : (found : Option (List ℕ)) → content_of old names.file ≡ found → Gone
+    of_content None is = of_new is
+    of_content (Some was_bytes) is = of_there was_bytes is (backup_of options names.file old.folder) refl
+
+    pub cleared_written : Gone
+    cleared_written = of_content (content_of old names.file) refl
