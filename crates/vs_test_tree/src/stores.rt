@@ -269,7 +269,7 @@ fn rehearse<P: Pages>(
     requires size { length bytes.now ≡ 4096 * pages }
     ensures same { OnOk result (IsTrue P.tells → into.new.items ≡ bytes.now) }
     ensures present { IsTrue P.tells → (P.shows store.new).present ≡ (P.shows store.old).committed }
-    ensures kept { Continues P.Pages store.old store.new }
+    ensures valid { P.valid store.new }
     ensures cause { HasCause (P.shows store.old).faults (P.shows store.new).faults (IsErrOf result PageErr.Failed) }
 {
     let outcome = write_and_load(store, alloc, at, pages, bytes, into);
