@@ -75,7 +75,8 @@ pub trait Desk: World {
         requires valid { valid self.old }
         requires apart { reads self.old name.now → ⊥ }
         requires there { IsTrue (Self.tells).folder → IsSome (content_of (Self.scene self.old) name.now) }
-        ensures value { IfOk result (λ size. IsTrue (Self.tells).folder → IfSome (content_of (Self.scene self.old) name.now) (λ bytes. size ≡ length bytes)) }
+        ensures value { IfOk result (λ size. IsTrue (Self.tells).folder →
+            IfSome (content_of (Self.scene self.old) name.now) (λ bytes. size ≡ length bytes)) }
         ensures quiet { OnOk result ((Self.scene self.new).folder_faults ≡ (Self.scene self.old).folder_faults) }
         ensures told { IsTrue (Self.tells).folder → IsTold Measured (name.now ∷ []) result (Self.scene self.old) (Self.scene self.new) }
         ensures kept { OnlyReads Self.tells Self.scene valid stays (IsErr result) self.old self.new };
@@ -84,7 +85,8 @@ pub trait Desk: World {
     fn read_at(&mut self, name: &str, at: u64, into: &mut [u8]) -> Result<(), Failed>
         requires valid { valid self.old }
         requires apart { reads self.old name.now → ⊥ }
-        requires there { IsTrue (Self.tells).folder → IsSomeAnd (content_of (Self.scene self.old) name.now) (λ bytes. at + length into.old ≤ length bytes) }
+        requires there { IsTrue (Self.tells).folder →
+            IsSomeAnd (content_of (Self.scene self.old) name.now) (λ bytes. at + length into.old ≤ length bytes) }
         ensures value { OnOk result (IsTrue (Self.tells).folder → IfSome (content_of (Self.scene self.old) name.now) (λ bytes.
             into.new ≡ take (length into.old) (drop at bytes))) }
         ensures quiet { OnOk result ((Self.scene self.new).folder_faults ≡ (Self.scene self.old).folder_faults) }

@@ -247,7 +247,8 @@ pub fn write_out<D: Desk>(
 
     // A file that is there, with a backup, whose old bytes are said to stand nowhere: the look whether it is there is the only call,
     // and failed.
-    ensures unseen { IsTrue (D.tells).folder → IsSome (content_of (D.scene desk.old) names.now.file) → backs_up options.now ≡ true → OldIn Place.Nowhere result
+    ensures unseen { IsTrue (D.tells).folder → IsSome (content_of (D.scene desk.old) names.now.file) → backs_up options.now ≡ true →
+        OldIn Place.Nowhere result
         → IsTold Looked (names.now.file ∷ []) result (D.scene desk.old) (D.scene desk.new) }
 
     // A file that is there, without a backup.

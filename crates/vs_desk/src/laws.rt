@@ -11,7 +11,8 @@ ghost use Rattle.vs_desk.specs.Still.{IsStill};
 /// The swap files of a text that fits are still; so is each set of names where no change of a name is pending. Calls that leave
 /// the names of a set leave them still. In a folder no other name leads to a file of names that are still.
 pub fn still_names()
-    ensures fits { (paged : PagedText) (disk : Disk) (text : Text) (syncs : List Sync) → Fits paged disk text syncs → IsStill (is_swap (names_of paged)) disk }
+    ensures fits { (paged : PagedText) (disk : Disk) (text : Text) (syncs : List Sync) → Fits paged disk text syncs →
+        IsStill (is_swap (names_of paged)) disk }
     ensures settled { (inside : Name → Bool) (disk : Disk) → disk.pending ≡ [] → IsStill inside disk }
     ensures lasts { (inside : Name → Bool) (old new : Disk) → SameAt inside old new → IsStill inside old → IsStill inside new }
     ensures apart { (inside : Name → Bool) (disk : Disk) → IsFolder disk → IsStill inside disk → IsApart inside disk }

@@ -47,7 +47,8 @@ fn write_in<F: Folder>(
         → FailsNoEarlier names.now.file (file_of text) (F.scene host.old) (F.scene host.new) result }
     ensures unseen { IsTrue F.tells.folder → IsSome (content_of (F.scene host.old) names.now.file) → backs_up options.now ≡ true → OldIn Nowhere result
         → IsTold Looked (names.now.file ∷ []) result (F.scene host.old) (F.scene host.new) }
-    ensures others { IsTrue F.tells.folder → SparesOthers (WorksOn options.now names.now.file (F.scene host.old).folder) (F.scene host.old) (F.scene host.new) }
+    ensures others { IsTrue F.tells.folder →
+        SparesOthers (WorksOn options.now names.now.file (F.scene host.old).folder) (F.scene host.old) (F.scene host.new) }
     ensures same { SamePages F.tells.folder pages.old pages.new tree.old tree.new }
     ensures above { IsTrue F.tells.folder → NoneAbove (F.scene host.old) (F.scene host.new) }
     ensures frame { ChangesFolder (F.scene host.old) (F.scene host.new) }

@@ -21,7 +21,8 @@ pub record AreSound (texts : Texts) : Type 0 where
 
 -- what a store shows that counts these faults over another and does not tell its texts
 abbrev pub untold : ℕ → StoreState → StoreState
-untold faults below = record { present = record below.present { Is = λ text. ⊥ }; committed = record below.committed { Is = λ text. ⊥ }; faults = faults + below.faults }
+untold faults below = record
+    { present = record below.present { Is = λ text. ⊥ }; committed = record below.committed { Is = λ text. ⊥ }; faults = faults + below.faults }
 
 -- a text that is told
 abbrev pub told : List (List ℕ) → TextState

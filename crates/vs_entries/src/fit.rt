@@ -17,7 +17,8 @@ use vs_text::MAX_LINES;
 fn bytes_at<S: LineStore>(alloc: Global, store: &mut S, top: u64, old: u64) -> Result<u64, StoreErr>
     requires valid { S.valid store.old }
     requires within { top + old ≤ max 1 (S.shows store.old).present.lines }
-    ensures bytes { IfOk result (λ bytes. (text : List (List ℕ)) → (S.shows store.old).present.Is text → bytes ≡ bytes_of (cut_out (filled text) top old)) }
+    ensures bytes { IfOk result (λ bytes. (text : List (List ℕ)) → (S.shows store.old).present.Is text →
+        bytes ≡ bytes_of (cut_out (filled text) top old)) }
     ensures kept { OnlyReads S.LineStore store.old store.new }
     ensures cause { HasCause (S.shows store.old).faults (S.shows store.new).faults (IsErrOf result StoreErr.Failed) }
 {
@@ -35,7 +36,8 @@ pub fn fits<S: LineStore>(alloc: Global, store: &mut S, entry: &Entry) -> Result
     requires { S.valid store.old }
     ensures range { IfOk result (λ yes. IsTrue yes → Fits entry.now (max 1 (S.shows store.old).present.lines)) }
     ensures allowed { IfOk result (λ yes. IsTrue yes → AllowsEntry (S.shows store.old).present entry.now) }
-    ensures refused { IfOk result (λ yes. ¬ (IsTrue yes) → (text to : List (List ℕ)) → (S.shows store.old).present.Is text → Leads entry.now text to → ⊥) }
+    ensures refused { IfOk result (λ yes. ¬ (IsTrue yes) → (text to : List (List ℕ)) → (S.shows store.old).present.Is text →
+        Leads entry.now text to → ⊥) }
     ensures kept { OnlyReads S.LineStore store.old store.new }
     ensures cause { HasCause (S.shows store.old).faults (S.shows store.new).faults (IsErrOf result StoreErr.Failed) }
 {
@@ -81,12 +83,18 @@ pub fn try_apply<S: LineStore>(
     entry: &Entry,
 ) -> Result<Option<Entry>, StoreErr>
     requires { S.valid store.old }
-    ensures text { IfOk result (λ o. IfSome o (λ back. (text : List (List ℕ)) → (S.shows store.old).present.Is text → (S.shows store.new).present.Is (applied entry.now text))) }
-    ensures leads { IfOk result (λ o. IfSome o (λ back. (text : List (List ℕ)) → (S.shows store.old).present.Is text → Leads entry.now text (applied entry.now text))) }
-    ensures counts { IfOk result (λ o. IfSome o (λ back. LeadsCount entry.now (max 1 (S.shows store.old).present.lines) (max 1 (S.shows store.new).present.lines))) }
-    ensures back { IfOk result (λ o. IfSome o (λ back. (text : List (List ℕ)) → (S.shows store.old).present.Is text → back ≡ led_back entry.now text)) }
-    ensures back_leads { IfOk result (λ o. IfSome o (λ back. (text : List (List ℕ)) → (S.shows store.old).present.Is text → Leads back (applied entry.now text) text)) }
-    ensures back_counts { IfOk result (λ o. IfSome o (λ back. LeadsCount back (max 1 (S.shows store.new).present.lines) (max 1 (S.shows store.old).present.lines))) }
+    ensures text { IfOk result (λ o. IfSome o (λ back. (text : List (List ℕ)) → (S.shows store.old).present.Is text →
+        (S.shows store.new).present.Is (applied entry.now text))) }
+    ensures leads { IfOk result (λ o. IfSome o (λ back. (text : List (List ℕ)) → (S.shows store.old).present.Is text →
+        Leads entry.now text (applied entry.now text))) }
+    ensures counts { IfOk result
+        (λ o. IfSome o (λ back. LeadsCount entry.now (max 1 (S.shows store.old).present.lines) (max 1 (S.shows store.new).present.lines))) }
+    ensures back { IfOk result (λ o. IfSome o (λ back. (text : List (List ℕ)) → (S.shows store.old).present.Is text →
+        back ≡ led_back entry.now text)) }
+    ensures back_leads { IfOk result (λ o. IfSome o (λ back. (text : List (List ℕ)) → (S.shows store.old).present.Is text →
+        Leads back (applied entry.now text) text)) }
+    ensures back_counts { IfOk result
+        (λ o. IfSome o (λ back. LeadsCount back (max 1 (S.shows store.new).present.lines) (max 1 (S.shows store.old).present.lines))) }
     ensures refused { IfOk result (λ o. IfNone o ((text to : List (List ℕ)) → (S.shows store.old).present.Is text → Leads entry.now text to → ⊥)) }
     ensures unchanged { IfOk result (λ o. IfNone o (OnlyReads S.LineStore store.old store.new)) }
     ensures valid { OnOk result (S.valid store.new) }

@@ -68,7 +68,8 @@ pub fn entry_of_splice<S: LineStore>(
     requires within { top + old ≤ (S.shows store.old).present.lines }
     requires few_lines { (S.shows store.old).present.lines + new_len ≤ MAX_LINES + old }
     ensures entry { IfOk result (λ entry. (text : List (List ℕ)) → (S.shows store.old).present.Is text → entry ≡ splice_back text top old new_len) }
-    ensures count { IfOk result (λ entry. LeadsCount entry (max 1 ((S.shows store.old).present.lines + new_len - old)) (max 1 (S.shows store.old).present.lines)) }
+    ensures count { IfOk result
+        (λ entry. LeadsCount entry (max 1 ((S.shows store.old).present.lines + new_len - old)) (max 1 (S.shows store.old).present.lines)) }
     ensures in_range { ¬ (IsErrOf result EditErr.OutOfRange) }
     ensures kept { OnlyReads S.LineStore store.old store.new }
     ensures cause { HasCause (S.shows store.old).faults (S.shows store.new).faults (IsErrOf result EditErr.Failed) }

@@ -23,7 +23,8 @@ addresses_of range (Some n) = addresses_in range + 1
 -- A blank stands between a line and the rest of the next one, but where either is empty, the line ends in a blank or the rest begins with `)`.
 abbrev pub joint : List ℕ → List ℕ → List ℕ
 joint left rest =
-    if (is_empty left || is_empty rest) || ((ends_with nat_eq left (codes " ") || ends_with nat_eq left (codes "\t")) || begins (codes ")") rest) then [] else codes " "
+    if (is_empty left || is_empty rest) ||
+    ((ends_with nat_eq left (codes " ") || ends_with nat_eq left (codes "\t")) || begins (codes ")") rest) then [] else codes " "
 
 -- a line with the next one after it. Without `!` the leading blanks of the next line go.
 abbrev pub joined_two : Bool → List ℕ → List ℕ → List ℕ

@@ -1,7 +1,8 @@
 -- The meaning of the commands of the text: what each does with its block, a text and a cursor.
 use Rattle.std.specs.Prelude.{ℕ, Bool, true, false, ◌-◌, List, length, None, Result, Ok}
 use Rattle.vs_exparse.specs.Command.{Command}
-use Rattle.vs_exparse.specs.Command.Command.{Append, Insert, Change, Delete, Move, CopyTo, T, Join, Substitute, Print, Number, Equals, Undo, Redo, Earlier, Later, UndoList, Write, Preserve, Quit, Set, WriteUndo, ReadUndo, Global}
+use Rattle.vs_exparse.specs.Command.Command.{Append, Insert, Change, Delete, Move, CopyTo, T, Join, Substitute, Print, Number, Equals, Undo, Redo, Earlier}
+use Rattle.vs_exparse.specs.Command.Command.{Later, UndoList, Write, Preserve, Quit, Set, WriteUndo, ReadUndo, Global}
 use Rattle.vs_exparse.specs.Nested.{nested_meaning}
 use Rattle.vs_exparse.specs.declared.command.ExErr.{ExErr}
 use Rattle.vs_excmd.specs.declared.place.Place.{Place}

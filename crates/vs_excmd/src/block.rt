@@ -48,7 +48,8 @@ pub(crate) fn put_block(
 ) -> Result<Plan, PlanErr>
     requires within { top + old ≤ lines }
     requires few { lines ≤ MAX_LINES }
-    ensures leads { (text kept : List (List ℕ)) → length text ≡ lines → StandsFor block.now kept → Leads text (Ok (exchanged lines top old kept)) result }
+    ensures leads { (text kept : List (List ℕ)) → length text ≡ lines → StandsFor block.now kept →
+        Leads text (Ok (exchanged lines top old kept)) result }
     ensures lies { IfOk result (λ plan. LiesIn lines plan) }
     ensures late { IfErr result IsLate }
     ensures never_failed { ¬ IsErrOf result PlanErr.Failed }

@@ -50,7 +50,8 @@ fn fits<S: LineStore>(
 ) -> Result<bool, StoreErr>
     requires valid { S.valid view.old }
     requires within { top + old ≤ (S.shows view.old).present.lines }
-    ensures value { IfOk result (λ fits. (text : List (List ℕ)) → (S.shows view.old).present.Is text → fits ≡ is_within (splice text top old new.now)) }
+    ensures value { IfOk result (λ fits. (text : List (List ℕ)) → (S.shows view.old).present.Is text →
+        fits ≡ is_within (splice text top old new.now)) }
     ensures few { IfOk result (λ fits. IsTrue fits → (S.shows view.old).present.lines + length new.now ≤ MAX_LINES + old) }
     ensures kept { OnlyReads S.LineStore view.old view.new }
     ensures cause { HasCause (S.shows view.old).faults (S.shows view.new).faults (IsErrOf result StoreErr.Failed) }

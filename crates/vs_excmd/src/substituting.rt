@@ -191,7 +191,8 @@ fn refusal(long: bool) -> ExErr
 // The plan of lines that were rewritten.
 fn rewritten_plan(top: u64, state: Rewriting) -> Plan
     requires few { top + state.before + length state.lines.items < 2 ^ 32 }
-    ensures value { (hits : List ℕ → Bool) (f : List ℕ → List ℕ) (lines : List (List ℕ)) → IsRewriting hits f lines state.before state.lines.items state.kept
+    ensures value { (hits : List ℕ → Bool) (f : List ℕ → List ℕ) (lines : List (List ℕ)) →
+        IsRewriting hits f lines state.before state.lines.items state.kept
         → effect_of result ≡ Some (rewritten hits f top lines) }
     ensures lies { LiesIn (top + state.before + length state.lines.items) result }
 {

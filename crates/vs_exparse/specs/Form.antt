@@ -2,7 +2,8 @@
 use Rattle.std.specs.Prelude.{◌≤◌, IsTrue, ⊤}
 use Rattle.vs_exparse.specs.Argument.{max_levels}
 use Rattle.vs_exparse.specs.Command.{Command, HasCount}
-use Rattle.vs_exparse.specs.Command.Command.{Append, Insert, Change, Delete, Move, CopyTo, T, Join, Substitute, Print, Number, Equals, Undo, Redo, Earlier, Later, UndoList, Write, Preserve, Quit, Set, WriteUndo, ReadUndo, Global}
+use Rattle.vs_exparse.specs.Command.Command.{Append, Insert, Change, Delete, Move, CopyTo, T, Join, Substitute, Print, Number, Equals, Undo, Redo, Earlier}
+use Rattle.vs_exparse.specs.Command.Command.{Later, UndoList, Write, Preserve, Quit, Set, WriteUndo, ReadUndo, Global}
 use Rattle.vs_exparse.specs.Nested.{IsNestedLine}
 use Rattle.vs_exparse.specs.Pieces.{is_pattern, is_replacement}
 use Rattle.vs_exparse.specs.declared.command.Setting.{Setting}

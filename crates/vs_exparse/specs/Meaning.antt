@@ -1,5 +1,6 @@
 -- What a command line means: no command, a command, or the first error of its order.
-use Rattle.std.specs.Prelude.{ℕ, Bool, true, false, ◌≡◌, ◌&&◌, ◌||◌, not, if◌then◌else◌, nat_lt, List, ◌∷◌, ◌++◌, length, codes, Option, Some, None, is_none, Result, Ok, Err, IsTrue}
+use Rattle.std.specs.Prelude.{ℕ, Bool, true, false, ◌≡◌, ◌&&◌, ◌||◌, not, if◌then◌else◌, nat_lt, List, ◌∷◌, ◌++◌, length, codes, Option, Some, None}
+use Rattle.std.specs.Prelude.{is_none, Result, Ok, Err, IsTrue}
 use Rattle.vs_exparse.specs.Bytes.{max_line_bytes, begins, is_empty}
 use Rattle.vs_exparse.specs.Errors.{first_error, refused_or}
 use Rattle.vs_exparse.specs.Names.{rule_of}

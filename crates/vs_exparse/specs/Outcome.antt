@@ -1,8 +1,10 @@
 -- What each command takes as its argument.
 use Rattle.std.specs.Prelude.{ℕ, Bool, true, List, [], ◌∷◌, Option, Some, None, option_map}
-use Rattle.vs_exparse.specs.Argument.{no_argument_errors, number_in, count_errors, change_errors, destination_of, destination_errors, in_writes, steps_of, steps_errors, pattern_of, replacement_of, replaces_all, substitute_errors, setting_of, set_errors}
+use Rattle.vs_exparse.specs.Argument.{no_argument_errors, number_in, count_errors, change_errors, destination_of, destination_errors, in_writes, steps_of}
+use Rattle.vs_exparse.specs.Argument.{steps_errors, pattern_of, replacement_of, replaces_all, substitute_errors, setting_of, set_errors}
 use Rattle.vs_exparse.specs.Command.{Command}
-use Rattle.vs_exparse.specs.Command.Command.{Append, Insert, Change, Delete, Move, CopyTo, T, Join, Substitute, Print, Number, Equals, Undo, Redo, Earlier, Later, UndoList, Write, Preserve, Quit, Set, WriteUndo, ReadUndo}
+use Rattle.vs_exparse.specs.Command.Command.{Append, Insert, Change, Delete, Move, CopyTo, T, Join, Substitute, Print, Number, Equals, Undo, Redo, Earlier}
+use Rattle.vs_exparse.specs.Command.Command.{Later, UndoList, Write, Preserve, Quit, Set, WriteUndo, ReadUndo}
 use Rattle.vs_exparse.specs.declared.command.Address.{Address}
 use Rattle.vs_exparse.specs.declared.command.Range.{Range}
 use Rattle.vs_exparse.specs.declared.command.ExErr.{ExErr}

@@ -1,5 +1,6 @@
 -- Addresses and ranges, as they stand at the front of a line.
-use Rattle.std.specs.Prelude.{◌≡◌, ◌<◌, ◌≤ℤ◌, length, ℕ, ℤ, pos, neg_ℤ, ◌+ℤ◌, Bool, true, false, ◌==◌, ◌&&◌, if◌then◌else◌, List, [], ◌∷◌, drop, codes, Option, Some, None, is_none, unwrap_or}
+use Rattle.std.specs.Prelude.{◌≡◌, ◌<◌, ◌≤ℤ◌, length, ℕ, ℤ, pos, neg_ℤ, ◌+ℤ◌, Bool, true, false, ◌==◌, ◌&&◌, if◌then◌else◌, List, [], ◌∷◌, drop, codes}
+use Rattle.std.specs.Prelude.{Option, Some, None, is_none, unwrap_or}
 use Rattle.vs_exparse.specs.Bytes.{max_number, is_digit, is_blank, plus, is_sign, run, skip, begins_with, begins, is_empty, number_of}
 use Rattle.vs_exparse.specs.declared.command.Base.{Base}
 use Rattle.vs_exparse.specs.declared.command.Base.TheVariants.{Current, Last, Number}

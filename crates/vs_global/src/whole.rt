@@ -23,7 +23,8 @@ pub(crate) fn whole_plan<S: LineStore>(
     requires valid { S.valid view.old }
     requires few { lines ≤ MAX_LINES }
     requires within { StaysWithin run.made lines (S.shows view.old).present.lines }
-    ensures value { IfOk result (λ plan. (start now : List (List ℕ)) → (S.shows view.old).present.Is now → lines ≡ length start → Covers run.made start now
+    ensures value { IfOk result (λ plan. (start now : List (List ℕ)) → (S.shows view.old).present.Is now → lines ≡ length start →
+        Covers run.made start now
         → effect_of plan ≡ whole_by start now run.cursor run.made) }
     ensures allowed { IfOk result (AllowsFrom S.LineStore view.old lines run.made) }
     ensures kept { OnlyReads S.LineStore view.old view.new }

@@ -48,7 +48,8 @@ pub trait Out: World {
     /// Writes the whole piece. Where that fails, some first part of it was written.
     fn write(&mut self, piece: &[u8]) -> Result<(), Failed>
         ensures ok { OnOk result (IsTrue (Self.tells).output → (Self.scene self.new).output ≡ (Self.scene self.old).output ++ piece.now) }
-        ensures err { OnErr result (IsTrue (Self.tells).output → (n : ℕ) × ((Self.scene self.new).output ≡ (Self.scene self.old).output ++ take n piece.now)) }
+        ensures err { OnErr result (IsTrue (Self.tells).output → (n : ℕ) ×
+            ((Self.scene self.new).output ≡ (Self.scene self.old).output ++ take n piece.now)) }
         ensures cause { HasCause (Self.scene self.old).out_faults (Self.scene self.new).out_faults (IsErr result) }
         ensures quiet { OnOk result ((Self.scene self.new).out_faults ≡ (Self.scene self.old).out_faults) }
         ensures told { IsTrue (Self.tells).folder → IsTold WroteOutput [] result (Self.scene self.old) (Self.scene self.new) }
@@ -106,7 +107,8 @@ pub trait Folder: World {
     /// The number of bytes of the file.
     fn len(&mut self, name: &str) -> Result<u64, Failed>
         requires { IsTrue (Self.tells).folder → IsSome (content_of (Self.scene self.old) name.now) }
-        ensures value { IfOk result (λ size. IsTrue (Self.tells).folder → IfSome (content_of (Self.scene self.old) name.now) (λ bytes. size ≡ length bytes)) }
+        ensures value { IfOk result (λ size. IsTrue (Self.tells).folder →
+            IfSome (content_of (Self.scene self.old) name.now) (λ bytes. size ≡ length bytes)) }
         ensures cause { HasCause (Self.scene self.old).folder_faults (Self.scene self.new).folder_faults (IsErr result) }
         ensures quiet { OnOk result ((Self.scene self.new).folder_faults ≡ (Self.scene self.old).folder_faults) }
         ensures told { IsTrue (Self.tells).folder → IsTold Measured (name.now ∷ []) result (Self.scene self.old) (Self.scene self.new) }
@@ -128,8 +130,10 @@ pub trait Folder: World {
     /// and the file any length from the old one to the one asked for.
     fn write_at(&mut self, name: &str, at: u64, piece: &[u8]) -> Result<(), Failed>
         requires { IsTrue (Self.tells).folder → IsSomeAnd (content_of (Self.scene self.old) name.now) (λ bytes. at ≤ length bytes) }
-        ensures ok { OnOk result (IsTrue (Self.tells).folder → ChangesFile name.now (Writes at piece.now) (Self.scene self.old).folder (Self.scene self.new).folder) }
-        ensures some { IsTrue (Self.tells).folder → ChangesFile name.now (WritesSome at (length piece.now)) (Self.scene self.old).folder (Self.scene self.new).folder }
+        ensures ok { OnOk result (IsTrue (Self.tells).folder →
+            ChangesFile name.now (Writes at piece.now) (Self.scene self.old).folder (Self.scene self.new).folder) }
+        ensures some { IsTrue (Self.tells).folder →
+            ChangesFile name.now (WritesSome at (length piece.now)) (Self.scene self.old).folder (Self.scene self.new).folder }
         ensures cause { HasCause (Self.scene self.old).folder_faults (Self.scene self.new).folder_faults (IsErr result) }
         ensures quiet { OnOk result ((Self.scene self.new).folder_faults ≡ (Self.scene self.old).folder_faults) }
         ensures told { IsTrue (Self.tells).folder → IsTold Wrote (name.now ∷ []) result (Self.scene self.old) (Self.scene self.new) }
@@ -162,7 +166,8 @@ pub trait Folder: World {
     fn rename(&mut self, from: &str, to: &str) -> Result<(), Failed>
         requires there { IsTrue (Self.tells).folder → IsSome (content_of (Self.scene self.old) from.now) }
         requires differ { IsTrue (Self.tells).folder → from.now ≢ to.now }
-        ensures ok { OnOk result (IsTrue (Self.tells).folder → ChangesNames (Renames from.now to.now) (Self.scene self.old).folder (Self.scene self.new).folder) }
+        ensures ok { OnOk result (IsTrue (Self.tells).folder →
+            ChangesNames (Renames from.now to.now) (Self.scene self.old).folder (Self.scene self.new).folder) }
         ensures err { OnErr result ((Self.scene self.new).folder ≡ (Self.scene self.old).folder) }
         ensures cause { HasCause (Self.scene self.old).folder_faults (Self.scene self.new).folder_faults (IsErr result) }
         ensures quiet { OnOk result ((Self.scene self.new).folder_faults ≡ (Self.scene self.old).folder_faults) }

@@ -62,7 +62,8 @@ fn put<S: LineStore>(
 ) -> Result<(), LoadErr>
     requires { S.valid store.old }
     ensures within { OnOk result (at + old ≤ (S.shows store.old).present.lines) }
-    ensures text { OnOk result ((text : List (List ℕ)) → (S.shows store.old).present.Is text → (S.shows store.new).present.Is (splice text at old lines.now)) }
+    ensures text { OnOk result ((text : List (List ℕ)) → (S.shows store.old).present.Is text →
+        (S.shows store.new).present.Is (splice text at old lines.now)) }
     ensures valid { S.valid store.new }
 {
     if !allows_splice(store, at, old, lines) {

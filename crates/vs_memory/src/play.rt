@@ -105,7 +105,8 @@ impl MemHost {
 
     /// The bytes of a file.
     pub fn file(&self, name: &str) -> Option<&[u8]>
-        ensures { MatchOption result (content_in (folder_of self.now) name.now ≡ None) (λ bytes. content_in (folder_of self.now) name.now ≡ Some bytes.now) }
+        ensures { MatchOption result (content_in (folder_of self.now) name.now ≡ None)
+            (λ bytes. content_in (folder_of self.now) name.now ≡ Some bytes.now) }
     {
         self.folder.content(name)
     }

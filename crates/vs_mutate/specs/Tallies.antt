@@ -4,7 +4,8 @@ use Rattle.std.specs.List.{AllByRecursion}
 use Rattle.vs_ufile.specs.Decode.{Answers}
 use Rattle.vs_ufile.specs.declared.error.UfErr.{UfErr}
 use Rattle.vs_ufile.specs.declared.error.UfKind.{UfKind}
-use Rattle.vs_ufile.specs.declared.error.UfKind.TheVariants.{NotUndo, Version, Encrypted, Truncated, BadMagic, TooManyHeads, DoubleNumber, NumberZero, UnknownLink, NotATree, NoMemory}
+use Rattle.vs_ufile.specs.declared.error.UfKind.TheVariants.{NotUndo, Version, Encrypted, Truncated, BadMagic, TooManyHeads, DoubleNumber, NumberZero}
+use Rattle.vs_ufile.specs.declared.error.UfKind.TheVariants.{UnknownLink, NotATree, NoMemory}
 use Rattle.vs_ufile.specs.declared.history.FileHistory.{FileHistory}
 use Rattle.vs_mutate.specs.declared.tally.Tally.{Tally}
 

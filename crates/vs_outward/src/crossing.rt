@@ -44,9 +44,11 @@ pub(crate) fn try_all<S: LineStore>(
         × IsLed LeadsCount back (max 1 (S.shows store.new).present.lines) (max 1 (S.shows store.old).present.lines))) }
     ensures led_texts { IfOk result (λ o. IfSome o (λ back. (text : List (List ℕ)) → (S.shows store.old).present.Is text
         → (to : List (List ℕ)) × ((S.shows store.new).present.Is to × IsLed Leads entries.now text to × IsLed Leads back to text))) }
-    ensures refused { IfOk result (λ o. IfNone o ((text to : List (List ℕ)) → (S.shows store.old).present.Is text → IsLed Leads entries.now text to → ⊥)) }
+    ensures refused { IfOk result (λ o. IfNone o ((text to : List (List ℕ)) → (S.shows store.old).present.Is text → IsLed Leads entries.now text to →
+        ⊥)) }
     ensures same_counts { IfOk result (λ o. IfNone o (max 1 (S.shows store.new).present.lines ≡ max 1 (S.shows store.old).present.lines)) }
-    ensures same_texts { IfOk result (λ o. IfNone o ((text : List (List ℕ)) → (S.shows store.old).present.Is text → (S.shows store.new).present.Is text)) }
+    ensures same_texts { IfOk result (λ o. IfNone o ((text : List (List ℕ)) → (S.shows store.old).present.Is text →
+        (S.shows store.new).present.Is text)) }
     ensures goes_on { GoesOn S.LineStore store.old store.new result }
 {
     let mut back = Vec::with_capacity(alloc, entries.len())?;

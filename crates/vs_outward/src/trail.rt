@@ -36,7 +36,8 @@ fn step_out<S: LineStore>(
     ensures same { IfOk result (λ yes. ¬ (IsTrue yes) → trail.new.items ≡ trail.old.items) }
     ensures refused { IfOk result (λ yes. ¬ (IsTrue yes) → (text to : List (List ℕ)) → (S.shows store.old).present.Is text
         → IsLed Leads (entries_at nodes.now number) text to → ⊥) }
-    ensures stayed { IfOk result (λ yes. ¬ (IsTrue yes) → (text : List (List ℕ)) → (S.shows store.old).present.Is text → (S.shows store.new).present.Is text) }
+    ensures stayed { IfOk result (λ yes. ¬ (IsTrue yes) → (text : List (List ℕ)) → (S.shows store.old).present.Is text →
+        (S.shows store.new).present.Is text) }
     ensures goes_on { GoesOn S.LineStore store.old store.new result }
 {
     let Some(back) = try_all(alloc, store, entries_at(nodes, number))? else {

@@ -10,7 +10,8 @@ ghost use Rattle.vs_paged.specs.declared.paged.PagedText.{PagedText};
 /// Between two calls the last acknowledged sync stands in every image, and what is recovered is its text or that of one that was
 /// begun since.
 pub fn fitting()
-    ensures between { (paged : PagedText) (disk : Disk) (text : Text) (syncs : List Sync) → Fits paged disk text syncs → IsBetween (names_of paged) syncs disk }
+    ensures between { (paged : PagedText) (disk : Disk) (text : Text) (syncs : List Sync) → Fits paged disk text syncs →
+        IsBetween (names_of paged) syncs disk }
     ensures recovers { (paged : PagedText) (disk : Disk) (text : Text) (syncs : List Sync) → Fits paged disk text syncs
         → Recovers (names_of paged) (recoverable syncs) disk }
 {}

@@ -158,7 +158,8 @@ impl OpeningText {
     pub fn start<F: Folder>(self, host: &mut F) -> Result<PagedText, Failed>
         requires fresh { IsTrue F.tells.folder → IsFresh (names_of_file self.name) (F.scene host.old).folder }
         ensures acts { Acts F.tells (Starting (names_of_file self.name) self.text) (F.scene host.old) (F.scene host.new) }
-        ensures fits { IfOk result (λ paged. IsTrue F.tells.folder → Fits paged (F.scene host.new).folder self.text (acknowledged_sync self.text false ∷ [])) }
+        ensures fits { IfOk result (λ paged. IsTrue F.tells.folder →
+            Fits paged (F.scene host.new).folder self.text (acknowledged_sync self.text false ∷ [])) }
         ensures names { IfOk result (λ paged. names_of paged ≡ names_of_file self.name) }
         ensures ends { IfOk result (λ paged. IsTrue F.tells.folder
             → BothEnd (names_of_file self.name) (committed_of paged.pair.pages) (F.scene host.new).folder) }

@@ -69,7 +69,8 @@ pub fn places_of(alloc: Global, pages: u32, zeros: bool) -> Result<Vec<Option<Pa
 pub fn cut_pages(alloc: Global, bytes: &[u8], pages: u32) -> Result<Vec<Option<Page>>, AllocError>
     requires { length bytes.now ≡ 4096 * pages }
     ensures len { IfOk result (λ places. length places.items ≡ pages) }
-    ensures pages { IfOk result (λ places. (i : ℕ) → i < pages → bytes_of (slice_index_or places.items i None) ≡ Some (take 4096 (drop (4096 * i) bytes.now))) }
+    ensures pages { IfOk result (λ places. (i : ℕ) → i < pages →
+        bytes_of (slice_index_or places.items i None) ≡ Some (take 4096 (drop (4096 * i) bytes.now))) }
 {
     let mut places = Vec::with_capacity(alloc, pages as usize)?;
     for i in 0..pages as usize {

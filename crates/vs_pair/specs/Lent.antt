@@ -12,7 +12,8 @@ use Rattle.vs_pair.specs.Steps.{IsFresh}
 abbrev pub IsReady : SwapPair → Disk → Type 0
 IsReady pair disk = ((pair.files.generation ≡ 0) × IsFresh pair.files.names disk) ⊎ HasFit (known_of pair) disk
 
--- The swap files are as they were known, each commit that changed a page is known, and the folder was only looked at. The pages are kept in memory, so one that is told was not even asked.
+-- The swap files are as they were known, each commit that changed a page is known, and the folder was only looked at. The pages are kept in memory, so one
+-- that is told was not even asked.
 pub record KeepsFiles (tells : Tells) (pair_old pair_new : SwapPair) (old new : Scene) : Type 0 where
   pub files : pair_new.files ≡ pair_old.files
   pub since : KeepsSince pair_old.pages pair_new.pages

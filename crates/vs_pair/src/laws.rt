@@ -26,7 +26,8 @@ pub fn recovering()
     ensures text { (names : Names) (older : List Synced) (image : Image) (sync : Synced) (text : List (List ℕ))
         → IsTrue (is_allowed names.file) → IsTextOf sync text
         → Offers names older image sync → Recovered (image names.swp) (image names.swo) text }
-    ensures head { (names : Names) (sync : Synced) (c : List ℕ) → IsTrue (is_allowed names.file) → sync.generation < 2 ^ 64 → Holds (body_of names.file sync) c
+    ensures head { (names : Names) (sync : Synced) (c : List ℕ) → IsTrue (is_allowed names.file) → sync.generation < 2 ^ 64 →
+        Holds (body_of names.file sync) c
         → reading_of (take 4096 c) ≡ Ok (zero_of sync.generation sync.head) }
 {}
 
@@ -49,5 +50,6 @@ pub fn changing()
 
 /// A folder in which nothing is pending, and neither swap file is there, is fresh.
 pub fn beginning()
-    ensures { (names : Names) (disk : Disk) → disk.pending ≡ [] → content_in disk names.swp ≡ None → content_in disk names.swo ≡ None → IsFresh names disk }
+    ensures { (names : Names) (disk : Disk) → disk.pending ≡ [] → content_in disk names.swp ≡ None → content_in disk names.swo ≡ None →
+        IsFresh names disk }
 {}

@@ -120,7 +120,8 @@ pub(crate) fn write_pages<F: Folder>(
         (F.scene host.old).folder (F.scene host.new).folder) }
     ensures none { OnOk result (NoneFails F.tells (F.scene host.old) (F.scene host.new)) }
     ensures cause { HasCause (F.scene host.old).folder_faults (F.scene host.new).folder_faults (IsErr result) }
-    ensures calls { (end : ℕ) → IsEnd pages.now end → CallsAtMost F.tells (F.scene host.old) (F.scene host.new) (2 + stale_below pages.now written.now end) }
+    ensures calls { (end : ℕ) → IsEnd pages.now end →
+        CallsAtMost F.tells (F.scene host.old) (F.scene host.new) (2 + stale_below pages.now written.now end) }
 {
     host.write_at(name, 2, &first[2..])?;
     let mut run = [0; RUN_SIZE];
@@ -205,7 +206,8 @@ pub(crate) fn sync_file<F: Folder>(
         (F.scene host.old).folder (F.scene host.new).folder) }
     ensures none { OnOk result (NoneFails F.tells (F.scene host.old) (F.scene host.new)) }
     ensures cause { HasCause (F.scene host.old).folder_faults (F.scene host.new).folder_faults (IsErr result) }
-    ensures calls { (end : ℕ) → IsEnd pages.now end → CallsAtMost F.tells (F.scene host.old) (F.scene host.new) (6 + stale_below pages.now written.now end) }
+    ensures calls { (end : ℕ) → IsEnd pages.now end →
+        CallsAtMost F.tells (F.scene host.old) (F.scene host.new) (6 + stale_below pages.now written.now end) }
 {
     close_gate(host, name, gate)?;
     write_pages(host, name, first, pages, written)?;

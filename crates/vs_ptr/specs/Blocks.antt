@@ -1,5 +1,6 @@
 -- What the bytes of a pointer block say. Places are counted in bytes from 0, entries from 0.
-use Rattle.std.specs.Prelude.{◌≡◌, ℕ, ◌==◌, ◌+◌, ◌*◌, Bool, ◌&&◌, nat_le, if◌then◌else◌, is_ok, unwrap_or, ℤ, ◌+ℤ◌, List, [], length, map, drop, replicate, Option, Some, None, Result, Ok, Err}
+use Rattle.std.specs.Prelude.{◌≡◌, ℕ, ◌==◌, ◌+◌, ◌*◌, Bool, ◌&&◌, nat_le, if◌then◌else◌, is_ok, unwrap_or, ℤ, ◌+ℤ◌, List, [], length, map, drop, replicate}
+use Rattle.std.specs.Prelude.{Option, Some, None, Result, Ok, Err}
 use Rattle.std.specs.Int.{w32, w64}
 use Rattle.std.specs.Simd.{first_chunks}
 use Rattle.vs_bytes.specs.Fields.{Little, field_at, number_at, signed_at, with_signed}

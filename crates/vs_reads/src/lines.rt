@@ -23,7 +23,8 @@ pub fn push_lines<S: LineStore>(
 ) -> Result<(), StoreErr>
     requires valid { S.valid view.old }
     requires within { top + count ≤ (S.shows view.old).present.lines }
-    ensures lines { OnOk result ((text : List (List ℕ)) → (S.shows view.old).present.Is text → into.new.items ≡ into.old.items ++ cut_out text top count) }
+    ensures lines { OnOk result ((text : List (List ℕ)) → (S.shows view.old).present.Is text →
+        into.new.items ≡ into.old.items ++ cut_out text top count) }
     ensures count { OnOk result (length into.new.items ≡ length into.old.items + count) }
     ensures short { OnOk result (All IsShort into.old.items → All IsShort into.new.items) }
     ensures kept { OnlyReads S.LineStore view.old view.new }

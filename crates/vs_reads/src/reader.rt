@@ -122,7 +122,8 @@ impl LineReader {
         requires lines { HoldsLines self.old.held (rest_of self.old) }
         requires some { self.old.at < self.old.end }
         requires within { self.old.end ≤ (S.shows view.old).present.lines }
-        ensures line { OnOk result ((text : List (List ℕ)) → (S.shows view.old).present.Is text → HasCopied text self.old → into.new.items ≡ get_or text self.old.at []) }
+        ensures line { OnOk result ((text : List (List ℕ)) → (S.shows view.old).present.Is text → HasCopied text self.old →
+            into.new.items ≡ get_or text self.old.at []) }
         ensures copied { OnOk result ((text : List (List ℕ)) → (S.shows view.old).present.Is text → HasCopied text self.old → HasCopied text self.new) }
         ensures at { OnOk result (IsAt self.new (self.old.at + 1) self.old.end) }
         ensures is_line { OnOk result (IsLine into.new.items) }

@@ -71,7 +71,8 @@ fn read_head<F: Folder>(alloc: Global, host: &mut F, name: &str, len: u64) -> Re
 pub fn read_opening<F: Folder>(alloc: Global, host: &mut F, name: &str) -> Result<Opening, Fault>
     requires there { IsTrue F.tells.folder → IsSome (content_of (F.scene host.old) name.now) }
     ensures len { IfOk result (λ opening. IsThere F.tells (F.scene host.old) name.now (λ file. opening.len ≡ length file)) }
-    ensures zero { IfOk result (λ opening. (file : List ℕ) → IsFile F.tells (F.scene host.old) name.now file → opening.zero ≡ reading_of (take 4096 file)) }
+    ensures zero { IfOk result (λ opening. (file : List ℕ) → IsFile F.tells (F.scene host.old) name.now file →
+        opening.zero ≡ reading_of (take 4096 file)) }
     ensures sized { IfOk result (λ opening. IsSized opening.zero) }
     ensures reading { ReadsAtMost F.tells result Fault.Failed (F.scene host.old) (F.scene host.new) 2 }
 {

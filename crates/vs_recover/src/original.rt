@@ -200,7 +200,8 @@ impl Original {
         requires follows { IsThere F.tells (F.scene host.old) name.now (λ file. Follows self.old file) }
         ensures place { OnOk result (IsPlace self.new) }
         ensures follows { OnOk result (IsThere F.tells (F.scene host.old) name.now (λ file. Follows self.new file)) }
-        ensures shows { IfOk result (λ all. (file : List ℕ) → IsFile F.tells (F.scene host.old) name.now file → (items : List Item) → Shows shown.old items
+        ensures shows { IfOk result (λ all. (file : List ℕ) → IsFile F.tells (F.scene host.old) name.now file → (items : List Item) →
+            Shows shown.old items
             → Shows shown.new (items ++ map line_item (take count (drop self.old.line (lines_of file))))) }
         ensures all { IfOk result (λ all. (file : List ℕ) → IsFile F.tells (F.scene host.old) name.now file
             → all ≡ not (nat_lt (length (drop self.old.line (lines_of file))) count)) }

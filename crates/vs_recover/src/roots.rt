@@ -71,7 +71,8 @@ fn opened_root<F: Folder>(
 ) -> Result<Root, Fault>
     requires len { IsThere F.tells (F.scene host.old) name.now (λ file. opening.now.len ≡ length file) }
     requires zero { (file : List ℕ) → IsFile F.tells (F.scene host.old) name.now file → opening.now.zero ≡ reading_of (take 4096 file) }
-    ensures root { IfOk result (λ root. (file : List ℕ) → IsFile F.tells (F.scene host.old) name.now file → root ≡ root_in file (reading_of (take 4096 file))) }
+    ensures root { IfOk result (λ root. (file : List ℕ) → IsFile F.tells (F.scene host.old) name.now file →
+        root ≡ root_in file (reading_of (take 4096 file))) }
     ensures reading { ReadsAtMost F.tells result Fault.Failed (F.scene host.old) (F.scene host.new) 1 }
 {
     let zero = match opening.zero {

@@ -175,7 +175,8 @@ fn begin<F: Folder>(
     requires len { IsThere F.tells (F.scene host.old) swap.now (λ file. len ≡ length file) }
     requires least { 1048 ≤ size }
     requires most { size ≤ 50000 }
-    ensures none { IfOk result (λ found. IfNone found ((file : List ℕ) → IsFile F.tells (F.scene host.old) swap.now file → root_reads file size ≡ false)) }
+    ensures none { IfOk result (λ found. IfNone found ((file : List ℕ) → IsFile F.tells (F.scene host.old) swap.now file →
+        root_reads file size ≡ false)) }
     ensures root { IfOk result (λ found. IfSome found (λ walk. (file : List ℕ) → IsFile F.tells (F.scene host.old) swap.now file
         → (root_reads file size ≡ true) × (reverse walk.left.items ≡ entries_of (take size (drop size file))))) }
     ensures walk { IfOk result (λ found. IfSome found (λ walk. IsWalk walk)) }

@@ -34,7 +34,8 @@ AvoidsFiles names (BothFiles write undo) inside = Avoids names write inside × I
 -- leads, and a set that was spared since a folder in which no change of a name was pending.
 pub record KeepsOthers (names : Names) (work : FileWork) (old new : Disk) : Type 0 where
   pub apart : (inside : Name → Bool) → AreForeign names inside → AvoidsFiles names work inside → IsApart inside old → SameAt inside old new
-  pub settled : (inside : Name → Bool) (start : Disk) → AreForeign names inside → AvoidsFiles names work inside → start.pending ≡ [] → SameAt inside start old → SameAt inside start new
+  pub settled : (inside : Name → Bool) (start : Disk) → AreForeign names inside → AvoidsFiles names work inside → start.pending ≡ [] →
+      SameAt inside start old → SameAt inside start new
 
 -- What a command leaves of the names that are not of the pair: all, where it writes no other file; all on which it does not work,
 -- where it stores the undo file alone; and where it writes the edited file, those of them to whose files no other name leads.

@@ -11,7 +11,8 @@ use Rattle.vs_pair.specs.Pair.{is_foreign}
 use Rattle.vs_safety.specs.Texts.{Text, Sync, recoverable, Recovers, RecoversOrNone, NoneLeft, IsFlag, IsBetween}
 use Rattle.vs_safety.specs.Writes.{state_now}
 use Rattle.vs_safety.specs.FileWork.{FileWork, Keeps, IsWholeAt, HasLeft}
-use Rattle.vs_safety.specs.Turns.{Turn, Ran, Quits, with_sync, with_begun, after_turns, with_next, opened, replies, IsSplit, all_turns, all_written, SparesOthers, KeepsUndo, next_of, next_write, IsWholeNext}
+use Rattle.vs_safety.specs.Turns.{Turn, Ran, Quits, with_sync, with_begun, after_turns, with_next, opened, replies, IsSplit, all_turns, all_written}
+use Rattle.vs_safety.specs.Turns.{SparesOthers, KeepsUndo, next_of, next_write, IsWholeNext}
 use Rattle.vs_safety.specs.Stretches.{EachTurn, HasStretch, KeepsSince, BeginsAsAtStart}
 
 -- these bytes are the first of those
@@ -42,12 +43,14 @@ pub record IsAllowed (names : Names) (start : Disk) (moments : List Snapshot) (t
   pub whole : IsWholeNext names rest folder
 
 -- A moment of these before an accepted quit has begun.
-pub record IsKept (names : Names) (start : Scene) (moments : List Snapshot) (text : Text) (opening : List ℕ) (turns : List Turn) (moment : Snapshot) : Type 0 where
+pub record IsKept (names : Names) (start : Scene) (moments : List Snapshot) (text : Text) (opening : List ℕ) (turns : List Turn)
+    (moment : Snapshot) : Type 0 where
   -- before the opening reply is whole: neither swap file is there, or the text that was opened is recovered
   pub before : length moment.output < opened_at start opening → RecoversOrNone names (text ∷ []) moment.folder
   pub spared : length moment.output < opened_at start opening → SameAt (is_foreign names) start.folder moment.folder
   -- and from then on, an allowed text
-  pub running : opened_at start opening ≤ length moment.output → IsAllowed names start.folder moments text turns (opened_at start opening) (length moment.output) moment.folder
+  pub running : opened_at start opening ≤ length moment.output →
+      IsAllowed names start.folder moments text turns (opened_at start opening) (length moment.output) moment.folder
 
 -- A moment of these after an accepted quit has begun: all replies are whole.
 pub record IsLeft (names : Names) (start : Scene) (moments : List Snapshot) (ran : Ran) (moment : Snapshot) : Type 0 where

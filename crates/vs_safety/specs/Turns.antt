@@ -1,5 +1,6 @@
 -- What a run does, as far as safety goes: the commands that it answers, one turn each, and how it closes.
-use Rattle.std.specs.Prelude.{◌≡◌, ◌⊎◌, ℕ, ◌+◌, ◌<◌, ◌≤◌, Bool, true, false, not, ◌&&◌, is_some, IsSomeAnd, List, [], ◌∷◌, ◌++◌, length, codes, Option, Some, None, IfSome}
+use Rattle.std.specs.Prelude.{◌≡◌, ◌⊎◌, ℕ, ◌+◌, ◌<◌, ◌≤◌, Bool, true, false, not, ◌&&◌, is_some, IsSomeAnd, List, [], ◌∷◌, ◌++◌, length, codes, Option}
+use Rattle.std.specs.Prelude.{Some, None, IfSome}
 use Rattle.vs_host.specs.Disk.{Disk, Name}
 use Rattle.vs_host.specs.declared.names.Names.{Names}
 use Rattle.vs_disk.specs.Images.{MayLeave}
@@ -102,7 +103,8 @@ IsNextUndo (turn ∷ turns) left = IsUndoBy turn.write left
 -- after that.
 abbrev pub KeepsUndo : Names → Disk → List Turn → List Turn → Disk → Type 0
 KeepsUndo names start ended rest folder =
-    (left : Option (List ℕ)) → MayLeave folder names.undo left → ((NoneStored ended × MayLeave start names.undo left) ⊎ IsLastUndo ended left) ⊎ IsNextUndo rest left
+    (left : Option (List ℕ)) → MayLeave folder names.undo left → ((NoneStored ended × MayLeave start names.undo left) ⊎ IsLastUndo ended left) ⊎
+    IsNextUndo rest left
 
 -- ---- replies
 

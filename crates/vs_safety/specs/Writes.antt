@@ -89,7 +89,8 @@ state_now scene = record { folder = scene.folder; faults = scene.folder_faults }
 pub record HasWritten (names : Names) (write : Write) (done : Bool) (old new : State) : Type 0 where
   pub found : write.found ≡ old.folder
   pub written : done ≡ true → HoldsBytes names.file (new_bytes write) new.folder
-  pub kept : (bytes : List ℕ) (backup : Name) → done ≡ true → write.options.backup ≡ true → old_bytes names write ≡ Some bytes → backup_for names write ≡ Some backup
+  pub kept : (bytes : List ℕ) (backup : Name) → done ≡ true → write.options.backup ≡ true → old_bytes names write ≡ Some bytes →
+      backup_for names write ≡ Some backup
       → HoldsBytes backup bytes new.folder
   pub gone : (backup : Name) → done ≡ true → write.options.backup ≡ false → IsSome (old_bytes names write) → backup_for names write ≡ Some backup
       → (HasRisen old.faults new.faults → ⊥) → (lost : ℕ) → names_at new.folder lost backup ≡ None

@@ -59,7 +59,8 @@ pub fn ending()
 /// While no command works on files, each name but those of the pair has in every image what it had there when the last reply was
 /// whole: after a write, the bytes that it wrote.
 pub fn lasting()
-    ensures { (names : Names) (moments : List Snapshot) (n : ℕ) (folder : Disk) (first : Snapshot) (name : Name) (bytes : List ℕ) → is_foreign names name ≡ true
+    ensures { (names : Names) (moments : List Snapshot) (n : ℕ) (folder : Disk) (first : Snapshot) (name : Name) (bytes : List ℕ) →
+        is_foreign names name ≡ true
         → KeepsSince names moments n None folder → IsFirst n moments first → HoldsBytes name bytes first.folder → HoldsBytes name bytes folder }
 {}
 

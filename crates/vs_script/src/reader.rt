@@ -143,7 +143,8 @@ impl ScriptReader {
         ensures line { IfOk result (λ found. IsTrue (S.tells).script → ReadsLine found line.new self.old self.new (S.scene host.old) (S.scene host.new)) }
         ensures is_line { OnOk result (IsLine line.new) }
         ensures track { KeepsTrack S.tells result self.old self.new (S.scene host.old) (S.scene host.new) }
-        ensures stops { IfErr result (λ error. IsTrue (S.tells).script → Stops error whole_lines [] self.old self.new (S.scene host.old) (S.scene host.new)) }
+        ensures stops { IfErr result (λ error. IsTrue (S.tells).script →
+            Stops error whole_lines [] self.old self.new (S.scene host.old) (S.scene host.new)) }
         ensures end { result ≡ Ok false → IsTrue (S.tells).script → (S.scene host.new).script ≡ [] }
         ensures fewer { IfOk result (λ found. IsTrue found → bytes_left self.new < bytes_left self.old) }
         ensures left { OnOk result (bytes_left self.new ≤ bytes_left self.old) }

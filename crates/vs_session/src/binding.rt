@@ -52,7 +52,8 @@ pub(crate) fn bind_text<F: Folder>(
 ) -> Result<UndoTree, BindErr>
     requires rules { KeepsRules (history_of contents.now) }
     requires fits { paged.FitsFolder F.tells text.old (F.scene host.old).folder }
-    ensures bound { IfOk result (λ undo. IsTrue F.tells.folder → (lines : Text) (syncs : List Sync) → paged.Fits text.old (F.scene host.old).folder lines syncs
+    ensures bound { IfOk result (λ undo. IsTrue F.tells.folder → (lines : Text) (syncs : List Sync) →
+        paged.Fits text.old (F.scene host.old).folder lines syncs
         → (history : History) × IsBound (history_of contents.now) lines history × IsHistory undo lines history) }
     ensures refused { IfErr result (λ error. IsTrue F.tells.folder → (lines : Text) (syncs : List Sync)
         → paged.Fits text.old (F.scene host.old).folder lines syncs

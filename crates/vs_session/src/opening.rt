@@ -92,7 +92,8 @@ impl Session {
         ensures barred_looks { IsTrue (H.tells).folder → HasSwap (names_of_file name.now) (H.scene host.old).folder
             → OnlyLooks H.tells (H.scene host.old) (H.scene host.new) }
         ensures limit { (size : ℕ) → IsErrOf result (OpenErr.TextLimit size) → IsTooLarge H.tells size (content_of (H.scene host.old) name.now) }
-        ensures over { IsTrue (H.tells).folder → IfSome (content_of (H.scene host.old) name.now) (λ bytes. ¬ (IsWithinLimits (lines_of bytes)) → IsErr result) }
+        ensures over { IsTrue (H.tells).folder →
+            IfSome (content_of (H.scene host.old) name.now) (λ bytes. ¬ (IsWithinLimits (lines_of bytes)) → IsErr result) }
         ensures acts { Acts H.tells (Opens name.now) (H.scene host.old) (H.scene host.new) }
         ensures looks { IsErr result → ¬ (IsErrOf result OpenErr.Failed) → OnlyLooks H.tells (H.scene host.old) (H.scene host.new) }
         ensures cause { HasCause (H.scene host.old).folder_faults (H.scene host.new).folder_faults (IsErrOf result OpenErr.Failed) }

@@ -33,7 +33,8 @@ impl Session {
         requires usable { IsUsable F.tells self.old (F.scene host.old).folder }
         ensures runs { IsTrue F.tells.folder → (state : SessionState) (syncs : List Sync) → Fits self.old (F.scene host.old).folder state syncs
             → Runs (StoresUndo (names_of self.old) state.machine.text state.machine.history) (F.scene host.old) (F.scene host.new) }
-        ensures stored { OnOk result (IsTrue F.tells.folder → (state : SessionState) (syncs : List Sync) → Fits self.old (F.scene host.old).folder state syncs
+        ensures stored { OnOk result (IsTrue F.tells.folder → (state : SessionState) (syncs : List Sync) →
+            Fits self.old (F.scene host.old).folder state syncs
             → HasUndo (names_of self.old) state.machine.text state.machine.history (F.scene host.new).folder) }
         ensures fits { KeepsState F.tells self.old self.new (F.scene host.old).folder (F.scene host.new).folder }
         ensures stops { StopsAtFault F.tells (IsErrOf result StoreErr.Failed) (F.scene host.old) (F.scene host.new) }

@@ -51,7 +51,8 @@ fn load_undo<F: Folder>(alloc: Global, host: &mut F, names: &Names) -> Result<Fi
     ensures found { IfOk result (λ contents. IsTrue F.tells.folder
         → IsSomeAnd (content_of (F.scene host.old) names.now.undo) (IsUndoFile (history_of contents))) }
     ensures rules { IfOk result (λ contents. KeepsRules (history_of contents)) }
-    ensures refused { IfErr result (λ error. IsTrue F.tells.folder → (text : Text) → IsTaken text (content_of (F.scene host.old) names.now.undo) (Err error)) }
+    ensures refused { IfErr result (λ error. IsTrue F.tells.folder → (text : Text) →
+        IsTaken text (content_of (F.scene host.old) names.now.undo) (Err error)) }
     ensures reads { OnlyReads F.tells (IsErrOf result TakeErr.Failed) (F.scene host.old) (F.scene host.new) }
 {
     match load(alloc, host, names) {

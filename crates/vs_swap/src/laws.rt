@@ -19,6 +19,7 @@ pub fn recovered_once()
 
 /// A file that holds the pages of a tree of lines, as a session writes them, stands for their text, where its page 0 says so.
 pub fn pages_stand()
-    ensures { (file : List ℕ) (pages : Map) (depth generation : ℕ) (text : List (List ℕ)) → IsText text → HasLines tree_format pages depth (stored text)
+    ensures { (file : List ℕ) (pages : Map) (depth generation : ℕ) (text : List (List ℕ)) → IsText text →
+        HasLines tree_format pages depth (stored text)
         → HoldsPages pages file → IsHead file generation (length text == 0) → StandsFor file generation text }
 {}

@@ -46,7 +46,8 @@ impl Model for TextReader {
 
 // The bytes before the first line end, and those after it.
 fn ended_line(bytes: &[u8]) -> Option<(&[u8], &[u8])>
-    ensures { MatchOption result (IsLine bytes.now) (λ (line, rest). IsLine line.now × (bytes.now ≡ line.now ++ 10 ∷ rest.now) × (length rest.now < length bytes.now)) }
+    ensures { MatchOption result (IsLine bytes.now) (λ (line, rest). IsLine line.now × (bytes.now ≡ line.now ++ 10 ∷ rest.now) ×
+        (length rest.now < length bytes.now)) }
 {
     let end = memchr(b'\n', bytes)?;
     Some((&bytes[..end], &bytes[end + 1..]))
@@ -77,7 +78,8 @@ impl TextReader {
         ensures size { size_read self.new ≤ size_read self.old + length piece.now }
         ensures ok { OnOk result ((self.old.refused ≡ None) × (self.new.refused ≡ None)) }
         ensures err { IfErr result (λ error. self.new.refused ≡ Some error) }
-        ensures certain { IfErr result (λ error. (taken : List (List ℕ)) (fed : List ℕ) → HasRead self.old taken fed → IsCertain (fed ++ piece.now) error) }
+        ensures certain { IfErr result (λ error. (taken : List (List ℕ)) (fed : List ℕ) → HasRead self.old taken fed →
+            IsCertain (fed ++ piece.now) error) }
         ensures again { MatchOption self.old.refused Unit (λ error. (result ≡ Err error) × (self.new ≡ self.old)) }
     {
         if let Some(error) = self.refused {

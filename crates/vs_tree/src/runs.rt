@@ -133,11 +133,13 @@ pub fn take_lines<P: Pages>(
     requires small { root.lines < 2 ^ 61 }
     requires there { StandsTree P.Pages pages.old root }
     ensures taken { IfOk result (λ taken. TurnsTree P.Pages pages.old pages.new root taken.root (λ lines. without_lines lines at count)) }
-    ensures bytes { IfOk result (λ taken. OfTree P.Pages pages.old root (λ lines. bytes_of lines < 2 ^ 63 → taken.bytes ≡ bytes_of (run_of lines at count))) }
+    ensures bytes { IfOk result (λ taken. OfTree P.Pages pages.old root (λ lines. bytes_of lines < 2 ^ 63 →
+        taken.bytes ≡ bytes_of (run_of lines at count))) }
     ensures lines { IfOk result (λ taken. taken.root.lines + count ≡ root.lines) }
     ensures none { IfOk result (λ taken. count ≡ 0 → (taken.root ≡ root) × IsUntouched P.Pages pages.old pages.new) }
     ensures level { IfOk result (λ taken. taken.root.height ≡ root.height) }
-    ensures works { OnOk result (WorksWhere P.Pages pages.old pages.new root (root.height + 1) (λ lines. (count ≤ 1) × All FitsPage (run_of lines at count))) }
+    ensures works { OnOk result (WorksWhere P.Pages pages.old pages.new root (root.height + 1) (λ lines. (count ≤ 1) ×
+        All FitsPage (run_of lines at count))) }
     ensures kept { Continues P.Pages pages.old pages.new }
     ensures cause { HasCause (P.shows pages.old).faults (P.shows pages.new).faults (IsErrOf result PageErr.Failed) }
 {

@@ -90,7 +90,8 @@ fn clear_text<P: Pages>(alloc: Global, pages: &mut P, now: Extent) -> Result<Ext
     requires full { 0 < now.lines }
     ensures text { IfOk result (λ extent. IsTrue P.tells → HasText (P.shows pages.new).present extent []) }
     ensures lines { IfOk result (λ extent. extent.lines ≡ 0) }
-    ensures works { OnOk result (OfText P.Pages pages.old now (λ text. now.lines ≤ 1 → All FitsPage text → WorksLittle P.Pages pages.old pages.new now)) }
+    ensures works { OnOk result (OfText P.Pages pages.old now (λ text. now.lines ≤ 1 → All FitsPage text →
+        WorksLittle P.Pages pages.old pages.new now)) }
     ensures kept { Continues P.Pages pages.old pages.new }
     ensures cause { HasCause (P.shows pages.old).faults (P.shows pages.new).faults (IsErrOf result PageErr.Failed) }
 {

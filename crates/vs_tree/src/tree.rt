@@ -37,7 +37,8 @@ impl LineTree {
     pub fn new<P: Pages>(alloc: Global, pages: &mut P) -> Result<LineTree, PageErr>
         requires valid { P.valid pages.old }
         requires there { IsTrue P.tells → IsFresh (P.shows pages.old).present }
-        ensures fits { IfOk result (λ tree. Fits P.tells (P.shows pages.new).present tree.present × Fits P.tells (P.shows pages.new).committed tree.committed) }
+        ensures fits { IfOk result (λ tree. Fits P.tells (P.shows pages.new).present tree.present ×
+            Fits P.tells (P.shows pages.new).committed tree.committed) }
         ensures text { IfOk result (λ tree. IsTrue P.tells → HasText (P.shows pages.new).present tree.present []) }
         ensures empty { IfOk result (λ tree. (tree.present.lines ≡ 0) × (tree.present.bytes ≡ 0)) }
         ensures committed { IfOk result (λ tree. tree.committed ≡ tree.present) }
@@ -114,7 +115,8 @@ impl LineTree {
         requires valid { P.valid pages.old }
         requires fits { Fits P.tells (P.shows pages.old).present self.old.present }
         requires within { at + count ≤ self.old.present.lines }
-        ensures lines { OnOk result (OfText P.Pages pages.old self.old.present (λ text. into.new.items ≡ into.old.items ++ file_of (cut_out text at count))) }
+        ensures lines { OnOk result
+            (OfText P.Pages pages.old self.old.present (λ text. into.new.items ≡ into.old.items ++ file_of (cut_out text at count))) }
         ensures adds { OnOk result (AddsLines into.old.items into.new.items count) }
         ensures tree { self.new ≡ self.old }
         ensures kept { OnlyReads P.Pages pages.old pages.new }

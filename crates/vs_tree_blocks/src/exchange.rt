@@ -132,7 +132,8 @@ pub fn exchange_in_root<P: Pages>(
     requires small { top.lines + lines_below by.now < 2 ^ 63 + place.entry.lines }
     requires fields { AllByRecursion FitsFields by.now }
     requires few { length by.now ≤ 3 }
-    ensures wrote { IfOk result (λ more. OfReplaced P.Pages pages.old 1 place.index by.now (λ entries. StandsAsRoot P.Pages pages.old pages.new entries more)) }
+    ensures wrote { IfOk result
+        (λ more. OfReplaced P.Pages pages.old 1 place.index by.now (λ entries. StandsAsRoot P.Pages pages.old pages.new entries more)) }
     ensures more { IfOk result (λ more. more ≤ 1) }
     ensures level { IfOk result (λ more. length by.now ≤ 1 → more ≡ 0) }
     ensures deeper { IfOk result (λ more. OfEntries P.Pages pages.old 1 (λ entries. more ≡ levels_more (replaced entries place.index by.now))) }

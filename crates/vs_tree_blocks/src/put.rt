@@ -105,7 +105,8 @@ pub fn put_run<P: Pages>(
     requires page { IsBlock page }
     requires some { 0 < page.view.count }
     requires at { at ≤ page.view.count }
-    ensures wrote { IfOk result (λ by. Writes P.Pages pages.old pages.new block (blocks_with (page.view.text_end - 24) (page_lines page) at run.now) by.items) }
+    ensures wrote { IfOk result
+        (λ by. Writes P.Pages pages.old pages.new block (blocks_with (page.view.text_end - 24) (page_lines page) at run.now) by.items) }
     ensures works { OnOk result (space_of run.now ≤ 4072 → Touches P.Pages pages.old pages.new 3) }
     ensures kept { Continues P.Pages pages.old pages.new }
     ensures cause { HasCause (P.shows pages.old).faults (P.shows pages.new).faults (IsErrOf result PageErr.Failed) }

@@ -63,7 +63,8 @@ HasSave changes save = (change : file.Change) × Contains changes change × (cha
 pub record Means (history : file.History) (parts : Parts) : Type 0 where
   pub count : length parts.nodes ≡ length history.changes
   pub rising : IsStrictlyIncreasing (tree.numbers parts.nodes)
-  pub changes : (n : ℕ) (node : Node) → node_at parts.nodes n ≡ Some node → (change : file.Change) × Contains history.changes change × StandsFor history.changes change node
+  pub changes : (n : ℕ) (node : Node) → node_at parts.nodes n ≡ Some node → (change : file.Change) × Contains history.changes change ×
+      StandsFor history.changes change node
   pub root_child : IsLastUsed history.changes 0 parts.root_child
   pub at_head : history.current_head ≢ 0 → IsParent history.changes history.current_head parts.current
   pub at_newest : history.current_head ≡ 0 → parts.current ≡ history.newest

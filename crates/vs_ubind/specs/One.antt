@@ -10,7 +10,8 @@ use Rattle.vs_ubind.specs.Meaning.{Means}
 
 -- The histories that the data stands for at a text have the same text at each number that is kept.
 abbrev pub OneBound : Type 0
-OneBound = (contents : file.History) (text : List (List ℕ)) (one other : History) → KeepsRules contents → IsBound contents text one → IsBound contents text other → AreSame one other
+OneBound = (contents : file.History) (text : List (List ℕ)) (one other : History) → KeepsRules contents → IsBound contents text one →
+    IsBound contents text other → AreSame one other
 
 -- Bytes that are the undo file of a history at a text give that history back at this text, and no other: every number that is kept
 -- gives the text that stood there.

@@ -13,7 +13,8 @@ is_other parts state node = (node.parent == state) && not (node.number == child_
 
 -- The map has of each state the last of these changes that is such a child.
 abbrev pub AreLast : Parts → List Node → BTreeMap ℕ ℕ → Type 0
-AreLast parts nodes passed = (state none : ℕ) → unwrap_or (get nat_cmp passed state) none ≡ get_or (reverse (other_children nodes state (child_of parts state))) 0 none
+AreLast parts nodes passed = (state none : ℕ) →
+    unwrap_or (get nat_cmp passed state) none ≡ get_or (reverse (other_children nodes state (child_of parts state))) 0 none
 
 -- The map has of each state the first of these changes that is such a child.
 abbrev pub AreFirst : Parts → List Node → BTreeMap ℕ ℕ → Type 0

@@ -1,5 +1,6 @@
 -- What an undo file says of a tree (docs/FORMATS.md, "Undo file").
-use Rattle.std.specs.Prelude.{ℕ, zero, suc, ◌+◌, ◌==◌, ◌&&◌, not, if◌then◌else◌, Bool, true, false, List, [], ◌∷◌, length, get_or, map, reverse, option_map, unwrap_or}
+use Rattle.std.specs.Prelude.{ℕ, zero, suc, ◌+◌, ◌==◌, ◌&&◌, not, if◌then◌else◌, Bool, true, false, List, [], ◌∷◌, length, get_or, map, reverse, option_map}
+use Rattle.std.specs.Prelude.{unwrap_or}
 use Rattle.std.specs.List.{filter, position}
 use Rattle.vs_entries.specs.declared.entry.Entry.{Entry}
 use Rattle.vs_undo.specs.declared.parts.Node.{Node}

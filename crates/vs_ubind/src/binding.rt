@@ -115,7 +115,8 @@ pub fn bind<S: LineStore>(
         → IsBound (history_of history.now) lines own) }
     ensures same { OnOk result ((lines : List (List ℕ)) → (S.shows text.old).present.Is lines → IsOfText (history_of history.now) lines) }
     ensures count { OnOk result (history.now.lines ≡ max 1 (S.shows text.old).present.lines) }
-    ensures all_fit { IfOk result (λ tree. (lines : List (List ℕ)) → (S.shows text.old).present.Is lines → (number : ℕ) → IsMisfit tree lines number → ⊥) }
+    ensures all_fit { IfOk result (λ tree. (lines : List (List ℕ)) → (S.shows text.old).present.Is lines → (number : ℕ) →
+        IsMisfit tree lines number → ⊥) }
     ensures refused { IfErr result (λ e. (lines : List (List ℕ)) → (S.shows text.old).present.Is lines → IsRefused (history_of history.now) lines e) }
     ensures carried { IfErr result (λ e. Carries (history_of history.now) (max 1 (S.shows text.old).present.lines) e) }
     ensures present { SameText (S.shows text.old).present (S.shows text.new).present }

@@ -28,9 +28,11 @@ pub fn unbind<S: LineStore>(
 ) -> Result<FileHistory, StoreErr>
     requires { IsReady S.LineStore tree.now text.old }
     ensures digest { IfOk result (λ contents. (lines : List (List ℕ)) → (S.shows text.old).present.Is lines → contents.digest ≡ digest_of lines) }
-    ensures contents { IfOk result (λ contents. history_of contents ≡ filed contents.digest (max 1 (S.shows text.old).present.lines) (with_next save_next tree.now)) }
+    ensures contents { IfOk result
+        (λ contents. history_of contents ≡ filed contents.digest (max 1 (S.shows text.old).present.lines) (with_next save_next tree.now)) }
     ensures means { IfOk result (λ contents. Means (history_of contents) (with_next save_next tree.now)) }
-    ensures made { IfOk result (λ contents. (lines : List (List ℕ)) (history : History) → (S.shows text.old).present.Is lines → IsHistory tree.now lines history
+    ensures made { IfOk result (λ contents. (lines : List (List ℕ)) (history : History) → (S.shows text.old).present.Is lines →
+        IsHistory tree.now lines history
         → IsDataOf (history_of contents) lines (history_next save_next history)) }
     ensures formed { IfOk result (λ contents. IsWellFormed (history_of contents)) }
     ensures kept { OnlyReads S.LineStore text.old text.new }

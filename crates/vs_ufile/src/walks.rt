@@ -9,7 +9,8 @@ use std::alloc::{AllocError, Global};
 // Where twice as many steps lead.
 fn doubled(alloc: Global, far: &[usize]) -> Result<Vec<usize>, AllocError>
     requires { All (λ x. x < length far.now) far.now }
-    ensures { IfOk result (λ new. (length new.items ≡ length far.now) × ((i : ℕ) → i < length far.now → at new.items i ≡ at far.now (at far.now i))) }
+    ensures { IfOk result (λ new. (length new.items ≡ length far.now) ×
+        ((i : ℕ) → i < length far.now → at new.items i ≡ at far.now (at far.now i))) }
 {
     let mut new = Vec::new(alloc);
     'places: for at in far {

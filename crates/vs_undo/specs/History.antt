@@ -57,7 +57,8 @@ new_node entries time parts = record { number = parts.last + 1; parent = parts.c
 -- the tree with one more change, a child of the current state that is current then
 abbrev pub pushed : List Entry → ℕ → Parts → Parts
 pushed entries time parts =
-    record (with_child parts.current (parts.last + 1) (record parts { nodes = parts.nodes ++ new_node entries time parts ∷ [] })) { current = parts.last + 1; last = parts.last + 1 }
+    record (with_child parts.current (parts.last + 1) (record parts { nodes = parts.nodes ++ new_node entries time parts ∷ [] }))
+    { current = parts.last + 1; last = parts.last + 1 }
 
 -- the states, of which one is another
 abbrev pub put : {X : Type 0} → ℕ → X → (ℕ → X) → ℕ → X
@@ -79,7 +80,11 @@ next_save parts = min (parts.last_save + 1) MAX_SAVE
 abbrev pub marked : Parts → Parts
 marked parts =
     if parts.current == 0 then record parts { last_save = next_save parts }
-    else record parts { nodes = changed parts.current (with_save (next_save parts)) (map (unmarked (next_save parts)) parts.nodes); last_save = next_save parts }
+    else record parts {
+      nodes = changed parts.current (with_save (next_save parts))
+          (map (unmarked (next_save parts)) parts.nodes);
+      last_save = next_save parts;
+    }
 
 -- a tree of states and the text of each
 pub record History : Type 0 where

@@ -11,4 +11,5 @@ pub record AreSame (one other : History) : Type 0 where
 
 -- The histories that a tree with its text is have the same text at each number that is kept.
 abbrev pub OneHistory : Type 0
-OneHistory = (parts : Parts) (text : List (List ℕ)) (one other : History) → IsTree parts.nodes → IsHistory parts text one → IsHistory parts text other → AreSame one other
+OneHistory = (parts : Parts) (text : List (List ℕ)) (one other : History) → IsTree parts.nodes → IsHistory parts text one →
+    IsHistory parts text other → AreSame one other

@@ -1,5 +1,6 @@
 -- The ways of a tree of numbered states, each a list from a state up to the root, which has the number 0 and is left out.
-use Rattle.std.specs.Prelude.{ℕ, zero, suc, ◌≡◌, ◌≢◌, ◌-◌, ◌<◌, ◌≤◌, ◌==◌, ◌++◌, Bool, List, [], ◌∷◌, length, get_or, reverse, Option, Some, None, option_map, unwrap_or, IsSome, ◌⊎◌}
+use Rattle.std.specs.Prelude.{ℕ, zero, suc, ◌≡◌, ◌≢◌, ◌-◌, ◌<◌, ◌≤◌, ◌==◌, ◌++◌, Bool, List, [], ◌∷◌, length, get_or, reverse, Option, Some, None}
+use Rattle.std.specs.Prelude.{option_map, unwrap_or, IsSome, ◌⊎◌}
 use Rattle.std.specs.List.{find, list_any}
 use Rattle.vs_undo.specs.declared.parts.Node.{Node}
 

@@ -159,7 +159,8 @@ impl UndoTree {
     pub fn mark_write(&mut self) -> u64
         ensures save { result ≡ next_save self.old }
         ensures parts { self.new ≡ marked self.old }
-        ensures history { (text : List (List ℕ)) (history : History) → IsHistory self.old text history → IsHistory self.new text (history_marked history) }
+        ensures history { (text : List (List ℕ)) (history : History) → IsHistory self.old text history →
+            IsHistory self.new text (history_marked history) }
 
         // A move may follow.
         ensures counts { (lines : ℕ) → FitsCount self.old lines → FitsCount self.new lines }

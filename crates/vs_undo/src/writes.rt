@@ -149,7 +149,8 @@ pub(crate) fn earlier_write(nodes: &[Node], saves: &[u64], way: &[u64], by: u64)
     requires rising { IsStrictlyIncreasing (numbers nodes.now) }
     requires saves { AreInOrder nodes.now saves.now }
     requires some { 1 ≤ by }
-    ensures goal { MatchOption result ((earlier_save nodes.now way.now by ≡ 0) × (start way.now ≡ 0)) (λ goal. goal ≡ earlier_write nodes.now way.now by) }
+    ensures goal { MatchOption result ((earlier_save nodes.now way.now by ≡ 0) ×
+        (start way.now ≡ 0)) (λ goal. goal ≡ earlier_write nodes.now way.now by) }
     ensures moves { IfSome result (λ goal. earlier_save nodes.now way.now by ≡ 0 → start way.now ≢ 0) }
     ensures kept { IfSome result (λ goal. IsKept nodes.now goal) }
 {

@@ -1,10 +1,13 @@
 -- What block 0 says: its fields, why it does not read, and the page that a closed file has.
-use Rattle.std.specs.Prelude.{ℕ, ◌+◌, ◌%◌, ◌==◌, ◌&&◌, Bool, nat_lt, nat_le, not, if◌then◌else◌, List, [], ◌∷◌, ◌++◌, length, replicate, codes, Option, Some, None, Result, Ok, Err}
+use Rattle.std.specs.Prelude.{ℕ, ◌+◌, ◌%◌, ◌==◌, ◌&&◌, Bool, nat_lt, nat_le, not, if◌then◌else◌, List, [], ◌∷◌, ◌++◌, length, replicate, codes, Option}
+use Rattle.std.specs.Prelude.{Some, None, Result, Ok, Err}
 use Rattle.std.specs.Int.{from_bool}
 use Rattle.std.specs.List.{before_first, fold, list_any}
 use Rattle.std.specs.Option.{option_map_or}
 use Rattle.vs_bytes.specs.Fields.{Little, bytes_of, with_field}
-use Rattle.vs_zero.specs.Layout.{Field, identifier_field, version_field, page_size_field, file_name_field, flags_field, dirty_field, magic_long_field, magic_int_field, magic_short_field, magic_char_field, pair_tag_field, generation_field, pair_flags_field, byte_in, bytes_in, holds, number_in, filled}
+use Rattle.vs_zero.specs.Layout.{Field, identifier_field, version_field, page_size_field, file_name_field, flags_field, dirty_field, magic_long_field}
+use Rattle.vs_zero.specs.Layout.{magic_int_field, magic_short_field, magic_char_field, pair_tag_field, generation_field, pair_flags_field, byte_in}
+use Rattle.vs_zero.specs.Layout.{bytes_in, holds, number_in, filled}
 use Rattle.vs_zero.specs.declared.Pair.{Pair}
 use Rattle.vs_zero.specs.declared.Zero.{Zero}
 use Rattle.vs_zero.specs.declared.ZeroErr.{ZeroErr}
