@@ -8,7 +8,8 @@ use Rattle.std.proofs.lemmas.Bool.{cond-true, cond-false}
 use Rattle.vs_host.specs.File.{File, IsFileImage, Syncs}
 use Rattle.vs_host.specs.Disk.{Disk, Name, Directory, Change, Creates, Renames, Removes, changed_names, names_of, names_at, read_under, content_in, IsImageOf, ChangesFile, ChangesNames, CreatesFile, SyncsNames, IsFolder}
 use Rattle.vs_disk.specs.Images.{Holds, IsSynced, Narrows, MayLeave, Takes}
-use Rattle.vs_disk.specs.Names.{SameAt}
+use Rattle.vs_disk.specs.Names.{SameAt, Undivided}
+use Rattle.vs_disk.proofs.Hands.{Stays, stays_renamed, stays_removed, hands_file, hands_names, hands_created, hands_synced}
 use Rattle.vs_disk.proofs.Steps.{at_name, differ, itself, same_at, older_names, newest_names, settled, one_state}
 use Rattle.vs_disk.proofs.Images.{sync_narrows}
 use Rattle.vs_disk.proofs.Others.{same_none, same_then, image_same}
@@ -32,6 +33,10 @@ spares_wider on wide old new leads spares = λ inside out. spares inside (λ nam
 pub not_same : (a b : Name) → (b ≡ a → ⊥) → bytes_eq a b ≡ false
 not_same a b other = differ a b (λ same. other (sym same))
 
+is_out : (inside : Bool) → (inside ≡ true → ⊥) → inside ≡ false
+is_out false not = refl
+is_out true not = absurd (not refl)
+
 -- ---- each call
 pub spares_file : (name : Name) (step : File → File → Type 0) (old new : Disk) → IsAlone name old → ChangesFile name step old new → Spares (one_name name) old new
 spares_file name step old new alone changes = λ inside out.
@@ -41,6 +46,7 @@ spares_file name step old new alone changes = λ inside out.
       back = λ lost. (lost, λ other is. at lost other);
       files = λ lost other number is leads. changes.others number (λ there.
           alone.alone lost other (λ same. out other is same) (sym (at lost other) ∙ leads ∙ ap (λ (n : ℕ). Some n) (some_number number alone.number (sym there ∙ alone.leads))));
+      hands = λ part undivided. hands_file name step old new changes part;
     }
   where
     some_number : (a b : ℕ) → Some a ≡ Some b → a ≡ b
@@ -48,12 +54,14 @@ spares_file name step old new alone changes = λ inside out.
 
 -- a change of names that leaves those inside
 module _ (on : Name → Type 0) (change : Change) (old new : Disk) (changes : ChangesNames change old new)
-    (leaves : (names : Directory) (name : Name) → (on name → ⊥) → changed_names change names name ≡ names name) where
+    (leaves : (names : Directory) (name : Name) → (on name → ⊥) → changed_names change names name ≡ names name)
+    (stays : (inside : Name → Bool) → IsOutside on inside → (part : Name → Bool) → Undivided inside part → Stays part change) where
   pub spares_names : Spares on old new
   spares_names = λ inside out. record {
     now = λ name is. now name (out name is);
     back = back inside out;
     files = λ lost name number is leads. ap (λ (f : ℕ → File). f number) changes.files;
+    hands = λ part undivided. hands_names part change old new (stays inside out part undivided) changes;
   }
     where
       now : (name : Name) → (on name → ⊥) → names_of new name ≡ names_of old name
@@ -66,12 +74,14 @@ module _ (on : Name → Type 0) (change : Change) (old new : Disk) (changes : Ch
 pub spares_removed : (gone : Name) (old new : Disk) → ChangesNames (Removes gone) old new → Spares (one_name gone) old new
 spares_removed gone old new changes = spares_names (one_name gone) (Removes gone) old new changes
     (λ names name other. cond-false (bytes_eq gone name) None (names name) (not_same gone name other))
+    (λ inside out part undivided. stays_removed part gone)
 
 pub spares_renamed : (from to : Name) (old new : Disk) → ChangesNames (Renames from to) old new → Spares (two_names from to) old new
 spares_renamed from to old new changes = spares_names (two_names from to) (Renames from to) old new changes
     (λ names name other.
     cond-false (bytes_eq to name) (names from) (cond (bytes_eq from name) None (names name)) (not_same to name (λ e. other (inr e)))
     ∙ cond-false (bytes_eq from name) None (names name) (not_same from name (λ e. other (inl e))))
+    (λ inside out part undivided. stays_renamed part from to (undivided from to (is_out (inside from) (λ is. out from is (inl refl))) (is_out (inside to) (λ is. out to is (inr refl)))))
 
 module _ (made : Name) (old new : Disk) (creates : CreatesFile made old new) where
   left : (name : Name) → (name ≡ made → ⊥) → names_of new name ≡ names_of old name
@@ -95,6 +105,7 @@ module _ (made : Name) (old new : Disk) (creates : CreatesFile made old new) whe
     now = λ name is. left name (out name is);
     back = were inside out;
     files = λ lost name number is leads. creates.others number (λ same. not_made lost name (out name is) (leads ∙ ap (λ (n : ℕ). Some n) same));
+    hands = λ part undivided. hands_created part made old new creates;
   }
 
   pub created_leads : names_of new made ≡ Some creates.number
@@ -110,6 +121,7 @@ spares_synced on old new syncs = λ inside out. record {
   now = λ name is. settled old new syncs 0 name;
   back = λ lost. (0, λ name is. settled old new syncs lost name);
   files = λ lost name number is leads. ap (λ (f : ℕ → File). f number) syncs.files;
+  hands = λ part undivided. hands_synced part old new syncs;
 }
 
 -- ---- a file that no other name leads to

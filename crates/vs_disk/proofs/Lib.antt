@@ -1,3 +1,4 @@
+pub mod Hands
 pub mod Images
 pub mod Runs
 pub mod Quiet

@@ -5,11 +5,12 @@ use Rattle.std.proofs.lemmas.Slice.Eq.{bytes_eq-Decides}
 use Rattle.std.proofs.lemmas.Bool.{cases_Bool, cond-true, cond-false, true≢false}
 use Rattle.vs_host.specs.File.{File, IsFileImage}
 use Rattle.vs_host.specs.Disk.{Disk, Name, Directory, Change, Creates, Renames, Removes, changed_names, names_of, names_at, IsImageOf, ChangesFile, ChangesNames, CreatesFile, SyncsNames}
-use Rattle.vs_disk.specs.Names.{IsImageAt, SameAt, IsApart}
+use Rattle.vs_disk.specs.Names.{IsImageAt, SameAt, IsApart, Undivided}
 use Rattle.vs_disk.proofs.Steps.{at_name, same_at, older_names, newest_names, settled}
+use Rattle.vs_disk.proofs.Hands.{Stays, stays_renamed, stays_removed, hands_file, hands_names, hands_created, hands_synced}
 
 pub same_none : (inside : Name → Bool) (disk : Disk) → SameAt inside disk disk
-same_none inside disk = record { now = λ name is. refl; back = λ lost. (lost, λ name is. refl); files = λ lost name number is leads. refl }
+same_none inside disk = record { now = λ name is. refl; back = λ lost. (lost, λ name is. refl); files = λ lost name number is leads. refl; hands = λ part undivided apart. apart }
 
 pub same_then : (inside : Name → Bool) (old mid new : Disk) → SameAt inside old mid → SameAt inside mid new → SameAt inside old new
 same_then inside old mid new first second = record {
@@ -18,6 +19,7 @@ same_then inside old mid new first second = record {
   files = λ lost name number is leads.
       let at = second.back lost in
       second.files lost name number is leads ∙ first.files at.0 name number is (sym (at.1 name is) ∙ leads);
+  hands = λ part undivided apart. second.hands part undivided (first.hands part undivided apart);
 }
 
 pub image_same : (old new : Disk) (at_old at_new : Option ℕ) (found : Option (List ℕ)) → at_new ≡ at_old → ((number : ℕ) → at_new ≡ Some number → new.files number ≡ old.files number)
@@ -41,6 +43,7 @@ file_outside inside other step old new out apart changes =
         now = λ name is. at 0 name;
         back = λ lost. (lost, λ name is. at lost name);
         files = λ lost name number is leads. changes.others number (λ there. apart.alone lost name other number is out (sym (at lost name) ∙ leads) there);
+        hands = λ part undivided. hands_file other step old new changes part;
       },
       record { alone = λ lost name some number is not leads there. apart.alone lost name some number is not (sym (at lost name) ∙ leads) (sym (at 0 some) ∙ there) },
     )
@@ -56,6 +59,7 @@ pub record IsOutside (inside : Name → Bool) (change : Change) : Type 0 where
   pub leaves : (names : Directory) (name : Name) → inside name ≡ true → changed_names change names name ≡ names name
   pub gives : (names : Directory) (name : Name) (number : ℕ) → inside name ≡ false → changed_names change names name ≡ Some number
       → (from : Name) × (inside from ≡ false) × (names from ≡ Some number)
+  pub stays : (part : Name → Bool) → Undivided inside part → Stays part change
 
 none_some : (number : ℕ) (X : Type 0) → None ≡ Some number → X
 none_some number X e = cc
@@ -74,6 +78,7 @@ rename_outside inside from to out_from out_to = record {
           | inr stays ↦ (name, out, sym (cond-false (bytes_eq from name) None (names name) stays) ∙ rest)
         ]
   ];
+  stays = λ part undivided. stays_renamed part from to (undivided from to out_from out_to);
 }
 
 pub remove_outside : (inside : Name → Bool) (gone : Name) → inside gone ≡ false → IsOutside inside (Removes gone)
@@ -83,6 +88,7 @@ remove_outside inside gone out_gone = record {
     | inl same ↦ none_some number _ (sym (cond-true (bytes_eq gone name) None (names name) same) ∙ leads)
     | inr other ↦ (name, out, sym (cond-false (bytes_eq gone name) None (names name) other) ∙ leads)
   ];
+  stays = λ part undivided. stays_removed part gone;
 }
 
 -- a change of names outside
@@ -100,6 +106,7 @@ module _ (inside : Name → Bool) (change : Change) (old new : Disk) (out : IsOu
       now = λ name is. now_at name ∙ out.leaves (names_of old) name is;
       back = was;
       files = λ lost name number is leads. ap (λ (f : ℕ → File). f number) changes.files;
+      hands = λ part undivided. hands_names part change old new (out.stays part undivided) changes;
     },
     record {
       alone = λ lost name other number is not leads there.
@@ -140,7 +147,7 @@ module _ (inside : Name → Bool) (made : Name) (old new : Disk) (out : inside m
 
   pub create_outside : SameAt inside old new × IsApart inside new
   create_outside = (
-    record { now = left; back = were; files = λ lost name number is leads. creates.others number (not_made lost name number is leads) },
+    record { now = left; back = were; files = λ lost name number is leads. creates.others number (not_made lost name number is leads); hands = λ part undivided. hands_created part made old new creates },
     record {
       alone = λ lost name other number is not leads there.
           let at = were lost in
@@ -155,6 +162,7 @@ sync_outside inside old new apart syncs = (
     now = λ name is. settled old new syncs 0 name;
     back = λ lost. (0, λ name is. settled old new syncs lost name);
     files = λ lost name number is leads. ap (λ (f : ℕ → File). f number) syncs.files;
+    hands = λ part undivided. hands_synced part old new syncs;
   },
   record {
     alone = λ lost name other number is not leads there.

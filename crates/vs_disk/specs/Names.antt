@@ -7,16 +7,22 @@ use Rattle.vs_host.specs.Disk.{Disk, Name, Change, Creates, Renames, Removes, na
 abbrev pub IsImageAt : (Name → Bool) → Disk → (Name → Option (List ℕ)) → Type 0
 IsImageAt inside disk image = (lost : ℕ) × ((name : Name) → inside name ≡ true → IsImageOf disk (names_at disk lost name) (image name))
 
--- The names of this set are read as before, and a stop leaves under them together only what it left before.
-pub record SameAt (inside : Name → Bool) (old new : Disk) : Type 0 where
-  pub now : (name : Name) → inside name ≡ true → names_of new name ≡ names_of old name
-  pub back : (lost : ℕ) → (l : ℕ) × ((name : Name) → inside name ≡ true → names_at new lost name ≡ names_at old l name)
-  pub files : (lost : ℕ) (name : Name) (number : ℕ) → inside name ≡ true → names_at new lost name ≡ Some number → new.files number ≡ old.files number
-
 -- No name outside leads to a file to which a name inside leads, or led in a state that a stop may leave.
 pub record IsApart (inside : Name → Bool) (disk : Disk) : Type 0 where
   pub alone : (lost : ℕ) (name other : Name) (number : ℕ) → inside name ≡ true → inside other ≡ false
       → names_at disk lost name ≡ Some number → names_of disk other ≢ Some number
+
+-- The set has all names outside of `inside`, or none of them.
+abbrev pub Undivided : (Name → Bool) → (Name → Bool) → Type 0
+Undivided inside part = (a b : Name) → inside a ≡ false → inside b ≡ false → part a ≡ part b
+
+-- The names of this set are read as before, and a stop leaves under them together only what it left before. No file was handed to a
+-- name on another side of a set that does not divide the names outside.
+pub record SameAt (inside : Name → Bool) (old new : Disk) : Type 0 where
+  pub now : (name : Name) → inside name ≡ true → names_of new name ≡ names_of old name
+  pub back : (lost : ℕ) → (l : ℕ) × ((name : Name) → inside name ≡ true → names_at new lost name ≡ names_at old l name)
+  pub files : (lost : ℕ) (name : Name) (number : ℕ) → inside name ≡ true → names_at new lost name ≡ Some number → new.files number ≡ old.files number
+  pub hands : (part : Name → Bool) → Undivided inside part → IsApart part old → IsApart part new
 
 -- the name change concerns a name of the set
 abbrev pub concerns : (Name → Bool) → Change → Bool

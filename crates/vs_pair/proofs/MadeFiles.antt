@@ -6,7 +6,8 @@ use Rattle.std.proofs.lemmas.Bool.{cond-true, cond-false, true≢false, or_parts
 use Rattle.vs_host.specs.File.{File, IsFileImage, Leaves, Writes, put, synced_file}
 use Rattle.vs_host.specs.Disk.{Disk, Name, Directory, Change, Renames, Removes, Creates, ChangesFile, ChangesNames, CreatesFile, SyncsNames, changed_names, names_of, names_at, content_in}
 use Rattle.vs_disk.specs.Images.{FileHas}
-use Rattle.vs_disk.specs.Names.{SameAt, IsApart}
+use Rattle.vs_disk.specs.Names.{SameAt, IsApart, Undivided}
+use Rattle.vs_disk.proofs.Hands.{Stays, hands_names, hands_synced}
 use Rattle.vs_disk.proofs.Images.{synced_image}
 use Rattle.vs_disk.proofs.Steps.{at_name, differ, itself, newest_names, older_names, settled, file_after}
 use Rattle.vs_disk.proofs.Others.{same_none, same_then, file_outside, create_outside, rename_outside, remove_outside}
@@ -56,15 +57,21 @@ neither_not one two name is = ap (λ (b : Bool). not b) (or_parts (bytes_eq one 
 
 -- ---- what stays of other names
 
+out_too : (fewer inside : Bool) → (fewer ≡ true → inside ≡ true) → inside ≡ false → fewer ≡ false
+out_too false inside leads out = refl
+out_too true inside leads out = absurd (true≢false (sym (leads refl) ∙ out))
+
 pub same_weaker : (P Q : Name → Bool) (old new : Disk) → ((name : Name) → Q name ≡ true → P name ≡ true) → SameAt P old new → SameAt Q old new
 same_weaker P Q old new leads same = record {
   now = λ name is. same.now name (leads name is);
   back = λ lost. let at = same.back lost in (at.0, λ name is. at.1 name (leads name is));
   files = λ lost name number is. same.files lost name number (leads name is);
+  hands = λ part undivided apart. same.hands part (λ a b out_a out_b. undivided a b (out_too (Q a) (P a) (leads a) out_a) (out_too (Q b) (P b) (leads b) out_b)) apart;
 }
 
 -- a change of names that leaves the names of the set
-module _ (inside : Name → Bool) (change : Change) (leaves : (names : Directory) (name : Name) → inside name ≡ true → changed_names change names name ≡ names name) (old new : Disk) (changes : ChangesNames change old new) where
+module _ (inside : Name → Bool) (change : Change) (leaves : (names : Directory) (name : Name) → inside name ≡ true → changed_names change names name ≡ names name)
+    (stays : (part : Name → Bool) → Undivided inside part → Stays part change) (old new : Disk) (changes : ChangesNames change old new) where
   now_at : (name : Name) → inside name ≡ true → names_of new name ≡ names_of old name
   now_at name is = at_name (names_of new) (changed_names change (names_of old)) name (newest_names change old new changes.synced changes.pending) ∙ leaves (names_of old) name is
 
@@ -73,23 +80,24 @@ module _ (inside : Name → Bool) (change : Change) (leaves : (names : Directory
   was (suc l) = (l, λ name is. at_name (names_at new (suc l)) (names_at old l) name (older_names change old new changes.synced changes.pending l))
 
   pub names_same : SameAt inside old new
-  names_same = record { now = now_at; back = was; files = λ lost name number is leads_to. ap (λ (f : ℕ → File). f number) changes.files }
+  names_same = record { now = now_at; back = was; files = λ lost name number is leads_to. ap (λ (f : ℕ → File). f number) changes.files; hands = λ part undivided. hands_names part change old new (stays part undivided) changes }
 
 pub removed_same : (inside : Name → Bool) (gone : Name) (old new : Disk) → inside gone ≡ false → ChangesNames (Removes gone) old new → SameAt inside old new
-removed_same inside gone old new out changes = names_same inside (Removes gone) (remove_outside inside gone out).leaves old new changes
+removed_same inside gone old new out changes = names_same inside (Removes gone) (remove_outside inside gone out).leaves (remove_outside inside gone out).stays old new changes
 
 pub same_or : (inside : Name → Bool) (gone : Name) (old new : Disk) → inside gone ≡ false → ChangesNames (Removes gone) old new ⊎ (new ≡ old) → SameAt inside old new
 same_or inside gone old new out (inl removes) = removed_same inside gone old new out removes
 same_or inside gone old new out (inr same) = subst (λ (d : Disk). SameAt inside old d) (sym same) (same_none inside old)
 
 renamed_same : (inside : Name → Bool) (from to : Name) (old new : Disk) → inside from ≡ false → inside to ≡ false → ChangesNames (Renames from to) old new → SameAt inside old new
-renamed_same inside from to old new out_from out_to changes = names_same inside (Renames from to) (rename_outside inside from to out_from out_to).leaves old new changes
+renamed_same inside from to old new out_from out_to changes = names_same inside (Renames from to) (rename_outside inside from to out_from out_to).leaves (rename_outside inside from to out_from out_to).stays old new changes
 
 pub synced_same : (inside : Name → Bool) (old new : Disk) → SyncsNames old new → SameAt inside old new
 synced_same inside old new syncs = record {
   now = λ name is. settled old new syncs 0 name;
   back = λ lost. (0, λ name is. settled old new syncs lost name);
   files = λ lost name number is leads. ap (λ (f : ℕ → File). f number) syncs.files;
+  hands = λ part undivided. hands_synced part old new syncs;
 }
 
 pub absent_stays : (inside : Name → Bool) (name : Name) (old new : Disk) → inside name ≡ true → SameAt inside old new → IsAbsent name old → IsAbsent name new
