@@ -56,42 +56,8 @@ fn change_all<S: LineStore>(
     Ok(plan)
 }
 
-// The same of a store that is only read: what is changed stands beside it.
-fn change_held<S: LineStore>(
-    alloc: Global,
-    nested: &Command,
-    view: &mut S,
-    taken: Vec<u64>,
-    cursor: u64,
-) -> Result<Plan, PlanErr>
-    requires valid { S.valid view.old }
-    requires changes { IsTrue (changes_text (command_of nested.now)) }
-    requires form { HasForm (command_of nested.now) }
-    requires no_block { wants_block (command_of nested.now) ≡ false }
-    requires ascends { Ascends taken.items }
-    requires within { All (λ line. line < (S.shows view.old).present.lines) taken.items }
-    requires few { length taken.items ≤ (S.shows view.old).present.lines }
-    requires marked { (text : List (List ℕ)) → (S.shows view.old).present.Is text → HasMarks text taken.items }
-    ensures answers { (text : List (List ℕ)) (marks : List Bool) → (S.shows view.old).present.Is text
-        → taken.items ≡ places 0 marks → length marks ≡ length text
-        → Answers (changed_at (command_of nested.now) text cursor marks) result }
-    ensures allowed { IfOk result (λ plan. Allows (S.shows view.old).present plan) }
-    ensures kept { CanGoBack S.LineStore view.old view.new }
-    ensures cause { HasCause (S.shows view.old).faults (S.shows view.new).faults (IsErrOf result PlanErr.Failed) }
-{
-    let present = Held::over(alloc, view);
-    let mut overlay = Overlay {
-        present,
-        committed: None,
-    };
-    let mut held = GapStore {
-        below: view,
-        overlay: &mut overlay,
-    };
-    change_all(alloc, nested, &mut held, taken, cursor)
-}
-
-// The same, where splices that stand near to each other are held. Each command but `:m` makes one splice, beside the one before.
+// The same of a store that is only read, but for `:m`: each other command makes one splice, beside the one before, and what is changed
+// stands beside the store.
 fn change<S: LineStore>(
     alloc: Global,
     nested: &Command,
@@ -117,7 +83,16 @@ fn change<S: LineStore>(
     if is_move(nested) {
         return change_all(alloc, nested, view, taken, cursor);
     }
-    change_held(alloc, nested, view, taken, cursor)
+    let present = Held::over(alloc, view);
+    let mut overlay = Overlay {
+        present,
+        committed: None,
+    };
+    let mut held = GapStore {
+        below: view,
+        overlay: &mut overlay,
+    };
+    change_all(alloc, nested, &mut held, taken, cursor)
 }
 
 /// What a command of the text that takes no block does at each of the lines of a search, to the text of a store, which stays as it is,
