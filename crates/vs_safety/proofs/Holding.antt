@@ -6,7 +6,6 @@ use Rattle.vs_host.specs.Trace.{Snapshot, Each}
 use Rattle.vs_host.specs.declared.names.Names.{Names}
 use Rattle.vs_disk.specs.Images.{HoldsAt, HoldsBytes}
 use Rattle.vs_disk.specs.Names.{SameAt}
-use Rattle.vs_pair.specs.Pair.{is_foreign}
 use Rattle.vs_safety.specs.Stretches.{IsShorter, IsFirst, KeepsSince}
 
 shorter_one : (n : ℕ) (newer older : List Snapshot) (m : Snapshot) → Each (IsShorter n) (newer ++ m ∷ older) → IsShorter n m
@@ -44,8 +43,8 @@ holds_same inside name bytes old new is same holds lost =
       leaves = λ c image. was.leaves c (subst (λ (f : File). IsFileImage f c) (same.files lost name was.number is leads) image);
     }
 
-pub lasts : (names : Names) (moments : List Snapshot) (n : ℕ) (folder : Disk) (first : Snapshot) (name : Name) (bytes : List ℕ) → is_foreign names name ≡ true → KeepsSince names moments n None folder
+pub lasts : (others : Name → Bool) (names : Names) (moments : List Snapshot) (n : ℕ) (folder : Disk) (first : Snapshot) (name : Name) (bytes : List ℕ) → others name ≡ true → KeepsSince others names moments n None folder
     → IsFirst n moments first → HoldsBytes name bytes first.folder → HoldsBytes name bytes folder
-lasts names moments n folder first name bytes foreign since begins holds =
-    holds_same (is_foreign names) name bytes since.since.folder folder foreign since.keeps
+lasts others names moments n folder first name bytes foreign since begins holds =
+    holds_same others name bytes since.since.folder folder foreign since.keeps
     (subst (λ (m : Snapshot). HoldsBytes name bytes m.folder) (first_once n moments since.since first since.begins begins) holds)

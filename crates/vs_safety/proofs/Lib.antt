@@ -3,8 +3,10 @@ pub mod UndoFiles
 pub mod Splits
 pub mod Moments
 pub mod Histories
+pub mod Replies
 pub mod SoFar
 pub mod Endings
 pub mod Causes
 pub mod Works
 pub mod Holding
+pub mod Handed

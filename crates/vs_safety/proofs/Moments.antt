@@ -1,5 +1,5 @@
 -- The first part of an output, the first moment with so many bytes, and what a write of files leaves of other names.
-use Rattle.std.proofs.Common.{◌≡◌, inl, inr, ℕ, ◌+◌, ◌≤◌, List, [], ◌∷◌, ◌++◌, length, length-append, refl, sym, ◌∙◌, ap, subst, arith, append_assoc}
+use Rattle.std.proofs.Common.{◌≡◌, inl, inr, ℕ, ◌≤◌, List, [], ◌∷◌, ◌++◌, length, length-append, refl, sym, ◌∙◌, ap, subst, arith, append_assoc}
 use Rattle.std.proofs.lemmas.List.{append-nil}
 use Rattle.std.specs.Prelude.{Bool, Option, Some, None, IfSome}
 use Rattle.vs_host.specs.Disk.{Disk, Name}
@@ -7,13 +7,13 @@ use Rattle.vs_host.specs.Trace.{Snapshot, Each}
 use Rattle.vs_host.specs.declared.names.Names.{Names}
 use Rattle.vs_disk.specs.Names.{SameAt}
 use Rattle.vs_disk.proofs.Others.{same_none, same_then}
-use Rattle.vs_pair.specs.Pair.{is_foreign}
+use Rattle.vs_disk.proofs.Runs.{Each-append}
 use Rattle.vs_pair.proofs.MadeFiles.{same_weaker}
-use Rattle.vs_safety.specs.Writes.{AreForeign, IsWholeIn, State, Write}
+use Rattle.vs_safety.specs.Writes.{AreIn, IsWholeIn, State, Write}
 use Rattle.vs_safety.specs.Undo.{IsUndoIn, LeavesUndo, UndoWrite}
-use Rattle.vs_safety.specs.FileWork.{FileWork, EditedFile, UndoFile, BothFiles, Keeps, AvoidsFiles, IsFoundIn, IsWholeAt, HasLeft}
+use Rattle.vs_safety.specs.FileWork.{FileWork, EditedFile, UndoFile, BothFiles, KeepsAmong, AvoidsFiles, IsFoundIn, IsWholeAt, HasLeft}
 use Rattle.vs_safety.specs.Turns.{Turn, SparesOthers}
-use Rattle.vs_safety.specs.Stretches.{IsFirst, BeginsAsAtStart}
+use Rattle.vs_safety.specs.Stretches.{IsFirst, IsShorter, BeginsAsAtStart}
 use Rattle.vs_safety.specs.Safety.{IsFirstPart}
 use Rattle.vs_safety.proofs.Splits.{avoid_front, avoid_back}
 
@@ -43,15 +43,25 @@ first_in n all newer moments m are first = record {
   not_before = first.not_before;
 }
 
-pub opens_stays : (names : Names) (start : Disk) (moments newer : List Snapshot) (n : ℕ) → BeginsAsAtStart names start moments n → BeginsAsAtStart names start (newer ++ moments) n
-opens_stays names start moments newer n opens = record { first = opens.first; begins = first_in n (newer ++ moments) newer moments opens.first refl opens.begins; same = opens.same }
+-- before earlier moments
+pub with_older : (n : ℕ) (moments older : List Snapshot) (m : Snapshot) → Each (IsShorter n) older → IsFirst n moments m → IsFirst n (moments ++ older) m
+with_older n moments older m shorter first = record {
+  newer = first.newer;
+  older = first.older ++ older;
+  is = ap (λ (ms : List Snapshot). ms ++ older) first.is ∙ append_assoc first.newer (m ∷ first.older) older;
+  reached = first.reached;
+  not_before = Each-append (IsShorter n) first.older older first.not_before shorter;
+}
+
+pub opens_stays : (others : Name → Bool) (start : Disk) (moments newer : List Snapshot) (n : ℕ) → BeginsAsAtStart others start moments n → BeginsAsAtStart others start (newer ++ moments) n
+opens_stays others start moments newer n opens = record { first = opens.first; begins = first_in n (newer ++ moments) newer moments opens.first refl opens.begins; same = opens.same }
 
 -- a folder that is the same
-pub keeps_same : (names : Names) (write : Option FileWork) (old new : Disk) → new ≡ old → Keeps names write old new
-keeps_same names write old new same = subst (λ (d : Disk). Keeps names write old d) (sym same) (unchanged write)
+pub keeps_same : (others : Name → Bool) (names : Names) (write : Option FileWork) (old new : Disk) → new ≡ old → KeepsAmong others names write old new
+keeps_same others names write old new same = subst (λ (d : Disk). KeepsAmong others names write old d) (sym same) (unchanged write)
   where
-    unchanged : (write : Option FileWork) → Keeps names write old old
-    unchanged None = same_none (is_foreign names) old
+    unchanged : (write : Option FileWork) → KeepsAmong others names write old old
+    unchanged None = same_none others old
     unchanged (Some (EditedFile write)) = record { apart = λ inside foreign avoids apart. same_none inside old; settled = λ inside start foreign avoids settled was. was }
     unchanged (Some (UndoFile undo)) = λ inside foreign avoids. same_none inside old
     unchanged (Some (BothFiles write undo)) = record { apart = λ inside foreign avoids apart. same_none inside old; settled = λ inside start foreign avoids settled was. was }
@@ -59,17 +69,17 @@ keeps_same names write old new same = subst (λ (d : Disk). Keeps names write ol
 -- ---- a write
 
 -- what was spared goes on to be spared, but for the names on which a command writes
-keeps_on : (names : Names) (write : Option FileWork) (start old new : Disk) (inside : Name → Bool) → start.pending ≡ [] → AreForeign names inside → IfSome write (λ w. AvoidsFiles names w inside)
-    → Keeps names write old new → SameAt inside start old → SameAt inside start new
-keeps_on names None start old new inside settled foreign avoids keeps same = same_then inside start old new same (same_weaker (is_foreign names) inside old new foreign keeps)
-keeps_on names (Some (EditedFile write)) start old new inside settled foreign avoids keeps same = keeps.settled inside start foreign avoids settled same
-keeps_on names (Some (UndoFile undo)) start old new inside settled foreign avoids keeps same = same_then inside start old new same (keeps inside foreign avoids)
-keeps_on names (Some (BothFiles write undo)) start old new inside settled foreign avoids keeps same = keeps.settled inside start foreign avoids settled same
+keeps_on : (others : Name → Bool) (names : Names) (write : Option FileWork) (start old new : Disk) (inside : Name → Bool) → start.pending ≡ [] → AreIn others inside → IfSome write (λ w. AvoidsFiles names w inside)
+    → KeepsAmong others names write old new → SameAt inside start old → SameAt inside start new
+keeps_on others names None start old new inside settled foreign avoids keeps same = same_then inside start old new same (same_weaker others inside old new foreign keeps)
+keeps_on others names (Some (EditedFile write)) start old new inside settled foreign avoids keeps same = keeps.settled inside start foreign avoids settled same
+keeps_on others names (Some (UndoFile undo)) start old new inside settled foreign avoids keeps same = same_then inside start old new same (keeps inside foreign avoids)
+keeps_on others names (Some (BothFiles write undo)) start old new inside settled foreign avoids keeps same = keeps.settled inside start foreign avoids settled same
 
-pub spared_step : (names : Names) (turn : Turn) (turns : List Turn) (start old new : Disk) → start.pending ≡ [] → SparesOthers names turns start old → Keeps names turn.write old new
-    → SparesOthers names (turns ++ turn ∷ []) start new
-spared_step names turn turns start old new settled spared keeps inside foreign all =
-    keeps_on names turn.write start old new inside settled foreign (avoid_back names inside turns (turn ∷ []) all).0 keeps (spared inside foreign (avoid_front names inside turns (turn ∷ []) all))
+pub spared_step : (others : Name → Bool) (names : Names) (turn : Turn) (turns : List Turn) (start old new : Disk) → start.pending ≡ [] → SparesOthers others names turns start old → KeepsAmong others names turn.write old new
+    → SparesOthers others names (turns ++ turn ∷ []) start new
+spared_step others names turn turns start old new settled spared keeps inside foreign all =
+    keeps_on others names turn.write start old new inside settled foreign (avoid_back names inside turns (turn ∷ []) all).0 keeps (spared inside foreign (avoid_front names inside turns (turn ∷ []) all))
 
 -- as it begins, nothing has changed
 write_found : (names : Names) (write : Write) (folder : Disk) → write.found ≡ folder → IsWholeIn names write folder

@@ -33,5 +33,5 @@ module _ (names : Names) (inside : Name → Bool) where
   avoid_back [] more all = all
   avoid_back (turn ∷ turns) more all = avoid_back turns more all.1
 
-pub spared_front : (names : Names) (turns more : List Turn) (old new : Disk) → SparesOthers names turns old new → SparesOthers names (turns ++ more) old new
-spared_front names turns more old new spared inside foreign all = spared inside foreign (avoid_front names inside turns more all)
+pub spared_front : (others : Name → Bool) (names : Names) (turns more : List Turn) (old new : Disk) → SparesOthers others names turns old new → SparesOthers others names (turns ++ more) old new
+spared_front others names turns more old new spared inside foreign all = spared inside foreign (avoid_front names inside turns more all)

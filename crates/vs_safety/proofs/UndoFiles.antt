@@ -14,7 +14,7 @@ use Rattle.vs_undo.specs.History.{History}
 use Rattle.vs_safety.specs.Texts.{Text}
 use Rattle.vs_safety.specs.Writes.{State}
 use Rattle.vs_safety.specs.Undo.{HasUndo, IsUndoIn, IsUndoOf, UndoWrite}
-use Rattle.vs_safety.specs.FileWork.{FileWork, EditedFile, UndoFile, BothFiles, Keeps, IsFoundIn, IsWholeAt, HasLeft, undo_stored}
+use Rattle.vs_safety.specs.FileWork.{FileWork, EditedFile, UndoFile, BothFiles, KeepsAmong, IsFoundIn, IsWholeAt, HasLeft, undo_stored}
 use Rattle.vs_safety.specs.Turns.{Turn, IsLastUndo, IsUndoBy, KeepsUndo, NoneStored, has_stored}
 
 -- ---- one name
@@ -49,12 +49,12 @@ module _ (names : Names) where
       subst (λ (d : Disk). MayLeave d names.undo left ⊎ IsSomeAnd left (IsUndoOf undo.text undo.history)) found (whole left may)
 
   -- at a moment of it
-  pub undo_moment : (work : Option FileWork) (old new : Disk) → is_foreign names names.undo ≡ true → IfSome work (λ w. IsFoundIn w old) → Keeps names work old new → IfSome work (λ w. IsWholeAt names w new)
+  pub undo_moment : (others : Name → Bool) (work : Option FileWork) (old new : Disk) → others names.undo ≡ true → IfSome work (λ w. IsFoundIn w old) → KeepsAmong others names work old new → IfSome work (λ w. IsWholeAt names w new)
       → (left : Option (List ℕ)) → MayLeave new names.undo left → MayLeave old names.undo left ⊎ IsUndoBy work left
-  undo_moment None old new foreign found keeps whole left may = inl (leaves_same (is_foreign names) names.undo old new foreign keeps left may)
-  undo_moment (Some (EditedFile write)) old new foreign found keeps whole left may = inl (subst (λ (d : Disk). MayLeave d names.undo left) found (whole.1 left may))
-  undo_moment (Some (UndoFile undo)) old new foreign found keeps whole left may = found_in undo old new found whole left may
-  undo_moment (Some (BothFiles write undo)) old new foreign found keeps whole left may = found_in undo old new found.1 whole.1.0 left may
+  undo_moment others None old new foreign found keeps whole left may = inl (leaves_same others names.undo old new foreign keeps left may)
+  undo_moment others (Some (EditedFile write)) old new foreign found keeps whole left may = inl (subst (λ (d : Disk). MayLeave d names.undo left) found (whole.1 left may))
+  undo_moment others (Some (UndoFile undo)) old new foreign found keeps whole left may = found_in undo old new found whole left may
+  undo_moment others (Some (BothFiles write undo)) old new foreign found keeps whole left may = found_in undo old new found.1 whole.1.0 left may
 
   stored_only : (text : Text) (history : History) (new : Disk) → HasUndo names text history new → (left : Option (List ℕ)) → MayLeave new names.undo left
       → IsSomeAnd left (IsUndoOf text history)
@@ -129,8 +129,8 @@ module _ (names : Names) (start : Disk) (turn : Turn) (turns : List Turn) where
   undo_next disk keeps left may = inl (before_only left (keeps left may))
 
 -- work that spares the name
-pub undo_spared : (names : Names) (start old new : Disk) (turns : List Turn) → is_foreign names names.undo ≡ true → SameAt (is_foreign names) old new → KeepsUndo names start turns [] old → KeepsUndo names start turns [] new
-undo_spared names start old new turns foreign same keeps left may = keeps left (leaves_same (is_foreign names) names.undo old new foreign same left may)
+pub undo_spared : (others : Name → Bool) (names : Names) (start old new : Disk) (turns : List Turn) → others names.undo ≡ true → SameAt others old new → KeepsUndo names start turns [] old → KeepsUndo names start turns [] new
+undo_spared others names start old new turns foreign same keeps left may = keeps left (leaves_same others names.undo old new foreign same left may)
 
-pub undo_none : (names : Names) (start new : Disk) → is_foreign names names.undo ≡ true → SameAt (is_foreign names) start new → KeepsUndo names start [] [] new
-undo_none names start new foreign same left may = inl (inl (tt, leaves_same (is_foreign names) names.undo start new foreign same left may))
+pub undo_none : (others : Name → Bool) (names : Names) (start new : Disk) → others names.undo ≡ true → SameAt others start new → KeepsUndo names start [] [] new
+undo_none others names start new foreign same left may = inl (inl (tt, leaves_same others names.undo start new foreign same left may))

@@ -6,7 +6,7 @@ use Rattle.vs_disk.specs.Images.{HoldsBytes}
 use Rattle.vs_disk.specs.Names.{IsApart, SameAt}
 use Rattle.vs_pair.specs.Pair.{is_foreign}
 use Rattle.vs_backup.specs.Works.{IsOutside, two_names}
-use Rattle.vs_safety.specs.Writes.{Write, AreForeign, Avoids, HasWritten, IsWholeIn, State, new_bytes}
+use Rattle.vs_safety.specs.Writes.{Write, AreIn, Avoids, HasWritten, IsWholeIn, State, new_bytes}
 use Rattle.vs_safety.specs.Undo.{HasStored, IsUndoIn, LeavesUndo, UndoWrite}
 
 -- What a command writes beside the swap files: the edited file with its backup, the undo file, or both.
@@ -30,20 +30,25 @@ AvoidsFiles names (EditedFile write) inside = Avoids names write inside
 AvoidsFiles names (UndoFile undo) inside = IsOutside (two_names names.undo_new names.undo) inside
 AvoidsFiles names (BothFiles write undo) inside = Avoids names write inside × IsOutside (two_names names.undo_new names.undo) inside
 
--- The names that are not of the pair and on which the command does not work are left: a set of them to whose files no other name
--- leads, and a set that was spared since a folder in which no change of a name was pending.
-pub record KeepsOthers (names : Names) (work : FileWork) (old new : Disk) : Type 0 where
-  pub apart : (inside : Name → Bool) → AreForeign names inside → AvoidsFiles names work inside → IsApart inside old → SameAt inside old new
-  pub settled : (inside : Name → Bool) (start : Disk) → AreForeign names inside → AvoidsFiles names work inside → start.pending ≡ [] →
+-- Of these other names those on which the command does not work are left: a set of them to whose files no name outside leads, and a
+-- set that was spared since a folder in which no change of a name was pending.
+pub record KeepsOthers (others : Name → Bool) (names : Names) (work : FileWork) (old new : Disk) : Type 0 where
+  pub apart : (inside : Name → Bool) → AreIn others inside → AvoidsFiles names work inside → IsApart inside old → SameAt inside old new
+  pub settled : (inside : Name → Bool) (start : Disk) → AreIn others inside → AvoidsFiles names work inside → start.pending ≡ [] →
       SameAt inside start old → SameAt inside start new
 
--- What a command leaves of the names that are not of the pair: all, where it writes no other file; all on which it does not work,
--- where it stores the undo file alone; and where it writes the edited file, those of them to whose files no other name leads.
+-- What a command leaves of other names, none of which is of its pair: all, where it writes no other file; all on which it does not
+-- work, where it stores the undo file alone; and where it writes the edited file, those of them to whose files no other name leads.
+abbrev pub KeepsAmong : (Name → Bool) → Names → Option FileWork → Disk → Disk → Type 0
+KeepsAmong others names None old new = SameAt others old new
+KeepsAmong others names (Some (UndoFile undo)) old new =
+    (inside : Name → Bool) → AreIn others inside → AvoidsFiles names (UndoFile undo) inside → SameAt inside old new
+KeepsAmong others names (Some (EditedFile write)) old new = KeepsOthers others names (EditedFile write) old new
+KeepsAmong others names (Some (BothFiles write undo)) old new = KeepsOthers others names (BothFiles write undo) old new
+
+-- what it leaves of all names that are not of its pair
 abbrev pub Keeps : Names → Option FileWork → Disk → Disk → Type 0
-Keeps names None old new = SameAt (is_foreign names) old new
-Keeps names (Some (UndoFile undo)) old new = (inside : Name → Bool) → AreForeign names inside → AvoidsFiles names (UndoFile undo) inside → SameAt inside old new
-Keeps names (Some (EditedFile write)) old new = KeepsOthers names (EditedFile write) old new
-Keeps names (Some (BothFiles write undo)) old new = KeepsOthers names (BothFiles write undo) old new
+Keeps names = KeepsAmong (is_foreign names) names
 
 -- ---- the files
 

@@ -1,11 +1,12 @@
 -- The history of a run, as far as safety goes, and how its calls led from the scene at its start to the one at which it stands.
-use Rattle.std.specs.Prelude.{◌≡◌, ℕ, ◌+◌, ◌<◌, List, [], ◌∷◌, ◌++◌, length, None}
-use Rattle.vs_host.specs.Names.{AreNames}
+use Rattle.std.specs.Prelude.{◌≡◌, Bool, true, ℕ, ◌+◌, ◌<◌, List, [], ◌∷◌, ◌++◌, length, None}
+use Rattle.vs_host.specs.Disk.{Name}
 use Rattle.vs_host.specs.World.{Scene}
 use Rattle.vs_host.specs.declared.names.Names.{Names}
+use Rattle.vs_pair.specs.Pair.{is_foreign}
 use Rattle.vs_safety.specs.Texts.{Text, Sync, RecoversOrNone, IsBetween}
 use Rattle.vs_safety.specs.Turns.{Turn, Closing, Ran, with_sync, opened}
-use Rattle.vs_safety.specs.Safety.{Looks, Stepped, Works, Writes, opened_at}
+use Rattle.vs_safety.specs.Safety.{Looks, SteppedAmong, WorksAmong, Wrote, opened_at}
 
 -- What a run has done: it opened a file with this text and wrote this reply, and after that it answered commands, one turn each.
 pub data History : Type 0 where
@@ -49,38 +50,53 @@ ran_of history closing = record { text = opened_text history; opening = opening_
 -- ---- what led from one turn to the next
 
 -- Work that is to open the file, from a folder in which no change of a name was pending.
-pub record Begins (names : Names) (text : Text) (start now : Scene) : Type 0 where
+pub record BeginsAmong (others : Name → Bool) (names : Names) (text : Text) (start now : Scene) : Type 0 where
   pub settled : start.folder.pending ≡ []
   pub at_start : RecoversOrNone names (text ∷ []) start.folder
-  pub works : Works names None (RecoversOrNone names (text ∷ [])) start now
+  pub works : WorksAmong others names None (RecoversOrNone names (text ∷ [])) start now
 
--- The file was opened, and nothing was written.
-pub record HasBegun (names : Names) (text : Text) (start now : Scene) : Type 0 where
-  pub begins : Begins names text start now
-  pub named : AreNames names
+-- The file was opened, and nothing was written. The undo file's name is one of the others.
+pub record HasBegunAmong (others : Name → Bool) (names : Names) (text : Text) (start now : Scene) : Type 0 where
+  pub begins : BeginsAmong others names text start now
+  pub foreign : others names.undo ≡ true
   pub between : IsBetween names (opened text) now.folder
 
--- A reply was written whole. It is not empty.
+-- A reply was written whole, by any number of writes. It is not empty.
 pub record Replied (reply : List ℕ) (old new : Scene) : Type 0 where
   pub some : 0 < length reply
-  pub writes : Writes (length reply) reply old new
+  pub wrote : Wrote reply old new
 
 -- After these syncs, from where the reply before was whole: the run looked, carried out a command, and wrote its reply.
-pub record Answered (names : Names) (syncs : List Sync) (turn : Turn) (found now : Scene) : Type 0 where
+pub record Answered (others : Name → Bool) (names : Names) (syncs : List Sync) (turn : Turn) (found now : Scene) : Type 0 where
   pub asked : Scene
   pub ended : Scene
   pub looks : Looks found asked
-  pub stepped : Stepped names syncs turn asked ended
+  pub stepped : SteppedAmong others names syncs turn asked ended
   pub replied : Replied turn.reply ended now
 
 -- The calls of a run with this history led from one scene to another, where its last reply was whole: one turn after the other, each from
 -- where the one before it ended.
-abbrev pub CameTo : Names → Scene → History → Scene → Type 0
-CameTo names start (Open text opening) now = (mid : Scene) × HasBegun names text start mid × Replied opening mid now
-CameTo names start (After past turn) now = (found : Scene) × CameTo names start past found × Answered names (syncs_of past) turn found now
+abbrev pub CameTo : (Name → Bool) → Names → Scene → History → Scene → Type 0
+CameTo others names start (Open text opening) now = (mid : Scene) × HasBegunAmong others names text start mid × Replied opening mid now
+CameTo others names start (After past turn) now =
+    (found : Scene) × CameTo others names start past found × Answered others names (syncs_of past) turn found now
 
 -- The run waits for its next command: its last reply is whole, and since then it only looked.
-pub record Waits (names : Names) (start : Scene) (history : History) (now : Scene) : Type 0 where
+pub record WaitsAmong (others : Name → Bool) (names : Names) (start : Scene) (history : History) (now : Scene) : Type 0 where
   pub found : Scene
-  pub came : CameTo names start history found
+  pub came : CameTo others names start history found
   pub looks : Looks found now
+
+-- ---- a run that is alone in its folder: the other names are all that are not of its pair
+
+-- work that is to open its file
+abbrev pub Begins : Names → Text → Scene → Scene → Type 0
+Begins names = BeginsAmong (is_foreign names) names
+
+-- its file was opened, and nothing was written
+abbrev pub HasBegun : Names → Text → Scene → Scene → Type 0
+HasBegun names = HasBegunAmong (is_foreign names) names
+
+-- it waits for its next command
+abbrev pub Waits : Names → Scene → History → Scene → Type 0
+Waits names = WaitsAmong (is_foreign names) names

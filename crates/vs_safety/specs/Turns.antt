@@ -6,7 +6,7 @@ use Rattle.vs_host.specs.declared.names.Names.{Names}
 use Rattle.vs_disk.specs.Images.{MayLeave}
 use Rattle.vs_disk.specs.Names.{SameAt}
 use Rattle.vs_safety.specs.Texts.{Text, Sync, begun}
-use Rattle.vs_safety.specs.Writes.{AreForeign}
+use Rattle.vs_safety.specs.Writes.{AreIn}
 use Rattle.vs_safety.specs.Undo.{IsUndoOf}
 use Rattle.vs_safety.specs.FileWork.{FileWork, AvoidsFiles, IsWholeAt, undo_stored}
 
@@ -54,9 +54,9 @@ abbrev pub AllAvoid : Names → List Turn → (Name → Bool) → Type 0
 AllAvoid names [] inside = Unit {0}
 AllAvoid names (turn ∷ turns) inside = IfSome turn.write (λ work. AvoidsFiles names work inside) × AllAvoid names turns inside
 
--- all names are spared but those of the pair and those on which these commands write
-abbrev pub SparesOthers : Names → List Turn → Disk → Disk → Type 0
-SparesOthers names turns old new = (inside : Name → Bool) → AreForeign names inside → AllAvoid names turns inside → SameAt inside old new
+-- of these other names all are spared but those on which these commands write
+abbrev pub SparesOthers : (Name → Bool) → Names → List Turn → Disk → Disk → Type 0
+SparesOthers others names turns old new = (inside : Name → Bool) → AreIn others inside → AllAvoid names turns inside → SameAt inside old new
 
 -- the first of these commands
 abbrev pub next_of : List Turn → List Turn
@@ -136,7 +136,7 @@ pub data Closing : Type 0 where
 abbrev pub preserved_line : List ℕ
 preserved_line = codes "File preserved" ++ 10 ∷ []
 
--- what a run writes for an accepted `q` or `q!`
+-- what a run that is alone in its folder writes for an accepted `q` or `q!`
 abbrev pub quit_line : List ℕ
 quit_line = codes "quit" ++ 10 ∷ []
 
@@ -161,12 +161,12 @@ with_closing turns Quits = turns
 abbrev pub all_turns : Ran → List Turn
 all_turns ran = with_closing ran.turns ran.closing
 
--- what a run writes after the replies
-abbrev pub behind : Closing → List ℕ
-behind NotBegun = []
-behind (LastSync sync) = []
-behind Quits = quit_line
+-- what a run writes after the replies, where it writes this line for an accepted quit
+abbrev pub behind : List ℕ → Closing → List ℕ
+behind line NotBegun = []
+behind line (LastSync sync) = []
+behind line Quits = line
 
 -- all that a run writes which no failing call cuts short
-abbrev pub all_written : Ran → List ℕ
-all_written ran = (ran.opening ++ replies (all_turns ran)) ++ behind ran.closing
+abbrev pub all_written : List ℕ → Ran → List ℕ
+all_written line ran = (ran.opening ++ replies (all_turns ran)) ++ behind line ran.closing

@@ -1,6 +1,6 @@
 -- A write of the edited file: what it leaves of other names, what a stop leaves of the file and its backup while it is under way,
 -- and what it leaves in the end.
-use Rattle.std.specs.Prelude.{◌≡◌, ◌⊎◌, ℕ, Bool, true, false, ◌||◌, List, Option, Some, None, IsSome}
+use Rattle.std.specs.Prelude.{◌≡◌, ◌⊎◌, ℕ, Bool, true, false, not, ◌||◌, List, Option, Some, None, IsSome}
 use Rattle.std.specs.Str.{bytes_eq}
 use Rattle.vs_faults.specs.Faults.{HasRisen}
 use Rattle.vs_host.specs.Disk.{Disk, Name, names_of, names_at, content_in}
@@ -37,9 +37,17 @@ new_bytes write = file_of write.text
 
 -- ---- other names
 
+-- each name of the second set is in the first
+abbrev pub AreIn : (Name → Bool) → (Name → Bool) → Type 0
+AreIn others inside = (name : Name) → inside name ≡ true → others name ≡ true
+
+-- the names that are not in a set
+abbrev pub outside : (Name → Bool) → Name → Bool
+outside family name = not (family name)
+
 -- no name of the set is one of the pair
 abbrev pub AreForeign : Names → (Name → Bool) → Type 0
-AreForeign names inside = (name : Name) → inside name ≡ true → is_foreign names name ≡ true
+AreForeign names = AreIn (is_foreign names)
 
 -- the write works on no name of the set
 abbrev pub Avoids : Names → Write → (Name → Bool) → Type 0

@@ -1,18 +1,20 @@
 // Laws of a run that may stop at any moment. They do nothing: their contracts are the laws.
-ghost use Rattle.std.specs.Prelude.{◌≡◌, ◌⊎◌, ◌↔◌, ◌+◌, ◌<◌, ◌≤◌, ◌∷◌, [], ◌++◌, ℕ, List, None, length, true};
+ghost use Rattle.std.specs.Prelude.{◌≡◌, ◌⊎◌, ◌↔◌, ◌+◌, ◌<◌, ◌≤◌, ◌∷◌, [], ◌++◌, ℕ, Bool, IfSome, List, None, Option, length, true};
 ghost use Rattle.vs_faults.specs.Faults.{HasRisen};
 ghost use Rattle.vs_host.specs.Disk.{Disk, Name};
 ghost use Rattle.vs_host.specs.Trace.{Snapshot};
 ghost use Rattle.vs_host.specs.World.{LeavesTrace, Scene};
 ghost use Rattle.vs_host.specs.declared.names.Names.{Names};
 ghost use Rattle.vs_disk.specs.Images.{HoldsBytes};
+ghost use Rattle.vs_disk.specs.Names.{IsApart};
 ghost use Rattle.vs_disk.specs.Runs.{FailsLast};
-ghost use Rattle.vs_pair.specs.Pair.{is_foreign};
 ghost use Rattle.vs_safety.specs.Texts.{Text, Sync, IsOneOf, IsTextOfOne, IsNewestOf, IsBetween, NoneLeft, Recovers, RecoversOrNone, recoverable};
-ghost use Rattle.vs_safety.specs.Turns.{Turn, IsSplit, NotBegun, LastSync, Quits, last_turn, preserved_line, quit_line, replies};
+ghost use Rattle.vs_safety.specs.Writes.{AreIn, outside};
+ghost use Rattle.vs_safety.specs.FileWork.{AvoidsFiles, FileWork, KeepsAmong};
+ghost use Rattle.vs_safety.specs.Turns.{Turn, IsSplit, NotBegun, LastSync, Quits, last_turn, preserved_line, replies};
 ghost use Rattle.vs_safety.specs.Stretches.{IsFirst, KeepsSince};
-ghost use Rattle.vs_safety.specs.Safety.{IsCrashSafe, Stepped, Works, Writes};
-ghost use Rattle.vs_safety.specs.History.{History, Open, After, Begins, HasBegun, Waits, ran_of, syncs_of};
+ghost use Rattle.vs_safety.specs.Safety.{IsCrashSafeAmong, IsFirstPart, SteppedAmong, WorksAmong, Wrote};
+ghost use Rattle.vs_safety.specs.History.{History, Open, After, BeginsAmong, HasBegunAmong, WaitsAmong, ran_of, syncs_of};
 ghost use Rattle.vs_safety.specs.Causes.{IsCounted, RoseLast, folder_count};
 
 /// Between two commands recovery gives the text of the last acknowledged sync, or of one that was begun since, and these are
@@ -29,43 +31,54 @@ pub fn splitting()
         → from + length (replies others) ≤ n → length others ≤ length first }
 {}
 
-/// A run that stopped before the reply to its opening was whole kept its promise.
+/// A run that stopped before the reply to its opening was whole kept its promise. A reply may take several writes.
 pub fn opening()
-    ensures fails { (names : Names) (start now : Scene) (text : Text) (reply : List ℕ) → 0 < length reply → Begins names text start now
-        → IsCrashSafe names start now (ran_of (Open text reply) NotBegun) }
-    ensures cut { (names : Names) (start now new : Scene) (text : Text) (reply : List ℕ) (n : ℕ) → 0 < length reply → HasBegun names text start now
-        → Writes n reply now new → IsCrashSafe names start new (ran_of (Open text reply) NotBegun) }
+    ensures fails { (others : Name → Bool) (names : Names) (line : List ℕ) (start now : Scene) (text : Text) (reply : List ℕ) → 0 < length reply
+        → BeginsAmong others names text start now → IsCrashSafeAmong others names line start now (ran_of (Open text reply) NotBegun) }
+    ensures cut { (others : Name → Bool) (names : Names) (line : List ℕ) (start now new : Scene) (text : Text) (reply written : List ℕ)
+        → 0 < length reply → HasBegunAmong others names text start now → Wrote written now new → IsFirstPart written reply
+        → IsCrashSafeAmong others names line start new (ran_of (Open text reply) NotBegun) }
 {}
 
 /// So did one that stopped between two commands, or in one of them or its reply.
 pub fn running()
-    ensures stops { (names : Names) (start now : Scene) (past : History) → Waits names start past now
-        → IsCrashSafe names start now (ran_of past NotBegun) }
-    ensures cut { (names : Names) (start now ended new : Scene) (past : History) (turn : Turn) (n : ℕ) → Waits names start past now
-        → 0 < length turn.reply → Stepped names (syncs_of past) turn now ended → Writes n turn.reply ended new
-        → IsCrashSafe names start new (ran_of (After past turn) NotBegun) }
+    ensures stops { (others : Name → Bool) (names : Names) (line : List ℕ) (start now : Scene) (past : History) → WaitsAmong others names start past now
+        → IsCrashSafeAmong others names line start now (ran_of past NotBegun) }
+    ensures cut { (others : Name → Bool) (names : Names) (line : List ℕ) (start now ended new : Scene) (past : History) (turn : Turn) (written : List ℕ)
+        → WaitsAmong others names start past now → 0 < length turn.reply → SteppedAmong others names (syncs_of past) turn now ended
+        → Wrote written ended new → IsFirstPart written turn.reply → IsCrashSafeAmong others names line start new (ran_of (After past turn) NotBegun) }
 {}
 
 /// And one that came to the script's end or to an accepted quit.
 pub fn ending()
-    ensures syncs { (names : Names) (start now ended new : Scene) (past : History) (sync : Sync) (n : ℕ) → Waits names start past now
-        → Stepped names (syncs_of past) (last_turn sync) now ended → Writes n preserved_line ended new
-        → IsCrashSafe names start new (ran_of past (LastSync sync)) }
-    ensures quits { (names : Names) (start now mid new : Scene) (past : History) (n : ℕ) → Waits names start past now
-        → Works names None (RecoversOrNone names (recoverable (syncs_of past))) now mid → Writes n quit_line mid new
-        → LeavesTrace mid new ⊎ NoneLeft names mid.folder → IsCrashSafe names start new (ran_of past Quits) }
+    ensures syncs { (others : Name → Bool) (names : Names) (line : List ℕ) (start now ended new : Scene) (past : History) (sync : Sync) (written : List ℕ)
+        → WaitsAmong others names start past now → SteppedAmong others names (syncs_of past) (last_turn sync) now ended
+        → Wrote written ended new → IsFirstPart written preserved_line → IsCrashSafeAmong others names line start new (ran_of past (LastSync sync)) }
+    ensures quits { (others : Name → Bool) (names : Names) (line : List ℕ) (start now mid new : Scene) (past : History) (written : List ℕ)
+        → WaitsAmong others names start past now → WorksAmong others names None (RecoversOrNone names (recoverable (syncs_of past))) now mid
+        → Wrote written mid new → IsFirstPart written line → LeavesTrace mid new ⊎ NoneLeft names mid.folder
+        → IsCrashSafeAmong others names line start new (ran_of past Quits) }
 {}
 
 /// While no command works on files, each name but those of the pair has in every image what it had there when the last reply was
 /// whole: after a write, the bytes that it wrote.
 pub fn lasting()
-    ensures { (names : Names) (moments : List Snapshot) (n : ℕ) (folder : Disk) (first : Snapshot) (name : Name) (bytes : List ℕ) →
-        is_foreign names name ≡ true
-        → KeepsSince names moments n None folder → IsFirst n moments first → HoldsBytes name bytes first.folder → HoldsBytes name bytes folder }
+    ensures { (others : Name → Bool) (names : Names) (moments : List Snapshot) (n : ℕ) (folder : Disk) (first : Snapshot) (name : Name) (bytes : List ℕ)
+        → others name ≡ true → KeepsSince others names moments n None folder → IsFirst n moments first → HoldsBytes name bytes first.folder
+        → HoldsBytes name bytes folder }
 {}
 
 /// Where no call but the last one failed since the newest snapshot had the count as it was, the count rose at the last call.
 pub fn failing()
     ensures { (start now new : Scene) → FailsLast now new → HasRisen now.folder_faults new.folder_faults → IsCounted folder_count start now
         → RoseLast folder_count start new }
+{}
+
+/// A command hands no file from its family to other names, or back: to the files of a set that has all names of the family, or none, no
+/// name outside of it leads after the command if none did before.
+pub fn handing()
+    ensures { (others : Name → Bool) (names : Names) (write : Option FileWork) (family part : Name → Bool) (old new : Disk)
+        → AreIn others (outside family) → IfSome write (λ work. AvoidsFiles names work (outside family)) → IsApart (outside family) old
+        → ((a b : Name) → family a ≡ true → family b ≡ true → part a ≡ part b) → IsApart part old → KeepsAmong others names write old new
+        → IsApart part new }
 {}

@@ -4,4 +4,4 @@
 
 mod laws;
 
-pub use laws::{ending, failing, lasting, opening, running, splitting, standing};
+pub use laws::{ending, failing, handing, lasting, opening, running, splitting, standing};

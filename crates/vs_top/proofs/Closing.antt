@@ -8,18 +8,19 @@ use Rattle.vs_host.specs.Names.{names_of_file}
 use Rattle.vs_host.specs.Trace.{WroteOutput, Snapshot}
 use Rattle.vs_host.specs.World.{Tells, Scene, ChangesOutput, LeavesTrace, snapshot_of}
 use Rattle.vs_host.specs.declared.names.Names.{Names}
-use Rattle.vs_pair.specs.Pair.{Image, NoneThere, Rises}
+use Rattle.vs_pair.specs.Pair.{Image, NoneThere, Rises, is_foreign}
 use Rattle.vs_pair.specs.Steps.{IsAbsent, IsFresh}
 use Rattle.vs_script.specs.Ahead.{script_limit}
 use Rattle.vs_machine.specs.declared.command.Mark.{Mark}
 use Rattle.vs_safety.specs.Texts.{Sync, RecoversOrNone, recoverable}
 use Rattle.vs_safety.specs.Turns.{Closing, LastSync, Quits, last_turn, preserved_line, quit_line}
-use Rattle.vs_safety.specs.Safety.{IsCrashSafe, IsAdded, Works, Writes, Stepped}
+use Rattle.vs_safety.specs.Safety.{IsCrashSafe, IsFirstPart, IsAdded, Works, Writes, Wrote, Stepped}
 use Rattle.vs_safety.specs.History.{History, syncs_of}
 use Rattle.vs_safety.specs.Writes.{State}
 use Rattle.vs_safety.specs.Causes.{IsCounted, output_count, folder_count}
 use Rattle.vs_safety.proofs.SoFar.{SoFar, so_far_now}
-use Rattle.vs_safety.proofs.Endings.{cut_sync, quits, writes_none}
+use Rattle.vs_safety.proofs.Replies.{first_part, wrote_none, wrote_one}
+use Rattle.vs_safety.proofs.Endings.{cut_sync, quits}
 use Rattle.vs_safety.proofs.Causes.{rose_at, rose_last}
 use Rattle.vs_session.specs.declared.session.Session.{Session}
 use Rattle.vs_session.specs.declared.ending.End.{End}
@@ -93,8 +94,8 @@ module _ (tells : Tells) (name : List ℕ) (old now mid : Scene) (session : Sess
   closes end.Sync ok stops new script = inl (record { all = stops.0; ended = script ∙ stops.1; closing = refl })
   closes end.Quit ok stops new script = inr (record { quit = stops.0; rest = stops.1; before = stops.2; accepted = stops.3; closing = refl })
 
-  so_far : SoFar names old history now
-  so_far = so_far_now names old history now here.waits
+  so_far : SoFar (is_foreign names) names old history now
+  so_far = so_far_now (is_foreign names) names old history now here.waits
 
   -- what the trace has more
   pub more_mid : (how : End) (ok : Bool) → Finishes tells session now mid how ok → (newer : List Snapshot) × (mid.trace ≡ newer ++ now.trace)
@@ -141,13 +142,17 @@ module _ (tells : Tells) (name : List ℕ) (old now mid : Scene) (session : Sess
   removal : (ok : Bool) → Finishes tells session now mid end.Quit ok → Works names None (RecoversOrNone names (recoverable syncs)) now mid
   removal ok finishes = subst (λ (n : Names). Works n None (RecoversOrNone n (recoverable syncs)) now mid) keeps.names (finishes.quit refl told.folder state syncs here.fits).works
 
-  -- n bytes of the last line were written
-  ends_safe : (how : End) (ok : Bool) (new : Scene) (n : ℕ) → Finishes tells session now mid how ok → Writes n (line_of how) mid new → LeavesTrace mid new ⊎ (ok ≡ true) → IsCrashSafe names old new (ran_of name old (did how ok))
-  ends_safe end.Sync ok new n finishes writes either = cut_sync names old history now here.waits mid new (sync_in state ok) n (stepping ok finishes) writes
-  ends_safe end.Quit ok new n finishes writes either = quits names old history now here.waits mid new n (removal ok finishes) writes (elim either [
+  -- these bytes of the last line were written
+  ends_safe : (how : End) (ok : Bool) (new : Scene) (written : List ℕ) → Finishes tells session now mid how ok → Wrote written mid new → IsFirstPart written (line_of how) → LeavesTrace mid new ⊎ (ok ≡ true) → IsCrashSafe names old new (ran_of name old (did how ok))
+  ends_safe end.Sync ok new written finishes wrote part either = cut_sync (is_foreign names) names quit_line old history now here.waits mid new (sync_in state ok) written (stepping ok finishes) wrote part
+  ends_safe end.Quit ok new written finishes wrote part either = quits (is_foreign names) names quit_line old history now here.waits mid new written (removal ok finishes) wrote part (elim either [
     | inl left ↦ inl left
     | inr done ↦ inr (fresh_image names mid.folder (subst (λ (k : Names). IsFresh k mid.folder) keeps.names (finishes.gone done refl told.folder)))
   ])
+
+  -- by one write of n bytes
+  ends_written : (how : End) (new : Scene) (n : ℕ) → Finishes tells session now mid how true → Writes n (line_of how) mid new → IsCrashSafe names old new (ran_of name old (did how true))
+  ends_written how new n finishes writes = ends_safe how true new (take n (line_of how)) finishes (wrote_one mid new n (line_of how) writes) (first_part n (line_of how)) (inr refl)
 
   -- the count of the output up to the last line
   counted : (how : End) → Finishes tells session now mid how true → IsCounted output_count old mid
@@ -164,7 +169,7 @@ module _ (tells : Tells) (name : List ℕ) (old now mid : Scene) (session : Sess
     did = did how false;
     kept = here.kept;
     answered = inr (record { closes = closes how false stops mid (ap (λ (s : Scene). s.script) finishes.frame); output = mid_output how false finishes });
-    safe = λ free. ends_safe how false mid 0 finishes (writes_none (line_of how) mid) (inl (record { folder = refl; output = refl; trace = refl }));
+    safe = λ free. ends_safe how false mid [] finishes (wrote_none mid) (line_of how, refl) (inl (record { folder = refl; output = refl; trace = refl }));
     left = inr (left how false mid refl finishes);
     last = rose_last folder_count old now mid (λ m none. none.folder) (finishes.last told.folder) rose here.counted.folder;
   }
@@ -181,7 +186,7 @@ module _ (tells : Tells) (name : List ℕ) (old now mid : Scene) (session : Sess
       risen = risen how new (more_new how true new finishes writes.added).0 (more_new how true new finishes writes.added).1 writes.folder finishes;
       output = writes.output ∙ ap (λ (l : List ℕ). l ++ take n (closing_line (closing_of how true state))) (mid_output how true finishes) ∙ append_assoc old.output (written file past) (take n (closing_line (closing_of how true state)));
     });
-    safe = λ free. ends_safe how true new n finishes (subst (λ (l : List ℕ). Writes n l mid new) (sym (line_is how true state)) writes) (inr refl);
+    safe = λ free. ends_written how new n finishes (subst (λ (l : List ℕ). Writes n l mid new) (sym (line_is how true state)) writes);
     left = left how true new writes.folder finishes;
     last = rose_at output_count old mid new WroteOutput [] writes.added rose (counted how finishes);
   }
@@ -203,7 +208,7 @@ module _ (tells : Tells) (name : List ℕ) (old now mid : Scene) (session : Sess
       by_clean clean name old new marks (did how true) here.kept
       (all_answered how new stops finishes (writes.output ∙ ap (λ (l : List ℕ). mid.output ++ l) (take_all (length line) line (omega arith))) script writes.faults writes.folder writes.added)
       (left how true new writes.folder finishes)
-      (λ free. ends_safe how true new (length line) finishes (subst (λ (l : List ℕ). Writes (length line) l mid new) (sym (line_is how true state)) writes) (inr refl))
+      (λ free. ends_written how new (length line) finishes (subst (λ (l : List ℕ). Writes (length line) l mid new) (sym (line_is how true state)) writes))
 
 -- ---- over any host
 

@@ -11,19 +11,20 @@ use Rattle.vs_host.specs.declared.names.Names.{Names}
 use Rattle.vs_disk.proofs.Contents.{leads_nowhere}
 use Rattle.vs_disk.proofs.Steps.{one_state}
 use Rattle.vs_pair.specs.Acts.{Acts}
-use Rattle.vs_pair.specs.Pair.{Image, NoneThere}
+use Rattle.vs_pair.specs.Pair.{Image, NoneThere, is_foreign}
 use Rattle.vs_text.specs.Text.{lines_of}
 use Rattle.vs_text.specs.Limits.{IsWithinLimits}
 use Rattle.vs_machine.specs.declared.command.Mark.{Mark}
 use Rattle.vs_machine.specs.declared.command.Outcome.{Outcome}
 use Rattle.vs_machine.specs.declared.command.Outcome.TheVariants as outcome
 use Rattle.vs_safety.specs.Texts.{RecoversOrNone, IsBetween}
-use Rattle.vs_safety.specs.Turns.{opened}
+use Rattle.vs_safety.specs.Turns.{opened, quit_line}
 use Rattle.vs_safety.specs.Safety.{Works}
 use Rattle.vs_safety.specs.Causes.{output_count, folder_count}
 use Rattle.vs_safety.proofs.Works.{works_from}
 use Rattle.vs_safety.specs.History.{Begins}
 use Rattle.vs_safety.proofs.Endings.{not_opened}
+use Rattle.vs_safety.proofs.UndoFiles.{undo_foreign}
 use Rattle.vs_safety.proofs.Causes.{counted_none, rose_last}
 use Rattle.vs_paged.proofs.SyncLemmas.{fits_between}
 use Rattle.vs_session.specs.Session.{is_fault}
@@ -79,7 +80,7 @@ module _ (tells : Tells) (name : List ℕ) (old new : Scene) (pending : IsTrue t
   at_start told free image whole = inl (none_there (names_of_file name) old.folder (settled (names_of_file name) old.folder (pending told.folder)) free image whole)
 
   works : TellsRun tells → (HasSwap (names_of_file name) old.folder → ⊥) → Works (names_of_file name) None (RecoversOrNone (names_of_file name) (text_at old name ∷ [])) old new
-  works told free = works_from (names_of_file name) (RecoversOrNone (names_of_file name) (text_at old name ∷ [])) (Opens name) old old new refl refl refl acts.frame (acts.runs told.folder)
+  works told free = works_from (is_foreign (names_of_file name)) (names_of_file name) (RecoversOrNone (names_of_file name) (text_at old name ∷ [])) (Opens name) old old new refl refl refl acts.frame (acts.runs told.folder)
       (λ d opens. record { folder = opens.safe free; spared = opens.spared })
 
   begins : TellsRun tells → (HasSwap (names_of_file name) old.folder → ⊥) → Begins (names_of_file name) (text_at old name) old new
@@ -93,7 +94,7 @@ module _ (tells : Tells) (name : List ℕ) (old new : Scene) (pending : IsTrue t
       did = did_none;
       kept = kept_none name old marks none;
       answered = answered;
-      safe = λ free. not_opened (names_of_file name) (text_at old name) (opening_at old name) old new (begins told free) (opening_some name (opened_file old name).found);
+      safe = λ free. not_opened (is_foreign (names_of_file name)) (names_of_file name) quit_line (text_at old name) (opening_at old name) old new (begins told free) (opening_some name (opened_file old name).found);
       left = left;
       last = last;
     }
@@ -162,7 +163,7 @@ module _ (tells : Tells) (name : List ℕ) (old new : Scene) (pending : IsTrue t
       fits = fits told.folder;
       begun = record {
         begins = begins told (free told.folder);
-        named = subst AreNames names (fits told.folder).stands.text.fit.named;
+        foreign = undo_foreign (names_of_file name) (subst AreNames names (fits told.folder).stands.text.fit.named);
         between = subst (λ (n : Names). IsBetween n (opened (text_at old name)) new.folder) names (fits_between session.text new.folder _ _ (fits told.folder).stands.text);
       };
       counted = counted_works (names_of_file name) None _ old old new (ap (λ (s : Scene). s.out_faults) acts.frame) (works told (free told.folder)) (counted_none output_count old);

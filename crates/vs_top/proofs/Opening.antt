@@ -11,11 +11,12 @@ use Rattle.vs_host.specs.World.{Tells, Scene, ChangesOutput}
 use Rattle.vs_script.specs.Ahead.{Ahead}
 use Rattle.vs_machine.specs.Replies.{Answer, opening_of}
 use Rattle.vs_machine.specs.declared.command.Mark.{Mark}
-use Rattle.vs_safety.specs.Turns.{NotBegun, opened}
+use Rattle.vs_pair.specs.Pair.{is_foreign}
+use Rattle.vs_safety.specs.Turns.{NotBegun, opened, quit_line}
 use Rattle.vs_safety.specs.Safety.{IsAdded, Writes}
-use Rattle.vs_safety.specs.History.{Replied}
 use Rattle.vs_safety.specs.Causes.{output_count}
-use Rattle.vs_safety.proofs.SoFar.{recorded, waits_first}
+use Rattle.vs_safety.proofs.Replies.{first_part, recorded, replied_one, wrote_one}
+use Rattle.vs_safety.proofs.SoFar.{waits_first}
 use Rattle.vs_safety.proofs.Endings.{not_opened, opening_cut}
 use Rattle.vs_safety.proofs.Causes.{rose_at}
 use Rattle.vs_session.specs.declared.session.Session.{Session}
@@ -63,7 +64,7 @@ module _ (tells : Tells) (name : List ℕ) (old now : Scene) (session : Session)
           did = did_none;
           kept = kept_none name old marks none;
           answered = inl (record { none = none; output = here.begun.begins.works.output });
-          safe = λ free. not_opened (names_of_file name) (text_at old name) (opening_at old name) old now here.begun.begins (opening_some name (opened_file old name).found);
+          safe = λ free. not_opened (is_foreign (names_of_file name)) (names_of_file name) quit_line (text_at old name) (opening_at old name) old now here.begun.begins (opening_some name (opened_file old name).found);
           left = (refl, inr (session, at.keeps.names, here.fits));
           last = tt;
         };
@@ -110,7 +111,8 @@ module _ (tells : Tells) (name : List ℕ) (old now : Scene) (session : Session)
                   output = writes.output ∙ ap (λ (l : List ℕ). l ++ take cut.0 (opening_at old name)) here.begun.begins.works.output;
                   whole = omega arith;
                 });
-                safe = λ free. opening_cut (names_of_file name) (text_at old name) (opening_at old name) old now here.begun new cut.0 (opening_some name (opened_file old name).found) writes;
+                safe = λ free. opening_cut (is_foreign (names_of_file name)) (names_of_file name) quit_line (text_at old name) (opening_at old name) old now here.begun new (take cut.0 (opening_at old name)) (opening_some name (opened_file old name).found)
+                    (wrote_one now new cut.0 (opening_at old name) writes) (first_part cut.0 (opening_at old name));
                 left = (session, at.keeps.names, subst (λ (d : Disk). Fits session d (opened_file old name).state (opened (text_at old name))) (sym writes.folder) here.fits);
                 last = rose_at output_count old now new WroteOutput [] writes.added rose here.counted;
               };
@@ -135,14 +137,14 @@ module _ (tells : Tells) (name : List ℕ) (old now : Scene) (session : Session)
           told = λ told.
               let here = at.told told in
               let writes = writes_of told (length (opening_at old name)) (wrote told.output ∙ ap (λ (l : List ℕ). now.output ++ l) (sym (take_all (length (opening_at old name)) reply.bytes (omega (arith, ap (λ (l : List ℕ). length l) (bytes_are told)))))) in
-              let replied : Replied (opening_at old name) now new = record { some = opening_some name (opened_file old name).found; writes = writes } in (
+              let some = opening_some name (opened_file old name).found in (
                 [],
                 record {
                   kept = kept_none name old marks none;
                   errors = refl;
                   fits = subst (λ (d : Disk). Fits session d (opened_file old name).state (opened (text_at old name))) (sym writes.folder) here.fits;
-                  waits = waits_first (names_of_file name) old (text_at old name) (opening_at old name) now new here.begun replied;
-                  counted = all_counted old now new (recorded (opening_at old name) now new replied) here.begun.begins.works.moments.added here.begun.begins.works.moments.is;
+                  waits = waits_first (is_foreign (names_of_file name)) (names_of_file name) old (text_at old name) (opening_at old name) now new here.begun (replied_one (opening_at old name) now new some writes);
+                  counted = all_counted old now new (recorded (opening_at old name) now new some writes) here.begun.begins.works.moments.added here.begun.begins.works.moments.is;
                 },
                 read_start fresh old new fresh_is (ap (λ (s : Scene). s.script) frame ∙ at.script),
               );

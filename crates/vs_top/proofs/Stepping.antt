@@ -18,12 +18,14 @@ use Rattle.vs_script.specs.Requests.{TakesRequest, TakesNone}
 use Rattle.vs_machine.specs.Machine.{is_done}
 use Rattle.vs_machine.specs.Replies.{Answer}
 use Rattle.vs_machine.specs.declared.command.Mark.{Mark}
+use Rattle.vs_pair.specs.Pair.{is_foreign}
 use Rattle.vs_safety.specs.Texts.{Sync}
-use Rattle.vs_safety.specs.Turns.{Turn, NotBegun}
+use Rattle.vs_safety.specs.Turns.{Turn, NotBegun, quit_line}
 use Rattle.vs_safety.specs.Safety.{IsAdded, Looks, Writes, Stepped}
-use Rattle.vs_safety.specs.History.{History, Replied, Waits, syncs_of}
+use Rattle.vs_safety.specs.History.{History, Waits, syncs_of}
 use Rattle.vs_safety.specs.Causes.{output_count}
-use Rattle.vs_safety.proofs.SoFar.{recorded, so_far_now, waits_next, waits_on}
+use Rattle.vs_safety.proofs.Replies.{first_part, recorded, replied_one, wrote_one}
+use Rattle.vs_safety.proofs.SoFar.{so_far_now, waits_next, waits_on}
 use Rattle.vs_safety.proofs.Endings.{cut_turn}
 use Rattle.vs_safety.proofs.Causes.{rose_at}
 use Rattle.vs_session.specs.declared.session.Session.{Session}
@@ -71,7 +73,7 @@ module _ {T : Type 0} {x : T} (tells : Tells) (name : List ℕ) (old now read st
     history = history_of file past
 
     waits : Waits names old history read
-    waits = waits_on names old history now read here.waits (reads_look now read reads.frame (reads.last told.folder))
+    waits = waits_on (is_foreign names) names old history now read here.waits (reads_look now read reads.frame (reads.last told.folder))
 
     answers : Answers state (syncs_of history) taken.first session session' mark reply read stepped
     answers = step.step told.folder state (syncs_of history) taken.first (subst (λ (d : Disk). Fits session d state (syncs_of history)) (sym (ap (λ (s : Scene). s.folder) reads.frame)) here.fits) taken.meant
@@ -101,7 +103,7 @@ module _ {T : Type 0} {x : T} (tells : Tells) (name : List ℕ) (old now read st
     fits_on new same = subst (λ (d : Disk). Fits session' d (state_of file.state past') (syncs_of (history_of file past'))) (sym same) answers.fits
 
     stepped_output : stepped.output ≡ old.output ++ written file past
-    stepped_output = stepping.works.output ∙ (so_far_now names old history read waits).output
+    stepped_output = stepping.works.output ∙ (so_far_now (is_foreign names) names old history read waits).output
 
     -- the reply was written in part
     run_cut : (new : Scene) (n : ℕ) (marks' : List Mark) → marks' ≡ marks ++ mark ∷ [] → Writes n reply.bytes stepped new → HasRisen stepped.out_faults new.out_faults
@@ -120,7 +122,7 @@ module _ {T : Type 0} {x : T} (tells : Tells) (name : List ℕ) (old now read st
                 ∙ ap (λ (l : List ℕ). old.output ++ l) (sym (take-append-add front turn.reply n));
             whole = omega arith;
           });
-          safe = λ free. cut_turn names old history read waits stepped new turn n some_turn stepping writes';
+          safe = λ free. cut_turn (is_foreign names) names quit_line old history read waits stepped new turn (take n turn.reply) some_turn stepping (wrote_one stepped new n turn.reply writes') (first_part n turn.reply);
           left = (session', step.names ∙ keeps, fits_on new writes.folder);
           last = rose_at output_count old stepped new WroteOutput [] writes.added rose
               (counted_works names turn.write _ old read stepped (ap (λ (s : Scene). s.out_faults) step.frame) stepping.works
@@ -131,16 +133,16 @@ module _ {T : Type 0} {x : T} (tells : Tells) (name : List ℕ) (old now read st
     told_on : (new : Scene) (marks' : List Mark) (one : Bool) → marks' ≡ marks ++ mark ∷ [] → (writes : Writes (length reply.bytes) reply.bytes stepped new) → one ≡ (is_done mark.outcome && not reply.is_error)
         → Told name old new session' marks' (clean && one) past'
     told_on new marks' one kept writes cleans =
-        let replied : Replied turn.reply stepped new = record { some = some_turn; writes = subst (λ (l : List ℕ). Writes (length l) l stepped new) same_bytes writes } in
-        let so_far = so_far_now names old history read waits in
+        let writes' : Writes (length turn.reply) turn.reply stepped new = subst (λ (l : List ℕ). Writes (length l) l stepped new) same_bytes writes in
+        let so_far = so_far_now (is_foreign names) names old history read waits in
         record {
           kept = kept_now marks' kept;
           errors = ap (λ (b : Bool). clean && b) (cleans ∙ ap (λ (m : Mark). is_done m.outcome && not reply.is_error) (sym answers.mark_is))
               ∙ ap (λ (b : Bool). b && (is_done answers.ended.mark.outcome && not reply.is_error)) here.errors ∙ and_not (any_error file.state past) (is_done answers.ended.mark.outcome) reply.is_error
               ∙ ap (λ (a : Answer). not (any_error file.state past || (not (is_done answers.ended.mark.outcome) || a.is_error))) answers.reply_is;
           fits = fits_on new writes.folder;
-          waits = waits_next names old history turn read stepped new waits stepping replied;
-          counted = all_counted old stepped new (recorded turn.reply stepped new replied) (stepping.works.moments.added ++ so_far.moments)
+          waits = waits_next (is_foreign names) names old history turn read stepped new waits stepping (replied_one turn.reply stepped new some_turn writes');
+          counted = all_counted old stepped new (recorded turn.reply stepped new some_turn writes') (stepping.works.moments.added ++ so_far.moments)
               (stepping.works.moments.is ∙ ap (λ (ms : List Snapshot). stepping.works.moments.added ++ ms) so_far.added ∙ sym (append_assoc stepping.works.moments.added so_far.moments old.trace));
         }
 
@@ -243,7 +245,7 @@ told_read tells name old now read session marks clean reads told past here = rec
   kept = here.kept;
   errors = here.errors;
   fits = subst (λ (d : Disk). Fits session d (state_of (opened_file old name).state past) (syncs_of (history_of (opened_file old name) past))) (sym (ap (λ (s : Scene). s.folder) reads.frame)) here.fits;
-  waits = waits_on (names_of_file name) old (history_of (opened_file old name) past) now read here.waits (reads_look now read reads.frame (reads.last told.folder));
+  waits = waits_on (is_foreign (names_of_file name)) (names_of_file name) old (history_of (opened_file old name) past) now read here.waits (reads_look now read reads.frame (reads.last told.folder));
   counted = counted_reads old now read reads.frame (reads.quiet (λ is. cc)) (reads.all told.folder) here.counted;
 }
 
@@ -275,7 +277,7 @@ told_same name old read stepped session session' marks clean past here same trac
       kept = here.kept;
       errors = here.errors;
       fits = subst (λ (x : Session). Fits x stepped.folder state (syncs_of history)) (sym same) (subst (λ (d : Disk). Fits session d state (syncs_of history)) (sym folder) here.fits);
-      waits = waits_on (names_of_file name) old history read stepped here.waits looks;
+      waits = waits_on (is_foreign (names_of_file name)) (names_of_file name) old history read stepped here.waits looks;
       counted = record {
         script = record { moments = here.counted.script.moments; added = trace ∙ here.counted.script.added; newest = here.counted.script.newest ∙ sym (ap (λ (s : Scene). s.script_faults) frame) };
         output = record { moments = here.counted.output.moments; added = trace ∙ here.counted.output.added; newest = here.counted.output.newest ∙ sym (ap (λ (s : Scene). s.out_faults) frame) };

@@ -17,7 +17,8 @@ use Rattle.vs_script.specs.Requests.{TakesRequest, whole_commands}
 use Rattle.vs_script.specs.declared.reader.ScriptErr.{ScriptErr}
 use Rattle.vs_script.specs.declared.reader.ScriptErr.TheVariants as script_error
 use Rattle.vs_machine.specs.declared.command.Mark.{Mark}
-use Rattle.vs_safety.specs.Turns.{NotBegun}
+use Rattle.vs_pair.specs.Pair.{is_foreign}
+use Rattle.vs_safety.specs.Turns.{NotBegun, quit_line}
 use Rattle.vs_safety.specs.Safety.{IsCrashSafe, Looks}
 use Rattle.vs_safety.specs.History.{History, Waits, replied_at, syncs_of, written_by}
 use Rattle.vs_safety.specs.Stretches.{IsFirst}
@@ -86,7 +87,7 @@ no_more now old marks is = is ∙ sym (append-nil (old ++ map (λ mark. mark.at)
 
 -- ---- what holds of the snapshot of the last reply
 
-pub since_reply : (names : Names) (start : Scene) (past : History) (now new : Scene) (so_far : SoFar names start past now) (newer : List Snapshot) → new.trace ≡ newer ++ now.trace → (P : Snapshot → Type 0) → P so_far.here
+pub since_reply : (names : Names) (start : Scene) (past : History) (now new : Scene) (so_far : SoFar (is_foreign names) names start past now) (newer : List Snapshot) → new.trace ≡ newer ++ now.trace → (P : Snapshot → Type 0) → P so_far.here
     → HasSince (length start.output + length (written_by past)) start new P
 since_reply names start past now new so_far newer added P has = record {
   moments = newer ++ so_far.moments;
@@ -109,14 +110,14 @@ module _ {T : Type 0} {result : Result T ScriptErr} (tells : Tells) (name : List
     did = record { past = past; closing = NotBegun }
 
     waits : Waits (names_of_file name) old (history_of file past) read
-    waits = waits_on (names_of_file name) old (history_of file past) now read here.waits (reads_look now read reads.frame (reads.last told.folder))
+    waits = waits_on (is_foreign (names_of_file name)) (names_of_file name) old (history_of file past) now read here.waits (reads_look now read reads.frame (reads.last told.folder))
 
     safe : IsCrashSafe (names_of_file name) old read (ran_of name old did)
-    safe = stopped (names_of_file name) old (history_of file past) read waits
+    safe = stopped (is_foreign (names_of_file name)) (names_of_file name) quit_line old (history_of file past) read waits
 
     answered : HasAnswered file old read did
     answered =
-        let so_far = so_far_now (names_of_file name) old (history_of file past) read waits in
+        let so_far = so_far_now (is_foreign (names_of_file name)) (names_of_file name) old (history_of file past) read waits in
         record { output = so_far.output; closing = refl; stays = since_reply (names_of_file name) old (history_of file past) read read so_far [] refl (λ m. state_now read ≡ state_in m) (sym so_far.state) }
 
     -- the session still fits the folder
