@@ -13,7 +13,7 @@ use Rattle.vs_pair.specs.Steps.{IsAbsent, IsFresh}
 use Rattle.vs_script.specs.Ahead.{script_limit}
 use Rattle.vs_machine.specs.declared.command.Mark.{Mark}
 use Rattle.vs_safety.specs.Texts.{Sync, RecoversOrNone, recoverable}
-use Rattle.vs_safety.specs.Turns.{Closing, LastSync, Quits, last_turn, preserved_line, quit_line}
+use Rattle.vs_safety.specs.Turns.{Closing, NotBegun, LastSync, Quits, last_turn, preserved_line, quit_line}
 use Rattle.vs_safety.specs.Safety.{IsCrashSafe, IsFirstPart, IsAdded, Works, Writes, Wrote, Stepped}
 use Rattle.vs_safety.specs.History.{History, syncs_of}
 use Rattle.vs_safety.specs.Writes.{State}
@@ -32,12 +32,14 @@ use Rattle.vs_session.specs.Fits.{HasSyncs, HasSwap}
 use Rattle.vs_top.specs.History.{Past, history_of, state_of, written}
 use Rattle.vs_top.specs.Promise.{HasRun, RunsEdit}
 use Rattle.vs_top.specs.Run.{TellsRun, Did, KeepsMarks, HasNoFaultSince, HasRisenSince, KeepsSwap, Closes, AnswersAll, counts_of, OnlyFolder, FaultHasCause, IsTimed, opened_file, ran_of, closing_line}
+use Rattle.vs_top.specs.Calls.{CallsAsMarked}
 use Rattle.vs_top.specs.Turns.{Told, KeepsOpenFile, StopsAt, IsAtClose}
 use Rattle.vs_top.specs.declared.ending.Ending.{Ending}
 use Rattle.vs_top.specs.Ending.{ending_in}
 use Rattle.std.specs.declared.result.Result.{Result}
 use Rattle.vs_top.specs.declared.ending.Ending.TheVariants as ending
 use Rattle.vs_top.proofs.Pushes.{flip_clean}
+use Rattle.vs_top.proofs.Calls.{calls_close, near_end, near_now}
 use Rattle.vs_top.proofs.Turning.{since_reply}
 use Rattle.vs_top.proofs.Counting.{only_then, only_folder, only_output, causes_on, counted_works}
 
@@ -66,9 +68,10 @@ line_is end.Sync ok state = refl
 line_is end.Quit ok state = refl
 
 by_clean : (clean : Bool) (name : List ℕ) (old new : Scene) (marks : List Mark) (did : Did) → KeepsMarks (opened_file old name) marks did.past → AnswersAll (not clean) (opened_file old name) old new did
-    → KeepsSwap (opened_file old name) did new.folder → ((HasSwap (names_of_file name) old.folder → ⊥) → IsCrashSafe (names_of_file name) old new (ran_of name old did)) → HasRun name old new (if clean then ending.Done else ending.WithErrors) marks
-by_clean true name old new marks did kept answered left safe = record { did = did; kept = kept; answered = answered; safe = safe; left = left; last = tt }
-by_clean false name old new marks did kept answered left safe = record { did = did; kept = kept; answered = answered; safe = safe; left = left; last = tt }
+    → KeepsSwap (opened_file old name) did new.folder → ((HasSwap (names_of_file name) old.folder → ⊥) → IsCrashSafe (names_of_file name) old new (ran_of name old did)) → CallsAsMarked (opened_file old name) old new did
+    → HasRun name old new (if clean then ending.Done else ending.WithErrors) marks
+by_clean true name old new marks did kept answered left safe calls = record { did = did; kept = kept; answered = answered; safe = safe; left = left; last = tt; calls = calls }
+by_clean false name old new marks did kept answered left safe calls = record { did = did; kept = kept; answered = answered; safe = safe; left = left; last = tt; calls = calls }
 
 module _ (tells : Tells) (name : List ℕ) (old now mid : Scene) (session : Session) (marks : List Mark) (clean : Bool) (told : TellsRun tells) (keeps : KeepsOpenFile tells name old now session marks)
     (past : Past) (here : Told name old now session marks clean past) where
@@ -164,6 +167,10 @@ module _ (tells : Tells) (name : List ℕ) (old now mid : Scene) (session : Sess
   mid_output : (how : End) (ok : Bool) → Finishes tells session now mid how ok → mid.output ≡ old.output ++ written file past
   mid_output how ok finishes = ap (λ (s : Scene). s.output) finishes.frame ∙ so_far.output
 
+  closed_by : (how : End) (ok : Bool) → closing_of how ok state ≡ NotBegun → ⊥
+  closed_by end.Sync ok is = cc
+  closed_by end.Quit ok is = cc
+
   pub run_fails : (how : End) → StopsAt how file old now past → Finishes tells session now mid how false → HasRisen now.folder_faults mid.folder_faults → HasRun name old mid ending.FolderFault marks
   run_fails how stops finishes rose = record {
     did = did how false;
@@ -172,6 +179,7 @@ module _ (tells : Tells) (name : List ℕ) (old now mid : Scene) (session : Sess
     safe = λ free. ends_safe how false mid [] finishes (wrote_none mid) (line_of how, refl) (inl (record { folder = refl; output = refl; trace = refl }));
     left = inr (left how false mid refl finishes);
     last = rose_last folder_count old now mid (λ m none. none.folder) (finishes.last told.folder) rose here.counted.folder;
+    calls = calls_close file old now mid mid past (closing_of how false state) here.calls (finishes.last told.folder) (closed_by how false) (near_now mid);
   }
 
   pub run_cut : (how : End) (new : Scene) (n : ℕ) → StopsAt how file old now past → Finishes tells session now mid how true
@@ -189,6 +197,7 @@ module _ (tells : Tells) (name : List ℕ) (old now mid : Scene) (session : Sess
     safe = λ free. ends_written how new n finishes (subst (λ (l : List ℕ). Writes n l mid new) (sym (line_is how true state)) writes);
     left = left how true new writes.folder finishes;
     last = rose_at output_count old mid new WroteOutput [] writes.added rose (counted how finishes);
+    calls = calls_close file old now mid new past (closing_of how true state) here.calls (finishes.last told.folder) (closed_by how true) (near_end mid new writes.added writes.folder writes.faults);
   }
 
   all_answered : (how : End) (new : Scene) → StopsAt how file old now past → Finishes tells session now mid how true → new.output ≡ mid.output ++ closing_line (closing_of how true state) → new.script ≡ mid.script
@@ -209,6 +218,7 @@ module _ (tells : Tells) (name : List ℕ) (old now mid : Scene) (session : Sess
       (all_answered how new stops finishes (writes.output ∙ ap (λ (l : List ℕ). mid.output ++ l) (take_all (length line) line (omega arith))) script writes.faults writes.folder writes.added)
       (left how true new writes.folder finishes)
       (λ free. ends_written how new (length line) finishes (subst (λ (l : List ℕ). Writes (length line) l mid new) (sym (line_is how true state)) writes))
+      (calls_close file old now mid new past (closing_of how true state) here.calls (finishes.last told.folder) (closed_by how true) (near_end mid new writes.added writes.folder writes.faults))
 
 -- ---- over any host
 

@@ -32,7 +32,7 @@ use Rattle.vs_session.specs.declared.session.Session.{Session}
 use Rattle.vs_session.specs.declared.open.OpenErr.{OpenErr}
 use Rattle.vs_session.specs.declared.open.OpenErr.TheVariants as opening
 use Rattle.vs_session.specs.Open.{IsTooLarge, OnlyLooks}
-use Rattle.vs_session.specs.Fits.{Fits, HasOpened, HasSwap, IsSettled, Opens, names_of}
+use Rattle.vs_session.specs.Fits.{Fits, HasOpened, HasSwap, IsSettled, LeavesNoneMade, Opens, names_of}
 use Rattle.vs_top.specs.Ending.{open_ending}
 use Rattle.vs_top.specs.Promise.{HasRun, RunsEdit, row}
 use Rattle.vs_top.specs.Unhindered.{IsThrough, IsThroughMark, IsUnhindered}
@@ -41,6 +41,7 @@ use Rattle.vs_top.specs.Turns.{text_at, opening_at, IsOpened}
 use Rattle.vs_top.specs.declared.ending.Ending.{Ending}
 use Rattle.vs_top.specs.declared.ending.Ending.TheVariants as ending
 use Rattle.vs_top.proofs.Limits.{within_or_not, passes_no_limit}
+use Rattle.vs_top.proofs.Calls.{calls_unopened}
 use Rattle.vs_top.proofs.Counting.{only_folder, counted_works}
 use Rattle.vs_top.proofs.Closing.{fresh_image}
 use Rattle.vs_top.proofs.Opening.{opening_some, did_none, kept_none, no_times, no_causes}
@@ -97,6 +98,7 @@ module _ (tells : Tells) (name : List ℕ) (old new : Scene) (pending : IsTrue t
       safe = λ free. not_opened (is_foreign (names_of_file name)) (names_of_file name) quit_line (text_at old name) (opening_at old name) old new (begins told free) (opening_some name (opened_file old name).found);
       left = left;
       last = last;
+      calls = calls_unopened (opened_file old name) old new (ap (λ (s : Scene). s.output) acts.frame) (opening_some name (opened_file old name).found);
     }
 
     output_same : new.output ≡ old.output
@@ -123,7 +125,7 @@ module _ (tells : Tells) (name : List ℕ) (old new : Scene) (pending : IsTrue t
       times = λ told. no_times old new marks none (ap (λ (s : Scene). s.answers) acts.frame);
     }
     open_fails opening.Failed failed quiet limit swap barred barred_looks looks = record {
-      told = λ told. run_none ending.FolderFault told (inl (record { none = none; output = output_same })) (rose_last folder_count old old new (λ m no_fault. no_fault.folder) (acts.last told.folder) (failed refl) (counted_none folder_count old))
+      told = λ told. run_none ending.FolderFault told (inl (record { none = none; output = output_same }, (acts.runs told.folder).now)) (rose_last folder_count old old new (λ m no_fault. no_fault.folder) (acts.last told.folder) (failed refl) (counted_none folder_count old))
           (inl refl);
       swap = λ told is. absurd (cc);
       barred = λ told has. only_looked tells old new ending.FolderFault marks (inr (inr refl)) none (barred_looks told has) told;
@@ -156,8 +158,9 @@ module _ (tells : Tells) (name : List ℕ) (old new : Scene) (pending : IsTrue t
 
   -- it was opened
   pub is_opened : (session : Session) → names_of session ≡ names_of_file name → (IsTrue tells.folder → HasSwap (names_of_file name) old.folder → ⊥) → (IsTrue tells.folder → FileFits (content_of old name))
-      → (IsTrue tells.folder → HasOpened (opened_file old name) session) → (IsTrue tells.folder → Fits session new.folder (opened_file old name).state (opened (text_at old name))) → IsOpened tells name old new session
-  is_opened session names free file has fits = record {
+      → (IsTrue tells.folder → HasOpened (opened_file old name) session) → (IsTrue tells.folder → Fits session new.folder (opened_file old name).state (opened (text_at old name)))
+      → new.folder_faults ≡ old.folder_faults → (IsTrue tells.folder → LeavesNoneMade old.folder new.folder) → IsOpened tells name old new session
+  is_opened session names free file has fits none cleared = record {
     told = λ told. record {
       file = has told.folder;
       fits = fits told.folder;
@@ -167,6 +170,7 @@ module _ (tells : Tells) (name : List ℕ) (old new : Scene) (pending : IsTrue t
         between = subst (λ (n : Names). IsBetween n (opened (text_at old name)) new.folder) names (fits_between session.text new.folder _ _ (fits told.folder).stands.text);
       };
       counted = counted_works (names_of_file name) None _ old old new (ap (λ (s : Scene). s.out_faults) acts.frame) (works told (free told.folder)) (counted_none output_count old);
+      clean = record { last = acts.last told.folder; none = none; cleared = cleared told.folder };
     };
     keeps = record { free = free; file = file; names = names; counts = only_folder old new acts.frame acts.later; causes = All-nil (FaultHasCause (counts_of old) (counts_of new)) };
     script = ap (λ (s : Scene). s.script) acts.frame;

@@ -2,6 +2,7 @@ mod Words
 mod Limits
 mod Pushes
 mod Counting
+mod Calls
 mod Closing
 mod Reading
 mod Requests

@@ -1,5 +1,5 @@
 -- The opening of a run and its first reply, and what the run answered where it stops there.
-use Rattle.std.proofs.Common.{◌≡◌, inl, inr, ℕ, ◌<◌, true, List, [], ◌∷◌, ◌++◌, length, take, map, All, Option, Some, None, IsTrue, string_bytes, refl, sym, ap, subst, ◌∙◌, append-nil, arith}
+use Rattle.std.proofs.Common.{◌≡◌, inl, inr, ℕ, ◌+◌, ◌≤◌, ◌<◌, true, List, [], ◌∷◌, ◌++◌, length, take, map, All, Option, Some, None, IsTrue, string_bytes, refl, sym, ap, subst, ◌∙◌, append-nil, arith}
 use Rattle.std.specs.Prelude.{codes, decimal}
 use Rattle.std.proofs.lemmas.List.{take_all, length-append}
 use Rattle.std.proofs.lemmas.List.Elements.{All-nil}
@@ -25,6 +25,7 @@ use Rattle.vs_top.specs.Promise.{RunsEdit}
 use Rattle.vs_top.specs.Run.{TellsRun, Did, KeepsMarks, Counts, counts_of, FaultHasCause, IsTimed, commands_within, opened_file}
 use Rattle.vs_top.specs.Turns.{text_at, opening_at, IsOpened}
 use Rattle.vs_top.specs.declared.ending.Ending.TheVariants as ending
+use Rattle.vs_top.proofs.Calls.{calls_first, calls_opened, calls_unopened, near_end, shorter_by}
 use Rattle.vs_top.proofs.Counting.{only_output, all_counted}
 use Rattle.vs_top.proofs.Reading.{fresh_reader, read_start}
 use Rattle.vs_top.proofs.Turning.{IsTurn}
@@ -67,6 +68,7 @@ module _ (tells : Tells) (name : List ℕ) (old now : Scene) (session : Session)
           safe = λ free. not_opened (is_foreign (names_of_file name)) (names_of_file name) quit_line (text_at old name) (opening_at old name) old now here.begun.begins (opening_some name (opened_file old name).found);
           left = (refl, inr (session, at.keeps.names, here.fits));
           last = tt;
+          calls = calls_unopened (opened_file old name) old now here.begun.begins.works.output (opening_some name (opened_file old name).found);
         };
     swap = λ told is. absurd (cc);
     barred = λ told has. absurd (at.keeps.free told has);
@@ -90,6 +92,14 @@ module _ (tells : Tells) (name : List ℕ) (old now : Scene) (session : Session)
       faults = ap (λ (s : Scene). s.folder_faults) frame;
       added = added told.folder;
     }
+
+    whole_opening : (told : TellsRun tells) (end : Scene) → Writes (length (opening_at old name)) (opening_at old name) now end → length old.output + length (opening_at old name) ≤ length end.output
+    whole_opening told end writes = omega (
+      arith,
+      ap (λ (l : List ℕ). length l) (writes.output ∙ ap (λ (l : List ℕ). now.output ++ l) (take_all (length (opening_at old name)) (opening_at old name) (omega arith))),
+      length-append now.output (opening_at old name),
+      ap (λ (l : List ℕ). length l) (at.told told).begun.begins.works.output,
+    )
 
     -- the opening reply was written in part
     pub cut_opening : (IsTrue tells.output → (n : ℕ) × (new.output ≡ now.output ++ take n reply.bytes)) → HasRisen now.out_faults new.out_faults → RunsEdit tells name old new ending.OutputFault marks
@@ -115,6 +125,7 @@ module _ (tells : Tells) (name : List ℕ) (old now : Scene) (session : Session)
                     (wrote_one now new cut.0 (opening_at old name) writes) (first_part cut.0 (opening_at old name));
                 left = (session, at.keeps.names, subst (λ (d : Disk). Fits session d (opened_file old name).state (opened (text_at old name))) (sym writes.folder) here.fits);
                 last = rose_at output_count old now new WroteOutput [] writes.added rose here.counted;
+                calls = calls_opened (opened_file old name) old now new here.clean (near_end now new writes.added writes.folder writes.faults);
               };
           swap = λ told is. absurd (cc);
           barred = λ told has. absurd (at.keeps.free told has);
@@ -145,6 +156,10 @@ module _ (tells : Tells) (name : List ℕ) (old now : Scene) (session : Session)
                   fits = subst (λ (d : Disk). Fits session d (opened_file old name).state (opened (text_at old name))) (sym writes.folder) here.fits;
                   waits = waits_first (is_foreign (names_of_file name)) (names_of_file name) old (text_at old name) (opening_at old name) now new here.begun (replied_one (opening_at old name) now new some writes);
                   counted = all_counted old now new (recorded (opening_at old name) now new some writes) here.begun.begins.works.moments.added here.begun.begins.works.moments.is;
+                  calls = calls_first (opened_file old name) old now new here.clean (recorded (opening_at old name) now new some writes) writes.folder writes.faults
+                      (whole_opening told new writes) here.begun.begins.works.moments.added here.begun.begins.works.moments.is
+                      (shorter_by (names_of_file name) None _ old now here.begun.begins.works (length old.output + length (opening_at old name))
+                      (let some = opening_some name (opened_file old name).found in omega (arith, some)));
                 },
                 read_start fresh old new fresh_is (ap (λ (s : Scene). s.script) frame ∙ at.script),
               );

@@ -1,6 +1,6 @@
 -- A command of a run: the step and its reply, whole or cut short, and an accepted quit.
 use Rattle.std.proofs.Common.{◌≡◌, inl, ℕ, ◌≤◌, ◌<◌, ◌+◌, Bool, true, not, ◌&&◌, ◌||◌, List, [], ◌∷◌, ◌++◌, length, take, map, All, IsTrue, Ok, refl, sym, ap, subst, ◌∙◌, append_assoc, append-nil, arith}
-use Rattle.std.proofs.lemmas.List.{take_all}
+use Rattle.std.proofs.lemmas.List.{length-append, take_all}
 use Rattle.std.proofs.lemmas.List.Elements.{All-nil, All-cons, All-append}
 use Rattle.std.proofs.Math.Seq.{take-append-add}
 use Rattle.vs_faults.specs.Faults.{HasRisen}
@@ -34,13 +34,16 @@ use Rattle.vs_session.specs.declared.session.Step.TheVariants as step
 use Rattle.vs_session.specs.declared.ending.End.TheVariants as end
 use Rattle.vs_session.specs.Session.{SessionState, is_fault, accepts_quit, state_after, syncs_after, turn_of}
 use Rattle.vs_session.specs.Opened.{Opened}
+use Rattle.vs_session.specs.Failures.{FailsOnce}
 use Rattle.vs_session.specs.Fits.{Answers, Fits, StepsIn, names_of}
-use Rattle.vs_top.specs.History.{Past, any_error, commands_then, history_of, marks_of, state_of, written}
+use Rattle.vs_top.specs.History.{CommandRun, Past, any_error, commands_then, history_of, marks_of, state_of, written}
 use Rattle.vs_top.specs.Promise.{HasRun, RunsEdit}
 use Rattle.vs_top.specs.Run.{TellsRun, KeepsMarks, counts_of, OnlyFolder, FaultHasCause, commands_within, opened_file}
+use Rattle.vs_top.specs.Calls.{CallsSoFar, StepCalls}
 use Rattle.vs_top.specs.Turns.{Told, KeepsOpenFile, IsAtClose}
 use Rattle.vs_top.specs.declared.ending.Ending.TheVariants as ending
 use Rattle.vs_top.proofs.Pushes.{and_not, map_push}
+use Rattle.vs_top.proofs.Calls.{done_is, calls_cut, calls_next, calls_on, calls_read, near_end, shorter_on}
 use Rattle.vs_top.proofs.Counting.{only_then, only_output, only_script, causes_on, counted_works, counted_reads, all_counted}
 use Rattle.vs_top.proofs.Turning.{reads_look, IsTurn}
 use Rattle.vs_top.proofs.Reading.{fresh_reader, HasRead, read_on, read_in, read_within, done_is_all, all_ahead, counts_on, few_taken}
@@ -81,8 +84,11 @@ module _ {T : Type 0} {x : T} (tells : Tells) (name : List ℕ) (old now read st
     abbrev turn : Turn
     turn = turn_of state taken.first answers.ended
 
+    abbrev last : CommandRun
+    last = record { instruction = taken.first; ended = answers.ended }
+
     abbrev past' : Past
-    past' = record { instruction = taken.first; ended = answers.ended } ∷ past
+    past' = last ∷ past
 
     same_bytes : reply.bytes ≡ turn.reply
     same_bytes = ap (λ (a : Answer). a.bytes) answers.reply_is
@@ -92,6 +98,15 @@ module _ {T : Type 0} {x : T} (tells : Tells) (name : List ℕ) (old now read st
 
     stepping : Stepped names (syncs_of history) turn read stepped
     stepping = subst (λ (n : Names). Stepped n (syncs_of history) turn read stepped) keeps answers.stepped
+
+    calls_read_now : CallsSoFar file old read past
+    calls_read_now = calls_read file old now read past here.calls reads.frame (reads.all told.folder)
+
+    calls_stepped : StepCalls names state last read stepped
+    calls_stepped = record {
+      fails = subst (λ (n : Names). FailsOnce n state taken.first answers.ended read stepped) keeps answers.calls;
+      cleared = λ clear. answers.cleared (ap (λ (m : Mark). m.outcome) (sym answers.mark_is) ∙ done_is answers.ended.mark.outcome clear);
+    }
 
     kept_now : (marks' : List Mark) → marks' ≡ marks ++ mark ∷ [] → KeepsMarks file marks' past'
     kept_now marks' kept = record {
@@ -127,7 +142,19 @@ module _ {T : Type 0} {x : T} (tells : Tells) (name : List ℕ) (old now read st
           last = rose_at output_count old stepped new WroteOutput [] writes.added rose
               (counted_works names turn.write _ old read stepped (ap (λ (s : Scene). s.out_faults) step.frame) stepping.works
               (counted_reads old now read reads.frame (reads.quiet (λ is. cc)) (reads.all told.folder) here.counted).output);
+          calls = calls_cut file old past last read stepped new calls_read_now calls_stepped stepping.works.moments.added stepping.works.moments.is (near_end stepped new writes.added writes.folder writes.faults);
         }
+
+    whole_reply : (new : Scene) → Writes (length reply.bytes) reply.bytes stepped new → length old.output + length (written file past ++ turn.reply) ≤ length new.output
+    whole_reply new writes = omega (
+      arith,
+      ap (λ (l : List ℕ). length l) (writes.output ∙ ap (λ (l : List ℕ). stepped.output ++ l) (take_all (length reply.bytes) reply.bytes (omega arith))),
+      length-append stepped.output reply.bytes,
+      ap (λ (l : List ℕ). length l) stepped_output,
+      length-append old.output (written file past),
+      length-append (written file past) turn.reply,
+      ap (λ (l : List ℕ). length l) same_bytes,
+    )
 
     -- it is whole
     told_on : (new : Scene) (marks' : List Mark) (one : Bool) → marks' ≡ marks ++ mark ∷ [] → (writes : Writes (length reply.bytes) reply.bytes stepped new) → one ≡ (is_done mark.outcome && not reply.is_error)
@@ -135,6 +162,9 @@ module _ {T : Type 0} {x : T} (tells : Tells) (name : List ℕ) (old now read st
     told_on new marks' one kept writes cleans =
         let writes' : Writes (length turn.reply) turn.reply stepped new = subst (λ (l : List ℕ). Writes (length l) l stepped new) same_bytes writes in
         let so_far = so_far_now (is_foreign names) names old history read waits in
+        let long : length old.output + length (written file past ++ turn.reply) ≤ length new.output = whole_reply new writes in
+        let before : length read.output < length old.output + length (written file past ++ turn.reply) =
+        omega (arith, some_turn, ap (λ (l : List ℕ). length l) so_far.output, length-append old.output (written file past), length-append (written file past) turn.reply) in
         record {
           kept = kept_now marks' kept;
           errors = ap (λ (b : Bool). clean && b) (cleans ∙ ap (λ (m : Mark). is_done m.outcome && not reply.is_error) (sym answers.mark_is))
@@ -144,6 +174,10 @@ module _ {T : Type 0} {x : T} (tells : Tells) (name : List ℕ) (old now read st
           waits = waits_next (is_foreign names) names old history turn read stepped new waits stepping (replied_one turn.reply stepped new some_turn writes');
           counted = all_counted old stepped new (recorded turn.reply stepped new some_turn writes') (stepping.works.moments.added ++ so_far.moments)
               (stepping.works.moments.is ∙ ap (λ (ms : List Snapshot). stepping.works.moments.added ++ ms) so_far.added ∙ sym (append_assoc stepping.works.moments.added so_far.moments old.trace));
+          calls = calls_next file old past last read stepped new calls_read_now calls_stepped stepping.works.moments.added stepping.works.moments.is (recorded turn.reply stepped new some_turn writes') writes.folder writes.faults long
+              (stepping.works.moments.added ++ so_far.moments)
+              (stepping.works.moments.is ∙ ap (λ (ms : List Snapshot). stepping.works.moments.added ++ ms) so_far.added ∙ sym (append_assoc stepping.works.moments.added so_far.moments old.trace))
+              (shorter_on names turn.write _ read stepped stepping.works (length old.output + length (written file past ++ turn.reply)) before so_far.moments so_far.parts);
         }
 
   module _ (new : Scene) (marks' : List Mark) (kept : marks' ≡ marks ++ mark ∷ []) (fresh_is : fresh ≡ fresh_reader) (taken : IsTrue tells.script → TakesRequest request reader reader' now read) (frame : ChangesOutput stepped new)
@@ -247,6 +281,7 @@ told_read tells name old now read session marks clean reads told past here = rec
   fits = subst (λ (d : Disk). Fits session d (state_of (opened_file old name).state past) (syncs_of (history_of (opened_file old name) past))) (sym (ap (λ (s : Scene). s.folder) reads.frame)) here.fits;
   waits = waits_on (is_foreign (names_of_file name)) (names_of_file name) old (history_of (opened_file old name) past) now read here.waits (reads_look now read reads.frame (reads.last told.folder));
   counted = counted_reads old now read reads.frame (reads.quiet (λ is. cc)) (reads.all told.folder) here.counted;
+  calls = calls_read (opened_file old name) old now read past here.calls reads.frame (reads.all told.folder);
 }
 
 keeps_read : {T : Type 0} {x : T} (tells : Tells) (name : List ℕ) (old now read : Scene) (session : Session) (marks : List Mark) → ReadsScript tells (Ok x) now read
@@ -283,6 +318,7 @@ told_same name old read stepped session session' marks clean past here same trac
         output = record { moments = here.counted.output.moments; added = trace ∙ here.counted.output.added; newest = here.counted.output.newest ∙ sym (ap (λ (s : Scene). s.out_faults) frame) };
         folder = record { moments = here.counted.folder.moments; added = trace ∙ here.counted.folder.added; newest = here.counted.folder.newest ∙ sym faults };
       };
+      calls = calls_on (opened_file old name) old read stepped past here.calls (record { added = []; is = trace; each = tt }) (λ i. record { folder = folder i; faults = faults i });
     }
 
 -- at the script's end

@@ -36,13 +36,14 @@ use Rattle.vs_top.specs.History.{Past, any_error}
 use Rattle.vs_top.specs.Promise.{HasStress, RunsStress, row}
 use Rattle.vs_top.specs.Run.{Did, FaultHasCause, KeepsMarks, IsTimed, OnlyFolder, counts_of, opened_file}
 use Rattle.vs_top.specs.Stress.{TellsStress, HasStressed, HasStretches, IsBeforeLine, IsBehind, IsStressMoment, IsStressSafe, StressEnds, folder_after, is_up_to, stress_history, stress_line, stress_name, stress_state, stress_text, stress_turns}
+use Rattle.vs_top.specs.StressCalls.{StressCalls}
 use Rattle.vs_top.specs.StressTurns.{IsStressTurn}
 use Rattle.vs_top.specs.declared.ending.Ending.{Ending}
 use Rattle.vs_top.specs.declared.ending.Ending.TheVariants as ending
 use Rattle.vs_top.proofs.Counting.{all_counted, causes_on, only_folder, only_output, only_then}
 use Rattle.vs_top.proofs.Pushes.{flip_clean}
 use Rattle.vs_top.proofs.StressSteps.{commands_are}
-use Rattle.vs_top.proofs.StressFolders.{stress_syncs, folders_on, later_read, later_written, stretches_later, stretches_on, told_folder}
+use Rattle.vs_top.proofs.StressFolders.{as_many, called_on, stress_syncs, folders_on, later_read, later_written, stretches_later, stretches_on, told_folder}
 
 -- ---- what is known, as the end of it
 
@@ -84,12 +85,13 @@ module _ (OfHost : Scene → Type 0) (tells : Tells) (old now : Scene) (session 
         answered = answered;
         safe = λ free. safe_now told (stress_line count old here.0);
         last = last;
+        calls = record { moments = here.2.moments; added = here.2.added; each = here.2.calls };
       }
 
   -- there is no memory
   pub no_memory : (count : ℕ) (rest : List Instruction) → stress_commands count ≡ commands ++ rest → RunsStress OfHost tells count old now ending.NoMemory marks
   no_memory count rest is = record {
-    told = λ told. stops count ending.NoMemory told (record { rest = rest; first = is ∙ sym (ap (λ (l : List Instruction). l ++ rest) (turn.told told).1) ∙ sym (commands_are (turn.told told).0 rest); output = (turn.told told).2.output }) tt;
+    told = λ told. stops count ending.NoMemory told (record { rest = rest; first = is ∙ sym (ap (λ (l : List Instruction). l ++ rest) (turn.told told).1) ∙ sym (commands_are (turn.told told).0 rest); output = (turn.told told).2.output; closing = refl; kept = inr (session, turn.keeps.names, (turn.told told).2.fits) }) tt;
     swap = λ told same. absurd (cc);
     barred = λ told has. absurd (turn.keeps.free told has);
     file = λ told. tt;
@@ -132,6 +134,8 @@ module _ (OfHost : Scene → Type 0) (tells : Tells) (old now : Scene) (session 
             safe = here.2.safe;
             spared = subst (λ (s : Scene). Rattle.vs_disk.specs.Names.SameAt (is_foreign names) old.folder s.folder) (sym is) here.2.spared;
             steps = subst (λ (s : Scene). HasStretches OfHost names old here.2.moments (stress_turns old here.0) s.folder_faults) (sym is) here.2.steps;
+            of_host = subst OfHost (sym is) here.2.of_host;
+            calls = here.2.calls;
             newest_at_start = here.2.newest_at_start;
             newest = subst HasNewest (sym is) here.2.newest;
             output = ap (λ (s : Scene). s.output) is ∙ here.2.output;
@@ -214,6 +218,20 @@ module _ (OfHost : Scene → Type 0) (tells : Tells) (old now : Scene) (session 
           | inr left ↦ record { moments = here.moments; added = left.trace ∙ here.added; safe = moments_now told (told_line told); spared = spared; steps = steps }
         ]
 
+    -- and of the calls of the commands
+    put_calls : (new : Scene) → (IsTrue tells.folder → IsAdded WroteOutput [] now new) → (told : TellsStress tells) → StressCalls OfHost old new (past told)
+    put_calls new added told =
+        let here = (turn.told told).2 in
+        let last : Snapshot = snapshot_of new WroteOutput [] in
+        elim (added told.folder) [
+          | inl told_here ↦ record {
+            moments = last ∷ here.moments;
+            added = told_here ∙ ap (λ (ms : List Snapshot). last ∷ ms) here.added;
+            each = called_on OfHost old here.moments (last ∷ []) (past told) (λ n most. (inr refl, tt)) here.calls;
+          }
+          | inr left ↦ record { moments = here.moments; added = left.trace ∙ here.added; each = here.calls }
+        ]
+
     -- a part of it was written
     pub line_cut : (new : Scene) → ChangesOutput now new → (IsTrue tells.folder → IsAdded WroteOutput [] now new) → (IsTrue tells.output → (n : ℕ) × (new.output ≡ now.output ++ take n line)) → HasRisen now.out_faults new.out_faults
         → RunsStress OfHost tells count old new ending.OutputFault marks
@@ -231,6 +249,7 @@ module _ (OfHost : Scene → Type 0) (tells : Tells) (old now : Scene) (session 
                 answered = (cut.0, record { all = here.1 ∙ all; output = output });
                 safe = λ free. put_safe new frame added told cut.0 output;
                 last = rose_at output_count old now new WroteOutput [] (added told.folder) rose here.2.counted;
+                calls = put_calls new added told;
               };
           swap = λ told same. absurd (cc);
           barred = λ told has. absurd (turn.keeps.free told has);
@@ -318,6 +337,15 @@ module _ (OfHost : Scene → Type 0) (tells : Tells) (old now : Scene) (session 
                   (stretches_on OfHost names old was.moments works.moments.added (turns told) mid.folder_faults all_behind same_folders was.steps);
             }
 
+        end_calls : StressCalls OfHost old new (past told)
+        end_calls =
+            let was = put_calls mid added told in
+            record {
+              moments = works.moments.added ++ was.moments;
+              added = works.moments.is ∙ ap (λ (ms : List Snapshot). works.moments.added ++ ms) was.added ∙ sym (append_assoc works.moments.added was.moments old.trace);
+              each = called_on OfHost old was.moments works.moments.added (past told) (λ n most. all_behind n (omega (arith, most, as_many old (past told)))) was.each;
+            }
+
         stressed : HasStressed count old new (did_of (past told)) (told_line told)
         stressed = record { all = (turn.told told).1 ∙ all; output = works.output ∙ mid_output }
 
@@ -339,6 +367,7 @@ module _ (OfHost : Scene → Type 0) (tells : Tells) (old now : Scene) (session 
           answered = inr (inr (stressed told));
           safe = λ free. end_safe told;
           last = rose_last folder_count old mid new (λ m no_fault. no_fault.folder) (finishes.last told.folder) rose (counted told);
+          calls = end_calls told;
         };
         swap = λ told same. absurd (cc);
         barred = λ told has. absurd (turn.keeps.free told has);
@@ -364,7 +393,7 @@ module _ (OfHost : Scene → Type 0) (tells : Tells) (old now : Scene) (session 
           by_clean : (b : Bool) → ((told : TellsStress tells) → b ≡ not (any_error (opened_file old stress_name).state (past told)))
               → RunsStress OfHost tells count old new (if b then ending.Done else ending.WithErrors) marks
           by_clean true errors = record {
-            told = λ told. record { did = did_of (past told); kept = kept told; answered = ends_as true errors told; safe = λ free. end_safe told; last = tt };
+            told = λ told. record { did = did_of (past told); kept = kept told; answered = ends_as true errors told; safe = λ free. end_safe told; last = tt; calls = end_calls told };
             swap = λ told same. absurd (cc);
             barred = λ told has. absurd (turn.keeps.free told has);
             file = turn.keeps.file;
@@ -374,7 +403,7 @@ module _ (OfHost : Scene → Type 0) (tells : Tells) (old now : Scene) (session 
             times = times_new;
           }
           by_clean false errors = record {
-            told = λ told. record { did = did_of (past told); kept = kept told; answered = ends_as false errors told; safe = λ free. end_safe told; last = tt };
+            told = λ told. record { did = did_of (past told); kept = kept told; answered = ends_as false errors told; safe = λ free. end_safe told; last = tt; calls = end_calls told };
             swap = λ told same. absurd (cc);
             barred = λ told has. absurd (turn.keeps.free told has);
             file = turn.keeps.file;

@@ -18,6 +18,7 @@ use Rattle.vs_session.specs.declared.session.Session.{Session}
 use Rattle.vs_session.specs.Session.{turn_of}
 use Rattle.vs_top.specs.History.{Past}
 use Rattle.vs_top.specs.Stress.{HasCount, HasEnds, HasSteps, HasStretches, IsBeforeLine, IsBehind, folder_after, is_up_to, stress_history, stress_name, stress_state, stress_text, stress_turns}
+use Rattle.vs_top.specs.StressCalls.{EachCalled, IsAfter}
 use Rattle.vs_top.specs.StressTurns.{StressTold}
 
 -- ---- which moments are behind a command
@@ -97,6 +98,42 @@ counts_on OfHost start older newer n count behind has = record {
 pub counts_now : (OfHost : Scene → Type 0) (start now : Scene) (n : ℕ) (moments : List Snapshot) → OfHost now → now.trace ≡ moments ++ start.trace → Each (λ m. is_up_to start n m ≡ true) moments
     → HasCount OfHost start moments n now.folder_faults
 counts_now OfHost start now n moments of_host added each = record { scene = now; of_host = of_host; later = []; earlier = moments; moments_are = refl; later_are = tt; earlier_are = each; trace = added; is = refl }
+
+-- ---- the calls
+
+-- moments behind the commands change nothing
+after_on : (OfHost : Scene → Type 0) (start : Scene) (older newer : List Snapshot) (n : ℕ) (scene : Scene) → Each (IsBehind start n) newer → IsAfter OfHost start older n scene → IsAfter OfHost start (newer ++ older) n scene
+after_on OfHost start older newer n scene behind is = record {
+  of_host = is.of_host;
+  later = newer ++ is.later;
+  earlier = is.earlier;
+  moments_are = ap (λ (ms : List Snapshot). newer ++ ms) is.moments_are ∙ sym (append_assoc newer is.later is.earlier);
+  later_are = Each-append (IsBehind start n) newer is.later behind is.later_are;
+  earlier_are = is.earlier_are;
+  trace = is.trace;
+}
+
+pub called_on : (OfHost : Scene → Type 0) (start : Scene) (older newer : List Snapshot) (past : Past) → ((n : ℕ) → n ≤ length past → Each (IsBehind start n) newer) → EachCalled OfHost start older past → EachCalled OfHost start (newer ++ older) past
+called_on OfHost start older newer [] behind each = tt
+called_on OfHost start older newer (last ∷ past) behind each =
+    let here = each.0 in (
+      record {
+        asked = here.asked;
+        ended = here.ended;
+        begins = after_on OfHost start older newer (length past) here.asked (behind (length past) (omega arith)) here.begins;
+        ends = after_on OfHost start older newer (length past + 1) here.ended (behind (length past + 1) (omega arith)) here.ends;
+        holds = here.holds;
+      },
+      called_on OfHost start older newer past (λ n most. behind n (omega (arith, most))) each.1,
+    )
+
+-- there are as many turns as commands
+pub as_many : (old : Scene) (past : Past) → length (stress_turns old past) ≡ length past
+as_many old past = counted past [] ∙ omega arith
+  where
+    counted : (past : Past) (rest : List Turn) → length (turns_then (stress_history old past) rest) ≡ length past + length rest
+    counted [] rest = omega arith
+    counted (last ∷ past) rest = counted past (turn_of (stress_state old past) last.instruction last.ended ∷ rest) ∙ omega arith
 
 -- ---- the steps
 

@@ -64,6 +64,7 @@ module _ (OfHost : Scene → Type 0) (tells : Tells) (old new : Scene) (acts : A
             steps = first_count runs.moments.added runs.moments.is (Each-weaker (Inside old (Opens stress_name old.folder)) (λ m. is_up_to old 0 m ≡ true) (up_to_none free) runs.moments.added runs.moments.each);
           };
       last = last;
+      calls = record { moments = (acts.runs told.folder).moments.added; added = (acts.runs told.folder).moments.is; each = tt };
     }
 
     output_same : new.output ≡ old.output
@@ -87,7 +88,7 @@ module _ (OfHost : Scene → Type 0) (tells : Tells) (old new : Scene) (acts : A
       times = λ told. no_times old new marks none (ap (λ (s : Scene). s.answers) acts.frame);
     }
     stress_open_fails opening.Failed failed quiet limit swap barred barred_looks looks = record {
-      told = λ told. stress_none ending.FolderFault told (inl (record { none = none; output = output_same }))
+      told = λ told. stress_none ending.FolderFault told (inl (record { none = none; output = output_same }, (acts.runs told.folder).now))
           (rose_last folder_count old old new (λ m no_fault. no_fault.folder) (acts.last told.folder) (failed refl) (counted_none folder_count old));
       swap = λ told is. absurd (cc);
       barred = λ told has. only_looked tells old new ending.FolderFault marks (inr (inr refl)) none (barred_looks told has) told;
@@ -98,7 +99,7 @@ module _ (OfHost : Scene → Type 0) (tells : Tells) (old new : Scene) (acts : A
       times = λ told. no_times old new marks none (ap (λ (s : Scene). s.answers) acts.frame);
     }
     stress_open_fails opening.NoMemory failed quiet limit swap barred barred_looks looks = record {
-      told = λ told. stress_none ending.NoMemory told (record { rest = stress_commands count; first = refl; output = output_same }) tt;
+      told = λ told. stress_none ending.NoMemory told (record { rest = stress_commands count; first = refl; output = output_same; closing = refl; kept = inl ((looks (λ is. absurd (cc))).runs told.folder) }) tt;
       swap = λ told is. absurd (cc);
       barred = λ told has. only_looked tells old new ending.NoMemory marks (inr (inl refl)) none (barred_looks told has) told;
       file = λ told. tt;
@@ -136,6 +137,8 @@ module _ (OfHost : Scene → Type 0) (tells : Tells) (old new : Scene) (acts : A
             safe = Each-weaker (Inside old (Opens stress_name old.folder)) (IsBeforeLine names old (stress_text old) []) (before (free told.folder)) runs.moments.added runs.moments.each;
             spared = runs.now.spared;
             steps = first_count runs.moments.added runs.moments.is (Each-weaker (Inside old (Opens stress_name old.folder)) (λ m. is_up_to old 0 m ≡ true) (up_to_none (free told.folder)) runs.moments.added runs.moments.each);
+            of_host = of_host;
+            calls = tt;
             newest_at_start = newest_at_start told.folder;
             newest = newest told.folder;
             output = ap (λ (s : Scene). s.output) acts.frame;

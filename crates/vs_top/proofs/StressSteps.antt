@@ -27,15 +27,19 @@ use Rattle.vs_safety.specs.Safety.{IsUnderWay, Spares, Stepped, Works}
 use Rattle.vs_safety.proofs.Histories.{then_is}
 use Rattle.vs_session.specs.declared.session.Session.{Session}
 use Rattle.vs_session.specs.Session.{SessionState, Ended, is_write, lacks_name, turn_of, undo_work, write_work, writes_files}
-use Rattle.vs_session.specs.Fits.{Answers}
+use Rattle.vs_session.specs.Failures.{FailsOnce}
+use Rattle.vs_session.specs.Fits.{Answers, LeavesNoneMade}
+use Rattle.vs_top.specs.Calls.{StepCalls, is_clear}
 use Rattle.vs_top.specs.History.{Past, any_error, commands_then, marks_of}
 use Rattle.vs_top.specs.Run.{counts_of, FaultHasCause, opened_file}
 use Rattle.vs_top.specs.Stress.{TellsStress, HasEnds, HasStretches, IsBeforeLine, IsBehind, folder_after, is_up_to, stress_history, stress_name, stress_state, stress_text, stress_turns}
+use Rattle.vs_top.specs.StressCalls.{EachCalled, HasCalled}
 use Rattle.vs_top.specs.StressTurns.{IsStressTurn, StressTold}
+use Rattle.vs_top.proofs.Calls.{done_is}
 use Rattle.vs_top.proofs.Counting.{causes_on, counted_works}
 use Rattle.vs_top.proofs.Pushes.{and_not, map_push}
 use Rattle.vs_top.proofs.Stepping.{HasStepped}
-use Rattle.vs_top.proofs.StressFolders.{stress_syncs, before_line, counts_now, folder_now, folders_on, later_read, stretches_on, stretches_push, told_folder}
+use Rattle.vs_top.proofs.StressFolders.{as_many, called_on, stress_syncs, before_line, counts_now, folder_now, folders_on, later_read, stretches_on, stretches_push, told_folder}
 
 -- the moments so far, with one command more
 pub moment_on : (names : Names) (start : Scene) (text : Text) (turns : List Turn) (turn : Turn) (m : Snapshot) → IsBeforeLine names start text turns m → IsBeforeLine names start text (turns ++ turn ∷ []) m
@@ -181,6 +185,31 @@ module _ (OfHost : Scene → Type 0) (tells : Tells) (old now new : Scene) (sess
         (stretches_on OfHost names old here.moments newer turns now.folder_faults behind_before same_before here.steps)
         (counts_now OfHost old new (length turns + 1) moments of_host added all_up_to) ends_here
 
+    clear_here : is_clear (record { instruction = instruction; ended = answers.ended }) ≡ true → LeavesNoneMade now.folder new.folder
+    clear_here clear = answers.cleared (ap (λ (m : Mark). m.outcome) (sym answers.mark_is) ∙ done_is answers.ended.mark.outcome clear)
+
+    calls : EachCalled OfHost old moments past'
+    calls = (
+      subst (λ (n : ℕ). HasCalled OfHost (StepCalls names state (record { instruction = instruction; ended = answers.ended })) old moments n) (as_many old past)
+          (record {
+            asked = now;
+            ended = new;
+            begins = record {
+              of_host = here.of_host;
+              later = newer;
+              earlier = here.moments;
+              moments_are = refl;
+              later_are = behind_before (length turns) (omega arith);
+              earlier_are = Each-weaker (IsBeforeLine names old (stress_text old) turns) (λ m. is_up_to old (length turns) m ≡ true)
+                  (before_line names old (stress_text old) turns (length turns) (omega arith)) here.moments here.safe;
+              trace = here.added;
+            };
+            ends = record { of_host = of_host; later = []; earlier = moments; moments_are = refl; later_are = tt; earlier_are = all_up_to; trace = added };
+            holds = record { fails = subst (λ (n : Names). FailsOnce n state instruction answers.ended now new) turn.keeps.names answers.calls; cleared = clear_here };
+          }),
+      called_on OfHost old here.moments newer past (λ n most. behind_before n (omega (arith, most, as_many old past))) here.calls,
+    )
+
     told_on : StressTold OfHost old new after (marks ++ mark ∷ []) (clean && (is_done mark.outcome && not reply.is_error)) past'
     told_on =
         let one_turn : List Turn = one ∷ [] in
@@ -199,6 +228,8 @@ module _ (OfHost : Scene → Type 0) (tells : Tells) (old now new : Scene) (sess
           safe = subst (λ (ts : List Turn). Each (IsBeforeLine names old (stress_text old) ts) moments) (sym turns_are) safe;
           spared = same_then (is_foreign names) old.folder now.folder new.folder here.spared works.spared;
           steps = subst (λ (ts : List Turn). HasStretches OfHost names old moments ts new.folder_faults) (sym turns_are) steps;
+          of_host = of_host;
+          calls = calls;
           newest_at_start = here.newest_at_start;
           newest = newest told.folder;
           output = works.output ∙ here.output;

@@ -34,8 +34,10 @@ use Rattle.vs_top.specs.Ending.{script_ending}
 use Rattle.vs_top.specs.History.{Past, commands_then, history_of, state_of}
 use Rattle.vs_top.specs.Promise.{HasRun, RunsEdit}
 use Rattle.vs_top.specs.Run.{TellsRun, Did, HasAnswered, HasSince, KeepsSwap, counts_of, IsTimed, opened_file, ran_of}
+use Rattle.vs_top.specs.Calls.{CallsAsMarked}
 use Rattle.vs_top.specs.Turns.{Told, KeepsOpenFile}
 use Rattle.vs_top.specs.declared.ending.Ending.TheVariants as ending
+use Rattle.vs_top.proofs.Calls.{calls_stop}
 use Rattle.vs_top.proofs.Counting.{only_script, causes_on}
 use Rattle.vs_top.proofs.Reading.{fresh_reader, HasRead, read_on, read_within, were_read, stops_run, counts_on, few_taken}
 
@@ -120,6 +122,11 @@ module _ {T : Type 0} {result : Result T ScriptErr} (tells : Tells) (name : List
         let so_far = so_far_now (is_foreign (names_of_file name)) (names_of_file name) old (history_of file past) read waits in
         record { output = so_far.output; closing = refl; stays = since_reply (names_of_file name) old (history_of file past) read read so_far [] refl (λ m. state_now read ≡ state_in m) (sym so_far.state) }
 
+    calls : CallsAsMarked file old read did
+    calls =
+        let moved = reads.last told.folder in
+        calls_stop file old now read past here.calls (ap (λ (s : Scene). s.folder) reads.frame) (moved.last ++ moved.earlier) (moved.is ∙ sym (append_assoc moved.last moved.earlier now.trace))
+
     -- the session still fits the folder
     left : KeepsSwap file did read.folder
     left = (session, same, subst (λ (d : Disk). Fits session d (state_of file.state past) (syncs_of (history_of file past))) (sym (ap (λ (s : Scene). s.folder) reads.frame)) here.fits)
@@ -134,6 +141,7 @@ module _ {T : Type 0} {result : Result T ScriptErr} (tells : Tells) (name : List
           safe = λ free. safe;
           left = left;
           last = rose_reading old now read (reads.last told.folder) rose here.counted.script;
+          calls = calls;
         }
 
     run_too_long : Stops script_error.TooLong whole_commands [] reader reader' now read → HasRun name old read ending.ScriptTooLong marks
@@ -150,6 +158,7 @@ module _ {T : Type 0} {result : Result T ScriptErr} (tells : Tells) (name : List
           safe = λ free. safe;
           left = left;
           last = tt;
+          calls = calls;
         }
 
     run_no_memory : (request : Request) (taken : TakesRequest request reader reader' now read) → HasSeen reader' read → CountsTaken fresh reader' old read → HasRun name old read ending.NoMemory marks
@@ -170,6 +179,7 @@ module _ {T : Type 0} {result : Result T ScriptErr} (tells : Tells) (name : List
           safe = λ free. safe;
           left = (refl, inr left);
           last = tt;
+          calls = calls;
         }
 
   module _ (turn : IsTurn tells name old now session fresh reader marks clean) where

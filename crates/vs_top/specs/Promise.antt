@@ -14,10 +14,12 @@ use Rattle.vs_safety.specs.Safety.{IsCrashSafe}
 use Rattle.vs_safety.specs.Causes.{RoseLast, script_count, output_count, folder_count}
 use Rattle.vs_session.specs.Open.{PassesLimit}
 use Rattle.vs_session.specs.Opened.{Opened}
-use Rattle.vs_session.specs.Fits.{HasSwap}
+use Rattle.vs_session.specs.Fits.{HasSwap, Opens}
 use Rattle.vs_top.specs.Run.{TellsRun, Did, KeepsMarks, AnswersNone, AnswersAll, AnswersTaken, AnswersLimit, LacksMemory, IsCutShort, IsCutLast}
 use Rattle.vs_top.specs.Run.{FailsToClose, KeepsSwap, Counts, counts_of, OnlyFolder, FaultHasCause, FileFits, IsBarred, IsTimed, opened_file, ran_of}
+use Rattle.vs_top.specs.Calls.{CallsAsMarked}
 use Rattle.vs_top.specs.Stress.{TellsStress, HasStressed, IsStressing, IsStressSafe, StressEnds, stress_line, stress_name, stress_text, stress_turns}
+use Rattle.vs_top.specs.StressCalls.{StressCalls}
 use Rattle.vs_top.specs.declared.ending.Ending.{Ending}
 use Rattle.vs_top.specs.declared.ending.Ending.TheVariants as ending
 
@@ -99,11 +101,15 @@ output_fault = record (after_opening (λ file old new marks did. IsCutShort file
       counts = λ old new. HasRisen old.output new.output × OnlyFolder old (record new { output = old.output });
     }
 
+-- nothing was written, and the swap files are as the opening of the file of this name leaves them
+abbrev pub failed_opening : List ℕ → Scene → Scene → List Mark → Type 0
+failed_opening name old new marks = AnswersNone old new marks × Opens name old.folder new.folder
+
 -- a call on the folder failed, of the opening or of the close
 abbrev pub folder_fault : Row
-folder_fault = record (after_opening (λ file old new marks did. AnswersNone old new marks ⊎ FailsToClose file old new did)
+folder_fault = record (after_opening (λ file old new marks did. failed_opening file.name old new marks ⊎ FailsToClose file old new did)
     (λ count old new marks did.
-    AnswersNone old new marks ⊎ HasStressed count old new did [] ⊎ HasStressed count old new did (stress_line count old did.past))) {
+    failed_opening stress_name old new marks ⊎ HasStressed count old new did [] ⊎ HasStressed count old new did (stress_line count old did.past))) {
       left = λ file old new did. (did.closing ≡ NotBegun) ⊎ KeepsSwap file did new.folder;
       last = RoseLast folder_count;
       counts = λ old new. HasRisen old.folder new.folder × OnlyFolder old new;
@@ -146,6 +152,7 @@ pub record HasRun (name : List ℕ) (old new : Scene) (end : Ending) (marks : Li
   pub safe : (HasSwap (names_of_file name) old.folder → ⊥) → IsCrashSafe (names_of_file name) old new (ran_of name old did)
   pub left : (row end).left (opened_file old name) old new did
   pub last : (row end).last old new
+  pub calls : CallsAsMarked (opened_file old name) old new did
 
 -- What `edit` does with the file of a name, by its ending.
 pub record RunsEdit (tells : Tells) (name : List ℕ) (old new : Scene) (end : Ending) (marks : List Mark) : Type 0 where
@@ -168,6 +175,7 @@ pub record HasStress (OfHost : Scene → Type 0) (count : ℕ) (old new : Scene)
   pub safe : (HasSwap (names_of_file stress_name) old.folder → ⊥)
       → IsStressSafe OfHost (names_of_file stress_name) old new (stress_text old) (stress_turns old did.past) (stress_line count old did.past)
   pub last : (row end).last old new
+  pub calls : StressCalls OfHost old new did.past
 
 -- What the stress mode does, by its ending, where these are the scenes of the hosts of a type. The script is not read.
 pub record RunsStress (OfHost : Scene → Type 0) (tells : Tells) (count : ℕ) (old new : Scene) (end : Ending) (marks : List Mark) : Type 0 where

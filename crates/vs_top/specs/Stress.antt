@@ -1,5 +1,5 @@
 -- What the stress mode does: it answers commands of its own over a session, and writes what the session has come to.
-use Rattle.std.specs.Prelude.{ℕ, Bool, true, false, List, ◌∷◌, [], ◌≡◌, ◌≤◌, ◌+◌, ◌⊎◌, ◌++◌, ◌&&◌, if◌then◌else◌, All, codes, length, take, nat_le, IsTrue}
+use Rattle.std.specs.Prelude.{ℕ, Bool, true, false, List, ◌∷◌, [], ◌≡◌, ◌≤◌, ◌+◌, ◌⊎◌, ◌++◌, ◌&&◌, if◌then◌else◌, codes, length, take, nat_le, IsTrue}
 use Rattle.std.specs.Prelude.{IfSome, Some}
 use Rattle.vs_faults.specs.Faults.{HasRisen}
 use Rattle.vs_host.specs.Disk.{Disk}
@@ -8,11 +8,12 @@ use Rattle.vs_host.specs.Trace.{Snapshot, Each, WroteOutput}
 use Rattle.vs_host.specs.World.{Tells, Scene, content_of}
 use Rattle.vs_host.specs.declared.names.Names.{Names}
 use Rattle.vs_disk.specs.Names.{SameAt}
+use Rattle.vs_disk.specs.Runs.{Looks}
 use Rattle.vs_pair.specs.Pair.{is_foreign}
 use Rattle.vs_pair.specs.Steps.{IsFresh}
 use Rattle.vs_excmd.specs.Request.{Instruction}
 use Rattle.vs_safety.specs.Texts.{Text, Recovers, RecoversOrNone, IsFlag, recoverable}
-use Rattle.vs_safety.specs.Turns.{Turn, with_begun, after_turns, opened}
+use Rattle.vs_safety.specs.Turns.{NotBegun, Turn, with_begun, after_turns, opened}
 use Rattle.vs_safety.specs.History.{History, syncs_of, turns_then}
 use Rattle.vs_session.specs.Session.{SessionState}
 use Rattle.vs_session.specs.Opened.{text_in}
@@ -20,7 +21,7 @@ use Rattle.vs_session.specs.Summary.{summary_of}
 use Rattle.vs_stress.specs.Arguments.{IsCount, summary_line}
 use Rattle.vs_stress.specs.Commands.{stress_commands}
 use Rattle.vs_top.specs.History.{Past, any_error, commands_then, history_of, state_of}
-use Rattle.vs_top.specs.Run.{Did, opened_file}
+use Rattle.vs_top.specs.Run.{Did, KeepsSwap, opened_file}
 
 -- the file of the stress mode
 abbrev pub stress_name : List ℕ
@@ -71,11 +72,14 @@ pub record StressEnds (errors : Bool) (count : ℕ) (old new : Scene) (did : Did
   pub errors_are : any_error (opened_file old stress_name).state did.past ≡ errors
   pub gone : IsFresh (names_of_file stress_name) new.folder
 
--- The first commands were answered, and nothing was written.
+-- The first commands were answered, and nothing was written. The folder was only looked at, or some session fits it, so that both swap
+-- files are there.
 pub record IsStressing (count : ℕ) (old new : Scene) (did : Did) : Type 0 where
   pub rest : List Instruction
   pub first : stress_commands count ≡ commands_then did.past rest
   pub output : new.output ≡ old.output
+  pub closing : did.closing ≡ NotBegun
+  pub kept : Looks old new ⊎ KeepsSwap (opened_file old stress_name) did new.folder
 
 -- ---- the folder between two commands
 

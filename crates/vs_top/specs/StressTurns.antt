@@ -15,6 +15,7 @@ use Rattle.vs_stress.specs.Commands.{stress_commands}
 use Rattle.vs_top.specs.History.{Past, any_error, commands_then}
 use Rattle.vs_top.specs.Run.{KeepsMarks, opened_file}
 use Rattle.vs_top.specs.Stress.{TellsStress, HasStretches, IsBeforeLine, stress_history, stress_name, stress_state, stress_text, stress_turns}
+use Rattle.vs_top.specs.StressCalls.{EachCalled}
 use Rattle.vs_top.specs.Turns.{KeepsOpenFile}
 
 -- These commands were answered, and nothing was written.
@@ -27,6 +28,8 @@ pub record StressTold (OfHost : Scene → Type 0) (old now : Scene) (session : S
   pub safe : Each (IsBeforeLine (names_of_file stress_name) old (stress_text old) (stress_turns old past)) moments
   pub spared : SameAt (is_foreign (names_of_file stress_name)) old.folder now.folder
   pub steps : HasStretches OfHost (names_of_file stress_name) old moments (stress_turns old past) now.folder_faults
+  pub of_host : OfHost now
+  pub calls : EachCalled OfHost old moments past
   pub newest_at_start : HasNewest old
   pub newest : HasNewest now
   pub output : now.output ≡ old.output

@@ -16,6 +16,7 @@ use Rattle.vs_session.specs.Session.{accepts_quit}
 use Rattle.vs_session.specs.Opened.{Opened, text_in}
 use Rattle.vs_session.specs.Fits.{Fits, HasOpened, HasSwap, names_of}
 use Rattle.vs_top.specs.History.{Past, any_error, commands_then, history_of, state_of}
+use Rattle.vs_top.specs.Calls.{CallsSoFar, OpensClean}
 use Rattle.vs_top.specs.Run.{TellsRun, KeepsMarks, counts_of, OnlyFolder, FaultHasCause, FileFits, IsTimed, commands_in, opened_file}
 
 -- the text that a run opens, and its opening reply
@@ -39,6 +40,7 @@ pub record Told (name : List ℕ) (old now : Scene) (session : Session) (marks :
   pub fits : Fits session now.folder (state_of (opened_file old name).state past) (syncs_of (history_of (opened_file old name) past))
   pub waits : Waits (names_of_file name) old (history_of (opened_file old name) past) now
   pub counted : AreCounted old now
+  pub calls : CallsSoFar (opened_file old name) old now past
 
 -- The file was opened, and nothing was written.
 pub record ToldOpen (name : List ℕ) (old now : Scene) (session : Session) : Type 0 where
@@ -46,6 +48,7 @@ pub record ToldOpen (name : List ℕ) (old now : Scene) (session : Session) : Ty
   pub fits : Fits session now.folder (opened_file old name).state (opened (text_at old name))
   pub begun : HasBegun (names_of_file name) (text_at old name) old now
   pub counted : IsCounted output_count old now
+  pub clean : OpensClean old now
 
 -- What a run over any host keeps: the file was within its limits and had no swap file, the names are those of the file, and but for
 -- commands that were answered so no call failed.

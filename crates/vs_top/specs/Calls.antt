@@ -1,0 +1,113 @@
+-- Which calls of a run failed, and that no file stays under a name under which one was made before it took its own.
+use Rattle.std.specs.Prelude.{◌≡◌, ◌≢◌, ◌≤◌, ◌+◌, ◌⊎◌, ℕ, Bool, true, List, [], ◌∷◌, ◌++◌, ⊤, length}
+use Rattle.vs_host.specs.Names.{names_of_file}
+use Rattle.vs_host.specs.Trace.{Snapshot, Each}
+use Rattle.vs_host.specs.World.{Scene}
+use Rattle.vs_host.specs.declared.names.Names.{Names}
+use Rattle.vs_disk.specs.Runs.{FailsLast}
+use Rattle.vs_safety.specs.Stretches.{IsFirst}
+use Rattle.vs_safety.specs.Turns.{NotBegun}
+use Rattle.vs_safety.specs.Writes.{state_in, state_now}
+use Rattle.vs_session.specs.Session.{SessionState}
+use Rattle.vs_session.specs.Opened.{Opened}
+use Rattle.vs_session.specs.Failures.{FailsOnce}
+use Rattle.vs_machine.specs.Machine.{is_done}
+use Rattle.vs_session.specs.Fits.{LeavesNoneMade}
+use Rattle.vs_top.specs.History.{CommandRun, Past, state_of, written}
+use Rattle.vs_top.specs.Run.{Did, closing_line}
+
+-- ---- places in the trace
+
+-- At each call since the output had n bytes for the first time, and now, the folder and the count of its calls that failed are as they
+-- were then: at most the script was read.
+pub record StillSince (n : ℕ) (start now : Scene) : Type 0 where
+  pub moments : List Snapshot
+  pub added : now.trace ≡ moments ++ start.trace
+  pub first : Snapshot
+  pub begins : IsFirst n moments first
+  pub still : Each (λ m. state_in m ≡ state_in first) begins.newer
+  pub state : state_now now ≡ state_in first
+
+-- The next call left the folder and its count, and after it the output has n bytes.
+pub record IsWrittenNext (n : ℕ) (ended now : Scene) : Type 0 where
+  pub write : Snapshot
+  pub later : List Snapshot
+  pub is : now.trace ≡ later ++ write ∷ ended.trace
+  pub reached : n ≤ length write.output
+  pub state : state_in write ≡ state_now ended
+
+-- At most one call came after, which left the folder and its count.
+pub record IsNearEnd (ended now : Scene) : Type 0 where
+  pub last : List Snapshot
+  pub one : length last ≤ 1
+  pub is : now.trace ≡ last ++ ended.trace
+  pub state : state_now now ≡ state_now ended
+
+-- the next call brought the output to n bytes, or was the last one of the run
+abbrev pub IsFollowed : ℕ → Scene → Scene → Type 0
+IsFollowed n ended now = IsWrittenNext n ended now ⊎ IsNearEnd ended now
+
+-- P holds of all calls on the folder between two replies: from where the output had the one number of bytes to where it had the other,
+-- or the run ended.
+pub record HasBetween (P : Scene → Scene → Type 0) (from to : ℕ) (start now : Scene) : Type 0 where
+  pub asked : Scene
+  pub ended : Scene
+  pub begins : StillSince from start asked
+  pub holds : P asked ended
+  pub ends : IsFollowed to ended now
+
+-- ---- the calls of a run
+
+-- The file was opened. No call failed, and no file stays under a name under which one was made.
+pub record OpensClean (start opened : Scene) : Type 0 where
+  pub last : FailsLast start opened
+  pub none : opened.folder_faults ≡ start.folder_faults
+  pub cleared : LeavesNoneMade start.folder opened.folder
+
+-- So it was, and then the opening reply was written, to n bytes of output.
+pub record HasOpening (n : ℕ) (start now : Scene) : Type 0 where
+  pub opened : Scene
+  pub clean : OpensClean start opened
+  pub ends : IsFollowed n opened now
+
+-- whether a command leaves no file under a name under which it made one: it was carried out
+abbrev pub is_clear : CommandRun → Bool
+is_clear command = is_done command.ended.mark.outcome
+
+-- The calls of a command: which of them failed, and whether it leaves no file under a name under which it made one.
+pub record StepCalls (names : Names) (state : SessionState) (command : CommandRun) (old new : Scene) : Type 0 where
+  pub fails : FailsOnce names state command.instruction command.ended old new
+  pub cleared : is_clear command ≡ true → LeavesNoneMade old.folder new.folder
+
+-- how long the output is where the replies to these commands are whole in it
+abbrev pub long_at : Opened → Scene → Past → ℕ
+long_at file start past = length start.output + length (written file past)
+
+-- So it is of the calls of each command, between the reply before and its own.
+abbrev pub EachCommand : Opened → Scene → Scene → Past → Type 0
+EachCommand file start now [] = ⊤
+EachCommand file start now (last ∷ past) =
+    HasBetween (StepCalls (names_of_file file.name) (state_of file.state past) last) (long_at file start past) (long_at file start (last ∷ past)) start now
+    × EachCommand file start now past
+
+-- Each of these commands leaves no file under a name under which it made one.
+abbrev pub AllClear : Past → Type 0
+AllClear [] = ⊤
+AllClear (last ∷ past) = (is_clear last ≡ true) × AllClear past
+
+-- Of the opening no call failed, where its reply was written; of each command as its mark says; and of the last sync or the removal
+-- none but the last one. From the opening reply on until the run closes, no file stands under a name under which one was made that had
+-- none at the start, unless a command left it.
+pub record CallsAsMarked (file : Opened) (old new : Scene) (did : Did) : Type 0 where
+  pub opening : long_at file old [] ≤ length new.output → HasOpening (long_at file old []) old new
+  pub commands : EachCommand file old new did.past
+  pub closing : did.closing ≢ NotBegun
+      → HasBetween FailsLast (long_at file old did.past) (long_at file old did.past + length (closing_line did.closing)) old new
+  pub cleared : did.closing ≡ NotBegun → long_at file old [] ≤ length new.output → AllClear did.past → LeavesNoneMade old.folder new.folder
+
+-- What is known between two commands, however the trace goes on.
+pub record CallsSoFar (file : Opened) (start now : Scene) (past : Past) : Type 0 where
+  pub still : StillSince (long_at file start past) start now
+  pub opening : (new : Scene) (newer : List Snapshot) → new.trace ≡ newer ++ now.trace → HasOpening (long_at file start []) start new
+  pub commands : (new : Scene) (newer : List Snapshot) → new.trace ≡ newer ++ now.trace → EachCommand file start new past
+  pub cleared : AllClear past → LeavesNoneMade start.folder now.folder
