@@ -8,16 +8,19 @@ use Rattle.vs_text.specs.Text.{bytes_of}
 use Rattle.vs_text.specs.declared.TheConstants.{MAX_LINES, MAX_TEXT_BYTES}
 use Rattle.vs_text.proofs.FileForm.{bytes_of-append}
 use Rattle.vs_excmd.specs.Request.{PassLimits}
-use Rattle.vs_script.specs.Ahead.{kept_of}
+use Rattle.vs_script.specs.Ahead.{MeanSame, kept_of}
 
--- a line of which no more is kept than a line may have is kept whole
-pub kept_whole : (kept line : List ℕ) → kept ≡ kept_of line → IsShort kept → kept ≡ line
-kept_whole kept line is short =
+-- a line that has the first bytes of a short one alike is that line
+pub kept_whole : (kept line : List ℕ) → MeanSame kept line → IsShort kept → kept ≡ line
+kept_whole kept line same short =
+    let all : kept_of kept ≡ kept = take_all 1048577 kept (omega (arith, short)) in
+    let is : kept ≡ kept_of line = sym all ∙ same in
     let size : length line ≤ 1048577 = omega (arith, short, ap (λ (l : List ℕ). length l) is, length-take 1048577 line) in
     is ∙ take_all 1048577 line size
 
-pub kept_long : (kept line : List ℕ) → kept ≡ kept_of line → 1048576 < length kept → ¬ IsShort line
-kept_long kept line is long = λ short. omega (arith, short, long, ap (λ (l : List ℕ). length l) is, length-take 1048577 line)
+pub kept_long : (kept line : List ℕ) → MeanSame kept line → 1048576 < length kept → ¬ IsShort line
+kept_long kept line same long = λ short.
+    omega (arith, short, long, ap (λ (l : List ℕ). length l) same, length-take 1048577 kept, length-take 1048577 line)
 
 pub length_more : (lines : List (List ℕ)) (line : List ℕ) → length (lines ++ line ∷ []) ≡ length lines + 1
 length_more lines line = length-append lines (line ∷ [])

@@ -1,22 +1,23 @@
 -- Each line that is read adds to the commands that are known, whatever follows.
-use Rattle.std.proofs.Common.{◌≡◌, ℕ, Bool, true, false, List, [], ◌∷◌, ◌++◌, refl, sym, ap, ◌∙◌, Ok}
+use Rattle.std.proofs.Common.{◌≡◌, ◌⊎◌, ◌≤◌, ◌+◌, inl, inr, ℕ, Bool, true, false, List, [], ◌∷◌, ◌++◌, Option, Some, None, refl, sym, ap, subst, ◌∙◌, Ok, IfSome}
 use Rattle.std.specs.declared.result.Result.{Result}
-use Rattle.std.proofs.lemmas.Bool.{true≢false}
+use Rattle.std.proofs.lemmas.Bool.{cases_Bool, true≢false}
+use Rattle.std.proofs.lemmas.List.{take-take}
+use Rattle.vs_exparse.specs.Bytes.{max_line_bytes}
 use Rattle.vs_host.specs.World.{Scene}
 use Rattle.vs_exparse.specs.Command.{Command}
 use Rattle.vs_exparse.specs.declared.command.ExErr.{ExErr}
-use Rattle.vs_excmd.specs.Request.{Instruction, IsRequest, StandsFor}
-use Rattle.vs_excmd.specs.declared.request.Block.{Block}
+use Rattle.vs_excmd.specs.Request.{Instruction, IsRequest}
 use Rattle.vs_excmd.specs.declared.request.Request.{Request}
-use Rattle.vs_script.specs.declared.block.BlockLines.{BlockLines}
+use Rattle.vs_script.specs.declared.feed.CommandFeed.{CommandFeed}
+use Rattle.vs_script.specs.declared.feed.Fed.{Fed}
+use Rattle.vs_script.specs.declared.feed.Fed.TheVariants as fed
 use Rattle.vs_script.specs.declared.reader.ScriptErr.{ScriptErr}
-use Rattle.vs_script.specs.Ahead.{Ahead, GoesOn, Stops, ReadsLine, TakesLine, kept_of, lines_ahead, whole_lines}
-use Rattle.vs_script.specs.Block.{Holds}
-use Rattle.vs_script.specs.Requests as requests
-use Rattle.vs_script.specs.Requests.{FindsCommand, TakesRequest, TakesNone, commands_ahead, from_command, whole_commands}
-use Rattle.vs_script.specs.Script.{NoCommand, Alone, Head, instruction, kind_of, is_dot, commands_by, block_by, commands_of, at_end, not_yet, block_of, whole_of, whole_block}
+use Rattle.vs_script.specs.Ahead.{Ahead, GoesOn, IsKeptOf, Kept, MeanSame, Stops, ReadsLine, TakesLine, kept_of, lines_ahead, whole_lines}
+use Rattle.vs_script.specs.Feed.{Reading, Between, Within, Taken, HasEnded, IsAt, IsEnded, IsReady, ended_last, taken_as, taken_in, takes}
+use Rattle.vs_script.specs.Requests.{TakesRequest, TakesNone, commands_ahead, whole_commands}
+use Rattle.vs_script.specs.Script.{LineKind, NoCommand, Alone, Head, instruction, kind_of, is_dot, commands_by, block_by, commands_of, at_end, not_yet, whole_of}
 use Rattle.vs_script.proofs.Going.{goes_on_twice, goes_on_by, goes_on_as, goes_on_start, stops_then, stops_by}
-use Rattle.vs_script.proofs.LineKinds.{kind_of-kept, is_dot-kept}
 
 -- what a line adds to the commands, whatever is made of a block without its dot
 by_dot : (unended : Command → List (List ℕ) → List Instruction) (all lines : List (List ℕ)) (line : List ℕ) (command : Command) → is_dot line ≡ true
@@ -26,18 +27,6 @@ by_dot unended all lines line command dot = rw (block_by, dot) refl
 in_block : (unended : Command → List (List ℕ) → List Instruction) (all lines : List (List ℕ)) (line : List ℕ) (command : Command) → is_dot line ≡ false
     → block_by unended command all (line ∷ lines) ≡ block_by unended command (all ++ line ∷ []) lines
 in_block unended all lines line command plain = rw (block_by, plain) refl
-
-by_none : (unended : Command → List (List ℕ) → List Instruction) (lines : List (List ℕ)) (line : List ℕ) → kind_of line ≡ NoCommand
-    → commands_by unended (line ∷ lines) ≡ commands_by unended lines
-by_none unended lines line kind = rw (commands_by, kind) refl
-
-by_alone : (unended : Command → List (List ℕ) → List Instruction) (lines : List (List ℕ)) (line : List ℕ) (parsed : Result Command ExErr) → kind_of line ≡ Alone parsed
-    → commands_by unended (line ∷ lines) ≡ instruction parsed [] ∷ commands_by unended lines
-by_alone unended lines line parsed kind = rw (commands_by, kind) refl
-
-by_head : (unended : Command → List (List ℕ) → List Instruction) (lines : List (List ℕ)) (line : List ℕ) (command : Command) → kind_of line ≡ Head command
-    → commands_by unended (line ∷ lines) ≡ block_by unended command [] lines
-by_head unended lines line command kind = rw (commands_by, kind) refl
 
 -- a reader that goes on by a line
 pub goes_line : {X : Type 0} (f : List ℕ → X) (k h : List (List ℕ) → X) (line : List ℕ) (old mid new : Ahead) (before between after : Scene) → GoesOn f (λ bytes. k (whole_lines bytes)) old mid before between
@@ -54,147 +43,232 @@ stops_line error f k old mid new before between after one two =
     stops_then error f (λ bytes. k (whole_lines bytes)) (k []) old mid new before between after one (stops_by k error whole_lines [] mid new between after two)
 
 -- a line that was found
-pub found_line : (found : Bool) (kept : List ℕ) (old new : Ahead) (before after : Scene) → found ≡ true → (read : ReadsLine found kept old new before after)
+pub found_line : (found : Bool) (kept : Kept) (old new : Ahead) (before after : Scene) → found ≡ true → (read : ReadsLine found kept old new before after)
     → lines_ahead old before ≡ read.line ∷ lines_ahead new after
 found_line found kept old new before after is read =
     let taken : TakesLine (lines_ahead old before) true read.line (lines_ahead new after) = rw is at read.ahead in taken
 
--- What is known in the middle of a block: its lines so far.
-pub record InBlock (held : BlockLines) (old now : Ahead) (before mid : Scene) : Type 0 where
-  pub lines : List (List ℕ)
-  pub holds : Holds held lines
-  pub ahead : (command : Command) → block_of command lines (lines_ahead now mid) ≡ block_of command [] (lines_ahead old before)
-  pub going : now.ended ≡ false → (command : Command) →
-      GoesOn (λ bytes. whole_block command [] (whole_lines bytes)) (λ bytes. whole_block command lines (whole_lines bytes)) old now before mid
+-- the commands of a script that is read from here on, whatever is made of a block without its dot
+abbrev pub commands_at : (Command → List (List ℕ) → List Instruction) → Reading → List (List ℕ) → List Instruction
+commands_at unended Between lines = commands_by unended lines
+commands_at unended (Within command block) lines = block_by unended command block lines
 
-pub block_begins : (held : BlockLines) (old : Ahead) (before : Scene) → Holds held [] → InBlock held old old before before
-block_begins held old before none =
-    record { lines = []; holds = none; ahead = λ command. refl; going = λ open_before command. goes_on_start (λ bytes. whole_block command [] (whole_lines bytes)) old before open_before }
+-- what a line ends goes before the commands of the rest
+abbrev pub before : Option Instruction → List Instruction → List Instruction
+before None commands = commands
+before (Some command) commands = command ∷ commands
 
--- one more line of a block
-pub block_goes_on : (held held' : BlockLines) (found : Bool) (kept : List ℕ) (old now new : Ahead) (before mid after : Scene) → InBlock held old now before mid
-    → ((lines : List (List ℕ)) (more : List ℕ) → Holds held lines → kept ≡ kept_of more → Holds held' (lines ++ more ∷ []))
-    → found ≡ true → ReadsLine found kept now new mid after → is_dot kept ≡ false → InBlock held' old new before after
-block_goes_on held held' found kept old now new before mid after so_far more is read dot =
-    let lines : List (List ℕ) = so_far.lines in
-    let line : List ℕ = read.line in
-    let plain : is_dot line ≡ false = sym (is_dot-kept line) ∙ ap is_dot (sym read.is_kept) ∙ dot in
-    record {
-      lines = lines ++ line ∷ [];
-      holds = more lines line so_far.holds read.is_kept;
-      ahead = λ command. sym (in_block at_end lines (lines_ahead new after) line command plain) ∙ ap (block_of command lines) (sym (found_line found kept now new mid after is read)) ∙ so_far.ahead command;
-      going = λ open_after command.
-          let next = (read.whole open_after).1 in
-          goes_line (λ bytes. whole_block command [] (whole_lines bytes)) (whole_block command lines) (whole_block command (lines ++ line ∷ [])) line old now new before mid after
-          (so_far.going next.open_before command) next (λ rest. in_block not_yet lines rest line command plain);
-    }
+by_kind : (unended : Command → List (List ℕ) → List Instruction) (kind : LineKind) (lines : List (List ℕ))
+    → elim kind [ NoCommand ↦ commands_by unended lines | Alone parsed ↦ instruction parsed [] ∷ commands_by unended lines | Head command ↦ block_by unended command [] lines ]
+    ≡ before (taken_as kind).ended (commands_at unended (taken_as kind).reading lines)
+by_kind unended NoCommand lines = refl
+by_kind unended (Alone parsed) lines = refl
+by_kind unended (Head command) lines = refl
 
--- the script ended in the middle of a block
-pub block_ends : (held : BlockLines) (block : Block) (found : Bool) (kept : List ℕ) (old now new : Ahead) (before mid after : Scene) → InBlock held old now before mid
-    → ((lines : List (List ℕ)) → Holds held lines → StandsFor block lines) → found ≡ false → ReadsLine found kept now new mid after → requests.TakesBlock block old new before after
-block_ends held block found kept old now new before mid after so_far stands none read =
-    let taken : TakesLine (lines_ahead now mid) false read.line (lines_ahead new after) = rw none at read.ahead in
-    record {
-      lines = so_far.lines;
-      stands = stands so_far.lines so_far.holds;
-      ahead = λ command. sym (so_far.ahead command) ∙ ap (block_of command so_far.lines) taken.1 ∙ ap (λ (l : List (List ℕ)). instruction (Ok command) so_far.lines ∷ commands_of l) (sym taken.0);
-      whole = λ going. absurd (true≢false (sym (read.whole going).0 ∙ none));
-    }
+-- A line ends what it ends, and the script is read on from where it leaves.
+pub one_line : (unended : Command → List (List ℕ) → List Instruction) (reading : Reading) (line : List ℕ) (lines : List (List ℕ))
+    → commands_at unended reading (line ∷ lines) ≡ before (takes reading line).ended (commands_at unended (takes reading line).reading lines)
+one_line unended Between line lines = by_kind unended (kind_of line) lines
+one_line unended (Within command block) line lines = elim (cases_Bool (is_dot line)) [
+  | inl dot ↦ by_dot unended block lines line command dot ∙ ap (λ (t : Taken). before t.ended (commands_at unended t.reading lines)) (sym (dotted command block line dot))
+  | inr plain ↦ in_block unended block lines line command plain ∙ ap (λ (t : Taken). before t.ended (commands_at unended t.reading lines)) (sym (undotted command block line plain))
+]
+  where
+    dotted : (command : Command) (block : List (List ℕ)) (line : List ℕ) → is_dot line ≡ true → taken_in command block line ≡ record { ended = Some (instruction (Ok command) block); reading = Between }
+    dotted command block line dot = rw dot refl
 
--- a block ended in its dot
-pub block_dotted : (held : BlockLines) (block : Block) (found : Bool) (kept : List ℕ) (old now new : Ahead) (before mid after : Scene) → InBlock held old now before mid
-    → ((lines : List (List ℕ)) → Holds held lines → StandsFor block lines) → found ≡ true → ReadsLine found kept now new mid after → is_dot kept ≡ true → requests.TakesBlock block old new before after
-block_dotted held block found kept old now new before mid after so_far stands is read dot =
-    let line : List ℕ = read.line in
-    let ends : is_dot line ≡ true = sym (is_dot-kept line) ∙ ap is_dot (sym read.is_kept) ∙ dot in
-    record {
-      lines = so_far.lines;
-      stands = stands so_far.lines so_far.holds;
-      ahead = λ command. sym (so_far.ahead command) ∙ ap (block_of command so_far.lines) (found_line found kept now new mid after is read) ∙ by_dot at_end so_far.lines (lines_ahead new after) line command ends;
-      whole = λ going command.
-          let next = (read.whole going).1 in
-          goes_line (λ bytes. whole_block command [] (whole_lines bytes)) (whole_block command so_far.lines) (λ lines. instruction (Ok command) so_far.lines ∷ whole_of lines) line old now new before mid after
-          (so_far.going next.open_before command) next (λ lines. by_dot not_yet so_far.lines lines line command ends);
-    }
+    undotted : (command : Command) (block : List (List ℕ)) (line : List ℕ) → is_dot line ≡ false → taken_in command block line ≡ record { ended = None; reading = Within command (block ++ line ∷ []) }
+    undotted command block line plain = rw plain refl
 
--- a line that is no command was passed over
-pub passes_over : (found : Bool) (kept : List ℕ) (old now new : Ahead) (before mid after : Scene) → commands_ahead now mid ≡ commands_ahead old before → found ≡ true
-    → ReadsLine found kept now new mid after → kind_of kept ≡ NoCommand → commands_ahead new after ≡ commands_ahead old before
-passes_over found kept old now new before mid after same is read none =
-    let kind : kind_of read.line ≡ NoCommand = sym (kind_of-kept read.line) ∙ ap kind_of (sym read.is_kept) ∙ none in
-    sym (by_none at_end (lines_ahead new after) read.line kind) ∙ ap commands_of (sym (found_line found kept now new mid after is read)) ∙ same
+-- a line after which no command is ended
+none_ended : (unended : Command → List (List ℕ) → List Instruction) (reading : Reading) (line : List ℕ) (lines : List (List ℕ)) → (takes reading line).ended ≡ None
+    → commands_at unended reading (line ∷ lines) ≡ commands_at unended (takes reading line).reading lines
+none_ended unended reading line lines none = one_line unended reading line lines ∙ ap (λ (e : Option Instruction). before e (commands_at unended (takes reading line).reading lines)) none
 
-pub goes_over : (found : Bool) (kept : List ℕ) (old now new : Ahead) (before mid after : Scene) → (now.ended ≡ false → GoesOn whole_commands whole_commands old now before mid)
-    → ReadsLine found kept now new mid after → kind_of kept ≡ NoCommand → new.ended ≡ false → GoesOn whole_commands whole_commands old new before after
-goes_over found kept old now new before mid after going read none open_after =
-    let kind : kind_of read.line ≡ NoCommand = sym (kind_of-kept read.line) ∙ ap kind_of (sym read.is_kept) ∙ none in
+-- a line that ends a command stands before the next one
+between_then : (reading : Reading) (line : List ℕ) (command : Instruction) → (takes reading line).ended ≡ Some command → (takes reading line).reading ≡ Between
+between_then Between line command some = by_line (kind_of line) some
+  where
+    by_line : (kind : LineKind) → (taken_as kind).ended ≡ Some command → (taken_as kind).reading ≡ Between
+    by_line NoCommand is = absurd (cc)
+    by_line (Alone parsed) is = refl
+    by_line (Head head) is = absurd (cc)
+between_then (Within head block) line command some = elim (cases_Bool (is_dot line)) [
+  | inl dot ↦ rw dot refl
+  | inr plain ↦ absurd (unended plain some)
+]
+  where
+    unended : is_dot line ≡ false → (taken_in head block line).ended ≡ Some command → ⊥
+    unended plain is = let none : None ≡ Some command = rw plain at is in absurd (cc)
+
+some_ended : (unended : Command → List (List ℕ) → List Instruction) (reading : Reading) (line : List ℕ) (lines : List (List ℕ)) (command : Instruction) → (takes reading line).ended ≡ Some command
+    → commands_at unended reading (line ∷ lines) ≡ command ∷ commands_by unended lines
+some_ended unended reading line lines command some =
+    one_line unended reading line lines ∙ ap (λ (e : Option Instruction). before e (commands_at unended (takes reading line).reading lines)) some
+    ∙ ap (λ (r : Reading). command ∷ commands_at unended r lines) (between_then reading line command some)
+
+-- no command is whole where nothing follows
+pub none_whole : (reading : Reading) → commands_at not_yet reading [] ≡ []
+none_whole Between = refl
+none_whole (Within command block) = refl
+
+-- What is known between two lines: how far the commands are read.
+pub record InScript (feed : CommandFeed) (old now : Ahead) (start mid : Scene) : Type 0 where
+  pub reading : Reading
+  pub at : IsAt feed reading
+  pub ahead : commands_at at_end reading (lines_ahead now mid) ≡ commands_ahead old start
+  pub going : now.ended ≡ false → GoesOn whole_commands (λ bytes. commands_at not_yet reading (whole_lines bytes)) old now start mid
+
+pub script_begins : (feed : CommandFeed) (old : Ahead) (start : Scene) → IsAt feed Between → InScript feed old old start start
+script_begins feed old start at = record { reading = Between; at = at; ahead = refl; going = λ open_before. goes_on_start whole_commands old start open_before }
+
+-- how a line that was read goes on
+line_goes : (found : Bool) (kept : Kept) (feed : CommandFeed) (old now new : Ahead) (start mid after : Scene) (h : List (List ℕ) → List Instruction)
+    → (so_far : InScript feed old now start mid) → (read : ReadsLine found kept now new mid after)
+    → ((lines : List (List ℕ)) → commands_at not_yet so_far.reading (read.line ∷ lines) ≡ h lines) → new.ended ≡ false → GoesOn whole_commands (λ bytes. h (whole_lines bytes)) old new start after
+line_goes found kept feed old now new start mid after h so_far read step open_after =
     let next = (read.whole open_after).1 in
-    goes_line whole_commands whole_of whole_of read.line old now new before mid after (going next.open_before) next (λ lines. by_none not_yet lines read.line kind)
+    goes_line whole_commands (commands_at not_yet so_far.reading) h read.line old now new start mid after (so_far.going next.open_before) next step
 
--- the next command was found
-pub finds_command : (found : Bool) (kept : List ℕ) (old now new : Ahead) (before mid after : Scene) → commands_ahead now mid ≡ commands_ahead old before
-    → (now.ended ≡ false → GoesOn whole_commands whole_commands old now before mid) → found ≡ true → ReadsLine found kept now new mid after → FindsCommand true kept old new before after
-finds_command found kept old now new before mid after same going is read =
+-- one more line, which ends no command
+pub script_goes_on : (found : Bool) (kept : Kept) (feed feed' : CommandFeed) (old now new : Ahead) (start mid after : Scene) → (so_far : InScript feed old now start mid)
+    → found ≡ true → (read : ReadsLine found kept now new mid after) → (takes so_far.reading read.line).ended ≡ None → IsAt feed' (takes so_far.reading read.line).reading
+    → InScript feed' old new start after
+script_goes_on found kept feed feed' old now new start mid after so_far is read none at =
+    let reading : Reading = so_far.reading in
     record {
-      line = read.line;
-      is_kept = read.is_kept;
-      ahead = sym same ∙ ap commands_of (found_line found kept now new mid after is read);
-      whole = λ open_after.
-          let next = (read.whole open_after).1 in
-          (refl, goes_line whole_commands whole_of (λ lines. whole_of (read.line ∷ lines)) read.line old now new before mid after (going next.open_before) next (λ lines. refl));
+      reading = (takes reading read.line).reading;
+      at = at;
+      ahead = sym (none_ended at_end reading read.line (lines_ahead new after) none) ∙ ap (commands_at at_end reading) (sym (found_line found kept now new mid after is read)) ∙ so_far.ahead;
+      going = line_goes found kept feed old now new start mid after (commands_at not_yet (takes reading read.line).reading) so_far read (λ lines. none_ended not_yet reading read.line lines none);
     }
 
--- no command is left
-pub finds_none : (found : Bool) (kept : List ℕ) (old now new : Ahead) (before mid after : Scene) → commands_ahead now mid ≡ commands_ahead old before → found ≡ false
-    → ReadsLine found kept now new mid after → FindsCommand false kept old new before after
-finds_none found kept old now new before mid after same none read =
+-- a line that ends a command
+pub takes_request : (found : Bool) (kept : Kept) (feed : CommandFeed) (request : Request) (command : Instruction) (old now new : Ahead) (start mid after : Scene) → (so_far : InScript feed old now start mid)
+    → found ≡ true → (read : ReadsLine found kept now new mid after) → (takes so_far.reading read.line).ended ≡ Some command → IsRequest request command → TakesRequest request old new start after
+takes_request found kept feed request command old now new start mid after so_far is read some meant =
+    let reading : Reading = so_far.reading in
+    record {
+      first = command;
+      meant = meant;
+      ahead = sym so_far.ahead ∙ ap (commands_at at_end reading) (found_line found kept now new mid after is read) ∙ some_ended at_end reading read.line (lines_ahead new after) command some;
+      whole = line_goes found kept feed old now new start mid after (λ lines. command ∷ whole_of lines) so_far read (λ lines. some_ended not_yet reading read.line lines command some);
+    }
+
+-- a reader that stops
+pub script_stops : (error : ScriptErr) (feed : CommandFeed) (old now new : Ahead) (start mid after : Scene) → InScript feed old now start mid
+    → Stops error whole_lines [] now new mid after → Stops error whole_commands [] old new start after
+script_stops error feed old now new start mid after so_far stop =
+    subst (λ (value : List Instruction). Stops error whole_commands value old new start after) (none_whole so_far.reading)
+    (stops_line error whole_commands (commands_at not_yet so_far.reading) old now new start mid after (so_far.going stop.open_before) stop)
+
+-- ---- the script's end
+
+pub at_last : (reading : Reading) → commands_at at_end reading [] ≡ before (ended_last reading) []
+at_last Between = refl
+at_last (Within command block) = refl
+
+-- the commands that are left at the script's end
+left_last : (found : Bool) (kept : Kept) (feed : CommandFeed) (old now new : Ahead) (start mid after : Scene) (so_far : InScript feed old now start mid)
+    → found ≡ false → ReadsLine found kept now new mid after → commands_ahead old start ≡ before (ended_last so_far.reading) (commands_ahead new after)
+left_last found kept feed old now new start mid after so_far none read =
     let taken : TakesLine (lines_ahead now mid) false read.line (lines_ahead new after) = rw none at read.ahead in
-    record {
-      line = read.line;
-      is_kept = read.is_kept;
-      ahead = sym same ∙ ap commands_of taken.1;
-      whole = λ open_after. absurd (true≢false (sym (read.whole open_after).0 ∙ none));
-    }
+    sym so_far.ahead ∙ ap (commands_at at_end so_far.reading) taken.1 ∙ at_last so_far.reading
+    ∙ ap (λ (lines : List (List ℕ)). before (ended_last so_far.reading) (commands_of lines)) (sym taken.0)
+
+not_open : (found : Bool) (kept : Kept) (now new : Ahead) (mid after : Scene) → found ≡ false → ReadsLine found kept now new mid after → new.ended ≡ false → ⊥
+not_open found kept now new mid after none read open_after = true≢false (sym (read.whole open_after).0 ∙ none)
+
+-- a block that is open ends there
+pub ends_request : (found : Bool) (kept : Kept) (feed : CommandFeed) (result : Option Request) (old now new : Ahead) (start mid after : Scene) (so_far : InScript feed old now start mid)
+    → found ≡ false → ReadsLine found kept now new mid after → ((reading : Reading) → IsAt feed reading → IsEnded result (ended_last reading))
+    → IfSome result (λ request. TakesRequest request old new start after)
+ends_request found kept feed result old now new start mid after so_far none read ends =
+    by_end result (ended_last so_far.reading) (ends so_far.reading so_far.at) (left_last found kept feed old now new start mid after so_far none read)
+  where
+    by_end : (result : Option Request) (ended : Option Instruction) → IsEnded result ended → commands_ahead old start ≡ before ended (commands_ahead new after)
+        → IfSome result (λ request. TakesRequest request old new start after)
+    by_end None ended is left = tt
+    by_end (Some request) None is left = absurd is
+    by_end (Some request) (Some command) is left =
+        record { first = command; meant = is; ahead = left; whole = λ open_after. absurd (not_open found kept now new mid after none read open_after) }
+
+-- or no command is left
+pub ends_none : (found : Bool) (kept : Kept) (feed : CommandFeed) (result : Option Request) (old now new : Ahead) (start mid after : Scene) (so_far : InScript feed old now start mid)
+    → found ≡ false → ReadsLine found kept now new mid after → ((reading : Reading) → IsAt feed reading → IsEnded result (ended_last reading)) → after.script ≡ [] → result ≡ None
+    → TakesNone old new start after
+ends_none found kept feed result old now new start mid after so_far none read ends script is_none = record {
+  ahead = left_last found kept feed old now new start mid after so_far none read ∙ by_end result (ended_last so_far.reading) (ends so_far.reading so_far.at) is_none;
+  ended = elim (cases_Bool new.ended) [
+    | inl ended ↦ ended
+    | inr open_after ↦ absurd (not_open found kept now new mid after none read open_after)
+  ];
+  script = script;
+}
+  where
+    by_end : (result : Option Request) (ended : Option Instruction) → IsEnded result ended → result ≡ None → before ended (commands_ahead new after) ≡ []
+    by_end None None is same = ap commands_of no_lines
+      where
+        no_lines : lines_ahead new after ≡ []
+        no_lines = let taken : TakesLine (lines_ahead now mid) false read.line (lines_ahead new after) = rw none at read.ahead in taken.0
+    by_end None (Some command) is same = absurd is
+    by_end (Some request) ended is same = absurd (cc)
+
+-- ---- what the code says of a line
 
 -- a command by itself
-pub alone_request : (request : Request) (kept : List ℕ) (parsed : Result Command ExErr) (old new : Ahead) (before after : Scene) → FindsCommand true kept old new before after
-    → kind_of kept ≡ Alone parsed → IsRequest request (instruction parsed []) → TakesRequest request old new before after
-alone_request request kept parsed old new before after finds said meant =
-    let kind : kind_of finds.line ≡ Alone parsed = sym (kind_of-kept finds.line) ∙ ap kind_of (sym finds.is_kept) ∙ said in
-    record {
-      first = instruction parsed [];
-      meant = meant;
-      ahead = finds.ahead ∙ by_alone at_end (lines_ahead new after) finds.line parsed kind;
-      whole = λ open_after.
-          goes_on_as whole_commands (λ bytes. whole_of (finds.line ∷ whole_lines bytes)) (λ bytes. instruction parsed [] ∷ whole_commands bytes) old new before after
-          (finds.whole open_after).1 (λ bytes. by_alone not_yet (whole_lines bytes) finds.line parsed kind);
-    }
+pub alone_request : (line : List ℕ) (parsed : Result Command ExErr) (ended : Option Instruction) → HasEnded fed.Alone line ended → kind_of line ≡ Alone parsed → ended ≡ Some (instruction parsed [])
+alone_request line parsed ended says kind = says.2 ∙ ap (λ (p : Result Command ExErr). Some (instruction p [])) (same says.0 parsed (sym says.1 ∙ kind))
+  where
+    same : (a b : Result Command ExErr) → Alone a ≡ Alone b → a ≡ b
+    same a b is = cc
 
-goes_head : (kept : List ℕ) (command : Command) (old next : Ahead) (before between : Scene) → (finds : FindsCommand true kept old next before between) → kind_of finds.line ≡ Head command
-    → next.ended ≡ false → GoesOn whole_commands (λ bytes. whole_block command [] (whole_lines bytes)) old next before between
-goes_head kept command old next before between finds kind open_after =
-    goes_on_as whole_commands (λ bytes. whole_of (finds.line ∷ whole_lines bytes)) (λ bytes. whole_block command [] (whole_lines bytes)) old next before between
-    (finds.whole open_after).1 (λ bytes. by_head not_yet (whole_lines bytes) finds.line command kind)
+-- a command with its block
+pub block_request : (request : Request) (ended : Option Instruction) → IsEnded (Some request) ended → (command : Instruction) × (ended ≡ Some command) × IsRequest request command
+block_request request None is = absurd is
+block_request request (Some command) is = (command, refl, is)
 
--- the head of a block and its block
-pub head_request : (request : Request) (kept : List ℕ) (command : Command) (block : Block) (old next new : Ahead) (before between after : Scene) → FindsCommand true kept old next before between
-    → kind_of kept ≡ Head command → (taken : requests.TakesBlock block next new between after) → IsRequest request (instruction (Ok command) taken.lines) → TakesRequest request old new before after
-head_request request kept command block old next new before between after finds said taken meant =
-    let kind : kind_of finds.line ≡ Head command = sym (kind_of-kept finds.line) ∙ ap kind_of (sym finds.is_kept) ∙ said in
-    record {
-      first = instruction (Ok command) taken.lines;
-      meant = meant;
-      ahead = finds.ahead ∙ by_head at_end (lines_ahead next between) finds.line command kind ∙ taken.ahead command;
-      whole = λ open_after.
-          let rest = taken.whole open_after command in
-          goes_on_twice whole_commands (λ bytes. whole_block command [] (whole_lines bytes)) (λ bytes. instruction (Ok command) taken.lines ∷ whole_commands bytes) old next new before between after
-          (goes_head kept command old next before between finds kind rest.open_before) rest;
-    }
+-- what is kept of a line decides what it means
+pub means_kept : (bytes line : List ℕ) (kept : Kept) → bytes ≡ kept.bytes → max_line_bytes + 1 ≤ kept.room → IsKeptOf kept line → MeanSame bytes line
+means_kept bytes line kept same room is = ap kept_of (same ∙ is) ∙ take-take (max_line_bytes + 1) kept.room line room
 
--- a reader that stops in a block
-pub head_stops : (error : ScriptErr) (kept : List ℕ) (command : Command) (old next new : Ahead) (before between after : Scene) → FindsCommand true kept old next before between → kind_of kept ≡ Head command
-    → Stops error (λ bytes. whole_block command [] (whole_lines bytes)) [] next new between after → Stops error whole_commands [] old new before after
-head_stops error kept command old next new before between after finds said stop =
-    let kind : kind_of finds.line ≡ Head command = sym (kind_of-kept finds.line) ∙ ap kind_of (sym finds.is_kept) ∙ said in
-    stops_then error whole_commands (λ bytes. whole_block command [] (whole_lines bytes)) [] old next new before between after
-    (goes_head kept command old next before between finds kind stop.open_before) stop
+-- ---- one line of the feed
+
+-- a line after which the feed goes on
+pub feed_goes_on : (found : Bool) (kept : Kept) (feed feed' : CommandFeed) (old now new : Ahead) (start mid after : Scene) (so_far : InScript feed old now start mid)
+    → found ≡ true → (read : ReadsLine found kept now new mid after)
+    → HasEnded fed.Nothing kept.bytes (takes so_far.reading read.line).ended × IsAt feed' (takes so_far.reading read.line).reading → InScript feed' old new start after
+feed_goes_on found kept feed feed' old now new start mid after so_far is read taken =
+    script_goes_on found kept feed feed' old now new start mid after so_far is read taken.0 taken.1
+
+-- a line that ends a block
+pub block_taken : (found : Bool) (kept : Kept) (feed : CommandFeed) (request : Request) (old now new : Ahead) (start mid after : Scene) (so_far : InScript feed old now start mid)
+    → found ≡ true → (read : ReadsLine found kept now new mid after) → IsEnded (Some request) (takes so_far.reading read.line).ended → TakesRequest request old new start after
+block_taken found kept feed request old now new start mid after so_far is read ended =
+    let command = block_request request (takes so_far.reading read.line).ended ended in
+    takes_request found kept feed request command.0 old now new start mid after so_far is read command.1 command.2
+
+-- a line that is a command by itself
+pub alone_taken : (found : Bool) (kept : Kept) (feed : CommandFeed) (request : Request) (parsed : Result Command ExErr) (line : List ℕ) (old now new : Ahead) (start mid after : Scene)
+    (so_far : InScript feed old now start mid) → found ≡ true → (read : ReadsLine found kept now new mid after) → HasEnded fed.Alone line (takes so_far.reading read.line).ended
+    → kind_of line ≡ Alone parsed → IsRequest request (instruction parsed []) → TakesRequest request old new start after
+alone_taken found kept feed request parsed line old now new start mid after so_far is read ended kind meant =
+    takes_request found kept feed request (instruction parsed []) old now new start mid after so_far is read
+    (alone_request line parsed (takes so_far.reading read.line).ended ended kind) meant
+
+-- where the feed stands, it stands also after each line
+pub ready_on : (feed feed' : CommandFeed) (fed_is : Fed) (line : List ℕ) → IsReady feed
+    → ((reading : Reading) (more : List ℕ) → IsAt feed reading → MeanSame line more → HasEnded fed_is line (takes reading more).ended × IsAt feed' (takes reading more).reading) → IsReady feed'
+ready_on feed feed' fed_is line ready taken = ((takes ready.0 line).reading, (taken ready.0 line ready.1 refl).1)
+
+-- an answer to each request where the script is told
+pub if_told : (P : Request → Type 0) (told : Type 0) (result : Option Request) → (told → IfSome result P) → IfSome result (λ request. told → P request)
+if_told P told None each = tt
+if_told P told (Some request) each = each
+
+-- a request at the script's end has lines of its own
+pub fewer_at_end : (feed : CommandFeed) (result : Option Request) (less : Type 0) → IsAt feed Between ⊎ less → ((reading : Reading) → IsAt feed reading → IsEnded result (ended_last reading))
+    → IfSome result (λ request. less)
+fewer_at_end feed None less begun ends = tt
+fewer_at_end feed (Some request) less (inl start) ends = absurd (ends Between start)
+fewer_at_end feed (Some request) less (inr is) ends = is

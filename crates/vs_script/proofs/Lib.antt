@@ -3,5 +3,6 @@ pub mod Going
 pub mod Taking
 pub mod LineKinds
 pub mod Blocks
+pub mod Feeding
 pub mod Commands
 pub mod ReadLemmas

@@ -10,18 +10,25 @@ use Rattle.vs_exparse.specs.declared.command.ExErr.{ExErr}
 use Rattle.vs_exparse.specs.declared.command.Parsed.{Parsed}
 use Rattle.vs_exparse.specs.declared.command.Parsed.TheVariants as parsed
 use Rattle.vs_exparse.proofs.FirstBytes.{first-bytes}
-use Rattle.vs_script.specs.Ahead.{kept_of}
+use Rattle.vs_script.specs.Ahead.{MeanSame, kept_of}
 use Rattle.vs_script.specs.Script.{NoCommand, Alone, Head, kind_from, kind_of, is_alone, is_dot}
 
 -- the bytes that are kept of a line say what it is
-pub kind_of-kept : (line : List ℕ) → kind_of (kept_of line) ≡ kind_of line
+kind_of-kept : (line : List ℕ) → kind_of (kept_of line) ≡ kind_of line
 unfolding kind_of
 kind_of-kept line = ap kind_from (first-bytes line)
 
-pub is_dot-kept : (line : List ℕ) → is_dot (kept_of line) ≡ is_dot line
+is_dot-kept : (line : List ℕ) → is_dot (kept_of line) ≡ is_dot line
 is_dot-kept [] = refl
 is_dot-kept (byte ∷ []) = refl
 is_dot-kept (byte ∷ next ∷ rest) = refl
+
+-- so lines that have these bytes alike are the same
+pub kind_of-same : (line other : List ℕ) → MeanSame line other → kind_of line ≡ kind_of other
+kind_of-same line other same = sym (kind_of-kept line) ∙ ap kind_of same ∙ kind_of-kept other
+
+pub is_dot-same : (line other : List ℕ) → MeanSame line other → is_dot line ≡ is_dot other
+is_dot-same line other same = sym (is_dot-kept line) ∙ ap is_dot same ∙ is_dot-kept other
 
 kind_by : (line : List ℕ) (answer : Result (Option Command) ExErr) → answer ≡ meaning_of line → kind_of line ≡ kind_from answer
 unfolding kind_of

@@ -1,5 +1,5 @@
 -- Reads that succeeded go on by one read more, or by a read that failed.
-use Rattle.std.proofs.Common.{◌≡◌, ◌+◌, ◌≤◌, inl, inr, ℕ, List, [], ◌∷◌, ◌++◌, length, refl, sym, ap, ◌∙◌, append_assoc, arith, Result, Ok, Err, IsErr, IsErrAnd, IsTrue, OnOk}
+use Rattle.std.proofs.Common.{◌≡◌, ◌+◌, ◌≤◌, inl, inr, List, [], ◌∷◌, ◌++◌, length, refl, sym, ap, ◌∙◌, append_assoc, arith, Result, Ok, Err, IsErr, IsErrAnd, IsTrue, OnOk}
 use Rattle.std.specs.Prelude.{IsErrOf}
 use Rattle.std.proofs.lemmas.Result.{on_ok_weaker}
 use Rattle.vs_faults.specs.Faults.{HasCause}

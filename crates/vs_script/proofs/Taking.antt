@@ -10,7 +10,7 @@ use Rattle.vs_host.specs.World.{Scene}
 use Rattle.vs_text.specs.Text.{IsLine, lines_of}
 use Rattle.vs_text.proofs.LineEnds.{lines_of-line, lines_of_last}
 use Rattle.vs_script.specs.declared.reader.ScriptErr.{ScriptErr}
-use Rattle.vs_script.specs.Ahead.{Ahead, GoesOn, Stops, IsLeft, ReadsLine, kept_of, whole_lines}
+use Rattle.vs_script.specs.Ahead.{Ahead, GoesOn, Kept, IsKeptOf, Stops, IsLeft, ReadsLine, whole_lines}
 use Rattle.vs_script.proofs.Lines.{whole_lines-line, whole_lines_none}
 use Rattle.vs_script.proofs.Going.{goes_on_start}
 
@@ -44,42 +44,45 @@ take_on n line piece = elim (leb_tells n (length line)) [
   | inr short ↦ ap (λ (l : List ℕ). take n (l ++ piece)) (take_all n line (omega (arith, short.1)))
 ]
 
-pub kept_on : (line piece : List ℕ) → kept_of (kept_of line ++ piece) ≡ kept_of (line ++ piece)
-kept_on line piece = take_on 1048577 line piece
+-- a piece was added to what is kept of a line
+abbrev pub HasAdded : Kept → Kept → List ℕ → Type 0
+HasAdded kept kept' piece = kept' ≡ record kept { bytes = take kept.room (kept.bytes ++ piece) }
 
 -- What is kept of a line and a piece has no byte 10 where these have none, and is no longer than they are.
-pub line_is_kept : (kept piece kept' : List ℕ) → IsLine kept → IsLine piece → kept' ≡ kept_of (kept ++ piece) → IsLine kept'
-line_is_kept kept piece kept' one two is =
-    subst (λ (l : List ℕ). IsLine l) (sym is) (All-take (λ byte. byte ≢ 10) 1048577 (kept ++ piece) (All-append (λ byte. byte ≢ 10) kept piece one two))
+pub line_is_kept : (kept kept' : Kept) (piece : List ℕ) → IsLine kept.bytes → IsLine piece → HasAdded kept kept' piece → IsLine kept'.bytes
+line_is_kept kept kept' piece one two added =
+    subst (λ (k : Kept). IsLine k.bytes) (sym added) (All-take (λ byte. byte ≢ 10) kept.room (kept.bytes ++ piece) (All-append (λ byte. byte ≢ 10) kept.bytes piece one two))
 
-pub kept_is_shorter : (kept piece kept' : List ℕ) → kept' ≡ kept_of (kept ++ piece) → length kept' ≤ length kept + length piece
-kept_is_shorter kept piece kept' is =
-    omega (arith, ap (λ (l : List ℕ). length l) is, length-take 1048577 (kept ++ piece), length-append kept piece)
+pub kept_is_shorter : (kept kept' : Kept) (piece : List ℕ) → HasAdded kept kept' piece → length kept'.bytes ≤ length kept.bytes + length piece
+kept_is_shorter kept kept' piece added =
+    omega (arith, ap (λ (k : Kept). length k.bytes) added, length-take kept.room (kept.bytes ++ piece), length-append kept.bytes piece)
 
 -- What is known in the middle of a line: its bytes so far, of which the first are kept.
-pub record InLine (kept : List ℕ) (old now : Ahead) (before mid : Scene) : Type 0 where
+pub record InLine (kept : Kept) (old now : Ahead) (before mid : Scene) : Type 0 where
   pub line : List ℕ
-  pub is_kept : kept ≡ kept_of line
+  pub is_kept : IsKeptOf kept line
   pub is_line : IsLine line
   pub whole : old.bytes ++ before.script ≡ (line ++ now.bytes) ++ mid.script
   pub going : now.ended ≡ false → GoesOn (λ bytes. bytes) (λ bytes. line ++ bytes) old now before mid
 
-pub line_begins : (old : Ahead) (before : Scene) (kept : List ℕ) → kept ≡ [] → InLine kept old old before before
+pub line_begins : (old : Ahead) (before : Scene) (kept : Kept) → kept.bytes ≡ [] → InLine kept old old before before
 line_begins old before kept none =
     record {
       line = [];
-      is_kept = none ∙ sym (take_all 1048577 [] (omega arith));
+      is_kept = none ∙ sym (take_all kept.room [] (omega arith));
       is_line = All-nil (λ byte. byte ≢ 10);
       whole = refl;
       going = λ open_before. goes_on_start (λ bytes. bytes) old before open_before;
     }
 
-kept_more : (kept kept' line piece : List ℕ) → kept ≡ kept_of line → kept' ≡ kept_of (kept ++ piece) → kept' ≡ kept_of (line ++ piece)
-kept_more kept kept' line piece is more = more ∙ ap (λ (l : List ℕ). kept_of (l ++ piece)) is ∙ kept_on line piece
+kept_more : (kept kept' : Kept) (line piece : List ℕ) → IsKeptOf kept line → HasAdded kept kept' piece → IsKeptOf kept' (line ++ piece)
+kept_more kept kept' line piece is added =
+    ap (λ (k : Kept). k.bytes) added ∙ ap (λ (l : List ℕ). take kept.room (l ++ piece)) is ∙ take_on kept.room line piece
+    ∙ ap (λ (k : Kept). take k.room (line ++ piece)) (sym added)
 
 -- byte 10 was found in what was read ahead
-pub reads_line : (old now new : Ahead) (before mid : Scene) (kept kept' front tail : List ℕ) → InLine kept old now before mid
-    → now.bytes ≡ front ++ 10 ∷ tail → IsLine front → new ≡ record now { bytes = tail } → kept' ≡ kept_of (kept ++ front) → ReadsLine true kept' old new before mid
+pub reads_line : (old now new : Ahead) (before mid : Scene) (kept kept' : Kept) (front tail : List ℕ) → InLine kept old now before mid
+    → now.bytes ≡ front ++ 10 ∷ tail → IsLine front → new ≡ record now { bytes = tail } → HasAdded kept kept' front → ReadsLine true kept' old new before mid
 reads_line old now new before mid kept kept' front tail so_far parts front_is skipped more =
     let found : List ℕ = so_far.line ++ front in
     let is : IsLine found = All-append (λ byte. byte ≢ 10) so_far.line front so_far.is_line front_is in
@@ -112,19 +115,19 @@ pub record IsAtEnd (new : Ahead) (mid after : Scene) : Type 0 where
 nothing_left : (new : Ahead) (mid after : Scene) → IsAtEnd new mid after → new.bytes ++ after.script ≡ []
 nothing_left new mid after end = rw (end.none, end.end) refl
 
-all_taken : (old now new : Ahead) (before mid after : Scene) (kept : List ℕ) → (so_far : InLine kept old now before mid) → IsAtEnd new mid after
+all_taken : (old now new : Ahead) (before mid after : Scene) (kept : Kept) → (so_far : InLine kept old now before mid) → IsAtEnd new mid after
     → old.bytes ++ before.script ≡ so_far.line ++ now.bytes
 all_taken old now new before mid after kept so_far end =
     so_far.whole ∙ ap (λ (l : List ℕ). (so_far.line ++ now.bytes) ++ l) (end.script ∙ nothing_left new mid after end) ∙ append-nil (so_far.line ++ now.bytes)
 
 -- what is left at the script's end is its last line
-pub reads_last : (old now new : Ahead) (before mid after : Scene) (kept kept' : List ℕ) → InLine kept old now before mid → IsAtEnd new mid after
-    → IsLine now.bytes → kept' ≡ kept_of (kept ++ now.bytes) → 0 < length kept' → ReadsLine true kept' old new before after
+pub reads_last : (old now new : Ahead) (before mid after : Scene) (kept kept' : Kept) → InLine kept old now before mid → IsAtEnd new mid after
+    → IsLine now.bytes → HasAdded kept kept' now.bytes → 0 < length kept'.bytes → ReadsLine true kept' old new before after
 reads_last old now new before mid after kept kept' so_far end ahead_is more some =
     let found : List ℕ = so_far.line ++ now.bytes in
     let is : IsLine found = All-append (λ byte. byte ≢ 10) so_far.line now.bytes so_far.is_line ahead_is in
-    let is_kept : kept' ≡ kept_of found = kept_more kept kept' so_far.line now.bytes so_far.is_kept more in
-    let long : 0 < length found = omega (arith, some, ap (λ (l : List ℕ). length l) is_kept, length-take 1048577 found) in
+    let is_kept : IsKeptOf kept' found = kept_more kept kept' so_far.line now.bytes so_far.is_kept more in
+    let long : 0 < length found = omega (arith, some, ap (λ (l : List ℕ). length l) is_kept, length-take kept'.room found) in
     record {
       line = found;
       is_kept = is_kept;
@@ -138,12 +141,12 @@ empty_is_nil [] none = refl
 empty_is_nil (x ∷ xs) none = absurd (omega (arith, none))
 
 -- there is no line left
-pub reads_none : (old now new : Ahead) (before mid after : Scene) (kept kept' : List ℕ) → InLine kept old now before mid → IsAtEnd new mid after
-    → kept' ≡ kept_of (kept ++ now.bytes) → length kept' ≡ 0 → ReadsLine false kept' old new before after
-reads_none old now new before mid after kept kept' so_far end more none =
+pub reads_none : (old now new : Ahead) (before mid after : Scene) (kept kept' : Kept) → InLine kept old now before mid → IsAtEnd new mid after
+    → HasAdded kept kept' now.bytes → 0 < kept'.room → length kept'.bytes ≡ 0 → ReadsLine false kept' old new before after
+reads_none old now new before mid after kept kept' so_far end more room none =
     let found : List ℕ = so_far.line ++ now.bytes in
-    let is_kept : kept' ≡ kept_of found = kept_more kept kept' so_far.line now.bytes so_far.is_kept more in
-    let short : length found ≡ 0 = omega (arith, none, ap (λ (l : List ℕ). length l) is_kept, length-take 1048577 found) in
+    let is_kept : IsKeptOf kept' found = kept_more kept kept' so_far.line now.bytes so_far.is_kept more in
+    let short : length found ≡ 0 = omega (arith, room, none, ap (λ (l : List ℕ). length l) is_kept, length-take kept'.room found) in
     record {
       line = found;
       is_kept = is_kept;
@@ -152,7 +155,7 @@ reads_none old now new before mid after kept kept' so_far end more none =
     }
 
 -- a line that was begun where the reader stops
-pub line_stops : (error : ScriptErr) (old now new : Ahead) (before mid after : Scene) (kept : List ℕ) → InLine kept old now before mid → IsLine now.bytes
+pub line_stops : (error : ScriptErr) (old now new : Ahead) (before mid after : Scene) (kept : Kept) → InLine kept old now before mid → IsLine now.bytes
     → now.ended ≡ false → new.taken ≡ now.taken → IsLeft error mid.script new after → Stops error whole_lines [] old new before after
 line_stops error old now new before mid after kept so_far ahead_is was taken left =
     let going = so_far.going was in
@@ -185,9 +188,9 @@ piece_goes_on old now new before mid after line so_far script taken =
     }
 
 -- one more piece
-pub line_goes_on : (old now new : Ahead) (before mid after : Scene) (kept kept' : List ℕ) → InLine kept old now before mid → IsLine now.bytes
+pub line_goes_on : (old now new : Ahead) (before mid after : Scene) (kept kept' : Kept) → InLine kept old now before mid → IsLine now.bytes
     → mid.script ≡ new.bytes ++ after.script → new.taken ≡ now.taken + length new.bytes → (new.ended ≡ false → now.ended ≡ false)
-    → kept' ≡ kept_of (kept ++ now.bytes) → InLine kept' old new before after
+    → HasAdded kept kept' now.bytes → InLine kept' old new before after
 line_goes_on old now new before mid after kept kept' so_far ahead_is script taken was more =
     record {
       line = so_far.line ++ now.bytes;

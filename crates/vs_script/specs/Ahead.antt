@@ -11,9 +11,22 @@ use Rattle.vs_text.specs.Text.{lines_of}
 abbrev pub script_limit : ℕ
 script_limit = 1073741824
 
--- what is kept of a line: the bytes that decide what it means
+-- the bytes of a line that decide what it means
 abbrev pub kept_of : List ℕ → List ℕ
 kept_of line = take (max_line_bytes + 1) line
+
+-- two lines have the same bytes where these decide what they mean
+abbrev pub MeanSame : List ℕ → List ℕ → Type 0
+MeanSame line other = kept_of line ≡ kept_of other
+
+-- what is kept of a line: as many of its first bytes as there is room for
+pub record Kept : Type 0 where
+  pub room : ℕ
+  pub bytes : List ℕ
+
+-- these are the bytes that are kept of the line
+abbrev pub IsKeptOf : Kept → List ℕ → Type 0
+IsKeptOf kept line = kept.bytes ≡ take kept.room line
 
 -- a byte before the first line, where there is one
 abbrev pub onto_next : ℕ → List (List ℕ) → List (List ℕ)
@@ -77,9 +90,9 @@ pub record GoesOn {X : Type 0} (f g : List ℕ → X) (old new : Ahead) (before 
   pub each : (rest : List ℕ) → f ((old.bytes ++ fresh) ++ rest) ≡ g (new.bytes ++ rest)
 
 -- A line was read, where there was one, and this is kept of it.
-pub record ReadsLine (found : Bool) (kept : List ℕ) (old new : Ahead) (before after : Scene) : Type 0 where
+pub record ReadsLine (found : Bool) (kept : Kept) (old new : Ahead) (before after : Scene) : Type 0 where
   pub line : List ℕ
-  pub is_kept : kept ≡ kept_of line
+  pub is_kept : IsKeptOf kept line
   pub ahead : TakesLine (lines_ahead old before) found line (lines_ahead new after)
   pub whole : new.ended ≡ false → (found ≡ true) × GoesOn whole_lines (λ bytes. line ∷ whole_lines bytes) old new before after
 

@@ -82,10 +82,6 @@ at_end command block = instruction (Ok command) block ∷ []
 abbrev pub commands_of : List (List ℕ) → List Instruction
 commands_of lines = commands_by at_end lines
 
--- the commands from the block of this command on, where a block may end at the script's end
-abbrev pub block_of : Command → List (List ℕ) → List (List ℕ) → List Instruction
-block_of command block lines = block_by at_end command block lines
-
 -- where more may come, a block without its dot is no command yet
 abbrev pub not_yet : Command → List (List ℕ) → List Instruction
 not_yet command block = []
@@ -93,7 +89,3 @@ not_yet command block = []
 -- the commands that are whole in the first lines of a script, whatever follows
 abbrev pub whole_of : List (List ℕ) → List Instruction
 whole_of lines = commands_by not_yet lines
-
--- the same where a block ends at its dot alone
-abbrev pub whole_block : Command → List (List ℕ) → List (List ℕ) → List Instruction
-whole_block command block lines = block_by not_yet command block lines

@@ -1,13 +1,17 @@
 // The lines of a block, as they are read.
-ghost use Rattle.std.specs.Prelude.{◌≡◌, ◌<◌, ◌++◌, ◌∷◌, [], List, ℕ, length, false, true, OnOk};
+ghost use Rattle.std.specs.Prelude.{◌≡◌, ◌<◌, ◌++◌, ◌∷◌, [], List, ℕ, Ok, length, false, true, OnOk};
+ghost use Rattle.vs_exparse.specs.Command as meaning;
+ghost use Rattle.vs_exparse.specs.Command.{command_of, wants_block};
+ghost use Rattle.vs_exparse.specs.Form.{HasForm};
 ghost use Rattle.vs_text.specs.Limits.{IsShort, IsWithinLimits};
 ghost use Rattle.vs_text.specs.Text.{IsLine, bytes_of};
-ghost use Rattle.vs_excmd.specs.Request.{StandsFor, is_absent};
-ghost use Rattle.vs_script.specs.Ahead.{kept_of};
+ghost use Rattle.vs_excmd.specs.Request.{IsFormed, StandsFor, is_absent};
+ghost use Rattle.vs_script.specs.Ahead.{MeanSame};
 ghost use Rattle.vs_script.specs.Block.{Holds, IsCounted};
 
 use std::alloc::Global;
-use vs_excmd::Block;
+use vs_excmd::{Block, Request};
+use vs_exparse::Command;
 use vs_text::{Line, MAX_LINE_BYTES, MAX_LINES, MAX_TEXT_BYTES, TextErr};
 
 /// The lines of a block so far.
@@ -67,11 +71,11 @@ impl BlockLines {
         }
     }
 
-    /// With one more line, of which the first bytes are kept.
+    /// With one more line, of which the bytes stand here that decide what it means.
     pub(crate) fn with(self, alloc: Global, line: &[u8]) -> BlockLines
         requires line { IsLine line.now }
         requires counted { IsCounted self }
-        ensures holds { (lines : List (List ℕ)) (more : List ℕ) → Holds self lines → line.now ≡ kept_of more → Holds result (lines ++ more ∷ []) }
+        ensures holds { (lines : List (List ℕ)) (more : List ℕ) → Holds self lines → MeanSame line.now more → Holds result (lines ++ more ∷ []) }
         ensures counted { IsCounted result }
     {
         match self {
@@ -101,6 +105,57 @@ impl BlockLines {
             BlockLines::TooLong => Block::TooLong,
             BlockLines::TooMany => Block::TooMany,
             BlockLines::NoMemory => Block::NoMemory,
+        }
+    }
+}
+
+/// A command that takes a block, with the lines of the block so far.
+#[derive(Drop)]
+pub(crate) struct OpenBlock {
+    head: Command<'static>,
+    lines: BlockLines,
+}
+
+impl OpenBlock {
+    ghost use Rattle.vs_excmd.specs.Request.{IsRequest};
+    ghost use Rattle.vs_script.specs.Feed.{BlockIsAt};
+    ghost use Rattle.vs_script.specs.Script.{instruction};
+
+    pub(crate) fn new(alloc: Global, head: Command<'static>) -> OpenBlock
+        requires form { HasForm (command_of head) }
+        requires wants { wants_block (command_of head) ≡ true }
+        ensures { BlockIsAt result (command_of head.entry) [] }
+    {
+        OpenBlock {
+            head,
+            lines: BlockLines::new(alloc),
+        }
+    }
+
+    /// With one more line, of which the bytes stand here that decide what it means.
+    pub(crate) fn with(self, alloc: Global, line: &[u8]) -> OpenBlock
+        requires line { IsLine line.now }
+        requires counted { IsCounted self.lines }
+        ensures { (command : meaning.Command) (lines : List (List ℕ)) (more : List ℕ) → BlockIsAt self command lines → MeanSame line.now more
+            → BlockIsAt result command (lines ++ more ∷ []) }
+    {
+        let OpenBlock { head, lines } = self;
+        OpenBlock {
+            head,
+            lines: lines.with(alloc, line),
+        }
+    }
+
+    /// The command with its block.
+    pub(crate) fn into_request(self) -> Request<'static>
+        ensures meant { (command : meaning.Command) (lines : List (List ℕ)) → BlockIsAt self command lines
+            → IsRequest result (instruction (Ok command) lines) }
+        ensures form { (command : meaning.Command) (lines : List (List ℕ)) → BlockIsAt self command lines → IsFormed result }
+    {
+        let OpenBlock { head, lines } = self;
+        Request {
+            parsed: Ok(head),
+            block: lines.into_block(),
         }
     }
 }

@@ -2,10 +2,12 @@
 #![tactic(auto)]
 
 mod block;
+mod feed;
 mod kind;
 mod line;
 mod reader;
 mod request;
 
+pub use feed::CommandFeed;
 pub use line::LineBuffer;
 pub use reader::{SCRIPT_LIMIT, ScriptErr, ScriptReader};

@@ -133,15 +133,19 @@ impl ScriptReader {
         Ok(true)
     }
 
-    /// Puts the next line into `line`. It ends at byte 10 or at the script's end. `false` where there is none.
-    pub(crate) fn next_line<S: Script>(
+    /// Puts the next line into `line`, as far as it has room for it. A line ends at byte 10 or at the script's end. `false` where there
+    /// is none.
+    ///
+    /// `Failed` is for a read that failed, `TooLong` for the first byte after 1,073,741,824 of them.
+    pub fn next_line<S: Script>(
         &mut self,
         host: &mut S,
         line: &mut LineBuffer,
     ) -> Result<bool, ScriptErr>
         requires ended { IsTrue (S.tells).script → HasSeen self.old (S.scene host.old) }
         ensures line { IfOk result (λ found. IsTrue (S.tells).script → ReadsLine found line.new self.old self.new (S.scene host.old) (S.scene host.new)) }
-        ensures is_line { OnOk result (IsLine line.new) }
+        ensures is_line { OnOk result (IsLine line.new.bytes) }
+        ensures room { line.new.room ≡ line.old.room }
         ensures track { KeepsTrack S.tells result self.old self.new (S.scene host.old) (S.scene host.new) }
         ensures stops { IfErr result (λ error. IsTrue (S.tells).script →
             Stops error whole_lines [] self.old self.new (S.scene host.old) (S.scene host.new)) }

@@ -1,4 +1,4 @@
-use Rattle.std.proofs.Common.{◌≤◌, IsTrue, Ok, ◌+◌, ◌-◌, length}
+use Rattle.std.proofs.Common.{◌≡◌, ◌≤◌, IsTrue, Ok, ◌+◌, ◌-◌, length}
 use Rattle.vs_text.specs.Text.{IsLine}
 use Rattle.vs_script.specs.Reads.{ReadsScript}
 use Rattle.vs_script.specs.Ahead.{CountsTaken, HasSeen, ReadsNoMore, bytes_left, script_limit}
@@ -8,10 +8,11 @@ use Rattle.vs_script.proofs.reader.ScriptReader.next_line.Given as goal
 abbrev pub invariant-pieces : goal.invariant-pieces
 invariant-pieces g l = record {
   so_far : IsTrue (g.S.World.tells).script → InLine l.line l.initial.self l.self (g.S.World.scene l.initial.host) (g.S.World.scene l.host);
-  line : IsLine l.line;
+  line : IsLine l.line.bytes;
+  room : l.line.room ≡ l.initial.line.room;
   ended : IsTrue (g.S.World.tells).script → HasSeen l.self (g.S.World.scene l.host);
   counts : IsTrue (g.S.World.tells).script → CountsTaken l.initial.self l.self (g.S.World.scene l.initial.host) (g.S.World.scene l.host);
-  left : length l.line + bytes_left l.self ≤ bytes_left l.initial.self;
+  left : length l.line.bytes + bytes_left l.self ≤ bytes_left l.initial.self;
   reads : ReadsScript g.S.World.tells (Ok l.line) (g.S.World.scene l.initial.host) (g.S.World.scene l.host);
   calls : ReadsNoMore g.S.World.tells (Ok l.line) l.initial.self l.self (g.S.World.scene l.initial.host) (g.S.World.scene l.host);
 }
