@@ -4,3 +4,4 @@ pub mod Turns
 pub mod Begun
 pub mod Quits
 pub mod Both
+pub mod Parties

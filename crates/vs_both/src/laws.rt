@@ -1,14 +1,17 @@
 // Laws of two sessions in one folder. They do nothing: their contracts are the laws.
-ghost use Rattle.std.specs.Prelude.{◌≡◌, ◌⊎◌, ◌<◌, ◌∷◌, [], ◌++◌, ℕ, List, None, Option, length};
-ghost use Rattle.vs_host.specs.Disk.{Disk, IsFolder};
+ghost use Rattle.std.specs.Prelude.{IsTrue, false, ◌≡◌, ◌⊎◌, ◌<◌, ◌∷◌, [], ◌++◌, ℕ, List, None, Option, length};
+ghost use Rattle.vs_host.specs.Disk.{Disk, IsFolder, Name};
+ghost use Rattle.vs_host.specs.Names.{is_allowed};
 ghost use Rattle.vs_host.specs.World.{ChangesFolder, LeavesTrace, Scene};
 ghost use Rattle.vs_disk.specs.Names.{IsApart, SameAt};
+ghost use Rattle.vs_family.specs.Family.{clash};
 ghost use Rattle.vs_safety.specs.Texts.{IsBetween, NoneLeft, Recovers, RecoversOrNone, Sync, Text, recoverable};
 ghost use Rattle.vs_safety.specs.FileWork.{FileWork, Keeps};
 ghost use Rattle.vs_safety.specs.Turns.{Quits, Turn, opened};
 ghost use Rattle.vs_safety.specs.Safety.{IsCrashSafeAmong, IsFirstPart, Looks, Stepped, Works, Wrote};
 ghost use Rattle.vs_safety.specs.History.{After, BeginsAmong, HasBegunAmong, History, Open, Replied, ran_of, syncs_of};
 ghost use Rattle.vs_both.specs.Beside.{AreApart, AreBeside, HasFamily, HasQuit, Party, ShareNone, of_others, others_of};
+ghost use Rattle.vs_both.specs.Parties.{party_of};
 ghost use Rattle.vs_both.specs.Both.{BothGo, BothKept, Gone, HasKept, Running, Stage, answered};
 
 /// What a stop may leave of a session's swap files goes on where the names of its family stay.
@@ -100,4 +103,10 @@ pub fn quitting()
         × HasKept two start (answered second (of_others one.line)) new }
     ensures since { (party : Party) (start now : Scene) (past : History) → HasFamily party → HasQuit party start past now
         → NoneLeft party.names now.folder }
+{}
+
+/// The sessions on two files that do not clash have nothing to do with each other's names.
+pub fn parting()
+    ensures { (one two : Name) (line other : List ℕ) → IsTrue (is_allowed one) → IsTrue (is_allowed two) → clash one two ≡ false
+        → AreBeside (party_of one line) (party_of two other) }
 {}

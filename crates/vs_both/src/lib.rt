@@ -4,4 +4,4 @@
 
 mod laws;
 
-pub use laws::{apartness, beginning, opening, quitting, standing, turning};
+pub use laws::{apartness, beginning, opening, parting, quitting, standing, turning};
