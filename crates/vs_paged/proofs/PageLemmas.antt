@@ -1,5 +1,5 @@
 -- A text in pages is what a store over them has, so each clause of the store says what the text is.
-use Rattle.std.proofs.Common.{◌≡◌, ℕ, Bool, true, List, ◌++◌, length, drop, All, refl, sym, ap, subst, ◌∙◌, arith}
+use Rattle.std.proofs.Common.{◌≡◌, ◌≤◌, ◌+◌, ℕ, Bool, true, List, ◌++◌, length, drop, All, refl, sym, ap, subst, ◌∙◌, arith}
 use Rattle.std.proofs.lemmas.List.{length-append}
 use Rattle.std.proofs.lemmas.List.Elements.{All-drop}
 use Rattle.std.proofs.lemmas.Grind.{common_steps}
@@ -8,6 +8,8 @@ use Rattle.vs_pages.specs.Memory.{present_of, committed_of}
 use Rattle.vs_pages.specs.declared.memory.MemPages.{MemPages}
 use Rattle.vs_text.specs.Text.{bytes_of}
 use Rattle.vs_text.specs.Limits.{IsShort, IsWithinLimits}
+use Rattle.vs_text.specs.declared.TheConstants.{MAX_LINES, MAX_TEXT_BYTES}
+use Rattle.vs_text.proofs.FileForm.{bytes_of-append}
 use Rattle.vs_edit.specs.State.{AllowsSplice, SameText}
 use Rattle.vs_edit.specs.Splices.{splice}
 use Rattle.vs_tree.specs.declared.texts.Extent.{Extent}
@@ -57,24 +59,23 @@ given_back pages lent tree held p t is =
     let Q : LineTree → Type 0 = λ u. IsCommitted lent u in
     subst P (sym p) (subst Q (sym t) is)
 
--- lines after the last one
-pub splice_end : (text lines : List (List ℕ)) (at : ℕ) → at ≡ length text → splice text at 0 lines ≡ text ++ lines
-splice_end text lines at is = grind (arith, common_steps)
+-- the lines after the first of some are as short as all
+short_end : (text lines : List (List ℕ)) → All IsShort (text ++ lines) → All IsShort lines
+short_end text lines short =
+    let rest : drop (length text) (text ++ lines) ≡ lines = grind (arith, common_steps) in
+    let A : List (List ℕ) → Type 0 = λ lines. All IsShort lines in subst A rest (All-drop IsShort (length text) (text ++ lines) short)
 
--- they may be put in where the whole is within the limits
-pub allows_end : (m : Map) (x : Extent) (lines : List (List ℕ)) → Fits true m x → IsWithinLimits (text_in m x ++ lines) → AllowsSplice (text_of true m x) x.lines 0 lines
-allows_end m x lines fits within =
+-- lines may be put after the last one where the whole is within the limits
+pub room_end : (m : Map) (x : Extent) (lines : List (List ℕ)) → Fits true m x → IsWithinLimits (text_in m x ++ lines)
+    → (x.lines + length lines ≤ MAX_LINES) × All IsShort lines × (x.bytes + bytes_of lines ≤ MAX_TEXT_BYTES)
+room_end m x lines fits within =
     let has = text_had m x fits in
     let text : List (List ℕ) = text_in m x in
-    let rest : drop (length text) (text ++ lines) ≡ lines = grind (arith, common_steps) in
-    record {
-      within = omega arith;
-      few_lines = omega (arith, has.lines, within.few_lines, length-append text lines);
-      short_lines = let A : List (List ℕ) → Type 0 = λ lines. All IsShort lines in subst A rest (All-drop IsShort (length text) (text ++ lines) within.short_lines);
-      few_bytes = λ other is.
-          let same : splice other x.lines 0 lines ≡ text ++ lines = ap (λ (t : List (List ℕ)). splice t x.lines 0 lines) (sym (text_same m x other is)) ∙ splice_end text lines x.lines (sym has.lines) in
-          omega (arith, ap bytes_of same, within.few_bytes);
-    }
+    (omega (arith, has.lines, within.few_lines, length-append text lines), short_end text lines within.short_lines, omega (arith, has.bytes, within.few_bytes, bytes_of-append text lines))
+
+-- the text stays where pages and numbers stay
+pub text_stays : (m n : Map) (x y : Extent) → n ≡ m → y ≡ x → text_in n y ≡ text_in m x
+text_stays m n x y pages is = ap (λ (k : Map). text_in k y) pages ∙ ap (λ (e : Extent). text_in m e) is
 
 -- the same text, present and committed
 pub is_committed_at : (pages : MemPages) (tree : LineTree) (text : List (List ℕ)) → Fits true (present_of pages) tree.present → Fits true (committed_of pages) tree.committed

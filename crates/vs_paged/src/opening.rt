@@ -18,11 +18,11 @@ ghost use Rattle.vs_paged.specs.Pages.{IsCommitted};
 use crate::PagedText;
 use std::alloc::{AllocError, Global};
 use std::marker::Model;
-use vs_edit::{LineStore, StoreErr, splice_or_rollback};
+use vs_edit::LineStore;
 use vs_host::{Failed, Folder};
 use vs_pages::{LentPages, MemPages, PageErr};
 use vs_pair::{Head, SwapPair};
-use vs_text::Line;
+use vs_pieces::EndedLines;
 use vs_tree::{LineTree, TreeStore};
 
 /// A text that is read, piece by piece, into the pages of a pair, seen as the name of its file and the lines so far. It has made
@@ -62,16 +62,6 @@ fn memory_of_pages(error: PageErr) -> AllocError
     }
 }
 
-// Nor does a store over them.
-fn memory_of_store(error: StoreErr) -> AllocError
-    requires { error ≢ StoreErr.Failed }
-{
-    match error {
-        StoreErr::NoMemory => AllocError,
-        StoreErr::Failed => unreachable!(),
-    }
-}
-
 // Commits a text in pages.
 fn commit_in(tree: &mut LineTree, pages: &mut MemPages)
     requires present { FitsPages true (present_of pages.old) tree.old.present }
@@ -91,7 +81,7 @@ fn push_in(
     alloc: Global,
     tree: &mut LineTree,
     pages: &mut MemPages,
-    lines: &[Line],
+    lines: &EndedLines,
 ) -> Result<(), AllocError>
     requires committed { IsCommitted pages.old tree.old }
     requires within { IsWithinLimits (text_in (present_of pages.old) tree.old.present ++ lines.now) }
@@ -99,17 +89,12 @@ fn push_in(
     ensures err { OnErr result (text_in (present_of pages.new) tree.new.present ≡ text_in (present_of pages.old) tree.old.present) }
     ensures committed { IsCommitted pages.new tree.new }
 {
-    let at = tree.len();
-    let mut store = TreeStore {
-        tree,
-        pages: LentPages { pages },
-    };
-    match splice_or_rollback(alloc, &mut store, at, 0, lines) {
+    match tree.push_lines(alloc, pages, lines) {
         Ok(()) => {
-            store.commit();
+            commit_in(tree, pages);
             Ok(())
         }
-        Err(error) => Err(memory_of_store(error)),
+        Err(error) => Err(memory_of_pages(error)),
     }
 }
 
@@ -146,7 +131,7 @@ impl OpeningText {
     }
 
     /// Puts copies of these lines after the last one.
-    pub fn push_lines(&mut self, alloc: Global, lines: &[Line]) -> Result<(), AllocError>
+    pub fn push_lines(&mut self, alloc: Global, lines: &EndedLines) -> Result<(), AllocError>
         requires { IsWithinLimits (self.old.text ++ lines.now) }
         ensures ok { OnOk result (self.new ≡ record self.old { text = self.old.text ++ lines.now }) }
         ensures err { OnErr result (self.new ≡ self.old) }

@@ -11,7 +11,7 @@ use crate::looking::{has_file, read_bytes, size_of_file};
 use std::alloc::Global;
 use vs_host::Host;
 use vs_paged::OpeningText;
-use vs_text::TextReader;
+use vs_pieces::PieceReader;
 
 /// Bytes of a file that are read at a time.
 const PIECE: u64 = 65_536;
@@ -23,7 +23,7 @@ fn read_piece<H: Host>(
     name: &str,
     at: u64,
     piece: &mut [u8],
-    reader: &mut TextReader,
+    reader: &mut PieceReader,
     text: &mut OpeningText,
 ) -> Result<(), OpenErr>
     requires size { size_read reader.old + length piece.old < 2 ^ 64 }
@@ -40,7 +40,7 @@ fn read_piece<H: Host>(
 {
     read_bytes(host, name, at, piece)?;
     reader.feed(alloc, piece)?;
-    text.push_lines(alloc, &reader.take_lines())?;
+    text.push_lines(alloc, &reader.take_lines(alloc))?;
     Ok(())
 }
 
@@ -58,7 +58,7 @@ fn read_pieces<H: Host>(
     ensures limits { KeepsToLimits H.tells result (content_of (H.scene host.old) name.now) }
     ensures reads { ReadsInto H.tells result text.old text.new (H.scene host.old) (H.scene host.new) }
 {
-    let mut reader = TextReader::new(alloc)?;
+    let mut reader = PieceReader::new(alloc);
     let mut piece = vec![in alloc; 0u8; PIECE as usize]?;
     let mut at = 0;
     'pieces: while at < size {
@@ -75,7 +75,7 @@ fn read_pieces<H: Host>(
         at += count;
     }
     let rest = reader.end()?;
-    text.push_lines(alloc, rest.lines())?;
+    text.push_lines(alloc, &rest)?;
     Ok(())
 }
 

@@ -13,7 +13,7 @@ use vs_desk::write_text;
 use vs_host::Folder;
 use vs_memory::MemHost;
 use vs_paged::{OpeningText, PagedText};
-use vs_text::read_text;
+use vs_pieces::PieceReader;
 
 /// What the file has before a write, and what is written.
 pub const OLD: &[u8] = b"a\n";
@@ -35,12 +35,16 @@ pub(crate) fn start_new<F: Folder>(alloc: Global, host: &mut F) -> Result<PagedT
     requires fresh { IsTrue F.tells.folder → IsFresh (names_of_file (codes "f")) (F.scene host.old).folder }
     ensures started { IfOk result (λ text. IsTrue F.tells.folder → IsStarted text (F.scene host.new).folder) }
 {
-    let lines = match read_text(alloc, NEW) {
+    let mut reader = PieceReader::new(alloc);
+    if reader.feed(alloc, NEW).is_err() {
+        return Err(Fail::new("it is no text"));
+    }
+    let lines = match reader.end() {
         Ok(lines) => lines,
         Err(_) => return Err(Fail::new("it is no text")),
     };
     let mut opening = OpeningText::new(alloc, "f")?;
-    opening.push_lines(alloc, lines.lines())?;
+    opening.push_lines(alloc, &lines)?;
     match opening.start(host) {
         Ok(text) => Ok(text),
         Err(_) => Err(Fail::new("the swap files were not made")),

@@ -1,50 +1,45 @@
-use Rattle.std.proofs.Common.{◌≡◌, ◌∙◌, ℕ, true, subst, sym, refl, arith}
-use Rattle.std.proofs.lemmas.Grind.{common_steps}
+use Rattle.std.proofs.Common.{◌≡◌, ◌∙◌, ◌++◌, true, sym, refl, ap}
 use Rattle.vs_pages.specs.Memory.{present_of, committed_of}
-use Rattle.vs_pages.specs.declared.memory.MemPages.{MemPages}
-use Rattle.vs_edit.specs.Splices.{splice}
-use Rattle.vs_edit.specs.State.{AllowsSplice}
-use Rattle.vs_tree.specs.Texts.{Tells, text_of}
+use Rattle.vs_pages.proofs.Steps.{history_present}
+use Rattle.vs_tree.proofs.Kept.{fits_kept}
 use Rattle.vs_tree.specs.declared.tree.LineTree.{LineTree}
-use Rattle.vs_tree.specs.TextIn.{text_in}
-use Rattle.vs_paged.proofs.PageLemmas.{text_had, text_told, text_same, is_committed_at, is_paged, given_back, splice_end, allows_end}
+use Rattle.vs_tree.specs.TextIn.{text_in, text_in-HasText}
+use Rattle.vs_paged.proofs.PageLemmas.{text_had, room_end, text_stays}
 use Rattle.vs_paged.proofs.opening.push_in.Goals as goal
 
-pub splice_or_rollback-requires-clause-allowed : goal.splice_or_rollback-requires-clause-allowed
-splice_or_rollback-requires-clause-allowed c =
-    let A : ℕ → Type 0 = λ at. AllowsSplice (text_of true (present_of c.args.pages.now) c.args.tree.now.present) at 0 c.args.lines.now in
-    subst A (sym c.len-at.ensures) (allows_end (present_of c.args.pages.now) c.args.tree.now.present c.args.lines.now c.requires.committed.present_fits c.requires.within)
+pub push_lines-requires-clause-few_lines : goal.push_lines-requires-clause-few_lines
+push_lines-requires-clause-few_lines c = (room_end (present_of c.args.pages.now) c.args.tree.now.present c.args.lines.now c.requires.committed.present_fits c.requires.within).0
+
+pub push_lines-requires-clause-short_lines : goal.push_lines-requires-clause-short_lines
+push_lines-requires-clause-short_lines c = (room_end (present_of c.args.pages.now) c.args.tree.now.present c.args.lines.now c.requires.committed.present_fits c.requires.within).1
+
+pub push_lines-requires-clause-few_bytes : goal.push_lines-requires-clause-few_bytes
+push_lines-requires-clause-few_bytes c = (room_end (present_of c.args.pages.now) c.args.tree.now.present c.args.lines.now c.requires.committed.present_fits c.requires.within).2
+
+pub commit_in-requires-clause-committed : goal.commit_in-requires-clause-committed
+commit_in-requires-clause-committed c =
+    fits_kept true (committed_of c.args.pages.now) (committed_of c.push_lines.new.pages) _ _ (λ told. c.push_lines.ensures.kept.committed refl) c.push_lines.ensures.before c.requires.committed.committed_fits
 
 pub returns-in-Ok-clause-ok : goal.returns-in-Ok-clause-ok
 returns-in-Ok-clause-ok c =
-    let pages : MemPages = c.commit.new.self.pages.pages.now in
-    let tree : LineTree = c.commit.new.self.tree.now in
     let text = text_in (present_of c.args.pages.now) c.args.tree.now.present in
-    let spliced = c.in-Ok.ensures.ok.text text (text_told _ _ c.requires.committed.present_fits) in
-    let now : text_in (present_of pages) tree.present ≡ splice text c.len-at.result 0 c.args.lines.now = text_same (present_of pages) tree.present _ (c.commit.ensures.present.text _ spliced) in
-    let had = text_had _ _ c.requires.committed.present_fits in
-    grind (arith, common_steps, now ∙ splice_end text c.args.lines.now c.len-at.result (c.len-at.ensures ∙ sym had.lines))
-
-pub returns-in-Ok-clause-committed : goal.returns-in-Ok-clause-committed
-returns-in-Ok-clause-committed c =
-    let text = text_in (present_of c.args.pages.now) c.args.tree.now.present in
-    let spliced = c.in-Ok.ensures.ok.text text (text_told _ _ c.requires.committed.present_fits) in
-    given_back _ c.commit.new.self.pages.pages.now _ c.commit.new.self.tree.now (grind (arith, common_steps)) (grind (arith, common_steps))
-    (is_committed_at _ _ _ c.commit.ensures.valid.1 c.commit.ensures.valid.2 (c.commit.ensures.present.text _ spliced) (c.commit.ensures.committed.text _ spliced))
+    c.commit_in.ensures.text ∙ text_in-HasText (present_of c.push_lines.new.pages) c.push_lines.new.self.present (text ++ c.args.lines.now)
+    (c.in-Ok.ensures.text refl text (text_had _ _ c.requires.committed.present_fits))
 
 pub returns-in-Err-clause-err : goal.returns-in-Err-clause-err
 returns-in-Err-clause-err c =
-    let pages : MemPages = c.splice_or_rollback.new.store.pages.pages.now in
-    let tree : LineTree = c.splice_or_rollback.new.store.tree.now in
-    let text = text_in (present_of c.args.pages.now) c.args.tree.now.present in
-    let told : Tells true (committed_of c.args.pages.now) c.args.tree.now.committed text = record { told = refl; has = (is_paged _ _ c.requires.committed).committed } in
-    let now : text_in (present_of pages) tree.present ≡ text = text_same (present_of pages) tree.present text (c.in-Err.ensures.err.text text told) in
-    grind (arith, common_steps, now)
+    text_stays (present_of c.args.pages.now) (present_of c.push_lines.new.pages) c.args.tree.now.present c.push_lines.new.self.present
+    (history_present _ _ (c.in-Err.ensures.back refl)) (ap (λ (t : LineTree). t.present) c.in-Err.ensures.same)
 
 pub returns-in-Err-clause-committed : goal.returns-in-Err-clause-committed
 returns-in-Err-clause-committed c =
-    let text = text_in (present_of c.args.pages.now) c.args.tree.now.present in
-    let told : Tells true (committed_of c.args.pages.now) c.args.tree.now.committed text = record { told = refl; has = (is_paged _ _ c.requires.committed).committed } in
-    let kept = c.in-Err.ensures.kept in
-    given_back _ c.splice_or_rollback.new.store.pages.pages.now _ c.splice_or_rollback.new.store.tree.now (grind (arith, common_steps)) (grind (arith, common_steps))
-    (is_committed_at _ _ text kept.valid.1 kept.valid.2 (c.in-Err.ensures.err.text text told) (kept.committed.text text told))
+    let old = c.args.pages.now in
+    let new = c.push_lines.new.pages in
+    let now = text_stays (present_of old) (present_of new) c.args.tree.now.present c.push_lines.new.self.present
+    (history_present _ _ (c.in-Err.ensures.back refl)) (ap (λ (t : LineTree). t.present) c.in-Err.ensures.same) in
+    let then = text_stays (committed_of old) (committed_of new) c.args.tree.now.committed c.push_lines.new.self.committed (c.push_lines.ensures.kept.committed refl) c.push_lines.ensures.before in
+    record {
+      present_fits = c.push_lines.ensures.fits;
+      committed_fits = fits_kept true (committed_of old) (committed_of new) _ _ (λ told. c.push_lines.ensures.kept.committed refl) c.push_lines.ensures.before c.requires.committed.committed_fits;
+      same = then ∙ c.requires.committed.same ∙ sym now;
+    }

@@ -66,7 +66,7 @@ pub push_lines-requires : goal.push_lines-requires
 push_lines-requires g c =
     let answer = c.in_ok-rest.ensures.answer c.pieces.text.text c.pieces.invariant.fed c.pieces.invariant.read in
     let W : List (List ℕ) → Type 0 = λ text. IsWithinLimits text in
-    subst W (sym (ap (λ (rest : List (List ℕ)). c.pieces.text.text ++ rest) c.lines.ensures ∙ answer.text)) answer.fits
+    subst W (sym answer.text) answer.fits
 
 pub returns-in_err-push_lines-clause-reads : goal.returns-in_err-push_lines-clause-reads
 returns-in_err-push_lines-clause-reads g c =
@@ -85,7 +85,7 @@ returns-clause-text g c = λ told.
     let before = c.pieces.invariant in
     let end : c.pieces.at ≡ c.args.size = omega (arith, c.pieces-test.false, before.high) in
     let answer = c.in_ok-rest.ensures.answer c.pieces.text.text before.fed before.read in
-    let now = ap (λ (o : Opening). o.text) c.in_ok-push_lines.ensures.ok ∙ (ap (λ (rest : List (List ℕ)). c.pieces.text.text ++ rest) c.lines.ensures ∙ answer.text) in
+    let now = ap (λ (o : Opening). o.text) c.in_ok-push_lines.ensures.ok ∙ answer.text in
     some_read _ before.fed (λ bytes. c.push_lines.new.self.text ≡ lines_of bytes) (whole_read _ c.pieces.at c.args.size before.fed (c.requires.there told) end (before.told told)) now
 
 pub returns-clause-limits : goal.returns-clause-limits
@@ -107,18 +107,11 @@ returns-clause-reads g c =
       reading = IsReading-calm g.H.World.tells _ (g.H.World.scene c.args.host.now) (g.H.World.scene c.pieces.host) before.frame before.looks before.none ok_never;
     }
 
-pub returns-in_err-reader-clause-reads : goal.returns-in_err-reader-clause-reads
-returns-in_err-reader-clause-reads g c = record {
-  name = refl;
-  others = never_swapped _ c.from_residual.ensures.1;
-  reading = IsReading-none g.H.World.tells _ (g.H.World.scene c.args.host.now) (not_failed _ c.from_residual.ensures.1);
-}
-
 pub returns-in_err-piece-clause-reads : goal.returns-in_err-piece-clause-reads
 returns-in_err-piece-clause-reads g c = record {
   name = refl;
-  others = never_swapped _ c.from_residual-in_err-piece.ensures.1;
-  reading = IsReading-none g.H.World.tells _ (g.H.World.scene c.args.host.now) (not_failed _ c.from_residual-in_err-piece.ensures.1);
+  others = never_swapped _ c.from_residual.ensures.1;
+  reading = IsReading-none g.H.World.tells _ (g.H.World.scene c.args.host.now) (not_failed _ c.from_residual.ensures.1);
 }
 
 pub returns-in_err-read_piece-clause-reads : goal.returns-in_err-read_piece-clause-reads
@@ -135,7 +128,7 @@ returns-in_err-read_piece-clause-reads g c =
 pub pieces-init : goal.pieces-init
 pieces-init g c = record {
   fed = [];
-  read = subst (λ (text : List (List ℕ)). HasRead c.in_ok-reader.reader text []) (sym c.requires.empty) c.in_ok-reader.ensures;
+  read = subst (λ (text : List (List ℕ)). HasRead c.new-reader.result text []) (sym c.requires.empty) c.new-reader.ensures;
   size = refl;
   told = λ told bytes is. refl;
   high = omega arith;

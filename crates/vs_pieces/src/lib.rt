@@ -1,0 +1,8 @@
+//! A text that is read in pieces, with no value of its own for each of its lines.
+#![tactic(auto)]
+
+mod lines;
+mod reader;
+
+pub use lines::{EndedLines, ended_line};
+pub use reader::PieceReader;

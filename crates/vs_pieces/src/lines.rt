@@ -1,0 +1,75 @@
+// Lines in one piece of memory.
+ghost use Rattle.std.specs.Prelude.{◌≡◌, ◌<◌, ◌++◌, ◌∷◌, [], MatchOption, OnErr, OnOk, length};
+ghost use Rattle.vs_text.specs.Text.{IsLine, file_of, lines_of};
+
+use memchr::memchr;
+use std::alloc::{AllocError, Global};
+use std::marker::Model;
+
+/// Lines in the file form of a text, each ended by byte 10, seen as the list of them (docs/FORMATS.md, "The file form of a text").
+#[derive(Debug, Drop)]
+pub struct EndedLines {
+    bytes: Vec<u8>,
+    ghost whole: { file_of (lines_of bytes.items) ≡ bytes.items },
+}
+
+impl Model for EndedLines {
+    ghost use Rattle.std.specs.Prelude.{ℕ, List};
+    ghost use Rattle.vs_text.specs.Text.{lines_of};
+
+    ghost Value = { List (List ℕ) };
+
+    ghost view = { λ lines. lines_of lines.bytes.items };
+}
+
+/// The bytes before the first line end, and those after it; `None` where no line ends.
+pub fn ended_line(bytes: &[u8]) -> Option<(&[u8], &[u8])>
+    ensures { MatchOption result (IsLine bytes.now) (λ (line, rest). IsLine line.now × (bytes.now ≡ line.now ++ 10 ∷ rest.now) ×
+        (length rest.now < length bytes.now)) }
+{
+    let end = memchr(b'\n', bytes)?;
+    Some((&bytes[..end], &bytes[end + 1..]))
+}
+
+// Adds a line and byte 10. After an error the bytes are as before.
+fn append_line(bytes: &mut Vec<u8>, line: &[u8]) -> Result<(), AllocError>
+    ensures ok { OnOk result (bytes.new.items ≡ (bytes.old.items ++ line.now) ++ 10 ∷ []) }
+    ensures err { OnErr result (bytes.new.items ≡ bytes.old.items) }
+{
+    let end = bytes.len();
+    bytes.extend_from_slice(line)?;
+    if bytes.push(b'\n').is_err() {
+        bytes.truncate(end);
+        return Err(AllocError);
+    }
+    Ok(())
+}
+
+impl EndedLines {
+    /// No lines. It takes no memory.
+    pub fn new(alloc: Global) -> EndedLines
+        ensures { result ≡ [] }
+    {
+        EndedLines {
+            bytes: Vec::new(alloc),
+        }
+    }
+
+    /// The bytes of the lines, each followed by byte 10.
+    pub fn bytes(&self) -> &[u8]
+        ensures lines { lines_of result.now ≡ self.now }
+        ensures bytes { result.now ≡ file_of self.now }
+    {
+        self.bytes.as_slice()
+    }
+
+    /// Adds a copy of a line after the others. After an error they are as before.
+    pub fn push(&mut self, line: &[u8]) -> Result<(), AllocError>
+        requires { IsLine line.now }
+        ensures ok { OnOk result (self.new ≡ self.old ++ line.now ∷ []) }
+        ensures err { OnErr result (self.new ≡ self.old) }
+    {
+        append_line(&mut self.bytes, line)?;
+        Ok(())
+    }
+}

@@ -1,0 +1,206 @@
+// A text that is read in pieces.
+ghost use Rattle.std.specs.Prelude.{◌≡◌, ◌+◌, ◌<◌, ◌≤◌, ◌^◌, ◌++◌, ◌∷◌, [], List, ℕ, length, None, Some, IfOk, IfErr, OnOk, OnErr, MatchOption};
+ghost use Rattle.vs_text.specs.Text.{IsLine};
+ghost use Rattle.vs_text.specs.Limits.{IsWithinLimits};
+ghost use Rattle.vs_text.specs.Reader.{HasRead, IsAnswer, IsCertain, IsReading, Reads, ReadsOn, Refuses, size_read};
+
+use crate::{EndedLines, ended_line};
+use std::alloc::Global;
+use std::marker::Model;
+use std::mem;
+use vs_text::{MAX_LINE_BYTES, MAX_LINES, MAX_TEXT_BYTES, TextErr};
+
+/// Reads a text in pieces (docs/FORMATS.md, "The file form of a text"), as [`TextReader`](vs_text::TextReader) does, and keeps the lines
+/// that have ended in one piece of memory.
+///
+/// The pieces may be cut anywhere. The answer of [`PieceReader::end`] is that of [`read_text`](vs_text::read_text) on the whole.
+/// The reader holds no more than a text within the limits and one last line: what is certain to be refused is counted only.
+#[derive(Drop)]
+pub struct PieceReader {
+    lines: EndedLines,
+    last: Vec<u8>,
+    last_size: u64,
+    ended: u64,
+    bytes: u64,
+    refused: Option<TextErr>,
+}
+
+impl Model for PieceReader {
+    ghost use Rattle.std.specs.Prelude.{◌+◌, ◌*◌, ◌^◌, ◌<◌, ◌≤◌};
+    ghost use Rattle.vs_text.specs.Reader.{Reading};
+    ghost use Rattle.vs_text.specs.Text.{IsLine};
+    ghost use Rattle.vs_text.specs.declared.TheConstants.{MAX_LINE_BYTES};
+
+    ghost Value = { Reading };
+
+    ghost view = { λ r. record {
+      lines = r.lines;
+      last = r.last.items;
+      last_size = r.last_size;
+      ended = r.ended;
+      bytes = r.bytes;
+      refused = r.refused;
+    } };
+
+    ghost invariant = { λ r. IsLine r.last.items × (r.ended ≤ r.bytes) × (r.bytes ≤ r.ended * (MAX_LINE_BYTES + 1)) × (r.bytes + r.last_size < 2 ^ 64) };
+}
+
+impl PieceReader {
+    /// A reader that was fed nothing. It takes no memory.
+    pub fn new(alloc: Global) -> PieceReader
+        ensures { HasRead result [] [] }
+    {
+        PieceReader {
+            lines: EndedLines::new(alloc),
+            last: Vec::new(alloc),
+            last_size: 0,
+            ended: 0,
+            bytes: 0,
+            refused: None,
+        }
+    }
+
+    /// Reads the next piece of the file, of at most 2^64 - 1 bytes in all.
+    ///
+    /// It answers that a line is too long once that line has ended, since only then its length is known. All else that is
+    /// refused, [`PieceReader::end`] answers. After an error the reader answers this error again.
+    pub fn feed(&mut self, alloc: Global, piece: &[u8]) -> Result<(), TextErr>
+        requires { size_read self.old + length piece.now < 2 ^ 64 }
+        ensures reads { Reads self.old self.new piece.now }
+        ensures size { size_read self.new ≤ size_read self.old + length piece.now }
+        ensures ok { OnOk result ((self.old.refused ≡ None) × (self.new.refused ≡ None)) }
+        ensures err { IfErr result (λ error. self.new.refused ≡ Some error) }
+        ensures certain { IfErr result (λ error. (taken : List (List ℕ)) (fed : List ℕ) → HasRead self.old taken fed →
+            IsCertain (fed ++ piece.now) error) }
+        ensures again { MatchOption self.old.refused Unit (λ error. (result ≡ Err error) × (self.new ≡ self.old)) }
+    {
+        if let Some(error) = self.refused {
+            return Err(error);
+        }
+        if let Err(error) = self.read(piece) {
+            self.refused = Some(error);
+            self.lines = EndedLines::new(alloc);
+            self.last = Vec::new(alloc);
+            return Err(error);
+        }
+        Ok(())
+    }
+
+    /// Hands over the lines that have ended and were not handed over before. It takes no memory.
+    ///
+    /// These lines and those handed over before are a text within the limits. There are none once it is certain that the
+    /// text is refused.
+    pub fn take_lines(&mut self, alloc: Global) -> EndedLines
+        ensures lines { result ≡ self.old.lines }
+        ensures rest { self.new ≡ record self.old { lines = [] } }
+        ensures taken { (taken : List (List ℕ)) (fed : List ℕ) → HasRead self.old taken fed → HasRead self.new (taken ++ result) fed }
+        ensures within { (taken : List (List ℕ)) (fed : List ℕ) → HasRead self.old taken fed → IsWithinLimits (taken ++ result) }
+    {
+        mem::replace(&mut self.lines, EndedLines::new(alloc))
+    }
+
+    /// The lines of the text of what was fed, without those that were handed over. A last line without an end is among them.
+    pub fn end(mut self) -> Result<EndedLines, TextErr>
+        ensures answer { (taken : List (List ℕ)) (fed : List ℕ) → HasRead self taken fed → IsAnswer taken fed result }
+        ensures again { MatchOption self.refused Unit (λ error. result ≡ Err error) }
+    {
+        if let Some(error) = self.refused {
+            return Err(error);
+        }
+        if self.last_size == 0 {
+            return self.into_lines();
+        }
+        if self.last_size > MAX_LINE_BYTES {
+            return Err(TextErr::LineTooLong(self.last_size));
+        }
+        if self.ended >= MAX_LINES {
+            return Err(TextErr::TextFull(self.ended + 1));
+        }
+        self.end_line()?;
+        self.into_lines()
+    }
+
+    // The lines of a reader whose last line has ended.
+    fn into_lines(self) -> Result<EndedLines, TextErr>
+        requires { self.last_size ≡ 0 }
+        ensures { (taken : List (List ℕ)) (fed : List ℕ) → IsReading self taken fed → IsAnswer taken fed result }
+    {
+        if self.ended > MAX_LINES {
+            return Err(TextErr::TextFull(self.ended));
+        }
+        if self.bytes > MAX_TEXT_BYTES {
+            return Err(TextErr::TextFull(self.bytes));
+        }
+        Ok(self.lines)
+    }
+
+    // Reads a piece: its lines, and then the bytes after its last line end.
+    fn read(&mut self, piece: &[u8]) -> Result<(), TextErr>
+        requires { size_read self.old + length piece.now < 2 ^ 64 }
+        ensures reads { OnOk result (ReadsOn self.old self.new piece.now) }
+        ensures refused { IfErr result (λ error. Refuses self.old piece.now error) }
+        ensures size { size_read self.new ≤ size_read self.old + length piece.now }
+        ensures same { self.new.refused ≡ self.old.refused }
+    {
+        let mut rest = piece;
+        'lines: while let Some((line, after)) = ended_line(rest) {
+            self.read_bytes(line)?;
+            self.end_line()?;
+            rest = after;
+        }
+        self.read_bytes(rest)
+    }
+
+    // Reads bytes of the last line.
+    fn read_bytes(&mut self, bytes: &[u8]) -> Result<(), TextErr>
+        requires line { IsLine bytes.now }
+        requires size { size_read self.old + length bytes.now < 2 ^ 64 }
+        ensures reads { OnOk result (ReadsOn self.old self.new bytes.now) }
+        ensures memory { OnErr result (result ≡ Err TextErr.NoMemory) }
+        ensures size { size_read self.new ≡ size_read self.old + length bytes.now }
+        ensures same { self.new.refused ≡ self.old.refused }
+    {
+        self.last_size += bytes.len() as u64;
+        if self.last_size <= MAX_LINE_BYTES {
+            self.last.extend_from_slice(bytes)?;
+        }
+        Ok(())
+    }
+
+    // Ends the last line.
+    fn end_line(&mut self) -> Result<(), TextErr>
+        requires { size_read self.old + 1 < 2 ^ 64 }
+        ensures reads { OnOk result (ReadsOn self.old self.new (10 ∷ [])) }
+        ensures refused { IfErr result (λ error. Refuses self.old (10 ∷ []) error) }
+        ensures size { size_read self.new ≤ size_read self.old + 1 }
+        ensures ended { OnOk result (self.new.last_size ≡ 0) }
+        ensures same { self.new.refused ≡ self.old.refused }
+    {
+        if self.last_size > MAX_LINE_BYTES {
+            return Err(TextErr::LineTooLong(self.last_size));
+        }
+        self.ended += 1;
+        self.bytes += self.last_size + 1;
+        self.last_size = 0;
+        self.hold_last()?;
+        self.last.clear();
+        Ok(())
+    }
+
+    // Keeps a line that has ended, or lets all lines go where the text is too great.
+    fn hold_last(&mut self) -> Result<(), TextErr>
+        ensures held { OnOk result (self.old.ended ≤ MAX_LINES → self.old.bytes ≤ MAX_TEXT_BYTES
+            → self.new.lines ≡ self.old.lines ++ self.old.last ∷ []) }
+        ensures many_lines { OnOk result (MAX_LINES < self.old.ended → self.new.lines ≡ []) }
+        ensures many_bytes { OnOk result (MAX_TEXT_BYTES < self.old.bytes → self.new.lines ≡ []) }
+        ensures rest { self.new ≡ record self.old { lines = self.new.lines } }
+        ensures memory { OnErr result (result ≡ Err TextErr.NoMemory) }
+    {
+        if self.ended > MAX_LINES || self.bytes > MAX_TEXT_BYTES {
+            self.lines = EndedLines::new(*self.last.allocator());
+            return Ok(());
+        }
+        self.lines.push(&self.last)?;
+        Ok(())
+    }
+}

@@ -1,0 +1,19 @@
+-- The lines that are put so far are the first ones, and those of the rest come after them.
+use Rattle.std.proofs.Common.{◌≡◌, ◌≤◌, ◌+◌, ◌++◌, ℕ, List, IsTrue, length, map}
+use Rattle.vs_pages.specs.Calls.{Continues}
+use Rattle.vs_text.specs.Text.{lines_of, stored_line}
+use Rattle.vs_tree.specs.Runs.{HasTree}
+use Rattle.vs_tree.proofs.append.append_lines.Given as goal
+
+abbrev pub invariant-runs : goal.invariant-runs
+invariant-runs g l = record {
+  put : List (List ℕ);
+  cut : lines_of l.bytes ≡ put ++ lines_of l.rest;
+  tree : IsTrue g.P.Pages.tells → (lines : List (List ℕ)) → HasTree (g.P.Pages.shows l.fn.pages).present l.fn.root lines → HasTree (g.P.Pages.shows l.pages).present l.now (lines ++ map stored_line put);
+  lines : l.now.lines ≡ l.fn.root.lines + length put;
+  kept : Continues g.P.Pages l.fn.pages l.pages;
+  faults : (g.P.Pages.shows l.fn.pages).faults ≤ (g.P.Pages.shows l.pages).faults;
+}
+
+abbrev pub decreases-runs : goal.decreases-runs
+decreases-runs g l = length l.rest
