@@ -22,11 +22,11 @@ use Rattle.vs_backup.specs.declared.errors.WriteErr.TheVariants as error
 use Rattle.vs_backup.proofs.Calls.{runs_wider, spares_on}
 use Rattle.vs_backup.proofs.Frames.{narrowed_none, narrowed_then, holds_spared}
 use Rattle.vs_backup.proofs.Kept.{may_leave_now}
-use Rattle.vs_backup.proofs.Copying.{kept_on, never_refused}
+use Rattle.vs_backup.proofs.Copying.{content_held, kept_on, never_refused}
 use Rattle.vs_backup.proofs.Others.{others_spared, others_looks, others_on, others_starts}
 use Rattle.vs_backup.proofs.Places.{places_keep, places_dropped}
 use Rattle.vs_backup.proofs.Renewing.{renews_dropped}
-use Rattle.vs_backup.proofs.Replacing.{takes_dropped, gone_spared}
+use Rattle.vs_backup.proofs.Replacing.{replaces_dropped, gone_spared}
 
 some_and : (at : Option (List ℕ)) (bytes : List ℕ) (P : List ℕ → Type 0) → at ≡ Some bytes → P bytes → IsSomeAnd at P
 some_and at bytes P is holds = subst (λ (o : Option (List ℕ)). IsSomeAnd o P) (sym is) holds
@@ -86,6 +86,15 @@ module _ (copying keep : Bool) (name temporary backup : Name) (old new : List �
   others : (result : Result ℕ WriteErr) → WritesOver copying name temporary backup old new s0 s1 result → SparesOthers (backed_names copying name temporary backup) s0 s1
   others result over = others_spared (backed_names copying name temporary backup) s0 s1 over.spares
 
+  returned_over : (why : WriteErr) → WritesOver copying name temporary backup old new s0 s1 (Err why) → (content_in s1.folder name ≡ Some old) ⊎ OldIn {T = ℕ} place.Backup (Err why)
+  returned_over error.NoBackupName over = absurd (over.somewhere.1 refl)
+  returned_over (error.Failed place.File) over = inl (content_held name old s1.folder (over.in_file (inl refl)))
+  returned_over (error.Failed place.Backup) over = inr (inl refl)
+  returned_over (error.Failed place.Nowhere) over = absurd (over.somewhere.0 (inl refl))
+  returned_over (error.NoMemory place.File) over = inl (content_held name old s1.folder (over.in_file (inr refl)))
+  returned_over (error.NoMemory place.Backup) over = inr (inr refl)
+  returned_over (error.NoMemory place.Nowhere) over = absurd (over.somewhere.0 (inr refl))
+
   pub backed_refused : (why : WriteErr) → WritesOver copying name temporary backup old new s0 s1 (Err why)
       → WritesBacked copying keep name temporary backup old new s0 s1 (Err why)
   backed_refused why over = record {
@@ -96,6 +105,7 @@ module _ (copying keep : Bool) (name temporary backup : Name) (old new : List �
     gone = λ goes. tt;
     aside = λ copies. tt;
     not_written = over.not_written;
+    returned = returned_over why over;
     in_file = λ refused. inr (over.in_file refused);
     in_backup = λ refused. (over.kept.now, over.in_backup refused);
     somewhere = over.somewhere;
@@ -111,6 +121,7 @@ module _ (copying keep : Bool) (name temporary backup : Name) (old new : List �
     gone = λ goes. absurd (true≢false (sym keeps ∙ goes));
     aside = λ copies. over.aside copies;
     not_written = tt;
+    returned = tt;
     in_file = λ refused. absurd (never_refused size place.File refused);
     in_backup = λ refused. absurd (never_refused size place.Backup refused);
     somewhere = (λ refused. never_refused size place.Nowhere refused, λ is. cc);
@@ -134,7 +145,7 @@ module _ (copying keep : Bool) (name temporary backup : Name) (old new : List �
           whole = kept_on (IsWhole name backup old new) s0 s1 s2 frame before.whole
               (runs_as (Spares (one_name backup)) (λ a b. IsWhole name backup old new b) s1 s2
               (λ d spares. whole_new name backup old new d (holds_spared (one_name backup) name (λ c. c ≡ new) s1.folder d differ spares holds)) drops);
-          replaced = takes_dropped backup old s0 s1 s2 frame free over.replaced dropped;
+          replaced = replaces_dropped copying name backup old s0 s1 s2 frame free over.replaced dropped;
           places = places_dropped copying keep name backup s0 s1 s2 size goes frame differ over.places drops;
           spares = spares;
           anew = λ copies. renews_dropped temporary s0 s1 s2 frame (over.anew copies) backup differ_backup (over.aside copies) drops;
@@ -145,6 +156,7 @@ module _ (copying keep : Bool) (name temporary backup : Name) (old new : List �
         gone = λ goes none. gone none;
         aside = λ copies. gone_spared (one_name backup) temporary s1.folder s2.folder differ_backup drops.now (over.aside copies);
         not_written = tt;
+        returned = tt;
         in_file = λ refused. absurd (never_refused size place.File refused);
         in_backup = λ refused. absurd (never_refused size place.Backup refused);
         somewhere = (λ refused. never_refused size place.Nowhere refused, λ is. cc);
@@ -167,6 +179,7 @@ module _ (copying keep : Bool) (name temporary backup : Name) (old new : List �
     gone = λ goes. tt;
     aside = λ copies. tt;
     not_written = inl may_leave_narrowed;
+    returned = inl (narrowed_content name s0.folder s1.folder looked.now ∙ content);
     in_file = λ refused. inl looked;
     in_backup = λ refused. absurd (not_backup refused);
     somewhere = (somewhere, no_name);
@@ -196,6 +209,7 @@ module _ (copying keep : Bool) (name temporary backup : Name) (old new : List �
     gone = λ goes. gone_after result goes;
     aside = backed.aside;
     not_written = backed.not_written;
+    returned = backed.returned;
     in_file = λ refused. elim (backed.in_file refused) [
       | inl none ↦ inl (runs_on Narrowed narrowed_then s0 s1 s2 frame looked none)
       | inr holds ↦ inr holds

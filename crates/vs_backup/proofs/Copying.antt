@@ -1,9 +1,10 @@
 -- Writing over a file in its place: until the copy stands under the backup name the file has the old bytes, and then the copy has.
-use Rattle.std.proofs.Common.{◌≡◌, inl, inr, ℕ, Bool, true, List, [], Some, length, Ok, Err, refl, sym, ◌∙◌, ap}
+use Rattle.std.proofs.Common.{◌≡◌, inl, inr, ℕ, Bool, true, List, [], Some, length, OnOk, OnErr, Result, Ok, Err, refl, sym, ◌∙◌, ap}
 use Rattle.std.specs.Prelude.{IsErrOf}
 use Rattle.vs_host.specs.File.{File, Cuts}
 use Rattle.vs_host.specs.Disk.{Disk, Name, content_in, ChangesFile, IsFolder}
 use Rattle.vs_host.specs.World.{Scene, ChangesFolder}
+use Rattle.vs_host.specs.declared.traits.Failed.{Failed}
 use Rattle.vs_disk.specs.Images.{Changes, HoldsBytes, IsSynced, MayLeave, Takes}
 use Rattle.vs_disk.specs.Runs.{Runs}
 use Rattle.vs_disk.proofs.Steps.{same_at}
@@ -11,7 +12,7 @@ use Rattle.vs_disk.proofs.Images.{read_image}
 use Rattle.vs_disk.proofs.Runs.{runs_as, runs_then}
 use Rattle.vs_disk.proofs.Contents.{file_of_content, content_of_file, holds_synced}
 use Rattle.vs_backup.specs.Works.{ChangesOne, Fills, IsAlone, IsGone, LeadsTo, Renews, Spares, one_name, two_names, three_names}
-use Rattle.vs_backup.specs.Writing.{IsKept, IsSettled, Places, StartsOver, IsStartedOver, WritesOver, OldIn, backed_names, stopped}
+use Rattle.vs_backup.specs.Writing.{IsKept, IsSettled, Places, Replaces, StartsOver, IsStartedOver, WritesOver, OldIn, backed_names, stopped, stopped_after}
 use Rattle.vs_backup.specs.declared.errors.Place.{Place}
 use Rattle.vs_backup.specs.declared.errors.Place.TheVariants as place
 use Rattle.vs_backup.specs.declared.errors.Stop.{Stop}
@@ -36,6 +37,9 @@ cut_content name bytes old new changes is =
       leads = same_at name (Cuts 0) old new changes 0 name ∙ has.leads;
       has = ap (λ (f : File). f.bytes) (changes.this has.number has.leads);
     })
+
+pub alone_content : (name : Name) (disk : Disk) → (alone : IsAlone name disk) → content_in disk name ≡ Some (disk.files alone.number).bytes
+alone_content name disk alone = content_of_file disk name (disk.files alone.number).bytes (record { number = alone.number; leads = alone.leads; has = refl })
 
 pub alone_now : (name : Name) (bytes : List ℕ) (disk : Disk) → disk.pending ≡ [] → IsFolder disk → content_in disk name ≡ Some bytes → IsAlone name disk
 alone_now name bytes disk none folder is = let has = file_of_content disk name bytes is in alone_settled name has.number disk none folder has.leads
@@ -85,21 +89,15 @@ module _ (name backup temporary : Name) (old : List ℕ) (s0 s1 : Scene) (differ
   copy_content = synced_bytes name old s1.folder (synced_spared (two_names temporary backup) name old s0.folder s1.folder not_two runs.now is.synced)
 
 -- ---- the whole
-pub never_file : (why : Stop) {T : Type 0} → OldIn {T = T} place.File (Err (stopped why place.Backup)) → ⊥
-never_file stop.Failed (inl is) = cc
-never_file stop.Failed (inr is) = cc
-never_file stop.NoMemory (inl is) = cc
-never_file stop.NoMemory (inr is) = cc
+pub never_other : (why : Stop) (place other : Place) → (place ≡ other → ⊥) → {T : Type 0} → OldIn {T = T} other (Err (stopped why place)) → ⊥
+never_other stop.Failed place other differ (inl is) = differ (cc)
+never_other stop.Failed place other differ (inr is) = cc
+never_other stop.NoMemory place other differ (inl is) = cc
+never_other stop.NoMemory place other differ (inr is) = differ (cc)
 
-pub never_nowhere : (why : Stop) {T : Type 0} → OldIn {T = T} place.Nowhere (Err (stopped why place.Backup)) → ⊥
-never_nowhere stop.Failed (inl is) = cc
-never_nowhere stop.Failed (inr is) = cc
-never_nowhere stop.NoMemory (inl is) = cc
-never_nowhere stop.NoMemory (inr is) = cc
-
-pub never_no_name : (why : Stop) {T : Type 0} → IsErrOf {T = T} (Err (stopped why place.Backup)) error.NoBackupName → ⊥
-never_no_name stop.Failed is = cc
-never_no_name stop.NoMemory is = cc
+pub never_no_name : (why : Stop) (place : Place) {T : Type 0} → IsErrOf {T = T} (Err (stopped why place)) error.NoBackupName → ⊥
+never_no_name stop.Failed place is = cc
+never_no_name stop.NoMemory place is = cc
 
 pub never_refused : (size : ℕ) (at : Place) → OldIn at (Ok size) → ⊥
 never_refused size at (inl is) = cc
@@ -110,11 +108,13 @@ only_file at other (inl is) = let same : place.File ≡ at = cc in other (sym sa
 only_file at other (inr is) = cc
 
 -- what each image has, a stop may leave
-may_leave_held : (name : Name) (bytes : List ℕ) (disk : Disk) → HoldsBytes name bytes disk → MayLeave disk name (Some bytes)
-may_leave_held name bytes disk holds =
+pub content_held : (name : Name) (bytes : List ℕ) (disk : Disk) → HoldsBytes name bytes disk → content_in disk name ≡ Some bytes
+content_held name bytes disk holds =
     let here = holds 0 in
-    let now : content_in disk name ≡ Some bytes = content_of_file disk name bytes (record { number = here.number; leads = here.leads; has = here.leaves (disk.files here.number).bytes (read_image (disk.files here.number)) }) in
-    may_leave_now name bytes disk now
+    content_of_file disk name bytes (record { number = here.number; leads = here.leads; has = here.leaves (disk.files here.number).bytes (read_image (disk.files here.number)) })
+
+pub may_leave_held : (name : Name) (bytes : List ℕ) (disk : Disk) → HoldsBytes name bytes disk → MayLeave disk name (Some bytes)
+may_leave_held name bytes disk holds = may_leave_now name bytes disk (content_held name bytes disk holds)
 
 -- after the file was emptied, the text was written, or not
 module _ (name backup temporary : Name) (old new : List ℕ) (s0 s1 s2 : Scene) (frame : ChangesFolder s0 s1) (differ : backup ≡ name → ⊥) (folder : IsFolder s1.folder)
@@ -146,8 +146,23 @@ module _ (name backup temporary : Name) (old new : List ℕ) (s0 s1 s2 : Scene) 
     somewhere = (λ refused. never_refused size place.Nowhere refused, λ is. cc);
   }
 
-  pub copying_stopped : (why : Stop) → Fills name s1.folder s2.folder → IsGone temporary s1.folder → WritesOver true name temporary backup old new s0 s2 (Err (stopped why place.Backup))
-  copying_stopped why fills aside = record {
+  -- the file was put back, or that failed
+  pub copying_stopped : (why : Stop) (back : Result (Unit {0}) Failed) → OnOk back (IsSynced name old s2.folder) → OnErr back (Fills name s1.folder s2.folder) → IsGone temporary s1.folder
+      → WritesOver true name temporary backup old new s0 s2 (Err (stopped_after why back))
+  copying_stopped why (Ok done) synced fills aside = record {
+    spares = all_spares;
+    kept = all_kept;
+    places = in_place_on name s0 s1 s2 frame over.in_place runs;
+    replaced = all_replaced;
+    aside = λ copies. tt;
+    anew = λ copies. renews_gone temporary s0 s1 s2 frame over.anew name aside runs;
+    written = tt;
+    not_written = inl (may_leave_held name old s2.folder (holds_synced name old s2.folder backed.pending synced));
+    in_file = λ refused. holds_synced name old s2.folder backed.pending synced;
+    in_backup = λ refused. absurd (never_other why place.File place.Backup (λ e. cc) refused);
+    somewhere = (λ refused. never_other why place.File place.Nowhere (λ e. cc) refused, λ is. never_no_name why place.File is);
+  }
+  copying_stopped why (Err failed) synced fills aside = record {
     spares = all_spares;
     kept = all_kept;
     places = in_place_on name s0 s1 s2 frame over.in_place runs;
@@ -156,14 +171,14 @@ module _ (name backup temporary : Name) (old new : List ℕ) (s0 s1 s2 : Scene) 
     anew = λ copies. renews_gone temporary s0 s1 s2 frame over.anew name aside runs;
     written = tt;
     not_written = inl (may_leave_filled name old s1.folder s2.folder fills started.may_leave);
-    in_file = λ refused. absurd (never_file why refused);
+    in_file = λ refused. absurd (never_other why place.Backup place.File (λ e. cc) refused);
     in_backup = λ refused some. (Some [], may_leave_filled name [] s1.folder s2.folder fills (may_leave_now name [] s1.folder started.empty), λ same. some refl (let is : [] ≡ old = cc in sym is));
-    somewhere = (λ refused. never_nowhere why refused, λ is. never_no_name why is);
+    somewhere = (λ refused. never_other why place.Backup place.Nowhere (λ e. cc) refused, λ is. never_no_name why place.Backup is);
   }
 
 -- the file is as it was
 pub over_not_begun : (copying : Bool) (name temporary backup : Name) (old new : List ℕ) (s0 s1 : Scene) → Runs (Spares (backed_names copying name temporary backup)) s0 s1
-    → Runs (λ a b. IsKept name backup old b) s0 s1 → Runs (Takes backup old) s0 s1 → Places copying true name backup s0 s1 (Err (error.Failed place.File)) → (copying ≡ true → Runs (Renews temporary) s0 s1) → HoldsBytes name old s1.folder
+    → Runs (λ a b. IsKept name backup old b) s0 s1 → Runs (Replaces copying name backup old) s0 s1 → Places copying true name backup s0 s1 (Err (error.Failed place.File)) → (copying ≡ true → Runs (Renews temporary) s0 s1) → HoldsBytes name old s1.folder
     → WritesOver copying name temporary backup old new s0 s1 (Err (error.Failed place.File))
 over_not_begun copying name temporary backup old new s0 s1 spares kept replaced places anew holds = record {
   spares = spares;

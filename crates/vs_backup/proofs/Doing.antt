@@ -1,50 +1,145 @@
 -- Which calls of a write failed: what is known of its parts is put together.
-use Rattle.std.proofs.Common.{◌≡◌, ℕ, List, length, Result, Ok, Err, IfOk, IsErrOf, IsTrue, is_ok, refl, ap}
+use Rattle.std.proofs.Common.{◌≡◌, ◌≤◌, inl, inr, ℕ, List, length, Result, Ok, Err, IfOk, IsErr, IsErrOf, IsTrue, is_ok, refl, sym, ap, subst, arith}
 use Rattle.std.proofs.lemmas.Bool.{true≢false}
+use Rattle.vs_faults.specs.Faults.{HasCause, HasRisen}
+use Rattle.vs_faults.proofs.Causes.{HasCause-trans, HasCause-weaker}
 use Rattle.vs_host.specs.Disk.{Name}
 use Rattle.vs_host.specs.World.{Tells, Scene}
+use Rattle.vs_host.specs.declared.traits.Failed.{Failed}
 use Rattle.vs_disk.specs.Images.{HoldsBytes}
 use Rattle.vs_disk.specs.Runs.{FailsLast, Quiet}
-use Rattle.vs_disk.proofs.Runs.{fails_none}
+use Rattle.vs_disk.proofs.Runs.{fails_none, quiet_none}
 use Rattle.vs_disk.proofs.Quiet.{last_then, quiet_then}
 use Rattle.vs_backup.specs.Desks.{StopsAtFault}
-use Rattle.vs_backup.specs.Writing.{FailsNoEarlier, IsFailed, nowhere}
-use Rattle.vs_backup.proofs.Going.{err_as}
+use Rattle.vs_backup.specs.Writing.{FailsNoEarlier, IsFailed, OldIn, PutsBack, nowhere, stopped, stopped_after}
+use Rattle.vs_backup.proofs.Copying.{never_other}
+use Rattle.vs_backup.proofs.Going.{err_as, stop_here, stop_there}
+use Rattle.vs_backup.proofs.Stops.{stops_as}
 use Rattle.vs_backup.specs.declared.errors.Stop.{Stop}
 use Rattle.vs_backup.specs.declared.errors.Stop.TheVariants as stop
-use Rattle.vs_backup.specs.declared.errors.Place.TheVariants.{Nowhere}
+use Rattle.vs_backup.specs.declared.errors.Place.{Place}
+use Rattle.vs_backup.specs.declared.errors.Place.TheVariants.{Backup, File, Nowhere}
 use Rattle.vs_backup.specs.declared.errors.WriteErr.{WriteErr}
+use Rattle.vs_backup.specs.declared.errors.WriteErr.TheVariants as error
 
 ok_is_no_err : {T E : Type 0} (value : T) (error : E) → Ok value ≡ err_as T error → ⊥
 ok_is_no_err value error is = true≢false (ap is_ok is)
 
+-- ---- a write that was refused
+-- it stopped, and nothing was to be put back
+pub refused_once : (tells : Tells) (why : WriteErr) (s0 s1 : Scene) → IsTrue tells.folder → (OldIn {T = ℕ} Backup (Err why) → ⊥) → StopsAtFault tells (IsFailed (err_as ℕ why)) s0 s1
+    → HasCause s0.folder_faults s1.folder_faults (IsFailed (err_as ℕ why)) → PutsBack s0 s1 (Err why)
+refused_once tells why s0 s1 told elsewhere stops cause = record {
+  stopped = s1;
+  last = stops.last told;
+  none = λ calm. stops.none told calm;
+  later = cause.later;
+  failed = λ is failed. absurd (elsewhere is);
+  back_last = fails_none s1;
+  back_none = λ calm. quiet_none s1;
+  back_failed = λ is. absurd (elsewhere is);
+}
+
+-- without a failed call
+pub refused_quiet : (why : WriteErr) (s0 s1 : Scene) → (OldIn {T = ℕ} Backup (Err why) → ⊥) → Quiet s0 s1 → PutsBack s0 s1 (Err why)
+refused_quiet why s0 s1 elsewhere quiet = record {
+  stopped = s1;
+  last = last_then s0 s1 s1 quiet (fails_none s1);
+  none = λ calm. quiet;
+  later = omega (arith, quiet.folder);
+  failed = λ is failed. absurd (elsewhere is);
+  back_last = fails_none s1;
+  back_none = λ calm. quiet_none s1;
+  back_failed = λ is. absurd (elsewhere is);
+}
+
+-- at a call that failed
+pub refused_at : {F : Type 0} (tells : Tells) (at : Place) → (at ≡ Backup → ⊥) → (s0 s1 : Scene) → IsTrue tells.folder → F → StopsAtFault tells F s0 s1
+    → HasCause s0.folder_faults s1.folder_faults F → PutsBack s0 s1 (Err (error.Failed at))
+refused_at {F} tells at elsewhere s0 s1 told here stops cause = refused_once tells (error.Failed at) s0 s1 told (λ is. never_other stop.Failed at Backup elsewhere is)
+    (stops_as tells F (IsFailed (err_as ℕ (error.Failed at))) s0 s1 (λ calm. absurd (calm (at, refl))) stops) (HasCause-weaker cause (λ failed. here))
+
+-- at a part that stopped
+pub refused_stop : {T : Type 0} (tells : Tells) (why : Stop) (at : Place) → (at ≡ Backup → ⊥) → (s0 s1 : Scene) → IsTrue tells.folder → StopsAtFault tells (err_as T why ≡ Err stop.Failed) s0 s1
+    → HasCause s0.folder_faults s1.folder_faults (err_as T why ≡ Err stop.Failed) → PutsBack s0 s1 (Err (stopped why at))
+refused_stop {T} tells why at elsewhere s0 s1 told stops cause = refused_once tells (stopped why at) s0 s1 told (λ is. never_other why at Backup elsewhere is)
+    (stops_as tells (err_as T why ≡ Err stop.Failed) (IsFailed (err_as ℕ (stopped why at))) s0 s1 (λ calm failed. calm (stop_here why at (stopped why at) refl failed)) stops)
+    (HasCause-weaker cause (λ failed. stop_there why at (stopped why at) refl failed))
+
+-- it stopped, and then the file was put back, or that failed
+failed_why : {T : Type 0} (why : Stop) (back : Result (Unit {0}) Failed) → IsFailed (err_as ℕ (stopped_after why back)) → err_as T why ≡ Err stop.Failed
+failed_why stop.Failed back is = refl
+failed_why stop.NoMemory (Ok done) is = let same = is.1 in absurd (cc)
+failed_why stop.NoMemory (Err failed) is = let same = is.1 in absurd (cc)
+
+why_failed : {T : Type 0} (why : Stop) (back : Result (Unit {0}) Failed) → err_as T why ≡ Err stop.Failed → IsFailed (err_as ℕ (stopped_after why back))
+why_failed stop.Failed (Ok done) is = (File, refl)
+why_failed stop.Failed (Err failed) is = (Backup, refl)
+why_failed stop.NoMemory back is = absurd (cc)
+
+back_there : (why : Stop) (back : Result (Unit {0}) Failed) → OldIn {T = ℕ} Backup (Err (stopped_after why back)) → IsErr back
+back_there why (Err failed) is = refl
+back_there stop.Failed (Ok done) (inl is) = absurd (cc)
+back_there stop.Failed (Ok done) (inr is) = absurd (cc)
+back_there stop.NoMemory (Ok done) (inl is) = absurd (cc)
+back_there stop.NoMemory (Ok done) (inr is) = absurd (cc)
+
+there_back : (why : Stop) (back : Result (Unit {0}) Failed) → IsErr back → OldIn {T = ℕ} Backup (Err (stopped_after why back))
+there_back stop.Failed (Err failed) is = inl refl
+there_back stop.NoMemory (Err failed) is = inr refl
+there_back why (Ok done) is = absurd (true≢false (sym is))
+
+module _ (why : Stop) (back : Result (Unit {0}) Failed) (s0 s1 s2 : Scene) (first : HasCause s0.folder_faults s1.folder_faults (err_as ℕ why ≡ Err stop.Failed))
+    (second : HasCause s1.folder_faults s2.folder_faults (IsErr back)) where
+  pub refused_back : (tells : Tells) → IsTrue tells.folder → StopsAtFault tells (err_as ℕ why ≡ Err stop.Failed) s0 s1 → StopsAtFault tells (IsErr back) s1 s2
+      → PutsBack s0 s2 (Err (stopped_after why back))
+  refused_back tells told stops returns = record {
+    stopped = s1;
+    last = stops.last told;
+    none = λ calm. stops.none told (λ failed. calm (why_failed why back failed));
+    later = first.later;
+    failed = λ is failed. first.risen (failed_why why back failed);
+    back_last = returns.last told;
+    back_none = λ calm. returns.none told (λ failed. calm (there_back why back failed));
+    back_failed = λ is. second.risen (back_there why back is);
+  }
+
+  pub back_cause : HasCause s0.folder_faults s2.folder_faults (IsFailed (err_as ℕ (stopped_after why back)))
+  back_cause = HasCause-trans first second (λ failed. inl (failed_why why back failed))
+
+-- after calls that did not fail
+pub refused_after : (result : Result ℕ WriteErr) (s0 s1 s2 : Scene) → Quiet s0 s1 → PutsBack s1 s2 result → PutsBack s0 s2 result
+refused_after result s0 s1 s2 quiet back = record {
+  stopped = back.stopped;
+  last = last_then s0 s1 back.stopped quiet back.last;
+  none = λ calm. quiet_then s0 s1 back.stopped quiet (back.none calm);
+  later = subst (λ (n : ℕ). n ≤ back.stopped.folder_faults) quiet.folder back.later;
+  failed = λ is failed. subst (λ (n : ℕ). HasRisen n back.stopped.folder_faults) quiet.folder (back.failed is failed);
+  back_last = back.back_last;
+  back_none = back.back_none;
+  back_failed = back.back_failed;
+}
+
 module _ (name : Name) (new : List ℕ) where
   -- the file has the new bytes, and no call failed; the calls that follow end at a failed one
   pub written_then : (s0 s1 s2 : Scene) (size : ℕ) → Quiet s0 s1 → HoldsBytes name new s1.folder → FailsLast s1 s2 → FailsNoEarlier name new s0 s2 (Ok size)
-  written_then s0 s1 s2 size quiet holds later = record { done = record { written = s1; quiet = quiet; holds = holds; later = later }; last = tt; none = tt }
-
-  -- a write that stops at a failed call
-  pub fails_stops : (tells : Tells) (result : Result ℕ WriteErr) (s0 s1 : Scene) → IsTrue tells.folder → StopsAtFault tells (IsFailed result) s0 s1 → IfOk result (λ size. (size ≡ length new) × HoldsBytes name new s1.folder)
-      → FailsNoEarlier name new s0 s1 result
-  fails_stops tells (Ok size) s0 s1 told stops holds = written_then s0 s1 s1 size (stops.none told (λ failed. ok_is_no_err size _ failed.1)) holds.1 (fails_none s1)
-  fails_stops tells (Err why) s0 s1 told stops holds = record { done = tt; last = stops.last told; none = λ calm. stops.none told calm }
+  written_then s0 s1 s2 size quiet holds later = record { done = record { written = s1; quiet = quiet; holds = holds; later = later }; refused = tt }
 
   -- one without a backup
-  pub fails_plain : (tells : Tells) (answer : Result ℕ Stop) (s0 s1 : Scene) → IsTrue tells.folder → StopsAtFault tells (IsErrOf answer stop.Failed) s0 s1 → IfOk answer (λ size. (size ≡ length new) × HoldsBytes name new s1.folder)
+  pub fails_plain : (tells : Tells) (answer : Result ℕ Stop) (s0 s1 : Scene) → IsTrue tells.folder → StopsAtFault tells (IsErrOf answer stop.Failed) s0 s1
+      → HasCause s0.folder_faults s1.folder_faults (IsErrOf answer stop.Failed) → IfOk answer (λ size. (size ≡ length new) × HoldsBytes name new s1.folder)
       → FailsNoEarlier name new s0 s1 (nowhere answer)
-  fails_plain tells (Ok size) s0 s1 told stops holds = written_then s0 s1 s1 size (stops.none told (λ failed. ok_is_no_err size _ failed)) holds.1 (fails_none s1)
-  fails_plain tells (Err stop.Failed) s0 s1 told stops holds = record { done = tt; last = stops.last told; none = λ calm. absurd (calm (Nowhere, refl)) }
-  fails_plain tells (Err stop.NoMemory) s0 s1 told stops holds = record { done = tt; last = stops.last told; none = λ calm. stops.none told (λ failed. absurd (cc)) }
+  fails_plain tells (Ok size) s0 s1 told stops cause holds = written_then s0 s1 s1 size (stops.none told (λ failed. ok_is_no_err size _ failed)) holds.1 (fails_none s1)
+  fails_plain tells (Err why) s0 s1 told stops cause holds = record { done = tt; refused = refused_stop tells why Nowhere (λ e. cc) s0 s1 told stops cause }
 
   -- after calls that did not fail
   pub fails_then : (result : Result ℕ WriteErr) (s0 s1 s2 : Scene) → Quiet s0 s1 → FailsNoEarlier name new s1 s2 result → FailsNoEarlier name new s0 s2 result
   fails_then (Ok size) s0 s1 s2 quiet fails = record {
     done = record { written = fails.done.written; quiet = quiet_then s0 s1 fails.done.written quiet fails.done.quiet; holds = fails.done.holds; later = fails.done.later };
-    last = tt;
-    none = tt;
+    refused = tt;
   }
-  fails_then (Err why) s0 s1 s2 quiet fails = record { done = tt; last = last_then s0 s1 s2 quiet fails.last; none = λ calm. quiet_then s0 s1 s2 quiet (fails.none calm) }
+  fails_then (Err why) s0 s1 s2 quiet fails = record { done = tt; refused = refused_after (Err why) s0 s1 s2 quiet fails.refused }
 
-  -- no more than a look that failed, or want of memory
-  pub fails_err : (tells : Tells) (why : WriteErr) (s0 s1 : Scene) → IsTrue tells.folder → StopsAtFault tells (IsFailed (err_as ℕ why)) s0 s1 → FailsNoEarlier name new s0 s1 (Err why)
-  fails_err tells why s0 s1 told stops = record { done = tt; last = stops.last told; none = λ calm. stops.none told calm }
+  -- want of memory, and no call
+  pub fails_memory : (at : Place) → (at ≡ Backup → ⊥) → (s0 : Scene) → FailsNoEarlier name new s0 s0 (Err (error.NoMemory at))
+  fails_memory at elsewhere s0 = record { done = tt; refused = refused_quiet (error.NoMemory at) s0 s0 (λ is. never_other stop.NoMemory at Backup elsewhere is) (quiet_none s0) }

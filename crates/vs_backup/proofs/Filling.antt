@@ -10,14 +10,14 @@ use Rattle.vs_text.specs.Limits.{IsShort}
 use Rattle.vs_text.specs.declared.TheConstants.{MAX_LINE_BYTES}
 use Rattle.vs_text.proofs.FileForm.{length-file_of}
 use Rattle.vs_edit.specs.Splices.{cut_out, HoldsLines}
-use Rattle.vs_host.specs.File.{File, Writes, WritesSome, Syncs, put}
+use Rattle.vs_host.specs.File.{File, Cuts, Writes, WritesSome, Syncs, put}
 use Rattle.vs_host.specs.Disk.{Disk, Name, ChangesFile, content_in}
 use Rattle.vs_host.specs.Trace.{Synced}
 use Rattle.vs_host.specs.World.{Scene, IsTold, ChangesFolder}
 use Rattle.vs_disk.specs.Images.{Changes, KeepsImages}
 use Rattle.vs_disk.specs.Runs.{Runs, Looks}
 use Rattle.vs_disk.proofs.Steps.{same_file, file_then, file_as}
-use Rattle.vs_disk.proofs.Images.{write_keeps_images}
+use Rattle.vs_disk.proofs.Images.{cut_keeps_images, write_keeps_images}
 use Rattle.vs_disk.proofs.Runs.{runs_as, runs_then, runs_on, call_on}
 use Rattle.vs_disk.proofs.Contents.{written_content, put_end}
 use Rattle.vs_backup.specs.Works.{Fills, ChangesOne}
@@ -35,6 +35,9 @@ fills_same name old new is = subst (λ (d : Disk). Fills name old d) (sym is) (f
 
 pub fills_write : (name : Name) (at n : ℕ) (old new : Disk) → ChangesFile name (WritesSome at n) old new → Fills name old new
 fills_write name at n old new changes = file_as name (WritesSome at n) KeepsImages (write_keeps_images at n) old new changes
+
+pub fills_cut : (name : Name) (old new : Disk) → ChangesFile name (Cuts 0) old new → Fills name old new
+fills_cut name old new changes = file_as name (Cuts 0) KeepsImages (λ a b cuts. cut_keeps_images 0 a b (omega arith) cuts) old new changes
 
 pub changes_none : (name : Name) (disk : Disk) → ChangesOne name disk disk
 changes_none name disk = same_file name Changes (λ file. tt) disk

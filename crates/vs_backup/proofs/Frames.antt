@@ -236,6 +236,10 @@ pub ok_leads : {T E : Type 0} (A B : Type 0) (result : Result T E) → (A → B)
 ok_leads A B (Ok v) leads is = leads is
 ok_leads A B (Err e) leads is = tt
 
+pub ok_both : {T E : Type 0} (result : Result T E) (A B C : Type 0) → (A → B → C) → OnOk result A → OnOk result B → OnOk result C
+ok_both (Ok v) A B C leads first second = leads first second
+ok_both (Err e) A B C leads first second = tt
+
 pub err_leads : {T E : Type 0} (A B : Type 0) (result : Result T E) → (A → B) → OnErr result A → OnErr result B
 err_leads A B (Ok v) leads is = tt
 err_leads A B (Err e) leads is = leads is
@@ -265,14 +269,9 @@ synced_renamed from to bytes old new synced renames = record {
   has = ap (λ (f : ℕ → File). f synced.number) renames.files ∙ synced.has;
 }
 
--- a name without a file now, or before the newest name change
+-- a name without a file now
 pub absent_now : (name : Name) (disk : Disk) → content_in disk name ≡ None → MayLeave disk name None
 absent_now name disk none = (0, subst (λ (at : Option ℕ). IsImageOf disk at None) (sym (leads_nowhere disk name none)) refl)
-
-pub absent_before : (from to : Name) (old new : Disk) → ChangesNames (Renames from to) old new → content_in old to ≡ None → MayLeave new to None
-absent_before from to old new renames none =
-    let leads = at_name (names_at new 1) (names_at old 0) to (older_names (Renames from to) old new renames.synced renames.pending 0) ∙ leads_nowhere old to none in
-    (1, subst (λ (at : Option ℕ). IsImageOf new at None) (sym leads) refl)
 
 -- what a call says that is handed on, with what is known
 pub ok_with : {T E : Type 0} (result : Result T E) (A B : T → Type 0) → ((v : T) → A v → B v) → IfOk result A → IfOk result B

@@ -6,7 +6,7 @@ use Rattle.vs_host.specs.Disk.{Name}
 use Rattle.vs_host.specs.Trace.{Kind}
 use Rattle.vs_host.specs.World.{Tells, Scene, ChangesFolder, IsTold, ReadsFolder}
 use Rattle.vs_disk.proofs.Runs.{frames, reads_change}
-use Rattle.vs_backup.specs.Desks.{GoesOn, OnlyReads}
+use Rattle.vs_backup.specs.Desks.{Continues, GoesOn, OnlyReads}
 use Rattle.vs_backup.specs.Writing.{IsFailed, StopsAs, stopped}
 use Rattle.vs_backup.specs.declared.errors.Place.{Place}
 use Rattle.vs_backup.specs.declared.errors.Stop.{Stop}
@@ -159,3 +159,16 @@ module _ {D : Type 0} {tells : Tells} {scene : D → Scene} {IsValid : D → Typ
       cause = cause;
       stops = stops_call tells kind names result (scene p) (scene q) (reads_change (scene p) (scene q) frame) told quiet;
     }
+
+  -- what is known of the desk, whichever calls failed
+  pub Continues-as : {F G : Type 0} {p q : D} → (G → F) → GoesOn tells scene IsValid Stays F p q → Continues scene IsValid Stays G p q
+  Continues-as so is = record { valid = is.valid; stays = is.stays; frame = is.frame; cause = HasCause-weaker is.cause so }
+
+  pub Continues-with : {F G H : Type 0} {p q r : D} → ((a b c : D) → Stays a b → Stays b c → Stays a c) → GoesOn tells scene IsValid Stays F p q → GoesOn tells scene IsValid Stays G q r
+      → HasCause (scene p).folder_faults (scene r).folder_faults H → Continues scene IsValid Stays H p r
+  Continues-with {F} {G} {H} {p} {q} {r} on first second cause = record {
+    valid = second.valid;
+    stays = on p q r first.stays second.stays;
+    frame = frames (scene p) (scene q) (scene r) first.frame second.frame;
+    cause = cause;
+  }

@@ -2,13 +2,13 @@
 use Rattle.std.proofs.Common.{◌≡◌, ◌⊎◌, inl, inr, ℕ, zero, suc, cond, List, [], Option, Some, None, refl, sym, ◌∙◌, ap, subst}
 use Rattle.std.specs.Str.{bytes_eq}
 use Rattle.std.proofs.lemmas.Bool.{cond-true, cond-false}
-use Rattle.vs_host.specs.File.{File, IsFileImage, Leaves}
+use Rattle.vs_host.specs.File.{File, IsFileImage, Leaves, synced_file}
 use Rattle.vs_host.specs.Disk.{Disk, Name, Creates, Renames, changed_names, names_of, names_at, content_in, IsImage, IsImageOf, ChangesFile, ChangesNames, CreatesFile, SyncsNames}
 use Rattle.vs_disk.specs.Images.{Changes, KeepsImages, HoldsBytes, MayLeave}
 use Rattle.vs_disk.proofs.Steps.{at_name, itself, same_at, older_names, newest_names, settled, one_state}
 use Rattle.vs_disk.proofs.Images.{synced_image, read_image}
 use Rattle.vs_disk.proofs.Contents.{file_of_content, holds_synced}
-use Rattle.vs_backup.specs.Works.{Fills, IsAlone}
+use Rattle.vs_backup.specs.Works.{Fills, IsAlone, IsHeld}
 use Rattle.vs_backup.specs.Writing.{IsKept, IsSettled, IsGuarded}
 use Rattle.vs_backup.proofs.Frames.{not_same, some_or_none}
 
@@ -51,10 +51,14 @@ pub may_leave_filled : (name : Name) (c : List ℕ) (old new : Disk) → Fills n
 may_leave_filled name c old new fills leaves =
     (leaves.0, subst (λ (o : Option ℕ). IsImageOf new o (Some c)) (sym (same_at name KeepsImages old new fills leaves.0 name)) (filled_at name c old new (names_at old leaves.0 name) fills leaves.1))
 
+-- each image of a file that was synced has its bytes
+synced_leaves : (disk : Disk) (number : ℕ) (bytes : List ℕ) → disk.files number ≡ synced_file bytes → Leaves (disk.files number) (λ c. c ≡ bytes)
+synced_leaves disk number bytes has c image = synced_image bytes c (subst (λ (f : File). IsFileImage f c) has image)
+
 -- ---- a file that was renamed to the backup name
 module _ (name backup : Name) (number : ℕ) (old : List ℕ) where
-  pub guard_kept : (disk : Disk) → IsGuarded name backup number old disk → IsKept name backup old disk
-  guard_kept disk guard image whole = elim (guard.each whole.0) [
+  pub held_kept : (disk : Disk) → IsHeld name backup number old disk → IsKept name backup old disk
+  held_kept disk held image whole = elim (held.each whole.0) [
     | inl by_name ↦ inl (under (names_at disk whole.0 name) (image name) by_name (whole.1 name))
     | inr by_backup ↦ inr (under (names_at disk whole.0 backup) (image backup) by_backup (whole.1 backup))
   ]
@@ -62,7 +66,10 @@ module _ (name backup : Name) (number : ℕ) (old : List ℕ) where
       under : (at : Option ℕ) (found : Option (List ℕ)) → at ≡ Some number → IsImageOf disk at found → found ≡ Some old
       under at found leads image =
           let here = subst (λ (o : Option ℕ). IsImageOf disk o found) leads image in
-          here.1 ∙ ap (λ (b : List ℕ). Some b) (guard.leaves here.0 here.2)
+          here.1 ∙ ap (λ (b : List ℕ). Some b) (synced_leaves disk number old held.has here.0 here.2)
+
+  pub guard_kept : (disk : Disk) → IsGuarded name backup number old disk → IsKept name backup old disk
+  guard_kept disk guard = held_kept disk guard.held
 
   pub guard_same : (a b : Disk) → b ≡ a → IsGuarded name backup number old a → IsGuarded name backup number old b
   guard_same a b is guard = subst (λ (d : Disk). IsGuarded name backup number old d) (sym is) guard
@@ -85,30 +92,35 @@ module _ (name backup : Name) (number : ℕ) (old : List ℕ) where
       ∙ cond-false (bytes_eq name backup) (Some creates.number) (names_of a backup) (not_same name backup differ) ∙ guard.now in
       record {
         now = now;
-        each = created_each a b creates now guard.each;
-        leaves = subst (λ (f : File). Leaves f (λ c. c ≡ old)) (sym (creates.others number (λ e. creates.fresh 0 backup (guard.now ∙ ap (λ (n : ℕ). Some n) e)))) guard.leaves;
+        held = record {
+          each = created_each a b creates now guard.held.each;
+          has = creates.others number (λ e. creates.fresh 0 backup (guard.now ∙ ap (λ (n : ℕ). Some n) e)) ∙ guard.held.has;
+        };
       }
 
   pub guard_file : (a b : Disk) → (backup ≡ name → ⊥) → (alone : IsAlone name a) → ChangesFile name Changes a b → IsGuarded name backup number old a → IsGuarded name backup number old b
   guard_file a b differ alone changes guard = record {
     now = same_at name Changes a b changes 0 backup ∙ guard.now;
-    each = λ lost. elim (guard.each lost) [
-      | inl by_name ↦ inl (same_at name Changes a b changes lost name ∙ by_name)
-      | inr by_backup ↦ inr (same_at name Changes a b changes lost backup ∙ by_backup)
-    ];
-    leaves = subst (λ (f : File). Leaves f (λ c. c ≡ old))
-        (sym (changes.others number (λ there. alone.alone 0 backup differ (guard.now ∙ sym there ∙ alone.leads)))) guard.leaves;
+    held = record {
+      each = λ lost. elim (guard.held.each lost) [
+        | inl by_name ↦ inl (same_at name Changes a b changes lost name ∙ by_name)
+        | inr by_backup ↦ inr (same_at name Changes a b changes lost backup ∙ by_backup)
+      ];
+      has = changes.others number (λ there. alone.alone 0 backup differ (guard.now ∙ sym there ∙ alone.leads)) ∙ guard.held.has;
+    };
   }
 
   pub guard_synced : (a b : Disk) → SyncsNames a b → IsGuarded name backup number old a → IsGuarded name backup number old b
   guard_synced a b syncs guard = record {
     now = settled a b syncs 0 backup ∙ guard.now;
-    each = λ lost. inr (settled a b syncs lost backup ∙ guard.now);
-    leaves = subst (λ (f : File). Leaves f (λ c. c ≡ old)) (sym (ap (λ (f : ℕ → File). f number) syncs.files)) guard.leaves;
+    held = record {
+      each = λ lost. inr (settled a b syncs lost backup ∙ guard.now);
+      has = ap (λ (f : ℕ → File). f number) syncs.files ∙ guard.held.has;
+    };
   }
 
   pub guard_bytes : (disk : Disk) → disk.pending ≡ [] → IsGuarded name backup number old disk → HoldsBytes backup old disk
-  guard_bytes disk none guard lost = record { number = number; leads = one_state disk none lost backup ∙ guard.now; leaves = guard.leaves }
+  guard_bytes disk none guard lost = record { number = number; leads = one_state disk none lost backup ∙ guard.now; leaves = synced_leaves disk number old guard.held.has }
 
 moved_each : (name backup : Name) (number : ℕ) (a b : Disk) → ChangesNames (Renames name backup) a b → names_of b backup ≡ Some number → ((lost : ℕ) → names_at a lost name ≡ Some number)
     → (lost : ℕ) → (names_at b lost name ≡ Some number) ⊎ (names_at b lost backup ≡ Some number)
@@ -124,8 +136,10 @@ guard_moved name backup old a b is renames =
     ∙ cond-true (bytes_eq backup backup) (names_of a name) (cond (bytes_eq name backup) None (names_of a backup)) (itself backup) ∙ is.synced.leads in
     record {
       now = now;
-      each = moved_each name backup number a b renames now (λ lost. one_state a is.pending lost name ∙ is.synced.leads);
-      leaves = λ c image. synced_image old c (subst (λ (f : File). IsFileImage f c) (ap (λ (f : ℕ → File). f number) renames.files ∙ is.synced.has) image);
+      held = record {
+        each = moved_each name backup number a b renames now (λ lost. one_state a is.pending lost name ∙ is.synced.leads);
+        has = ap (λ (f : ℕ → File). f number) renames.files ∙ is.synced.has;
+      };
     }
 
 -- a name that was renamed is free

@@ -15,6 +15,7 @@ pub mod Others
 pub mod Places
 pub mod Renewing
 pub mod Replacing
+pub mod Returning
 pub mod Settling
 pub mod Starting
 pub mod Stops

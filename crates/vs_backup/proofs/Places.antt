@@ -13,7 +13,7 @@ use Rattle.vs_backup.specs.Writing.{Places, StandsUntil}
 use Rattle.vs_backup.specs.declared.errors.WriteErr.{WriteErr}
 use Rattle.vs_backup.proofs.Frames.{spared}
 
-leads_settled : (name : Name) (disk : Disk) → disk.pending ≡ [] → LeadsTo name name disk disk
+pub leads_settled : (name : Name) (disk : Disk) → disk.pending ≡ [] → LeadsTo name name disk disk
 leads_settled name disk none lost = one_state disk none lost name
 
 leads_spared : (on : Name → Type 0) (name that : Name) (base old new : Disk) → (on name → ⊥) → Spares on old new → LeadsTo name that base old → LeadsTo name that base new
@@ -66,6 +66,7 @@ places_keep false keep name backup s0 s1 result is = record {
   under = runs_as (StandsUntil true name backup) (StandsUntil keep name backup) s0 s1 (λ d under. until_under keep name backup s0.folder d under) is.under;
   another = is.another;
   kept = λ keeps. is.kept refl;
+  in_file = is.in_file;
   in_backup = is.in_backup;
 }
 
@@ -81,5 +82,6 @@ places_dropped false keep name backup s0 s1 s2 size goes frame differ is drops =
       (λ d spares. until_away keep name backup s0.folder d goes (away_spared (one_name backup) name s0.folder s1.folder d differ spares is.another)) frame is.under drops;
   another = away_spared (one_name backup) name s0.folder s1.folder s2.folder differ drops.now is.another;
   kept = λ keeps. absurd (true≢false (sym keeps ∙ goes));
+  in_file = λ refused. elim refused [ inl is ↦ cc | inr is ↦ cc ];
   in_backup = λ refused. elim refused [ inl is ↦ cc | inr is ↦ cc ];
 }

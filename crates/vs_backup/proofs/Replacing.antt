@@ -1,5 +1,5 @@
 -- What a stop leaves under the backup name: what it left before until a synced file is renamed to it, and then the bytes of that file.
-use Rattle.std.proofs.Common.{◌≡◌, ◌⊎◌, inl, inr, ℕ, zero, suc, List, Option, None, sym, ◌∙◌, ap, subst}
+use Rattle.std.proofs.Common.{◌≡◌, ◌⊎◌, inl, inr, ℕ, zero, suc, Bool, true, false, List, Option, None, sym, ◌∙◌, ap, subst}
 use Rattle.std.specs.Str.{bytes_eq}
 use Rattle.std.proofs.lemmas.Bool.{cond-true}
 use Rattle.vs_host.specs.File.{File}
@@ -12,6 +12,7 @@ use Rattle.vs_disk.proofs.Others.{image_same}
 use Rattle.vs_disk.proofs.Runs.{runs_as, runs_on, runs_then}
 use Rattle.vs_disk.proofs.Contents.{takes_then}
 use Rattle.vs_backup.specs.Works.{Drops, IsGone, Spares}
+use Rattle.vs_backup.specs.Writing.{Replaces}
 use Rattle.vs_backup.proofs.Frames.{absent_now, leaves_spared, spared, spares_synced, takes_same, takes_spared}
 use Rattle.vs_backup.proofs.Kept.{moved_away}
 
@@ -56,15 +57,46 @@ removed_at name old new removes found (suc lost) image =
 pub drops_removed : (name : Name) (old new : Disk) → ChangesNames (Removes name) old new → Drops name old new
 drops_removed name old new removes found leaves = removed_at name old new removes found leaves.0 leaves.1
 
+-- ---- what a stop leaves under the backup name, by whether the file is copied
+pub replaces_takes : (copying : Bool) (name backup : Name) (bytes : List ℕ) (a b : Disk) → Takes backup bytes a b → Replaces copying name backup bytes a b
+replaces_takes true name backup bytes a b takes = takes
+replaces_takes false name backup bytes a b takes = λ found leaves. inl (takes found leaves)
+
+pub replaces_then : (copying : Bool) (name backup : Name) (bytes : List ℕ) (a b c : Disk) → Takes backup bytes a b → names_of b name ≡ names_of a name → Replaces copying name backup bytes b c
+    → Replaces copying name backup bytes a c
+replaces_then true name backup bytes a b c first same second = takes_then backup bytes a b c first second
+replaces_then false name backup bytes a b c first same second = λ found leaves. elim (second found leaves) [
+  | inl took ↦ elim took [ inl is ↦ inl (inl is) | inr left ↦ inl (first found left) ]
+  | inr gone ↦ inr (gone.0, gone.1 ∙ same)
+]
+
+pub replaces_spared : (on : Name → Type 0) (copying : Bool) (name backup : Name) (bytes : List ℕ) (a b c : Disk) → (on name → ⊥) → (on backup → ⊥) → Replaces copying name backup bytes a b → Spares on b c
+    → Replaces copying name backup bytes a c
+replaces_spared on true name backup bytes a b c apart apart_backup first spares = takes_then backup bytes a b c first (takes_spared on backup bytes b c apart_backup spares)
+replaces_spared on false name backup bytes a b c apart apart_backup first spares = λ found leaves. elim (first found (leaves_spared on backup found b c apart_backup spares leaves)) [
+  | inl took ↦ inl took
+  | inr gone ↦ inr (gone.0, (spared on name b c apart spares).now name (itself name) ∙ gone.1)
+]
+
 -- a backup that is taken away under a name that was free
-pub takes_dropped : (name : Name) (bytes : List ℕ) (s0 s1 s2 : Scene) → ChangesFolder s0 s1 → content_in s0.folder name ≡ None → Runs (Takes name bytes) s0 s1 → Runs (Drops name) s1 s2
-    → Runs (Takes name bytes) s0 s2
-takes_dropped name bytes s0 s1 s2 frame free takes drops =
-    runs_then (Takes name bytes) (Drops name) (Takes name bytes) s0 s1 s2 (λ d is. is)
-    (λ d dropped found leaves. elim (dropped found leaves) [
-      | inl none ↦ inr (subst (λ (o : Option (List ℕ)). MayLeave s0.folder name o) (sym none) (absent_now name s0.folder free))
-      | inr left ↦ takes.now found left
-    ]) frame takes drops
+dropped_at : (copying : Bool) (name backup : Name) (bytes : List ℕ) (a b c : Disk) → content_in a backup ≡ None → Replaces copying name backup bytes a b → Drops backup b c → Takes backup bytes a c
+dropped_at true name backup bytes a b c free takes dropped found leaves = elim (dropped found leaves) [
+  | inl none ↦ inr (subst (λ (o : Option (List ℕ)). MayLeave a backup o) (sym none) (absent_now backup a free))
+  | inr left ↦ takes found left
+]
+dropped_at false name backup bytes a b c free takes dropped found leaves = elim (dropped found leaves) [
+  | inl none ↦ inr (subst (λ (o : Option (List ℕ)). MayLeave a backup o) (sym none) (absent_now backup a free))
+  | inr left ↦ elim (takes found left) [
+    | inl took ↦ took
+    | inr gone ↦ inr (subst (λ (o : Option (List ℕ)). MayLeave a backup o) (sym gone.0) (absent_now backup a free))
+  ]
+]
+
+pub replaces_dropped : (copying : Bool) (name backup : Name) (bytes : List ℕ) (s0 s1 s2 : Scene) → ChangesFolder s0 s1 → content_in s0.folder backup ≡ None
+    → Runs (Replaces copying name backup bytes) s0 s1 → Runs (Drops backup) s1 s2 → Runs (Replaces copying name backup bytes) s0 s2
+replaces_dropped copying name backup bytes s0 s1 s2 frame free replaces drops =
+    runs_then (Replaces copying name backup bytes) (Drops backup) (Replaces copying name backup bytes) s0 s1 s2 (λ d is. is)
+    (λ d dropped. replaces_takes copying name backup bytes s0.folder d (dropped_at copying name backup bytes s0.folder s1.folder d free replaces.now dropped)) frame replaces drops
 
 -- ---- a name that leads to no file
 pub gone_renamed : (from to : Name) (old mid new : Disk) → (from ≡ to → ⊥) → ChangesNames (Renames from to) old mid → SyncsNames mid new → IsGone from new

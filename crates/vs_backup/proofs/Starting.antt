@@ -1,18 +1,17 @@
 -- A write that copies, until the file is empty: it has the old bytes until a settled copy of it stands, and then the copy has.
-use Rattle.std.proofs.Common.{◌≡◌, ℕ, Bool, List, Option, Some, OnErr, Result, IsTrue, sym, ap, subst, arith}
+use Rattle.std.proofs.Common.{◌≡◌, ℕ, Bool, List, Option, Some, OnErr, Result, IsTrue, sym, ap, subst}
 use Rattle.std.specs.Prelude.{is_some, IsSome}
 use Rattle.vs_host.specs.File.{Cuts}
 use Rattle.vs_host.specs.Disk.{Disk, Name, content_in}
 use Rattle.vs_host.specs.World.{Scene, ChangesFolder, content_of}
 use Rattle.vs_host.specs.declared.traits.Failed.{Failed}
 use Rattle.vs_disk.specs.Images.{HoldsBytes}
-use Rattle.vs_disk.proofs.Images.{cut_keeps_images}
 use Rattle.vs_disk.proofs.Runs.{runs_as}
 use Rattle.vs_backup.specs.Works.{ChangesOne, Empties, Fills, LeavesNone, Renews, RenewsFile, Spares, SparesTwo, Unchanged, three_names}
 use Rattle.vs_backup.specs.Writing.{CopiesBytes, IsKept, IsSettled, ReplacesByCopy, StartsOverFrom, StartedOverFrom, StillHolds}
 use Rattle.vs_backup.proofs.Calls.{spares_on, synced_bytes, synced_there}
 use Rattle.vs_backup.proofs.Copying.{kept_on, cut_content, over_spares, over_kept, over_backed, over_replaced, copy_spares, copy_kept, copy_in_place, copy_holds, copy_content}
-use Rattle.vs_backup.proofs.Filling.{changes_same}
+use Rattle.vs_backup.proofs.Filling.{changes_same, fills_cut}
 use Rattle.vs_backup.proofs.Frames.{spares_same, err_is}
 use Rattle.vs_backup.proofs.Kept.{kept_by_name, settled_holds, may_leave_now, may_leave_filled}
 use Rattle.vs_backup.proofs.Places.{in_place_on, in_place_changed}
@@ -99,12 +98,7 @@ module _ (told : Bool) (name temporary backup : Name) (s0 s1 s2 : Scene) (differ
         let apart = λ (e : backup ≡ name). differ_name (sym e) in
         let content = before is old settled in
         let cuts = empties.cuts is in
-        let keeps : Fills name s1.folder s2.folder = record {
-          synced = cuts.synced;
-          pending = cuts.pending;
-          others = cuts.others;
-          this = λ number leads. cut_keeps_images 0 (s1.folder.files number) (s2.folder.files number) (omega arith) (cuts.this number leads);
-        } in
+        let keeps : Fills name s1.folder s2.folder = fills_cut name s1.folder s2.folder cuts in
         record {
           backed = over_backed name backup temporary old s1 s2 apart (copied is old settled) (empties.folder is) old content (empties.runs is);
           empty = cut_content name old s1.folder s2.folder cuts content;

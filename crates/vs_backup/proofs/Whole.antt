@@ -6,7 +6,8 @@ use Rattle.vs_host.specs.Names.{temporary}
 use Rattle.vs_host.specs.Trace.{Looked}
 use Rattle.vs_host.specs.World.{Scene, ChangesFolder, IsTold, ReadsFolder}
 use Rattle.vs_host.specs.declared.traits.Failed.{Failed}
-use Rattle.vs_disk.specs.Runs.{Looks}
+use Rattle.vs_disk.specs.Runs.{FailsLast, Looks, Quiet}
+use Rattle.vs_disk.proofs.Quiet.{last_then, quiet_then}
 use Rattle.vs_disk.proofs.Runs.{runs_as, runs_on, runs_then, looks_on, reads_change}
 use Rattle.vs_backup.specs.Backups.{WorksOn, backup_of, copies}
 use Rattle.vs_backup.specs.Backups.WorksOn.{TheFile, TheNewFile, TheBackup, TheCopy}
@@ -25,8 +26,8 @@ use Rattle.vs_backup.proofs.Copying.{never_refused}
 use Rattle.vs_backup.proofs.Backed.{looks_narrowed}
 use Rattle.vs_backup.proofs.Others.{others_spared, others_looks, others_wider, others_on}
 
-pub unseen : (s0 s1 : Scene) → Looks s0 s1 → IsUnseen s0 s1 (Err (error.Failed place.Nowhere))
-unseen s0 s1 looks = record { looks = looks; failed = refl }
+pub unseen : (s0 s1 : Scene) → Looks s0 s1 → FailsLast s0 s1 → IsUnseen s0 s1 (Err (error.Failed place.Nowhere))
+unseen s0 s1 looks last = record { looks = looks; last = last; failed = refl }
 
 -- the look that failed is the call of the whole
 pub told_alone : {T : Type 0} (name : Name) (answer : Result T Failed) (s0 s1 : Scene) (why : WriteErr) → IsTold Looked (name ∷ []) answer s0 s1 → IsTold {T = ℕ} Looked (name ∷ []) (Err why) s0 s1
@@ -47,8 +48,13 @@ module _ (s0 s1 s2 : Scene) (frame : ReadsFolder s0 s1) (looks : Looks s0 s1) (r
   changed : ChangesFolder s0 s1
   changed = reads_change s0 s1 frame
 
-  pub none_after : FindsNoName s1 s2 result → FindsNoName s0 s2 result
-  none_after none = record { looks = looks_on s0 s1 s2 changed looks none.looks; refused = none.refused }
+  pub none_after : Quiet s0 s1 → FindsNoName s1 s2 result → FindsNoName s0 s2 result
+  none_after quiet none = record {
+    looks = looks_on s0 s1 s2 changed looks none.looks;
+    last = last_then s0 s1 s2 quiet none.last;
+    none = λ calm. quiet_then s0 s1 s2 quiet (none.none calm);
+    refused = none.refused;
+  }
 
   pub plain_after : (name : Name) (old new : List ℕ) → WritesInPlace name old new s1 s2 result → WritesInPlace name old new s0 s2 result
   plain_after name old new here = record {

@@ -1,6 +1,6 @@
 -- What calls on some names leave of all others.
 use Rattle.std.specs.Prelude.{◌≡◌, ◌≢◌, ◌⊎◌, ℕ, Bool, true, false, List, [], ◌∷◌, Option, Some, None, IsTrue}
-use Rattle.vs_host.specs.File.{Cuts}
+use Rattle.vs_host.specs.File.{Cuts, synced_file}
 use Rattle.vs_host.specs.Disk.{Disk, Name, names_of, names_at, ChangesFile, IsFolder, SyncsNames}
 use Rattle.vs_host.specs.Trace.{Snapshot, Synced, SyncedNames}
 use Rattle.vs_host.specs.World.{Scene, content_of}
@@ -77,6 +77,20 @@ KeepsStates old new = (lost : ℕ) → (l : ℕ) × ((name : Name) → names_at 
 -- A stop leaves no file under the name, or what it left before.
 abbrev pub Drops : Name → Disk → Disk → Type 0
 Drops name old new = (found : Option (List ℕ)) → MayLeave new name found → (found ≡ None) ⊎ MayLeave old name found
+
+-- What a stop might have left under the name before, it may still leave.
+abbrev pub Widens : Name → Disk → Disk → Type 0
+Widens name old new = (found : Option (List ℕ)) → MayLeave old name found → MayLeave new name found
+
+-- A stop leaves under the first name what it left before, or no file, where the second name leads to the file of the first.
+abbrev pub HandsOver : Name → Name → Disk → Disk → Type 0
+HandsOver from to old new = (found : Option (List ℕ)) → MayLeave new from found
+    → MayLeave old from found ⊎ ((found ≡ None) × (names_of new to ≡ names_of old from))
+
+-- In each state of the names that a stop may leave, this name or that one leads to this file, which has these bytes since its last sync.
+pub record IsHeld (name that : Name) (number : ℕ) (bytes : List ℕ) (disk : Disk) : Type 0 where
+  pub each : (lost : ℕ) → (names_at disk lost name ≡ Some number) ⊎ (names_at disk lost that ≡ Some number)
+  pub has : disk.files number ≡ synced_file bytes
 
 -- No other name leads to the file of this name, or led there in a state that a stop may leave.
 pub record IsAlone (name : Name) (disk : Disk) : Type 0 where

@@ -1,15 +1,15 @@
 -- What a write promises of the file and its backup.
-use Rattle.std.specs.Prelude.{◌≡◌, ◌⊎◌, ℕ, List, [], length, Option, Some, None, IsSomeAnd, IfOk, OnOk, OnErr, IsErr, IsErrOf, IsTrue, Result, Ok, Err}
+use Rattle.std.specs.Prelude.{◌≡◌, ◌⊎◌, ◌≤◌, ℕ, List, [], length, Option, Some, None, IsSomeAnd, IfOk, OnOk, OnErr, IsErr, IsErrOf, IsTrue, Result, Ok, Err}
 use Rattle.std.specs.Prelude.{Bool, true, false}
 use Rattle.vs_faults.specs.Faults.{HasRisen}
 use Rattle.vs_text.specs.Text.{file_of}
-use Rattle.vs_host.specs.File.{Leaves}
-use Rattle.vs_host.specs.Disk.{Disk, Name, IsImage, names_of, names_at, content_in}
+use Rattle.vs_host.specs.Disk.{Disk, Name, IsImage, names_of, content_in}
 use Rattle.vs_host.specs.Names.{temporary}
 use Rattle.vs_host.specs.World.{Scene, content_of}
+use Rattle.vs_host.specs.declared.traits.Failed.{Failed}
 use Rattle.vs_disk.specs.Images.{HoldsBytes, IsSynced, MayLeave, Takes}
 use Rattle.vs_disk.specs.Runs.{FailsLast, Looks, Quiet, Runs}
-use Rattle.vs_backup.specs.Works.{HasSynced, IsGone, LeadsAway, LeadsTo, Narrowed, Renews, RenewsBut, Spares, SparesOthers, StandsUnder, one_name}
+use Rattle.vs_backup.specs.Works.{HasSynced, IsGone, IsHeld, LeadsAway, LeadsTo, Narrowed, Renews, RenewsBut, Spares, SparesOthers, StandsUnder, one_name}
 use Rattle.vs_backup.specs.Works.{two_names, three_names}
 use Rattle.vs_backup.specs.Backups.{copies}
 use Rattle.vs_backup.specs.declared.options.WriteOptions.{WriteOptions}
@@ -32,6 +32,11 @@ abbrev pub stopped : Stop → Place → WriteErr
 stopped stop.Failed place = error.Failed place
 stopped stop.NoMemory place = error.NoMemory place
 
+-- the answer to a write that stopped, by whether the file was put back
+abbrev pub stopped_after : Stop → Result (Unit {0}) Failed → WriteErr
+stopped_after why (Ok done) = stopped why File
+stopped_after why (Err failed) = stopped why Backup
+
 -- the answer of a write without a backup: the old bytes stand nowhere
 abbrev pub nowhere : Result ℕ Stop → Result ℕ WriteErr
 nowhere (Ok size) = Ok size
@@ -49,16 +54,28 @@ pub record BecomesWritten (name : Name) (new : List ℕ) (before after : Scene) 
 abbrev pub IsFailed : {T : Type 0} → Result T WriteErr → Type 0
 IsFailed result = (place : Place) × IsErrOf result (error.Failed place)
 
--- Which calls of a write failed: of one that was carried out, none before the file had the new bytes; else none but the last one, and
--- none at all unless that is answered.
-pub record FailsNoEarlier (name : Name) (new : List ℕ) (before after : Scene) (result : Result ℕ WriteErr) : Type 0 where
-  pub done : OnOk result (BecomesWritten name new before after)
-  pub last : OnErr result (FailsLast before after)
-  pub none : OnErr result (¬ IsFailed result → Quiet before after)
-
 -- the write was refused with this place of the old bytes
 abbrev pub OldIn : {T : Type 0} → Place → Result T WriteErr → Type 0
 OldIn place result = IsErrOf result (error.Failed place) ⊎ IsErrOf result (error.NoMemory place)
+
+-- Which calls of a write that was refused failed. Until it stopped, none but the last one, and none at all unless that is answered. Of
+-- those after that, which put the file back, none but the last one, and that one where the old bytes stand in the backup; then one
+-- failed before too, where that is answered.
+pub record PutsBack (before after : Scene) (result : Result ℕ WriteErr) : Type 0 where
+  pub stopped : Scene
+  pub last : FailsLast before stopped
+  pub none : ¬ IsFailed result → Quiet before stopped
+  pub later : before.folder_faults ≤ stopped.folder_faults
+  pub failed : OldIn Backup result → IsFailed result → HasRisen before.folder_faults stopped.folder_faults
+  pub back_last : FailsLast stopped after
+  pub back_none : ¬ OldIn Backup result → Quiet stopped after
+  pub back_failed : OldIn Backup result → HasRisen stopped.folder_faults after.folder_faults
+
+-- Which calls of a write failed: of one that was carried out, none before the file had the new bytes; of one that was refused, the one at
+-- which it stopped, and the one at which it could not put the file back.
+pub record FailsNoEarlier (name : Name) (new : List ℕ) (before after : Scene) (result : Result ℕ WriteErr) : Type 0 where
+  pub done : OnOk result (BecomesWritten name new before after)
+  pub refused : OnErr result (PutsBack before after result)
 
 -- the names on which a write with a backup works, by whether it copies
 abbrev pub backed_names : Bool → Name → Name → Name → Name → Type 0
@@ -71,12 +88,14 @@ abbrev pub StandsUntil : Bool → Name → Name → Disk → Disk → Type 0
 StandsUntil true name backup old new = StandsUnder name backup old new
 StandsUntil false name backup old new = StandsUnder name backup old new ⊎ LeadsAway name old new
 
--- A write that does not copy: the file itself becomes the backup, and another one gets its name.
+-- A write that does not copy: the file itself becomes the backup, and another one gets its name. Where the write is refused, the file
+-- has its name again whatever a stop leaves, or it stands under one of the two names.
 pub record MovesAway (keep : Bool) (name backup : Name) (before after : Scene) (result : Result ℕ WriteErr) : Type 0 where
   pub under : Runs (StandsUntil keep name backup) before after
   pub another : OnOk result (LeadsAway name before.folder after.folder)
   pub kept : keep ≡ true → OnOk result (LeadsTo backup name before.folder after.folder)
-  pub in_backup : OldIn Backup result → names_of after.folder backup ≡ names_of before.folder name
+  pub in_file : OldIn File result → LeadsTo name name before.folder after.folder
+  pub in_backup : OldIn Backup result → StandsUnder name backup before.folder after.folder
 
 -- which file stands under which name, by whether the file is copied: then its name leads to it at each moment
 abbrev pub Places : Bool → Bool → Name → Name → Scene → Scene → Result ℕ WriteErr → Type 0
@@ -113,12 +132,11 @@ MayLackNew name old disk = MayLeave disk name (Some old) ⊎ MayLeave disk name 
 abbrev pub MayLackOld : Name → List ℕ → Disk → Type 0
 MayLackOld name old disk = (found : Option (List ℕ)) × MayLeave disk name found × (found ≡ Some old → ⊥)
 
--- In each state of the names that a stop may leave, the name or the backup name leads to this file, each image of which has the
--- old bytes; now the backup name leads there.
+-- In each state of the names that a stop may leave, the name or the backup name leads to this file, which has the old bytes since
+-- its last sync; now the backup name leads there.
 pub record IsGuarded (name backup : Name) (number : ℕ) (old : List ℕ) (disk : Disk) : Type 0 where
   pub now : names_of disk backup ≡ Some number
-  pub each : (lost : ℕ) → (names_at disk lost name ≡ Some number) ⊎ (names_at disk lost backup ≡ Some number)
-  pub leaves : Leaves (disk.files number) (λ c. c ≡ old)
+  pub held : IsHeld name backup number old disk
 
 -- From a file that is settled, until it is empty and a copy of it stands under the backup name: other names are left alone, and at
 -- each moment, in each image, the file or the backup has the old bytes. An older backup stays whole until the copy takes its name.
@@ -154,13 +172,20 @@ pub record CopiesBytes (told : Bool) (name backup : Name) (before after : Scene)
 pub record ReplacesByCopy (told : Bool) (name backup : Name) (before after : Scene) : Type 0 where
   pub takes : IsTrue told → (old : List ℕ) → content_of before name ≡ Some old → Runs (Takes backup old) before after
 
--- From a file that is settled, a write with this backup, which stays. Other names are left alone; at each moment, in each image,
--- the name or the backup has the old bytes, and the backup name has these or what it had before.
+-- What a stop leaves under the backup name: the old bytes, or what it left before. Where the file was renamed and not copied, it may
+-- leave no file there, once the file has its own name again.
+abbrev pub Replaces : Bool → Name → Name → List ℕ → Disk → Disk → Type 0
+Replaces true name backup old = Takes backup old
+Replaces false name backup old = λ before after. (found : Option (List ℕ)) → MayLeave after backup found
+    → ((found ≡ Some old) ⊎ MayLeave before backup found) ⊎ ((found ≡ None) × (names_of after name ≡ names_of before name))
+
+-- From a file that is settled, a write with this backup, which stays, or after which the file was put back. Other names are left alone;
+-- at each moment, in each image, the name or the backup has the old bytes.
 pub record WritesOver (copying : Bool) (name temporary backup : Name) (old new : List ℕ) (before after : Scene) (result : Result ℕ WriteErr) : Type 0 where
   pub spares : Runs (Spares (backed_names copying name temporary backup)) before after
   pub kept : Runs (λ a b. IsKept name backup old b) before after
   pub places : Places copying true name backup before after result
-  pub replaced : Runs (Takes backup old) before after
+  pub replaced : Runs (Replaces copying name backup old) before after
   pub written : IfOk result (λ size. (size ≡ length new) × HoldsBytes name new after.folder × HoldsBytes backup old after.folder)
   pub aside : copying ≡ true → OnOk result (IsGone temporary after.folder)
   pub anew : copying ≡ true → Runs (Renews temporary) before after
@@ -200,7 +225,7 @@ pub record IsFilledFirm (told : Bool) (name : Name) (has : List (List ℕ) → T
   pub each : IsTrue told → (text : List (List ℕ)) → has text → (size ≡ length (file_of text)) × IsSettled name (file_of text) after.folder
 
 -- Before the two syncs at the beginning, that of the file first, nothing has changed. After them, at each moment, in each image, the
--- file or its backup is whole, the backup name has the old bytes whole or what it might have before, and other names are left alone.
+-- file or its backup is whole, an older backup is whole until the backup takes its name, and other names are left alone.
 pub record BeginsWhole (copying keep : Bool) (name temporary backup : Name) (old new : List ℕ)
     (before after : Scene) (result : Result ℕ WriteErr) : Type 0 where
   pub begun : Scene
@@ -208,7 +233,7 @@ pub record BeginsWhole (copying keep : Bool) (name temporary backup : Name) (old
   pub order : HasSynced name begun
   pub settled : IsSettled name old begun.folder
   pub whole : Runs (λ a b. IsWhole name backup old new b) begun after
-  pub replaced : Runs (Takes backup old) begun after
+  pub replaced : Runs (Replaces copying name backup old) begun after
   pub places : Places copying keep name backup begun after result
   pub spares : Runs (Spares (backed_names copying name temporary backup)) begun after
   -- the file into which the copy is made
@@ -225,6 +250,8 @@ pub record WritesBacked (copying keep : Bool) (name temporary backup : Name) (ol
   -- the name under which the copy was made
   pub aside : copying ≡ true → OnOk result (IsGone temporary after.folder)
   pub not_written : OnErr result (MayLackNew name old after.folder)
+  -- the file as it is read after an error
+  pub returned : OnErr result ((content_of after name ≡ Some old) ⊎ OldIn Backup result)
   -- where the old bytes are said to stand
   pub in_file : OldIn File result → Runs Narrowed before after ⊎ HoldsBytes name old after.folder
   pub in_backup : OldIn Backup result → IsKept name backup old after.folder × ((copying ≡ true → old ≡ [] → ⊥) → MayLackOld name old after.folder)
@@ -265,11 +292,14 @@ pub record WritesFresh (on : Name → Type 0) (name : Name) (new : List ℕ) (be
 -- It was not found out whether there is a file, and nothing has changed.
 pub record IsUnseen (before after : Scene) (result : Result ℕ WriteErr) : Type 0 where
   pub looks : Looks before after
+  pub last : FailsLast before after
   pub failed : result ≡ Err (error.Failed Nowhere)
 
 -- Every backup name is taken, and nothing has changed. A call or memory may have been missing before that was found out.
 pub record FindsNoName (before after : Scene) (result : Result ℕ WriteErr) : Type 0 where
   pub looks : Looks before after
+  pub last : FailsLast before after
+  pub none : ¬ IsFailed result → Quiet before after
   pub refused : (result ≡ Err error.NoBackupName) ⊎ OldIn File result
 
 -- The answer of such a write without a backup: after an error the old bytes stand nowhere.

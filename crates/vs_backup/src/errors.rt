@@ -1,6 +1,6 @@
 // Why a write stopped, and where the old bytes stand then.
 ghost use Rattle.std.specs.Prelude.{◌≡◌};
-ghost use Rattle.vs_backup.specs.Writing.{stopped};
+ghost use Rattle.vs_backup.specs.Writing.{stopped, stopped_after};
 
 use std::alloc::{AllocError, AllocFailed};
 use vs_edit::StoreErr;
@@ -43,6 +43,16 @@ impl Stop {
         match self {
             Stop::Failed => WriteErr::Failed { old_in },
             Stop::NoMemory => WriteErr::NoMemory { old_in },
+        }
+    }
+
+    /// The answer of the write, by whether the file was put back.
+    pub(crate) fn after(self, put_back: Result<(), Failed>) -> WriteErr
+        ensures { result ≡ stopped_after self put_back }
+    {
+        match put_back {
+            Ok(()) => self.with(Place::File),
+            Err(_) => self.with(Place::Backup),
         }
     }
 }

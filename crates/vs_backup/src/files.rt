@@ -1,13 +1,13 @@
 // Calls on one file and its name.
 ghost use Rattle.std.specs.Prelude.{◌≡◌, ◌≢◌, ◌≤◌, ◌<◌, ◌+◌, ◌^◌, ◌++◌, ◌∷◌, [], Bool, false, ℕ, List, length, IfOk, IfSome, OnOk, OnErr, IsErr, IsTrue, Some, None, IsSome};
 ghost use Rattle.vs_host.specs.File.{Syncs};
-ghost use Rattle.vs_host.specs.Disk.{Name, ChangesFile, CreatesFile};
+ghost use Rattle.vs_host.specs.Disk.{Name, names_of, ChangesFile, CreatesFile};
 ghost use Rattle.vs_host.specs.Trace.{Created, Synced, SyncedNames};
 ghost use Rattle.vs_host.specs.World.{content_of, IsTold};
-ghost use Rattle.vs_disk.specs.Images.{IsSynced, MayLeave, Takes};
+ghost use Rattle.vs_disk.specs.Images.{IsSynced, Takes};
 ghost use Rattle.vs_disk.specs.Runs.{Runs};
 ghost use Rattle.vs_backup.specs.Desks.{GoesOn};
-ghost use Rattle.vs_backup.specs.Works.{Drops, Empties, HasNew, IsAlone, IsGone, KeepsStates, LeadsNowhereElse, Renews, Settles, SettlesAny, Spares, SyncsAll, SyncsBytes, SyncsInOrder, Unchanged, one_name, two_names};
+ghost use Rattle.vs_backup.specs.Works.{Drops, Empties, HandsOver, HasNew, IsAlone, IsGone, IsHeld, KeepsStates, LeadsNowhereElse, Renews, Settles, SettlesAny, Spares, SyncsAll, SyncsBytes, SyncsInOrder, Unchanged, Widens, one_name, two_names};
 ghost use Rattle.vs_backup.specs.Writing.{IsSettled, SettlesBytes, SettlesSynced};
 
 use crate::Desk;
@@ -160,7 +160,11 @@ pub(crate) fn take_name<D: Desk>(desk: &mut D, from: &str, to: &str) -> Result<(
         → IsSettled to.now bytes (D.scene desk.new).folder) }
     ensures leads { IsTrue (D.tells).folder → Runs (LeadsNowhereElse from.now) (D.scene desk.old) (D.scene desk.new) }
     ensures gone { OnOk result (IsTrue (D.tells).folder → IsGone from.now (D.scene desk.new).folder) }
-    ensures err { OnErr result (IsTrue (D.tells).folder → content_of (D.scene desk.old) to.now ≡ None → MayLeave (D.scene desk.new).folder to.now None) }
+    ensures held { IsTrue (D.tells).folder → (number : ℕ) (bytes : List ℕ) → IsHeld to.now from.now number bytes (D.scene desk.old).folder
+        → names_of (D.scene desk.old).folder from.now ≡ Some number
+        → Runs (λ before after. IsHeld to.now from.now number bytes after) (D.scene desk.old) (D.scene desk.new) }
+    ensures hands { IsTrue (D.tells).folder → Runs (HandsOver from.now to.now) (D.scene desk.old) (D.scene desk.new) }
+    ensures err { OnErr result (IsTrue (D.tells).folder → Widens to.now (D.scene desk.old).folder (D.scene desk.new).folder) }
     ensures kept { GoesOn D.tells D.scene D.valid D.stays (IsErr result) desk.old desk.new }
 {
     desk.rename(from, to)?;

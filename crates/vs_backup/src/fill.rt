@@ -156,7 +156,7 @@ fn copy_piece<D: Desk>(
     requires there { IsTrue (D.tells).folder
         → (bytes : List ℕ) × (content_of (D.scene desk.old) from.now ≡ Some bytes) × (at + length buffer.old ≤ length bytes)
         × (content_of (D.scene desk.old) to.now ≡ Some (take at bytes)) }
-    ensures runs { IsTrue (D.tells).folder → Runs (ChangesOne to.now) (D.scene desk.old) (D.scene desk.new) }
+    ensures runs { IsTrue (D.tells).folder → Runs (Fills to.now) (D.scene desk.old) (D.scene desk.new) }
     ensures ok { OnOk result (IsTrue (D.tells).folder → (bytes : List ℕ) → content_of (D.scene desk.old) from.now ≡ Some bytes
         → content_of (D.scene desk.new) to.now ≡ Some (take (at + length buffer.old) bytes)) }
     ensures kept { GoesOn D.tells D.scene D.valid D.stays (IsErr result) desk.old desk.new }
@@ -165,7 +165,7 @@ fn copy_piece<D: Desk>(
     put_piece(desk, to, at, buffer)
 }
 
-/// Copies a file into an empty one with its mode bits, and syncs that.
+/// Copies a file into an empty one with its mode bits, as many bytes at a time as the buffer has, and syncs that.
 pub(crate) fn fill_copy<D: Desk>(
     desk: &mut D,
     from: &str,
@@ -176,19 +176,21 @@ pub(crate) fn fill_copy<D: Desk>(
     requires apart { D.reads desk.old from.now → ⊥ }
     requires apart_to { D.reads desk.old to.now → ⊥ }
     requires differ { from.now ≢ to.now }
-    requires buffer { length buffer.old ≡ PIECE }
+    requires some { 0 < length buffer.old }
+    requires few { length buffer.old ≤ PIECE }
     requires there { IsTrue (D.tells).folder → IsSome (content_of (D.scene desk.old) from.now) }
     requires empty { IsTrue (D.tells).folder → content_of (D.scene desk.old) to.now ≡ Some [] }
     requires alone { IsTrue (D.tells).folder → IsAlone to.now (D.scene desk.old).folder }
     ensures runs { IsTrue (D.tells).folder → Runs (ChangesOne to.now) (D.scene desk.old) (D.scene desk.new) }
     ensures ok { OnOk result (IsTrue (D.tells).folder → (bytes : List ℕ) → content_of (D.scene desk.old) from.now ≡ Some bytes
         → IsSynced to.now bytes (D.scene desk.new).folder) }
+    ensures err { OnErr result (IsTrue (D.tells).folder → Fills to.now (D.scene desk.old).folder (D.scene desk.new).folder) }
     ensures kept { GoesOn D.tells D.scene D.valid D.stays (IsErr result) desk.old desk.new }
 {
     let size = desk.len(from)?;
     let mut at = 0;
     'pieces: while at < size {
-        let count = (size - at).min(PIECE as u64) as usize;
+        let count = (size - at).min(buffer.len() as u64) as usize;
         copy_piece(desk, from, to, at, &mut buffer[..count])?;
         at += count as u64;
     }

@@ -11,7 +11,7 @@ ghost use Rattle.vs_backup.specs.Desks.{Continues, GoesOn, OnlyReads};
 ghost use Rattle.vs_backup.specs.Works.{SparesOthers, two_names};
 ghost use Rattle.vs_backup.specs.Writing.{FailsNoEarlier, FindsNoName, IsFailed, IsUnseen, OldIn, WritesFresh, WritesInPlace, WritesNew, WritesPlain, WritesWith, nowhere};
 
-use crate::backup::write_with_backup;
+use crate::backup::{Backing, write_with_backup};
 use crate::choose::{backup_name, first_free, temporary_of};
 use crate::errors::{Place, Stop, WriteErr};
 use crate::fill::PIECE;
@@ -88,16 +88,14 @@ fn write_named<D: Desk>(
             old_in: Place::File,
         });
     };
-    write_with_backup(
-        alloc,
-        desk,
+    let backing = Backing {
         name,
         backup,
-        &temporary,
-        copies(options.copy),
-        options.backup,
-        &mut piece,
-    )
+        temporary: &temporary,
+        copies: copies(options.copy),
+        kept: options.backup,
+    };
+    write_with_backup(alloc, desk, backing, &mut piece)
 }
 
 /// The name of the backup that a write over a file makes, and none where no name is free.
@@ -222,7 +220,8 @@ fn write_there<D: Desk>(
 /// Writes the text of the desk into the file of these names, by these options (docs/FORMATS.md, "Writing a file"). Gives the number of
 /// bytes.
 ///
-/// After an error `old_in` says where the old bytes stand. A backup that should have gone may still be there after `Ok`.
+/// A write that has a backup and stops is put back. After an error `old_in` says where the old bytes stand: in the backup only where
+/// putting back failed too. A backup that should have gone may still be there after `Ok`.
 pub fn write_out<D: Desk>(
     alloc: Global,
     desk: &mut D,

@@ -4,14 +4,15 @@ use Rattle.std.proofs.lemmas.List.{length-append}
 use Rattle.std.proofs.lemmas.List.Elements.{All-drop}
 use Rattle.std.proofs.lemmas.Grind.{common_steps}
 use Rattle.vs_pages.specs.Maps.{Map}
-use Rattle.vs_pages.specs.Memory.{present_of, committed_of}
+use Rattle.vs_pages.specs.Memory.{present_of, committed_of, state_of}
+use Rattle.vs_pages.specs.State.{history_of}
+use Rattle.vs_pages.proofs.Steps.{history_present}
 use Rattle.vs_pages.specs.declared.memory.MemPages.{MemPages}
 use Rattle.vs_text.specs.Text.{bytes_of}
 use Rattle.vs_text.specs.Limits.{IsShort, IsWithinLimits}
 use Rattle.vs_text.specs.declared.TheConstants.{MAX_LINES, MAX_TEXT_BYTES}
 use Rattle.vs_text.proofs.FileForm.{bytes_of-append}
-use Rattle.vs_edit.specs.State.{AllowsSplice, SameText}
-use Rattle.vs_edit.specs.Splices.{splice}
+use Rattle.vs_edit.specs.State.{SameText}
 use Rattle.vs_tree.specs.declared.texts.Extent.{Extent}
 use Rattle.vs_tree.specs.Texts.{HasText, Fits, Tells, text_of}
 use Rattle.vs_tree.specs.TextIn.{text_in, text_in-HasText}
@@ -76,6 +77,10 @@ room_end m x lines fits within =
 -- the text stays where pages and numbers stay
 pub text_stays : (m n : Map) (x y : Extent) → n ≡ m → y ≡ x → text_in n y ≡ text_in m x
 text_stays m n x y pages is = ap (λ (k : Map). text_in k y) pages ∙ ap (λ (e : Extent). text_in m e) is
+
+-- the text is as before where the pages went back
+pub text_back : (old new : MemPages) (x y : Extent) → history_of (state_of new) ≡ history_of (state_of old) → y ≡ x → text_in (present_of new) y ≡ text_in (present_of old) x
+text_back old new x y back is = text_stays (present_of old) (present_of new) x y (history_present (state_of old) (state_of new) back) is
 
 -- the same text, present and committed
 pub is_committed_at : (pages : MemPages) (tree : LineTree) (text : List (List ℕ)) → Fits true (present_of pages) tree.present → Fits true (committed_of pages) tree.committed

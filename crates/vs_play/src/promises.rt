@@ -199,7 +199,11 @@ impl Promises {
     fn end_write(&mut self, writing: &Writing) -> Result<(), AllocError> {
         let rewriting = self.rewriting.take();
         if !matches!(writing.outcome, Some(Outcome::Done | Outcome::NoUndo)) {
-            return Ok(());
+            // One call at most fails of a run, so putting back did not.
+            return match rewriting {
+                Some(rewriting) => self.settle(Some(rewriting.old.clone()?)),
+                None => Ok(()),
+            };
         }
         if let Some(rewriting) = rewriting {
             if writing.is_kept {

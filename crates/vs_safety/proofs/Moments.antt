@@ -9,6 +9,8 @@ use Rattle.vs_disk.specs.Names.{SameAt}
 use Rattle.vs_disk.proofs.Others.{same_none, same_then}
 use Rattle.vs_disk.proofs.Runs.{Each-append}
 use Rattle.vs_pair.proofs.MadeFiles.{same_weaker}
+use Rattle.vs_backup.specs.Backups.{copies}
+use Rattle.vs_backup.proofs.Replacing.{replaces_takes}
 use Rattle.vs_safety.specs.Writes.{AreIn, IsWholeIn, State, Write}
 use Rattle.vs_safety.specs.Undo.{IsUndoIn, LeavesUndo, UndoWrite}
 use Rattle.vs_safety.specs.FileWork.{FileWork, EditedFile, UndoFile, BothFiles, KeepsAmong, AvoidsFiles, IsFoundIn, IsWholeAt, HasLeft}
@@ -83,7 +85,7 @@ spared_step others names turn turns start old new settled spared keeps inside fo
 
 -- as it begins, nothing has changed
 write_found : (names : Names) (write : Write) (folder : Disk) → write.found ≡ folder → IsWholeIn names write folder
-write_found names write folder found = subst (λ (d : Disk). IsWholeIn names write d) found (record { backed = λ old backup is made. inl (record { read = λ name is. refl; left = λ image part. part }); replaced = λ old backup is made left may. inr may; in_place = λ old backup is made copied. refl; fresh = λ none left may. inr may })
+write_found names write folder found = subst (λ (d : Disk). IsWholeIn names write d) found (record { backed = λ old backup is made. inl (record { read = λ name is. refl; left = λ image part. part }); replaced = λ old backup is made. replaces_takes (copies write.options.copy) names.file backup old write.found write.found (λ left may. inr may); in_place = λ old backup is made copied. refl; fresh = λ none left may. inr may })
 
 undo_found : (names : Names) (undo : UndoWrite) (folder : Disk) → undo.found ≡ folder → IsUndoIn names undo folder
 undo_found names undo folder found = subst (λ (d : Disk). IsUndoIn names undo d) found (λ left may. inl may)

@@ -71,6 +71,6 @@ IsWholeAt names (BothFiles write undo) folder = IsWholeIn names write folder × 
 -- what is left in the end, where the command had its effect or had not, and was answered that a call failed or was not. Where it had
 -- its effect and a call failed, the undo file was not stored.
 abbrev pub HasLeft : Names → FileWork → Bool → Bool → State → State → Type 0
-HasLeft names (EditedFile write) done failed old new = HasWritten names write done old new
+HasLeft names (EditedFile write) done failed old new = HasWritten names write done failed old new
 HasLeft names (UndoFile undo) done failed old new = HasStored names undo done old new
-HasLeft names (BothFiles write undo) done failed old new = HasWritten names write done old new × HasStored names undo (done && not failed) old new
+HasLeft names (BothFiles write undo) done failed old new = HasWritten names write done failed old new × HasStored names undo (done && not failed) old new

@@ -14,21 +14,20 @@ use Rattle.vs_text.specs.Text.{file_of}
 use Rattle.vs_disk.specs.Images.{HoldsBytes, MayLeave}
 use Rattle.vs_disk.specs.Names.{SameAt}
 use Rattle.vs_disk.specs.Runs.{Runs, FailsLast, Looks, Quiet}
-use Rattle.vs_disk.proofs.Contents.{takes_then}
 use Rattle.vs_disk.proofs.Others.{same_none, same_then}
-use Rattle.vs_disk.proofs.Runs.{frames, reads_change, runs_as, runs_then}
+use Rattle.vs_disk.proofs.Runs.{fails_none, quiet_none, frames, reads_change, runs_as, runs_then}
 use Rattle.vs_disk.proofs.Steps.{itself}
 use Rattle.vs_pair.specs.Pair.{Rises, is_swap}
 use Rattle.vs_pair.proofs.Others.{rises_kept}
 use Rattle.vs_excmd.specs.Request.{Instruction}
-use Rattle.vs_backup.specs.Backups.{IsBackupName, WorksOn}
+use Rattle.vs_backup.specs.Backups.{IsBackupName, WorksOn, copies}
 use Rattle.vs_backup.specs.Works.{Spares as SparesNames, two_names}
 use Rattle.vs_backup.specs.declared.options.WriteOptions.{WriteOptions}
 use Rattle.vs_backup.specs.declared.errors.WriteErr.{WriteErr}
 use Rattle.vs_backup.specs.declared.errors.WriteErr.TheVariants as error
-use Rattle.vs_backup.specs.declared.errors.Place.TheVariants.{Nowhere}
-use Rattle.vs_backup.specs.Writing.{BecomesWritten, IsUnseen}
-use Rattle.vs_backup.proofs.Frames.{takes_spared}
+use Rattle.vs_backup.specs.declared.errors.Place.TheVariants.{Backup, Nowhere}
+use Rattle.vs_backup.specs.Writing.{BecomesWritten, IsUnseen, OldIn}
+use Rattle.vs_backup.proofs.Replacing.{replaces_spared}
 use Rattle.vs_machine.specs.Machine.{took_effect}
 use Rattle.vs_machine.specs.Replies.{Answer, says}
 use Rattle.vs_machine.specs.declared.command.Outcome.{Outcome}
@@ -81,7 +80,9 @@ synced_looked state syncs before between next old mid new s reads looks still na
 pub wrote_nothing : (state : SessionState) (syncs : List Sync) (before after : Session) (old new : Scene) → IsFolder old.folder → Looks old new → new ≡ old → Fits before old.folder state syncs
     → Fits after new.folder state syncs → Wrote state syncs before after (Err (error.Failed Nowhere)) old new
 wrote_nothing state syncs before after old new folder looks still fits now =
-    let unseen : IsUnseen old new (Err (error.Failed Nowhere)) = record { looks = looks; failed = refl } in
+    let unseen : IsUnseen old new (Err (error.Failed Nowhere)) = record { looks = looks; last = fails_still old new still; failed = refl } in
+    let above : NoneAbove old new = subst (λ (scene : Scene). NoneAbove old scene) (sym still) (above_none old) in
+    let elsewhere : OldIn {T = ℕ} Backup (Err (error.Failed Nowhere)) → ⊥ = λ is. elim is [ inl failed ↦ cc | inr memory ↦ cc ] in
     record {
       file = record { backed = λ was there backup made. inl unseen; all_taken = λ there on none. inl unseen; plain = λ was there off. inl unseen; fresh = λ none. inl unseen };
       no_name = λ e. absurd (cc);
@@ -92,8 +93,20 @@ wrote_nothing state syncs before after old new folder looks still fits now =
       others = λ inside out apart. runs_as (λ a b. b ≡ a) (SameAt inside) old new (λ d is. subst (λ (e : Disk). SameAt inside old.folder e) (sym is) (same_none inside old.folder)) looks;
       left = runs_as (λ a b. b ≡ a) (KeepsLeft (WorksOn state.options.write (names_of before).file old.folder)) old new
           (λ d is. subst (λ (e : Disk). KeepsLeft (WorksOn state.options.write (names_of before).file old.folder) old.folder e) (sym is) (λ name out left may. may)) looks;
-      above = subst (λ (scene : Scene). NoneAbove old scene) (sym still) (above_none old);
-      calls = record { done = tt; last = fails_still old new still; none = λ calm. absurd (calm (Nowhere, refl)) };
+      above = above;
+      calls = record {
+        done = tt;
+        refused = record {
+          stopped = new;
+          last = fails_still old new still;
+          none = λ calm. absurd (calm (Nowhere, refl));
+          later = above.later;
+          failed = λ is failed. absurd (elsewhere is);
+          back_last = fails_none new;
+          back_none = λ _. quiet_none new;
+          back_failed = λ is. absurd (elsewhere is);
+        };
+      };
       fits = now;
     }
 
@@ -129,7 +142,7 @@ module _ (names : Names) (old new : Disk) (spares : SparesNames (two_names names
     backed = λ was backup is made. inr (λ image left.
         inl (subst (λ (o : Option (List ℕ)). IsSomeAnd o (λ c. (c ≡ was) ⊎ (c ≡ new_bytes write))) (sym (held (new_bytes write) new names.file holds (image names.file) (left.0, left.1 names.file))) (inr refl)));
     replaced = λ was backup is made.
-        takes_then backup was write.found old new (whole.replaced was backup is made) (takes_spared (two_names names.undo_new names.undo) backup was old new (out_backup backup made) spares);
+        replaces_spared (two_names names.undo_new names.undo) (copies write.options.copy) names.file backup was write.found old new out (out_backup backup made) (whole.replaced was backup is made) spares;
     in_place = λ was backup is made copied. (same_alone names.file out).now names.file (itself names.file) ∙ whole.in_place was backup is made copied;
     fresh = λ none found may. inl (held (new_bytes write) new names.file holds found may);
   }
@@ -182,8 +195,8 @@ module _ (state : SessionState) (syncs : List Sync) (instruction : Instruction) 
   bytes : (size ≡ length (file_of text)) × HoldsBytes names.file (file_of text) made.folder
   bytes = bytes_left state syncs instruction is before between old mid s after (Ok size) made second wrote
 
-  wrote_made : HasWritten names write true (state_now old) (state_now made)
-  wrote_made = has_left state syncs instruction is before between old mid s after (Ok size) made second wrote
+  wrote_made : HasWritten names write true false (state_now old) (state_now made)
+  wrote_made = has_left state syncs instruction is before between old mid s after (Ok size) made second wrote false (λ e. absurd (true≢false (sym e)))
 
   holds_on : (d : Disk) → SparesNames (two_names names.undo_new names.undo) made.folder d → HoldsBytes names.file (file_of text) d
   holds_on d spares = holds_spared names made.folder d spares names.file (file_of text) (file_outside names named) bytes.1
@@ -225,8 +238,8 @@ module _ (state : SessionState) (syncs : List Sync) (instruction : Instruction) 
   rises : Rises names old.folder new.folder
   rises = rises_kept names made.folder new.folder (stores.now.spares (is_swap names) (undo_outside names named)) old.folder (written_rises state syncs instruction is before between old mid s after (Ok size) made second wrote)
 
-  wrote_new : HasWritten names write true (state_now old) (state_now new)
-  wrote_new = record {
+  wrote_new : (failed : Bool) → HasWritten names write true failed (state_now old) (state_now new)
+  wrote_new failed = record {
     found = refl;
     written = λ done. holds_on new.folder stores.now.spares;
     kept = λ was backup done keep there made_as. holds_spared names made.folder new.folder stores.now.spares backup was (backup_is backup made_as) (wrote_made.kept was backup refl keep there made_as);
@@ -234,11 +247,15 @@ module _ (state : SessionState) (syncs : List Sync) (instruction : Instruction) 
         let at = (same_alone names made.folder new.folder stores.now.spares backup (backup_is backup made_as)).back lost in
         at.1 backup (itself backup) ∙ wrote_made.gone backup refl off there made_as (λ risen. calm (risen_until old.folder_faults made.folder_faults new.folder_faults risen later)) at.0;
     not_written = λ was none there. absurd (true≢false none);
+    returned = λ was backup none there made_as. absurd (true≢false none);
     absent = λ none gone. absurd (true≢false none);
   }
 
   written : (outcome : Outcome) → took_effect outcome ≡ true → (((is_write instruction.parsed && true) && not (lacks state syncs instruction is before between old mid s)) && took_effect outcome) ≡ true
   written outcome took = λ i. ((is i && true) && not (free i)) && took i
+
+  begun : ((is_write instruction.parsed && true) && not (lacks state syncs instruction is before between old mid s)) ≡ true
+  begun = λ i. (is i && true) && not (free i)
 
   -- the calls after the sync
   calls_by : (outcome : Outcome) → (outcome ≡ Done) ⊎ (outcome ≡ NoUndo) → took_effect outcome ≡ true → HasCause made.folder_faults new.folder_faults (is_fault outcome ≡ true) → StoresBy names.undo_new names.undo made new
@@ -253,8 +270,9 @@ module _ (state : SessionState) (syncs : List Sync) (instruction : Instruction) 
       none = λ stored. elim ended_as [ inl done ↦ quiet (ap is_fault done) | inr none ↦ absurd (stored none) ];
       unstored = λ none. cause.risen (ap is_fault none);
     };
-    last = λ unwritten. absurd (true≢false (sym (written outcome took) ∙ unwritten));
-    none = λ unwritten. absurd (true≢false (sym (written outcome took) ∙ unwritten));
+    refused = λ unwritten. absurd (true≢false (sym (written outcome took) ∙ unwritten));
+    last = λ none. absurd (true≢false (sym begun ∙ none));
+    none = λ none. absurd (true≢false (sym begun ∙ none));
   }
 
   -- however the storing ended
@@ -265,8 +283,8 @@ module _ (state : SessionState) (syncs : List Sync) (instruction : Instruction) 
       answers_free state syncs instruction is before between old mid s free true on after outcome at reply new names_after (λ none. refl) calls cleared replied
       (fits_by state syncs instruction is before between old mid s after new.folder outcome at true (written outcome took) (fits_on new.folder stores.now.spares))
       (works_runs names (Some work) (IsUnderWay names during (Some work)) Both old new (frames old made new frame third) (λ d both. both) both_runs)
-      (subst (λ (done : Bool). HasWritten names write done (state_now old) (state_now new) × HasStored names undo (done && not (is_fault outcome)) (state_now old) (state_now new)) (sym took)
-      (wrote_new, record { found = refl; stored = stored }))
+      (subst (λ (done : Bool). HasWritten names write done (is_fault outcome) (state_now old) (state_now new) × HasStored names undo (done && not (is_fault outcome)) (state_now old) (state_now new)) (sym took)
+      (wrote_new (is_fault outcome), record { found = refl; stored = stored }))
       both_runs.now.folder.whole rises cause
 
   replied_as : (outcome : Outcome) → (outcome ≡ Done) ⊎ (outcome ≡ NoUndo) → write_reply state outcome old.folder ≡ reply_of state instruction (ended state syncs instruction is before between old mid s outcome at)

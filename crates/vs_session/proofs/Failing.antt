@@ -6,14 +6,14 @@ use Rattle.vs_host.specs.Trace.{Snapshot}
 use Rattle.vs_host.specs.declared.names.Names.{Names}
 use Rattle.vs_disk.specs.Runs.{FailsLast, HasNoFault, Quiet}
 use Rattle.vs_disk.proofs.Quiet.{last_then, quiet_then}
-use Rattle.vs_disk.proofs.Runs.{goes_none, goes_weaker, quiet_none}
+use Rattle.vs_disk.proofs.Runs.{fails_none, goes_none, goes_weaker, quiet_none}
 use Rattle.vs_backup.specs.Desks.{StopsAtFault}
 use Rattle.vs_backup.specs.Writing.{BecomesWritten}
 use Rattle.vs_desk.specs.Counts.{NoneAbove}
 use Rattle.vs_desk.specs.PageLaws.{above_then}
 use Rattle.vs_excmd.specs.Request.{Instruction}
-use Rattle.vs_session.specs.Session.{SessionState, Ended, has_written, is_fault}
-use Rattle.vs_session.specs.Failures.{FailsOnce}
+use Rattle.vs_session.specs.Session.{SessionState, Ended, begins_write, has_written, is_fault}
+use Rattle.vs_session.specs.Failures.{FailsOnce, StopsWriting}
 
 -- where no call failed, no count is above that now
 pub above_quiet : (old new : Scene) → Quiet old new → NoneAbove old new
@@ -37,7 +37,21 @@ written_after name bytes old mid new quiet file = record { written = file.writte
 module _ (names : Names) (state : SessionState) (instruction : Instruction) (ended : Ended) where
   -- a command that did not write the file
   pub once_unwritten : (old new : Scene) → has_written state instruction ended ≡ false → FailsLast old new → (is_fault ended.mark.outcome ≡ false → Quiet old new) → FailsOnce names state instruction ended old new
-  once_unwritten old new unwritten last none = record { writes = λ is. absurd (true≢false (sym is ∙ unwritten)); last = λ _. last; none = λ _ calm. none calm }
+  once_unwritten old new unwritten last none = record {
+    writes = λ is. absurd (true≢false (sym is ∙ unwritten));
+    refused = λ _ _. record { stopped = new; last = last; none = none; back_last = fails_none new; back_none = λ _. quiet_none new };
+    last = λ _. last;
+    none = λ _ calm. none calm;
+  }
+
+  -- one that began to write it, and did not
+  pub once_refused : (old new : Scene) → begins_write state instruction ended ≡ true → has_written state instruction ended ≡ false → StopsWriting (is_fault ended.mark.outcome) old new → FailsOnce names state instruction ended old new
+  once_refused old new begins unwritten stops = record {
+    writes = λ is. absurd (true≢false (sym is ∙ unwritten));
+    refused = λ _ _. stops;
+    last = λ none. absurd (true≢false (sym begins ∙ none));
+    none = λ none. absurd (true≢false (sym begins ∙ none));
+  }
 
   pub once_stops : (tells : Tells) (old new : Scene) → IsTrue tells.folder → has_written state instruction ended ≡ false → StopsAtFault tells (is_fault ended.mark.outcome ≡ true) old new
       → FailsOnce names state instruction ended old new
@@ -57,6 +71,15 @@ module _ (names : Names) (state : SessionState) (instruction : Instruction) (end
           last = first.last;
           none = first.none;
           unstored = first.unstored;
+        };
+    refused = λ unwritten begins.
+        let stops = once.refused unwritten begins in
+        record {
+          stopped = stops.stopped;
+          last = last_then old mid stops.stopped quiet stops.last;
+          none = λ calm. quiet_then old mid stops.stopped quiet (stops.none calm);
+          back_last = stops.back_last;
+          back_none = stops.back_none;
         };
     last = λ is. last_then old mid new quiet (once.last is);
     none = λ is calm. quiet_then old mid new quiet (once.none is calm);

@@ -1,5 +1,5 @@
 -- What a write did to the file and its backup: at each moment after the sync of its command, and in the end.
-use Rattle.std.proofs.Common.{◌≡◌, inl, inr, ℕ, ◌≤◌, Bool, true, false, ◌&&◌, ◌||◌, not, length, List, [], Option, Some, None, Result, Ok, Err, IfOk, OnOk, OnErr, is_ok, refl, sym, ◌∙◌, ap, subst}
+use Rattle.std.proofs.Common.{◌≡◌, ◌⊎◌, inl, inr, ℕ, ◌≤◌, Bool, true, false, ◌&&◌, ◌||◌, not, length, List, [], Option, Some, None, Result, Ok, Err, IfOk, OnOk, OnErr, is_ok, refl, sym, ◌∙◌, ap, subst, arith}
 use Rattle.std.specs.Prelude.{is_some, is_none, IsSome}
 use Rattle.std.proofs.lemmas.Bool.{true≢false, cases_Bool}
 use Rattle.vs_faults.specs.Faults.{HasRisen}
@@ -11,7 +11,7 @@ use Rattle.vs_host.specs.declared.names.Names.{Names}
 use Rattle.vs_text.specs.Text.{file_of}
 use Rattle.vs_disk.specs.Images.{HoldsBytes, MayLeave, Takes}
 use Rattle.vs_disk.specs.Names.{IsApart, SameAt}
-use Rattle.vs_disk.specs.Runs.{Inside, Runs, Looks}
+use Rattle.vs_disk.specs.Runs.{FailsLast, Inside, Looks, Quiet, Runs}
 use Rattle.vs_disk.proofs.Contents.{takes_then, some_bytes}
 use Rattle.vs_disk.proofs.Others.{same_then}
 use Rattle.vs_disk.proofs.Runs.{goes_then, goes_weaker}
@@ -23,9 +23,10 @@ use Rattle.vs_backup.specs.declared.errors.WriteErr.TheVariants as error
 use Rattle.vs_backup.specs.declared.errors.Place.TheVariants as place
 use Rattle.vs_backup.specs.Backups.{WorksOn, IsNoName, backs_up, backup_of, copies}
 use Rattle.vs_backup.specs.Works.{LeadsTo, Narrowed, SparesOthers, two_names}
-use Rattle.vs_backup.specs.Writing.{BeginsWhole, FindsNoName, Places, IsWhole, MayLackNew, OldIn, WritesFresh, WritesPlain, WritesWith, nowhere}
+use Rattle.vs_backup.specs.Writing.{BeginsWhole, FindsNoName, IsFailed, IsWhole, MayLackNew, OldIn, Places, PutsBack, Replaces, WritesFresh, WritesPlain, WritesWith, nowhere}
 use Rattle.vs_backup.proofs.Frames.{absent_now}
 use Rattle.vs_backup.proofs.Kept.{may_leave_now}
+use Rattle.vs_backup.proofs.Replacing.{replaces_takes, replaces_then}
 use Rattle.vs_safety.specs.Texts.{Text}
 use Rattle.vs_safety.specs.Writes.{Write, AreForeign, Avoids, HasWritten, IsWholeIn, state_now}
 use Rattle.vs_safety.specs.FileWork.{EditedFile, Keeps}
@@ -57,13 +58,22 @@ pub record Facts (names : Names) (options : WriteOptions) (bytes : List ℕ) (ol
   pub gone : (backup : Name) → options.backup ≡ false → IsSome (content_in old names.file) → backup_of options names.file old ≡ Some backup
       → OnOk result ((HasRisen from new.folder_faults → ⊥) → (lost : ℕ) → names_at new.folder lost backup ≡ None)
   pub not_written : (was : List ℕ) → content_in old names.file ≡ Some was → OnErr result (MayLackNew names.file was new.folder)
+  pub returned : (was : List ℕ) (backup : Name) → content_in old names.file ≡ Some was → backup_of options names.file old ≡ Some backup
+      → OnErr result ((content_in new.folder names.file ≡ Some was) ⊎ OldIn place.Backup result)
   pub absent : content_in old names.file ≡ None → OnErr result (MayLeave new.folder names.file None)
+
+-- Nothing was done, and the write was refused.
+pub record IsIdle (old new : Scene) (result : Result ℕ WriteErr) : Type 0 where
+  pub looks : Looks old new
+  pub last : FailsLast old new
+  pub none : ¬ IsFailed result → Quiet old new
+  pub refused : (size : ℕ) → result ≡ Ok size → ⊥
 
 -- while only the swap files have changed
 pub whole_synced : (names : Names) (are : AreNames names) (options : WriteOptions) (text : Text) (old d : Disk) → SameAt (is_apart names) old d → IsWholeIn names (record { options = options; text = text; found = old }) d
 whole_synced names are options text old d same = record {
   backed = λ was backup is made. inl (untouched_old names are old d same backup (backup_named names are options old backup made));
-  replaced = λ was backup is made. takes_backup names are old d same backup (backup_named names are options old backup made) was;
+  replaced = λ was backup is made. replaces_takes (copies options.copy) names.file backup was old d (takes_backup names are old d same backup (backup_named names are options old backup made) was);
   in_place = λ was backup is made copied. place_same names are old d same;
   fresh = λ none. takes_old names are old d same (file_of text);
 }
@@ -177,11 +187,15 @@ module _ (names : Names) (are : AreNames names) (options : WriteOptions) (text :
 
   module _ (result : Result ℕ WriteErr) (file : WritesFile options names bytes mid new result) where
     module _ (was : List ℕ) (there : content_in old names.file ≡ Some was) where
+      before_takes : (d : Disk) → Narrowed mid.folder d → (backup : Name) → backup_of options names.file old ≡ Some backup → (other : List ℕ) → Takes backup other old d
+      before_takes d narrowed backup made other =
+          takes_then backup other old mid.folder d (takes_backup names are old mid.folder same backup (backup_named names are options old backup made) other) (narrowed_takes backup other mid.folder d narrowed)
+
       narrowed_good : (d : Disk) → Narrowed mid.folder d → Good d
       narrowed_good d narrowed = record {
         backed = λ other backup is made. inl (untouched_then names.file backup old mid.folder d (untouched_old names are old mid.folder same backup (backup_named names are options old backup made))
             (narrowed_untouched names.file backup mid.folder d narrowed));
-        replaced = λ other backup is made. takes_then backup other old mid.folder d (takes_backup names are old mid.folder same backup (backup_named names are options old backup made) other) (narrowed_takes backup other mid.folder d narrowed);
+        replaced = λ other backup is made. replaces_takes (copies options.copy) names.file backup other old d (before_takes d narrowed backup made other);
         in_place = λ other backup is made copied. narrowed.now names.file ∙ place_same names are old mid.folder same;
         fresh = λ none. none_some was (Takes names.file bytes old d) (sym none ∙ there);
       }
@@ -189,16 +203,16 @@ module _ (names : Names) (are : AreNames names) (options : WriteOptions) (text :
       -- a moment after the two syncs
       record After (backup : Name) (from d : Disk) : Type 0 where
         pub whole : IsWhole names.file backup was bytes d
-        pub replaced : Takes backup was from d
+        pub replaced : Replaces (copies options.copy) names.file backup was from d
         pub in_place : copies options.copy ≡ true → names_of d names.file ≡ names_of from names.file
 
       whole_good : (backup : Name) → backup_of options names.file old ≡ Some backup → (from d : Disk) → Narrowed mid.folder from → After backup from d → Good d
       whole_good backup made from d narrowed after = record {
         backed = λ other name is named. inr (subst (λ (o : List ℕ). IsWhole names.file name o bytes d) (some_bytes was other (sym there ∙ is))
             (subst (λ (n : Name). IsWhole names.file n was bytes d) (some_bytes backup name (sym made ∙ named)) after.whole));
-        replaced = λ other name is named. subst (λ (o : List ℕ). Takes name o old d) (some_bytes was other (sym there ∙ is))
-            (subst (λ (n : Name). Takes n was old d) (some_bytes backup name (sym made ∙ named))
-            (takes_then backup was old from d ((narrowed_good from narrowed).replaced was backup there made) after.replaced));
+        replaced = λ other name is named. subst (λ (o : List ℕ). Replaces (copies options.copy) names.file name o old d) (some_bytes was other (sym there ∙ is))
+            (subst (λ (n : Name). Replaces (copies options.copy) names.file n was old d) (some_bytes backup name (sym made ∙ named))
+            (replaces_then (copies options.copy) names.file backup was old from d (before_takes from narrowed backup made was) (narrowed.now names.file ∙ place_same names are old mid.folder same) after.replaced));
         in_place = λ other name is named copied. after.in_place copied ∙ (narrowed_good from narrowed).in_place was backup there made copied;
         fresh = λ none. none_some was (Takes names.file bytes old d) (sym none ∙ there);
       }
@@ -216,12 +230,12 @@ module _ (names : Names) (are : AreNames names) (options : WriteOptions) (text :
         place_moments copied = subst (λ (c : Bool). Places c options.backup names.file backup begins.begun new result) copied begins.places
 
         after_moments : GoesOn (λ m. After backup begins.begun.folder m.folder) begins.begun.trace new.trace
-        after_moments = goes_weaker (λ m. Inside begins.begun (IsWhole names.file backup was bytes) m × (Inside begins.begun (Takes backup was begins.begun.folder) m × ((c : Copied) → LeadsTo names.file names.file begins.begun.folder m.folder)))
+        after_moments = goes_weaker (λ m. Inside begins.begun (IsWhole names.file backup was bytes) m × (Inside begins.begun (Replaces (copies options.copy) names.file backup was begins.begun.folder) m × ((c : Copied) → LeadsTo names.file names.file begins.begun.folder m.folder)))
             (λ m. After backup begins.begun.folder m.folder) (λ m all. record { whole = all.0.folder; replaced = all.1.0.folder; in_place = λ copied. all.1.1 (record { copied = copied }) 0 }) begins.begun.trace new.trace
             (goes_both (Inside begins.begun (IsWhole names.file backup was bytes))
-            (λ m. Inside begins.begun (Takes backup was begins.begun.folder) m × ((c : Copied) → LeadsTo names.file names.file begins.begun.folder m.folder)) begins.begun.trace new.trace begins.whole.moments
-            (goes_both (Inside begins.begun (Takes backup was begins.begun.folder)) (λ m. (c : Copied) → LeadsTo names.file names.file begins.begun.folder m.folder) begins.begun.trace new.trace begins.replaced.moments
-            (goes_all Copied (λ c m. LeadsTo names.file names.file begins.begun.folder m.folder) (Inside begins.begun (Takes backup was begins.begun.folder)) begins.begun.trace new.trace begins.replaced.moments
+            (λ m. Inside begins.begun (Replaces (copies options.copy) names.file backup was begins.begun.folder) m × ((c : Copied) → LeadsTo names.file names.file begins.begun.folder m.folder)) begins.begun.trace new.trace begins.whole.moments
+            (goes_both (Inside begins.begun (Replaces (copies options.copy) names.file backup was begins.begun.folder)) (λ m. (c : Copied) → LeadsTo names.file names.file begins.begun.folder m.folder) begins.begun.trace new.trace begins.replaced.moments
+            (goes_all Copied (λ c m. LeadsTo names.file names.file begins.begun.folder m.folder) (Inside begins.begun (Replaces (copies options.copy) names.file backup was begins.begun.folder)) begins.begun.trace new.trace begins.replaced.moments
             (λ c. goes_weaker (Inside begins.begun (LeadsTo names.file names.file begins.begun.folder)) (λ m. LeadsTo names.file names.file begins.begun.folder m.folder) (λ m inside. inside.folder) begins.begun.trace new.trace
             (place_moments c.copied).moments))))
 
@@ -276,6 +290,7 @@ module _ (names : Names) (are : AreNames names) (options : WriteOptions) (text :
             kept = λ was backup on there made. tt;
             gone = λ backup off there made. tt;
             not_written = λ was there. inl (may_leave_now names.file was new.folder (here ∙ there));
+            returned = λ was backup there made. inl (here ∙ there);
             absent = λ none. absent_now names.file new.folder (here ∙ none);
           })
 
@@ -290,6 +305,7 @@ module _ (names : Names) (are : AreNames names) (options : WriteOptions) (text :
               subst (λ (n : Name). OnOk result ((HasRisen from new.folder_faults → ⊥) → (lost : ℕ) → names_at new.folder lost n ≡ None)) (some_bytes backup name (sym made ∙ named))
               (on_ok_as result _ _ (λ left calm lost. left (λ risen. calm (risen_since from mid.folder_faults new.folder_faults later risen)) lost) (writes.gone off));
           not_written = λ other is. subst (λ (o : List ℕ). OnErr result (MayLackNew names.file o new.folder)) (some_bytes was other (sym there ∙ is)) writes.not_written;
+          returned = λ other name is named. subst (λ (o : List ℕ). OnErr result ((content_in new.folder names.file ≡ Some o) ⊎ OldIn place.Backup result)) (some_bytes was other (sym there ∙ is)) writes.returned;
           absent = λ none. none_some was _ (sym none ∙ there);
         }
 
@@ -299,6 +315,7 @@ module _ (names : Names) (are : AreNames names) (options : WriteOptions) (text :
           kept = λ other name on is named. none_some name _ (sym none ∙ named);
           gone = λ name off is named. none_some name _ (sym none ∙ named);
           not_written = λ other is. tt;
+          returned = λ other name is named. tt;
           absent = λ gone. tt;
         }
         plain_facts none (Err why) plain = record {
@@ -306,6 +323,7 @@ module _ (names : Names) (are : AreNames names) (options : WriteOptions) (text :
           kept = λ other name on is named. tt;
           gone = λ name off is named. tt;
           not_written = λ other is. subst (λ (o : List ℕ). MayLackNew names.file o new.folder) (some_bytes was other (sym there ∙ is)) plain.not_written;
+          returned = λ other name is named. none_some name _ (sym none ∙ named);
           absent = λ gone. none_some was _ (sym gone ∙ there);
         }
 
@@ -342,6 +360,7 @@ module _ (names : Names) (are : AreNames names) (options : WriteOptions) (text :
         kept = λ was backup on is made. none_some was _ (sym none ∙ is);
         gone = λ backup off is made. absurd (true≢false (sym is ∙ ap (λ (o : Option (List ℕ)). is_some o) none));
         not_written = λ was is. tt;
+        returned = λ was backup is made. tt;
         absent = λ gone. tt;
       }
       new_facts none (Err why) fresh = record {
@@ -349,6 +368,7 @@ module _ (names : Names) (are : AreNames names) (options : WriteOptions) (text :
         kept = λ was backup on is made. tt;
         gone = λ backup off is made. tt;
         not_written = λ was is. none_some was _ (sym none ∙ is);
+        returned = λ was backup is made. none_some was _ (sym none ∙ is);
         absent = λ gone. fresh.not_written;
       }
 
@@ -373,18 +393,30 @@ module _ (names : Names) (are : AreNames names) (options : WriteOptions) (text :
       holds (Ok size) is = is.1
       holds (Err why) is = tt
 
-      pub has_written : HasWritten names write (is_ok result) (record { folder = old; faults = from }) (state_now new)
-      has_written = record {
+      pub has_written : (failed : Bool) → OnErr result (PutsBack mid new result) → (failed ≡ true → OldIn place.Backup result → IsFailed result)
+          → HasWritten names write (is_ok result) failed (record { folder = old; faults = from }) (state_now new)
+      has_written failed calls fails = record {
         found = refl;
         written = λ done. when_ok result (HoldsBytes names.file bytes new.folder) done (holds result facts.written);
         kept = λ was backup done on is made. when_ok result (HoldsBytes backup was new.folder) done (facts.kept was backup on is made);
         gone = λ backup done off is made. when_ok result ((HasRisen from new.folder_faults → ⊥) → (lost : ℕ) → names_at new.folder lost backup ≡ None) done (facts.gone backup off is made);
         not_written = λ was not_done is. when_err result (MayLackNew names.file was new.folder) not_done (facts.not_written was is);
+        returned = λ was backup not_done is made. elim (when_err result ((content_in new.folder names.file ≡ Some was) ⊎ OldIn place.Backup result) not_done (facts.returned was backup is made)) [
+          | inl here ↦ inl here
+          | inr in_backup ↦
+              let back = when_err result (PutsBack mid new result) not_done calls in
+              inr (record {
+                between = back.stopped.folder_faults;
+                later = omega (arith, later, back.later);
+                first = λ fault. risen_since from mid.folder_faults back.stopped.folder_faults later (back.failed in_backup (fails fault in_backup));
+                second = back.back_failed in_backup;
+              })
+        ];
         absent = λ not_done gone. when_err result (MayLeave new.folder names.file None) not_done (facts.absent gone);
       }
 
       -- where no name is free, nothing is done
-      pub lacks_looks : lacks_name options names.file old ≡ true → Looks mid new × ((size : ℕ) → result ≡ Ok size → ⊥)
+      pub lacks_looks : lacks_name options names.file old ≡ true → IsIdle mid new result
       lacks_looks lacks =
           let parts = both_true _ _ lacks in
           let front = both_true _ _ parts.0 in
@@ -392,12 +424,19 @@ module _ (names : Names) (are : AreNames names) (options : WriteOptions) (text :
           let off : options.backup ≡ false = not_true options.backup switches.0 in
           let none : backup_of options names.file old ≡ None = none_is (backup_of options names.file old) parts.1 in
           elim (file.all_taken (ap (λ (o : Option (List ℕ)). is_some o) there_mid ∙ front.1) (λ i. off i || switches.1 i) (backup_same names are old mid.folder same options ∙ none)) [
-            | inl unseen ↦ (unseen.looks, λ size is. never_err size _ (sym is ∙ unseen.failed))
-            | inr finds ↦ (
-              finds.looks,
-              λ size is. elim finds.refused [
+            | inl unseen ↦ record {
+              looks = unseen.looks;
+              last = unseen.last;
+              none = λ calm. absurd (calm (place.Nowhere, unseen.failed));
+              refused = λ size is. never_err size _ (sym is ∙ unseen.failed);
+            }
+            | inr finds ↦ record {
+              looks = finds.looks;
+              last = finds.last;
+              none = finds.none;
+              refused = λ size is. elim finds.refused [
                 | inl none_free ↦ never_err size _ (sym is ∙ none_free)
                 | inr in_file ↦ elim in_file [ inl failed ↦ never_err size _ (sym is ∙ failed) | inr memory ↦ never_err size _ (sym is ∙ memory) ]
-              ],
-            )
+              ];
+            }
           ]

@@ -1,6 +1,6 @@
 -- The answer to `w`, after the sync that it begins was acknowledged: the moments of the sync and of the write one after the other, and
 -- what is left.
-use Rattle.std.proofs.Common.{◌≡◌, ◌⊎◌, inl, inr, ℕ, ◌+◌, ◌≤◌, Bool, true, false, cond, ◌&&◌, not, length, List, [], ◌∷◌, Option, Some, None, Result, Ok, Err, IfOk, is_ok, refl, sym, ◌∙◌, ap, subst}
+use Rattle.std.proofs.Common.{◌≡◌, ◌⊎◌, inl, inr, ℕ, ◌+◌, ◌≤◌, Bool, true, false, cond, ◌&&◌, not, length, List, [], ◌∷◌, Option, Some, None, Result, Ok, Err, IfOk, OnErr, is_ok, refl, sym, ◌∙◌, ap, subst}
 use Rattle.std.proofs.lemmas.Bool.{true≢false, cases_Bool}
 use Rattle.vs_faults.specs.Faults.{HasCause, HasRisen}
 use Rattle.vs_host.specs.Disk.{Disk}
@@ -12,6 +12,7 @@ use Rattle.vs_text.specs.Text.{file_of}
 use Rattle.vs_disk.specs.Images.{HoldsBytes}
 use Rattle.vs_disk.specs.Names.{SameAt}
 use Rattle.vs_disk.specs.Runs.{Inside, Runs, Looks, Quiet}
+use Rattle.vs_disk.proofs.Quiet.{last_then}
 use Rattle.vs_disk.proofs.Runs.{fails_none, frames, goes_weaker, quiet_none, runs_as, runs_then}
 use Rattle.vs_pair.specs.Pair.{Rises, is_apart, is_swap}
 use Rattle.vs_pair.proofs.Others.{rises_kept}
@@ -21,7 +22,8 @@ use Rattle.vs_backup.specs.declared.errors.WriteErr.{WriteErr}
 use Rattle.vs_backup.specs.declared.errors.WriteErr.TheVariants as error
 use Rattle.vs_backup.specs.Backups.{IsNoName, WorksOn}
 use Rattle.vs_backup.specs.Works.{SparesOthers}
-use Rattle.vs_backup.specs.Writing.{FailsNoEarlier}
+use Rattle.vs_backup.specs.declared.errors.Place.TheVariants.{Backup}
+use Rattle.vs_backup.specs.Writing.{FailsNoEarlier, IsFailed, OldIn, PutsBack}
 use Rattle.vs_machine.specs.Machine as machine
 use Rattle.vs_machine.specs.Machine.{took_effect}
 use Rattle.vs_machine.specs.Replies.{Answer, says, refuses, device_fault, no_backup_name, out_of_memory, written_line}
@@ -43,14 +45,14 @@ use Rattle.vs_session.specs.declared.session.Session.{Session}
 use Rattle.vs_session.specs.Session.{SessionState, Ended, accepts_quit, after_sync, answered, begins_sync, carried, is_fault, is_write, lacks_name, line_by, reply_of, state_after, stores_both, sync_in, undo_after, undo_work, with_history, write_in, write_reply, write_work, written_state}
 use Rattle.vs_session.specs.Writes.{HasSynced, Wrote, state_to}
 use Rattle.vs_session.specs.Fits.{Answers, Fits, LeavesNoneMade, names_of}
-use Rattle.vs_session.specs.Failures.{FailsOnce}
+use Rattle.vs_session.specs.Failures.{FailsOnce, StopsWriting}
 use Rattle.vs_session.proofs.Cleared.{cleared_same, cleared_synced, cleared_then, cleared_written}
-use Rattle.vs_session.proofs.Failing.{above_quiet, once_after, once_unwritten}
+use Rattle.vs_session.proofs.Failing.{above_quiet, once_after, once_refused, once_unwritten}
 use Rattle.vs_session.proofs.Steps.{assemble, between_synced, flag_true, looked_synced, no_history, risen_since, unread, works_runs}
 use Rattle.vs_session.proofs.FileWrites.{undo_same}
 use Rattle.vs_session.proofs.UndoNames.{undo_unworked}
 use Rattle.vs_session.proofs.WriteCommand.{begins_is, carried_on, never_quits, no_read, no_undo, reply_is}
-use Rattle.vs_session.proofs.WriteMoments.{facts, has_written, keeps_moments, keeps_now, keeps_synced, lacks_looks, named_lacks, whole_moments, whole_synced}
+use Rattle.vs_session.proofs.WriteMoments.{IsIdle, facts, has_written, keeps_moments, keeps_now, keeps_synced, lacks_looks, named_lacks, whole_moments, whole_synced}
 
 -- what a write did, for these names
 record Did (names : Names) (options : WriteOptions) (text : Text) (syncs : List Sync) (mid new : Scene) (result : Result ℕ WriteErr) : Type 0 where
@@ -70,6 +72,10 @@ pub record Moment (names : Names) (write : Write) (syncs : List Sync) (old d : D
 
 abbrev pub err_of : WriteErr → Result ℕ WriteErr
 err_of why = Err why
+
+-- which calls failed of a write that was refused
+back_of : {name new : List ℕ} {old now : Scene} (result : Result ℕ WriteErr) → FailsNoEarlier name new old now result → OnErr result (PutsBack old now result)
+back_of result calls = calls.refused
 
 -- why a write is refused, and how it ends so
 abbrev pub Refuses : WriteErr → Outcome → Answer → Type 0
@@ -231,8 +237,8 @@ module _ (state : SessionState) (syncs : List Sync) (instruction : Instruction) 
     pub written_rises : Rises names old.folder new.folder
     written_rises = rises_kept names mid.folder new.folder did.swap.now.same old.folder s.rises
 
-    pub has_left : HasWritten names write (is_ok result) (state_now old) (state_now new)
-    has_left = has_written names are options text old.folder mid new same result did.file old.folder_faults later
+    pub has_left : (failed : Bool) → (failed ≡ true → OldIn Backup result → IsFailed result) → HasWritten names write (is_ok result) failed (state_now old) (state_now new)
+    has_left failed fails = has_written names are options text old.folder mid new same result did.file old.folder_faults later failed (back_of result did.calls) fails
 
     pub cleared_by : (size : ℕ) → result ≡ Ok size → LeavesNoneMade old.folder new.folder
     cleared_by size ok = cleared_then old.folder mid.folder new.folder (cleared_synced names are old.folder mid.folder same)
@@ -242,11 +248,11 @@ module _ (state : SessionState) (syncs : List Sync) (instruction : Instruction) 
     bytes_left = (facts names are options text old.folder mid new same result did.file old.folder_faults later).written
 
     -- where no backup name is free, nothing is done
-    looked : lacks ≡ true → Looks mid new × ((size : ℕ) → result ≡ Ok size → ⊥)
+    looked : lacks ≡ true → IsIdle mid new result
     looked taken = lacks_looks names are options text old.folder mid new same result did.file old.folder_faults later (lacks_here ∙ taken)
 
     pub not_lacks : (size : ℕ) → result ≡ Ok size → lacks ≡ false
-    not_lacks size ok = elim (cases_Bool lacks) [ inl taken ↦ absurd ((looked taken).1 size ok) | inr free ↦ free ]
+    not_lacks size ok = elim (cases_Bool lacks) [ inl taken ↦ absurd ((looked taken).refused size ok) | inr free ↦ free ]
 
     never : lacks ≡ false → result ≡ Err error.NoBackupName → ⊥
     never free none = true≢false (sym (named_lacks names are options text old.folder mid new same result did.file old.folder_faults later (did.no_name none)) ∙ lacks_here ∙ free)
@@ -270,7 +276,7 @@ module _ (state : SessionState) (syncs : List Sync) (instruction : Instruction) 
   whole_by true d m = (m.whole, (λ left may. inl (m.undo left may), inl m.undo))
   whole_by false d m = (m.whole, m.undo)
 
-  left_by : (b : Bool) (done failed : Bool) (new : Scene) → HasWritten names write done (state_now old) (state_now new) → HasStored names undo (done && not failed) (state_now old) (state_now new)
+  left_by : (b : Bool) (done failed : Bool) (new : Scene) → HasWritten names write done failed (state_now old) (state_now new) → HasStored names undo (done && not failed) (state_now old) (state_now new)
       → HasLeft names (work_by b) done failed (state_now old) (state_now new)
   left_by true done failed new wrote stored = (wrote, stored)
   left_by false done failed new wrote stored = wrote
@@ -301,74 +307,96 @@ module _ (state : SessionState) (syncs : List Sync) (instruction : Instruction) 
     abbrev IsAnswer : Outcome → Answer → Type 0
     IsAnswer outcome reply = Answers state syncs instruction before after (mark outcome at) reply old new
 
-    -- no call failed of what goes before, and of the write none but the last one
-    calls : (outcome : Outcome) → (((is_write instruction.parsed && true) && not lacks) && took_effect outcome) ≡ false → (is_fault outcome ≡ false → Quiet mid new) → FailsOnce names state instruction (ended outcome at) old new
-    calls outcome unwritten quiet =
-        once_after names state instruction (ended outcome at) old mid new s.quiet (once_unwritten names state instruction (ended outcome at) mid new unwritten wrote.calls.last quiet)
+    -- where no fault is answered, no call failed, or the write says that none did
+    abbrev IsCalm : Outcome → Type 0
+    IsCalm outcome = is_fault outcome ≡ false → Quiet mid new ⊎ (IsFailed (err_of why) → ⊥)
+
+    -- what put the file back failed after a call that failed, where a fault is answered
+    abbrev HasFailed : Outcome → Type 0
+    HasFailed outcome = is_fault outcome ≡ true → OldIn Backup (err_of why) → IsFailed (err_of why)
+
+    -- until the write stopped, and then
+    put_back : (fault : Bool) → (fault ≡ false → Quiet mid wrote.calls.refused.stopped) → StopsWriting fault mid new
+    put_back fault none =
+        let back = wrote.calls.refused in
+        record { stopped = back.stopped; last = back.last; none = none; back_last = back.back_last; back_none = λ calm. back.back_none (λ is. calm (back.back_failed is)) }
+
+    stops_as : (outcome : Outcome) (fault : Bool) → is_fault outcome ≡ fault → IsCalm outcome → StopsWriting fault mid new
+    stops_as outcome true is_fault_here calm = put_back true (λ none. absurd (true≢false none))
+    stops_as outcome false is_fault_here calm = elim (calm is_fault_here) [
+      | inl quiet ↦ record { stopped = new; last = last_then mid new new quiet (fails_none new); none = λ _. quiet; back_last = fails_none new; back_none = λ _. quiet_none new }
+      | inr none ↦ put_back false (λ _. wrote.calls.refused.none none)
+    ]
 
     -- no backup name is free
-    refused_taken : lacks ≡ true → (outcome : Outcome) (reply : Answer) → (outcome ≡ NoUndo → ⊥) → (is_fault outcome ≡ false → Quiet mid new) → reply ≡ reply_of state instruction (ended outcome at) → (is_fault outcome ≡ true → HasRisen old.folder_faults new.folder_faults)
+    refused_taken : lacks ≡ true → (outcome : Outcome) (reply : Answer) → (outcome ≡ NoUndo → ⊥) → IsCalm outcome → reply ≡ reply_of state instruction (ended outcome at) → (is_fault outcome ≡ true → HasRisen old.folder_faults new.folder_faults)
         → IsAnswer outcome reply
-    refused_taken taken outcome reply stored quiet replied cause =
-        let looks = (looked after (Err why) new second wrote taken).0 in
+    refused_taken taken outcome reply stored calm replied cause =
+        let idle = looked after (Err why) new second wrote taken in
         let unwritten : (((is_write instruction.parsed && true) && not lacks) && took_effect outcome) ≡ false = λ i. ((is i && true) && not (taken i)) && took_effect outcome in
         let now : Fits after new.folder (state_after state instruction (ended outcome at)) all = stays after new.folder outcome at unwritten wrote.fits in
-        assemble state syncs instruction before old goes_on s.fits after (mark outcome at) true reply new (Some (sync_in state true)) None (no_read instruction.parsed is) (λ none. absurd (stored none)) (calls outcome unwritten quiet)
-        (λ _. cleared_then old.folder mid.folder new.folder (cleared_synced names are old.folder mid.folder same) (cleared_same mid.folder new.folder looks.now)) sync_is
+        assemble state syncs instruction before old goes_on s.fits after (mark outcome at) true reply new (Some (sync_in state true)) None (no_read instruction.parsed is) (λ none. absurd (stored none))
+        (once_after names state instruction (ended outcome at) old mid new s.quiet (once_unwritten names state instruction (ended outcome at) mid new unwritten idle.last
+        (λ here. elim (calm here) [ inl quiet ↦ quiet | inr none ↦ idle.none none ])))
+        (λ _. cleared_then old.folder mid.folder new.folder (cleared_synced names are old.folder mid.folder same) (cleared_same mid.folder new.folder idle.looks.now)) sync_is
         ((λ i. cond ((is i && true) && not (taken i)) (Some (write_work state old.folder)) (undo_work state old.folder instruction.parsed)) ∙ no_undo state old.folder instruction.parsed is) replied now
         (looked_synced before after state syncs (state_after state instruction (ended outcome at)) (took_effect outcome) (is_fault outcome) (reply_of state instruction (ended outcome at)).bytes old mid new s.fits between s.names names_after
-        s.frame s.runs s.rises s.synced looks.now second looks cause now)
+        s.frame s.runs s.rises s.synced idle.looks.now second idle.looks cause now)
 
-    refused_free : lacks ≡ false → (outcome : Outcome) (reply : Answer) → (outcome ≡ NoUndo → ⊥) → (is_fault outcome ≡ false → Quiet mid new) → took_effect outcome ≡ false → reply ≡ reply_of state instruction (ended outcome at)
+    refused_free : lacks ≡ false → (outcome : Outcome) (reply : Answer) → (outcome ≡ NoUndo → ⊥) → IsCalm outcome → HasFailed outcome → took_effect outcome ≡ false → reply ≡ reply_of state instruction (ended outcome at)
         → (is_fault outcome ≡ true → HasRisen old.folder_faults new.folder_faults) → IsAnswer outcome reply
-    refused_free free outcome reply stored quiet none replied cause =
+    refused_free free outcome reply stored calm failed none replied cause =
         let b : Bool = state.options.undofile in
+        let begun : ((is_write instruction.parsed && true) && not lacks) ≡ true = λ i. (is i && true) && not (free i) in
         let unwritten : (((is_write instruction.parsed && true) && not lacks) && took_effect outcome) ≡ false = λ i. ((is i && true) && not (free i)) && none i in
         let runs = written_runs after (Err why) new second wrote in
-        answers_free free b refl after outcome at reply new names_after (λ unstored. absurd (stored unstored)) (calls outcome unwritten quiet)
+        answers_free free b refl after outcome at reply new names_after (λ unstored. absurd (stored unstored))
+        (once_after names state instruction (ended outcome at) old mid new s.quiet (once_refused names state instruction (ended outcome at) mid new begun unwritten (stops_as outcome (is_fault outcome) refl calm)))
         (λ done. absurd (true≢false (sym (ap took_effect done) ∙ none))) replied
         (stays after new.folder outcome at unwritten wrote.fits)
         (works_runs names (Some (work_by b)) (IsUnderWay names under (Some (work_by b))) AtMoment old new (written_frame after (Err why) new second wrote) (lead b) runs)
         (left_by b (took_effect outcome) (is_fault outcome) new
-        (subst (λ (done : Bool). HasWritten names write done (state_now old) (state_now new)) (sym none) (has_left after (Err why) new second wrote))
+        (subst (λ (done : Bool). HasWritten names write done (is_fault outcome) (state_now old) (state_now new)) (sym none) (has_left after (Err why) new second wrote (is_fault outcome) failed))
         (record { found = refl; stored = λ done. absurd (true≢false (sym done ∙ ap (λ (c : Bool). c && not (is_fault outcome)) none)) }))
         (whole_by b new.folder runs.now) (written_rises after (Err why) new second wrote) cause
 
-    refused_by : (outcome : Outcome) (reply : Answer) → (outcome ≡ NoUndo → ⊥) → (is_fault outcome ≡ false → Quiet mid new) → took_effect outcome ≡ false → reply ≡ reply_of state instruction (ended outcome at) → (is_fault outcome ≡ true → HasRisen old.folder_faults new.folder_faults)
+    refused_by : (outcome : Outcome) (reply : Answer) → (outcome ≡ NoUndo → ⊥) → IsCalm outcome → HasFailed outcome → took_effect outcome ≡ false → reply ≡ reply_of state instruction (ended outcome at) → (is_fault outcome ≡ true → HasRisen old.folder_faults new.folder_faults)
         → IsAnswer outcome reply
-    refused_by outcome reply stored quiet none replied cause = elim (cases_Bool lacks) [
-      | inl taken ↦ refused_taken taken outcome reply stored quiet replied cause
-      | inr free ↦ refused_free free outcome reply stored quiet none replied cause
+    refused_by outcome reply stored calm failed none replied cause = elim (cases_Bool lacks) [
+      | inl taken ↦ refused_taken taken outcome reply stored calm replied cause
+      | inr free ↦ refused_free free outcome reply stored calm failed none replied cause
     ]
 
     as_answer : (o outcome : Outcome) (r reply : Answer) → outcome ≡ o → reply ≡ r → IsAnswer o r → IsAnswer outcome reply
     as_answer o outcome r reply o_is r_is answer = subst (λ (p : Outcome). IsAnswer p reply) (sym o_is) (subst (λ (a : Answer). IsAnswer o a) (sym r_is) answer)
 
-    refused_fault : HasRisen mid.folder_faults new.folder_faults → IsAnswer Fault (refuses device_fault)
-    refused_fault risen = refused_by Fault (refuses device_fault) (λ e. absurd (cc)) (λ calm. absurd (true≢false calm)) refl refl (λ _. risen_since old.folder_faults mid.folder_faults new.folder_faults later risen)
+    refused_fault : HasFailed Fault → HasRisen mid.folder_faults new.folder_faults → IsAnswer Fault (refuses device_fault)
+    refused_fault failed risen =
+        refused_by Fault (refuses device_fault) (λ e. absurd (cc)) (λ calm. absurd (true≢false calm)) failed refl refl (λ _. risen_since old.folder_faults mid.folder_faults new.folder_faults later risen)
 
-    refused_memory : Quiet mid new → IsAnswer NoMemory (refuses out_of_memory)
-    refused_memory quiet = refused_by NoMemory (refuses out_of_memory) (λ e. absurd (cc)) (λ _. quiet) refl refl (λ e. absurd (true≢false (sym e)))
+    refused_memory : IsCalm NoMemory → IsAnswer NoMemory (refuses out_of_memory)
+    refused_memory calm = refused_by NoMemory (refuses out_of_memory) (λ e. absurd (cc)) calm (λ fault. absurd (true≢false (sym fault))) refl refl (λ e. absurd (true≢false (sym e)))
 
-    refused_name : why ≡ error.NoBackupName → Quiet mid new → IsAnswer Done (refuses no_backup_name)
-    refused_name unnamed quiet = elim (cases_Bool lacks) [
-      | inl taken ↦ refused_taken taken Done (refuses no_backup_name) (λ e. absurd (cc)) (λ _. quiet)
+    refused_name : why ≡ error.NoBackupName → IsCalm Done → IsAnswer Done (refuses no_backup_name)
+    refused_name unnamed calm = elim (cases_Bool lacks) [
+      | inl taken ↦ refused_taken taken Done (refuses no_backup_name) (λ e. absurd (cc)) calm
           (ap (λ (c : Bool). cond c (refuses no_backup_name) (says (written_line state.name (length text) (length (file_of text))))) (sym taken) ∙ replied_done at) (λ e. absurd (true≢false (sym e)))
       | inr free ↦ absurd (never after (Err why) new second wrote free (ap err_of unnamed))
     ]
 
-    by_fault : (outcome : Outcome) (reply : Answer) → (is_fault outcome ≡ false → Quiet mid new) → HasCause mid.folder_faults new.folder_faults (is_fault outcome ≡ true) → ((outcome ≡ NoMemory) × (reply ≡ refuses out_of_memory)) ⊎ ((outcome ≡ Fault) × (reply ≡ refuses device_fault))
+    by_fault : (outcome : Outcome) (reply : Answer) → IsCalm outcome → HasFailed outcome → HasCause mid.folder_faults new.folder_faults (is_fault outcome ≡ true) → ((outcome ≡ NoMemory) × (reply ≡ refuses out_of_memory)) ⊎ ((outcome ≡ Fault) × (reply ≡ refuses device_fault))
         → IsAnswer outcome reply
-    by_fault outcome reply quiet cause (inl memory) = as_answer NoMemory outcome (refuses out_of_memory) reply memory.0 memory.1 (refused_memory (quiet (ap is_fault memory.0)))
-    by_fault outcome reply quiet cause (inr fault) = as_answer Fault outcome (refuses device_fault) reply fault.0 fault.1 (refused_fault (cause.risen (ap is_fault fault.0)))
+    by_fault outcome reply calm failed cause (inl memory) = as_answer NoMemory outcome (refuses out_of_memory) reply memory.0 memory.1 (refused_memory (λ _. calm (ap is_fault memory.0)))
+    by_fault outcome reply calm failed cause (inr fault) =
+        as_answer Fault outcome (refuses device_fault) reply fault.0 fault.1 (refused_fault (λ _ in_backup. failed (ap is_fault fault.0) in_backup) (cause.risen (ap is_fault fault.0)))
 
-    by_why : (w : WriteErr) → why ≡ w → (outcome : Outcome) (reply : Answer) → (is_fault outcome ≡ false → Quiet mid new) → HasCause mid.folder_faults new.folder_faults (is_fault outcome ≡ true) → Refuses w outcome reply → IsAnswer outcome reply
-    by_why error.NoBackupName w_is outcome reply quiet cause answer = as_answer Done outcome (refuses no_backup_name) reply answer.0 answer.1 (refused_name w_is (quiet (ap is_fault answer.0)))
-    by_why (error.Failed place) w_is outcome reply quiet cause answer = by_fault outcome reply quiet cause answer
-    by_why (error.NoMemory place) w_is outcome reply quiet cause answer = by_fault outcome reply quiet cause answer
+    by_why : (w : WriteErr) → why ≡ w → (outcome : Outcome) (reply : Answer) → IsCalm outcome → HasFailed outcome → HasCause mid.folder_faults new.folder_faults (is_fault outcome ≡ true) → Refuses w outcome reply → IsAnswer outcome reply
+    by_why error.NoBackupName w_is outcome reply calm failed cause answer = as_answer Done outcome (refuses no_backup_name) reply answer.0 answer.1 (refused_name w_is (λ _. calm (ap is_fault answer.0)))
+    by_why (error.Failed place) w_is outcome reply calm failed cause answer = by_fault outcome reply calm failed cause answer
+    by_why (error.NoMemory place) w_is outcome reply calm failed cause answer = by_fault outcome reply calm failed cause answer
 
-    pub answers_refused : (outcome : Outcome) (reply : Answer) → (is_fault outcome ≡ false → Quiet mid new) → HasCause mid.folder_faults new.folder_faults (is_fault outcome ≡ true) → Refuses why outcome reply → IsAnswer outcome reply
-    answers_refused outcome reply quiet cause answer = by_why why refl outcome reply quiet cause answer
+    pub answers_refused : (outcome : Outcome) (reply : Answer) → IsCalm outcome → HasFailed outcome → HasCause mid.folder_faults new.folder_faults (is_fault outcome ≡ true) → Refuses why outcome reply → IsAnswer outcome reply
+    answers_refused outcome reply calm failed cause answer = by_why why refl outcome reply calm failed cause answer
 
   -- ---- a write that was carried out
 
@@ -377,6 +405,9 @@ module _ (state : SessionState) (syncs : List Sync) (instruction : Instruction) 
   line_is free outcome size size_is =
       ap (λ (n : ℕ). says (line_by outcome state.name (length text) n)) size_is
       ∙ ap (λ (c : Bool). cond c (refuses no_backup_name) (says (line_by outcome state.name (length text) (length (file_of text))))) (sym free)
+
+  begins_writing : lacks ≡ false → ((is_write instruction.parsed && true) && not lacks) ≡ true
+  begins_writing free = λ i. (is i && true) && not (free i)
 
   written : lacks ≡ false → (((is_write instruction.parsed && true) && not lacks) && true) ≡ true
   written free = λ i. ((is i && true) && not (free i)) && true
@@ -390,10 +421,11 @@ module _ (state : SessionState) (syncs : List Sync) (instruction : Instruction) 
         answers_free free false off after Done at reply new names_after (λ e. absurd (cc))
         (once_after names state instruction (ended Done at) old mid new s.quiet (record {
           writes = λ _. record { wrote = new; file = (did after (Ok size) new second wrote).calls.done; above = wrote.above; calls = record { added = []; is = refl; calls = inl tt }; last = fails_none new; none = λ _. quiet_none new; unstored = λ e. absurd (cc) };
-          last = λ unwritten. absurd (true≢false (sym (written free) ∙ unwritten));
-          none = λ unwritten. absurd (true≢false (sym (written free) ∙ unwritten));
+          refused = λ unwritten. absurd (true≢false (sym (written free) ∙ unwritten));
+          last = λ none. absurd (true≢false (sym (begins_writing free) ∙ none));
+          none = λ none. absurd (true≢false (sym (begins_writing free) ∙ none));
         })) (λ _. cleared_by after (Ok size) new second wrote size refl)
         (reply_to ∙ line_is free Done size (bytes_left after (Ok size) new second wrote).0 ∙ replied_done at)
         (fits_by after new.folder Done at true (written free) wrote.fits)
         (works_runs names (Some (EditedFile write)) (IsUnderWay names under (Some (EditedFile write))) AtMoment old new (written_frame after (Ok size) new second wrote) (lead false) runs)
-        (has_left after (Ok size) new second wrote) (whole_by false new.folder runs.now) (written_rises after (Ok size) new second wrote) (λ e. absurd (true≢false (sym e)))
+        (has_left after (Ok size) new second wrote false (λ e. absurd (true≢false (sym e)))) (whole_by false new.folder runs.now) (written_rises after (Ok size) new second wrote) (λ e. absurd (true≢false (sym e)))

@@ -9,6 +9,9 @@ use vs_memory::{Choice, MemHost};
 // The greatest number of calls of a write here: two looks, two syncs, eight for the copy, three for the text, two for the removal.
 const CALLS: u64 = 17;
 
+// The greatest number of calls of putting back: a cut, a look at the length, a read, a write and a sync.
+const RETURNING: u64 = 5;
+
 // The options `backup`, `writebackup` and `backupcopy` with which a file that is there gets a backup under `f~`.
 const BACKED: [(bool, bool, CopyMode); 6] = [
     (true, true, CopyMode::Yes),
@@ -66,30 +69,64 @@ fn stands(alloc: Global, host: &MemHost, answer: Result<u64, WriteErr>) -> Resul
     }
 }
 
-// The answer to a write over these files in which this call fails, and the folder then.
+// The answer to a write over these files in which these calls fail, and the folder then.
 fn failed(
     alloc: Global,
     files: &[(&str, &[u8])],
     options: &WriteOptions,
-    call: u64,
+    calls: &[u64],
 ) -> Result<(Result<u64, WriteErr>, MemHost), Fail> {
     let mut desk = desk_with(alloc, files)?;
-    desk.folder.fail_call(alloc, call)?;
+    for call in calls {
+        desk.folder.fail_call(alloc, *call)?;
+    }
     let answer = write_to(alloc, &mut desk, "f", options)?;
     Ok((answer, desk.folder))
 }
 
+const IN_BACKUP: Result<u64, WriteErr> = Err(WriteErr::Failed {
+    old_in: Place::Backup,
+});
+
+// Where one call fails the file is put back, if it is touched.
 #[test]
-fn each_fault_leaves_the_old_bytes_where_it_says(rt: HostRuntime) -> Result<(), Fail> {
+fn each_fault_leaves_the_old_bytes_in_the_file(rt: HostRuntime) -> Result<(), Fail> {
     let alloc = rt.alloc();
     for (backup, writebackup, copy) in BACKED {
         let options = options(backup, writebackup, copy);
         for failing in 1..=CALLS {
-            let (answer, folder) = failed(alloc, &[("f", OLD)], &options, failing)?;
+            let (answer, folder) = failed(alloc, &[("f", OLD)], &options, &[failing])?;
+            let is_put_back = answer != IN_BACKUP;
             assert!(rt;
-                stands(alloc, &folder, answer)?,
+                is_put_back && stands(alloc, &folder, answer)?,
                 "{options:?}, call {failing}"
             );
+        }
+    }
+    Ok(())
+}
+
+// Whether a write in which both calls fail says of its old bytes what is so. They are in the backup only where the last call failed.
+fn is_told(alloc: Global, options: &WriteOptions, first: u64, second: u64) -> Result<bool, Fail> {
+    let (answer, folder) = failed(alloc, &[("f", OLD)], options, &[first, second])?;
+    if answer == IN_BACKUP && folder.calls() != second {
+        return Ok(false);
+    }
+    stands(alloc, &folder, answer)
+}
+
+#[test]
+fn a_second_fault_leaves_them_where_it_says(rt: HostRuntime) -> Result<(), Fail> {
+    let alloc = rt.alloc();
+    for (backup, writebackup, copy) in BACKED {
+        let options = options(backup, writebackup, copy);
+        for failing in 1..=CALLS {
+            for second in failing + 1..=failing + RETURNING {
+                assert!(rt;
+                    is_told(alloc, &options, failing, second)?,
+                    "{options:?}, calls {failing} and {second}"
+                );
+            }
         }
     }
     Ok(())
@@ -108,9 +145,9 @@ fn without_a_backup_a_fault_says_nowhere(rt: HostRuntime) -> Result<(), Fail> {
         options(true, true, CopyMode::No),
     );
     for failing in 1..=6 {
-        let (answer, _) = failed(alloc, &[("f", OLD)], &bare, failing)?;
+        let (answer, _) = failed(alloc, &[("f", OLD)], &bare, &[failing])?;
         assert!(rt; answer == NOWHERE, "call {failing}");
-        let (answer, _) = failed(alloc, &[], &backed, failing)?;
+        let (answer, _) = failed(alloc, &[], &backed, &[failing])?;
         assert!(rt; answer == NOWHERE, "call {failing}");
     }
     Ok(())

@@ -5,7 +5,7 @@ use Rattle.vs_host.specs.World.{Scene, content_of}
 use Rattle.vs_disk.proofs.Runs.{one_look, reads_change}
 use Rattle.vs_disk.proofs.Contents.{of_bytes, some_bytes}
 use Rattle.vs_backup.proofs.Frames.{ok_leads}
-use Rattle.vs_backup.proofs.Filling.{fills_changes, changes_on, looks_changes, size_is, piece_more}
+use Rattle.vs_backup.proofs.Filling.{fills_on, looks_fills, size_is, piece_more}
 use Rattle.vs_backup.proofs.Going as going
 use Rattle.vs_backup.proofs.fill.copy_piece.Goals as goal
 
@@ -13,7 +13,7 @@ pub returns-in_err-read_at-clause-runs : goal.returns-in_err-read_at-clause-runs
 returns-in_err-read_at-clause-runs g c told =
     let s0 : Scene = g.D.World.scene c.args.desk.now in
     let s1 : Scene = g.D.World.scene c.read_at.new.self in
-    looks_changes c.args.to.now s0 s1 (one_look Read (c.args.from.now ∷ []) c.read_at.result s0 s1 c.read_at.ensures.kept.frame (c.read_at.ensures.told told))
+    looks_fills c.args.to.now s0 s1 (one_look Read (c.args.from.now ∷ []) c.read_at.result s0 s1 c.read_at.ensures.kept.frame (c.read_at.ensures.told told))
 
 pub returns-clause-runs : goal.returns-clause-runs
 returns-clause-runs g c told =
@@ -21,7 +21,7 @@ returns-clause-runs g c told =
     let s1 : Scene = g.D.World.scene c.read_at.new.self in
     let s2 : Scene = g.D.World.scene c.put_piece.new.desk in
     let looks = one_look Read (c.args.from.now ∷ []) c.read_at.result s0 s1 c.read_at.ensures.kept.frame (c.read_at.ensures.told told) in
-    changes_on c.args.to.now s0 s1 s2 (reads_change s0 s1 c.read_at.ensures.kept.frame) (looks_changes c.args.to.now s0 s1 looks) (fills_changes c.args.to.now s1 s2 (c.put_piece.ensures.runs told))
+    fills_on c.args.to.now s0 s1 s2 (reads_change s0 s1 c.read_at.ensures.kept.frame) (looks_fills c.args.to.now s0 s1 looks) (c.put_piece.ensures.runs told)
 
 pub returns-clause-ok : goal.returns-clause-ok
 returns-clause-ok g c =

@@ -5,12 +5,12 @@ use Rattle.vs_host.specs.Disk.{Disk, content_in, ChangesFile}
 use Rattle.vs_host.specs.Trace.{Measured}
 use Rattle.vs_host.specs.World.{Scene, content_of}
 use Rattle.std.proofs.lemmas.List.{take_all}
-use Rattle.vs_disk.specs.Images.{IsSynced, Changes}
+use Rattle.vs_disk.specs.Images.{IsSynced, KeepsImages}
 use Rattle.vs_disk.proofs.Runs.{one_look}
 use Rattle.vs_disk.proofs.Contents.{synced_content, of_bytes, some_bytes, some_content}
-use Rattle.vs_backup.specs.Works.{IsAlone, one_name}
-use Rattle.vs_backup.proofs.Frames.{ok_leads, spares_file, alone_file, content_spared}
-use Rattle.vs_backup.proofs.Filling.{changes_on, looks_changes, sync_changes}
+use Rattle.vs_backup.specs.Works.{Fills, IsAlone, one_name}
+use Rattle.vs_backup.proofs.Frames.{err_is, err_leads, ok_leads, spares_file, alone_file, content_spared}
+use Rattle.vs_backup.proofs.Filling.{fills_changes, fills_on, fills_then, fills_same, looks_changes, looks_fills, sync_changes}
 use Rattle.vs_backup.proofs.Going.{GoesOn-none, GoesOn-reads, GoesOn-then}
 use Rattle.vs_backup.proofs.Going as going
 use Rattle.vs_backup.proofs.fill.fill_copy.Goals as goal
@@ -29,7 +29,7 @@ pieces-init g c =
     record {
       kept = GoesOn-none (λ is. absurd (cc)) (GoesOn-reads c.in_ok-size.ensures.kept);
       within = omega arith;
-      runs = λ told. looks_changes c.args.to.now s0 s1 (one_look Measured (c.args.from.now ∷ []) c.len.result s0 s1 c.len.ensures.kept.frame (c.len.ensures.told told));
+      runs = λ told. looks_fills c.args.to.now s0 s1 (one_look Measured (c.args.from.now ∷ []) c.len.result s0 s1 c.len.ensures.kept.frame (c.len.ensures.told told));
       alone = λ told. subst (λ (d : Disk). IsAlone c.args.to.now d) (sym same) (c.requires.alone told);
       from = λ told. ap (λ (d : Disk). content_in d c.args.from.now) same;
       copied = λ told.
@@ -46,7 +46,7 @@ returns-in_err-copy_piece-clause-runs g c told =
     let s0 : Scene = g.D.World.scene c.args.desk.now in
     let s1 : Scene = g.D.World.scene c.pieces.desk in
     let s2 : Scene = g.D.World.scene c.copy_piece.new.desk in
-    changes_on c.args.to.now s0 s1 s2 c.pieces.invariant.kept.frame (c.pieces.invariant.runs told) (c.copy_piece.ensures.runs told)
+    fills_changes c.args.to.now s0 s2 (fills_on c.args.to.now s0 s1 s2 c.pieces.invariant.kept.frame (c.pieces.invariant.runs told) (c.copy_piece.ensures.runs told))
 
 pub pieces-preserved : goal.pieces-preserved
 pieces-preserved g c =
@@ -56,10 +56,10 @@ pieces-preserved g c =
     record {
       kept = GoesOn-none (λ is. absurd (cc)) (GoesOn-then g.met.D.Desk.stays_on (λ is. is) c.pieces.invariant.kept c.in_ok-copy_piece.ensures.kept);
       within = omega (arith, c.min-count.ensures);
-      runs = λ told. changes_on c.args.to.now s0 s1 s2 c.pieces.invariant.kept.frame (c.pieces.invariant.runs told) (c.copy_piece.ensures.runs told);
-      alone = λ told. alone_file c.args.to.now Changes s1.folder s2.folder (c.copy_piece.ensures.runs told).now (c.pieces.invariant.alone told);
+      runs = λ told. fills_on c.args.to.now s0 s1 s2 c.pieces.invariant.kept.frame (c.pieces.invariant.runs told) (c.copy_piece.ensures.runs told);
+      alone = λ told. alone_file c.args.to.now KeepsImages s1.folder s2.folder (c.copy_piece.ensures.runs told).now (c.pieces.invariant.alone told);
       from = λ told. content_spared (one_name c.args.to.now) c.args.from.now s1.folder s2.folder c.requires.differ
-          (spares_file c.args.to.now Changes s1.folder s2.folder (c.pieces.invariant.alone told) (c.copy_piece.ensures.runs told).now)
+          (spares_file c.args.to.now KeepsImages s1.folder s2.folder (c.pieces.invariant.alone told) (c.copy_piece.ensures.runs told).now)
           ∙ c.pieces.invariant.from told;
       copied = λ told.
           let had = c.pieces.invariant.copied told in
@@ -73,7 +73,7 @@ returns-clause-runs g c told =
     let s0 : Scene = g.D.World.scene c.args.desk.now in
     let s1 : Scene = g.D.World.scene c.pieces.desk in
     let s2 : Scene = g.D.World.scene c.sync_like.new.desk in
-    sync_changes c.args.to.now (IsTrue g.D.World.tells.folder) c.sync_like.result s0 s1 s2 told c.pieces.invariant.kept.frame (c.pieces.invariant.runs told) c.sync_like.ensures.ok c.sync_like.ensures.err c.sync_like.ensures.kept.frame (c.sync_like.ensures.told told)
+    sync_changes c.args.to.now (IsTrue g.D.World.tells.folder) c.sync_like.result s0 s1 s2 told c.pieces.invariant.kept.frame (fills_changes c.args.to.now s0 s1 (c.pieces.invariant.runs told)) c.sync_like.ensures.ok c.sync_like.ensures.err c.sync_like.ensures.kept.frame (c.sync_like.ensures.told told)
 
 pub returns-clause-ok : goal.returns-clause-ok
 returns-clause-ok g c =
@@ -94,3 +94,26 @@ returns-in_err-copy_piece-clause-kept g c = going.GoesOn-any c.from_residual-in_
 
 pub returns-clause-kept : goal.returns-clause-kept
 returns-clause-kept g c = going.GoesOn-then g.met.D.Desk.stays_on (λ is. is) c.pieces.invariant.kept c.sync_like.ensures.kept
+
+pub returns-in_err-size-clause-err : goal.returns-in_err-size-clause-err
+returns-in_err-size-clause-err g c =
+    let s0 : Scene = g.D.World.scene c.args.desk.now in
+    let s1 : Scene = g.D.World.scene c.len.new.self in
+    err_is (IsTrue g.D.World.tells.folder → Fills c.args.to.now s0.folder s1.folder) c.from_residual.result
+    (λ told. fills_same c.args.to.now s0.folder s1.folder (ap (λ (s : Scene). s.folder) c.len.ensures.kept.frame))
+
+pub returns-in_err-copy_piece-clause-err : goal.returns-in_err-copy_piece-clause-err
+returns-in_err-copy_piece-clause-err g c =
+    let s0 : Scene = g.D.World.scene c.args.desk.now in
+    let s1 : Scene = g.D.World.scene c.pieces.desk in
+    let s2 : Scene = g.D.World.scene c.copy_piece.new.desk in
+    err_is (IsTrue g.D.World.tells.folder → Fills c.args.to.now s0.folder s2.folder) c.from_residual-in_err-copy_piece.result
+    (λ told. fills_then c.args.to.now s0.folder s1.folder s2.folder (c.pieces.invariant.runs told).now (c.copy_piece.ensures.runs told).now)
+
+pub returns-clause-err : goal.returns-clause-err
+returns-clause-err g c =
+    let s0 : Scene = g.D.World.scene c.args.desk.now in
+    let s1 : Scene = g.D.World.scene c.pieces.desk in
+    let s2 : Scene = g.D.World.scene c.sync_like.new.desk in
+    err_leads (s2.folder ≡ s1.folder) (IsTrue g.D.World.tells.folder → Fills c.args.to.now s0.folder s2.folder) c.sync_like.result
+    (λ same told. fills_then c.args.to.now s0.folder s1.folder s2.folder (c.pieces.invariant.runs told).now (fills_same c.args.to.now s1.folder s2.folder same)) c.sync_like.ensures.err

@@ -1,10 +1,11 @@
-use Rattle.std.proofs.Common.{refl}
+use Rattle.std.proofs.Common.{None, refl}
 use Rattle.std.proofs.lemmas.Result.{err_from_is_err_and}
 use Rattle.vs_text.specs.Text.{file_of}
 use Rattle.vs_host.specs.World.{Scene}
 use Rattle.vs_disk.proofs.Runs.{frames}
 use Rattle.vs_backup.specs.Works.{one_name}
 use Rattle.vs_backup.proofs.Calls.{runs_file, spares_on, synced_there}
+use Rattle.vs_backup.proofs.Frames.{absent_now}
 use Rattle.vs_backup.proofs.Renewing.{renews_filled, renews_taken}
 use Rattle.vs_backup.proofs.Unbacked.{fresh_not_taken, fresh_free, fresh_refused, fresh_done}
 use Rattle.vs_backup.proofs.Going as going
@@ -43,7 +44,7 @@ returns-in_err-take_name-clause-fresh g c told free text has =
     (renews_taken c.args.temporary.now s0 s1 s2 c.make_anew.ensures.kept.frame (c.make_anew.ensures.renews told) s3 c.fill_text.ensures.kept.frame (c.in_ok-make_anew.ensures.anew told)
     (c.fill_text.ensures.runs told) (c.take_name.ensures.leads told))
     (c.take_name.ensures.takes told (file_of text) done.1) (c.take_name.ensures.spares told) c.from_residual-in_err-take_name.result (rw p.1 tt)
-    (c.in_err-take_name.ensures.err told (fresh_free c.args.name.now c.args.temporary.now (file_of text) s0 s2 c.requires.differ free filled))
+    (c.in_err-take_name.ensures.err told None (absent_now c.args.name.now s2.folder (fresh_free c.args.name.now c.args.temporary.now (file_of text) s0 s2 c.requires.differ free filled)))
 
 pub returns-clause-fresh : goal.returns-clause-fresh
 returns-clause-fresh g c told free text has =

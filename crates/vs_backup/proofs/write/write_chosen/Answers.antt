@@ -1,4 +1,4 @@
-use Rattle.std.proofs.Common.{◌≡◌, ◌∙◌, Some, None, Err, sym, ap, subst}
+use Rattle.std.proofs.Common.{◌≡◌, ◌∙◌, inl, inr, Some, None, Err, refl, sym, ap, subst}
 use Rattle.std.specs.String.{string_bytes}
 use Rattle.vs_text.specs.Text.{file_of}
 use Rattle.vs_host.specs.Disk.{Disk, Name, content_in}
@@ -6,12 +6,15 @@ use Rattle.vs_host.specs.Names.{temporary}
 use Rattle.vs_host.specs.World.{Scene, content_of}
 use Rattle.vs_disk.proofs.Runs.{reads_change}
 use Rattle.vs_backup.specs.Backups.{copies}
-use Rattle.vs_backup.specs.Writing.{WritesBacked, backed_names}
+use Rattle.vs_backup.specs.Writing.{FailsNoEarlier, FindsNoName, WritesBacked, backed_names, stopped}
+use Rattle.vs_backup.specs.declared.errors.Place.TheVariants as place
 use Rattle.vs_backup.specs.declared.errors.WriteErr.{WriteErr}
+use Rattle.vs_backup.specs.declared.errors.WriteErr.TheVariants as error
 use Rattle.vs_backup.proofs.Others.{others_looks}
 use Rattle.vs_backup.proofs.Free.{backup_is_free}
-use Rattle.vs_backup.proofs.Backed.{backed_after, backed_stopped, looks_narrowed}
+use Rattle.vs_backup.proofs.Backed.{backed_after, backed_stopped, looks_narrowed, old_in_file}
 use Rattle.vs_backup.proofs.Doing as doing
+use Rattle.vs_backup.proofs.Going.{stop_here}
 use Rattle.vs_backup.proofs.write.write_chosen.Goals as goal
 
 some_name : (a b : Name) → Some a ≡ Some b → a ≡ b
@@ -56,3 +59,38 @@ write_named-requires-clause-free g c off told =
 
 pub returns-in-Ok-Some-clause-calls : goal.returns-in-Ok-Some-clause-calls
 returns-in-Ok-Some-clause-calls g c = λ told text has. doing.fails_then c.args.name.now (file_of text) c.write_named.result (g.D.World.scene c.args.desk.now) (g.D.World.scene c.choose.new.desk) (g.D.World.scene c.write_named.new.desk) (c.in-Ok-Some.ensures.kept.stops.none told (λ is. absurd (cc))) (c.write_named.ensures.calls told text (g.met.D.Desk.stays_text c.args.desk.now c.choose.new.desk text c.choose.ensures.kept.stays has))
+
+pub returns-in-Ok-None-clause-calls : goal.returns-in-Ok-None-clause-calls
+returns-in-Ok-None-clause-calls g c told text has =
+    let s0 : Scene = g.D.World.scene c.args.desk.now in
+    let s1 : Scene = g.D.World.scene c.choose.new.desk in
+    let quiet = c.in-Ok-None.ensures.kept.stops.none told (λ is. absurd (cc)) in
+    record { done = tt; refused = doing.refused_quiet error.NoBackupName s0 s1 (λ is. elim is [ inl failed ↦ cc | inr memory ↦ cc ]) quiet }
+
+pub returns-in-Err-clause-calls : goal.returns-in-Err-clause-calls
+returns-in-Err-clause-calls g c told text has =
+    let s0 : Scene = g.D.World.scene c.args.desk.now in
+    let s1 : Scene = g.D.World.scene c.choose.new.desk in
+    subst (λ (why : WriteErr). FailsNoEarlier c.args.name.now (file_of text) s0 s1 (Err why)) (sym c.with.ensures)
+    (record { done = tt; refused = doing.refused_stop g.D.World.tells c.in-Err.stop place.File (λ e. cc) s0 s1 told c.in-Err.ensures.kept.stops c.in-Err.ensures.kept.cause })
+
+pub returns-in-Ok-None-clause-all_taken : goal.returns-in-Ok-None-clause-all_taken
+returns-in-Ok-None-clause-all_taken g c told taken = record {
+  looks = c.choose.ensures.looks told;
+  last = c.in-Ok-None.ensures.kept.stops.last told;
+  none = λ calm. c.in-Ok-None.ensures.kept.stops.none told (λ is. absurd (cc));
+  refused = inl refl;
+}
+
+pub returns-in-Err-clause-all_taken : goal.returns-in-Err-clause-all_taken
+returns-in-Err-clause-all_taken g c told taken =
+    let s0 : Scene = g.D.World.scene c.args.desk.now in
+    let s1 : Scene = g.D.World.scene c.choose.new.desk in
+    let why = c.in-Err.stop in
+    subst (λ (e : WriteErr). FindsNoName s0 s1 (Err e)) (sym c.with.ensures)
+    (record {
+      looks = c.choose.ensures.looks told;
+      last = c.in-Err.ensures.kept.stops.last told;
+      none = λ calm. c.in-Err.ensures.kept.stops.none told (λ failed. calm (stop_here why place.File (stopped why place.File) refl failed));
+      refused = inr (old_in_file why);
+    })

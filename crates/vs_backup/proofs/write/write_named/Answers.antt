@@ -1,13 +1,13 @@
-use Rattle.std.proofs.Common.{◌≡◌, ◌∙◌, Bool, subst, refl}
+use Rattle.std.proofs.Common.{◌≡◌, ◌∙◌, Bool, subst}
 use Rattle.vs_text.specs.Text.{file_of}
 use Rattle.vs_host.specs.Disk.{Name}
 use Rattle.vs_host.specs.Names.{temporary}
 use Rattle.vs_host.specs.World.{Scene}
 use Rattle.vs_backup.specs.Backups.{copies}
 use Rattle.vs_backup.specs.Writing.{WritesBacked}
+use Rattle.vs_backup.specs.declared.errors.Place.TheVariants as place
 use Rattle.vs_backup.proofs.Backed.{backed_no_memory}
 use Rattle.vs_backup.proofs.Doing as doing
-use Rattle.vs_backup.proofs.Stops as stops
 use Rattle.vs_backup.proofs.write.write_named.Goals as goal
 
 pub returns-in_default-clause-backed : goal.returns-in_default-clause-backed
@@ -31,7 +31,7 @@ returns-clause-backed g c told old content text has =
     subst (λ (copying : Bool). WritesBacked copying keep name (temporary backup) backup old (file_of text) s0 s1 c.write_with_backup.result) c.copies.ensures made
 
 pub returns-in_default-clause-calls : goal.returns-in_default-clause-calls
-returns-in_default-clause-calls g c = λ told text has. doing.fails_err c.args.name.now (file_of text) g.D.World.tells _ (g.D.World.scene c.args.desk.now) (g.D.World.scene c.args.desk.now) told (stops.stops_still g.D.World.tells _ (g.D.World.scene c.args.desk.now) (g.D.World.scene c.args.desk.now) (λ _. refl))
+returns-in_default-clause-calls g c told text has = doing.fails_memory c.args.name.now (file_of text) place.File (λ e. cc) (g.D.World.scene c.args.desk.now)
 
 pub returns-in_default-buffer-clause-calls : goal.returns-in_default-buffer-clause-calls
-returns-in_default-buffer-clause-calls g c = λ told text has. doing.fails_err c.args.name.now (file_of text) g.D.World.tells _ (g.D.World.scene c.args.desk.now) (g.D.World.scene c.args.desk.now) told (stops.stops_still g.D.World.tells _ (g.D.World.scene c.args.desk.now) (g.D.World.scene c.args.desk.now) (λ _. refl))
+returns-in_default-buffer-clause-calls g c told text has = doing.fails_memory c.args.name.now (file_of text) place.File (λ e. cc) (g.D.World.scene c.args.desk.now)

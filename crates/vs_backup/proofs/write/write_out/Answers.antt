@@ -1,4 +1,4 @@
-use Rattle.std.proofs.Common.{◌≡◌, ◌∙◌, [], ◌∷◌, inl, inr, ℕ, List, true, false, Option, Some, None, Err, ap, sym, subst, Result}
+use Rattle.std.proofs.Common.{◌≡◌, ◌∙◌, [], ◌∷◌, inl, inr, ℕ, List, true, false, Option, Some, None, Err, refl, ap, sym, subst, Result}
 use Rattle.std.specs.Prelude.{is_some}
 use Rattle.std.proofs.lemmas.Bool.{true≢false}
 use Rattle.vs_text.specs.Text.{file_of}
@@ -73,7 +73,7 @@ returns-in-Ok-true-clause-all_taken g c told there on taken =
     let s2 : Scene = g.D.World.scene c.write_there.new.desk in
     let looks = one_look Looked (c.as_str-name.result.now ∷ []) c.has.result s0 s1 c.has.ensures.kept.frame (c.has.ensures.told told) in
     let none = subst (λ (n : Name). backs_up options ≡ true → backup_of options n s1.folder ≡ None → FindsNoName s1 s2 c.write_there.result) c.as_str-name.ensures (c.write_there.ensures.all_taken told) in
-    inr (none_after s0 s1 s2 c.has.ensures.kept.frame looks c.write_there.result (none on (ap (λ (d : Disk). backup_of options name d) looks.now ∙ taken)))
+    inr (none_after s0 s1 s2 c.has.ensures.kept.frame looks c.write_there.result (c.in-Ok-true.ensures.kept.stops.none told (λ is. absurd (cc))) (none on (ap (λ (d : Disk). backup_of options name d) looks.now ∙ taken)))
 
 pub returns-in-Ok-true-clause-plain : goal.returns-in-Ok-true-clause-plain
 returns-in-Ok-true-clause-plain g c told old content off text has =
@@ -109,25 +109,25 @@ pub returns-in-Err-clause-backed : goal.returns-in-Err-clause-backed
 returns-in-Err-clause-backed g c told old content backup chosen text has =
     let s0 : Scene = g.D.World.scene c.args.desk.now in
     let s1 : Scene = g.D.World.scene c.has.new.self in
-    inl (unseen s0 s1 (one_look Looked (c.as_str-name.result.now ∷ []) c.has.result s0 s1 c.has.ensures.kept.frame (c.has.ensures.told told)))
+    inl (unseen s0 s1 (one_look Looked (c.as_str-name.result.now ∷ []) c.has.result s0 s1 c.has.ensures.kept.frame (c.has.ensures.told told)) (c.in-Err.ensures.kept.stops.last told))
 
 pub returns-in-Err-clause-all_taken : goal.returns-in-Err-clause-all_taken
 returns-in-Err-clause-all_taken g c told there on taken =
     let s0 : Scene = g.D.World.scene c.args.desk.now in
     let s1 : Scene = g.D.World.scene c.has.new.self in
-    inl (unseen s0 s1 (one_look Looked (c.as_str-name.result.now ∷ []) c.has.result s0 s1 c.has.ensures.kept.frame (c.has.ensures.told told)))
+    inl (unseen s0 s1 (one_look Looked (c.as_str-name.result.now ∷ []) c.has.result s0 s1 c.has.ensures.kept.frame (c.has.ensures.told told)) (c.in-Err.ensures.kept.stops.last told))
 
 pub returns-in-Err-clause-plain : goal.returns-in-Err-clause-plain
 returns-in-Err-clause-plain g c told old content off text has =
     let s0 : Scene = g.D.World.scene c.args.desk.now in
     let s1 : Scene = g.D.World.scene c.has.new.self in
-    inl (unseen s0 s1 (one_look Looked (c.as_str-name.result.now ∷ []) c.has.result s0 s1 c.has.ensures.kept.frame (c.has.ensures.told told)))
+    inl (unseen s0 s1 (one_look Looked (c.as_str-name.result.now ∷ []) c.has.result s0 s1 c.has.ensures.kept.frame (c.has.ensures.told told)) (c.in-Err.ensures.kept.stops.last told))
 
 pub returns-in-Err-clause-fresh : goal.returns-in-Err-clause-fresh
 returns-in-Err-clause-fresh g c told free text has =
     let s0 : Scene = g.D.World.scene c.args.desk.now in
     let s1 : Scene = g.D.World.scene c.has.new.self in
-    inl (unseen s0 s1 (one_look Looked (c.as_str-name.result.now ∷ []) c.has.result s0 s1 c.has.ensures.kept.frame (c.has.ensures.told told)))
+    inl (unseen s0 s1 (one_look Looked (c.as_str-name.result.now ∷ []) c.has.result s0 s1 c.has.ensures.kept.frame (c.has.ensures.told told)) (c.in-Err.ensures.kept.stops.last told))
 
 pub returns-in-Ok-true-clause-others : goal.returns-in-Ok-true-clause-others
 returns-in-Ok-true-clause-others g c told =
@@ -203,4 +203,10 @@ returns-in-Ok-false-clause-calls g c = λ told text has.
     let fresh = named (ap (λ (d : Disk). content_in d name) looks.now ∙ none) text kept in
     doing.fails_then name (file_of text) c.without_backup.result s0 s1 s2 (c.in-Ok-false.ensures.kept.stops.none told (λ is. absurd (cc)))
     (subst (λ (r : Result ℕ WriteErr). FailsNoEarlier name (file_of text) s1 s2 r) (sym c.without_backup.ensures)
-    (doing.fails_plain name (file_of text) g.D.World.tells c.write_new.result s1 s2 told c.write_new.ensures.kept.stops fresh.written))
+    (doing.fails_plain name (file_of text) g.D.World.tells c.write_new.result s1 s2 told c.write_new.ensures.kept.stops c.write_new.ensures.kept.cause fresh.written))
+
+pub returns-in-Err-clause-calls : goal.returns-in-Err-clause-calls
+returns-in-Err-clause-calls g c told text has =
+    let s0 : Scene = g.D.World.scene c.args.desk.now in
+    let s1 : Scene = g.D.World.scene c.has.new.self in
+    record { done = tt; refused = doing.refused_at g.D.World.tells place.Nowhere (λ e. cc) s0 s1 told refl c.in-Err.ensures.kept.stops c.in-Err.ensures.kept.cause }

@@ -1,10 +1,9 @@
-use Rattle.std.proofs.Common.{◌≡◌, ◌∙◌, ◌++◌, true, sym, refl, ap}
+use Rattle.std.proofs.Common.{◌∙◌, ◌++◌, true, sym, refl, ap}
 use Rattle.vs_pages.specs.Memory.{present_of, committed_of}
-use Rattle.vs_pages.proofs.Steps.{history_present}
 use Rattle.vs_tree.proofs.Kept.{fits_kept}
 use Rattle.vs_tree.specs.declared.tree.LineTree.{LineTree}
 use Rattle.vs_tree.specs.TextIn.{text_in, text_in-HasText}
-use Rattle.vs_paged.proofs.PageLemmas.{text_had, room_end, text_stays}
+use Rattle.vs_paged.proofs.PageLemmas.{text_had, room_end, text_back, text_stays}
 use Rattle.vs_paged.proofs.opening.push_in.Goals as goal
 
 pub push_lines-requires-clause-few_lines : goal.push_lines-requires-clause-few_lines
@@ -28,15 +27,13 @@ returns-in-Ok-clause-ok c =
 
 pub returns-in-Err-clause-err : goal.returns-in-Err-clause-err
 returns-in-Err-clause-err c =
-    text_stays (present_of c.args.pages.now) (present_of c.push_lines.new.pages) c.args.tree.now.present c.push_lines.new.self.present
-    (history_present _ _ (c.in-Err.ensures.back refl)) (ap (λ (t : LineTree). t.present) c.in-Err.ensures.same)
+    text_back c.args.pages.now c.push_lines.new.pages c.args.tree.now.present c.push_lines.new.self.present (c.in-Err.ensures.back refl) (ap (λ (t : LineTree). t.present) c.in-Err.ensures.same)
 
 pub returns-in-Err-clause-committed : goal.returns-in-Err-clause-committed
 returns-in-Err-clause-committed c =
     let old = c.args.pages.now in
     let new = c.push_lines.new.pages in
-    let now = text_stays (present_of old) (present_of new) c.args.tree.now.present c.push_lines.new.self.present
-    (history_present _ _ (c.in-Err.ensures.back refl)) (ap (λ (t : LineTree). t.present) c.in-Err.ensures.same) in
+    let now = text_back old new c.args.tree.now.present c.push_lines.new.self.present (c.in-Err.ensures.back refl) (ap (λ (t : LineTree). t.present) c.in-Err.ensures.same) in
     let then = text_stays (committed_of old) (committed_of new) c.args.tree.now.committed c.push_lines.new.self.committed (c.push_lines.ensures.kept.committed refl) c.push_lines.ensures.before in
     record {
       present_fits = c.push_lines.ensures.fits;

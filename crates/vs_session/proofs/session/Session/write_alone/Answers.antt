@@ -1,4 +1,4 @@
-use Rattle.std.proofs.Common.{◌∷◌, true, refl, ◌∙◌}
+use Rattle.std.proofs.Common.{◌∷◌, inr, true, refl, ◌∙◌}
 use Rattle.vs_machine.specs.declared.command.Outcome.TheVariants.{Done}
 use Rattle.vs_session.specs.Session.{after_sync, sync_in}
 use Rattle.vs_session.proofs.Calls.{GoesOn-weaker}
@@ -20,7 +20,7 @@ returns-in-Err-clause-step g c told state syncs instruction before start at is o
     let new = g.F.World.scene c.write.new.host in
     let wrote = c.in-Err.ensures.wrote told (after_sync state true) (sync_in state true ∷ syncs) s.synced in
     answers_refused state syncs instruction is before c.args.self.now start mid s c.in-Err.why at c.write.new.self new c.in-Err.ensures.kept.frame (c.in-Err.ensures.kept.file.names ∙ s.names)
-    wrote _ _ (λ calm. wrote.calls.none (calm_why c.in-Err.why _ c.refused.ensures.outcome calm))
+    wrote _ _ (λ calm. inr (calm_why c.in-Err.why _ c.refused.ensures.outcome calm)) (λ fault in_backup. failed_why c.in-Err.why _ c.refused.ensures.outcome fault)
     (record { later = c.in-Err.ensures.kept.cause.later; risen = λ fault. c.in-Err.ensures.kept.cause.risen (failed_why c.in-Err.why _ c.refused.ensures.outcome fault) })
     (refuses_as c.in-Err.why _ _ c.refused.ensures.outcome c.refused.ensures.reply)
 

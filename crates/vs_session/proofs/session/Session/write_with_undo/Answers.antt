@@ -37,7 +37,7 @@ returns-in-Err-NoMemory-clause-step g c told state syncs instruction before star
     let why = c.in-Err-NoMemory.ensures in
     answers_refused state syncs instruction is before c.args.self.now start mid s (error.Failed Nowhere) at c.undo_bytes.new.self seen (reads_change mid seen why.kept.frame) (why.kept.file.names ∙ s.names)
     (wrote_nothing (after_sync state true) (sync_in state true ∷ syncs) c.args.self.now c.undo_bytes.new.self mid seen (g.F.World.is_folder c.args.host.now told) (why.kept.looks told) (why.still told) s.synced (why.fits told (after_sync state true) (sync_in state true ∷ syncs) s.synced))
-    NoMemory _ (λ _. quiet_still mid seen (why.still told)) (record { later = why.kept.cause.later; risen = λ e. absurd (true≢false (sym e)) }) (inl (refl, c.out_of_memory.ensures))
+    NoMemory _ (λ _. inl (quiet_still mid seen (why.still told))) (λ fault in_backup. (Nowhere, refl)) (record { later = why.kept.cause.later; risen = λ e. absurd (true≢false (sym e)) }) (inl (refl, c.out_of_memory.ensures))
 
 pub returns-in-Err-Failed-clause-step : goal.returns-in-Err-Failed-clause-step
 returns-in-Err-Failed-clause-step g c told state syncs instruction before start at is on s =
@@ -46,4 +46,4 @@ returns-in-Err-Failed-clause-step g c told state syncs instruction before start 
     let why = c.in-Err-Failed.ensures in
     answers_refused state syncs instruction is before c.args.self.now start mid s (error.Failed Nowhere) at c.undo_bytes.new.self seen (reads_change mid seen why.kept.frame) (why.kept.file.names ∙ s.names)
     (wrote_nothing (after_sync state true) (sync_in state true ∷ syncs) c.args.self.now c.undo_bytes.new.self mid seen (g.F.World.is_folder c.args.host.now told) (why.kept.looks told) (why.still told) s.synced (why.fits told (after_sync state true) (sync_in state true ∷ syncs) s.synced))
-    Fault _ (λ _. quiet_still mid seen (why.still told)) (record { later = why.kept.cause.later; risen = λ e. why.kept.cause.risen (ap error_is c.in-Err-Failed.field-0-is) }) (inr (refl, c.device_fault.ensures))
+    Fault _ (λ _. inl (quiet_still mid seen (why.still told))) (λ fault in_backup. (Nowhere, refl)) (record { later = why.kept.cause.later; risen = λ e. why.kept.cause.risen (ap error_is c.in-Err-Failed.field-0-is) }) (inr (refl, c.device_fault.ensures))
