@@ -69,6 +69,14 @@ fn stands(alloc: Global, host: &MemHost, answer: Result<u64, WriteErr>) -> Resul
     }
 }
 
+// Has these calls fail.
+fn fail_calls(alloc: Global, folder: &mut MemHost, calls: &[u64]) -> Result<(), Fail> {
+    for call in calls {
+        folder.fail_call(alloc, *call)?;
+    }
+    Ok(())
+}
+
 // The answer to a write over these files in which these calls fail, and the folder then.
 fn failed(
     alloc: Global,
@@ -77,9 +85,7 @@ fn failed(
     calls: &[u64],
 ) -> Result<(Result<u64, WriteErr>, MemHost), Fail> {
     let mut desk = desk_with(alloc, files)?;
-    for call in calls {
-        desk.folder.fail_call(alloc, *call)?;
-    }
+    fail_calls(alloc, &mut desk.folder, calls)?;
     let answer = write_to(alloc, &mut desk, "f", options)?;
     Ok((answer, desk.folder))
 }
