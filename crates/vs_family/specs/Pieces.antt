@@ -24,4 +24,5 @@ letter_at file number = if nat_le 5 number then 122 - (number - 5) else get_or f
 -- and the ending
 abbrev pub ending_at : ℕ → Name
 ending_at number =
-    if number == 0 then [] else (if number == 1 then codes ".swp" else (if number == 2 then codes ".swo" else (if number == 3 then codes ".un~" else codes "~")))
+    if number == 0 then [] else
+    (if number == 1 then codes ".swp" else (if number == 2 then codes ".swo" else (if number == 3 then codes ".un~" else codes "~")))
