@@ -14,8 +14,17 @@ pub struct Writing {
     pub is_kept: bool,
     /// Whether it has a backup.
     pub is_backed: bool,
+    /// Whether the file is copied to its backup, and not renamed.
+    pub is_copied: bool,
     /// How it ended, where it did.
     pub outcome: Option<Outcome>,
+}
+
+impl Writing {
+    /// Whether the file was written.
+    pub fn is_done(&self) -> bool {
+        matches!(self.outcome, Some(Outcome::Done | Outcome::NoUndo))
+    }
 }
 
 /// What is between one reply and the next.
@@ -52,6 +61,7 @@ impl Drop for Stage {
 struct Options {
     backup: bool,
     writebackup: bool,
+    copies: bool,
     undofile: bool,
 }
 
@@ -62,6 +72,8 @@ impl Options {
             "nobk" | "nobackup" => self.backup = false,
             "wb" | "writebackup" => self.writebackup = true,
             "nowb" | "nowritebackup" => self.writebackup = false,
+            "bkc=yes" | "backupcopy=yes" => self.copies = true,
+            "bkc=no" | "backupcopy=no" | "bkc=auto" | "backupcopy=auto" => self.copies = false,
             "udf" | "undofile" => self.undofile = true,
             "noudf" | "noundofile" => self.undofile = false,
             _ => {}
@@ -130,6 +142,7 @@ impl<'a> Walk<'a> {
             options: Options {
                 backup: false,
                 writebackup: true,
+                copies: false,
                 undofile: false,
             },
             synced,
@@ -196,6 +209,7 @@ impl<'a> Walk<'a> {
             new: self.tree.file()?,
             is_kept: self.options.backup,
             is_backed: self.options.backup || self.options.writebackup,
+            is_copied: self.options.copies,
             outcome: mark.map(|mark| mark.outcome),
         })
     }

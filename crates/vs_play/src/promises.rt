@@ -3,7 +3,6 @@ use crate::course::{Stage, Writing};
 use crate::given::File;
 use crate::probes::Probe;
 use std::alloc::{AllocError, Global};
-use vs_machine::Outcome;
 use vs_memory::MemHost;
 use vs_scene::PlayErr;
 
@@ -166,6 +165,10 @@ impl Promises {
             self.kept.clear();
             self.kept.push(copy_of(self.alloc, host, BACKUP)?)?;
             self.kept.push(Some(old.clone()?))?;
+            if !writing.is_copied && !writing.is_done() {
+                // A file that was renamed to its backup is renamed back.
+                self.kept.push(None)?;
+            }
         }
         self.names.push(backup.clone()?)?;
         self.contents.push(old.clone()?)?;
@@ -198,7 +201,7 @@ impl Promises {
 
     fn end_write(&mut self, writing: &Writing) -> Result<(), AllocError> {
         let rewriting = self.rewriting.take();
-        if !matches!(writing.outcome, Some(Outcome::Done | Outcome::NoUndo)) {
+        if !writing.is_done() {
             // One call at most fails of a run, so putting back did not.
             return match rewriting {
                 Some(rewriting) => self.settle(Some(rewriting.old.clone()?)),
