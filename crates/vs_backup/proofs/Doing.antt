@@ -38,6 +38,7 @@ refused_once tells why s0 s1 told elsewhere stops cause = record {
   back_last = fails_none s1;
   back_none = λ calm. quiet_none s1;
   back_failed = λ is. absurd (elsewhere is);
+  alone = λ is. stops.last told;
 }
 
 -- without a failed call
@@ -51,6 +52,7 @@ refused_quiet why s0 s1 elsewhere quiet = record {
   back_last = fails_none s1;
   back_none = λ calm. quiet_none s1;
   back_failed = λ is. absurd (elsewhere is);
+  alone = λ is. last_then s0 s1 s1 quiet (fails_none s1);
 }
 
 -- at a call that failed
@@ -89,6 +91,16 @@ there_back stop.Failed (Err failed) is = inl refl
 there_back stop.NoMemory (Err failed) is = inr refl
 there_back why (Ok done) is = absurd (true≢false (sym is))
 
+not_nowhere : (why : Stop) (back : Result (Unit {0}) Failed) → OldIn {T = ℕ} Nowhere (Err (stopped_after why back)) → ⊥
+not_nowhere stop.Failed (Ok done) (inl is) = absurd (cc)
+not_nowhere stop.Failed (Ok done) (inr is) = absurd (cc)
+not_nowhere stop.Failed (Err failed) (inl is) = absurd (cc)
+not_nowhere stop.Failed (Err failed) (inr is) = absurd (cc)
+not_nowhere stop.NoMemory (Ok done) (inl is) = absurd (cc)
+not_nowhere stop.NoMemory (Ok done) (inr is) = absurd (cc)
+not_nowhere stop.NoMemory (Err failed) (inl is) = absurd (cc)
+not_nowhere stop.NoMemory (Err failed) (inr is) = absurd (cc)
+
 module _ (why : Stop) (back : Result (Unit {0}) Failed) (s0 s1 s2 : Scene) (first : HasCause s0.folder_faults s1.folder_faults (err_as ℕ why ≡ Err stop.Failed))
     (second : HasCause s1.folder_faults s2.folder_faults (IsErr back)) where
   pub refused_back : (tells : Tells) → IsTrue tells.folder → StopsAtFault tells (err_as ℕ why ≡ Err stop.Failed) s0 s1 → StopsAtFault tells (IsErr back) s1 s2
@@ -102,6 +114,7 @@ module _ (why : Stop) (back : Result (Unit {0}) Failed) (s0 s1 s2 : Scene) (firs
     back_last = returns.last told;
     back_none = λ calm. returns.none told (λ failed. calm (there_back why back failed));
     back_failed = λ is. second.risen (back_there why back is);
+    alone = λ is. absurd (not_nowhere why back is);
   }
 
   pub back_cause : HasCause s0.folder_faults s2.folder_faults (IsFailed (err_as ℕ (stopped_after why back)))
@@ -118,6 +131,7 @@ refused_after result s0 s1 s2 quiet back = record {
   back_last = back.back_last;
   back_none = back.back_none;
   back_failed = back.back_failed;
+  alone = λ is. last_then s0 s1 s2 quiet (back.alone is);
 }
 
 module _ (name : Name) (new : List ℕ) where

@@ -1,6 +1,6 @@
 -- Which backup a write makes.
 use Rattle.std.specs.Prelude.{◌≡◌, ℕ, zero, suc, ◌+◌, ◌-◌, Bool, true, false, List, [], ◌∷◌, ◌++◌, length, map, take, codes, Option, Some, None, is_some}
-use Rattle.std.specs.Prelude.{IsSome, IsTrue, if◌then◌else◌, ◌||◌}
+use Rattle.std.specs.Prelude.{IsSome, IsTrue, if◌then◌else◌, ◌&&◌, ◌||◌}
 use Rattle.vs_host.specs.Disk.{Disk, Name, content_in}
 use Rattle.vs_host.specs.Names.{temporary}
 use Rattle.vs_backup.specs.declared.options.CopyMode.{CopyMode}
@@ -36,6 +36,10 @@ backs_up options = options.backup || options.writebackup
 -- the name of the backup that a write over a file makes
 abbrev pub backup_of : WriteOptions → Name → Disk → Option Name
 backup_of options name disk = if options.backup then Some (backup_name name) else (if options.writebackup then first_free disk (candidates name) else None)
+
+-- whether a write of the file of this name makes a backup: where the file is there, and an option asks for one
+abbrev pub is_backed : WriteOptions → Name → Disk → Bool
+is_backed options name disk = is_some (content_in disk name) && backs_up options
 
 -- A name that a backup may get: one byte longer than that of the file, and with `~` at its end.
 pub record IsBackupName (name backup : Name) : Type 0 where

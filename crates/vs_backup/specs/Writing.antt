@@ -60,7 +60,7 @@ OldIn place result = IsErrOf result (error.Failed place) ⊎ IsErrOf result (err
 
 -- Which calls of a write that was refused failed. Until it stopped, none but the last one, and none at all unless that is answered. Of
 -- those after that, which put the file back, none but the last one, and that one where the old bytes stand in the backup; then one
--- failed before too, where that is answered.
+-- failed before too, where that is answered. Where there is no backup, nothing is put back: none but the last one of all.
 pub record PutsBack (before after : Scene) (result : Result ℕ WriteErr) : Type 0 where
   pub stopped : Scene
   pub last : FailsLast before stopped
@@ -70,6 +70,7 @@ pub record PutsBack (before after : Scene) (result : Result ℕ WriteErr) : Type
   pub back_last : FailsLast stopped after
   pub back_none : ¬ OldIn Backup result → Quiet stopped after
   pub back_failed : OldIn Backup result → HasRisen stopped.folder_faults after.folder_faults
+  pub alone : OldIn Nowhere result → FailsLast before after
 
 -- Which calls of a write failed: of one that was carried out, none before the file had the new bytes; of one that was refused, the one at
 -- which it stopped, and the one at which it could not put the file back.

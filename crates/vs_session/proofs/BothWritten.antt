@@ -105,6 +105,7 @@ wrote_nothing state syncs before after old new folder looks still fits now =
           back_last = fails_none new;
           back_none = λ _. quiet_none new;
           back_failed = λ is. absurd (elsewhere is);
+          alone = λ _. fails_still old new still;
         };
       };
       fits = now;
@@ -254,9 +255,6 @@ module _ (state : SessionState) (syncs : List Sync) (instruction : Instruction) 
   written : (outcome : Outcome) → took_effect outcome ≡ true → (((is_write instruction.parsed && true) && not (lacks state syncs instruction is before between old mid s)) && took_effect outcome) ≡ true
   written outcome took = λ i. ((is i && true) && not (free i)) && took i
 
-  begun : ((is_write instruction.parsed && true) && not (lacks state syncs instruction is before between old mid s)) ≡ true
-  begun = λ i. (is i && true) && not (free i)
-
   -- the calls after the sync
   calls_by : (outcome : Outcome) → (outcome ≡ Done) ⊎ (outcome ≡ NoUndo) → took_effect outcome ≡ true → HasCause made.folder_faults new.folder_faults (is_fault outcome ≡ true) → StoresBy names.undo_new names.undo made new
       → FailsLast made new → (is_fault outcome ≡ false → Quiet made new) → FailsOnce names state instruction (ended state syncs instruction is before between old mid s outcome at) mid new
@@ -271,8 +269,8 @@ module _ (state : SessionState) (syncs : List Sync) (instruction : Instruction) 
       unstored = λ none. cause.risen (ap is_fault none);
     };
     refused = λ unwritten. absurd (true≢false (sym (written outcome took) ∙ unwritten));
-    last = λ none. absurd (true≢false (sym begun ∙ none));
-    none = λ none. absurd (true≢false (sym begun ∙ none));
+    last = λ unwritten. absurd (true≢false (sym (written outcome took) ∙ unwritten));
+    none = λ unwritten. absurd (true≢false (sym (written outcome took) ∙ unwritten));
   }
 
   -- however the storing ended

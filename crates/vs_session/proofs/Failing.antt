@@ -12,7 +12,7 @@ use Rattle.vs_backup.specs.Writing.{BecomesWritten}
 use Rattle.vs_desk.specs.Counts.{NoneAbove}
 use Rattle.vs_desk.specs.PageLaws.{above_then}
 use Rattle.vs_excmd.specs.Request.{Instruction}
-use Rattle.vs_session.specs.Session.{SessionState, Ended, begins_write, has_written, is_fault}
+use Rattle.vs_session.specs.Session.{SessionState, Ended, has_written, is_fault, puts_back}
 use Rattle.vs_session.specs.Failures.{FailsOnce, StopsWriting}
 
 -- where no call failed, no count is above that now
@@ -40,17 +40,17 @@ module _ (names : Names) (state : SessionState) (instruction : Instruction) (end
   once_unwritten old new unwritten last none = record {
     writes = λ is. absurd (true≢false (sym is ∙ unwritten));
     refused = λ _ _. record { stopped = new; last = last; none = none; back_last = fails_none new; back_none = λ _. quiet_none new };
-    last = λ _. last;
-    none = λ _ calm. none calm;
+    last = λ _ _. last;
+    none = λ _ _ calm. none calm;
   }
 
-  -- one that began to write it, and did not
-  pub once_refused : (old new : Scene) → begins_write state instruction ended ≡ true → has_written state instruction ended ≡ false → StopsWriting (is_fault ended.mark.outcome) old new → FailsOnce names state instruction ended old new
-  once_refused old new begins unwritten stops = record {
+  -- one that began to write it with a backup, and did not
+  pub once_refused : (old new : Scene) → puts_back state instruction ended ≡ true → has_written state instruction ended ≡ false → StopsWriting (is_fault ended.mark.outcome) old new → FailsOnce names state instruction ended old new
+  once_refused old new backed unwritten stops = record {
     writes = λ is. absurd (true≢false (sym is ∙ unwritten));
     refused = λ _ _. stops;
-    last = λ none. absurd (true≢false (sym begins ∙ none));
-    none = λ none. absurd (true≢false (sym begins ∙ none));
+    last = λ _ none. absurd (true≢false (sym backed ∙ none));
+    none = λ _ none. absurd (true≢false (sym backed ∙ none));
   }
 
   pub once_stops : (tells : Tells) (old new : Scene) → IsTrue tells.folder → has_written state instruction ended ≡ false → StopsAtFault tells (is_fault ended.mark.outcome ≡ true) old new
@@ -72,8 +72,8 @@ module _ (names : Names) (state : SessionState) (instruction : Instruction) (end
           none = first.none;
           unstored = first.unstored;
         };
-    refused = λ unwritten begins.
-        let stops = once.refused unwritten begins in
+    refused = λ unwritten backed.
+        let stops = once.refused unwritten backed in
         record {
           stopped = stops.stopped;
           last = last_then old mid stops.stopped quiet stops.last;
@@ -81,6 +81,6 @@ module _ (names : Names) (state : SessionState) (instruction : Instruction) (end
           back_last = stops.back_last;
           back_none = stops.back_none;
         };
-    last = λ is. last_then old mid new quiet (once.last is);
-    none = λ is calm. quiet_then old mid new quiet (once.none is calm);
+    last = λ unwritten alone. last_then old mid new quiet (once.last unwritten alone);
+    none = λ unwritten alone calm. quiet_then old mid new quiet (once.none unwritten alone calm);
   }

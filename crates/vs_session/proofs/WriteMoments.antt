@@ -14,6 +14,7 @@ use Rattle.vs_disk.specs.Names.{IsApart, SameAt}
 use Rattle.vs_disk.specs.Runs.{FailsLast, Inside, Looks, Quiet, Runs}
 use Rattle.vs_disk.proofs.Contents.{takes_then, some_bytes}
 use Rattle.vs_disk.proofs.Others.{same_then}
+use Rattle.vs_disk.proofs.Quiet.{quiet_then}
 use Rattle.vs_disk.proofs.Runs.{goes_then, goes_weaker}
 use Rattle.vs_pair.specs.Pair.{is_apart, is_swap}
 use Rattle.vs_pair.proofs.MadeFiles.{same_weaker}
@@ -21,9 +22,12 @@ use Rattle.vs_backup.specs.declared.options.WriteOptions.{WriteOptions}
 use Rattle.vs_backup.specs.declared.errors.WriteErr.{WriteErr}
 use Rattle.vs_backup.specs.declared.errors.WriteErr.TheVariants as error
 use Rattle.vs_backup.specs.declared.errors.Place.TheVariants as place
-use Rattle.vs_backup.specs.Backups.{WorksOn, IsNoName, backs_up, backup_of, copies}
+use Rattle.vs_backup.specs.Backups.{WorksOn, IsNoName, backs_up, backup_of, copies, is_backed}
 use Rattle.vs_backup.specs.Works.{LeadsTo, Narrowed, SparesOthers, two_names}
-use Rattle.vs_backup.specs.Writing.{BeginsWhole, FindsNoName, IsFailed, IsWhole, MayLackNew, OldIn, Places, PutsBack, Replaces, WritesFresh, WritesPlain, WritesWith, nowhere}
+use Rattle.vs_backup.specs.Writing.{BeginsWhole, FindsNoName, IsFailed, IsUnseen, IsWhole, MayLackNew, OldIn, Places, PutsBack, Replaces, WritesFresh, WritesPlain, WritesWith, nowhere, stopped}
+use Rattle.vs_backup.specs.declared.errors.Stop.{Stop}
+use Rattle.vs_backup.specs.declared.errors.Stop.TheVariants as stop
+use Rattle.vs_backup.proofs.Copying.{never_other}
 use Rattle.vs_backup.proofs.Frames.{absent_now}
 use Rattle.vs_backup.proofs.Kept.{may_leave_now}
 use Rattle.vs_backup.proofs.Replacing.{replaces_takes, replaces_then}
@@ -68,6 +72,26 @@ pub record IsIdle (old new : Scene) (result : Result ℕ WriteErr) : Type 0 wher
   pub last : FailsLast old new
   pub none : ¬ IsFailed result → Quiet old new
   pub refused : (size : ℕ) → result ≡ Ok size → ⊥
+
+-- The write was refused, and nothing was put back.
+pub record IsAlone (old new : Scene) (result : Result ℕ WriteErr) : Type 0 where
+  pub last : FailsLast old new
+  pub none : ¬ IsFailed result → Quiet old new
+
+in_none : (why : Stop) → OldIn {T = ℕ} place.Nowhere (Err (stopped why place.Nowhere))
+in_none stop.Failed = inl refl
+in_none stop.NoMemory = inr refl
+
+alone_in : (old new : Scene) (answer : Result ℕ Stop) → OnErr (nowhere answer) (PutsBack old new (nowhere answer)) → OnErr (nowhere answer) (IsAlone old new (nowhere answer))
+alone_in old new (Ok size) back = tt
+alone_in old new (Err why) back = record {
+  last = back.alone (in_none why);
+  none = λ calm. quiet_then old back.stopped new (back.none calm) (back.back_none (λ is. never_other why place.Nowhere place.Backup (λ e. cc) is));
+}
+
+alone_unseen : (old new : Scene) (result : Result ℕ WriteErr) → IsUnseen old new result → OnErr result (IsAlone old new result)
+alone_unseen old new (Ok size) unseen = tt
+alone_unseen old new (Err why) unseen = record { last = unseen.last; none = λ calm. absurd (calm (place.Nowhere, unseen.failed)) }
 
 -- while only the swap files have changed
 pub whole_synced : (names : Names) (are : AreNames names) (options : WriteOptions) (text : Text) (old d : Disk) → SameAt (is_apart names) old d → IsWholeIn names (record { options = options; text = text; found = old }) d
@@ -275,6 +299,24 @@ module _ (names : Names) (are : AreNames names) (options : WriteOptions) (text :
 
     pub whole_moments : (Q : Snapshot → Type 0) → GoesOn Q mid.trace new.trace → Moments
     whole_moments Q base = moments_by Q base (content_in old names.file) refl
+
+    -- ---- which calls failed, where it makes no backup
+    module _ (back : OnErr result (PutsBack mid new result)) where
+      alone_as : (answer : Result ℕ Stop) → result ≡ nowhere answer → OnErr result (IsAlone mid new result)
+      alone_as answer is = subst (λ (r : Result ℕ WriteErr). OnErr r (PutsBack mid new r) → OnErr r (IsAlone mid new r)) (sym is) (alone_in mid new answer) back
+
+      alone_where : (o : Option (List ℕ)) → content_in old names.file ≡ o → (is_some o && backs_up options) ≡ false → OnErr result (IsAlone mid new result)
+      alone_where (Some was) there off = elim (file.plain was (there_mid ∙ there) off) [
+        | inl unseen ↦ alone_unseen mid new result unseen
+        | inr here ↦ alone_as here.answer here.is
+      ]
+      alone_where None none off = elim (file.fresh (there_mid ∙ none)) [
+        | inl unseen ↦ alone_unseen mid new result unseen
+        | inr here ↦ alone_as here.answer here.is
+      ]
+
+      pub alone_by : is_backed options names.file old ≡ false → OnErr result (IsAlone mid new result)
+      alone_by off = alone_where (content_in old names.file) refl off
 
     -- ---- in the end
     module _ (from : ℕ) (later : from ≤ mid.folder_faults) where

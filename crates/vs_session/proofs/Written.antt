@@ -20,7 +20,7 @@ use Rattle.vs_excmd.specs.Request.{Instruction}
 use Rattle.vs_backup.specs.declared.options.WriteOptions.{WriteOptions}
 use Rattle.vs_backup.specs.declared.errors.WriteErr.{WriteErr}
 use Rattle.vs_backup.specs.declared.errors.WriteErr.TheVariants as error
-use Rattle.vs_backup.specs.Backups.{IsNoName, WorksOn}
+use Rattle.vs_backup.specs.Backups.{IsNoName, WorksOn, is_backed}
 use Rattle.vs_backup.specs.Works.{SparesOthers}
 use Rattle.vs_backup.specs.declared.errors.Place.TheVariants.{Backup}
 use Rattle.vs_backup.specs.Writing.{FailsNoEarlier, IsFailed, OldIn, PutsBack}
@@ -52,7 +52,7 @@ use Rattle.vs_session.proofs.Steps.{assemble, between_synced, flag_true, looked_
 use Rattle.vs_session.proofs.FileWrites.{undo_same}
 use Rattle.vs_session.proofs.UndoNames.{undo_unworked}
 use Rattle.vs_session.proofs.WriteCommand.{begins_is, carried_on, never_quits, no_read, no_undo, reply_is}
-use Rattle.vs_session.proofs.WriteMoments.{IsIdle, facts, has_written, keeps_moments, keeps_now, keeps_synced, lacks_looks, named_lacks, whole_moments, whole_synced}
+use Rattle.vs_session.proofs.WriteMoments.{IsAlone, IsIdle, alone_by, facts, has_written, keeps_moments, keeps_now, keeps_synced, lacks_looks, named_lacks, whole_moments, whole_synced}
 
 -- what a write did, for these names
 record Did (names : Names) (options : WriteOptions) (text : Text) (syncs : List Sync) (mid new : Scene) (result : Result ℕ WriteErr) : Type 0 where
@@ -328,6 +328,22 @@ module _ (state : SessionState) (syncs : List Sync) (instruction : Instruction) 
       | inr none ↦ put_back false (λ _. wrote.calls.refused.none none)
     ]
 
+    -- where it makes no backup, nothing is put back
+    alone : is_backed options state.name old.folder ≡ false → IsAlone mid new (err_of why)
+    alone off =
+        let here = did after (Err why) new second wrote in
+        alone_by names are options text old.folder mid new same (Err why) here.file here.calls.refused (ap (λ (n : List ℕ). is_backed options n old.folder) file_name ∙ off)
+
+    once_free : lacks ≡ false → (outcome : Outcome) → IsCalm outcome → took_effect outcome ≡ false → FailsOnce names state instruction (ended outcome at) mid new
+    once_free free outcome calm none =
+        let begun : ((is_write instruction.parsed && true) && not lacks) ≡ true = λ i. (is i && true) && not (free i) in
+        let unwritten : (((is_write instruction.parsed && true) && not lacks) && took_effect outcome) ≡ false = λ i. ((is i && true) && not (free i)) && none i in
+        elim (cases_Bool (is_backed options state.name old.folder)) [
+          | inl backed ↦ once_refused names state instruction (ended outcome at) mid new (λ i. begun i && backed i) unwritten (stops_as outcome (is_fault outcome) refl calm)
+          | inr off ↦ once_unwritten names state instruction (ended outcome at) mid new unwritten (alone off).last
+            (λ here. elim (calm here) [ inl quiet ↦ quiet | inr never ↦ (alone off).none never ])
+        ]
+
     -- no backup name is free
     refused_taken : lacks ≡ true → (outcome : Outcome) (reply : Answer) → (outcome ≡ NoUndo → ⊥) → IsCalm outcome → reply ≡ reply_of state instruction (ended outcome at) → (is_fault outcome ≡ true → HasRisen old.folder_faults new.folder_faults)
         → IsAnswer outcome reply
@@ -347,11 +363,10 @@ module _ (state : SessionState) (syncs : List Sync) (instruction : Instruction) 
         → (is_fault outcome ≡ true → HasRisen old.folder_faults new.folder_faults) → IsAnswer outcome reply
     refused_free free outcome reply stored calm failed none replied cause =
         let b : Bool = state.options.undofile in
-        let begun : ((is_write instruction.parsed && true) && not lacks) ≡ true = λ i. (is i && true) && not (free i) in
         let unwritten : (((is_write instruction.parsed && true) && not lacks) && took_effect outcome) ≡ false = λ i. ((is i && true) && not (free i)) && none i in
         let runs = written_runs after (Err why) new second wrote in
         answers_free free b refl after outcome at reply new names_after (λ unstored. absurd (stored unstored))
-        (once_after names state instruction (ended outcome at) old mid new s.quiet (once_refused names state instruction (ended outcome at) mid new begun unwritten (stops_as outcome (is_fault outcome) refl calm)))
+        (once_after names state instruction (ended outcome at) old mid new s.quiet (once_free free outcome calm none))
         (λ done. absurd (true≢false (sym (ap took_effect done) ∙ none))) replied
         (stays after new.folder outcome at unwritten wrote.fits)
         (works_runs names (Some (work_by b)) (IsUnderWay names under (Some (work_by b))) AtMoment old new (written_frame after (Err why) new second wrote) (lead b) runs)
@@ -406,9 +421,6 @@ module _ (state : SessionState) (syncs : List Sync) (instruction : Instruction) 
       ap (λ (n : ℕ). says (line_by outcome state.name (length text) n)) size_is
       ∙ ap (λ (c : Bool). cond c (refuses no_backup_name) (says (line_by outcome state.name (length text) (length (file_of text))))) (sym free)
 
-  begins_writing : lacks ≡ false → ((is_write instruction.parsed && true) && not lacks) ≡ true
-  begins_writing free = λ i. (is i && true) && not (free i)
-
   written : lacks ≡ false → (((is_write instruction.parsed && true) && not lacks) && true) ≡ true
   written free = λ i. ((is i && true) && not (free i)) && true
 
@@ -422,8 +434,8 @@ module _ (state : SessionState) (syncs : List Sync) (instruction : Instruction) 
         (once_after names state instruction (ended Done at) old mid new s.quiet (record {
           writes = λ _. record { wrote = new; file = (did after (Ok size) new second wrote).calls.done; above = wrote.above; calls = record { added = []; is = refl; calls = inl tt }; last = fails_none new; none = λ _. quiet_none new; unstored = λ e. absurd (cc) };
           refused = λ unwritten. absurd (true≢false (sym (written free) ∙ unwritten));
-          last = λ none. absurd (true≢false (sym (begins_writing free) ∙ none));
-          none = λ none. absurd (true≢false (sym (begins_writing free) ∙ none));
+          last = λ unwritten. absurd (true≢false (sym (written free) ∙ unwritten));
+          none = λ unwritten. absurd (true≢false (sym (written free) ∙ unwritten));
         })) (λ _. cleared_by after (Ok size) new second wrote size refl)
         (reply_to ∙ line_is free Done size (bytes_left after (Ok size) new second wrote).0 ∙ replied_done at)
         (fits_by after new.folder Done at true (written free) wrote.fits)

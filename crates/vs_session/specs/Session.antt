@@ -8,7 +8,7 @@ use Rattle.vs_exparse.specs.Command.{Command}
 use Rattle.vs_exparse.specs.Command.Command.{Undo, Redo, Earlier, Later, Write, Preserve, Quit, Set, WriteUndo, ReadUndo}
 use Rattle.vs_exparse.specs.declared.command.ExErr.{ExErr}
 use Rattle.vs_backup.specs.declared.options.WriteOptions.{WriteOptions}
-use Rattle.vs_backup.specs.Backups.{backup_of}
+use Rattle.vs_backup.specs.Backups.{backup_of, is_backed}
 use Rattle.vs_options.specs.Options.{first_options, full_text, options_with}
 use Rattle.vs_options.specs.declared.setting.Options.{Options}
 use Rattle.vs_excmd.specs.Meaning.{is_text_command}
@@ -136,6 +136,10 @@ lacks_name options name found = ((not options.backup && options.writebackup) && 
 -- whether a command writes the file, where it is one that does and its sync is acknowledged
 abbrev pub begins_write : SessionState → Instruction → Ended → Bool
 begins_write state instruction ended = (is_write instruction.parsed && ended.acknowledged) && not (lacks_name state.options.write state.name ended.found)
+
+-- whether a command puts the file back where it does not succeed in writing it: where it began to write it with a backup
+abbrev pub puts_back : SessionState → Instruction → Ended → Bool
+puts_back state instruction ended = begins_write state instruction ended && is_backed state.options.write state.name ended.found
 
 -- the write of the file that `w` begins
 abbrev pub write_in : SessionState → Disk → writes.Write
