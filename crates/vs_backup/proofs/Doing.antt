@@ -4,7 +4,7 @@ use Rattle.std.proofs.lemmas.Bool.{true≢false}
 use Rattle.vs_faults.specs.Faults.{HasCause, HasRisen}
 use Rattle.vs_faults.proofs.Causes.{HasCause-trans, HasCause-weaker}
 use Rattle.vs_host.specs.Disk.{Name}
-use Rattle.vs_host.specs.World.{Tells, Scene}
+use Rattle.vs_host.specs.World.{HasNewest, Tells, Scene}
 use Rattle.vs_host.specs.declared.traits.Failed.{Failed}
 use Rattle.vs_disk.specs.Images.{HoldsBytes}
 use Rattle.vs_disk.specs.Runs.{FailsLast, Quiet}
@@ -136,20 +136,20 @@ refused_after result s0 s1 s2 quiet back = record {
 
 module _ (name : Name) (new : List ℕ) where
   -- the file has the new bytes, and no call failed; the calls that follow end at a failed one
-  pub written_then : (s0 s1 s2 : Scene) (size : ℕ) → Quiet s0 s1 → HoldsBytes name new s1.folder → FailsLast s1 s2 → FailsNoEarlier name new s0 s2 (Ok size)
-  written_then s0 s1 s2 size quiet holds later = record { done = record { written = s1; quiet = quiet; holds = holds; later = later }; refused = tt }
+  pub written_then : (s0 s1 s2 : Scene) (size : ℕ) → HasNewest s1 → Quiet s0 s1 → HoldsBytes name new s1.folder → FailsLast s1 s2 → FailsNoEarlier name new s0 s2 (Ok size)
+  written_then s0 s1 s2 size moment quiet holds later = record { done = record { written = s1; moment = moment; quiet = quiet; holds = holds; later = later }; refused = tt }
 
   -- one without a backup
-  pub fails_plain : (tells : Tells) (answer : Result ℕ Stop) (s0 s1 : Scene) → IsTrue tells.folder → StopsAtFault tells (IsErrOf answer stop.Failed) s0 s1
+  pub fails_plain : (tells : Tells) (answer : Result ℕ Stop) (s0 s1 : Scene) → IsTrue tells.folder → HasNewest s1 → StopsAtFault tells (IsErrOf answer stop.Failed) s0 s1
       → HasCause s0.folder_faults s1.folder_faults (IsErrOf answer stop.Failed) → IfOk answer (λ size. (size ≡ length new) × HoldsBytes name new s1.folder)
       → FailsNoEarlier name new s0 s1 (nowhere answer)
-  fails_plain tells (Ok size) s0 s1 told stops cause holds = written_then s0 s1 s1 size (stops.none told (λ failed. ok_is_no_err size _ failed)) holds.1 (fails_none s1)
-  fails_plain tells (Err why) s0 s1 told stops cause holds = record { done = tt; refused = refused_stop tells why Nowhere (λ e. cc) s0 s1 told stops cause }
+  fails_plain tells (Ok size) s0 s1 told moment stops cause holds = written_then s0 s1 s1 size moment (stops.none told (λ failed. ok_is_no_err size _ failed)) holds.1 (fails_none s1)
+  fails_plain tells (Err why) s0 s1 told moment stops cause holds = record { done = tt; refused = refused_stop tells why Nowhere (λ e. cc) s0 s1 told stops cause }
 
   -- after calls that did not fail
   pub fails_then : (result : Result ℕ WriteErr) (s0 s1 s2 : Scene) → Quiet s0 s1 → FailsNoEarlier name new s1 s2 result → FailsNoEarlier name new s0 s2 result
   fails_then (Ok size) s0 s1 s2 quiet fails = record {
-    done = record { written = fails.done.written; quiet = quiet_then s0 s1 fails.done.written quiet fails.done.quiet; holds = fails.done.holds; later = fails.done.later };
+    done = record { written = fails.done.written; moment = fails.done.moment; quiet = quiet_then s0 s1 fails.done.written quiet fails.done.quiet; holds = fails.done.holds; later = fails.done.later };
     refused = tt;
   }
   fails_then (Err why) s0 s1 s2 quiet fails = record { done = tt; refused = refused_after (Err why) s0 s1 s2 quiet fails.refused }

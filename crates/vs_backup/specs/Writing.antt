@@ -5,7 +5,7 @@ use Rattle.vs_faults.specs.Faults.{HasRisen}
 use Rattle.vs_text.specs.Text.{file_of}
 use Rattle.vs_host.specs.Disk.{Disk, Name, IsImage, names_of, content_in}
 use Rattle.vs_host.specs.Names.{temporary}
-use Rattle.vs_host.specs.World.{Scene, content_of}
+use Rattle.vs_host.specs.World.{HasNewest, Scene, content_of}
 use Rattle.vs_host.specs.declared.traits.Failed.{Failed}
 use Rattle.vs_disk.specs.Images.{HoldsBytes, IsSynced, MayLeave, Takes}
 use Rattle.vs_disk.specs.Runs.{FailsLast, Looks, Quiet, Runs}
@@ -42,10 +42,11 @@ abbrev pub nowhere : Result ℕ Stop → Result ℕ WriteErr
 nowhere (Ok size) = Ok size
 nowhere (Err why) = Err (stopped why Nowhere)
 
--- No call failed until the file had these bytes in each image. Of the calls after that, which take the backup away, none but the last
--- one failed.
+-- There is a moment, after a call, until which no call failed and at which the file has these bytes in each image. Of the calls after it,
+-- which take the backup away, none but the last one failed.
 pub record BecomesWritten (name : Name) (new : List ℕ) (before after : Scene) : Type 0 where
   pub written : Scene
+  pub moment : HasNewest written
   pub quiet : Quiet before written
   pub holds : HoldsBytes name new written.folder
   pub later : FailsLast written after

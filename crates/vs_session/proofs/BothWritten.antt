@@ -1,5 +1,5 @@
 -- The answer to `w` with `undofile`: after the write its undo file is stored, which leaves the edited file and its backup.
-use Rattle.std.proofs.Common.{◌≡◌, ◌⊎◌, inl, inr, ℕ, ◌≤◌, Bool, true, false, ◌&&◌, not, length, List, [], ◌∷◌, Option, Some, None, Result, Ok, Err, refl, sym, ◌∙◌, ap, subst, arith}
+use Rattle.std.proofs.Common.{◌≡◌, ◌⊎◌, inl, inr, ℕ, ◌≤◌, Bool, true, false, ◌&&◌, not, length, List, ◌∷◌, Option, Some, Ok, Err, refl, sym, ◌∙◌, ap, subst}
 use Rattle.std.specs.Prelude.{IsSomeAnd}
 use Rattle.std.specs.Str.{bytes_eq}
 use Rattle.std.proofs.lemmas.Slice.Eq.{bytes_eq-Decides}
@@ -20,10 +20,8 @@ use Rattle.vs_disk.proofs.Steps.{itself}
 use Rattle.vs_pair.specs.Pair.{Rises, is_swap}
 use Rattle.vs_pair.proofs.Others.{rises_kept}
 use Rattle.vs_excmd.specs.Request.{Instruction}
-use Rattle.vs_backup.specs.Backups.{IsBackupName, WorksOn, copies}
+use Rattle.vs_backup.specs.Backups.{WorksOn, copies}
 use Rattle.vs_backup.specs.Works.{Spares as SparesNames, two_names}
-use Rattle.vs_backup.specs.declared.options.WriteOptions.{WriteOptions}
-use Rattle.vs_backup.specs.declared.errors.WriteErr.{WriteErr}
 use Rattle.vs_backup.specs.declared.errors.WriteErr.TheVariants as error
 use Rattle.vs_backup.specs.declared.errors.Place.TheVariants.{Backup, Nowhere}
 use Rattle.vs_backup.specs.Writing.{BecomesWritten, IsUnseen, OldIn}
@@ -32,9 +30,9 @@ use Rattle.vs_machine.specs.Machine.{took_effect}
 use Rattle.vs_machine.specs.Replies.{Answer, says}
 use Rattle.vs_machine.specs.declared.command.Outcome.{Outcome}
 use Rattle.vs_machine.specs.declared.command.Outcome.TheVariants.{Done, NoUndo}
-use Rattle.vs_undo.specs.History.{History, history_marked}
+use Rattle.vs_undo.specs.History.{history_marked}
 use Rattle.vs_ubind.specs.Storing.{StoresBy}
-use Rattle.vs_safety.specs.Texts.{Sync, Text, Recovers, recoverable}
+use Rattle.vs_safety.specs.Texts.{Sync, Text, recoverable}
 use Rattle.vs_safety.specs.Undo.{HasStored, HasUndo, UndoWrite}
 use Rattle.vs_safety.specs.Writes.{Write, HasWritten, IsWholeIn, backup_for, new_bytes, state_now}
 use Rattle.vs_safety.specs.FileWork.{BothFiles, FileWork}
@@ -46,7 +44,7 @@ use Rattle.vs_desk.specs.PageLaws.{above_none, above_then}
 use Rattle.vs_desk.specs.Still.{KeepsLeft}
 use Rattle.vs_desk.specs.Writes.{KeepsSwap}
 use Rattle.vs_session.specs.declared.session.Session.{Session}
-use Rattle.vs_session.specs.Session.{SessionState, after_sync, is_fault, is_write, line_by, reply_of, state_after, sync_in, undo_after, write_in, write_reply, written_state}
+use Rattle.vs_session.specs.Session.{SessionState, after_sync, is_fault, is_write, line_by, reply_of, sync_in, undo_after, write_in, write_reply, written_state}
 use Rattle.vs_session.specs.Failures.{FailsOnce}
 use Rattle.vs_session.specs.Stores.{StoresUndo}
 use Rattle.vs_session.specs.Writes.{HasSynced, Wrote}

@@ -1,5 +1,5 @@
 -- The names under which files are made that are renamed then: what a command leaves of them.
-use Rattle.std.proofs.Common.{◌≡◌, ◌≢◌, ◌⊎◌, inl, inr, ℕ, Bool, true, false, ◌&&◌, ◌||◌, not, codes, length, List, [], ◌∷◌, ◌++◌, Option, Some, None, IsSome, Result, Ok, Err, OnOk, refl, sym, ◌∙◌, ap, subst, append_assoc, arith}
+use Rattle.std.proofs.Common.{◌≡◌, ◌≢◌, ◌⊎◌, inl, inr, ℕ, Bool, true, false, ◌&&◌, ◌||◌, not, codes, length, List, [], ◌∷◌, ◌++◌, Option, Some, None, IsSome, Ok, Err, OnOk, refl, sym, ◌∙◌, ap, subst, append_assoc, arith}
 use Rattle.std.specs.List.{ends_with, list_all}
 use Rattle.std.specs.Prelude.{nat_eq, nat_le}
 use Rattle.std.specs.Str.{bytes_eq}
@@ -7,7 +7,7 @@ use Rattle.std.proofs.lemmas.Bool.{true≢false, cases_Bool}
 use Rattle.std.proofs.lemmas.Bool.Decides.{Decides-eqb}
 use Rattle.std.proofs.lemmas.List.{same_from_push}
 use Rattle.std.proofs.lemmas.Slice.Eq.{bytes_eq-Decides, ends_is}
-use Rattle.vs_host.specs.Disk.{Disk, Name, names_at, names_of}
+use Rattle.vs_host.specs.Disk.{Disk, Name, names_at}
 use Rattle.vs_host.specs.Names.{AreNames, is_name_byte, is_reserved, temporary}
 use Rattle.vs_host.specs.World.{Scene, content_of}
 use Rattle.vs_host.specs.declared.names.Names.{Names}

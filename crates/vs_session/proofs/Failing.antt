@@ -1,5 +1,5 @@
 -- Which calls of a command failed, over calls that follow one another.
-use Rattle.std.proofs.Common.{◌≡◌, ◌≤◌, ℕ, Bool, true, false, List, IsTrue, refl, sym, ◌∙◌, subst, arith}
+use Rattle.std.proofs.Common.{◌≡◌, ◌≤◌, ℕ, true, false, List, IsTrue, refl, sym, ◌∙◌, subst, arith}
 use Rattle.std.proofs.lemmas.Bool.{true≢false}
 use Rattle.vs_host.specs.World.{Scene, Tells}
 use Rattle.vs_host.specs.Trace.{Snapshot}
@@ -32,7 +32,7 @@ quiet_clock old answers = record { moments = goes_none (HasNoFault old) old.trac
 
 -- a file that becomes written after calls that did not fail
 pub written_after : (name bytes : List ℕ) (old mid new : Scene) → Quiet old mid → BecomesWritten name bytes mid new → BecomesWritten name bytes old new
-written_after name bytes old mid new quiet file = record { written = file.written; quiet = quiet_then old mid file.written quiet file.quiet; holds = file.holds; later = file.later }
+written_after name bytes old mid new quiet file = record { written = file.written; moment = file.moment; quiet = quiet_then old mid file.written quiet file.quiet; holds = file.holds; later = file.later }
 
 module _ (names : Names) (state : SessionState) (instruction : Instruction) (ended : Ended) where
   -- a command that did not write the file

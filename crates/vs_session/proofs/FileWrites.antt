@@ -1,44 +1,30 @@
 -- A write of the file after the sync that its command begins, as a run sees it: at each moment, and in the end.
-use Rattle.std.proofs.Common.{◌≡◌, ◌⊎◌, inl, inr, ℕ, zero, suc, ◌+◌, ◌≤◌, Bool, true, false, cond, ◌&&◌, ◌||◌, not, length, map, codes, List, [], ◌∷◌, ◌++◌, Option, Some, None, Result, Ok, Err, IfOk, OnOk, OnErr, refl, sym, ◌∙◌, ap, subst, arith}
-use Rattle.std.specs.Prelude.{is_some, is_none, IsSome, IfSome}
+use Rattle.std.proofs.Common.{◌≡◌, ◌⊎◌, inl, inr, ℕ, zero, suc, ◌+◌, Bool, true, false, cond, ◌&&◌, ◌||◌, not, map, List, [], ◌∷◌, Option, Some, None, refl, sym, ◌∙◌, ap, subst}
+use Rattle.std.specs.Prelude.{is_some, is_none, IsSome}
 use Rattle.std.specs.Str.{bytes_eq}
 use Rattle.std.proofs.lemmas.Slice.Eq.{bytes_eq-Decides}
 use Rattle.std.proofs.lemmas.Bool.{true≢false, cases_Bool}
-use Rattle.std.proofs.lemmas.List.{append_cancel_right}
-use Rattle.vs_faults.specs.Faults.{HasRisen}
 use Rattle.vs_host.specs.File.{File}
 use Rattle.vs_host.specs.Disk.{Disk, Name, names_of, names_at, read_under, content_in, IsImageOf}
-use Rattle.vs_host.specs.Names.{AreNames, temporary}
+use Rattle.vs_host.specs.Names.{AreNames}
 use Rattle.vs_host.specs.Trace.{Snapshot, Each, GoesOn}
-use Rattle.vs_host.specs.World.{Scene}
 use Rattle.vs_host.specs.declared.names.Names.{Names}
-use Rattle.vs_disk.specs.Images.{HoldsBytes, MayLeave, Takes}
-use Rattle.vs_disk.specs.Names.{IsImageAt, SameAt}
-use Rattle.vs_disk.specs.Runs.{Inside, Runs, Looks}
-use Rattle.vs_disk.proofs.Contents.{takes_then, some_bytes}
-use Rattle.vs_disk.proofs.Others.{same_then, image_same, image_before}
-use Rattle.vs_disk.proofs.Runs.{goes_then, goes_weaker}
-use Rattle.vs_pair.specs.Pair.{Image, is_swap, is_apart, is_foreign}
+use Rattle.vs_disk.specs.Images.{Takes}
+use Rattle.vs_disk.specs.Names.{SameAt}
+use Rattle.vs_disk.proofs.Others.{image_same, image_before}
+use Rattle.vs_pair.specs.Pair.{is_apart}
 use Rattle.vs_pair.proofs.MadeFiles.{same_weaker}
 use Rattle.vs_backup.specs.declared.options.WriteOptions.{WriteOptions}
-use Rattle.vs_backup.specs.declared.errors.WriteErr.{WriteErr}
-use Rattle.vs_backup.specs.declared.errors.WriteErr.TheVariants as error
-use Rattle.vs_backup.specs.declared.errors.Place.TheVariants as place
-use Rattle.vs_backup.specs.Backups.{WorksOn, IsBackupName, IsNoName, backs_up, backup_of, backup_name, candidates, first_free, lettered, letters}
+use Rattle.vs_backup.specs.Backups.{WorksOn, IsBackupName, backup_of, backup_name, candidates, first_free, lettered, letters}
 use Rattle.vs_backup.specs.Backups.WorksOn.{TheFile, TheNewFile, TheBackup, TheCopy}
-use Rattle.vs_backup.specs.Works.{IsOutside, Narrowed}
-use Rattle.vs_backup.specs.Writing.{IsUnseen, IsWhole, FindsNoName, MayLackNew, WritesFresh, WritesInPlace, WritesNew, WritesPlain, WritesWith, nowhere}
+use Rattle.vs_backup.specs.Works.{Narrowed}
 use Rattle.vs_backup.proofs.Backed.{narrowed_content}
 use Rattle.vs_backup.proofs.Choosing.{candidates_are, letters_next, none_left, IsBackupName-plain, IsBackupName-lettered, some_name}
-use Rattle.vs_backup.proofs.Frames.{absent_now, not_same}
-use Rattle.vs_backup.proofs.Kept.{may_leave_now}
-use Rattle.vs_backup.proofs.NamesApart.{file_apart, backup_apart, temporary_apart}
+use Rattle.vs_backup.proofs.Frames.{not_same}
+use Rattle.vs_backup.proofs.NamesApart.{file_apart, backup_apart}
 use Rattle.vs_safety.specs.Undo.{LeavesUndo}
-use Rattle.vs_safety.specs.Writes.{Write, State, AreForeign, Avoids, HasWritten, IsUntouched, IsWholeIn, LeavesOld, backup_for, is_either, new_bytes, old_bytes, state_now}
-use Rattle.vs_desk.specs.Writes.{WritesFile}
-use Rattle.vs_desk.proofs.Left.{goes_both, moved_to, narrowed_image, same_left}
-use Rattle.vs_session.specs.Session.{lacks_name}
-use Rattle.vs_session.proofs.Steps.{apart_foreign}
+use Rattle.vs_safety.specs.Writes.{IsUntouched, LeavesOld, is_either}
+use Rattle.vs_desk.proofs.Left.{moved_to, narrowed_image, same_left}
 use Rattle.vs_session.proofs.UndoNames.{undo_apart}
 
 -- ---- the same calls, seen in several ways

@@ -1,5 +1,5 @@
 -- What a session makes of what the write of its text answered.
-use Rattle.std.proofs.Common.{◌≡◌, inl, inr, ℕ, Bool, true, false, ◌==◌, cond, length, string_bytes, List, Result, Ok, Err, refl, sym, ◌∙◌, ap, subst}
+use Rattle.std.proofs.Common.{◌≡◌, inl, inr, ℕ, true, false, ◌==◌, length, string_bytes, List, Result, Err, refl, sym, ◌∙◌, ap, subst}
 use Rattle.std.proofs.lemmas.Bool.{cases_Bool, true≢false}
 use Rattle.vs_host.specs.Disk.{Disk, IsFolder}
 use Rattle.vs_host.specs.World.{Scene}

@@ -1,5 +1,5 @@
 -- One step of a session, as the run sees it: what its sync and its command do, one after the other.
-use Rattle.std.proofs.Common.{◌≡◌, inl, inr, ℕ, ◌≤◌, Bool, true, false, cond, ◌&&◌, ◌||◌, not, length, List, [], ◌∷◌, Option, Some, None, Result, Ok, Err, OnOk, OnErr, IsErr, IsTrue, is_ok, refl, sym, ◌∙◌, ap, subst, arith}
+use Rattle.std.proofs.Common.{◌≡◌, inl, inr, ℕ, ◌≤◌, Bool, true, false, cond, ◌&&◌, ◌||◌, not, length, List, ◌∷◌, Option, Some, None, Result, Ok, Err, OnOk, OnErr, IsErr, IsTrue, is_ok, refl, sym, ◌∙◌, ap, subst, arith}
 use Rattle.std.specs.Str.{bytes_eq}
 use Rattle.std.proofs.lemmas.Bool.{true≢false, cases_Bool}
 use Rattle.vs_faults.specs.Faults.{HasCause, HasRisen}

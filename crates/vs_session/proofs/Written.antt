@@ -1,6 +1,6 @@
 -- The answer to `w`, after the sync that it begins was acknowledged: the moments of the sync and of the write one after the other, and
 -- what is left.
-use Rattle.std.proofs.Common.{◌≡◌, ◌⊎◌, inl, inr, ℕ, ◌+◌, ◌≤◌, Bool, true, false, cond, ◌&&◌, not, length, List, [], ◌∷◌, Option, Some, None, Result, Ok, Err, IfOk, OnErr, is_ok, refl, sym, ◌∙◌, ap, subst}
+use Rattle.std.proofs.Common.{◌≡◌, ◌⊎◌, inl, inr, ℕ, ◌≤◌, Bool, true, false, cond, ◌&&◌, not, length, List, [], ◌∷◌, Option, Some, None, Result, Ok, Err, IfOk, OnErr, is_ok, refl, sym, ◌∙◌, ap, subst}
 use Rattle.std.proofs.lemmas.Bool.{true≢false, cases_Bool}
 use Rattle.vs_faults.specs.Faults.{HasCause, HasRisen}
 use Rattle.vs_host.specs.Disk.{Disk}
@@ -11,7 +11,7 @@ use Rattle.vs_host.specs.declared.names.Names.{Names}
 use Rattle.vs_text.specs.Text.{file_of}
 use Rattle.vs_disk.specs.Images.{HoldsBytes}
 use Rattle.vs_disk.specs.Names.{SameAt}
-use Rattle.vs_disk.specs.Runs.{Inside, Runs, Looks, Quiet}
+use Rattle.vs_disk.specs.Runs.{Inside, Runs, Quiet}
 use Rattle.vs_disk.proofs.Quiet.{last_then}
 use Rattle.vs_disk.proofs.Runs.{fails_none, frames, goes_weaker, quiet_none, runs_as, runs_then}
 use Rattle.vs_pair.specs.Pair.{Rises, is_apart, is_swap}
@@ -42,8 +42,8 @@ use Rattle.vs_desk.specs.Writes.{KeepsSwap, WritesFile}
 use Rattle.vs_desk.proofs.Left.{goes_both}
 use Rattle.vs_desk.proofs.Stillness.{still_fits}
 use Rattle.vs_session.specs.declared.session.Session.{Session}
-use Rattle.vs_session.specs.Session.{SessionState, Ended, accepts_quit, after_sync, answered, begins_sync, carried, is_fault, is_write, lacks_name, line_by, reply_of, state_after, stores_both, sync_in, undo_after, undo_work, with_history, write_in, write_reply, write_work, written_state}
-use Rattle.vs_session.specs.Writes.{HasSynced, Wrote, state_to}
+use Rattle.vs_session.specs.Session.{SessionState, Ended, accepts_quit, after_sync, answered, begins_sync, carried, is_fault, is_write, lacks_name, line_by, reply_of, state_after, sync_in, undo_after, undo_work, with_history, write_in, write_reply, write_work, written_state}
+use Rattle.vs_session.specs.Writes.{HasSynced, Wrote}
 use Rattle.vs_session.specs.Fits.{Answers, Fits, LeavesNoneMade, names_of}
 use Rattle.vs_session.specs.Failures.{FailsOnce, StopsWriting}
 use Rattle.vs_session.proofs.Cleared.{cleared_same, cleared_synced, cleared_then, cleared_written}

@@ -1,6 +1,6 @@
 -- What a session is between two commands, and what a command comes to in it.
 use Rattle.std.specs.Prelude.{ℕ, ◌+◌, length, is_some, is_none, Bool, true, false, ◌≡◌, ◌==◌, ◌&&◌, ◌||◌, nat_le}
-use Rattle.std.specs.Prelude.{not, min, if◌then◌else◌, List, [], ◌∷◌, ◌++◌, Option, Some, None, Result, Ok, Err}
+use Rattle.std.specs.Prelude.{not, min, if◌then◌else◌, List, Option, Some, None, Result, Ok, Err}
 use Rattle.vs_host.specs.Disk.{Disk, content_in}
 use Rattle.vs_host.specs.Names.{names_of_file}
 use Rattle.vs_text.specs.Text.{file_of}

@@ -1,5 +1,5 @@
 -- What `rundo` finds under the name of the undo file, and what comes of it.
-use Rattle.std.specs.Prelude.{◌≡◌, ℕ, List, length, Option, Some, None, Result, Ok, Err, IsSomeAnd}
+use Rattle.std.specs.Prelude.{◌≡◌, ℕ, List, length, Option, None, Result, Ok, Err, IsSomeAnd}
 use Rattle.vs_machine.specs.Replies.{Answer, says, refuses, device_fault, no_undo_file, not_undo_file, out_of_memory}
 use Rattle.vs_machine.specs.Replies.{undo_file_corrupted, undo_file_encrypted, undo_file_misfit, undo_file_of_other, undo_file_read, undo_file_version}
 use Rattle.vs_machine.specs.declared.command.Outcome.{Outcome}

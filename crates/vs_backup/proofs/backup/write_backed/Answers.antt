@@ -56,11 +56,11 @@ returns-then-backing-clause-calls g c told text has =
     let s0 : Scene = g.D.World.scene c.args.desk.now in
     let s1 : Scene = g.D.World.scene c.write_over.new.desk in
     let had = c.requires.settled told in
-    doing.written_then c.args.backing.name.now (file_of text) s0 s1 s1 c.in_ok-size.size (c.in_ok-size.ensures.quiet told) (c.in_ok-size.ensures.over told had.0 had.1 text has).written.1 (fails_none s1)
+    doing.written_then c.args.backing.name.now (file_of text) s0 s1 s1 c.in_ok-size.size (g.D.World.newest c.write_over.new.desk told) (c.in_ok-size.ensures.quiet told) (c.in_ok-size.ensures.over told had.0 had.1 text has).written.1 (fails_none s1)
 
 pub returns-clause-calls : goal.returns-clause-calls
 returns-clause-calls g c told text has =
     let s0 : Scene = g.D.World.scene c.args.desk.now in
     let s1 : Scene = g.D.World.scene c.write_over.new.desk in
     let had = c.requires.settled told in
-    doing.written_then c.args.backing.name.now (file_of text) s0 s1 (g.D.World.scene c.drop_name.new.desk) c.in_ok-size.size (c.in_ok-size.ensures.quiet told) (c.in_ok-size.ensures.over told had.0 had.1 text has).written.1 (c.drop_name.ensures.kept.stops.last told)
+    doing.written_then c.args.backing.name.now (file_of text) s0 s1 (g.D.World.scene c.drop_name.new.desk) c.in_ok-size.size (g.D.World.newest c.write_over.new.desk told) (c.in_ok-size.ensures.quiet told) (c.in_ok-size.ensures.over told had.0 had.1 text has).written.1 (c.drop_name.ensures.kept.stops.last told)

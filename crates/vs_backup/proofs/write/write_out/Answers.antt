@@ -203,7 +203,7 @@ returns-in-Ok-false-clause-calls g c = λ told text has.
     let fresh = named (ap (λ (d : Disk). content_in d name) looks.now ∙ none) text kept in
     doing.fails_then name (file_of text) c.without_backup.result s0 s1 s2 (c.in-Ok-false.ensures.kept.stops.none told (λ is. absurd (cc)))
     (subst (λ (r : Result ℕ WriteErr). FailsNoEarlier name (file_of text) s1 s2 r) (sym c.without_backup.ensures)
-    (doing.fails_plain name (file_of text) g.D.World.tells c.write_new.result s1 s2 told c.write_new.ensures.kept.stops c.write_new.ensures.kept.cause fresh.written))
+    (doing.fails_plain name (file_of text) g.D.World.tells c.write_new.result s1 s2 told (g.D.World.newest c.write_new.new.desk told) c.write_new.ensures.kept.stops c.write_new.ensures.kept.cause fresh.written))
 
 pub returns-in-Err-clause-calls : goal.returns-in-Err-clause-calls
 returns-in-Err-clause-calls g c told text has =

@@ -52,4 +52,4 @@ pub returns-clause-somewhere : goal.returns-clause-somewhere
 returns-clause-somewhere g c told on refused = true≢false (sym on ∙ sym c.backs_up.ensures ∙ c.if-backs_up.false)
 
 pub returns-clause-calls : goal.returns-clause-calls
-returns-clause-calls g c = λ told text has. let had = some_content (g.D.World.scene c.args.desk.now).folder c.args.name.now (c.requires.there told) in subst (λ (r : Result ℕ WriteErr). FailsNoEarlier c.args.name.now (file_of text) (g.D.World.scene c.args.desk.now) (g.D.World.scene c.write_unbacked.new.desk) r) (sym c.without_backup.ensures) (doing.fails_plain c.args.name.now (file_of text) g.D.World.tells c.write_unbacked.result (g.D.World.scene c.args.desk.now) (g.D.World.scene c.write_unbacked.new.desk) told c.write_unbacked.ensures.kept.stops c.write_unbacked.ensures.kept.cause (c.write_unbacked.ensures.plain told had.0 had.1 text has).written)
+returns-clause-calls g c = λ told text has. let had = some_content (g.D.World.scene c.args.desk.now).folder c.args.name.now (c.requires.there told) in subst (λ (r : Result ℕ WriteErr). FailsNoEarlier c.args.name.now (file_of text) (g.D.World.scene c.args.desk.now) (g.D.World.scene c.write_unbacked.new.desk) r) (sym c.without_backup.ensures) (doing.fails_plain c.args.name.now (file_of text) g.D.World.tells c.write_unbacked.result (g.D.World.scene c.args.desk.now) (g.D.World.scene c.write_unbacked.new.desk) told (g.D.World.newest c.write_unbacked.new.desk told) c.write_unbacked.ensures.kept.stops c.write_unbacked.ensures.kept.cause (c.write_unbacked.ensures.plain told had.0 had.1 text has).written)

@@ -1,5 +1,4 @@
-use Rattle.std.proofs.Common.{◌≤◌, sym, ap, subst}
-use Rattle.vs_host.specs.World.{Scene}
+use Rattle.std.proofs.Common.{◌≤◌, sym, subst}
 use Rattle.vs_pair.specs.declared.files.SwapFiles.{SwapFiles}
 use Rattle.vs_session.proofs.StoreLemmas.{if_ok_as, fits_ready, fits_left}
 use Rattle.vs_session.proofs.summary.digest_text.Goals as goal

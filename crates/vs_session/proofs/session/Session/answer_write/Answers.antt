@@ -1,4 +1,4 @@
-use Rattle.std.proofs.Common.{◌∷◌, true, false, refl, ◌∙◌}
+use Rattle.std.proofs.Common.{◌∷◌, true, refl}
 use Rattle.vs_session.specs.Session.{after_sync, sync_in}
 use Rattle.vs_session.proofs.Steps.{answers_failed}
 use Rattle.vs_session.proofs.WriteCommand.{begins_is, never_quits}

@@ -5,7 +5,6 @@ use Rattle.vs_disk.specs.Runs.{Runs}
 use Rattle.vs_undo.specs.History.{history_marked}
 use Rattle.vs_ubind.specs.Storing.{StoresBy}
 use Rattle.vs_safety.specs.Undo.{HasUndo}
-use Rattle.vs_session.specs.Fits.{names_of}
 use Rattle.vs_session.specs.Session.{after_sync, sync_in}
 use Rattle.vs_session.specs.Stores.{StoresUndo}
 use Rattle.vs_session.proofs.BothWritten.{answers_both}
