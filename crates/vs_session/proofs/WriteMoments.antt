@@ -25,9 +25,7 @@ use Rattle.vs_backup.specs.declared.errors.Place.TheVariants as place
 use Rattle.vs_backup.specs.Backups.{WorksOn, IsNoName, backs_up, backup_of, copies, is_backed}
 use Rattle.vs_backup.specs.Works.{LeadsTo, Narrowed, SparesOthers, two_names}
 use Rattle.vs_backup.specs.Writing.{BeginsWhole, FindsNoName, IsFailed, IsUnseen, IsWhole, MayLackNew, OldIn, Places, PutsBack, Replaces, WritesFresh, WritesPlain, WritesWith, nowhere, stopped}
-use Rattle.vs_backup.specs.declared.errors.Stop.{Stop}
-use Rattle.vs_backup.specs.declared.errors.Stop.TheVariants as stop
-use Rattle.vs_backup.proofs.Copying.{never_other}
+use Rattle.vs_backup.proofs.Copying.{never_no_name, never_other}
 use Rattle.vs_backup.proofs.Frames.{absent_now}
 use Rattle.vs_backup.proofs.Kept.{may_leave_now}
 use Rattle.vs_backup.proofs.Replacing.{replaces_takes, replaces_then}
@@ -78,14 +76,21 @@ pub record IsAlone (old new : Scene) (result : Result ℕ WriteErr) : Type 0 whe
   pub last : FailsLast old new
   pub none : ¬ IsFailed result → Quiet old new
 
-in_none : (why : Stop) → OldIn {T = ℕ} place.Nowhere (Err (stopped why place.Nowhere))
-in_none stop.Failed = inl refl
-in_none stop.NoMemory = inr refl
+-- what is said of neither place is said of none
+in_none : (why : WriteErr) → (OldIn {T = ℕ} place.File (Err why) → ⊥) → (OldIn {T = ℕ} place.Backup (Err why) → ⊥) → (err_why why ≡ Err error.NoBackupName → ⊥) → OldIn {T = ℕ} place.Nowhere (Err why)
+in_none error.NoBackupName file backup none = absurd (none refl)
+in_none (error.Failed place.Nowhere) file backup none = inl refl
+in_none (error.Failed place.File) file backup none = absurd (file (inl refl))
+in_none (error.Failed place.Backup) file backup none = absurd (backup (inl refl))
+in_none (error.NoMemory place.Nowhere) file backup none = inr refl
+in_none (error.NoMemory place.File) file backup none = absurd (file (inr refl))
+in_none (error.NoMemory place.Backup) file backup none = absurd (backup (inr refl))
 
-alone_in : (old new : Scene) (answer : Result ℕ Stop) → OnErr (nowhere answer) (PutsBack old new (nowhere answer)) → OnErr (nowhere answer) (IsAlone old new (nowhere answer))
+alone_in : (old new : Scene) (answer : _) → OnErr (nowhere answer) (PutsBack old new (nowhere answer)) → OnErr (nowhere answer) (IsAlone old new (nowhere answer))
 alone_in old new (Ok size) back = tt
 alone_in old new (Err why) back = record {
-  last = back.alone (in_none why);
+  last = back.alone (in_none (stopped why place.Nowhere) (λ is. never_other why place.Nowhere place.File (λ e. cc) is)
+      (λ is. never_other why place.Nowhere place.Backup (λ e. cc) is) (λ e. never_no_name why place.Nowhere e));
   none = λ calm. quiet_then old back.stopped new (back.none calm) (back.back_none (λ is. never_other why place.Nowhere place.Backup (λ e. cc) is));
 }
 
@@ -302,7 +307,7 @@ module _ (names : Names) (are : AreNames names) (options : WriteOptions) (text :
 
     -- ---- which calls failed, where it makes no backup
     module _ (back : OnErr result (PutsBack mid new result)) where
-      alone_as : (answer : Result ℕ Stop) → result ≡ nowhere answer → OnErr result (IsAlone mid new result)
+      alone_as : (answer : _) → result ≡ nowhere answer → OnErr result (IsAlone mid new result)
       alone_as answer is = subst (λ (r : Result ℕ WriteErr). OnErr r (PutsBack mid new r) → OnErr r (IsAlone mid new r)) (sym is) (alone_in mid new answer) back
 
       alone_where : (o : Option (List ℕ)) → content_in old names.file ≡ o → (is_some o && backs_up options) ≡ false → OnErr result (IsAlone mid new result)

@@ -341,7 +341,7 @@ module _ (state : SessionState) (syncs : List Sync) (instruction : Instruction) 
         elim (cases_Bool (is_backed options state.name old.folder)) [
           | inl backed ↦ once_refused names state instruction (ended outcome at) mid new (λ i. begun i && backed i) unwritten (stops_as outcome (is_fault outcome) refl calm)
           | inr off ↦ once_unwritten names state instruction (ended outcome at) mid new unwritten (alone off).last
-            (λ here. elim (calm here) [ inl quiet ↦ quiet | inr never ↦ (alone off).none never ])
+              (λ here. elim (calm here) [ inl quiet ↦ quiet | inr never ↦ (alone off).none never ])
         ]
 
     -- no backup name is free
