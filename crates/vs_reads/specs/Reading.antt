@@ -1,5 +1,5 @@
 -- Lines that are read one after another, from runs that were copied from a store.
-use Rattle.std.specs.Prelude.{ℕ, ◌≡◌, List, drop}
+use Rattle.std.specs.Prelude.{ℕ, ◌≡◌, ◌≤◌, ◌-◌, List, drop, length, take}
 use Rattle.vs_text.specs.Text.{file_of}
 use Rattle.vs_edit.specs.Splices.{cut_out, HoldsLines}
 use Rattle.vs_reads.specs.declared.reader.LineReader.{LineReader}
@@ -7,6 +7,14 @@ use Rattle.vs_reads.specs.declared.reader.LineReader.{LineReader}
 -- the copied bytes of the lines that are still to be read
 abbrev pub rest_of : LineReader → List ℕ
 rest_of reader = drop reader.from reader.run.items
+
+-- the copied bytes of the line that was read last, which are none before the first
+abbrev pub line_of : LineReader → List ℕ
+line_of reader = take (reader.stop - reader.start) (drop reader.start reader.run.items)
+
+-- The bytes of the line that was read last are there.
+abbrev pub HasLine : LineReader → Type 0
+HasLine reader = (reader.start ≤ reader.stop) × (reader.stop ≤ length reader.run.items)
 
 -- A reader reads line `at` of a store next, and stops before line `end`. The bytes that it has copied are those of lines.
 pub record IsAt (reader : LineReader) (at end : ℕ) : Type 0 where

@@ -34,9 +34,9 @@ pub fn push_lines<S: LineStore>(
     let mut reader = LineReader::new(alloc, top, count);
     into.reserve(count as usize)?;
     for _ in 0..count {
-        let mut line = Vec::new(alloc);
-        reader.line(alloc, view, &mut line)?;
-        into.push(Line::from_vec(line))?;
+        reader.advance(alloc, view)?;
+        let line = Line::raw(alloc, reader.current())?;
+        into.push(line)?;
     }
     Ok(())
 }
@@ -58,11 +58,10 @@ pub fn bytes_in<S: LineStore>(
 {
     let _ = view.len();
     let mut reader = LineReader::new(alloc, top, count);
-    let mut line = Vec::new(alloc);
     let mut bytes = 0u64;
     for _ in 0..count {
-        reader.line(alloc, view, &mut line)?;
-        bytes += line.len() as u64 + 1;
+        reader.advance(alloc, view)?;
+        bytes += reader.current().len() as u64 + 1;
     }
     Ok(bytes)
 }
