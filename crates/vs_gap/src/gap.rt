@@ -1,41 +1,29 @@
-// A list of lines with a gap.
-ghost use Rattle.std.specs.Prelude.{◌≡◌, ◌≤◌, ◌<◌, ◌+◌, ◌-◌, ◌++◌, ◌^◌, [], ℕ, List, IfOk, OnOk, get_or, length, min, reverse, vec_len};
+// A list of lines with two gaps.
+ghost use Rattle.std.specs.Prelude.{◌≡◌, ◌≤◌, ◌<◌, ◌+◌, ◌-◌, ◌++◌, ◌^◌, [], ℕ, List, IfOk, IsTrue, OnOk, drop, get_or, length, max, min, take};
 ghost use Rattle.vs_text.specs.Text.{IsText, bytes_of};
 ghost use Rattle.vs_edit.specs.Splices.{cut_out, splice};
 
 use std::alloc::{AllocError, Global};
+use std::collections::VecDeque;
 use std::marker::Model;
 use vs_text::Line;
 
-/// A list of lines with a gap at one place. A line is put in or taken out there without a move of those after it.
+/// A list of lines with a gap at two places. A line is put in or taken out there without a move of the others, and a change at another
+/// place moves the gap that is nearer: so changes at two places in turn cost no more than those at one.
 #[derive(Drop)]
 pub struct GapLines {
-    // The lines before the gap.
-    before: Vec<Line>,
-    // The lines after the gap, the first of them last.
-    after: Vec<Line>,
+    // The lines before the first gap, those between the two, and those after the last.
+    before: VecDeque<Line>,
+    between: VecDeque<Line>,
+    after: VecDeque<Line>,
 }
 
 impl Model for GapLines {
-    ghost use Rattle.std.specs.Prelude.{ℕ, List, ◌++◌, reverse};
+    ghost use Rattle.std.specs.Prelude.{ℕ, List, ◌++◌};
 
     ghost Value = { List (List ℕ) };
 
-    ghost view = { λ l. l.before.items ++ reverse l.after.items };
-}
-
-// Moves lines from the end of a list to the end of another, the last one first, until no more than so many are left.
-fn shift(from: &mut Vec<Line>, to: &mut Vec<Line>, left: usize) -> Result<(), AllocError>
-    ensures lines { OnOk result (from.new.items ++ reverse to.new.items ≡ from.old.items ++ reverse to.old.items) }
-    ensures left { OnOk result (vec_len from.new ≡ min left (vec_len from.old)) }
-{
-    'lines: while from.len() > left {
-        match from.pop() {
-            None => return Ok(()),
-            Some(line) => to.push(line)?,
-        }
-    }
-    Ok(())
+    ghost view = { λ l. l.before.items ++ l.between.items ++ l.after.items };
 }
 
 /// The number of bytes of lines, with one for each line end, as far as 64 bits go.
@@ -50,39 +38,103 @@ pub(crate) fn bytes_in(lines: &[Line]) -> u64
     bytes
 }
 
-// Moves the gap to a place among the lines.
-fn move_gap(before: &mut Vec<Line>, after: &mut Vec<Line>, at: usize) -> Result<(), AllocError>
-    requires { at ≤ vec_len before.old + vec_len after.old }
-    ensures lines { OnOk result (before.new.items ++ reverse after.new.items ≡ before.old.items ++ reverse after.old.items) }
-    ensures place { OnOk result (vec_len before.new ≡ at) }
+// Moves lines from before a gap to after it, the last one first, until no more than so many are left.
+fn lower(
+    before: &mut VecDeque<Line>,
+    after: &mut VecDeque<Line>,
+    left: usize,
+) -> Result<(), AllocError>
+    ensures lines { OnOk result (before.new.items ++ after.new.items ≡ before.old.items ++ after.old.items) }
+    ensures left { OnOk result (length before.new.items ≡ min left (length before.old.items)) }
 {
-    shift(before, after, at)?;
-    let ahead = at - before.len();
-    let left = after.len() - ahead;
-    shift(after, before, left)?;
+    'lines: while before.len() > left {
+        match before.pop_back() {
+            None => return Ok(()),
+            Some(line) => after.push_front(line)?,
+        }
+    }
     Ok(())
+}
+
+// Moves lines from after a gap to before it, the first one first, until there are so many.
+fn raise(
+    before: &mut VecDeque<Line>,
+    after: &mut VecDeque<Line>,
+    count: usize,
+) -> Result<(), AllocError>
+    requires { count ≤ length before.old.items + length after.old.items }
+    ensures lines { OnOk result (before.new.items ++ after.new.items ≡ before.old.items ++ after.old.items) }
+    ensures count { OnOk result (length before.new.items ≡ max count (length before.old.items)) }
+{
+    'lines: while before.len() < count {
+        match after.pop_front() {
+            None => return Ok(()),
+            Some(line) => before.push_back(line)?,
+        }
+    }
+    Ok(())
+}
+
+// Moves a gap to a place among the lines.
+fn move_gap(
+    before: &mut VecDeque<Line>,
+    after: &mut VecDeque<Line>,
+    at: usize,
+) -> Result<(), AllocError>
+    requires { at ≤ length before.old.items + length after.old.items }
+    ensures lines { OnOk result (before.new.items ++ after.new.items ≡ before.old.items ++ after.old.items) }
+    ensures place { OnOk result (length before.new.items ≡ at) }
+{
+    lower(before, after, at)?;
+    raise(before, after, at)?;
+    Ok(())
+}
+
+// Takes the first lines away. Gives the number of their bytes, as far as 64 bits go.
+fn take_away(lines: &mut VecDeque<Line>, count: usize) -> u64
+    requires { count ≤ length lines.old.items }
+    ensures rest { lines.new.items ≡ drop count lines.old.items }
+    ensures bytes { result ≡ min (bytes_of (take count lines.old.items)) (2 ^ 64 - 1) }
+{
+    let mut bytes = 0u64;
+    for _ in 0..count {
+        if let Some(line) = lines.pop_front() {
+            bytes = bytes.saturating_add(line.bytes().len() as u64 + 1);
+        }
+    }
+    bytes
 }
 
 // Puts copies of new lines in the place of others. Gives the number of bytes of those that went, as far as 64 bits go.
 fn exchange(
-    before: &mut Vec<Line>,
-    after: &mut Vec<Line>,
+    before: &mut VecDeque<Line>,
+    after: &mut VecDeque<Line>,
     at: usize,
     old: usize,
     new: &[Line],
 ) -> Result<u64, AllocError>
-    requires { at + old ≤ vec_len before.old + vec_len after.old }
-    ensures lines { OnOk result (before.new.items ++ reverse after.new.items ≡ splice (before.old.items ++ reverse after.old.items) at old new.now) }
-    ensures gone { IfOk result (λ gone. gone ≡ min (bytes_of (cut_out (before.old.items ++ reverse after.old.items) at old)) (2 ^ 64 - 1)) }
+    requires { at + old ≤ length before.old.items + length after.old.items }
+    ensures lines { OnOk result (before.new.items ++ after.new.items ≡ splice (before.old.items ++ after.old.items) at old new.now) }
+    ensures gone { IfOk result (λ gone. gone ≡ min (bytes_of (cut_out (before.old.items ++ after.old.items) at old)) (2 ^ 64 - 1)) }
 {
     move_gap(before, after, at)?;
-    let left = after.len() - old;
-    let gone = bytes_in(&after[left..]);
-    after.truncate(left);
+    let gone = take_away(after, old);
     for line in new {
-        before.push(line.clone()?)?;
+        before.push_back(line.clone()?)?;
     }
     Ok(gone)
+}
+
+// Whether a change is made at the first of two gaps, which has so many lines before it: it does not reach past the second, so many lines
+// later, and is nearer to the first.
+fn is_at_first(at: usize, old: usize, before: usize, between: usize) -> bool
+    ensures { IsTrue result → at + old ≤ before + between }
+{
+    if at <= before {
+        return old <= before - at || old - (before - at) <= between;
+    }
+    let past = at - before;
+    past <= between && old <= between - past && past < between - past
 }
 
 impl GapLines {
@@ -91,8 +143,9 @@ impl GapLines {
         ensures { result ≡ [] }
     {
         GapLines {
-            before: Vec::new(alloc),
-            after: Vec::new(alloc),
+            before: VecDeque::new(alloc),
+            between: VecDeque::new(alloc),
+            after: VecDeque::new(alloc),
         }
     }
 
@@ -101,7 +154,7 @@ impl GapLines {
         requires { length self.now < 2 ^ 63 }
         ensures { result ≡ length self.now }
     {
-        self.before.len() + self.after.len()
+        self.before.len() + self.between.len() + self.after.len()
     }
 
     /// A line.
@@ -114,15 +167,20 @@ impl GapLines {
             return &self.before[at];
         }
         let past = at - before;
-        &self.after[self.after.len() - 1 - past]
+        let between = self.between.len();
+        if past < between {
+            return &self.between[past];
+        }
+        &self.after[past - between]
     }
 
     /// The same lines once more.
-    pub fn copy(&self, alloc: Global) -> Result<GapLines, AllocError>
+    pub fn copy(&self) -> Result<GapLines, AllocError>
         ensures { IfOk result (λ copy. copy ≡ self.now) }
     {
         Ok(GapLines {
             before: self.before.clone()?,
+            between: self.between.clone()?,
             after: self.after.clone()?,
         })
     }
@@ -134,25 +192,28 @@ impl GapLines {
         ensures lines { OnOk result (self.new ≡ splice self.old at old new.now) }
         ensures gone { IfOk result (λ gone. gone ≡ min (bytes_of (cut_out self.old at old)) (2 ^ 64 - 1)) }
     {
-        exchange(&mut self.before, &mut self.after, at, old, new)
+        if is_at_first(at, old, self.before.len(), self.between.len()) {
+            return exchange(&mut self.before, &mut self.between, at, old, new);
+        }
+        lower(&mut self.before, &mut self.between, at)?;
+        let past = at - self.before.len();
+        exchange(&mut self.between, &mut self.after, past, old, new)
     }
 
     /// Puts lines before the first one. After an `Err` any lines may be there.
     pub fn prepend(&mut self, lines: Vec<Line>) -> Result<(), AllocError>
         ensures { OnOk result (self.new ≡ lines.items ++ self.old) }
     {
-        shift(&mut self.before, &mut self.after, 0)?;
-        self.before = lines;
+        let mut front = VecDeque::from(lines);
+        front.append(&mut self.before)?;
+        self.before = front;
         Ok(())
     }
 
     /// Puts lines after the last one. After an `Err` any lines may be there.
-    pub fn append(&mut self, mut lines: Vec<Line>) -> Result<(), AllocError>
+    pub fn append(&mut self, lines: Vec<Line>) -> Result<(), AllocError>
         ensures { OnOk result (self.new ≡ self.old ++ lines.items) }
     {
-        lines.reverse();
-        lines.append(&mut self.after)?;
-        self.after = lines;
-        Ok(())
+        self.after.append(&mut VecDeque::from(lines))
     }
 }

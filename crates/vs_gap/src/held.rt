@@ -42,13 +42,13 @@ impl Held {
     }
 
     /// The same lines once more.
-    pub fn copy(&self, alloc: Global) -> Result<Held, AllocError>
+    pub fn copy(&self) -> Result<Held, AllocError>
         ensures { IfOk result (λ copy. copy ≡ self.now) }
     {
         Ok(Held {
             top: self.top,
             replaced: self.replaced,
-            lines: self.lines.copy(alloc)?,
+            lines: self.lines.copy()?,
             bytes: self.bytes,
         })
     }

@@ -1,5 +1,5 @@
-//! A store whose changes stand beside each other: it holds the lines between the first and the last of them, with a gap where the
-//! next change is made, so that a change costs no more than the way from the one before.
+//! A store whose changes stand beside each other, or at two places in turn: it holds the lines between the first and the last of them,
+//! with two gaps, so that a change costs no more than the way of the nearer gap to its place.
 #![tactic(auto)]
 
 mod gap;

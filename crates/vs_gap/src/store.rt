@@ -16,7 +16,7 @@ pub struct Overlay {
 }
 
 /// A store over another, which it only reads. It holds the lines from the first that was changed to the last one, and so takes into
-/// memory what is changed: it is meant for changes that stand near to each other, one after the other.
+/// memory what is changed: it is meant for changes that stand near to each other, or at two places in turn.
 #[derive(Drop)]
 pub struct GapStore<'s, S: LineStore> {
     pub below: &'s mut S,
@@ -25,13 +25,13 @@ pub struct GapStore<'s, S: LineStore> {
 
 impl Overlay {
     // Keeps what was committed, which is what is held now where nothing else was kept.
-    fn keep_committed(&mut self, alloc: Global) -> Result<(), AllocError>
+    fn keep_committed(&mut self) -> Result<(), AllocError>
         ensures ok { OnOk result (self.new.committed ≡ Some (committed_of self.old.present self.old.committed)) }
         ensures err { OnErr result (self.new.committed ≡ self.old.committed) }
         ensures present { self.new.present ≡ self.old.present }
     {
         if self.committed.is_none() {
-            self.committed = Some(self.present.copy(alloc)?);
+            self.committed = Some(self.present.copy()?);
         }
         Ok(())
     }
@@ -112,7 +112,7 @@ impl<'s, S: LineStore> LineStore for GapStore<'s, S> {
     }
 
     fn splice(&mut self, alloc: Global, top: u64, old: u64, new: &[Line]) -> Result<(), StoreErr> {
-        self.overlay.keep_committed(alloc)?;
+        self.overlay.keep_committed()?;
         hold(alloc, &mut self.overlay.present, self.below, top, old)?;
         self.overlay.present.exchange(top, old, new)?;
         Ok(())
