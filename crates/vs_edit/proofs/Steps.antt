@@ -21,9 +21,9 @@ pub OnlyReads-none : {S : Type 0} {shows : S → StoreState} {IsValid : S → Ty
     → IsValid a → KeepsTexts shows IsValid Stays a a
 OnlyReads-none {a} itself valid = record { valid = valid; stays = itself a; present = SameText-refl; committed = SameText-refl }
 
--- two calls, where the first may leave the store less valid than the second
-pub Continues-trans : {S : Type 0} {shows : S → StoreState} {IsSafe IsValid : S → Type 0} {Stays : S → S → Type 0} {a b c : S}
-    → ((p q r : S) → Stays p q → Stays q r → Stays p r) → KeepsCommitted shows IsSafe Stays a b → KeepsCommitted shows IsValid Stays b c → KeepsCommitted shows IsValid Stays a c
+-- two calls
+pub Continues-trans : {S : Type 0} {shows : S → StoreState} {IsValid : S → Type 0} {Stays : S → S → Type 0} {a b c : S}
+    → ((p q r : S) → Stays p q → Stays q r → Stays p r) → KeepsCommitted shows IsValid Stays a b → KeepsCommitted shows IsValid Stays b c → KeepsCommitted shows IsValid Stays a c
 Continues-trans {a} {b} {c} on first second = record {
   valid = second.valid;
   stays = on a b c first.stays second.stays;

@@ -6,10 +6,6 @@ use Rattle.vs_edit.specs.declared.store.LineStore.{Ghosts}
 abbrev pub Continues : {S : Type 0} → Ghosts S → S → S → Type 0
 Continues g = KeepsCommitted g.shows g.valid g.stays
 
--- The store can be rolled back, over the same borrows, to the same committed text.
-abbrev pub CanGoBack : {S : Type 0} → Ghosts S → S → S → Type 0
-CanGoBack g = KeepsCommitted g.shows g.safe g.stays
-
 -- The store is valid, over the same borrows, with the same texts.
 abbrev pub OnlyReads : {S : Type 0} → Ghosts S → S → S → Type 0
 OnlyReads g = KeepsTexts g.shows g.valid g.stays

@@ -36,7 +36,7 @@ pub record AllowsSplice (old : TextState) (top count : ℕ) (inserted : List (Li
   pub short_lines : All IsShort inserted
   pub few_bytes : (text : List (List ℕ)) → old.Is text → bytes_of (splice text top count inserted) ≤ MAX_TEXT_BYTES
 
--- The store is as valid as this fact says, over the same borrows, and what was committed stays.
+-- The store is valid, over the same borrows, and what was committed stays.
 pub record KeepsCommitted {S : Type 0} (shows : S → StoreState) (IsValid : S → Type 0) (Stays : S → S → Type 0) (old new : S) : Type 0 where
   pub valid : IsValid new
   pub stays : Stays old new

@@ -68,13 +68,9 @@ impl<S: LineStore> LineStore for FailingStore<S> {
 
     ghost valid = { λ s. S.valid s.store };
 
-    ghost safe = { λ s. S.safe s.store };
-
     ghost stays = { λ a b. S.stays a.store b.store };
 
     ghost tells_one = { λ s valid told. absurd (false≢true told) };
-
-    ghost told_one = { λ s safe told. absurd (false≢true told) };
 
     ghost has_told = { λ s text is. absurd is };
 
@@ -91,8 +87,6 @@ impl<S: LineStore> LineStore for FailingStore<S> {
     ghost few_lines = { λ s valid. S.few_lines s.store valid };
 
     ghost few_bytes = { λ s valid. S.few_bytes s.store valid };
-
-    ghost is_safe = { λ s valid. S.is_safe s.store valid };
 
     ghost stays_itself = { λ s. S.stays_itself s.store };
 

@@ -1,36 +1,11 @@
 // Calls over any store.
-ghost use Rattle.std.specs.Prelude.{◌≡◌, ℕ, List, IfOk, IsErrOf, OnOk, OnErr, length};
+ghost use Rattle.std.specs.Prelude.{◌≡◌, ℕ, List, IfOk, IsErrOf, length};
 ghost use Rattle.vs_faults.specs.Faults.{HasCause};
-ghost use Rattle.vs_edit.specs.State.{SameText, IsSpliced, AllowsSplice};
-ghost use Rattle.vs_edit.specs.Calls.{Continues, OnlyReads};
+ghost use Rattle.vs_edit.specs.Calls.{OnlyReads};
 
 use crate::{LineStore, StoreErr};
 use std::alloc::Global;
 use vs_text::{Line, Text};
-
-/// Splices the text of a store, which goes back to its committed text where that fails. So the store may be used after every answer.
-pub fn splice_or_rollback<S: LineStore>(
-    alloc: Global,
-    store: &mut S,
-    top: u64,
-    old: u64,
-    new: &[Line],
-) -> Result<(), StoreErr>
-    requires valid { S.valid store.old }
-    requires allowed { AllowsSplice (S.shows store.old).present top old new.now }
-    ensures ok { OnOk result (IsSpliced (S.shows store.old).present top old new.now (S.shows store.new).present) }
-    ensures err { OnErr result (SameText (S.shows store.old).committed (S.shows store.new).present) }
-    ensures kept { Continues S.LineStore store.old store.new }
-    ensures cause { HasCause (S.shows store.old).faults (S.shows store.new).faults (IsErrOf result StoreErr.Failed) }
-{
-    match store.splice(alloc, top, old, new) {
-        Ok(()) => Ok(()),
-        Err(error) => {
-            store.rollback();
-            Err(error)
-        }
-    }
-}
 
 /// The whole text of a store, read line by line.
 pub fn text_of<S: LineStore>(alloc: Global, store: &mut S) -> Result<Text, StoreErr>

@@ -9,7 +9,7 @@ mod room;
 mod store;
 mod vec_store;
 
-pub use generic::{splice_or_rollback, text_of};
+pub use generic::text_of;
 pub use room::{allows_splice, are_short, has_room};
 pub use store::{LineStore, StoreErr};
 pub use vec_store::VecStore;

@@ -1,5 +1,5 @@
 // Stores of one text.
-ghost use Rattle.std.specs.Prelude.{◌≡◌, ◌+◌, ◌<◌, ◌≤◌, Bool, ℕ, List, [], IsTrue, IsErrOf, OnOk, get_or, length};
+ghost use Rattle.std.specs.Prelude.{◌≡◌, ◌+◌, ◌<◌, ◌≤◌, Bool, ℕ, List, [], IsTrue, IsErrOf, OnErr, OnOk, get_or, length};
 ghost use Rattle.vs_faults.specs.Faults.{HasCause};
 ghost use Rattle.vs_text.specs.Text.{IsLine, IsText, bytes_of, file_of};
 ghost use Rattle.vs_text.specs.Limits.{IsShort, IsWithinLimits};
@@ -55,8 +55,6 @@ pub trait LineStore {
     ghost shows: { Self → StoreState };
     /// The store may be used.
     ghost valid: { Self → Type 0 };
-    /// The part of the validity that speaks of what was committed: the store may be rolled back.
-    ghost safe: { Self → Type 0 };
     /// What was lent to the store is still the same, and all else that it stands on has only changed as a store may change it.
     ghost stays: { Self → Self → Type 0 };
 
@@ -110,15 +108,14 @@ pub trait LineStore {
         Ok(())
     }
 
-    /// Puts new lines in the place of `old` lines from line `top` on, where the result is within the limits.
-    ///
-    /// After an `Err` the store may only be rolled back.
+    /// Puts new lines in the place of `old` lines from line `top` on, where the result is within the limits. After an `Err` the
+    /// text is as before.
     fn splice(&mut self, alloc: Global, top: u64, old: u64, new: &[Line]) -> Result<(), StoreErr>
         requires valid { valid self.old }
         requires allowed { AllowsSplice (shows self.old).present top old new.now }
         ensures ok { OnOk result (IsSpliced (shows self.old).present top old new.now (shows self.new).present) }
-        ensures valid { OnOk result (valid self.new) }
-        ensures kept { KeepsCommitted shows safe stays self.old self.new }
+        ensures same { OnErr result (SameText (shows self.old).present (shows self.new).present) }
+        ensures kept { KeepsCommitted shows valid stays self.old self.new }
         ensures cause { HasCause (shows self.old).faults (shows self.new).faults (IsErrOf result StoreErr.Failed) };
 
     /// Makes the text that the store has now the committed one. It takes no memory.
@@ -132,7 +129,7 @@ pub trait LineStore {
 
     /// Goes back to the text that was last committed. It takes no memory.
     fn rollback(&mut self)
-        requires { safe self.old }
+        requires { valid self.old }
         ensures present { SameText (shows self.old).committed (shows self.new).present }
         ensures committed { SameText (shows self.old).committed (shows self.new).committed }
         ensures faults { (shows self.new).faults ≡ (shows self.old).faults }
@@ -141,8 +138,6 @@ pub trait LineStore {
 
     /// A store that tells has a text.
     ghost tells_one: { (s : Self) → valid s → IsTrue tells → (text : List (List ℕ)) × (shows s).present.Is text };
-    /// A store that tells had a text when it was committed.
-    ghost told_one: { (s : Self) → safe s → IsTrue tells → (text : List (List ℕ)) × (shows s).committed.Is text };
     /// A store that has a text tells.
     ghost has_told: { (s : Self) (text : List (List ℕ)) → (shows s).present.Is text → IsTrue tells };
     /// A store has one text at most.
@@ -159,8 +154,6 @@ pub trait LineStore {
     ghost few_lines: { (s : Self) → valid s → (shows s).present.lines ≤ MAX_LINES };
     /// The number of bytes is within its limit, also where the text is not told.
     ghost few_bytes: { (s : Self) → valid s → (shows s).present.bytes ≤ MAX_TEXT_BYTES };
-    /// A store that may be used may be rolled back.
-    ghost is_safe: { (s : Self) → valid s → safe s };
     /// A store stays itself.
     ghost stays_itself: { (s : Self) → stays s s };
     /// What stays over two steps stays over both.

@@ -223,13 +223,9 @@ impl LineStore for VecStore {
 
     ghost valid = { AreSound };
 
-    ghost safe = { λ s. IsSound s.committed };
-
     ghost stays = { λ _ _. Unit {0} };
 
     ghost tells_one = { λ s valid told. (s.present, refl) };
-
-    ghost told_one = { λ s safe told. (s.committed, refl) };
 
     ghost has_told = { λ s text is. refl };
 
@@ -246,8 +242,6 @@ impl LineStore for VecStore {
     ghost few_lines = { λ s valid. valid.present.within.few_lines };
 
     ghost few_bytes = { λ s valid. valid.present.within.few_bytes };
-
-    ghost is_safe = { λ s valid. valid.committed };
 
     ghost stays_itself = { λ _. tt };
 

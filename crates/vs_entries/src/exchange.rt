@@ -1,7 +1,7 @@
 // Applying an entry to the text of a store.
 ghost use Rattle.std.specs.Prelude.{◌≡◌, ◌-◌, ◌^◌, ◌<◌, ℕ, List, IfOk, IsErrOf, OnOk, OnSome, MatchOption, max};
 ghost use Rattle.vs_faults.specs.Faults.{HasCause};
-ghost use Rattle.vs_edit.specs.Calls.{CanGoBack};
+ghost use Rattle.vs_edit.specs.Calls.{Continues};
 ghost use Rattle.vs_entries.specs.Entries.{filled, settled, applied, led_back, range_in, AllowsEntry, Fits, LeadsCount};
 
 use crate::read::{bottom_back, lines_at, one_empty};
@@ -14,9 +14,8 @@ fn fill<S: LineStore>(alloc: Global, store: &mut S) -> Result<(), EditErr>
     requires { S.valid store.old }
     ensures text { OnOk result ((text : List (List ℕ)) → (S.shows store.old).present.Is text → (S.shows store.new).present.Is (filled text)) }
     ensures lines { OnOk result ((S.shows store.new).present.lines ≡ max 1 (S.shows store.old).present.lines) }
-    ensures valid { OnOk result (S.valid store.new) }
     ensures in_range { ¬ (IsErrOf result EditErr.OutOfRange) }
-    ensures kept { CanGoBack S.LineStore store.old store.new }
+    ensures kept { Continues S.LineStore store.old store.new }
     ensures cause { HasCause (S.shows store.old).faults (S.shows store.new).faults (IsErrOf result EditErr.Failed) }
 {
     if store.len() == 0 {
@@ -31,9 +30,8 @@ fn settle<S: LineStore>(alloc: Global, store: &mut S, empty: bool) -> Result<(),
     requires { S.valid store.old }
     ensures text { OnOk result ((text : List (List ℕ)) → (S.shows store.old).present.Is text → (S.shows store.new).present.Is (settled empty text)) }
     ensures lines { OnOk result (max 1 (S.shows store.new).present.lines ≡ max 1 (S.shows store.old).present.lines) }
-    ensures valid { OnOk result (S.valid store.new) }
     ensures in_range { ¬ (IsErrOf result EditErr.OutOfRange) }
-    ensures kept { CanGoBack S.LineStore store.old store.new }
+    ensures kept { Continues S.LineStore store.old store.new }
     ensures cause { HasCause (S.shows store.old).faults (S.shows store.new).faults (IsErrOf result EditErr.Failed) }
 {
     if !empty {
@@ -66,7 +64,7 @@ pub(crate) fn range_in(entry: &Entry, count: u64) -> Option<u64>
 /// Applies an entry to the text of a store, and gives the entry that leads back. Where the range of the entry does not lie
 /// within the text, it answers [`EditErr::OutOfRange`].
 ///
-/// After an `Err` the store may only be rolled back.
+/// After an `Err` a part of it may be done; the committed text is as before.
 pub fn apply<S: LineStore>(alloc: Global, store: &mut S, entry: &Entry) -> Result<Entry, EditErr>
     requires valid { S.valid store.old }
     requires allowed { AllowsEntry (S.shows store.old).present entry.now }
@@ -74,9 +72,8 @@ pub fn apply<S: LineStore>(alloc: Global, store: &mut S, entry: &Entry) -> Resul
     ensures counts { OnOk result (LeadsCount entry.now (max 1 (S.shows store.old).present.lines) (max 1 (S.shows store.new).present.lines)) }
     ensures back { IfOk result (λ back. (text : List (List ℕ)) → (S.shows store.old).present.Is text → back ≡ led_back entry.now text) }
     ensures back_counts { IfOk result (λ back. LeadsCount back (max 1 (S.shows store.new).present.lines) (max 1 (S.shows store.old).present.lines)) }
-    ensures valid { OnOk result (S.valid store.new) }
     ensures out_of_range { IsErrOf result EditErr.OutOfRange → ¬ (Fits entry.now (max 1 (S.shows store.old).present.lines)) }
-    ensures kept { CanGoBack S.LineStore store.old store.new }
+    ensures kept { Continues S.LineStore store.old store.new }
     ensures cause { HasCause (S.shows store.old).faults (S.shows store.new).faults (IsErrOf result EditErr.Failed) }
 {
     let lines = store.len();

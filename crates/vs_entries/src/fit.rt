@@ -2,7 +2,7 @@
 ghost use Rattle.std.specs.Prelude.{◌≡◌, ◌≢◌, ◌+◌, ◌≤◌, ℕ, List, IfNone, IfOk, IfSome, IsErrOf, IsTrue, OnOk, max};
 ghost use Rattle.vs_faults.specs.Faults.{HasCause};
 ghost use Rattle.vs_text.specs.Text.{bytes_of};
-ghost use Rattle.vs_edit.specs.Calls.{CanGoBack, OnlyReads};
+ghost use Rattle.vs_edit.specs.Calls.{Continues, OnlyReads};
 ghost use Rattle.vs_edit.specs.Splices.{cut_out};
 ghost use Rattle.vs_entries.specs.Entries.{applied, filled, led_back, AllowsEntry, Fits, Leads, LeadsCount};
 
@@ -76,7 +76,7 @@ fn store_err(error: EditErr) -> StoreErr
 /// Applies an entry to the text of a store where that may be done, and gives the entry that leads back. Otherwise it gives nothing,
 /// and the text is as before.
 ///
-/// After an `Err` the store may only be rolled back. [`StoreErr::Failed`] comes only from the store.
+/// After an `Err` a part of it may be done; the committed text is as before. [`StoreErr::Failed`] comes only from the store.
 pub fn try_apply<S: LineStore>(
     alloc: Global,
     store: &mut S,
@@ -97,8 +97,7 @@ pub fn try_apply<S: LineStore>(
         (λ o. IfSome o (λ back. LeadsCount back (max 1 (S.shows store.new).present.lines) (max 1 (S.shows store.old).present.lines))) }
     ensures refused { IfOk result (λ o. IfNone o ((text to : List (List ℕ)) → (S.shows store.old).present.Is text → Leads entry.now text to → ⊥)) }
     ensures unchanged { IfOk result (λ o. IfNone o (OnlyReads S.LineStore store.old store.new)) }
-    ensures valid { OnOk result (S.valid store.new) }
-    ensures kept { CanGoBack S.LineStore store.old store.new }
+    ensures kept { Continues S.LineStore store.old store.new }
     ensures cause { HasCause (S.shows store.old).faults (S.shows store.new).faults (IsErrOf result StoreErr.Failed) }
 {
     if !fits(alloc, store, entry)? {

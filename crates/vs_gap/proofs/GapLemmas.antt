@@ -1,11 +1,16 @@
 -- A list before a gap, and one after it.
-use Rattle.std.proofs.Common.{◌≡◌, ◌∙◌, ℕ, ◌+◌, ◌-◌, ◌<◌, ◌≤◌, List, [], ◌∷◌, ◌++◌, length, get_or, min, take, drop, ap, sym, arith, refl, append_assoc, length-append, length-drop}
+use Rattle.std.proofs.Common.{◌≡◌, ◌∙◌, ℕ, ◌+◌, ◌-◌, ◌<◌, ◌≤◌, List, [], ◌∷◌, ◌++◌, length, get_or, min, take, drop, ap, sym, arith, refl, append_assoc, length-append, length-drop, Result, Ok, Err, OnErr}
 use Rattle.std.proofs.Math.Seq.{drop-append-add, take-add}
 use Rattle.std.proofs.lemmas.List.{append-nil, drop-append-le, drop_at, get_or-append-add, get_or_append_left, get_or_read_under, take-append-le, take_at}
 use Rattle.vs_text.specs.Text.{bytes_of}
 use Rattle.vs_text.proofs.FileForm.{bytes_of-append}
 use Rattle.vs_edit.specs.Splices.{splice, cut_out}
 use Rattle.vs_edit.proofs.SpliceLemmas.{splice_mid}
+
+-- what holds anyway holds after an error
+pub on_err : {T E A : Type 0} (r : Result T E) → A → OnErr r A
+on_err (Ok x) a = tt
+on_err (Err e) a = a
 
 -- ---- the first line after the gap goes
 

@@ -1,5 +1,5 @@
 // A list of lines with two gaps.
-ghost use Rattle.std.specs.Prelude.{◌≡◌, ◌≤◌, ◌<◌, ◌+◌, ◌-◌, ◌++◌, ◌^◌, [], ℕ, List, IfOk, IsTrue, OnOk, drop, get_or, length, max, min, take};
+ghost use Rattle.std.specs.Prelude.{◌≡◌, ◌≤◌, ◌<◌, ◌+◌, ◌-◌, ◌++◌, ◌^◌, [], ℕ, List, IfOk, IsTrue, OnErr, OnOk, drop, get_or, length, max, min, take};
 ghost use Rattle.vs_text.specs.Text.{IsText, bytes_of};
 ghost use Rattle.vs_edit.specs.Splices.{cut_out, splice};
 
@@ -44,13 +44,16 @@ fn lower(
     after: &mut VecDeque<Line>,
     left: usize,
 ) -> Result<(), AllocError>
-    ensures lines { OnOk result (before.new.items ++ after.new.items ≡ before.old.items ++ after.old.items) }
+    ensures lines { before.new.items ++ after.new.items ≡ before.old.items ++ after.old.items }
     ensures left { OnOk result (length before.new.items ≡ min left (length before.old.items)) }
 {
+    after.reserve(before.len().saturating_sub(left))?;
     'lines: while before.len() > left {
         match before.pop_back() {
             None => return Ok(()),
-            Some(line) => after.push_front(line)?,
+            Some(line) => {
+                let _ = after.push_front(line);
+            }
         }
     }
     Ok(())
@@ -63,26 +66,29 @@ fn raise(
     count: usize,
 ) -> Result<(), AllocError>
     requires { count ≤ length before.old.items + length after.old.items }
-    ensures lines { OnOk result (before.new.items ++ after.new.items ≡ before.old.items ++ after.old.items) }
+    ensures lines { before.new.items ++ after.new.items ≡ before.old.items ++ after.old.items }
     ensures count { OnOk result (length before.new.items ≡ max count (length before.old.items)) }
 {
+    before.reserve(count.saturating_sub(before.len()))?;
     'lines: while before.len() < count {
         match after.pop_front() {
             None => return Ok(()),
-            Some(line) => before.push_back(line)?,
+            Some(line) => {
+                let _ = before.push_back(line);
+            }
         }
     }
     Ok(())
 }
 
-// Moves a gap to a place among the lines.
+// Moves a gap to a place among the lines, which stay as they are.
 fn move_gap(
     before: &mut VecDeque<Line>,
     after: &mut VecDeque<Line>,
     at: usize,
 ) -> Result<(), AllocError>
     requires { at ≤ length before.old.items + length after.old.items }
-    ensures lines { OnOk result (before.new.items ++ after.new.items ≡ before.old.items ++ after.old.items) }
+    ensures lines { before.new.items ++ after.new.items ≡ before.old.items ++ after.old.items }
     ensures place { OnOk result (length before.new.items ≡ at) }
 {
     lower(before, after, at)?;
@@ -105,7 +111,19 @@ fn take_away(lines: &mut VecDeque<Line>, count: usize) -> u64
     bytes
 }
 
-// Puts copies of new lines in the place of others. Gives the number of bytes of those that went, as far as 64 bits go.
+// Puts copies of lines after those before a gap. After an `Err` some of them may stand there.
+fn push_copies(before: &mut VecDeque<Line>, lines: &[Line]) -> Result<(), AllocError>
+    ensures ok { OnOk result (before.new.items ≡ before.old.items ++ lines.now) }
+    ensures err { OnErr result (take (length before.old.items) before.new.items ≡ before.old.items) }
+{
+    for line in lines {
+        before.push_back(line.clone()?)?;
+    }
+    Ok(())
+}
+
+// Puts copies of new lines in the place of others. Gives the number of bytes of those that went, as far as 64 bits go. After an `Err`
+// the lines are as before.
 fn exchange(
     before: &mut VecDeque<Line>,
     after: &mut VecDeque<Line>,
@@ -116,13 +134,14 @@ fn exchange(
     requires { at + old ≤ length before.old.items + length after.old.items }
     ensures lines { OnOk result (before.new.items ++ after.new.items ≡ splice (before.old.items ++ after.old.items) at old new.now) }
     ensures gone { IfOk result (λ gone. gone ≡ min (bytes_of (cut_out (before.old.items ++ after.old.items) at old)) (2 ^ 64 - 1)) }
+    ensures err { OnErr result (before.new.items ++ after.new.items ≡ before.old.items ++ after.old.items) }
 {
     move_gap(before, after, at)?;
-    let gone = take_away(after, old);
-    for line in new {
-        before.push_back(line.clone()?)?;
+    if let Err(error) = push_copies(before, new) {
+        before.truncate(at);
+        return Err(error);
     }
-    Ok(gone)
+    Ok(take_away(after, old))
 }
 
 // Whether a change is made at the first of two gaps, which has so many lines before it: it does not reach past the second, so many lines
@@ -186,11 +205,12 @@ impl GapLines {
     }
 
     /// Puts copies of new lines in the place of `old` lines from line `at` on. Gives the number of bytes of those that went, as far as
-    /// 64 bits go. After an `Err` any lines may be there.
+    /// 64 bits go. After an `Err` the lines are as before.
     pub fn splice(&mut self, at: usize, old: usize, new: &[Line]) -> Result<u64, AllocError>
         requires { at + old ≤ length self.old }
         ensures lines { OnOk result (self.new ≡ splice self.old at old new.now) }
         ensures gone { IfOk result (λ gone. gone ≡ min (bytes_of (cut_out self.old at old)) (2 ^ 64 - 1)) }
+        ensures err { OnErr result (self.new ≡ self.old) }
     {
         if is_at_first(at, old, self.before.len(), self.between.len()) {
             return exchange(&mut self.before, &mut self.between, at, old, new);
@@ -200,9 +220,10 @@ impl GapLines {
         exchange(&mut self.between, &mut self.after, past, old, new)
     }
 
-    /// Puts lines before the first one. After an `Err` any lines may be there.
+    /// Puts lines before the first one. After an `Err` the lines are as before.
     pub fn prepend(&mut self, lines: Vec<Line>) -> Result<(), AllocError>
-        ensures { OnOk result (self.new ≡ lines.items ++ self.old) }
+        ensures ok { OnOk result (self.new ≡ lines.items ++ self.old) }
+        ensures err { OnErr result (self.new ≡ self.old) }
     {
         let mut front = VecDeque::from(lines);
         front.append(&mut self.before)?;
@@ -210,9 +231,10 @@ impl GapLines {
         Ok(())
     }
 
-    /// Puts lines after the last one. After an `Err` any lines may be there.
+    /// Puts lines after the last one. After an `Err` the lines are as before.
     pub fn append(&mut self, lines: Vec<Line>) -> Result<(), AllocError>
-        ensures { OnOk result (self.new ≡ self.old ++ lines.items) }
+        ensures ok { OnOk result (self.new ≡ self.old ++ lines.items) }
+        ensures err { OnErr result (self.new ≡ self.old) }
     {
         self.after.append(&mut VecDeque::from(lines))
     }

@@ -1,5 +1,5 @@
 // Lines of a store that are held, and may be changed, while the store stays as it is.
-ghost use Rattle.std.specs.Prelude.{◌≡◌, ◌≤◌, ◌<◌, ◌⊎◌, ◌+◌, ◌^◌, [], IfOk, IsErrOf, OnOk, length};
+ghost use Rattle.std.specs.Prelude.{◌≡◌, ◌≤◌, ◌<◌, ◌⊎◌, ◌+◌, ◌^◌, [], IfOk, IsErrOf, OnErr, OnOk, length};
 ghost use Rattle.vs_faults.specs.Faults.{HasCause};
 ghost use Rattle.vs_text.specs.declared.TheConstants.{MAX_LINES};
 ghost use Rattle.vs_edit.specs.Calls.{OnlyReads};
@@ -53,12 +53,13 @@ impl Held {
         })
     }
 
-    /// Puts copies of new lines in the place of `old` lines from line `top` of the text on. After an `Err` any lines may be held.
+    /// Puts copies of new lines in the place of `old` lines from line `top` of the text on. After an `Err` the lines are as before.
     pub fn exchange(&mut self, top: u64, old: u64, new: &[Line]) -> Result<(), AllocError>
         requires from { self.old.top ≤ top }
         requires to { top + old ≤ self.old.top + length self.old.lines }
         requires few { length self.old.lines < 2 ^ 32 }
-        ensures { OnOk result (IsExchanged self.old top old new.now self.new) }
+        ensures ok { OnOk result (IsExchanged self.old top old new.now self.new) }
+        ensures err { OnErr result (self.new ≡ self.old) }
     {
         let gone = self
             .lines
@@ -82,7 +83,7 @@ fn hold_from<S: LineStore>(
     requires valid { S.valid below.old }
     requires within { held.old.top + held.old.replaced ≤ (S.shows below.old).present.lines }
     ensures holds { OnOk result (held.new.top ≤ top) }
-    ensures more { OnOk result (HoldsMore (S.shows below.old).present held.old held.new) }
+    ensures more { HoldsMore (S.shows below.old).present held.old held.new }
     ensures kept { OnlyReads S.LineStore below.old below.new }
     ensures cause { HasCause (S.shows below.old).faults (S.shows below.new).faults (IsErrOf result StoreErr.Failed) }
 {
@@ -113,7 +114,7 @@ fn hold_to<S: LineStore>(
     requires reaches { end + held.old.replaced ≤ (S.shows below.old).present.lines + length held.old.lines }
     ensures holds { OnOk result (end ≤ held.new.top + length held.new.lines) }
     ensures top { OnOk result (held.new.top ≡ held.old.top) }
-    ensures more { OnOk result (HoldsMore (S.shows below.old).present held.old held.new) }
+    ensures more { HoldsMore (S.shows below.old).present held.old held.new }
     ensures kept { OnlyReads S.LineStore below.old below.new }
     ensures cause { HasCause (S.shows below.old).faults (S.shows below.new).faults (IsErrOf result StoreErr.Failed) }
 {
@@ -156,7 +157,7 @@ pub(crate) fn hold<S: LineStore>(
     requires reaches { top + count + held.old.replaced ≤ (S.shows below.old).present.lines + length held.old.lines }
     ensures from { OnOk result (held.new.top ≤ top) }
     ensures to { OnOk result (top + count ≤ held.new.top + length held.new.lines) }
-    ensures more { OnOk result (HoldsMore (S.shows below.old).present held.old held.new) }
+    ensures more { HoldsMore (S.shows below.old).present held.old held.new }
     ensures kept { OnlyReads S.LineStore below.old below.new }
     ensures cause { HasCause (S.shows below.old).faults (S.shows below.new).faults (IsErrOf result StoreErr.Failed) }
 {

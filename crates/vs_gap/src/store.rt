@@ -53,16 +53,11 @@ impl<'s, S: LineStore> LineStore for GapStore<'s, S> {
     ghost valid = { λ s. S.valid s.below.now × IsHeld (S.shows s.below.now).present s.overlay.now.present
         × IsHeld (S.shows s.below.now).present (committed_of s.overlay.now.present s.overlay.now.committed) };
 
-    ghost safe = { λ s. S.valid s.below.now × IsHeld (S.shows s.below.now).present (committed_of s.overlay.now.present s.overlay.now.committed) };
-
     ghost stays = { λ a b. (b.below.ghost_name ≡ a.below.ghost_name) × S.stays a.below.now b.below.now
         × SameText (S.shows a.below.now).present (S.shows b.below.now).present
         × SameText (S.shows a.below.now).committed (S.shows b.below.now).committed };
 
     ghost tells_one = { λ s v told. told_with (S.shows s.below.now).present s.overlay.now.present v.1 (S.tells_one s.below.now v.0 told) };
-
-    ghost told_one = { λ s v told. told_with (S.shows s.below.now).present (committed_of s.overlay.now.present s.overlay.now.committed) v.1
-        (S.tells_one s.below.now v.0 told) };
 
     ghost has_told = { λ s text is. S.has_told s.below.now is.under is.has };
 
@@ -80,8 +75,6 @@ impl<'s, S: LineStore> LineStore for GapStore<'s, S> {
     ghost few_lines = { λ s v. v.1.few_lines };
 
     ghost few_bytes = { λ s v. v.1.few_bytes };
-
-    ghost is_safe = { λ s v. (v.0, v.2) };
 
     ghost stays_itself = { λ s. (refl, S.stays_itself s.below.now, SameText-refl, SameText-refl) };
 

@@ -3,7 +3,7 @@ use Rattle.std.proofs.Common.{◌≡◌, ◌∙◌, ℕ, ◌-◌, Bool, not, Lis
 use Rattle.vs_faults.specs.Faults.{HasCause}
 use Rattle.vs_text.specs.Text.{bytes_of}
 use Rattle.vs_edit.specs.Splices.{splice, cut_out}
-use Rattle.vs_edit.specs.Calls.{CanGoBack}
+use Rattle.vs_edit.specs.Calls.{Continues}
 use Rattle.vs_edit.specs.State.{SameText, TextState}
 use Rattle.vs_edit.specs.declared.store.LineStore.{Ghosts}
 use Rattle.vs_exparse.specs.Bytes.{is_empty}
@@ -113,10 +113,10 @@ pub first-at : {S : Type 0} (g : Ghosts S) (view : S) (marks : Marks) (text : Li
 first-at g view marks text cursor bits has are size = record { text = has; marked = are; size = size; made = refl; cursor = refl }
 
 -- what is known of a store while it is lent is known of it afterwards
-pub lent-back : {S : Type 0} (g : Ghosts S) (view now after : S) → after ≡ now → g.safe now → g.stays view now
-    → SameText (g.shows view).committed (g.shows now).committed → CanGoBack g view after
-lent-back {S} g view now after ends safe stays committed =
-    subst (λ (s : S). CanGoBack g view s) (sym ends) (record { valid = safe; stays = stays; committed = committed })
+pub lent-back : {S : Type 0} (g : Ghosts S) (view now after : S) → after ≡ now → g.valid now → g.stays view now
+    → SameText (g.shows view).committed (g.shows now).committed → Continues g view after
+lent-back {S} g view now after ends valid stays committed =
+    subst (λ (s : S). Continues g view s) (sym ends) (record { valid = valid; stays = stays; committed = committed })
 
 pub lent-cause : {S : Type 0} (g : Ghosts S) (view now after : S) {Failed : Type 0} → after ≡ now
     → HasCause (g.shows view).faults (g.shows now).faults Failed → HasCause (g.shows view).faults (g.shows after).faults Failed

@@ -1,7 +1,7 @@
 // A nested command at one line after the other.
 ghost use Rattle.std.specs.Prelude.{◌≡◌, ◌≤◌, ◌<◌, ◌+◌, ◌^◌, ℕ, List, [], false, true, IfErr, IfOk, IsErrOf, IsTrue, OnOk};
 ghost use Rattle.vs_faults.specs.Faults.{HasCause};
-ghost use Rattle.vs_edit.specs.Calls.{CanGoBack, OnlyReads};
+ghost use Rattle.vs_edit.specs.Calls.{Continues, OnlyReads};
 ghost use Rattle.vs_exparse.specs.declared.command.ExErr.{ExErr};
 ghost use Rattle.vs_exparse.specs.declared.command.ExErr.TheVariants.{E486};
 ghost use Rattle.vs_exparse.specs.Command.{command_of, wants_block};
@@ -80,7 +80,7 @@ fn carry_splice<S: LineStore>(
     ensures within { OnOk result (KeepsEnds run.old.made (S.shows view.old).present.lines run.new.made (S.shows view.new).present.lines) }
     ensures carried { OnOk result (Carries S.LineStore (command_of nested.now) line view.old marks.old run.old view.new marks.new run.new) }
     ensures refused { IfErr result (Refuses S.LineStore (command_of nested.now) line view.old marks.old run.old) }
-    ensures kept { CanGoBack S.LineStore view.old view.new }
+    ensures kept { Continues S.LineStore view.old view.new }
     ensures cause { HasCause (S.shows view.old).faults (S.shows view.new).faults (IsErrOf result PlanErr.Failed) }
 {
     run.cursor = line + 1;
@@ -127,7 +127,7 @@ fn carry_move<S: LineStore>(
     ensures within { OnOk result (KeepsEnds run.old.made (S.shows view.old).present.lines run.new.made (S.shows view.new).present.lines) }
     ensures carried { OnOk result (Carries S.LineStore (command_of nested.now) line view.old marks.old run.old view.new marks.new run.new) }
     ensures refused { IfErr result (Refuses S.LineStore (command_of nested.now) line view.old marks.old run.old) }
-    ensures kept { CanGoBack S.LineStore view.old view.new }
+    ensures kept { Continues S.LineStore view.old view.new }
     ensures cause { HasCause (S.shows view.old).faults (S.shows view.new).faults (IsErrOf result PlanErr.Failed) }
 {
     run.cursor = line + 1;
@@ -172,7 +172,7 @@ fn carry<S: LineStore>(
     ensures within { OnOk result (KeepsEnds run.old.made (S.shows view.old).present.lines run.new.made (S.shows view.new).present.lines) }
     ensures carried { OnOk result (Carries S.LineStore (command_of nested.now) line view.old marks.old run.old view.new marks.new run.new) }
     ensures refused { IfErr result (Refuses S.LineStore (command_of nested.now) line view.old marks.old run.old) }
-    ensures kept { CanGoBack S.LineStore view.old view.new }
+    ensures kept { Continues S.LineStore view.old view.new }
     ensures cause { HasCause (S.shows view.old).faults (S.shows view.new).faults (IsErrOf result PlanErr.Failed) }
 {
     if is_move(nested) {
@@ -202,7 +202,7 @@ pub(crate) fn carry_all<S: LineStore>(
         → Ends S.LineStore (command_of nested.now) count start view.new marks.new run.new) }
     ensures refused { IfErr result (λ e. (start : Marked) → IsAt S.LineStore view.old marks.old run.old start
         → IsRefused (all_marked count (command_of nested.now) start) e) }
-    ensures kept { CanGoBack S.LineStore view.old view.new }
+    ensures kept { Continues S.LineStore view.old view.new }
     ensures cause { HasCause (S.shows view.old).faults (S.shows view.new).faults (IsErrOf result PlanErr.Failed) }
 {
     for _ in 0..count {

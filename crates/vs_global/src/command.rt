@@ -1,7 +1,7 @@
 // The whole of a global command.
 ghost use Rattle.std.specs.Prelude.{◌≡◌, ◌<◌, ◌≤◌, ℕ, Bool, false, List, All, IfOk, IsErrOf, IsTrue, length};
 ghost use Rattle.vs_faults.specs.Faults.{HasCause};
-ghost use Rattle.vs_edit.specs.Calls.{CanGoBack, OnlyReads};
+ghost use Rattle.vs_edit.specs.Calls.{Continues, OnlyReads};
 ghost use Rattle.vs_edit.specs.State.{SameText};
 ghost use Rattle.vs_exparse.specs.Command.{command_of, wants_block};
 ghost use Rattle.vs_exparse.specs.Form.{HasForm};
@@ -24,7 +24,7 @@ use vs_gap::{GapStore, Held, Overlay};
 use vs_marks::Marks;
 
 // Carries a command of the text out at each of these lines, and plans all that came of it as one splice. The store is left as it is
-// then, and may only be rolled back.
+// then, and the committed text as it was.
 fn change_all<S: LineStore>(
     alloc: Global,
     nested: &Command,
@@ -44,7 +44,7 @@ fn change_all<S: LineStore>(
         → taken.items ≡ places 0 marks → length marks ≡ length text
         → Answers (changed_at (command_of nested.now) text cursor marks) result }
     ensures allowed { IfOk result (λ plan. Allows (S.shows view.old).present plan) }
-    ensures kept { CanGoBack S.LineStore view.old view.new }
+    ensures kept { Continues S.LineStore view.old view.new }
     ensures cause { HasCause (S.shows view.old).faults (S.shows view.new).faults (IsErrOf result PlanErr.Failed) }
 {
     let lines = view.len();
@@ -77,7 +77,7 @@ fn change<S: LineStore>(
         → taken.items ≡ places 0 marks → length marks ≡ length text
         → Answers (changed_at (command_of nested.now) text cursor marks) result }
     ensures allowed { IfOk result (λ plan. Allows (S.shows view.old).present plan) }
-    ensures kept { CanGoBack S.LineStore view.old view.new }
+    ensures kept { Continues S.LineStore view.old view.new }
     ensures cause { HasCause (S.shows view.old).faults (S.shows view.new).faults (IsErrOf result PlanErr.Failed) }
 {
     if is_move(nested) {

@@ -1,7 +1,7 @@
 // Lines that are moved with their marks, by two small splices: they go, and come.
 ghost use Rattle.std.specs.Prelude.{◌≡◌, ◌<◌, ◌≤◌, ◌+◌, ◌^◌, ℕ, List, None, Some, false, IfNone, IfSome, IsErrOf, OnOk};
 ghost use Rattle.vs_faults.specs.Faults.{HasCause};
-ghost use Rattle.vs_edit.specs.Calls.{CanGoBack};
+ghost use Rattle.vs_edit.specs.Calls.{Continues};
 ghost use Rattle.vs_excmd.specs.Change.{Change, moved, spliced};
 ghost use Rattle.vs_excmd.specs.Place.{IsPlaceIn, is_into_itself};
 ghost use Rattle.vs_marks.specs.Marks.{IsSound, lines_of};
@@ -83,7 +83,7 @@ pub(crate) fn move_marks(marks: &mut Marks, place: Place) -> Result<(), AllocErr
     Ok(())
 }
 
-/// Moves lines of a text. After an `Err` the store may only be rolled back.
+/// Moves lines of a text. After an `Err` they may be gone; the committed text is as before.
 pub(crate) fn move_lines<S: LineStore>(
     alloc: Global,
     view: &mut S,
@@ -96,8 +96,7 @@ pub(crate) fn move_lines<S: LineStore>(
     ensures text { OnOk result ((text : List (List ℕ)) (change : Change) → (S.shows view.old).present.Is text → moved text place ≡ Some change
         → (S.shows view.new).present.Is (spliced text change)) }
     ensures lines { OnOk result ((S.shows view.new).present.lines ≡ (S.shows view.old).present.lines) }
-    ensures valid { OnOk result (S.valid view.new) }
-    ensures kept { CanGoBack S.LineStore view.old view.new }
+    ensures kept { Continues S.LineStore view.old view.new }
     ensures cause { HasCause (S.shows view.old).faults (S.shows view.new).faults (IsErrOf result StoreErr.Failed) }
 {
     let top = place.lines.before();

@@ -8,7 +8,7 @@ use crate::error::LoadErr;
 use crate::words::Load;
 use std::alloc::{AllocError, Global};
 use std::fmt;
-use vs_edit::{LineStore, allows_splice, splice_or_rollback};
+use vs_edit::{LineStore, allows_splice};
 use vs_pages::{MemPages, PageErr, Pages};
 use vs_text::Line;
 use vs_tree::{LineTree, TreeStore};
@@ -69,7 +69,7 @@ fn put<S: LineStore>(
     if !allows_splice(store, at, old, lines) {
         return Err(LoadErr::TooLarge);
     }
-    splice_or_rollback(alloc, store, at, old, lines)?;
+    store.splice(alloc, at, old, lines)?;
     store.commit();
     Ok(())
 }

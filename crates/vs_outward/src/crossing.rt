@@ -32,7 +32,7 @@ fn take_back<S: LineStore>(alloc: Global, store: &mut S, back: Vec<Entry>) -> Re
 /// Applies entries to the text of a store one after another, and gives those that lead back. Where one of them may not be applied, it
 /// gives nothing, and the text is as before.
 ///
-/// After an `Err` the store may only be rolled back. [`StoreErr::Failed`] comes only from the store.
+/// After an `Err` some of them may be applied; the committed text is as before. [`StoreErr::Failed`] comes only from the store.
 pub(crate) fn try_all<S: LineStore>(
     alloc: Global,
     store: &mut S,

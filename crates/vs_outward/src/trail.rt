@@ -119,7 +119,7 @@ fn go_out<S: LineStore>(
 /// Leads a store over the changes of a path, as long as they fit, and gives the first that does not. So many steps of the trail stay, which
 /// are those with which the path begins.
 ///
-/// After an `Err` the store may only be rolled back. [`StoreErr::Failed`] comes only from the store.
+/// After an `Err` the store may be anywhere; the committed text is as before. [`StoreErr::Failed`] comes only from the store.
 pub(crate) fn walk<S: LineStore>(
     alloc: Global,
     store: &mut S,

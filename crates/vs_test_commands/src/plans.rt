@@ -7,7 +7,7 @@ ghost use Rattle.vs_excmd.specs.Request.{is_absent};
 
 use std::alloc::Global;
 use std::process::Abort;
-use vs_edit::{LineStore, StoreErr, allows_splice, splice_or_rollback};
+use vs_edit::{LineStore, StoreErr, allows_splice};
 use vs_excmd::{Block, Plan, PlanErr, changes_text, plan};
 use vs_exparse::{Command, ExErr, Parsed, parse};
 use vs_text::{Line, TextErr, read_text};
@@ -49,7 +49,7 @@ pub(crate) fn carry_out<S: LineStore>(
                 cursor,
             },
         ) => {
-            splice_or_rollback(alloc, store, top, old, &new)?;
+            store.splice(alloc, top, old, &new)?;
             Ok(Ok(Some(cursor)))
         }
         Err(PlanErr::Ex(error)) => Ok(Err(error)),
@@ -96,5 +96,5 @@ pub(crate) fn put<S: LineStore>(
     if !allows_splice(store, len, 0, lines) {
         panic!(rt; "the lines do not fit")
     }
-    splice_or_rollback(alloc, store, len, 0, lines)
+    store.splice(alloc, len, 0, lines)
 }

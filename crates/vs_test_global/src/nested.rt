@@ -5,7 +5,7 @@ ghost use Rattle.vs_edit.specs.State.{SameText};
 use std::alloc::Global;
 use std::process::Abort;
 use std::test::Fail;
-use vs_edit::{LineStore, StoreErr, VecStore, allows_splice, splice_or_rollback, text_of};
+use vs_edit::{LineStore, StoreErr, VecStore, allows_splice, text_of};
 use vs_excmd::{Plan, PlanErr, changes_text};
 use vs_exparse::{Command, ExErr, Parsed, parse};
 use vs_global::{Search, global};
@@ -73,7 +73,7 @@ fn run<S: LineStore>(
                 cursor,
             },
         ) => {
-            splice_or_rollback(alloc, store, top, old, &new)?;
+            store.splice(alloc, top, old, &new)?;
             Ok(Ok(Some(cursor)))
         }
         Err(PlanErr::Ex(error)) => Ok(Err(error)),
@@ -99,7 +99,7 @@ fn check_row<S: LineStore>(
     if !allows_splice(store, 0, len, lines) {
         panic!(rt; "the lines do not fit")
     }
-    splice_or_rollback(alloc, store, 0, len, lines)?;
+    store.splice(alloc, 0, len, lines)?;
     store.commit();
     let outcome = run(rt, alloc, store, row)?;
     assert!(rt;

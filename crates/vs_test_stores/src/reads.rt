@@ -1,7 +1,7 @@
 use std::alloc::{AllocError, Global};
 use std::process::Abort;
 use std::test::Fail;
-use vs_edit::{LineStore, StoreErr, VecStore, allows_splice, splice_or_rollback};
+use vs_edit::{LineStore, StoreErr, VecStore, allows_splice};
 use vs_reads::{bytes_in, push_lines, run_lines};
 use vs_text::{Line, Text, write_text};
 
@@ -44,7 +44,7 @@ fn reads_runs_of_short_and_of_long_lines(rt: HostRuntime) -> Result<(), Fail> {
     let mut store = VecStore::new(alloc)?;
     let lines = lines_of_all_lengths(alloc)?;
     assert!(rt; allows_splice(&store, 0, 0, &lines));
-    splice_or_rollback(alloc, &mut store, 0, 0, &lines)?;
+    store.splice(alloc, 0, 0, &lines)?;
     assert_reads(&rt, alloc, &mut store, 0, 2_200)?;
     assert_reads(&rt, alloc, &mut store, 490, 17)?;
     assert_reads(&rt, alloc, &mut store, 2_200, 1)?;

@@ -5,7 +5,7 @@ use std::alloc::{AllocError, Global};
 use std::process::Abort;
 use std::test::Fail;
 use vs_edit::failing::FailingStore;
-use vs_edit::{LineStore, StoreErr, VecStore, allows_splice, splice_or_rollback, text_of};
+use vs_edit::{LineStore, StoreErr, VecStore, allows_splice, text_of};
 use vs_text::{Line, Text, from_stored, write_text};
 
 // Splices where all that a splice asks for holds.
@@ -22,7 +22,7 @@ fn splice_if_allowed<S: LineStore>(
     if !allows_splice(store, top, old, new) {
         return Ok(false);
     }
-    splice_or_rollback(alloc, store, top, old, new)?;
+    store.splice(alloc, top, old, new)?;
     Ok(true)
 }
 

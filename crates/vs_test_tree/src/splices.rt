@@ -2,7 +2,7 @@
 ghost use Rattle.std.specs.Prelude.{◌<◌, ◌≤◌};
 
 use std::alloc::{AllocError, Global};
-use vs_edit::{LineStore, StoreErr, allows_splice, splice_or_rollback, text_of};
+use vs_edit::{LineStore, StoreErr, allows_splice, text_of};
 use vs_text::{Line, from_stored, write_text};
 
 #[derive(Drop)]
@@ -86,7 +86,7 @@ impl Splice {
         if !allows_splice(store, self.top, self.old, &self.new) {
             return Ok(false);
         }
-        splice_or_rollback(alloc, store, self.top, self.old, &self.new)?;
+        store.splice(alloc, self.top, self.old, &self.new)?;
         Ok(true)
     }
 }

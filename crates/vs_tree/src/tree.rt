@@ -198,13 +198,9 @@ impl<'t, P: Pages + Drop> LineStore for TreeStore<'t, P> {
     ghost valid = { λ s. P.valid s.pages × Fits P.tells (P.shows s.pages).present s.tree.now.present
         × Fits P.tells (P.shows s.pages).committed s.tree.now.committed };
 
-    ghost safe = { λ s. P.valid s.pages × Fits P.tells (P.shows s.pages).committed s.tree.now.committed };
-
     ghost stays = { λ a b. (b.tree.ghost_name ≡ a.tree.ghost_name) × P.stays a.pages b.pages };
 
     ghost tells_one = { λ s v told. let r = v.1.one told in (r.0, record { told = told; has = r.1 }) };
-
-    ghost told_one = { λ s v told. let r = v.1.one told in (r.0, record { told = told; has = r.1 }) };
 
     ghost has_told = { λ s text h. h.told };
 
@@ -221,8 +217,6 @@ impl<'t, P: Pages + Drop> LineStore for TreeStore<'t, P> {
     ghost few_lines = { λ s v. v.1.few };
 
     ghost few_bytes = { λ s v. v.1.few_bytes };
-
-    ghost is_safe = { λ s v. (v.0, v.2) };
 
     ghost stays_itself = { λ s. (refl, P.stays_itself s.pages) };
 

@@ -1,5 +1,5 @@
--- A store that has just committed its text, or gone back to the committed one, shows one text, and what was ready before is so again.
-use Rattle.std.proofs.Common.{◌≡◌, ℕ, List, max, Result, Ok, Err, IsErrAnd, sym, ap, subst, ◌∙◌}
+-- A store that has just committed its text, gone back to the committed one, or kept both, shows one text, and what was ready before is so again.
+use Rattle.std.proofs.Common.{◌≡◌, ℕ, List, max, Result, Ok, Err, IsErrAnd, OnErr, sym, ap, subst, ◌∙◌}
 use Rattle.vs_faults.proofs.Causes.{HasCause-weaker}
 use Rattle.vs_edit.proofs.Steps.{SameText-trans}
 use Rattle.vs_edit.specs.State.{SameText, TextState}
@@ -19,20 +19,30 @@ settled {committed} shown kept told one = record {
   bytes = kept.bytes ∙ sym shown.bytes;
 }
 
+-- what holds anyway holds after an error
+pub on_err : {T E A : Type 0} (r : Result T E) → A → OnErr r A
+on_err (Ok x) a = tt
+on_err (Err e) a = a
+
+-- a store that shows both its texts as before
+pub stayed : {S : Type 0} (g : Ghosts S) (tree : Parts) (before after : S) → IsReady g tree before → SameText (g.shows before).present (g.shows after).present
+    → SameText (g.shows before).committed (g.shows after).committed → g.valid after
+    → ((text : List (List ℕ)) → (g.shows after).present.Is text → (was : List (List ℕ)) × (g.shows before).present.Is was)
+    → ((a b : List (List ℕ)) → (g.shows after).present.Is a → (g.shows after).present.Is b → a ≡ b) → IsReady g tree after
+stayed g tree before after ready present committed valid told one = record {
+  valid = valid;
+  committed = settled present (SameText-trans ready.committed committed) told one;
+  counts = subst (λ n. FitsCount tree (max 1 n)) (sym present.lines) ready.counts;
+  texts = λ text has. let was = told text has in subst (λ t. FitsText tree t) (one was.0 text (present.text was.0 was.1) has) (ready.texts was.0 was.1);
+}
+
 -- the store went back, by way of one that it passed through
 pub gone_back : {S : Type 0} (g : Ghosts S) (tree : Parts) (before mid after : S) → IsReady g tree before → SameText (g.shows before).committed (g.shows mid).committed
     → SameText (g.shows mid).committed (g.shows after).present → SameText (g.shows mid).committed (g.shows after).committed → g.valid after
     → ((text : List (List ℕ)) → (g.shows after).present.Is text → (was : List (List ℕ)) × (g.shows before).present.Is was)
     → ((a b : List (List ℕ)) → (g.shows after).present.Is a → (g.shows after).present.Is b → a ≡ b) → IsReady g tree after
 gone_back g tree before mid after ready on present committed valid told one =
-    let kept = SameText-trans ready.committed on in
-    let back = SameText-trans kept present in
-    record {
-      valid = valid;
-      committed = settled back (SameText-trans kept committed) told one;
-      counts = subst (λ n. FitsCount tree (max 1 n)) (sym back.lines) ready.counts;
-      texts = λ text has. let was = told text has in subst (λ t. FitsText tree t) (one was.0 text (back.text was.0 was.1) has) (ready.texts was.0 was.1);
-    }
+    stayed g tree before after ready (SameText-trans ready.committed (SameText-trans on present)) (SameText-trans on committed) valid told one
 
 -- a move, by what the call left that made it, of a tree that is seen as its parts
 module _ {S X : Type 0} {g : Ghosts S} {parts seen new : Parts} {before after : S} (same : parts ≡ seen) where

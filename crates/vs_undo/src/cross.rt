@@ -1,7 +1,7 @@
 // Walking the text of a store over the edges of the tree.
 ghost use Rattle.std.specs.Prelude.{◌≡◌, ◌≢◌, ◌<◌, ◌≤◌, ℕ, List, [], Some, IfOk, IsErrOf, OnOk, get_or, length, max};
 ghost use Rattle.vs_faults.specs.Faults.{HasCause};
-ghost use Rattle.vs_edit.specs.Calls.{CanGoBack};
+ghost use Rattle.vs_edit.specs.Calls.{Continues};
 ghost use Rattle.vs_entries.specs.Entries.{Leads, LeadsCount};
 ghost use Rattle.std.specs.List.Sorted.{IsStrictlyIncreasing};
 ghost use Rattle.vs_undo.specs.Numbers.{numbers};
@@ -31,7 +31,7 @@ fn store_err(error: EditErr) -> StoreErr
 
 /// Applies entries that lead from the text of a store, one after another, and gives those that lead back.
 ///
-/// After an `Err` the store may only be rolled back. [`StoreErr::Failed`] comes only from the store.
+/// After an `Err` some of them may be applied; the committed text is as before. [`StoreErr::Failed`] comes only from the store.
 pub fn apply_all<S: LineStore>(
     alloc: Global,
     store: &mut S,
@@ -47,8 +47,7 @@ pub fn apply_all<S: LineStore>(
     ensures texts { IfOk result (λ back. (text to : List (List ℕ)) → (S.shows store.old).present.Is text → IsLed Leads entries.now text to
         → (S.shows store.new).present.Is to × IsLed Leads back.items to text) }
     ensures back { IfOk result (λ back. (text : List (List ℕ)) → (S.shows store.old).present.Is text → back.items ≡ all_led_back entries.now text) }
-    ensures valid { OnOk result (S.valid store.new) }
-    ensures kept { CanGoBack S.LineStore store.old store.new }
+    ensures kept { Continues S.LineStore store.old store.new }
     ensures cause { HasCause (S.shows store.old).faults (S.shows store.new).faults (IsErrOf result StoreErr.Failed) }
 {
     let mut back = Vec::with_capacity(alloc, entries.len())?;
@@ -83,8 +82,7 @@ pub(crate) fn cross<S: LineStore>(
         → (S.shows store.new).present.Is (c.states c.to) × AreTurned Leads nodes.now c.back c.states path.now turned.items (length path.now)) }
     ensures back { IfOk result (λ turned. (text : List (List ℕ)) → (S.shows store.old).present.Is text → (c : Crosses Leads nodes.now path.now text)
         → (i : ℕ) → i < length path.now → AreLedBack nodes.now c.back c.states (get_or path.now i 0) (get_or turned.items i [])) }
-    ensures valid { OnOk result (S.valid store.new) }
-    ensures kept { CanGoBack S.LineStore store.old store.new }
+    ensures kept { Continues S.LineStore store.old store.new }
     ensures cause { HasCause (S.shows store.old).faults (S.shows store.new).faults (IsErrOf result StoreErr.Failed) }
 {
     let mut turned = Vec::with_capacity(alloc, path.len())?;

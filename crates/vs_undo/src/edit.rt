@@ -40,10 +40,7 @@ pub fn change<S: LineStore>(
         Err(EditErr::Failed) => return Err(UndoErr::Failed),
         Err(_) => return Err(UndoErr::NoMemory),
     };
-    if let Err(error) = text.splice(alloc, top, old, new) {
-        text.rollback();
-        return Err(UndoErr::from(error));
-    }
+    text.splice(alloc, top, old, new)?;
     match tree.push(alloc, back, keep.time, keep.levels) {
         Ok(pushed) => {
             text.commit();

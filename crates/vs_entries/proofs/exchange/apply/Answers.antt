@@ -5,16 +5,10 @@ use Rattle.vs_text.specs.Text.{bytes_of}
 use Rattle.vs_text.specs.Limits.{IsShort}
 use Rattle.vs_text.specs.declared.TheConstants.{MAX_LINES}
 use Rattle.vs_edit.specs.Splices.{splice, cut_out}
-use Rattle.vs_edit.specs.State.{StoreState, KeepsCommitted, KeepsTexts}
-use Rattle.vs_edit.proofs.Steps.{Continues-trans}
+use Rattle.vs_edit.proofs.Steps.{Continues-trans, OnlyReads-continues}
 use Rattle.vs_entries.specs.Entries.{filled, settled, range_in, count_after, has_no_lines, Fits}
 use Rattle.vs_entries.proofs.EntryLemmas.{length-filled, bare_is, bytes_of-settled}
 use Rattle.vs_entries.proofs.exchange.apply.Goals as goal
-
--- a call that only reads leaves a store that can go back
-reads_back : {S : Type 0} {shows : S → StoreState} {IsSafe IsValid : S → Type 0} {Stays : S → S → Type 0} {a b : S} → ((p : S) → IsValid p → IsSafe p)
-    → KeepsTexts shows IsValid Stays a b → KeepsCommitted shows IsSafe Stays a b
-reads_back {b} is_safe reads = record { valid = is_safe b reads.valid; stays = reads.stays; committed = reads.committed }
 
 pub splice-requires-clause-allowed : goal.splice-requires-clause-allowed
 splice-requires-clause-allowed g c =
@@ -71,17 +65,17 @@ pub returns-in_err-fill-clause-kept : goal.returns-in_err-fill-clause-kept
 returns-in_err-fill-clause-kept g c = c.fill.ensures.kept
 
 pub returns-in_err-gone-clause-kept : goal.returns-in_err-gone-clause-kept
-returns-in_err-gone-clause-kept g c = let law = g.met.S.LineStore in Continues-trans law.stays_on c.in_ok-fill.ensures.kept (reads_back law.is_safe c.lines_at.ensures.kept)
+returns-in_err-gone-clause-kept g c = let law = g.met.S.LineStore in Continues-trans law.stays_on c.in_ok-fill.ensures.kept (OnlyReads-continues c.lines_at.ensures.kept)
 
 pub returns-in_err-splice-clause-kept : goal.returns-in_err-splice-clause-kept
 returns-in_err-splice-clause-kept g c =
     let law = g.met.S.LineStore in
-    Continues-trans law.stays_on (Continues-trans law.stays_on c.in_ok-fill.ensures.kept (reads_back law.is_safe c.in_ok-gone.ensures.kept)) c.splice.ensures.kept
+    Continues-trans law.stays_on (Continues-trans law.stays_on c.in_ok-fill.ensures.kept (OnlyReads-continues c.in_ok-gone.ensures.kept)) c.splice.ensures.kept
 
 pub returns-in_err-settle-clause-kept : goal.returns-in_err-settle-clause-kept
 returns-in_err-settle-clause-kept g c =
     let law = g.met.S.LineStore in
-    let read = Continues-trans law.stays_on c.in_ok-fill.ensures.kept (reads_back law.is_safe c.in_ok-gone.ensures.kept) in
+    let read = Continues-trans law.stays_on c.in_ok-fill.ensures.kept (OnlyReads-continues c.in_ok-gone.ensures.kept) in
     Continues-trans law.stays_on (Continues-trans law.stays_on read c.in_ok-splice.ensures.kept) c.settle.ensures.kept
 
 pub returns-in_err-gone-clause-cause : goal.returns-in_err-gone-clause-cause
@@ -105,7 +99,7 @@ returns-in_err-settle-clause-cause g c = record {
 pub returns-clause-kept : goal.returns-clause-kept
 returns-clause-kept g c =
     let law = g.met.S.LineStore in
-    let read = Continues-trans law.stays_on c.in_ok-fill.ensures.kept (reads_back law.is_safe c.in_ok-gone.ensures.kept) in
+    let read = Continues-trans law.stays_on c.in_ok-fill.ensures.kept (OnlyReads-continues c.in_ok-gone.ensures.kept) in
     Continues-trans law.stays_on (Continues-trans law.stays_on read c.in_ok-splice.ensures.kept) c.in_ok-settle.ensures.kept
 
 pub returns-clause-cause : goal.returns-clause-cause

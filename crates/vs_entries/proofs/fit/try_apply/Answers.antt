@@ -12,7 +12,7 @@ returns-in-Ok-clause-leads g c = λ text has.
     let there = c.in-Ok.ensures.text text here in
     leads_counted entry text (applied entry text) _ _ (law.has_lines c.fits.new.store text here) (law.has_lines c.apply.new.store (applied entry text) there)
     c.in-Ok.ensures.counts refl (law.has_within c.fits.new.store text c.in_ok-fits.ensures.kept.valid here).few_bytes
-    (law.has_within c.apply.new.store (applied entry text) c.in-Ok.ensures.valid there).few_bytes
+    (law.has_within c.apply.new.store (applied entry text) c.in-Ok.ensures.kept.valid there).few_bytes
 
 pub returns-in-Ok-clause-back_leads : goal.returns-in-Ok-clause-back_leads
 returns-in-Ok-clause-back_leads g c = λ text has.

@@ -1,13 +1,12 @@
 -- The gap is where the old lines begin: they are the first ones after it.
-use Rattle.std.proofs.Common.{◌≡◌, ◌∙◌, ◌-◌, ◌^◌, ◌++◌, ℕ, List, ap, arith, length, length-append, min, sym}
-use Rattle.std.proofs.lemmas.List.{take_all}
+use Rattle.std.proofs.Common.{◌≡◌, ◌∙◌, ◌-◌, ◌^◌, ◌++◌, ℕ, List, ap, arith, length, length-append, min, sym, take}
 use Rattle.vs_edit.specs.Splices.{cut_out, splice}
 use Rattle.vs_text.specs.Text.{bytes_of}
 use Rattle.vs_gap.proofs.GapLemmas.{exchanged, gone}
 use Rattle.vs_gap.proofs.gap.exchange.Goals as goal
 
-pub take_away-gone-requires : goal.take_away-gone-requires
-take_away-gone-requires c =
+pub take_away-requires : goal.take_away-requires
+take_away-requires c =
     let moved = c.move_gap.new in
     let same = ap (λ (xs : List (List ℕ)). length xs) c.in_ok-move_gap.ensures.lines in
     omega (
@@ -19,21 +18,26 @@ take_away-gone-requires c =
       length-append c.args.before.now.items c.args.after.now.items,
     )
 
+pub returns-in-Err-clause-err : goal.returns-in-Err-clause-err
+returns-in-Err-clause-err c =
+    let moved = c.move_gap.new in
+    ap (λ (xs : List (List ℕ)). xs ++ moved.after.items)
+    (c.truncate.ensures.items ∙ ap (λ (n : ℕ). take n c.push_copies.new.before.items) (sym c.in_ok-move_gap.ensures.place) ∙ c.in-Err.ensures.err)
+    ∙ c.in_ok-move_gap.ensures.lines
+
 pub returns-clause-lines : goal.returns-clause-lines
 returns-clause-lines c =
     let moved = c.move_gap.new in
     let new = c.args.new.now in
-    let before : c.loop-line.before.items ≡ moved.before.items ++ new =
-    c.loop-line.invariant ∙ ap (λ (xs : List (List ℕ)). moved.before.items ++ xs) (take_all c.loop-line.line-index new (omega arith)) in
-    ap (λ (xs : List (List ℕ)). xs ++ c.take_away-gone.new.lines.items) before
-    ∙ ap (λ (xs : List (List ℕ)). (moved.before.items ++ new) ++ xs) c.take_away-gone.ensures.rest
+    ap (λ (xs : List (List ℕ)). xs ++ c.take_away.new.lines.items) c.in_default.ensures.ok
+    ∙ ap (λ (xs : List (List ℕ)). (moved.before.items ++ new) ++ xs) c.take_away.ensures.rest
     ∙ exchanged moved.before.items moved.after.items new c.args.at c.args.old c.in_ok-move_gap.ensures.place
     ∙ ap (λ (xs : List (List ℕ)). splice xs c.args.at c.args.old new) c.in_ok-move_gap.ensures.lines
 
 pub returns-clause-gone : goal.returns-clause-gone
 returns-clause-gone c =
     let moved = c.move_gap.new in
-    c.take_away-gone.ensures.bytes
+    c.take_away.ensures.bytes
     ∙ ap (λ (lines : List (List ℕ)). min (bytes_of lines) (2 ^ 64 - 1))
     (sym (gone moved.before.items moved.after.items c.args.at c.args.old c.in_ok-move_gap.ensures.place)
     ∙ ap (λ (xs : List (List ℕ)). cut_out xs c.args.at c.args.old) c.in_ok-move_gap.ensures.lines)

@@ -19,7 +19,7 @@ pub returns-clause-kept : goal.returns-clause-kept
 returns-clause-kept g c =
     let kept = c.change_all-2.ensures.kept in
     let now = c.change_all-2.new.view.below.now in
-    lent-back g.S.LineStore c.args.view.now now _ (c.view-1.given.1 (sym kept.stays.0)) (g.met.S.LineStore.is_safe now kept.valid.0) kept.stays.1 kept.stays.3
+    lent-back g.S.LineStore c.args.view.now now _ (c.view-1.given.1 (sym kept.stays.0)) kept.valid.0 kept.stays.1 kept.stays.3
 
 pub returns-clause-cause : goal.returns-clause-cause
 returns-clause-cause g c =

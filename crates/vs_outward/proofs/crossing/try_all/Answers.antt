@@ -35,7 +35,7 @@ loop-entry-preserved g c =
               rw back (now.0, (turned, now.1.3)),
             ),
           );
-      valid = out.valid;
+      valid = out.kept.valid;
       kept = Continues-trans g.met.S.LineStore.stays_on inv.kept out.kept;
       faults = omega (arith, inv.faults, out.cause.later);
     }

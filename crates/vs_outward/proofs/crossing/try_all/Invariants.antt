@@ -1,5 +1,5 @@
 use Rattle.std.proofs.Common.{◌≤◌, ℕ, List, max, drop, reverse}
-use Rattle.vs_edit.specs.Calls.{CanGoBack}
+use Rattle.vs_edit.specs.Calls.{Continues}
 use Rattle.vs_entries.specs.Entries.{Leads, LeadsCount}
 use Rattle.vs_undo.specs.Edges.{IsLed}
 use Rattle.vs_outward.proofs.crossing.try_all.Given as goal
@@ -14,6 +14,6 @@ invariant-loop-entry g l = let old = l.initial.store in record {
       × ((to : List (List ℕ)) → IsLed Leads l.entries text to → IsLed Leads (drop l.entry-index l.entries) here to)
       × IsLed Leads (reverse l.back.items) here text);
   valid : g.S.LineStore.valid l.store;
-  kept : CanGoBack g.S.LineStore old l.store;
+  kept : Continues g.S.LineStore old l.store;
   faults : (g.S.LineStore.shows old).faults ≤ (g.S.LineStore.shows l.store).faults;
 }

@@ -77,7 +77,7 @@ loop-place-init g c =
       search = out.search first start;
       root = (reverse c.visit.new.search.path.items, (to_root, out.tried first start));
       seen = λ k node far. absurd (omega arith);
-      valid = out.goes_on.valid;
+      valid = out.goes_on.kept.valid;
       kept = out.goes_on.kept;
       faults = omega (arith, out.goes_on.cause.later);
     }
@@ -107,7 +107,7 @@ loop-place-preserved g c =
             let same : i ≡ k = omega (arith, past, within) in
             subst (λ j. IsSettledAt g.S.LineStore parts first c.visit_at.new.search.least (get_or parts.nodes (get_or order j 0) node).number) same (out.settled first node inv.search inv.root)
       ];
-      valid = out.goes_on.valid;
+      valid = out.goes_on.kept.valid;
       kept = Continues-trans g.met.S.LineStore.stays_on inv.kept out.goes_on.kept;
       faults = omega (arith, inv.faults, out.goes_on.cause.later);
     }

@@ -15,7 +15,7 @@ pub returns-in_err-follow-clause-goes_on : goal.returns-in_err-follow-clause-goe
 returns-in_err-follow-clause-goes_on g c =
     let p = err_from_is_err_and c.from_residual.result c.from_residual.ensures.1 in
     let store = g.met.S.LineStore in
-    out_of_memory c.from_residual.result (p.1 ∙ ap Err p.2) (Continues-none store.stays_itself (store.is_safe c.args.store.now c.requires.valid)) (omega arith)
+    out_of_memory c.from_residual.result (p.1 ∙ ap Err p.2) (Continues-none store.stays_itself c.requires.valid) (omega arith)
 
 pub try_path-requires-clause-turned : goal.try_path-requires-clause-turned
 try_path-requires-clause-turned g c =

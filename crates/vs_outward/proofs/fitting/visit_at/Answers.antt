@@ -39,7 +39,7 @@ pub returns-in_err-turn-clause-goes_on : goal.returns-in_err-turn-clause-goes_on
 returns-in_err-turn-clause-goes_on g c =
     let p = err_from_is_err_and c.from_residual.result c.from_residual.ensures.1 in
     let store = g.met.S.LineStore in
-    out_of_memory c.from_residual.result (p.1 ∙ ap Err p.2) (Continues-none store.stays_itself (store.is_safe c.args.store.now c.requires.valid)) (omega arith)
+    out_of_memory c.from_residual.result (p.1 ∙ ap Err p.2) (Continues-none store.stays_itself c.requires.valid) (omega arith)
 
 pub returns-in-Some-clause-search : goal.returns-in-Some-clause-search
 returns-in-Some-clause-search g c = λ first was. let next = c.in_ok-visit.ensures.search first was in record { on = next.on; begun = next.begun; barred = next.barred; misfit = next.misfit }

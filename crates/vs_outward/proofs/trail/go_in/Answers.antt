@@ -12,7 +12,7 @@ loop-preserved g c =
     record {
       on = λ first was. out.on first (inv.on first was);
       less = out.less ∙ take_less c.args.trail.now.items c.loop.trail.items c.loop.counter inv.less;
-      valid = out.goes_on.valid;
+      valid = out.goes_on.kept.valid;
       kept = Continues-trans g.met.S.LineStore.stays_on inv.kept out.goes_on.kept;
       faults = omega (arith, inv.faults, out.goes_on.cause.later);
     }

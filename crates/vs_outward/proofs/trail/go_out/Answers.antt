@@ -30,7 +30,7 @@ loop-k-preserved g c =
       on = λ first was. out.on first (inv.on first was);
       begun = ap (map number) crossed.1.0 ∙ (map-append number c.loop-k.trail.items (crossed.0 ∷ []) ∙ (ap (λ xs. xs ++ crossed.0.number ∷ []) inv.begun
           ∙ (ap (λ n. take k path ++ n ∷ []) crossed.1.1 ∙ sym (take_more path k 0 (omega arith)))));
-      valid = out.goes_on.valid;
+      valid = out.goes_on.kept.valid;
       kept = Continues-trans g.met.S.LineStore.stays_on inv.kept out.goes_on.kept;
       faults = omega (arith, inv.faults, out.goes_on.cause.later);
     }

@@ -53,7 +53,7 @@ loop-entry-preserved g c =
           c.in-Ok.ensures.back_counts (c.in-Ok.ensures.back now.0 now.1.0) step.1.0 in
           (step.0, (has_next, step.1.1, rw back (now.0, (turned, now.1.2)), back_step entries i entry c.in-Ok.other text now.0 step.0 _ _ c.loop-entry-test.true c.entry-item.is step.1.0.is (c.in-Ok.ensures.back now.0 now.1.0) back now.1.3));
       count = omega (arith, ap length c.in_ok-push-in-Ok.ensures.items, length-append c.loop-entry.back.items (c.in-Ok.other ∷ []), c.loop-entry.invariant.count);
-      valid = c.in-Ok.ensures.valid;
+      valid = c.in-Ok.ensures.kept.valid;
       kept = Continues-trans g.met.S.LineStore.stays_on c.loop-entry.invariant.kept c.in-Ok.ensures.kept;
       faults = omega (arith, c.loop-entry.invariant.faults, c.in-Ok.ensures.cause.later);
     }

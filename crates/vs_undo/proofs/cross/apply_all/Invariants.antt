@@ -1,5 +1,5 @@
 use Rattle.std.proofs.Common.{◌≡◌, ◌≤◌, ℕ, List, length, max, drop, reverse, ◌++◌}
-use Rattle.vs_edit.specs.Calls.{CanGoBack}
+use Rattle.vs_edit.specs.Calls.{Continues}
 use Rattle.vs_entries.specs.Entries.{Leads, LeadsCount}
 use Rattle.vs_undo.specs.Edges.{IsLed}
 use Rattle.vs_undo.specs.Turns.{all_led_back}
@@ -15,6 +15,6 @@ invariant-loop-entry g l = let old = l.initial.store in record {
       × (all_led_back l.entries text ≡ all_led_back (drop l.entry-index l.entries) now ++ reverse l.back.items));
   count : length l.back.items ≡ l.entry-index;
   valid : g.S.LineStore.valid l.store;
-  kept : CanGoBack g.S.LineStore old l.store;
+  kept : Continues g.S.LineStore old l.store;
   faults : (g.S.LineStore.shows old).faults ≤ (g.S.LineStore.shows l.store).faults;
 }

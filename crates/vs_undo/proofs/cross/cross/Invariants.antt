@@ -1,5 +1,5 @@
 use Rattle.std.proofs.Common.{◌≡◌, ◌<◌, ◌≤◌, ℕ, List, [], length, get_or, max, drop}
-use Rattle.vs_edit.specs.Calls.{CanGoBack}
+use Rattle.vs_edit.specs.Calls.{Continues}
 use Rattle.vs_entries.specs.Entries.{Leads, LeadsCount}
 use Rattle.vs_undo.specs.Ways.{parent_at}
 use Rattle.vs_undo.specs.Turns.{AreLedBack}
@@ -20,6 +20,6 @@ invariant-loop-number g l = let old = l.initial.store in record {
   count : length l.turned.items ≡ l.number-index;
   some : (i : ℕ) → i < l.number-index → 0 < length (get_or l.turned.items i []);
   valid : g.S.LineStore.valid l.store;
-  kept : CanGoBack g.S.LineStore old l.store;
+  kept : Continues g.S.LineStore old l.store;
   faults : (g.S.LineStore.shows old).faults ≤ (g.S.LineStore.shows l.store).faults;
 }

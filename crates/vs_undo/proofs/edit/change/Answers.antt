@@ -1,5 +1,6 @@
 -- The entry of the splice leads back over it, so the push keeps the history. What is forgotten does not depend on the entries.
-use Rattle.std.proofs.Common.{◌≡◌, ◌+◌, ◌-◌, ◌∷◌, [], ℕ, List, length, max, rules, sym, ap, subst, ◌∙◌, arith}
+use Rattle.std.proofs.Common.{◌≡◌, ◌+◌, ◌-◌, ◌∷◌, [], ℕ, List, length, max, refl, rules, sym, ap, subst, ◌∙◌, arith}
+use Rattle.vs_faults.proofs.Causes.{risen_after}
 use Rattle.vs_edit.specs.Splices.{splice}
 use Rattle.vs_edit.proofs.Steps.{SameText-trans, IsSpliced-after}
 use Rattle.vs_entries.specs.Entries.{Leads, LeadsCount, splice_back}
@@ -10,18 +11,18 @@ use Rattle.vs_undo.specs.History.{links_of, pushed, FitsCount, FitsText}
 use Rattle.vs_undo.specs.Moves.{IsReady}
 use Rattle.vs_undo.proofs.ForgetLemmas.{forgotten-links_of, links_left}
 use Rattle.vs_undo.proofs.PushLemmas.{links_of-pushed}
-use Rattle.vs_undo.proofs.ReadyLemmas.{gone_back, settled}
+use Rattle.vs_undo.proofs.ReadyLemmas.{gone_back, on_err, settled, stayed}
 use Rattle.vs_undo.proofs.edit.change.Goals as goal
 use Rattle.vs_undo.proofs.edit.change.Goals.{After-commit}
 
 -- the store after the splice, from the one at the start
 spliced_text : (g : _) (c : After-commit g) → (before : List (List ℕ)) → (g.S.LineStore.shows c.args.text.now).present.Is before
     → (g.S.LineStore.shows c.splice.new.self).present.Is (splice before c.args.top c.args.old c.args.new.now)
-spliced_text g c before has = c.in_default.ensures.ok.text before (c.in-Ok.ensures.kept.present.text before has)
+spliced_text g c before has = c.in_ok-splice.ensures.ok.text before (c.in-Ok.ensures.kept.present.text before has)
 
 counted : (g : _) (c : After-commit g) → LeadsCount c.in-Ok.back (max 1 (g.S.LineStore.shows c.splice.new.self).present.lines) (max 1 (g.S.LineStore.shows c.args.text.now).present.lines)
 counted g c =
-    let sum : (g.S.LineStore.shows c.args.text.now).present.lines + length c.args.new.now - c.args.old ≡ (g.S.LineStore.shows c.splice.new.self).present.lines = omega (arith, c.in_default.ensures.ok.lines, c.in-Ok.ensures.kept.present.lines) in
+    let sum : (g.S.LineStore.shows c.args.text.now).present.lines + length c.args.new.now - c.args.old ≡ (g.S.LineStore.shows c.splice.new.self).present.lines = omega (arith, c.in_ok-splice.ensures.ok.lines, c.in-Ok.ensures.kept.present.lines) in
     subst (λ n. LeadsCount c.in-Ok.back (max 1 n) (max 1 (g.S.LineStore.shows c.args.text.now).present.lines)) sum c.in-Ok.ensures.count
 
 leads : (g : _) (c : After-commit g) → (before : List (List ℕ)) → (g.S.LineStore.shows c.args.text.now).present.Is before → Leads c.in-Ok.back (splice before c.args.top c.args.old c.args.new.now) before
@@ -48,7 +49,7 @@ returns-in-Ok-push-clause-changed g c = record {
   current = c.in-Ok-push.ensures.current;
   few = c.in-Ok-push.ensures.few;
   spliced =
-      let spliced = IsSpliced-after c.in-Ok.ensures.kept.present c.in_default.ensures.ok in
+      let spliced = IsSpliced-after c.in-Ok.ensures.kept.present c.in_ok-splice.ensures.ok in
       record { text = λ text has. c.commit.ensures.present.text (splice text c.args.top c.args.old c.args.new.now) (spliced.text text has); lines = omega (arith, spliced.lines, c.commit.ensures.present.lines) };
   history = λ text history has is. c.in-Ok-push.ensures.history text (splice text c.args.top c.args.old c.args.new.now) history is (leads g c text has);
 }
@@ -62,7 +63,7 @@ returns-in-Ok-push-clause-atomic g c =
       stayed = tt;
       ready = record {
         valid = c.commit.ensures.valid;
-        committed = settled c.commit.ensures.present c.commit.ensures.committed (λ text has. laws.tells_one c.splice.new.self c.in_default.ensures.valid (laws.has_told c.commit.new.self text has)) one;
+        committed = settled c.commit.ensures.present c.commit.ensures.committed (λ text has. laws.tells_one c.splice.new.self c.in_ok-splice.ensures.kept.valid (laws.has_told c.commit.new.self text has)) one;
         counts = subst (λ n. FitsCount c.push.new.self (max 1 n)) (sym c.commit.ensures.present.lines) (c.in-Ok-push.ensures.counts _ _ ready.counts (counted g c));
         texts = λ text has.
             let was = laws.tells_one c.args.text.now ready.valid (laws.has_told c.commit.new.self text has) in
@@ -72,6 +73,23 @@ returns-in-Ok-push-clause-atomic g c =
       };
       stays = laws.stays_on _ _ _ c.in-Ok.ensures.kept.stays (laws.stays_on _ _ _ c.splice.ensures.kept.stays c.commit.ensures.stays);
       cause = search rules;
+    }
+
+pub returns-in_err-splice-clause-atomic : goal.returns-in_err-splice-clause-atomic
+returns-in_err-splice-clause-atomic g c =
+    let laws = g.met.S.LineStore in
+    let ready = c.requires.ready in
+    let read = c.in-Ok.ensures.kept in
+    let present = SameText-trans read.present c.in_err-splice.ensures.same in
+    record {
+      stayed = on_err c.from_residual.result (record { tree = refl; text = present });
+      ready = stayed g.S.LineStore c.args.tree.now c.args.text.now c.splice.new.self ready present (SameText-trans read.committed c.splice.ensures.kept.committed) c.splice.ensures.kept.valid
+          (λ text has. laws.tells_one c.args.text.now ready.valid (laws.has_told c.splice.new.self text has)) (laws.has_one c.splice.new.self);
+      stays = laws.stays_on _ _ _ read.stays c.splice.ensures.kept.stays;
+      cause = record {
+        later = omega (arith, c.in-Ok.ensures.cause.later, c.splice.ensures.cause.later);
+        risen = λ failed. risen_after c.in-Ok.ensures.cause.later (c.splice.ensures.cause.risen (search rules));
+      };
     }
 
 pub returns-in-Err-push-clause-atomic : goal.returns-in-Err-push-clause-atomic

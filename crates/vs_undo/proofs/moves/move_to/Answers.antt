@@ -140,7 +140,7 @@ returns-in-Ok-clause-atomic g c =
       stayed = tt;
       ready = record {
         valid = c.commit.ensures.valid;
-        committed = settled c.commit.ensures.present c.commit.ensures.committed (λ text has. laws.tells_one c.cross.new.store c.in-Ok.ensures.valid (laws.has_told c.commit.new.self text has)) one;
+        committed = settled c.commit.ensures.present c.commit.ensures.committed (λ text has. laws.tells_one c.cross.new.store c.in-Ok.ensures.kept.valid (laws.has_told c.commit.new.self text has)) one;
         counts = record { counts = sees.counts; are_states = lines.0; current = ap (max 1) c.commit.ensures.present.lines ∙ (lines.1 ∙ sym (ap sees.counts (current g c))) };
         texts = λ text has.
             let was = laws.tells_one c.args.store.now c.requires.ready.valid (laws.has_told c.commit.new.self text has) in

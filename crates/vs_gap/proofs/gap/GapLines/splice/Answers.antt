@@ -1,9 +1,9 @@
 -- The change lies before the last gap, or after the first.
 use Rattle.std.proofs.Common.{◌≡◌, ◌∙◌, ◌+◌, ◌-◌, ◌≤◌, ◌^◌, ◌++◌, ℕ, List, append_assoc, ap, arith, length, length-append, min, sym}
-use Rattle.std.proofs.lemmas.Result.{IfOk-weaker, on_ok_weaker}
+use Rattle.std.proofs.lemmas.Result.{IfOk-weaker, on_err_weaker, on_ok_weaker}
 use Rattle.vs_edit.specs.Splices.{cut_out, splice}
 use Rattle.vs_text.specs.Text.{bytes_of}
-use Rattle.vs_gap.proofs.GapLemmas.{cut-first, cut-last, last-within, splice-first, splice-last, whole}
+use Rattle.vs_gap.proofs.GapLemmas.{cut-first, cut-last, last-within, on_err, splice-first, splice-last, whole}
 use Rattle.vs_gap.proofs.gap.GapLines.splice.Goals as goal
 
 pub returns-then-is_at_first-clause-lines : goal.returns-then-is_at_first-clause-lines
@@ -76,3 +76,21 @@ returns-clause-gone c =
     ∙ ap (λ (xs : List (List ℕ)). cut_out xs c.args.at c.args.old)
     (whole was.before.items was.between.items was.after.items front lowered.after.items c.in_ok-lower.ensures.lines ∙ c.self.view_is)))
     c.exchange-2.ensures.gone
+
+pub returns-then-is_at_first-clause-err : goal.returns-then-is_at_first-clause-err
+returns-then-is_at_first-clause-err c =
+    on_err_weaker c.exchange.result (λ same. ap (λ (xs : List (List ℕ)). xs ++ c.self.inside.after.items) same ∙ c.self.view_is) c.exchange.ensures.err
+
+pub returns-in_err-lower-clause-err : goal.returns-in_err-lower-clause-err
+returns-in_err-lower-clause-err c =
+    on_err c.from_residual.result (ap (λ (xs : List (List ℕ)). xs ++ c.self.inside.after.items) c.lower.ensures.lines ∙ c.self.view_is)
+
+pub returns-clause-err : goal.returns-clause-err
+returns-clause-err c =
+    let was = c.self.inside in
+    let lowered = c.lower.new in
+    let front = lowered.before.items in
+    on_err_weaker c.exchange-2.result
+    (λ same. append_assoc front c.exchange-2.new.before.items c.exchange-2.new.after.items ∙ ap (λ (xs : List (List ℕ)). front ++ xs) same
+    ∙ whole was.before.items was.between.items was.after.items front lowered.after.items c.in_ok-lower.ensures.lines ∙ c.self.view_is)
+    c.exchange-2.ensures.err
