@@ -16,6 +16,8 @@ mod layout;
 #[cfg(test)]
 mod marks;
 #[cfg(test)]
+mod refused;
+#[cfg(test)]
 mod splices;
 #[cfg(test)]
 mod stores;
