@@ -145,8 +145,8 @@ fn carry_move<S: LineStore>(
     }
 }
 
-/// Whether this is `:m`.
-pub(crate) fn is_move(nested: &Command) -> bool
+// Whether this is `:m`.
+fn is_move(nested: &Command) -> bool
     ensures { result ≡ is_move (command_of nested.now) }
 {
     matches!(nested, Command::Move { .. })

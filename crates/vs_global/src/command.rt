@@ -12,7 +12,7 @@ ghost use Rattle.vs_marks.specs.Marks.{Ascends};
 ghost use Rattle.vs_global.specs.Carry.{HasMarks};
 ghost use Rattle.vs_global.specs.Global.{changed_at, global, places};
 
-use crate::carry::{carry_all, is_move};
+use crate::carry::carry_all;
 use crate::run::Run;
 use crate::search::{Search, marked_lines};
 use crate::whole::whole_plan;
@@ -56,8 +56,7 @@ fn change_all<S: LineStore>(
     Ok(plan)
 }
 
-// The same of a store that is only read, but for `:m`: each other command makes one splice, beside the one before, and what is changed
-// stands beside the store.
+// The same of a store that is only read: what is changed stands beside it.
 fn change<S: LineStore>(
     alloc: Global,
     nested: &Command,
@@ -80,9 +79,6 @@ fn change<S: LineStore>(
     ensures kept { Continues S.LineStore view.old view.new }
     ensures cause { HasCause (S.shows view.old).faults (S.shows view.new).faults (IsErrOf result PlanErr.Failed) }
 {
-    if is_move(nested) {
-        return change_all(alloc, nested, view, taken, cursor);
-    }
     let present = Held::over(alloc, view);
     let mut overlay = Overlay {
         present,

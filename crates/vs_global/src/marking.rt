@@ -65,11 +65,10 @@ fn taken_in<S: LineStore>(
     // called for its contract alone: the number of lines fits 64 bits
     let _ = view.len();
     let mut reader = LineReader::new(alloc, top, count);
-    let mut line = Vec::new(alloc);
     let mut taken = Vec::new(alloc);
     for i in 0..count {
-        reader.line(alloc, view, &mut line)?;
-        push_taken(&mut taken, top + i, &line, finder, invert)?;
+        reader.advance(alloc, view)?;
+        push_taken(&mut taken, top + i, reader.current(), finder, invert)?;
     }
     Ok(taken)
 }

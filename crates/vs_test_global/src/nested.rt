@@ -179,9 +179,16 @@ fn commands_at_marked_lines(rt: HostRuntime) -> Result<(), Fail> {
         3, b"s/\\Va", false, b"m." => Ok(None), b"a1\nb2\na3\na4\nb5\na6\nb7\nb8\n";
         3, b"s/\\Va", false, b"m-2" => Err(ExErr::E16), b"a1\nb2\na3\na4\nb5\na6\nb7\nb8\n";
         3, b"s/\\Va", false, b"m2" => Ok(Some(3)), b"b2\na1\na6\na4\na3\nb5\nb7\nb8\n";
+        3, b"s/\\Va", false, b"m4" => Ok(Some(5)), b"b2\na1\na3\na4\na6\nb5\nb7\nb8\n";
+        3, b"s/\\Va", false, b"+2m0" => Ok(Some(1)), b"a6\na3\na1\nb2\na4\nb5\nb7\nb8\n";
         3, b"s/\\Va", false, b"co." => Ok(Some(10)), b"a1\na1\nb2\na3\na3\na4\na4\nb5\na6\na6\nb7\nb8\n";
+        3, b"s/\\Va", false, b"t0" => Ok(Some(1)), b"a6\na4\na3\na1\na1\nb2\na3\na4\nb5\na6\nb7\nb8\n";
+        3, b"s/\\Va", false, b"t$" => Ok(Some(12)), b"a1\nb2\na3\na4\nb5\na6\nb7\nb8\na1\na3\na4\na6\n";
         3, b"s/\\Va", false, b"j!" => Ok(Some(4)), b"a1b2\na3a4\nb5\na6b7\nb8\n";
         3, b"s/\\Va", false, b"s/\\Va/z/" => Ok(Some(6)), b"z1\nb2\nz3\nz4\nb5\nz6\nb7\nb8\n";
+        3, b"s/\\Va", false, b"s/\\V1/&&/" => Ok(Some(6)), b"a11\nb2\na3\na4\nb5\na6\nb7\nb8\n";
+        3, b"s/\\Va", false, b"+s/\\Vb/x/" => Ok(Some(7)), b"a1\nx2\na3\na4\nx5\na6\nx7\nb8\n";
+        1, b"s/\\Vb", false, b"+s/\\Vb/x/" => Err(ExErr::E16), b"a1\nb2\na3\na4\nb5\na6\nb7\nb8\n";
         1, b"s/\\Va", true, b"s/\\V1/&&/" => Ok(None), b"a1\nb2\na3\na4\nb5\na6\nb7\nb8\n";
         3, b"s/\\Va", false, b".,+1d" => Ok(Some(2)), b"b5\nb8\n";
         3, b"s/\\Va", false, b".,+1j" => Ok(Some(4)), b"a1 b2\na3 a4\nb5\na6 b7\nb8\n";

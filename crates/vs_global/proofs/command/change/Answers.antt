@@ -6,21 +6,21 @@ use Rattle.vs_global.proofs.GlobalLemmas.{allows-same, lent-back, lent-cause}
 use Rattle.vs_global.proofs.command.change.Goals as goal
 
 pub returns-clause-answers : goal.returns-clause-answers
-returns-clause-answers g c = λ text marks has are size. c.change_all-2.ensures.answers text marks (c.over-present.ensures.shows.text text has) are size
+returns-clause-answers g c = λ text marks has are size. c.change_all.ensures.answers text marks (c.over-present.ensures.shows.text text has) are size
 
 pub returns-clause-allowed : goal.returns-clause-allowed
 returns-clause-allowed g c =
     let below = (g.S.LineStore.shows c.args.view.now).present in
-    IfOk-weaker c.change_all-2.result _ _
+    IfOk-weaker c.change_all.result _ _
     (λ plan allows. allows-same (shown below c.over-present.result) below plan c.over-present.ensures.only.lines c.over-present.ensures.shows.text allows)
-    c.change_all-2.ensures.allowed
+    c.change_all.ensures.allowed
 
 pub returns-clause-kept : goal.returns-clause-kept
 returns-clause-kept g c =
-    let kept = c.change_all-2.ensures.kept in
-    let now = c.change_all-2.new.view.below.now in
+    let kept = c.change_all.ensures.kept in
+    let now = c.change_all.new.view.below.now in
     lent-back g.S.LineStore c.args.view.now now _ (c.view-1.given.1 (sym kept.stays.0)) kept.valid.0 kept.stays.1 kept.stays.3
 
 pub returns-clause-cause : goal.returns-clause-cause
 returns-clause-cause g c =
-    lent-cause g.S.LineStore c.args.view.now c.change_all-2.new.view.below.now _ (c.view-1.given.1 (sym c.change_all-2.ensures.kept.stays.0)) c.change_all-2.ensures.cause
+    lent-cause g.S.LineStore c.args.view.now c.change_all.new.view.below.now _ (c.view-1.given.1 (sym c.change_all.ensures.kept.stays.0)) c.change_all.ensures.cause
