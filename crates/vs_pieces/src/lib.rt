@@ -4,5 +4,5 @@
 mod lines;
 mod reader;
 
-pub use lines::{EndedLines, ended_line};
+pub use lines::{EndedLines, WholeLines, ended_line, whole_lines};
 pub use reader::PieceReader;

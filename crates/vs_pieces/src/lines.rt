@@ -1,5 +1,6 @@
 // Lines in one piece of memory.
 ghost use Rattle.std.specs.Prelude.{◌≡◌, ◌<◌, ◌++◌, ◌∷◌, [], MatchOption, OnErr, OnOk, length};
+ghost use Rattle.vs_pieces.specs.Whole.{AreWhole};
 ghost use Rattle.vs_text.specs.Text.{IsLine, file_of, lines_of};
 
 use memchr::memchr;
@@ -29,6 +30,28 @@ pub fn ended_line(bytes: &[u8]) -> Option<(&[u8], &[u8])>
 {
     let end = memchr(b'\n', bytes)?;
     Some((&bytes[..end], &bytes[end + 1..]))
+}
+
+/// The lines that end in some bytes with their ends, how many they are, and the bytes after the last line end.
+#[derive(Clone, Copy)]
+pub struct WholeLines<'b> {
+    pub lines: &'b [u8],
+    pub count: u64,
+    pub rest: &'b [u8],
+}
+
+/// Finds the lines that end in some bytes.
+pub fn whole_lines(bytes: &[u8]) -> WholeLines<'_>
+    ensures { AreWhole bytes.now result }
+{
+    let mut count = 0;
+    let mut rest = bytes;
+    'lines: while let Some((_line, after)) = ended_line(rest) {
+        count += 1;
+        rest = after;
+    }
+    let lines = &bytes[..bytes.len() - rest.len()];
+    WholeLines { lines, count, rest }
 }
 
 // Adds a line and byte 10. After an error the bytes are as before.
@@ -70,6 +93,16 @@ impl EndedLines {
         ensures err { OnErr result (self.new ≡ self.old) }
     {
         append_line(&mut self.bytes, line)?;
+        Ok(())
+    }
+
+    /// Adds copies of lines after the others, from the bytes of them with their ends. After an error they are as before.
+    pub fn append(&mut self, lines: &[u8]) -> Result<(), AllocError>
+        requires { file_of (lines_of lines.now) ≡ lines.now }
+        ensures ok { OnOk result (self.new ≡ self.old ++ lines_of lines.now) }
+        ensures err { OnErr result (self.new ≡ self.old) }
+    {
+        self.bytes.extend_from_slice(lines)?;
         Ok(())
     }
 }

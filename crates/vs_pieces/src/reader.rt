@@ -1,14 +1,17 @@
 // A text that is read in pieces.
 ghost use Rattle.std.specs.Prelude.{◌≡◌, ◌+◌, ◌<◌, ◌≤◌, ◌^◌, ◌++◌, ◌∷◌, [], List, ℕ, length, None, Some, IfOk, IfErr, OnOk, OnErr, MatchOption};
-ghost use Rattle.vs_text.specs.Text.{IsLine};
+ghost use Rattle.vs_text.specs.Text.{IsLine, file_of, lines_of};
 ghost use Rattle.vs_text.specs.Limits.{IsWithinLimits};
 ghost use Rattle.vs_text.specs.Reader.{HasRead, IsAnswer, IsCertain, IsReading, Reads, ReadsOn, Refuses, size_read};
 
-use crate::{EndedLines, ended_line};
+use crate::{EndedLines, WholeLines, ended_line, whole_lines};
 use std::alloc::Global;
 use std::marker::Model;
 use std::mem;
 use vs_text::{MAX_LINE_BYTES, MAX_LINES, MAX_TEXT_BYTES, TextErr};
+
+/// The greatest number of bytes that are read together: of the lines that end in them, only the first can be too long.
+const PART: usize = MAX_LINE_BYTES as usize;
 
 /// Reads a text in pieces (docs/FORMATS.md, "The file form of a text"), as [`TextReader`](vs_text::TextReader) does, and keeps the lines
 /// that have ended in one piece of memory.
@@ -134,7 +137,7 @@ impl PieceReader {
         Ok(self.lines)
     }
 
-    // Reads a piece: its lines, and then the bytes after its last line end.
+    // Reads a piece, part by part.
     fn read(&mut self, piece: &[u8]) -> Result<(), TextErr>
         requires { size_read self.old + length piece.now < 2 ^ 64 }
         ensures reads { OnOk result (ReadsOn self.old self.new piece.now) }
@@ -143,12 +146,66 @@ impl PieceReader {
         ensures same { self.new.refused ≡ self.old.refused }
     {
         let mut rest = piece;
-        'lines: while let Some((line, after)) = ended_line(rest) {
-            self.read_bytes(line)?;
-            self.end_line()?;
+        'parts: while !rest.is_empty() {
+            let (part, after) = rest.split_at(rest.len().min(PART));
+            self.read_part(part)?;
             rest = after;
         }
-        self.read_bytes(rest)
+        Ok(())
+    }
+
+    // Reads a part of a piece: the rest of the last line, the lines that end after it, and the bytes of the next one.
+    fn read_part(&mut self, part: &[u8]) -> Result<(), TextErr>
+        requires few { length part.now ≤ MAX_LINE_BYTES }
+        requires size { size_read self.old + length part.now < 2 ^ 64 }
+        ensures reads { OnOk result (ReadsOn self.old self.new part.now) }
+        ensures refused { IfErr result (λ error. Refuses self.old part.now error) }
+        ensures size { size_read self.new ≤ size_read self.old + length part.now }
+        ensures same { self.new.refused ≡ self.old.refused }
+    {
+        let Some((line, after)) = ended_line(part) else {
+            return self.read_bytes(part);
+        };
+        self.read_bytes(line)?;
+        self.end_line()?;
+        let ended = whole_lines(after);
+        self.read_lines(ended)?;
+        self.read_bytes(ended.rest)
+    }
+
+    // Reads lines that have ended, none of which is too long, after the end of a line.
+    fn read_lines(&mut self, ended: WholeLines<'_>) -> Result<(), TextErr>
+        requires begun { self.old.last_size ≡ 0 }
+        requires whole { file_of (lines_of ended.lines.now) ≡ ended.lines.now }
+        requires count { length (lines_of ended.lines.now) ≡ ended.count }
+        requires few { length ended.lines.now ≤ MAX_LINE_BYTES }
+        requires size { size_read self.old + length ended.lines.now < 2 ^ 64 }
+        ensures reads { OnOk result (ReadsOn self.old self.new ended.entry.lines.now) }
+        ensures memory { OnErr result (result ≡ Err TextErr.NoMemory) }
+        ensures size { size_read self.new ≡ size_read self.old + length ended.entry.lines.now }
+        ensures same { self.new.refused ≡ self.old.refused }
+    {
+        self.ended += ended.count;
+        self.bytes += ended.lines.len() as u64;
+        self.hold_lines(ended.lines)
+    }
+
+    // Keeps lines that have ended, or lets all lines go where the text is too great.
+    fn hold_lines(&mut self, lines: &[u8]) -> Result<(), TextErr>
+        requires { file_of (lines_of lines.now) ≡ lines.now }
+        ensures held { OnOk result (self.old.ended ≤ MAX_LINES → self.old.bytes ≤ MAX_TEXT_BYTES
+            → self.new.lines ≡ self.old.lines ++ lines_of lines.now) }
+        ensures many_lines { OnOk result (MAX_LINES < self.old.ended → self.new.lines ≡ []) }
+        ensures many_bytes { OnOk result (MAX_TEXT_BYTES < self.old.bytes → self.new.lines ≡ []) }
+        ensures rest { self.new ≡ record self.old { lines = self.new.lines } }
+        ensures memory { OnErr result (result ≡ Err TextErr.NoMemory) }
+    {
+        if self.ended > MAX_LINES || self.bytes > MAX_TEXT_BYTES {
+            self.lines = EndedLines::new(*self.last.allocator());
+            return Ok(());
+        }
+        self.lines.append(lines)?;
+        Ok(())
     }
 
     // Reads bytes of the last line.
