@@ -28,3 +28,4 @@ pub mod Failed
 pub mod Rules
 pub mod Descents
 pub mod Lineages
+pub mod Once

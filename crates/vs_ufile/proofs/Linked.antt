@@ -102,7 +102,7 @@ link_at field (c ∷ cs) d h (suc i) lt =
     let rest : AllPairs (λ m n. m ≢ n) (numbers cs) = λ j k e less within. h (suc j) (suc k) e (omega (arith, less)) (omega (arith, within)) in
     ap (λ b. cond b (field c) (link field cs x.number)) (ne_eqb c.number x.number differ) ∙ link_at field cs d rest i inside
 
-link_none : (field : Change → ℕ) (cs : List Change) (n : ℕ) → ¬ IsChange cs n → link field cs n ≡ 0
+pub link_none : (field : Change → ℕ) (cs : List Change) (n : ℕ) → ¬ IsChange cs n → link field cs n ≡ 0
 link_none field [] n absent = refl
 link_none field (c ∷ cs) n absent =
     let differ : c.number ≢ n = λ e. absent (0, omega arith, e) in

@@ -1,5 +1,5 @@
 -- Which changes fail to make a tree (docs/FORMATS.md, "Undo file"). Changes are named by their numbers; 0 is none.
-use Rattle.std.specs.Prelude.{◌≡◌, ◌≢◌, ℕ, suc, ◌==◌, ◌⊎◌, ◌≤◌, if◌then◌else◌, List, [], ◌∷◌, map, Contains}
+use Rattle.std.specs.Prelude.{◌≡◌, ◌≢◌, ℕ, suc, ◌==◌, ◌⊎◌, ◌≤◌, if◌then◌else◌, List, [], ◌∷◌, map, AllPairs, Contains}
 use Rattle.vs_ufile.specs.Values.{Change}
 use Rattle.vs_ufile.specs.Walks.{walk}
 
@@ -72,3 +72,8 @@ IsTree changes = (n : ℕ) → ¬ Fails changes n
 pub record IsLeastFailing (changes : List Change) (n : ℕ) : Type 0 where
   pub fails : Fails changes n
   pub least : (m : ℕ) → Fails changes m → n ≤ m
+
+-- No walk comes by a change twice: none along a chain comes back to it, and none through its parents, which ends at 0, has a number twice.
+pub record WalksOnce (changes : List Change) : Type 0 where
+  pub chain : (n k : ℕ) → IsChange changes n → walk (after changes) (suc k) n ≢ n
+  pub way : (n : ℕ) (ancestors : List ℕ) → AreAncestors changes n ancestors → AllPairs (λ a b. a ≢ b) (n ∷ ancestors)

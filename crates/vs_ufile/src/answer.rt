@@ -7,6 +7,7 @@ ghost use Rattle.vs_ufile.specs.Form.{file_of};
 ghost use Rattle.vs_ufile.specs.Reading.{Gives, file, numbers_of};
 ghost use Rattle.vs_ufile.specs.Refusals.{IsFault, SameFormat, Tells, TellsOne};
 ghost use Rattle.vs_ufile.specs.Sizes.{least_size};
+ghost use Rattle.vs_ufile.specs.Tree.{WalksOnce};
 ghost use Rattle.vs_ufile.specs.Values.{History, history_of};
 
 use crate::changes::{Changes, PlacedChange};
@@ -194,6 +195,8 @@ pub fn decode(alloc: Global, bytes: &[u8]) -> Result<FileHistory, UfErr>
     ensures found { IfOk result (λ h. IsUndoFile (history_of h) bytes.now) }
     // Its changes, entries and lines are no more than the bytes have room for.
     ensures bounded { IfOk result (λ h. least_size (history_of h) ≤ length bytes.now) }
+    // No walk along its links comes by a change twice.
+    ensures walks { IfOk result (λ h. WalksOnce (history_of h).changes) }
     // What is refused has a fault, by the parts of the format, and the error tells it.
     ensures refused { IfErr result (λ e. TellsOne bytes.now e) }
     // What has a fault is refused with it and no other.

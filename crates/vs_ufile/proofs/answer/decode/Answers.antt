@@ -1,6 +1,7 @@
 use Rattle.vs_ufile.proofs.Answered.{is_found, is_only}
 use Rattle.vs_ufile.proofs.Bounded.{is_bounded}
 use Rattle.vs_ufile.proofs.Faults.{tells, tells_one}
+use Rattle.vs_ufile.proofs.Once.{walk_once}
 use Rattle.vs_ufile.proofs.answer.decode.Goals as goal
 
 pub returns-clause-found : goal.returns-clause-found
@@ -17,3 +18,6 @@ returns-clause-refused c = tells_one c.args.bytes.now c.answer.result c.answer.e
 
 pub returns-clause-faulty : goal.returns-clause-faulty
 returns-clause-faulty c = tells c.args.bytes.now c.answer.result c.answer.ensures
+
+pub returns-clause-walks : goal.returns-clause-walks
+returns-clause-walks c = walk_once c.args.bytes.now c.answer.result (is_found c.args.bytes.now c.answer.result c.answer.ensures)
