@@ -25,7 +25,7 @@ use Rattle.vs_session.specs.declared.open.OpenErr.{OpenErr}
 use Rattle.vs_session.specs.declared.open.OpenErr.TheVariants as opening
 use Rattle.vs_session.specs.Opened.{text_in}
 use Rattle.vs_session.specs.Fits.{HasSwap, IsSettled, Opens}
-use Rattle.vs_session.proofs.OpenLemmas.{ReadsFolder-trans, handed_on, never_other}
+use Rattle.vs_session.proofs.OpenLemmas.{ReadsFolder-trans, err_is, handed_back, handed_on, never_other}
 
 pub looks_none : (tells : Tells) (scene : Scene) → OnlyLooks tells scene scene
 looks_none tells scene = acts_none tells (λ a b. b ≡ a) scene refl
@@ -106,6 +106,11 @@ IsReading-refused tells result error first next is so back = record {
   look = IsLook-refused tells result error first next.look is so;
   quiet = λ other. next.quiet (λ failed. other (back failed)) ∙ first.none.faults;
 }
+
+-- reading that was refused is refused so where the error is handed on
+pub IsReading-handed : {U W : Type 0} {e : OpenErr} {old new : Scene} (tells : Tells) (result : Result W OpenErr) → IsReading {T = U} tells (Err e) old new → IsErrAnd result (λ x. x ≡ e) → IsReading tells result old new
+IsReading-handed {e} {old} tells result reads is =
+    IsReading-refused tells result e (IsLook-ended tells old old refl (looks_none tells old) (none_fails tells old)) reads is (handed_back result e opening.Failed is) (λ of. handed_on result e opening.Failed is (err_is of))
 
 -- ---- limits
 

@@ -1,5 +1,5 @@
 -- Which number passed a limit, and what pieces of a file make.
-use Rattle.std.proofs.Common.{◌≡◌, ℕ, ◌+◌, ◌<◌, ◌≤◌, nat_le, Bool, true, false, ◌&&◌, not, List, [], ◌∷◌, ◌++◌, length, take, drop, Option, Some, None, Result, Ok, Err, IsErrAnd, IsErrOf, IsSomeAnd, IfSome, IsTrue, refl, sym, ap, subst, ◌∙◌, inl, inr, arith}
+use Rattle.std.proofs.Common.{◌≡◌, ℕ, ◌+◌, ◌<◌, ◌≤◌, nat_le, Bool, true, false, ◌&&◌, not, List, [], ◌∷◌, ◌++◌, length, take, drop, Option, Some, None, Result, Ok, Err, IsErrAnd, IsErrOf, IsSomeAnd, IfErr, IfSome, IsTrue, refl, sym, ap, subst, ◌∙◌, inl, inr, arith}
 use Rattle.std.proofs.Math.Seq.{take-add}
 use Rattle.std.proofs.lemmas.List.{take_all, take-append-drop}
 use Rattle.std.proofs.lemmas.Grind.{common_steps}
@@ -112,6 +112,11 @@ never_failed (Err x) text.NoMemory is of = absurd (cc)
 pub handed_back : {T U : Type 0} (r : Result T OpenErr) (e f : OpenErr) → IsErrAnd r (λ x. x ≡ e) → IsErrOf r f → IsErrOf {T = U} (Err e) f
 handed_back (Ok x) e f is of = absurd is
 handed_back (Err x) e f is of = let one : x ≡ f = cc in ap (λ (e : OpenErr). Err e) (sym is ∙ one)
+
+-- what is said of an error is said where it is handed on
+pub if_err : {T : Type 0} (P : OpenErr → Type 0) (r : Result T OpenErr) (e : OpenErr) → IsErrAnd r (λ x. x ≡ e) → P e → IfErr r P
+if_err P (Ok x) e is holds = tt
+if_err P (Err x) e is holds = subst P (sym is) holds
 
 -- want of memory is no failed call
 pub not_failed : {T : Type 0} (r : Result T OpenErr) → IsErrAnd r (λ x. x ≡ opening.NoMemory) → IsErrOf r opening.Failed → ⊥

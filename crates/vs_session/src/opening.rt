@@ -1,8 +1,9 @@
 // The opening of a session.
-ghost use Rattle.std.specs.Prelude.{◌≡◌, ◌⊎◌, ◌∷◌, [], ℕ, true, false, IfOk, IfSome, IsErr, IsErrOf, IsTrue, OnOk, string_bytes};
+ghost use Rattle.std.specs.Prelude.{◌≡◌, ◌⊎◌, ◌∷◌, [], ℕ, true, false, IfErr, IfOk, IfSome, IsErr, IsErrOf, IsTrue, OnOk, string_bytes};
 ghost use Rattle.vs_faults.specs.Faults.{HasCause, IsQuiet};
 ghost use Rattle.vs_host.specs.Names.{is_allowed, names_of_file};
 ghost use Rattle.vs_host.specs.World.{content_of};
+ghost use Rattle.vs_disk.specs.Runs.{NoneFails};
 ghost use Rattle.vs_pair.specs.Acts.{Acts};
 ghost use Rattle.vs_pair.specs.Steps.{BothMoved, IsFresh};
 ghost use Rattle.vs_text.specs.Limits.{IsWithinLimits};
@@ -73,6 +74,21 @@ fn read_text<H: Host>(
 }
 
 impl Session {
+    /// Whether one of the swap files of the file of a name is there.
+    pub fn has_swap<F: Folder>(alloc: Global, host: &mut F, name: &str) -> Result<bool, OpenErr>
+        requires { IsTrue (is_allowed name.now) }
+        ensures there { IfOk result (λ found. found ≡ true → IsTrue F.tells.folder
+            → HasSwap (names_of_file name.now) (F.scene host.old).folder) }
+        ensures free { IfOk result (λ found. found ≡ false → IsTrue F.tells.folder
+            → HasSwap (names_of_file name.now) (F.scene host.old).folder → ⊥) }
+        ensures errors { IfErr result (λ why. (why ≡ OpenErr.Failed) ⊎ (why ≡ OpenErr.NoMemory)) }
+        ensures reading { IsReading F.tells result (F.scene host.old) (F.scene host.new) }
+    {
+        let names = names_for(alloc, name)?;
+        let found = has_swap(host, &names)?;
+        Ok(found)
+    }
+
     /// Opens the file of a name, or the text without lines where there is no file, and makes its swap files. The cursor is on
     /// the first line. Where a swap file is there already, the file is not opened (`:help swap-exists-choices`).
     pub fn open<H: Host>(alloc: Global, host: &mut H, name: &str) -> Result<Session, OpenErr>
@@ -96,6 +112,7 @@ impl Session {
             IfSome (content_of (H.scene host.old) name.now) (λ bytes. ¬ (IsWithinLimits (lines_of bytes)) → IsErr result) }
         ensures acts { Acts H.tells (Opens name.now) (H.scene host.old) (H.scene host.new) }
         ensures looks { IsErr result → ¬ (IsErrOf result OpenErr.Failed) → OnlyLooks H.tells (H.scene host.old) (H.scene host.new) }
+        ensures none { OnOk result (NoneFails H.tells (H.scene host.old) (H.scene host.new)) }
         ensures cause { HasCause (H.scene host.old).folder_faults (H.scene host.new).folder_faults (IsErrOf result OpenErr.Failed) }
         ensures quiet { IsQuiet (H.scene host.old).folder_faults (H.scene host.new).folder_faults (IsErrOf result OpenErr.Failed) }
     {

@@ -5,7 +5,6 @@ mod Counting
 mod Calls
 mod Closing
 mod Reading
-mod Requests
 mod Turning
 mod Stepping
 mod Opening

@@ -6,7 +6,7 @@ use Rattle.std.proofs.lemmas.List.{length-append}
 use Rattle.vs_session.specs.Fits.{Fits, IsStep, IsTimed}
 use Rattle.vs_top.specs.Ending.{ending_in}
 use Rattle.vs_top.specs.Promise.{RunsEdit}
-use Rattle.vs_top.proofs.Requests.{some_command}
+use Rattle.vs_session.proofs.Requests.{some_command}
 use Rattle.vs_top.proofs.Closing.{at_ending}
 use Rattle.vs_top.proofs.Turning.{reader_stopped, no_memory_left}
 use Rattle.vs_top.proofs.Stepping.{cut_reply, next_turn, at_end, at_quit, quit_step, fits_after}

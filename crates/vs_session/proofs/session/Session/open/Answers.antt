@@ -2,6 +2,7 @@ use Rattle.std.proofs.Common.{◌≤◌, ◌∙◌, ℕ, IsTrue, List, min, leng
 use Rattle.vs_host.specs.Disk.{Disk}
 use Rattle.vs_host.specs.Names.{AreNames, is_allowed, names_of_file}
 use Rattle.vs_host.specs.World.{Scene}
+use Rattle.vs_disk.proofs.Quiet.{none_then}
 use Rattle.vs_pair.specs.Acts.{Acts}
 use Rattle.vs_pair.specs.Steps.{BothMoved, IsFresh}
 use Rattle.vs_safety.specs.Texts.{Text}
@@ -107,3 +108,8 @@ returns-clause-cleared g c = λ told.
     let are : AreNames names = record { allowed = subst (λ (n : List ℕ). IsTrue (is_allowed n)) (sym c.in_ok-opening.ensures.name) c.requires.name; others = refl } in
     cleared_then old.folder mid.folder new.folder (cleared_same old.folder mid.folder (ap (λ (s : Scene). s.folder) c.in_ok-opening.ensures.reading.look.frame))
     (cleared_started names are mid.folder new.folder (c.in_ok-text.ensures.acts.runs told).now.spared (c.in_ok-text.ensures.moved told))
+
+pub returns-clause-none : goal.returns-clause-none
+returns-clause-none g c =
+    none_then g.H.World.tells (g.H.World.scene c.args.host.now) (g.H.World.scene c.read_text.new.host) (g.H.World.scene c.start.new.host)
+    c.in_ok-opening.ensures.reading.look.none c.in_ok-text.ensures.none
