@@ -1,0 +1,4 @@
+pub mod Sessions
+pub mod Multi
+pub mod Opening
+pub mod Steps
