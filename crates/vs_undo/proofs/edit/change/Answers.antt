@@ -96,14 +96,14 @@ pub returns-in-Err-push-clause-atomic : goal.returns-in-Err-push-clause-atomic
 returns-in-Err-push-clause-atomic g c =
     let laws = g.met.S.LineStore in
     let ready = c.requires.ready in
-    let back = c.rollback-in-Err-push.ensures in
+    let back = c.rollback.ensures in
     let kept = SameText-trans c.in-Ok.ensures.kept.committed c.splice.ensures.kept.committed in
     let tree = sym c.in-Err-push.ensures.err_tree in
     record {
       stayed = record { tree = c.in-Err-push.ensures.err_tree; text = SameText-trans ready.committed (SameText-trans kept back.present) };
-      ready = subst (λ (p : Parts). IsReady g.S.LineStore p c.rollback-in-Err-push.new.self) tree
-          (gone_back g.S.LineStore c.args.tree.now c.args.text.now c.splice.new.self c.rollback-in-Err-push.new.self ready kept back.present back.committed back.valid
-          (λ text has. laws.tells_one c.args.text.now ready.valid (laws.has_told c.rollback-in-Err-push.new.self text has)) (laws.has_one c.rollback-in-Err-push.new.self));
+      ready = subst (λ (p : Parts). IsReady g.S.LineStore p c.rollback.new.self) tree
+          (gone_back g.S.LineStore c.args.tree.now c.args.text.now c.splice.new.self c.rollback.new.self ready kept back.present back.committed back.valid
+          (λ text has. laws.tells_one c.args.text.now ready.valid (laws.has_told c.rollback.new.self text has)) (laws.has_one c.rollback.new.self));
       stays = laws.stays_on _ _ _ c.in-Ok.ensures.kept.stays (laws.stays_on _ _ _ c.splice.ensures.kept.stays back.stays);
       cause = search rules;
     }
