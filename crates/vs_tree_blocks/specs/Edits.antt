@@ -8,45 +8,50 @@ use Rattle.vs_tree_shape.specs.Trees.{lines_of}
 use Rattle.vs_tree_shape.specs.Changes.{Change, ChangesBelow, HasLineBelow, Takes, edited, splice}
 use Rattle.vs_tree_shape.specs.Works.{WorksBesideZero}
 use Rattle.vs_tree_blocks.specs.Blocks.{tree_format}
-use Rattle.vs_tree_blocks.specs.Cuts.{blocks_with, part, parted, room_in}
+use Rattle.vs_tree_blocks.specs.Cuts.{all_lines, blocks_with, part, parted, room_in, spread}
 use Rattle.vs_tree_blocks.specs.Runs.{lines_within}
 use Rattle.vs_tree_blocks.specs.Writes.{HasBlocks, Leaves, OfLines, WorksBy}
 use Rattle.vs_tree_blocks.specs.declared.edit.Edit.{Edit}
 use Rattle.vs_tree_blocks.specs.declared.edit.Edited.{Edited}
-use Rattle.vs_tree_blocks.specs.declared.edit.Edit.TheVariants.{Before, After, Remove}
+use Rattle.vs_tree_blocks.specs.declared.edit.Edit.TheVariants.{Before, After, Behind, Remove}
 
 -- the change that an edit makes, where it takes out so many lines
 abbrev pub change_of : Edit → ℕ → Change
 change_of (Before run) gone = record { skip = 0; gone = gone; new = run.now }
 change_of (After run) gone = record { skip = 1; gone = gone; new = run.now }
+change_of (Behind runs) gone = record { skip = 1; gone = gone; new = all_lines runs.now }
 change_of (Remove most) gone = record { skip = 0; gone = gone; new = [] }
 
--- an edit that puts in few lines, or takes out some
+-- an edit that puts in few lines, in no more runs than a pointer block has entries for, or takes out some
 abbrev pub IsEdit : Edit → Type 0
 IsEdit (Before run) = length run.now < 2 ^ 62
 IsEdit (After run) = length run.now < 2 ^ 62
+IsEdit (Behind runs) = (length runs.now ≤ 126) × (length (all_lines runs.now) < 2 ^ 62)
 IsEdit (Remove most) = 0 < most
 
 -- how many lines an edit may take out
 abbrev pub MayTake : Edit → ℕ → Type 0
 MayTake (Before run) gone = gone ≡ 0
 MayTake (After run) gone = gone ≡ 0
+MayTake (Behind runs) gone = gone ≡ 0
 MayTake (Remove most) gone = (0 < gone) × (gone ≤ most)
 
 -- how many lines an edit puts in
 abbrev pub added_by : Edit → ℕ
 added_by (Before run) = length run.now
 added_by (After run) = length run.now
+added_by (Behind runs) = length (all_lines runs.now)
 added_by (Remove most) = 0
 
 -- a line for which a page has room
 abbrev pub FitsPage : List ℕ → Type 0
 FitsPage line = length line ≤ 4067
 
--- a small edit: a page has room for what it puts in, and for the line at which it takes lines out
+-- a small edit: a page has room for what it puts in, and for the line at which it takes lines out. Runs that are put in together are none.
 abbrev pub IsOnePageEdit : Edit → List ℕ → Type 0
 IsOnePageEdit (Before run) line = space_of run.now ≤ 4072
 IsOnePageEdit (After run) line = space_of run.now ≤ 4072
+IsOnePageEdit (Behind runs) line = ⊥
 IsOnePageEdit (Remove most) line = FitsPage line
 
 -- How many pages a small edit works at most below a block, so many levels above the data blocks: where lines come, the block
@@ -54,18 +59,21 @@ IsOnePageEdit (Remove most) line = FitsPage line
 abbrev pub most_worked : Edit → ℕ → ℕ
 most_worked (Before run) depth = 2 * depth + 3
 most_worked (After run) depth = 2 * depth + 3
+most_worked (Behind runs) depth = 2 * depth + 3
 most_worked (Remove most) depth = depth + 1
 
 -- the same for a whole tree, whose root may go on to two new blocks
 abbrev pub most_in_tree : Edit → ℕ → ℕ
 most_in_tree (Before run) height = 2 * height + 4
 most_in_tree (After run) height = 2 * height + 4
+most_in_tree (Behind runs) height = 2 * height + 4
 most_in_tree (Remove most) height = height + 1
 
 -- how many entries stand at most in place of one after an edit below it
 abbrev pub most_entries : Edit → ℕ
 most_entries (Before run) = 3
 most_entries (After run) = 3
+most_entries (Behind runs) = 128
 most_entries (Remove most) = 1
 
 -- A small edit at a line below the block works so many pages at most.
@@ -97,6 +105,7 @@ blocks_put pages bytes at run = if nat_le pages 1 then blocks_with (room_in byte
 abbrev pub blocks_after : ℕ → List ℕ → ℕ → Edit → ℕ → List (List (List ℕ))
 blocks_after pages bytes at (Before run) gone = blocks_put pages bytes at run.now
 blocks_after pages bytes at (After run) gone = blocks_put pages bytes (at + 1) run.now
+blocks_after pages bytes at (Behind runs) gone = spread (lines_within bytes) (at + 1) runs.now
 blocks_after pages bytes at (Remove most) gone = part (splice (lines_within bytes) at gone [])
 
 -- A small edit of a data block with one line works so many pages at most.

@@ -58,6 +58,19 @@ abbrev pub LeavesBlocks : {P : Type 0} → Ghosts P → P → P → Entry → Li
 LeavesBlocks g old new entry blocks entries =
     IsTrue g.tells → HasBlocks (g.shows old).present (g.shows new).present (λ k. span entry.block entry.pages k) blocks entries
 
+-- Data blocks with these lines were added, to which the entries lead.
+abbrev pub AddsBlocks : {P : Type 0} → Ghosts P → P → P → List (List (List ℕ)) → List Entry → Type 0
+AddsBlocks g old new blocks entries = IsTrue g.tells → HasBlocks (g.shows old).present (g.shows new).present (λ k. 0) blocks entries
+
+-- Data blocks with these lines stand in place of a data block of one page.
+abbrev pub StandsIn : {P : Type 0} → Ghosts P → P → P → ℕ → List (List (List ℕ)) → List Entry → Type 0
+StandsIn g old new block blocks entries = IsTrue g.tells → HasBlocks (g.shows old).present (g.shows new).present (λ k. span block 1 k) blocks entries
+
+-- Data blocks with these lines stand behind a data block, which is as it was.
+abbrev pub StandsBefore : {P : Type 0} → Ghosts P → P → P → Entry → List (List (List ℕ)) → List Entry → Type 0
+StandsBefore g old new entry blocks entries = OfLines g old entry (λ lines.
+    HasBlocks (g.shows old).present (g.shows new).present (λ k. span entry.block entry.pages k) (lines ∷ blocks) entries)
+
 -- A data block with these lines was added, to which the entry leads.
 abbrev pub AddsBlock : {P : Type 0} → Ghosts P → P → P → Entry → List (List ℕ) → Type 0
 AddsBlock g old new entry lines =

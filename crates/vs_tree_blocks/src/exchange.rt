@@ -61,7 +61,7 @@ fn load_replaced<P: Pages>(
     requires valid { P.valid pages.old }
     requires there { IsTrue P.tells → HasEntry (P.shows pages.old).present top place }
     requires fields { AllByRecursion FitsFields by.now }
-    requires few { length by.now ≤ 3 }
+    requires few { length by.now ≤ 128 }
     ensures entries { IfOk result (λ all. OfEntries P.Pages pages.old top.block (λ entries. all.items ≡ replaced entries place.index by.now)) }
     ensures fields { IfOk result (λ all. AllByRecursion FitsFields all.items) }
     ensures few { IfOk result (λ all. length all.items ≤ 126 + length by.now) }
@@ -94,7 +94,7 @@ pub fn exchange_entry<P: Pages>(
     requires small { top.lines + lines_below by.now < 2 ^ 63 + place.entry.lines }
     requires block { top.block < 2 ^ 63 }
     requires fields { AllByRecursion FitsFields by.now }
-    requires few { length by.now ≤ 3 }
+    requires few { length by.now ≤ 128 }
     ensures wrote { IfOk result (λ above. ReplacesEntry P.Pages pages.old pages.new top.block place.index by.now above.items) }
     ensures blocks { IfOk result (λ above. HalvesReplaced P.Pages pages.old pages.new top.block place.index by.now above.items) }
     ensures fields { IfOk result (λ above. AllByRecursion FitsFields above.items) }
@@ -131,7 +131,7 @@ pub fn exchange_in_root<P: Pages>(
     requires within { place.entry.lines ≤ top.lines }
     requires small { top.lines + lines_below by.now < 2 ^ 63 + place.entry.lines }
     requires fields { AllByRecursion FitsFields by.now }
-    requires few { length by.now ≤ 3 }
+    requires few { length by.now ≤ 128 }
     ensures wrote { IfOk result
         (λ more. OfReplaced P.Pages pages.old 1 place.index by.now (λ entries. StandsAsRoot P.Pages pages.old pages.new entries more)) }
     ensures more { IfOk result (λ more. more ≤ 1) }

@@ -2,6 +2,7 @@
 #![tactic(auto)]
 
 mod add;
+mod behind;
 mod beside;
 mod bytes;
 mod data;
@@ -21,7 +22,7 @@ mod split;
 pub use add::add_block;
 pub use data::edit_data;
 pub use depths::has_one_list;
-pub use edit::{Edit, Edited, Removed};
+pub use edit::{Edit, Edited, MOST_RUNS, Removed};
 pub use entries::load_entries;
 pub use exchange::{exchange_entry, exchange_in_root};
 pub use find::find_below;

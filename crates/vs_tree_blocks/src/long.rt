@@ -9,6 +9,7 @@ ghost use Rattle.vs_tree_blocks.specs.Blocks.{FitsFields, LeadsToData};
 ghost use Rattle.vs_tree_blocks.specs.Edits.{added_by, CutsBlock, EditsLong, IsEdit, MayTake, most_entries, WorksLong};
 ghost use Rattle.vs_tree_blocks.specs.Writes.{LeavesBlocks, OfLines};
 
+use crate::behind::put_behind;
 use crate::data::text_of;
 use crate::{Edit, Edited, Removed, load_data};
 use std::alloc::Global;
@@ -55,7 +56,7 @@ pub fn edit_long<P: Pages>(
     ensures blocks { IfOk result (CutsBlock P.Pages pages.old pages.new entry 0 edit.entry) }
     ensures may_take { IfOk result (λ after. MayTake edit.entry after.removed.lines) }
     ensures fields { IfOk result (λ after. AllByRecursion FitsFields after.entries.items) }
-    ensures few { IfOk result (λ after. length after.entries.items ≤ 3) }
+    ensures few { IfOk result (λ after. length after.entries.items ≤ 128) }
     ensures lines { IfOk result (λ after. lines_below after.entries.items + after.removed.lines ≡ entry.lines + added_by edit.entry) }
     ensures single { IfOk result (λ after. length after.entries.items ≤ most_entries edit.entry) }
     ensures works { OnOk result (WorksLong P.Pages pages.old pages.new entry edit.entry 1) }
@@ -70,6 +71,10 @@ pub fn edit_long<P: Pages>(
         Edit::After(lines) => {
             let new = lines.add(alloc, pages)?;
             Ok(Edited::with(vec![in alloc; entry, new]?))
+        }
+        Edit::Behind(runs) => {
+            let entries = put_behind(alloc, pages, entry, runs)?;
+            Ok(Edited::with(entries))
         }
         Edit::Remove(_most) => remove_long(alloc, pages, entry),
     }

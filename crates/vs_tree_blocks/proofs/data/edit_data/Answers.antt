@@ -5,14 +5,15 @@ use Rattle.vs_pages.proofs.Steps.{Continues-trans, OnlyReads-continues}
 use Rattle.vs_tree_shape.specs.Changes.{ReplacedBy, edited, splice}
 use Rattle.vs_tree_blocks.specs.declared.edit.Edit.{Edit}
 use Rattle.vs_tree_blocks.specs.declared.edit.Edited.{Edited}
-use Rattle.vs_tree_blocks.specs.Cuts.{blocks_with, part, room_in}
-use Rattle.vs_tree_blocks.specs.Edits.{added_by, blocks_after, change_of, IsOnePageEdit, most_entries, most_worked}
-use Rattle.vs_tree_blocks.specs.declared.edit.Edit.TheVariants.{Before, After, Remove}
+use Rattle.vs_tree_blocks.specs.Cuts.{all_lines, blocks_with, part, room_in, spread}
+use Rattle.vs_tree_blocks.specs.Edits.{added_by, blocks_after, change_of, IsEdit, IsOnePageEdit, most_entries, most_worked}
+use Rattle.vs_tree_blocks.specs.declared.edit.Edit.TheVariants.{Before, After, Behind, Remove}
 use Rattle.vs_data.specs.Blocks.{space_of}
 use Rattle.vs_tree_blocks.specs.Runs.{lines_within}
 use Rattle.vs_tree_shape.proofs.Splices.{length_splice}
 use Rattle.vs_tree_blocks.proofs.CutsLemmas.{cut_count, part_count}
-use Rattle.vs_tree_blocks.proofs.PlacedLemmas.{cuts_as, put_lines, removed_lines, with_blocks, with_count, with_few, with_fields, written_room}
+use Rattle.vs_tree_blocks.proofs.PlacedLemmas.{cuts_as, cuts_in, put_lines, removed_lines, with_blocks, with_count, with_few, with_fields, with_most, written_room}
+use Rattle.vs_tree_blocks.proofs.BehindLemmas.{spread_put}
 use Rattle.vs_tree_blocks.proofs.RunsLemmas.{told as header, within_is}
 use Rattle.vs_tree_blocks.specs.Blocks.{tree_format}
 use Rattle.vs_tree_blocks.proofs.Outcomes.{if_ok_weaker, if_ok_both}
@@ -81,6 +82,7 @@ returns-in-Remove-clause-wrote g c =
 some_worked : (edit : Edit) → 1 ≤ most_worked edit 0
 some_worked (Before run) = omega arith
 some_worked (After run) = omega arith
+some_worked (Behind runs) = omega arith
 some_worked (Remove most) = omega arith
 
 pub returns-then-entry-ne1-clause-works : goal.returns-then-entry-ne1-clause-works
@@ -110,7 +112,7 @@ pub returns-in_ok-entries-in-Before-clause-fields : goal.returns-in_ok-entries-i
 returns-in_ok-entries-in-Before-clause-fields g c = with_fields c.in_ok-entries-in-Before.entries c.with.result c.with.ensures c.in_ok-entries-in-Before.ensures.wrote.fields
 
 pub returns-in_ok-entries-in-Before-clause-few : goal.returns-in_ok-entries-in-Before-clause-few
-returns-in_ok-entries-in-Before-clause-few g c = with_few c.in_ok-entries-in-Before.entries c.with.result c.with.ensures c.in_ok-entries-in-Before.ensures.wrote.few
+returns-in_ok-entries-in-Before-clause-few g c = omega (arith, with_few c.in_ok-entries-in-Before.entries c.with.result c.with.ensures c.in_ok-entries-in-Before.ensures.wrote.few)
 
 pub returns-in_ok-entries-in-Before-clause-lines : goal.returns-in_ok-entries-in-Before-clause-lines
 returns-in_ok-entries-in-Before-clause-lines g c =
@@ -131,7 +133,7 @@ pub returns-in_ok-entries-in-After-clause-fields : goal.returns-in_ok-entries-in
 returns-in_ok-entries-in-After-clause-fields g c = with_fields c.in_ok-entries-in-After.entries c.with-in-After.result c.with-in-After.ensures c.in_ok-entries-in-After.ensures.wrote.fields
 
 pub returns-in_ok-entries-in-After-clause-few : goal.returns-in_ok-entries-in-After-clause-few
-returns-in_ok-entries-in-After-clause-few g c = with_few c.in_ok-entries-in-After.entries c.with-in-After.result c.with-in-After.ensures c.in_ok-entries-in-After.ensures.wrote.few
+returns-in_ok-entries-in-After-clause-few g c = omega (arith, with_few c.in_ok-entries-in-After.entries c.with-in-After.result c.with-in-After.ensures c.in_ok-entries-in-After.ensures.wrote.few)
 
 pub returns-in_ok-entries-in-After-clause-lines : goal.returns-in_ok-entries-in-After-clause-lines
 returns-in_ok-entries-in-After-clause-lines g c =
@@ -154,7 +156,7 @@ pub returns-in-Remove-clause-fields : goal.returns-in-Remove-clause-fields
 returns-in-Remove-clause-fields g c = if_ok_weaker c.remove_lines.result _ _ (λ (after : Edited) wrote. wrote.fields) c.remove_lines.ensures.wrote
 
 pub returns-in-Remove-clause-few : goal.returns-in-Remove-clause-few
-returns-in-Remove-clause-few g c = if_ok_weaker c.remove_lines.result _ _ (λ (after : Edited) wrote. wrote.few) c.remove_lines.ensures.wrote
+returns-in-Remove-clause-few g c = if_ok_weaker c.remove_lines.result _ _ (λ (after : Edited) wrote. omega (arith, wrote.few)) c.remove_lines.ensures.wrote
 
 pub returns-in-Remove-clause-lines : goal.returns-in-Remove-clause-lines
 returns-in-Remove-clause-lines g c =
@@ -242,4 +244,60 @@ pub returns-in-Remove-clause-cause : goal.returns-in-Remove-clause-cause
 returns-in-Remove-clause-cause g c = record {
   later = omega (arith, c.load_data.ensures.cause.later, c.remove_lines.ensures.cause.later);
   risen = λ failed. risen_after c.load_data.ensures.cause.later (c.remove_lines.ensures.cause.risen failed);
+}
+
+pub put_runs-requires-clause-few : goal.put_runs-requires-clause-few
+put_runs-requires-clause-few g c = (subst IsEdit c.in-Behind.is c.requires.edit).0
+
+pub returns-in_ok-entries-in-Behind-clause-wrote : goal.returns-in_ok-entries-in-Behind-clause-wrote
+returns-in_ok-entries-in-Behind-clause-wrote g c = λ told.
+    let runs = c.in-Behind.runs.now in
+    let none : c.with-in-Behind.result.removed.lines ≡ 0 = ap (λ (a : Edited). a.removed.lines) c.with-in-Behind.ensures in
+    let P : Edited → List (List ℕ) → Type 0 = λ a lines. ReplacedBy tree_format (g.P.Pages.shows c.load_data.new.pages).present (g.P.Pages.shows c.put_runs.new.pages).present (λ k. span c.args.entry.block 1 k) 0 (splice lines (c.args.at + 1) 0 (all_lines runs)) a.entries.items in
+    promise_page _ (g.P.Pages.shows c.load_data.new.pages).present _ c.args.entry c.args.at c.with-in-Behind.result.removed.bytes c.load_data.new.bytes.items (change_of c.args.edit c.with-in-Behind.result.removed.lines) (λ lines. splice lines (c.args.at + 1) 0 (all_lines runs)) c.with-in-Behind.result.entries.items
+    (omega (arith, c.if-entry-ne1.false)) (c.load_data.ensures.kept.present told) (c.in_ok-view.ensures.loaded told)
+    (λ lines. ap (λ n. edited (change_of c.args.edit n) lines c.args.at) none ∙ ap (λ (e : Edit). edited (change_of e 0) lines c.args.at) c.in-Behind.is)
+    (λ lines is. subst (λ (a : Edited). P a lines) (sym c.with-in-Behind.ensures) (spread_put _ _ c.args.entry.block (c.args.at + 1) c.load_data.new.bytes.items lines runs c.in_ok-entries-in-Behind.entries.items is (c.in_ok-entries-in-Behind.ensures.wrote told)))
+    (λ lines is lt. none_taken c.args.edit lines c.args.at c.in_ok-entries-in-Behind.entries c.with-in-Behind.result c.with-in-Behind.ensures (omega (arith, lt, ap (λ (e : Edit). (change_of e 0).skip) c.in-Behind.is)))
+
+pub returns-in_ok-entries-in-Behind-clause-blocks : goal.returns-in_ok-entries-in-Behind-clause-blocks
+returns-in_ok-entries-in-Behind-clause-blocks g c = λ told bytes read.
+    let runs = c.in-Behind.runs.now in
+    with_blocks _ _ _ _ c.in_ok-entries-in-Behind.entries c.with-in-Behind.result c.with-in-Behind.ensures
+    (cuts_in _ _ _ c.args.entry c.args.at c.args.edit c.with-in-Behind.result.removed.lines c.load_data.new.bytes.items bytes (λ (b : List ℕ). spread (lines_within b) (c.args.at + 1) runs) c.in_ok-entries-in-Behind.entries.items (c.load_data.ensures.kept.present told) (omega (arith, c.if-entry-ne1.false))
+    (c.in_ok-view.ensures.loaded told) read
+    (λ b. ap (λ (e : Edit). blocks_after 1 b c.args.at e c.with-in-Behind.result.removed.lines) c.in-Behind.is)
+    (c.in_ok-entries-in-Behind.ensures.wrote told))
+
+pub returns-in_ok-entries-in-Behind-clause-fields : goal.returns-in_ok-entries-in-Behind-clause-fields
+returns-in_ok-entries-in-Behind-clause-fields g c = with_fields c.in_ok-entries-in-Behind.entries c.with-in-Behind.result c.with-in-Behind.ensures c.in_ok-entries-in-Behind.ensures.fields
+
+pub returns-in_ok-entries-in-Behind-clause-few : goal.returns-in_ok-entries-in-Behind-clause-few
+returns-in_ok-entries-in-Behind-clause-few g c = with_most c.in_ok-entries-in-Behind.entries c.with-in-Behind.result c.with-in-Behind.ensures c.in_ok-entries-in-Behind.ensures.few
+
+pub returns-in_ok-entries-in-Behind-clause-lines : goal.returns-in_ok-entries-in-Behind-clause-lines
+returns-in_ok-entries-in-Behind-clause-lines g c = omega (arith, with_count c.in_ok-entries-in-Behind.entries c.with-in-Behind.result c.with-in-Behind.ensures, c.in_ok-entries-in-Behind.ensures.lines, ap added_by c.in-Behind.is)
+
+pub returns-in_ok-entries-in-Behind-clause-works : goal.returns-in_ok-entries-in-Behind-clause-works
+returns-in_ok-entries-in-Behind-clause-works g c = λ told a slight. absurd (subst (λ (e : Edit). IsOnePageEdit e (get_or a.tree.lines c.args.at [])) c.in-Behind.is slight)
+
+pub returns-in_ok-entries-in-Behind-clause-single : goal.returns-in_ok-entries-in-Behind-clause-single
+returns-in_ok-entries-in-Behind-clause-single g c = omega (arith, with_most c.in_ok-entries-in-Behind.entries c.with-in-Behind.result c.with-in-Behind.ensures c.in_ok-entries-in-Behind.ensures.few, ap most_entries c.in-Behind.is)
+
+pub returns-in_err-entries-in-Behind-clause-kept : goal.returns-in_err-entries-in-Behind-clause-kept
+returns-in_err-entries-in-Behind-clause-kept g c = Continues-trans g.met.P.Pages.stays_on (OnlyReads-continues c.load_data.ensures.kept) c.put_runs.ensures.kept
+
+pub returns-in_err-entries-in-Behind-clause-cause : goal.returns-in_err-entries-in-Behind-clause-cause
+returns-in_err-entries-in-Behind-clause-cause g c = record {
+  later = omega (arith, c.load_data.ensures.cause.later, c.put_runs.ensures.cause.later);
+  risen = λ failed. risen_after c.load_data.ensures.cause.later (c.put_runs.ensures.cause.risen (search rules));
+}
+
+pub returns-in_ok-entries-in-Behind-clause-kept : goal.returns-in_ok-entries-in-Behind-clause-kept
+returns-in_ok-entries-in-Behind-clause-kept g c = Continues-trans g.met.P.Pages.stays_on (OnlyReads-continues c.load_data.ensures.kept) c.put_runs.ensures.kept
+
+pub returns-in_ok-entries-in-Behind-clause-cause : goal.returns-in_ok-entries-in-Behind-clause-cause
+returns-in_ok-entries-in-Behind-clause-cause g c = record {
+  later = omega (arith, c.load_data.ensures.cause.later, c.put_runs.ensures.cause.later);
+  risen = λ failed. absurd (search rules);
 }
