@@ -74,9 +74,26 @@ end_more lines put more run at place run_is =
     let all : List (List ℕ) = lines ++ map stored_line put in
     splice_end all run at place ∙ ap (λ (r : List (List ℕ)). all ++ r) run_is ∙ append_assoc lines (map stored_line put) (map stored_line more) ∙ ap (λ (ys : List (List ℕ)). lines ++ ys) (sym (map-append stored_line put more))
 
+-- the first run, and then all lines of the rest
+pub first_then_rest : (lines put run : List (List ℕ)) (bytes rest : List ℕ) (at : ℕ) → at ≡ length lines → run ≡ map stored_line put → lines_of bytes ≡ put ++ lines_of rest → splice lines at 0 run ++ map stored_line (lines_of rest) ≡ lines ++ map stored_line (lines_of bytes)
+first_then_rest lines put run bytes rest at place run_is is =
+    let others : List (List ℕ) = map stored_line (lines_of rest) in
+    ap (λ (xs : List (List ℕ)). xs ++ others) (splice_end lines run at place) ∙ append_assoc lines run others
+    ∙ ap (λ (ys : List (List ℕ)). lines ++ ys) (ap (λ (r : List (List ℕ)). r ++ others) run_is ∙ sym (map-append stored_line put (lines_of rest)) ∙ sym (ap (λ (ls : List (List ℕ)). map stored_line ls) is))
+
 -- the first lines, and then others of the rest
 pub cut_more : (bytes rest after : List ℕ) (put more : List (List ℕ)) → lines_of bytes ≡ put ++ lines_of rest → lines_of rest ≡ more ++ lines_of after → lines_of bytes ≡ (put ++ more) ++ lines_of after
 cut_more bytes rest after put more first is = first ∙ ap (λ (ls : List (List ℕ)). put ++ ls) is ∙ sym (append_assoc put more (lines_of after))
+
+-- one run, and then others
+pub filled_both : (bytes rest after : List ℕ) (run more all : List (List ℕ)) → IsFilled bytes run rest → IsFilled rest more after → all ≡ run ++ more → IsFilled bytes all after
+filled_both bytes rest after run more all h k is = record {
+  put = h.put ++ k.put;
+  lines = cut_more bytes rest after h.put k.put h.lines k.lines;
+  stored = is ∙ ap (λ (xs : List (List ℕ)). xs ++ more) h.stored ∙ ap (λ (xs : List (List ℕ)). map stored_line h.put ++ xs) k.stored ∙ sym (map-append stored_line h.put k.put);
+  some = omega (arith, length-append h.put k.put, h.some);
+  less = omega (arith, h.less, k.less);
+}
 
 -- where no bytes are left, all lines are put
 pub all_put : (bytes rest : List ℕ) (put : List (List ℕ)) → lines_of bytes ≡ put ++ lines_of rest → length rest ≡ 0 → put ≡ lines_of bytes

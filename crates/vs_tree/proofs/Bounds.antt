@@ -20,7 +20,7 @@ use Rattle.vs_tree_shape.proofs.Working.{works_from, works_then}
 use Rattle.vs_tree_blocks.specs.declared.edit.Edit.{Edit}
 use Rattle.vs_tree_blocks.specs.Blocks.{tree_format}
 use Rattle.vs_tree_blocks.specs.Edits.{FitsPage, IsOnePageEdit, WorksBelow, most_entries, most_in_tree, most_worked}
-use Rattle.vs_tree_blocks.specs.declared.edit.Edit.TheVariants.{Before, After, Remove}
+use Rattle.vs_tree_blocks.specs.declared.edit.Edit.TheVariants.{Before, After, Behind, Remove}
 use Rattle.vs_tree_shape.specs.Changes.{pointer_entry}
 use Rattle.vs_tree.specs.declared.walk.Root.{Root}
 use Rattle.vs_tree.specs.Runs.{HasTree, run_of}
@@ -30,12 +30,14 @@ use Rattle.vs_tree.proofs.Added.{get_or_mid}
 pub step_work : (edit : Edit) (depth by : ℕ) (w2 w3 : List ℕ) → (depth ≡ 0 → ⊥) → by ≤ most_entries edit → WorksBesideZero w2 w3 2 → (by ≤ 1 → WorksBesideZero w2 w3 1) → (more : ℕ) × (most_worked edit (depth - 1) + more ≤ most_worked edit depth) × WorksBesideZero w2 w3 more
 step_work (Before run) depth by w2 w3 some few two one = (2, omega (arith, some), two)
 step_work (After run) depth by w2 w3 some few two one = (2, omega (arith, some), two)
+step_work (Behind runs) depth by w2 w3 some few two one = (2, omega (arith, some), two)
 step_work (Remove most) depth by w2 w3 some few two one = (1, omega (arith, some), one (omega (arith, few)))
 
 -- the same for block 1
 pub root_work : (edit : Edit) (height by : ℕ) (w2 w3 : List ℕ) → (height ≡ 0 → ⊥) → by ≤ most_entries edit → WorksBesideZero w2 w3 3 → (by ≤ 1 → WorksBesideZero w2 w3 1) → (more : ℕ) × (most_worked edit (height - 1) + more ≤ most_in_tree edit height) × WorksBesideZero w2 w3 more
 root_work (Before run) height by w2 w3 some few three one = (3, omega (arith, some), three)
 root_work (After run) height by w2 w3 some few three one = (3, omega (arith, some), three)
+root_work (Behind runs) height by w2 w3 some few three one = (3, omega (arith, some), three)
 root_work (Remove most) height by w2 w3 some few three one = (1, omega (arith, some), one (omega (arith, few)))
 
 -- an edit below the child of a block, and then a write of some pages

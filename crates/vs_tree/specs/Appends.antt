@@ -1,7 +1,8 @@
 -- Lines that are put after the last one, from the bytes of their file form.
-use Rattle.std.specs.Prelude.{◌≡◌, ◌<◌, ℕ, List, ◌++◌, length, map}
+use Rattle.std.specs.Prelude.{◌≡◌, ◌<◌, ◌≤◌, ℕ, List, ◌++◌, length, map}
 use Rattle.vs_pages.specs.declared.pages.Pages.{Ghosts}
 use Rattle.vs_text.specs.Text.{lines_of, stored_line}
+use Rattle.vs_tree_blocks.specs.Cuts.{all_lines}
 use Rattle.vs_tree.specs.Calls.{OfText, TurnsTree}
 use Rattle.vs_tree.specs.Texts.{HasText}
 use Rattle.vs_tree.specs.declared.texts.Extent.{Extent}
@@ -14,6 +15,11 @@ pub record IsFilled (bytes : List ℕ) (run : List (List ℕ)) (rest : List ℕ)
   pub stored : run ≡ map stored_line put
   pub some : 0 < length put
   pub less : length rest < length bytes
+
+-- The same in runs that are put in together, no more than one edit takes.
+pub record IsFilledBy (bytes : List ℕ) (runs : List (List (List ℕ))) (rest : List ℕ) : Type 0 where
+  pub filled : IsFilled bytes (all_lines runs) rest
+  pub few : length runs ≤ 126
 
 -- The tree with this root then has these lines, in their stored form, after those that it had.
 abbrev pub AppendsTree : {P : Type 0} → Ghosts P → P → P → Root → Root → List (List ℕ) → Type 0

@@ -7,17 +7,17 @@ ghost use Rattle.vs_text.specs.Text.{IsLine, bytes_of, lines_of, stored_line};
 ghost use Rattle.vs_text.specs.Limits.{IsShort};
 ghost use Rattle.vs_text.specs.declared.TheConstants.{MAX_LINES, MAX_TEXT_BYTES};
 ghost use Rattle.vs_tree_blocks.specs.Edits.{IsStored};
-ghost use Rattle.vs_tree.specs.Appends.{Appends, AppendsTree, IsFilled};
+ghost use Rattle.vs_tree.specs.Appends.{Appends, AppendsTree, IsFilled, IsFilledBy};
 ghost use Rattle.vs_tree.specs.Calls.{StandsTree};
 ghost use Rattle.vs_tree.specs.Texts.{Fits};
 
-use crate::runs::put_run;
+use crate::runs::{put_run, put_runs};
 use crate::{Extent, LineTree, Root, splice_within};
 use std::alloc::{AllocError, Global};
 use vs_pages::{PageErr, Pages};
 use vs_pieces::{EndedLines, ended_line};
 use vs_text::{Line, to_stored};
-use vs_tree_blocks::Run;
+use vs_tree_blocks::{MOST_RUNS, Run};
 
 // The first line of some bytes, and the bytes after it. A rest without a line end is a line as well.
 fn first_line(bytes: &[u8]) -> (&[u8], &[u8])
@@ -74,8 +74,41 @@ fn fill_from(alloc: Global, bytes: &[u8]) -> Result<Filled<'_>, AllocError>
     Ok(Filled { run, rest })
 }
 
-// Puts lines after the last one, and gives the root then.
-fn append_lines<P: Pages>(
+// Runs of the first lines of some bytes, and the bytes after them.
+#[derive(Drop)]
+struct FilledRuns<'b> {
+    runs: Vec<Run>,
+    rest: &'b [u8],
+}
+
+// The first lines of some bytes, in their stored form, in runs that are put in together: each has as many as a page has room for.
+fn fill_runs(alloc: Global, bytes: &[u8]) -> Result<FilledRuns<'_>, AllocError>
+    requires some { 0 < length bytes.now }
+    requires short { All IsShort (lines_of bytes.now) }
+    ensures { IfOk result (λ filled. IsFilledBy bytes.now filled.runs.items filled.rest.now) }
+{
+    let first = match fill_from(alloc, bytes) {
+        Ok(first) => first,
+        Err(error) => return Err(error),
+    };
+    let mut rest = first.rest;
+    let mut runs = vec![in alloc; first.run]?;
+    'runs: while !rest.is_empty() {
+        if runs.len() >= MOST_RUNS {
+            return Ok(FilledRuns { runs, rest });
+        }
+        let filled = match fill_from(alloc, rest) {
+            Ok(filled) => filled,
+            Err(error) => return Err(error),
+        };
+        runs.push(filled.run)?;
+        rest = filled.rest;
+    }
+    Ok(FilledRuns { runs, rest })
+}
+
+// Puts lines after the last one in data blocks of their own, and gives the root then.
+fn append_runs<P: Pages>(
     alloc: Global,
     pages: &mut P,
     root: Root,
@@ -94,14 +127,43 @@ fn append_lines<P: Pages>(
     let mut now = root;
     let mut rest = bytes;
     'runs: while !rest.is_empty() {
-        let filled = match fill_from(alloc, rest) {
+        let filled = match fill_runs(alloc, rest) {
             Ok(filled) => filled,
             Err(error) => return Err(error.into()),
         };
-        now = put_run(alloc, pages, now, now.lines, &filled.run)?;
+        now = put_runs(alloc, pages, now, now.lines, &filled.runs)?;
         rest = filled.rest;
     }
     Ok(now)
+}
+
+// Puts lines after the last one, and gives the root then. The first of them go into the last data block where that has room; the
+// others get blocks of their own.
+fn append_lines<P: Pages>(
+    alloc: Global,
+    pages: &mut P,
+    root: Root,
+    bytes: &[u8],
+) -> Result<Root, PageErr>
+    requires valid { P.valid pages.old }
+    requires short { All IsShort (lines_of bytes.now) }
+    requires some { 0 < root.lines }
+    requires small { root.lines + length (lines_of bytes.now) < 2 ^ 61 }
+    requires there { StandsTree P.Pages pages.old root }
+    ensures put { IfOk result (λ now. AppendsTree P.Pages pages.old pages.new root now (lines_of bytes.now)) }
+    ensures lines { IfOk result (λ now. now.lines ≡ root.lines + length (lines_of bytes.now)) }
+    ensures kept { Continues P.Pages pages.old pages.new }
+    ensures cause { HasCause (P.shows pages.old).faults (P.shows pages.new).faults (IsErrOf result PageErr.Failed) }
+{
+    if bytes.is_empty() {
+        return Ok(root);
+    }
+    let filled = match fill_from(alloc, bytes) {
+        Ok(filled) => filled,
+        Err(error) => return Err(error.into()),
+    };
+    let now = put_run(alloc, pages, root, root.lines, &filled.run)?;
+    append_runs(alloc, pages, now, filled.rest)
 }
 
 // Puts lines after the last one of a text that has lines. They have `size` bytes, with one for each line end.

@@ -35,7 +35,7 @@ fn edit_below<P: Pages>(
     ensures wrote { IfOk result (EditsBelow P.Pages pages.old pages.new top depth at edit.entry) }
     ensures may_take { IfOk result (λ after. MayTake edit.entry after.removed.lines) }
     ensures fields { IfOk result (λ after. AllByRecursion FitsFields after.entries.items) }
-    ensures few { IfOk result (λ after. length after.entries.items ≤ 3) }
+    ensures few { IfOk result (λ after. length after.entries.items ≤ 128) }
     ensures single { IfOk result (λ after. length after.entries.items ≤ most_entries edit.entry) }
     ensures lines { IfOk result (λ after. lines_below after.entries.items + after.removed.lines ≡ top.lines + added_by edit.entry) }
     ensures works { OnOk result (EditsFew P.Pages pages.old pages.new top depth at edit.entry (most_worked edit.entry depth)) }

@@ -6,6 +6,7 @@ ghost use Rattle.vs_text.specs.Text.{bytes_of, stored_line};
 ghost use Rattle.vs_text.specs.Limits.{IsShort};
 ghost use Rattle.vs_text.specs.declared.TheConstants.{MAX_LINES};
 ghost use Rattle.vs_tree_shape.specs.Changes.{splice};
+ghost use Rattle.vs_tree_blocks.specs.Cuts.{all_lines};
 ghost use Rattle.vs_tree_blocks.specs.Edits.{FitsPage, IsStored};
 ghost use Rattle.vs_data.specs.Blocks.{space_of};
 ghost use Rattle.vs_tree.specs.Calls.{CountsRun, IsUntouched, OfTree, StandsTree, TurnsTree, WorksWhere};
@@ -15,7 +16,7 @@ use crate::{Root, edit_tree};
 use std::alloc::{AllocError, Global};
 use vs_pages::{PageErr, Pages};
 use vs_text::{Line, to_stored};
-use vs_tree_blocks::{Edit, Run};
+use vs_tree_blocks::{Edit, MOST_RUNS, Run};
 
 // Makes `into` the stored form of a line.
 fn store_line(line: &Line, into: &mut Vec<u8>) -> Result<(), AllocError>
@@ -79,8 +80,64 @@ pub fn put_run<P: Pages>(
     Ok(after.root)
 }
 
+// Runs of the first lines of some, and the number of these lines.
+#[derive(Drop)]
+struct Filled {
+    runs: Vec<Run>,
+    lines: usize,
+}
+
+// The first lines of some, in runs that are put in together: each has as many as a page has room for.
+fn fill_runs(alloc: Global, lines: &[Line]) -> Result<Filled, AllocError>
+    requires some { 0 < length lines.now }
+    requires short { All IsShort lines.now }
+    ensures runs { IfOk result (λ filled. all_lines filled.runs.items ≡ map stored_line (take filled.lines lines.now)) }
+    ensures few { IfOk result (λ filled. length filled.runs.items ≤ 126) }
+    ensures some { IfOk result (λ filled. 0 < filled.lines) }
+    ensures within { IfOk result (λ filled. filled.lines ≤ length lines.now) }
+{
+    let first = fill_run(alloc, lines)?;
+    let mut count = first.len() as usize;
+    let mut runs = vec![in alloc; first]?;
+    'runs: while count < lines.len() {
+        if runs.len() >= MOST_RUNS {
+            return Ok(Filled { runs, lines: count });
+        }
+        let run = fill_run(alloc, &lines[count..])?;
+        count += run.len() as usize;
+        runs.push(run)?;
+    }
+    Ok(Filled { runs, lines: count })
+}
+
+/// Puts runs of lines, each in a data block of its own, after the line before `at`, and gives the root then.
+pub fn put_runs<P: Pages>(
+    alloc: Global,
+    pages: &mut P,
+    root: Root,
+    at: u64,
+    runs: &[Run],
+) -> Result<Root, PageErr>
+    requires valid { P.valid pages.old }
+    requires some { 0 < at }
+    requires within { at ≤ root.lines }
+    requires small { root.lines < 2 ^ 61 }
+    requires few { length runs.now ≤ 126 }
+    requires lines { length (all_lines runs.now) < 2 ^ 61 }
+    requires there { StandsTree P.Pages pages.old root }
+    ensures put { IfOk result (λ now. TurnsTree P.Pages pages.old pages.new root now (λ lines. splice lines at 0 (all_lines runs.now))) }
+    ensures lines { IfOk result (λ now. now.lines ≡ root.lines + length (all_lines runs.now)) }
+    ensures higher { IfOk result (λ now. now.height ≤ root.height + 1) }
+    ensures kept { Continues P.Pages pages.old pages.new }
+    ensures cause { HasCause (P.shows pages.old).faults (P.shows pages.new).faults (IsErrOf result PageErr.Failed) }
+{
+    let after = edit_tree(alloc, pages, root, at - 1, Edit::Behind(runs))?;
+    Ok(after.root)
+}
+
 /// Puts lines before the line at `at`, or last where `at` is the number of lines, and gives the root then. A tree has no
-/// more lines than a text may have, but for one that stands alone and is to go.
+/// more lines than a text may have, but for one that stands alone and is to go. The first of them go into the block of the line
+/// before them where that has room; the others get blocks of their own.
 pub fn put_lines<P: Pages>(
     alloc: Global,
     pages: &mut P,
@@ -102,12 +159,17 @@ pub fn put_lines<P: Pages>(
     ensures kept { Continues P.Pages pages.old pages.new }
     ensures cause { HasCause (P.shows pages.old).faults (P.shows pages.new).faults (IsErrOf result PageErr.Failed) }
 {
-    let mut now = root;
-    let mut put = 0;
+    if new.is_empty() {
+        return Ok(root);
+    }
+    let run = fill_run(alloc, new)?;
+    let first = put_run(alloc, pages, root, at, &run)?;
+    let mut now = first;
+    let mut put = run.len() as usize;
     'runs: while put < new.len() {
-        let run = fill_run(alloc, &new[put..])?;
-        now = put_run(alloc, pages, now, at + put as u64, &run)?;
-        put += run.len() as usize;
+        let filled = fill_runs(alloc, &new[put..])?;
+        now = put_runs(alloc, pages, now, at + put as u64, &filled.runs)?;
+        put += filled.lines;
     }
     Ok(now)
 }

@@ -1,63 +1,60 @@
-use Rattle.std.proofs.Common.{◌≡◌, ℕ, List, [], ◌++◌, length, map, refl, sym, ap, subst, arith, append-nil, length-append}
+-- The first run comes after the last line, and then all lines of the rest.
+use Rattle.std.proofs.Common.{◌≡◌, List, ℕ, ◌++◌, length, map, sym, ap, subst, ◌∙◌, arith, append-nil, length-append}
 use Rattle.std.proofs.lemmas.List.{length-map}
 use Rattle.vs_text.specs.Text.{lines_of, stored_line}
-use Rattle.vs_pages.proofs.Steps.{Continues-none, Continues-trans}
+use Rattle.vs_tree_shape.specs.Changes.{splice}
 use Rattle.vs_tree.specs.Runs.{HasTree}
-use Rattle.vs_tree.proofs.AppendLemmas.{all_put, cut_more, end_more, short_after}
+use Rattle.vs_tree.specs.declared.walk.Root.{Root}
+use Rattle.std.proofs.lemmas.Result.{IfOk-weaker}
+use Rattle.vs_pages.proofs.Steps.{Continues-trans}
+use Rattle.vs_tree.proofs.AppendLemmas.{first_then_rest, lines_none, short_after}
 use Rattle.vs_tree.proofs.append.append_lines.Goals as goal
 
-pub runs-init : goal.runs-init
-runs-init g c = record {
-  put = [];
-  cut = refl;
-  tree = λ told lines has. subst (λ (xs : List (List ℕ)). HasTree (g.P.Pages.shows c.args.pages.now).present c.args.root xs) (sym (append-nil lines)) has;
-  lines = omega arith;
-  kept = Continues-none g.met.P.Pages.stays_itself c.requires.valid;
-  faults = omega arith;
-}
+pub returns-then-is_empty-clause-put : goal.returns-then-is_empty-clause-put
+returns-then-is_empty-clause-put g c = λ told lines has.
+    let none : length c.args.bytes.now ≡ 0 = grind arith in
+    let all : lines ++ map stored_line (lines_of c.args.bytes.now) ≡ lines = ap (λ (ls : List (List ℕ)). lines ++ map stored_line ls) (lines_none c.args.bytes.now none) ∙ append-nil lines in
+    subst (λ (xs : List (List ℕ)). HasTree (g.P.Pages.shows c.args.pages.now).present c.args.root xs) (sym all) has
 
-pub fill_from-requires-clause-short : goal.fill_from-requires-clause-short
-fill_from-requires-clause-short g c = short_after c.args.bytes.now c.runs.rest.now c.runs.invariant.put c.runs.invariant.cut c.requires.short
-
-pub put_run-requires-clause-there : goal.put_run-requires-clause-there
-put_run-requires-clause-there g c = λ told. let r = c.requires.there told in (r.0 ++ map stored_line c.runs.invariant.put, c.runs.invariant.tree told r.0 r.1)
-
-pub put_run-requires-clause-small : goal.put_run-requires-clause-small
-put_run-requires-clause-small g c = omega (arith, c.runs.invariant.lines, ap length c.runs.invariant.cut, length-append c.runs.invariant.put (lines_of c.runs.rest.now), c.requires.small)
+pub returns-then-is_empty-clause-lines : goal.returns-then-is_empty-clause-lines
+returns-then-is_empty-clause-lines g c =
+    let none : length c.args.bytes.now ≡ 0 = grind arith in
+    omega (arith, ap length (lines_none c.args.bytes.now none))
 
 pub put_run-requires-clause-few : goal.put_run-requires-clause-few
 put_run-requires-clause-few g c =
     let filled = c.in-Ok.ensures in
-    let inv = c.runs.invariant in
-    omega (arith, ap length filled.stored, length-map filled.put stored_line, ap length filled.lines, length-append filled.put (lines_of c.in-Ok.filled.rest.now), ap length inv.cut, length-append inv.put (lines_of c.runs.rest.now), c.requires.small)
+    omega (arith, ap length filled.stored, length-map filled.put stored_line, ap length filled.lines, length-append filled.put (lines_of c.in-Ok.filled.rest.now), c.requires.small)
 
-pub runs-preserved : goal.runs-preserved
-runs-preserved g c =
-    let inv = c.runs.invariant in
+pub append_runs-requires-clause-short : goal.append_runs-requires-clause-short
+append_runs-requires-clause-short g c = short_after c.args.bytes.now c.in-Ok.filled.rest.now c.in-Ok.ensures.put c.in-Ok.ensures.lines c.requires.short
+
+pub append_runs-requires-clause-some : goal.append_runs-requires-clause-some
+append_runs-requires-clause-some g c = omega (arith, c.in_ok-now.ensures.lines, c.requires.some)
+
+pub append_runs-requires-clause-small : goal.append_runs-requires-clause-small
+append_runs-requires-clause-small g c =
     let filled = c.in-Ok.ensures in
-    record {
-      put = inv.put ++ filled.put;
-      cut = cut_more c.args.bytes.now c.runs.rest.now c.in-Ok.filled.rest.now inv.put filled.put inv.cut filled.lines;
-      tree = λ told lines has.
-          let before = inv.tree told lines has in
-          subst (λ (xs : List (List ℕ)). HasTree (g.P.Pages.shows c.put_run.new.pages).present c.in_ok-now.now xs) (end_more lines inv.put filled.put c.in-Ok.filled.run c.runs.now.lines (sym before.count) filled.stored)
-          (c.in_ok-now.ensures.put told (lines ++ map stored_line inv.put) before);
-      lines = omega (arith, c.in_ok-now.ensures.lines, inv.lines, ap length filled.stored, length-map filled.put stored_line, length-append inv.put filled.put);
-      kept = Continues-trans g.met.P.Pages.stays_on inv.kept c.put_run.ensures.kept;
-      faults = omega (arith, c.put_run.ensures.cause.later, inv.faults);
-    }
+    omega (arith, c.in_ok-now.ensures.lines, ap length filled.stored, length-map filled.put stored_line, ap length filled.lines, length-append filled.put (lines_of c.in-Ok.filled.rest.now), c.requires.small)
+
+pub append_runs-requires-clause-there : goal.append_runs-requires-clause-there
+append_runs-requires-clause-there g c = λ told. let r = c.requires.there told in (splice r.0 c.args.root.lines 0 c.in-Ok.filled.run, c.in_ok-now.ensures.put told r.0 r.1)
 
 pub returns-clause-put : goal.returns-clause-put
-returns-clause-put g c =
-    let none : length c.runs.rest.now ≡ 0 = grind arith in
-    let all = all_put c.args.bytes.now c.runs.rest.now c.runs.invariant.put c.runs.invariant.cut none in λ told lines has.
-    subst (λ (xs : List (List ℕ)). HasTree (g.P.Pages.shows c.runs.pages).present c.runs.now (lines ++ map stored_line xs)) all (c.runs.invariant.tree told lines has)
+returns-clause-put g c = IfOk-weaker c.append_runs.result _ _
+    (λ (now : Root) put told lines has.
+    let filled = c.in-Ok.ensures in
+    subst (λ (xs : List (List ℕ)). HasTree (g.P.Pages.shows c.append_runs.new.pages).present now xs)
+    (first_then_rest lines filled.put c.in-Ok.filled.run c.args.bytes.now c.in-Ok.filled.rest.now c.args.root.lines (sym has.count) filled.stored filled.lines)
+    (put told (splice lines c.args.root.lines 0 c.in-Ok.filled.run) (c.in_ok-now.ensures.put told lines has)))
+    c.append_runs.ensures.put
 
 pub returns-clause-lines : goal.returns-clause-lines
-returns-clause-lines g c =
-    let none : length c.runs.rest.now ≡ 0 = grind arith in
-    let all = all_put c.args.bytes.now c.runs.rest.now c.runs.invariant.put c.runs.invariant.cut none in
-    omega (arith, ap length all, c.runs.invariant.lines)
+returns-clause-lines g c = IfOk-weaker c.append_runs.result _ _
+    (λ (now : Root) count.
+    let filled = c.in-Ok.ensures in
+    omega (arith, count, c.in_ok-now.ensures.lines, ap length filled.stored, length-map filled.put stored_line, ap length filled.lines, length-append filled.put (lines_of c.in-Ok.filled.rest.now)))
+    c.append_runs.ensures.lines
 
-pub returns-in_err-now-clause-kept : goal.returns-in_err-now-clause-kept
-returns-in_err-now-clause-kept g c = Continues-trans g.met.P.Pages.stays_on c.runs.invariant.kept c.put_run.ensures.kept
+pub returns-clause-kept : goal.returns-clause-kept
+returns-clause-kept g c = Continues-trans g.met.P.Pages.stays_on c.in_ok-now.ensures.kept c.append_runs.ensures.kept

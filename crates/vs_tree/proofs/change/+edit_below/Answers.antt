@@ -12,7 +12,7 @@ use Rattle.vs_tree_shape.proofs.Steps.{above_down, above_entries, edited_pointer
 use Rattle.vs_tree_blocks.specs.Blocks.{tree_format}
 use Rattle.vs_tree_blocks.specs.Edits.{change_of, WorksBelow, most_entries, most_worked}
 use Rattle.vs_tree_blocks.specs.declared.edit.Edit.{Edit}
-use Rattle.vs_tree_blocks.specs.declared.edit.Edit.TheVariants.{Before, After, Remove}
+use Rattle.vs_tree_blocks.specs.declared.edit.Edit.TheVariants.{Before, After, Behind, Remove}
 use Rattle.vs_tree_blocks.specs.declared.edit.Edited.{Edited}
 use Rattle.vs_tree.proofs.Bounds.{few_below, step_work}
 use Rattle.vs_tree.proofs.ChangeLemmas.{entries_kept, has_entry, promised, few_added}
@@ -101,6 +101,7 @@ returns-clause-works g t c = λ told.
 few_single : (edit : Edit) (by above : ℕ) → by ≤ most_entries edit → above ≤ 3 → (by ≤ 1 → above ≤ 1) → above ≤ most_entries edit
 few_single (Before run) by above few most one = most
 few_single (After run) by above few most one = most
+few_single (Behind runs) by above few most one = omega (arith, most)
 few_single (Remove most) by above few all one = one few
 
 pub returns-clause-single : goal.returns-clause-single

@@ -1,54 +1,90 @@
-use Rattle.std.proofs.Common.{◌≡◌, ℕ, ◌+◌, ◌-◌, ◌*◌, ◌≤◌, List, length, take, drop, map, refl, sym, ap, subst, ◌∙◌, arith}
+-- The first run is put by the edit of a line, and the others go behind it, so a line alone is put by the first.
+use Rattle.std.proofs.Common.{◌≡◌, ◌==◌, ℕ, Bool, true, ◌+◌, ◌-◌, ◌*◌, ◌≤◌, List, [], length, take, drop, map, refl, sym, ap, subst, ◌∙◌, arith, length-take}
+use Rattle.std.proofs.lemmas.Bool.Decides.{nat_tests}
+use Rattle.std.proofs.lemmas.Grind.{common_steps}
+use Rattle.std.proofs.lemmas.List.{length-map}
 use Rattle.vs_text.specs.Text.{stored_line}
-use Rattle.vs_pages.proofs.Steps.{Continues-none, Continues-trans}
-use Rattle.vs_tree_shape.proofs.Working.{works_none, works_from}
+use Rattle.vs_pages.proofs.Steps.{Continues-trans}
+use Rattle.vs_tree_shape.proofs.Working.{works_none}
+use Rattle.vs_tree_shape.specs.Changes.{splice}
+use Rattle.vs_tree_blocks.specs.Cuts.{all_lines}
 use Rattle.vs_tree.specs.Runs.{HasTree, with_lines}
-use Rattle.vs_tree.specs.declared.walk.Root.{Root}
 use Rattle.vs_tree.proofs.Rounds.{put_next, rest_of, with_none}
 use Rattle.vs_tree_blocks.proofs.EntriesLemmas.{take_all}
 use Rattle.vs_tree.proofs.Bounds.{slight_run}
 use Rattle.vs_tree.proofs.runs.put_lines.Goals as goal
 
-pub runs-init : goal.runs-init
-runs-init g c = record {
-  within = omega arith;
-  put = λ told lines has. subst (λ (xs : List (List ℕ)). HasTree (g.P.Pages.shows c.args.pages.now).present c.args.root xs) (sym (with_none lines c.args.at)) has;
-  lines = omega arith;
-  higher = omega arith;
-  start = λ none. (refl, λ told. (refl, refl));
-  works = λ told lines has small. works_none _ _ _ refl;
-  kept = Continues-none g.met.P.Pages.stays_itself c.requires.valid;
-  faults = omega arith;
-}
+no_lines : (n : ℕ) (empty : Bool) → empty ≡ (n == 0) → empty ≡ true → n ≡ 0
+no_lines n empty is so = grind (arith, nat_tests)
 
-pub put_run-requires-clause-there : goal.put_run-requires-clause-there
-put_run-requires-clause-there g c = λ told. let r = c.requires.there told in (with_lines r.0 c.args.at (take c.runs.put c.args.new.now), c.runs.invariant.put told r.0 r.1)
+nothing : (new : List (List ℕ)) → length new ≡ 0 → new ≡ []
+nothing new none = grind (arith, common_steps)
+
+from_first : (new : List (List ℕ)) → new ≡ drop 0 new
+from_first new = grind (arith, common_steps)
+
+pub returns-then-is_empty-clause-put : goal.returns-then-is_empty-clause-put
+returns-then-is_empty-clause-put g c = λ told lines has.
+    let none : c.args.new.now ≡ [] = nothing c.args.new.now (no_lines (length c.args.new.now) c.is_empty.result c.is_empty.ensures c.if-is_empty.true) in
+    subst (λ (xs : List (List ℕ)). HasTree (g.P.Pages.shows c.args.pages.now).present c.args.root xs) (sym (ap (λ (xs : List (List ℕ)). with_lines lines c.args.at xs) none ∙ with_none lines c.args.at)) has
+
+pub returns-then-is_empty-clause-works : goal.returns-then-is_empty-clause-works
+returns-then-is_empty-clause-works g c = λ told lines has small. works_none _ _ _ refl
+
+pub runs-init : goal.runs-init
+runs-init g c =
+    let new : List (List ℕ) = c.args.new.now in
+    let run : List (List ℕ) = c.in_ok-run.run' in
+    let size : length run ≡ c.len-put.result = sym c.len-put.ensures.len in
+    let run_is : run ≡ map stored_line (take c.len-put.result new) = c.in_ok-run.ensures.run ∙ ap (λ k. map stored_line (take k new)) size in
+    record {
+      some = omega (arith, c.in_ok-run.ensures.some, size);
+      within = omega (arith, c.in_ok-run.ensures.within, size);
+      put = λ told lines has. subst (λ (xs : List (List ℕ)). HasTree (g.P.Pages.shows c.put_run.new.pages).present c.in_ok-first.first xs) (ap (λ r. splice lines c.args.at 0 r) run_is) (c.in_ok-first.ensures.put told lines has);
+      lines = omega (arith, c.in_ok-first.ensures.lines, size);
+      higher = omega (arith, c.in_ok-first.ensures.higher, c.in_ok-run.ensures.some, size);
+      works = λ told lines has small. c.in_ok-first.ensures.works told lines has (slight_run new run c.len-put.result 0 (run_is ∙ ap (λ xs. map stored_line (take c.len-put.result xs)) (from_first new)) refl small.0 small.1);
+      kept = c.put_run.ensures.kept;
+      faults = c.put_run.ensures.cause.later;
+    }
+
+pub put_runs-requires-clause-there : goal.put_runs-requires-clause-there
+put_runs-requires-clause-there g c = λ told. let r = c.requires.there told in (with_lines r.0 c.args.at (take c.runs.put c.args.new.now), c.runs.invariant.put told r.0 r.1)
+
+pub put_runs-requires-clause-few : goal.put_runs-requires-clause-few
+put_runs-requires-clause-few g c = omega (arith, ap length c.deref.ensures.value, c.in_ok-filled.ensures.few)
+
+pub put_runs-requires-clause-lines : goal.put_runs-requires-clause-lines
+put_runs-requires-clause-lines g c =
+    let new : List (List ℕ) = c.args.new.now in
+    let i : ℕ = c.runs.put in
+    let n : ℕ = c.in_ok-filled.filled.lines in
+    let some : List (List ℕ) = take (length new - i) (drop i new) in
+    omega (arith, ap length (ap all_lines c.deref.ensures.value ∙ c.in_ok-filled.ensures.runs), length-map (take n some) stored_line, length-take n some, c.in_ok-filled.ensures.within, ap length (rest_of new i), length-take (length new - i) (drop i new), c.requires.small)
 
 pub runs-preserved : goal.runs-preserved
 runs-preserved g c =
     let inv = c.runs.invariant in
     let new : List (List ℕ) = c.args.new.now in
-    let run : List (List ℕ) = c.in_ok-run.run' in
     let i : ℕ = c.runs.put in
-    let size : length run ≡ c.len.result = sym c.len.ensures.len in
+    let n : ℕ = c.in_ok-filled.filled.lines in
+    let run : List (List ℕ) = all_lines c.deref.result.now in
     let all : take (length new - i) (drop i new) ≡ drop i new = rest_of new i in
-    let run_is : run ≡ map stored_line (take c.len.result (drop i new)) = c.in_ok-run.ensures.run ∙ ap (λ xs. map stored_line (take (length run) xs)) all ∙ ap (λ k. map stored_line (take k (drop i new))) size in
+    let run_is : run ≡ map stored_line (take n (drop i new)) = ap all_lines c.deref.ensures.value ∙ c.in_ok-filled.ensures.runs ∙ ap (λ xs. map stored_line (take n xs)) all in
+    let within : n ≤ length (drop i new) = omega (arith, c.in_ok-filled.ensures.within, ap length all) in
+    let size : length run ≡ n = omega (arith, ap length run_is, length-map (take n (drop i new)) stored_line, length-take n (drop i new), within) in
     record {
-      within = omega (arith, c.in_ok-run.ensures.within, size, inv.within, ap length all);
+      some = omega (arith, inv.some);
+      within = omega (arith, within, inv.within, Rattle.std.proofs.Common.length-drop i new);
       put = λ told lines has.
           let place : c.args.at ≤ length lines = omega (arith, has.count, c.requires.within) in
-          subst (λ (xs : List (List ℕ)). HasTree (g.P.Pages.shows c.put_run.new.pages).present c.in_ok-now.now xs) (put_next lines new run c.args.at i (c.args.at + i) c.len.result place inv.within refl run_is)
+          subst (λ (xs : List (List ℕ)). HasTree (g.P.Pages.shows c.put_runs.new.pages).present c.in_ok-now.now xs) (put_next lines new run c.args.at i (c.args.at + i) n place inv.within refl run_is)
           (c.in_ok-now.ensures.put told (with_lines lines c.args.at (take i new)) (inv.put told lines has));
       lines = omega (arith, c.in_ok-now.ensures.lines, inv.lines, size);
-      higher = omega (arith, inv.higher, c.in_ok-now.ensures.higher, c.in_ok-run.ensures.some, size);
-      start = λ none. absurd (omega (arith, none, c.in_ok-run.ensures.some, size));
-      works = λ told lines has small.
-          let none : i ≡ 0 = omega (arith, small.0, c.runs-test.true) in
-          let same = inv.start none in
-          works_from _ (g.P.Pages.shows c.runs.pages).worked _ (2 * c.runs.now.height + 4) (2 * c.args.root.height + 4) (omega (arith, ap (λ (r : Root). r.height) same.0)) (same.1 told).1
-          (c.in_ok-now.ensures.works told (with_lines lines c.args.at (take i new)) (inv.put told lines has) (slight_run new run c.len.result i run_is none small.0 small.1));
-      kept = Continues-trans g.met.P.Pages.stays_on inv.kept c.put_run.ensures.kept;
-      faults = omega (arith, c.put_run.ensures.cause.later, inv.faults);
+      higher = omega (arith, inv.higher, c.in_ok-now.ensures.higher, c.in_ok-filled.ensures.some);
+      works = λ told lines has small. absurd (omega (arith, small.0, inv.some, c.runs-test.true));
+      kept = Continues-trans g.met.P.Pages.stays_on inv.kept c.put_runs.ensures.kept;
+      faults = omega (arith, c.put_runs.ensures.cause.later, inv.faults);
     }
 
 pub returns-clause-put : goal.returns-clause-put
@@ -57,4 +93,4 @@ returns-clause-put g c = λ told lines has.
     subst (λ (xs : List (List ℕ)). HasTree (g.P.Pages.shows c.runs.pages).present c.runs.now (with_lines lines c.args.at xs)) all (c.runs.invariant.put told lines has)
 
 pub returns-in_err-now-clause-kept : goal.returns-in_err-now-clause-kept
-returns-in_err-now-clause-kept g c = Continues-trans g.met.P.Pages.stays_on c.runs.invariant.kept c.put_run.ensures.kept
+returns-in_err-now-clause-kept g c = Continues-trans g.met.P.Pages.stays_on c.runs.invariant.kept c.put_runs.ensures.kept

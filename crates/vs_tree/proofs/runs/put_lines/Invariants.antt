@@ -1,4 +1,4 @@
-use Rattle.std.proofs.Common.{◌≡◌, ℕ, ◌+◌, ◌-◌, ◌*◌, ◌≤◌, List, All, IsTrue, length, take}
+use Rattle.std.proofs.Common.{◌≡◌, ℕ, ◌+◌, ◌-◌, ◌*◌, ◌<◌, ◌≤◌, List, All, IsTrue, length, take}
 use Rattle.vs_pages.specs.Calls.{Continues}
 use Rattle.vs_tree_shape.specs.Works.{WorksBesideZero}
 use Rattle.vs_tree_blocks.specs.Edits.{FitsPage}
@@ -7,11 +7,11 @@ use Rattle.vs_tree.proofs.runs.put_lines.Given as goal
 
 abbrev pub invariant-runs : goal.invariant-runs
 invariant-runs g l = record {
+  some : 0 < l.put;
   within : l.put ≤ length l.new;
   put : IsTrue g.P.Pages.tells → (lines : List (List ℕ)) → HasTree (g.P.Pages.shows l.fn.pages).present l.fn.root lines → HasTree (g.P.Pages.shows l.pages).present l.now (with_lines lines l.at (take l.put l.new));
   lines : l.now.lines ≡ l.fn.root.lines + l.put;
   higher : l.now.height ≤ l.fn.root.height + l.put;
-  start : l.put ≡ 0 → (l.now ≡ l.fn.root) × (IsTrue g.P.Pages.tells → ((g.P.Pages.shows l.pages).present ≡ (g.P.Pages.shows l.fn.pages).present) × ((g.P.Pages.shows l.pages).worked ≡ (g.P.Pages.shows l.fn.pages).worked));
   works : IsTrue g.P.Pages.tells → (lines : List (List ℕ)) → HasTree (g.P.Pages.shows l.fn.pages).present l.fn.root lines → (length l.new ≤ 1) × All FitsPage l.new
       → WorksBesideZero (g.P.Pages.shows l.fn.pages).worked (g.P.Pages.shows l.pages).worked (2 * l.fn.root.height + 4);
   kept : Continues g.P.Pages l.fn.pages l.pages;

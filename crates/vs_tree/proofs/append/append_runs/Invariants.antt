@@ -3,7 +3,7 @@ use Rattle.std.proofs.Common.{◌≡◌, ◌≤◌, ◌+◌, ◌++◌, ℕ, List
 use Rattle.vs_pages.specs.Calls.{Continues}
 use Rattle.vs_text.specs.Text.{lines_of, stored_line}
 use Rattle.vs_tree.specs.Runs.{HasTree}
-use Rattle.vs_tree.proofs.append.append_lines.Given as goal
+use Rattle.vs_tree.proofs.append.append_runs.Given as goal
 
 abbrev pub invariant-runs : goal.invariant-runs
 invariant-runs g l = record {

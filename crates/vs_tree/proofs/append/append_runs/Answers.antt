@@ -1,0 +1,68 @@
+use Rattle.std.proofs.Common.{◌≡◌, ℕ, List, [], ◌++◌, length, map, refl, sym, ap, subst, ◌∙◌, arith, append-nil, length-append}
+use Rattle.std.proofs.lemmas.List.{length-map}
+use Rattle.vs_text.specs.Text.{lines_of, stored_line}
+use Rattle.vs_pages.proofs.Steps.{Continues-none, Continues-trans}
+use Rattle.vs_tree_blocks.specs.Cuts.{all_lines}
+use Rattle.vs_tree.specs.Runs.{HasTree}
+use Rattle.vs_tree.proofs.AppendLemmas.{all_put, cut_more, end_more, short_after}
+use Rattle.vs_tree.proofs.append.append_runs.Goals as goal
+
+pub runs-init : goal.runs-init
+runs-init g c = record {
+  put = [];
+  cut = refl;
+  tree = λ told lines has. subst (λ (xs : List (List ℕ)). HasTree (g.P.Pages.shows c.args.pages.now).present c.args.root xs) (sym (append-nil lines)) has;
+  lines = omega arith;
+  kept = Continues-none g.met.P.Pages.stays_itself c.requires.valid;
+  faults = omega arith;
+}
+
+pub fill_runs-requires-clause-short : goal.fill_runs-requires-clause-short
+fill_runs-requires-clause-short g c = short_after c.args.bytes.now c.runs.rest.now c.runs.invariant.put c.runs.invariant.cut c.requires.short
+
+pub put_runs-requires-clause-there : goal.put_runs-requires-clause-there
+put_runs-requires-clause-there g c = λ told. let r = c.requires.there told in (r.0 ++ map stored_line c.runs.invariant.put, c.runs.invariant.tree told r.0 r.1)
+
+pub put_runs-requires-clause-small : goal.put_runs-requires-clause-small
+put_runs-requires-clause-small g c = omega (arith, c.runs.invariant.lines, ap length c.runs.invariant.cut, length-append c.runs.invariant.put (lines_of c.runs.rest.now), c.requires.small)
+
+pub put_runs-requires-clause-lines : goal.put_runs-requires-clause-lines
+put_runs-requires-clause-lines g c =
+    let filled = c.in-Ok.ensures.filled in
+    let inv = c.runs.invariant in
+    omega (arith, ap length (ap all_lines c.deref.ensures.value), ap length filled.stored, length-map filled.put stored_line, ap length filled.lines, length-append filled.put (lines_of c.in-Ok.filled.rest.now), ap length inv.cut, length-append inv.put (lines_of c.runs.rest.now), c.requires.small)
+
+pub runs-preserved : goal.runs-preserved
+runs-preserved g c =
+    let inv = c.runs.invariant in
+    let filled = c.in-Ok.ensures.filled in
+    let run_is : all_lines c.deref.result.now ≡ all_lines c.in-Ok.filled.runs.items = ap all_lines c.deref.ensures.value in
+    record {
+      put = inv.put ++ filled.put;
+      cut = cut_more c.args.bytes.now c.runs.rest.now c.in-Ok.filled.rest.now inv.put filled.put inv.cut filled.lines;
+      tree = λ told lines has.
+          let before = inv.tree told lines has in
+          subst (λ (xs : List (List ℕ)). HasTree (g.P.Pages.shows c.put_runs.new.pages).present c.in_ok-now.now xs) (end_more lines inv.put filled.put (all_lines c.deref.result.now) c.runs.now.lines (sym before.count) (run_is ∙ filled.stored))
+          (c.in_ok-now.ensures.put told (lines ++ map stored_line inv.put) before);
+      lines = omega (arith, c.in_ok-now.ensures.lines, inv.lines, ap length run_is, ap length filled.stored, length-map filled.put stored_line, length-append inv.put filled.put);
+      kept = Continues-trans g.met.P.Pages.stays_on inv.kept c.put_runs.ensures.kept;
+      faults = omega (arith, c.put_runs.ensures.cause.later, inv.faults);
+    }
+
+pub returns-clause-put : goal.returns-clause-put
+returns-clause-put g c =
+    let none : length c.runs.rest.now ≡ 0 = grind arith in
+    let all = all_put c.args.bytes.now c.runs.rest.now c.runs.invariant.put c.runs.invariant.cut none in λ told lines has.
+    subst (λ (xs : List (List ℕ)). HasTree (g.P.Pages.shows c.runs.pages).present c.runs.now (lines ++ map stored_line xs)) all (c.runs.invariant.tree told lines has)
+
+pub returns-clause-lines : goal.returns-clause-lines
+returns-clause-lines g c =
+    let none : length c.runs.rest.now ≡ 0 = grind arith in
+    let all = all_put c.args.bytes.now c.runs.rest.now c.runs.invariant.put c.runs.invariant.cut none in
+    omega (arith, ap length all, c.runs.invariant.lines)
+
+pub returns-in_err-now-clause-kept : goal.returns-in_err-now-clause-kept
+returns-in_err-now-clause-kept g c = Continues-trans g.met.P.Pages.stays_on c.runs.invariant.kept c.put_runs.ensures.kept
+
+pub put_runs-requires-clause-few : goal.put_runs-requires-clause-few
+put_runs-requires-clause-few g c = omega (arith, ap length c.deref.ensures.value, c.in-Ok.ensures.few)

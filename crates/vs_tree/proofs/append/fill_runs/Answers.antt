@@ -1,0 +1,30 @@
+-- The runs have the first lines of the bytes, and those of the rest come after them.
+use Rattle.std.proofs.Common.{◌≡◌, ℕ, List, [], ◌∷◌, ◌++◌, length, sym, ap, subst, ◌∙◌, arith, append-nil, length-append}
+use Rattle.vs_tree_blocks.specs.Cuts.{all_lines}
+use Rattle.vs_tree_blocks.proofs.CutsLemmas.{all_both}
+use Rattle.vs_tree.specs.Appends.{IsFilled}
+use Rattle.vs_tree.proofs.AppendLemmas.{filled_both, short_after}
+use Rattle.vs_tree.proofs.append.fill_runs.Goals as goal
+
+pub runs-init : goal.runs-init
+runs-init c =
+    let first = c.in-Ok.first in
+    let is : all_lines c.in_ok-runs.runs.items ≡ first.run = ap all_lines c.in_ok-runs.ensures.items ∙ append-nil first.run in
+    record {
+      filled = subst (λ (run : List (List ℕ)). IsFilled c.args.bytes.now run first.rest.now) (sym is) c.in-Ok.ensures;
+      few = omega (arith, ap length c.in_ok-runs.ensures.items);
+      short = short_after c.args.bytes.now first.rest.now c.in-Ok.ensures.put c.in-Ok.ensures.lines c.requires.short;
+    }
+
+pub runs-preserved : goal.runs-preserved
+runs-preserved c =
+    let inv = c.runs.invariant in
+    let filled = c.in-Ok-fill_from.filled in
+    let before : List (List (List ℕ)) = c.runs.runs.items in
+    let items : c.push.new.self.items ≡ before ++ filled.run ∷ [] = c.in_ok-push.ensures.items in
+    let is : all_lines c.push.new.self.items ≡ all_lines before ++ filled.run = ap all_lines items ∙ all_both before (filled.run ∷ []) ∙ ap (λ (ls : List (List ℕ)). all_lines before ++ ls) (append-nil filled.run) in
+    record {
+      filled = filled_both c.args.bytes.now c.runs.rest.now filled.rest.now (all_lines before) filled.run (all_lines c.push.new.self.items) inv.filled c.in-Ok-fill_from.ensures is;
+      few = omega (arith, ap length items, length-append before (filled.run ∷ []));
+      short = short_after c.runs.rest.now filled.rest.now c.in-Ok-fill_from.ensures.put c.in-Ok-fill_from.ensures.lines inv.short;
+    }

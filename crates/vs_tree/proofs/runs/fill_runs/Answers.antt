@@ -1,0 +1,37 @@
+-- The runs have the first lines of those that are put, one run after the other.
+use Rattle.std.proofs.Common.{◌≡◌, ℕ, ◌-◌, List, [], ◌∷◌, ◌++◌, length, take, drop, map, sym, ap, ◌∙◌, arith, append-nil, length-append}
+use Rattle.vs_text.specs.Text.{stored_line}
+use Rattle.vs_tree_blocks.specs.Cuts.{all_lines}
+use Rattle.vs_tree_blocks.proofs.CutsLemmas.{all_both}
+use Rattle.vs_tree.proofs.Rounds.{rest_of, run_next}
+use Rattle.vs_tree.proofs.runs.fill_runs.Goals as goal
+
+pub runs-init : goal.runs-init
+runs-init c =
+    let first : List (List ℕ) = c.in_ok-first.first in
+    let size : length first ≡ c.len-count.result = sym c.len-count.ensures.len in
+    record {
+      runs = ap all_lines c.in_ok-runs.ensures.items ∙ append-nil first ∙ c.in_ok-first.ensures.run ∙ ap (λ (n : ℕ). map stored_line (take n c.args.lines.now)) size;
+      few = omega (arith, ap length c.in_ok-runs.ensures.items);
+      some = omega (arith, size, c.in_ok-first.ensures.some);
+      within = omega (arith, size, c.in_ok-first.ensures.within);
+    }
+
+pub runs-preserved : goal.runs-preserved
+runs-preserved c =
+    let inv = c.runs.invariant in
+    let lines : List (List ℕ) = c.args.lines.now in
+    let i : ℕ = c.runs.count in
+    let run : List (List ℕ) = c.in_ok-run.run' in
+    let before : List (List (List ℕ)) = c.runs.runs.items in
+    let all : take (length lines - i) (drop i lines) ≡ drop i lines = rest_of lines i in
+    let size : length run ≡ c.len-in-runs.result = sym c.len-in-runs.ensures.len in
+    let run_is : run ≡ map stored_line (take c.len-in-runs.result (drop i lines)) = c.in_ok-run.ensures.run ∙ ap (λ xs. map stored_line (take (length run) xs)) all ∙ ap (λ k. map stored_line (take k (drop i lines))) size in
+    let items : c.push.new.self.items ≡ before ++ run ∷ [] = c.in_ok-push.ensures.items in
+    let is : all_lines c.push.new.self.items ≡ all_lines before ++ run = ap all_lines items ∙ all_both before (run ∷ []) ∙ ap (λ (ls : List (List ℕ)). all_lines before ++ ls) (append-nil run) in
+    record {
+      runs = is ∙ run_next lines (all_lines before) run i c.len-in-runs.result inv.within inv.runs run_is;
+      few = omega (arith, ap length items, length-append before (run ∷ []));
+      some = omega (arith, inv.some);
+      within = omega (arith, c.in_ok-run.ensures.within, size, inv.within, ap length all);
+    }
