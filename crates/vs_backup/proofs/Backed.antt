@@ -5,7 +5,7 @@ use Rattle.std.proofs.lemmas.Bool.{true≢false}
 use Rattle.std.proofs.lemmas.Result.{on_ok_weaker}
 use Rattle.vs_faults.specs.Faults.{HasCause, HasRisen}
 use Rattle.vs_host.specs.Disk.{Disk, Name, names_of, read_under, content_in}
-use Rattle.vs_host.specs.World.{Scene, ChangesFolder}
+use Rattle.vs_host.specs.World.{HasNewest, Scene, ChangesFolder}
 use Rattle.vs_host.specs.declared.traits.Failed.{Failed}
 use Rattle.vs_disk.specs.Images.{HoldsBytes, MayLeave}
 use Rattle.vs_disk.specs.Runs.{Runs, Looks}
@@ -68,12 +68,13 @@ narrowed_content name a b narrowed = ap (λ (at : Option ℕ). read_under b at) 
     same (Some number) = ap (λ (bytes : List ℕ). Some bytes) (narrowed.files number).bytes
 
 -- ---- from a settled file
-module _ (copying keep : Bool) (name temporary backup : Name) (old new : List ℕ) (s0 s1 : Scene) (order : HasSynced name s0) (is : IsSettled name old s0.folder) where
+module _ (copying keep : Bool) (name temporary backup : Name) (old new : List ℕ) (s0 s1 : Scene) (moment : HasNewest s0) (order : HasSynced name s0) (is : IsSettled name old s0.folder) where
   abbrev begins : (result : Result ℕ WriteErr) → WritesOver copying name temporary backup old new s0 s1 result
       → BeginsWhole copying keep name temporary backup old new s0 s1 result
   begins result over = record {
     begun = s0;
     looked = narrowed_starts s0;
+    moment = moment;
     order = order;
     settled = is;
     whole = runs_as (λ a b. IsKept name backup old b) (λ a b. IsWhole name backup old new b) s0 s1 (λ d kept. whole_kept name backup old new d kept) over.kept;
@@ -140,6 +141,7 @@ module _ (copying keep : Bool) (name temporary backup : Name) (old new : List �
         moments = inl (record {
           begun = s0;
           looked = narrowed_starts s0;
+          moment = moment;
           order = order;
           settled = is;
           whole = kept_on (IsWhole name backup old new) s0 s1 s2 frame before.whole
@@ -193,6 +195,7 @@ module _ (copying keep : Bool) (name temporary backup : Name) (old new : List �
       | inl whole ↦ inl (record {
         begun = whole.begun;
         looked = runs_on Narrowed narrowed_then s0 s1 whole.begun frame looked whole.looked;
+        moment = whole.moment;
         order = whole.order;
         settled = whole.settled;
         whole = whole.whole;

@@ -1,17 +1,18 @@
--- Which calls of a write failed: what is known of its parts is put together.
-use Rattle.std.proofs.Common.{◌≡◌, ◌≤◌, inl, inr, ℕ, List, length, Result, Ok, Err, IfOk, IsErr, IsErrOf, IsTrue, is_ok, refl, sym, ap, subst, arith}
+-- Which calls of a write failed, and which is its first: what is known of its parts is put together.
+use Rattle.std.proofs.Common.{◌≡◌, ◌≤◌, inl, inr, ℕ, Bool, List, [], ◌∷◌, ◌++◌, length, Result, Ok, Err, IfOk, IsErr, IsErrOf, IsTrue, is_ok, refl, sym, ◌∙◌, ap, subst, append_assoc, arith}
 use Rattle.std.proofs.lemmas.Bool.{true≢false}
 use Rattle.vs_faults.specs.Faults.{HasCause, HasRisen}
 use Rattle.vs_faults.proofs.Causes.{HasCause-trans, HasCause-weaker}
 use Rattle.vs_host.specs.Disk.{Name}
-use Rattle.vs_host.specs.World.{HasNewest, Tells, Scene}
+use Rattle.vs_host.specs.Trace.{Looked, Snapshot}
+use Rattle.vs_host.specs.World.{HasNewest, IsRecorded, IsTold, Tells, Scene, snapshot_of}
 use Rattle.vs_host.specs.declared.traits.Failed.{Failed}
 use Rattle.vs_disk.specs.Images.{HoldsBytes}
 use Rattle.vs_disk.specs.Runs.{FailsLast, Quiet}
 use Rattle.vs_disk.proofs.Runs.{fails_none, quiet_none}
 use Rattle.vs_disk.proofs.Quiet.{last_then, quiet_then}
 use Rattle.vs_backup.specs.Desks.{StopsAtFault}
-use Rattle.vs_backup.specs.Writing.{FailsNoEarlier, IsFailed, OldIn, PutsBack, nowhere, stopped, stopped_after}
+use Rattle.vs_backup.specs.Writing.{BeginsByLook, FailsNoEarlier, IsFailed, OldIn, PutsBack, nowhere, stopped, stopped_after}
 use Rattle.vs_backup.proofs.Copying.{never_other}
 use Rattle.vs_backup.proofs.Going.{err_as, stop_here, stop_there}
 use Rattle.vs_backup.proofs.Stops.{stops_as}
@@ -157,3 +158,41 @@ module _ (name : Name) (new : List ℕ) where
   -- want of memory, and no call
   pub fails_memory : (at : Place) → (at ≡ Backup → ⊥) → (s0 : Scene) → FailsNoEarlier name new s0 s0 (Err (error.NoMemory at))
   fails_memory at elsewhere s0 = record { done = tt; refused = refused_quiet (error.NoMemory at) s0 s0 (λ is. never_other stop.NoMemory at Backup elsewhere is) (quiet_none s0) }
+
+-- ---- the calls that are made
+
+-- snapshots were added
+abbrev Adds : Scene → Scene → Type 0
+Adds s0 s1 = (added : List Snapshot) × (s1.trace ≡ added ++ s0.trace)
+
+adds_last : (s0 s1 : Scene) → FailsLast s0 s1 → Adds s0 s1
+adds_last s0 s1 last = (last.last ++ last.earlier, last.is ∙ sym (append_assoc last.last last.earlier s0.trace))
+
+adds_then : (s0 s1 s2 : Scene) → Adds s0 s1 → Adds s1 s2 → Adds s0 s2
+adds_then s0 s1 s2 one two = (two.0 ++ one.0, two.1 ∙ ap (λ (ms : List Snapshot). two.0 ++ ms) one.1 ∙ sym (append_assoc two.0 one.0 s0.trace))
+
+recorded : (value : Bool) (names : List Name) (s0 s1 : Scene) → IsTold {E = Failed} Looked names (Ok value) s0 s1 → IsRecorded Looked names s0 s1
+recorded value names s0 s1 (inl is) = is
+recorded value names s0 s1 (inr failed) = absurd (true≢false (sym failed.0))
+
+begins_by : (name : Name) (value : Bool) (s0 s1 s2 : Scene) → IsTold {E = Failed} Looked (name ∷ []) (Ok value) s0 s1 → Adds s1 s2 → BeginsByLook name s0 s2
+begins_by name value s0 s1 s2 told adds = record {
+  look = snapshot_of s1 Looked (name ∷ []);
+  later = adds.0;
+  is = adds.1 ∙ ap (λ (ms : List Snapshot). adds.0 ++ ms) (recorded value (name ∷ []) s0 s1 told);
+  looked = (refl, refl);
+}
+
+-- after the look, calls of which none but the last one failed
+pub looks_last : (name : Name) (value : Bool) (s0 s1 s2 : Scene) → IsTold {E = Failed} Looked (name ∷ []) (Ok value) s0 s1 → FailsLast s1 s2 → BeginsByLook name s0 s2
+looks_last name value s0 s1 s2 told last = begins_by name value s0 s1 s2 told (adds_last s1 s2 last)
+
+-- and those of a write
+pub looks_write : (name : Name) (value : Bool) (s0 s1 s2 : Scene) (new : List ℕ) (result : Result ℕ WriteErr) → IsTold {E = Failed} Looked (name ∷ []) (Ok value) s0 s1 → FailsNoEarlier name new s1 s2 result
+    → BeginsByLook name s0 s2
+looks_write name value s0 s1 s2 new (Ok size) told fails =
+    let done = fails.done in
+    begins_by name value s0 s1 s2 told (adds_then s1 done.written s2 (done.quiet.moments.added, done.quiet.moments.is) (adds_last done.written s2 done.later))
+looks_write name value s0 s1 s2 new (Err why) told fails =
+    let back = fails.refused in
+    begins_by name value s0 s1 s2 told (adds_then s1 back.stopped s2 (adds_last s1 back.stopped back.last) (adds_last back.stopped s2 back.back_last))

@@ -1,10 +1,11 @@
 -- What a write promises of the file and its backup.
-use Rattle.std.specs.Prelude.{◌≡◌, ◌⊎◌, ◌≤◌, ℕ, List, [], length, Option, Some, None, IsSomeAnd, IfOk, OnOk, OnErr, IsErr, IsErrOf, IsTrue, Result, Ok, Err}
+use Rattle.std.specs.Prelude.{◌≡◌, ◌⊎◌, ◌≤◌, ℕ, List, [], ◌∷◌, ◌++◌, length, Option, Some, None, IsSomeAnd, IfOk, OnOk, OnErr, IsErr, IsErrOf, IsTrue, Result, Ok, Err}
 use Rattle.std.specs.Prelude.{Bool, true, false}
 use Rattle.vs_faults.specs.Faults.{HasRisen}
 use Rattle.vs_text.specs.Text.{file_of}
 use Rattle.vs_host.specs.Disk.{Disk, Name, IsImage, names_of, content_in}
 use Rattle.vs_host.specs.Names.{temporary}
+use Rattle.vs_host.specs.Trace.{Looked, Snapshot}
 use Rattle.vs_host.specs.World.{HasNewest, Scene, content_of}
 use Rattle.vs_host.specs.declared.traits.Failed.{Failed}
 use Rattle.vs_disk.specs.Images.{HoldsBytes, IsSynced, MayLeave, Takes}
@@ -226,12 +227,13 @@ pub record IsFilled (told : Bool) (name : Name) (has : List (List ℕ) → Type 
 pub record IsFilledFirm (told : Bool) (name : Name) (has : List (List ℕ) → Type 0) (size : ℕ) (after : Scene) : Type 0 where
   pub each : IsTrue told → (text : List (List ℕ)) → has text → (size ≡ length (file_of text)) × IsSettled name (file_of text) after.folder
 
--- Before the two syncs at the beginning, that of the file first, nothing has changed. After them, at each moment, in each image, the
+-- Before the two syncs at the beginning, that of the file first, nothing has changed. From them on, at each moment, in each image, the
 -- file or its backup is whole, an older backup is whole until the backup takes its name, and other names are left alone.
 pub record BeginsWhole (copying keep : Bool) (name temporary backup : Name) (old new : List ℕ)
     (before after : Scene) (result : Result ℕ WriteErr) : Type 0 where
   pub begun : Scene
   pub looked : Runs Narrowed before begun
+  pub moment : HasNewest begun
   pub order : HasSynced name begun
   pub settled : IsSettled name old begun.folder
   pub whole : Runs (λ a b. IsWhole name backup old new b) begun after
@@ -296,6 +298,13 @@ pub record IsUnseen (before after : Scene) (result : Result ℕ WriteErr) : Type
   pub looks : Looks before after
   pub last : FailsLast before after
   pub failed : result ≡ Err (error.Failed Nowhere)
+
+-- The first call since then looked whether there is a file of this name.
+pub record BeginsByLook (name : Name) (before after : Scene) : Type 0 where
+  pub look : Snapshot
+  pub later : List Snapshot
+  pub is : after.trace ≡ later ++ look ∷ before.trace
+  pub looked : (look.kind ≡ Looked) × (look.names ≡ name ∷ [])
 
 -- Every backup name is taken, and nothing has changed. A call or memory may have been missing before that was found out.
 pub record FindsNoName (before after : Scene) (result : Result ℕ WriteErr) : Type 0 where

@@ -9,7 +9,7 @@ ghost use Rattle.vs_backup.specs.Backups.{IsBackupName, IsNoName, WorksOn, backs
 ghost use Rattle.vs_disk.specs.Runs.{Looks};
 ghost use Rattle.vs_backup.specs.Desks.{Continues, GoesOn, OnlyReads};
 ghost use Rattle.vs_backup.specs.Works.{SparesOthers, two_names};
-ghost use Rattle.vs_backup.specs.Writing.{FailsNoEarlier, FindsNoName, IsFailed, IsUnseen, OldIn, WritesFresh, WritesInPlace, WritesNew, WritesPlain, WritesWith, nowhere};
+ghost use Rattle.vs_backup.specs.Writing.{BeginsByLook, FailsNoEarlier, FindsNoName, IsFailed, IsUnseen, OldIn, WritesFresh, WritesInPlace, WritesNew, WritesPlain, WritesWith, nowhere};
 
 use crate::backup::{Backing, write_with_backup};
 use crate::choose::{backup_name, first_free, temporary_of};
@@ -231,6 +231,10 @@ pub fn write_out<D: Desk>(
     requires valid { D.valid desk.old }
     requires names { AreNames names.now }
     requires reads { (name : Name) → D.reads desk.old name → (name ≡ names.now.swp) ⊎ (name ≡ names.now.swo) }
+
+    // The look whether there is a file is the first call: before it, not even want of memory is answered.
+    ensures looked { IsTrue (D.tells).folder
+        → IsUnseen (D.scene desk.old) (D.scene desk.new) result ⊎ BeginsByLook names.now.file (D.scene desk.old) (D.scene desk.new) }
 
     // A file that is there, with a backup.
     ensures backed { IsTrue (D.tells).folder → (old : List ℕ) → content_of (D.scene desk.old) names.now.file ≡ Some old

@@ -17,7 +17,7 @@ use Rattle.vs_backup.specs.declared.errors.Place.TheVariants as place
 use Rattle.vs_backup.specs.declared.errors.WriteErr.TheVariants as error
 use Rattle.vs_backup.proofs.Whole.{unseen, told_alone, none_after, plain_after, fresh_after, fresh_others, others_after, not_there_now}
 use Rattle.vs_backup.proofs.Doing as doing
-use Rattle.vs_backup.specs.Writing.{FailsNoEarlier}
+use Rattle.vs_backup.specs.Writing.{BeginsByLook, FailsNoEarlier}
 use Rattle.vs_backup.specs.declared.errors.WriteErr.{WriteErr}
 use Rattle.vs_backup.proofs.write.write_out.Goals as goal
 
@@ -210,3 +210,27 @@ returns-in-Err-clause-calls g c told text has =
     let s0 : Scene = g.D.World.scene c.args.desk.now in
     let s1 : Scene = g.D.World.scene c.has.new.self in
     record { done = tt; refused = doing.refused_at g.D.World.tells place.Nowhere (λ e. cc) s0 s1 told refl c.in-Err.ensures.kept.stops c.in-Err.ensures.kept.cause }
+
+pub returns-in-Ok-true-clause-looked : goal.returns-in-Ok-true-clause-looked
+returns-in-Ok-true-clause-looked g c told =
+    let s0 : Scene = g.D.World.scene c.args.desk.now in
+    let s1 : Scene = g.D.World.scene c.has.new.self in
+    let s2 : Scene = g.D.World.scene c.write_there.new.desk in
+    let text = g.met.D.Desk.tells_one c.args.desk.now c.requires.valid told in
+    let kept = g.met.D.Desk.stays_text c.args.desk.now c.has.new.self text.0 c.has.ensures.kept.stays text.1 in
+    inr (subst (λ (n : Name). BeginsByLook n s0 s2) c.as_str-name.ensures
+    (doing.looks_write c.as_str-name.result.now true s0 s1 s2 (file_of text.0) c.write_there.result (c.in-Ok-true.ensures.told told) (c.write_there.ensures.calls told text.0 kept)))
+
+pub returns-in-Ok-false-clause-looked : goal.returns-in-Ok-false-clause-looked
+returns-in-Ok-false-clause-looked g c told =
+    let s0 : Scene = g.D.World.scene c.args.desk.now in
+    let s1 : Scene = g.D.World.scene c.has.new.self in
+    let s2 : Scene = g.D.World.scene c.write_new.new.desk in
+    inr (subst (λ (n : Name). BeginsByLook n s0 s2) c.as_str-name.ensures
+    (doing.looks_last c.as_str-name.result.now false s0 s1 s2 (c.in-Ok-false.ensures.told told) (c.write_new.ensures.kept.stops.last told)))
+
+pub returns-in-Err-clause-looked : goal.returns-in-Err-clause-looked
+returns-in-Err-clause-looked g c told =
+    let s0 : Scene = g.D.World.scene c.args.desk.now in
+    let s1 : Scene = g.D.World.scene c.has.new.self in
+    inl (unseen s0 s1 (one_look Looked (c.as_str-name.result.now ∷ []) c.has.result s0 s1 c.has.ensures.kept.frame (c.has.ensures.told told)) (c.in-Err.ensures.kept.stops.last told))
