@@ -1,5 +1,5 @@
 -- What is taken from an undo file with a text.
-use Rattle.std.proofs.Common.{◌≡◌, ℕ, List, Option, Some, None, Result, Ok, Err, IfOk, refl, sym, ◌∙◌, ap, subst, map, length}
+use Rattle.std.proofs.Common.{◌≡◌, ℕ, List, Option, Some, None, Result, Ok, Err, IfOk, refl, sym, ◌∙◌, ap, subst, length}
 use Rattle.std.specs.Prelude.{IfErr, IsErrAnd, IsSomeAnd}
 use Rattle.std.proofs.lemmas.List.{length-map}
 use Rattle.vs_undo.specs.declared.parts.Parts.{Parts}

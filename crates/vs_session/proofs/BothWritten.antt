@@ -13,9 +13,9 @@ use Rattle.vs_host.specs.declared.names.Names.{Names}
 use Rattle.vs_text.specs.Text.{file_of}
 use Rattle.vs_disk.specs.Images.{HoldsBytes, MayLeave}
 use Rattle.vs_disk.specs.Names.{SameAt}
-use Rattle.vs_disk.specs.Runs.{Runs, FailsLast, Looks, Quiet}
+use Rattle.vs_disk.specs.Runs.{Inside, Runs, FailsLast, Looks, Quiet}
 use Rattle.vs_disk.proofs.Others.{same_none, same_then}
-use Rattle.vs_disk.proofs.Runs.{fails_none, quiet_none, frames, reads_change, runs_as, runs_then}
+use Rattle.vs_disk.proofs.Runs.{fails_none, goes_weaker, quiet_none, frames, reads_change, runs_as, runs_then}
 use Rattle.vs_disk.proofs.Steps.{itself}
 use Rattle.vs_pair.specs.Pair.{Rises, is_swap}
 use Rattle.vs_pair.proofs.Others.{rises_kept}
@@ -24,7 +24,8 @@ use Rattle.vs_backup.specs.Backups.{WorksOn, copies}
 use Rattle.vs_backup.specs.Works.{Spares as SparesNames, two_names}
 use Rattle.vs_backup.specs.declared.errors.WriteErr.TheVariants as error
 use Rattle.vs_backup.specs.declared.errors.Place.TheVariants.{Backup, Nowhere}
-use Rattle.vs_backup.specs.Writing.{BecomesWritten, IsUnseen, OldIn}
+use Rattle.vs_backup.specs.Writing.{BecomesWritten, IsUnseen, IsWhole, OldIn}
+use Rattle.vs_backup.proofs.Backed.{whole_new}
 use Rattle.vs_backup.proofs.Replacing.{replaces_spared}
 use Rattle.vs_machine.specs.Machine.{took_effect}
 use Rattle.vs_machine.specs.Replies.{Answer, says}
@@ -46,6 +47,7 @@ use Rattle.vs_desk.specs.Writes.{KeepsSwap}
 use Rattle.vs_session.specs.declared.session.Session.{Session}
 use Rattle.vs_session.specs.Session.{SessionState, after_sync, is_fault, is_write, line_by, reply_of, sync_in, undo_after, write_in, write_reply, written_state}
 use Rattle.vs_session.specs.Failures.{FailsOnce}
+use Rattle.vs_session.specs.Wholeness.{StaysWhole}
 use Rattle.vs_session.specs.Stores.{StoresUndo}
 use Rattle.vs_session.specs.Writes.{HasSynced, Wrote}
 use Rattle.vs_session.specs.Fits.{Answers, Fits, LeavesNoneMade, names_of}
@@ -54,9 +56,10 @@ use Rattle.vs_session.proofs.Failing.{above_quiet, once_after}
 use Rattle.vs_session.proofs.SummaryLemmas.{fails_still}
 use Rattle.vs_session.proofs.Steps.{recovers_synced, risen_since, risen_until, works_runs}
 use Rattle.vs_session.proofs.FileWrites.{backup_named}
+use Rattle.vs_session.proofs.Wholeness.{whole_then}
 use Rattle.vs_session.proofs.Stored.{fits_stored, undo_outside}
 use Rattle.vs_session.proofs.UndoNames.{backup_outside, file_outside}
-use Rattle.vs_session.proofs.Written.{Moment, answers_free, are, bytes_left, cleared_by, ended, fits_by, has_left, lacks, lead, line_is, mark, not_lacks, recovers_on, replied_done, replied_none, under, written_frame, written_rises, written_runs}
+use Rattle.vs_session.proofs.Written.{Moment, answers_free, are, bytes_left, cleared_by, ended, fits_by, has_left, lacks, lead, line_is, mark, not_lacks, recovers_on, replied_done, replied_none, stays_whole, under, written_frame, written_rises, written_runs}
 
 -- ---- before the write
 
@@ -253,6 +256,18 @@ module _ (state : SessionState) (syncs : List Sync) (instruction : Instruction) 
   written : (outcome : Outcome) → took_effect outcome ≡ true → (((is_write instruction.parsed && true) && not (lacks state syncs instruction is before between old mid s)) && took_effect outcome) ≡ true
   written outcome took = λ i. ((is i && true) && not (free i)) && took i
 
+  -- while the undo file is stored the file has the new bytes
+  whole_on : (outcome : Outcome) → took_effect outcome ≡ true → StaysWhole names state instruction (ended state syncs instruction is before between old mid s outcome at) old new
+  whole_on outcome took begins was backup there made_as =
+      let stays = stays_whole state syncs instruction is before between old mid s after (Ok size) made second wrote outcome at (λ failed. absurd (true≢false (sym failed))) in
+      elim (stays begins was backup there made_as) [
+        | inl becomes ↦ inl (whole_then names.file backup was (file_of text) old made new becomes
+            (goes_weaker (Inside made (StoresUndo names text (history_marked state.machine.history) made.folder)) (λ m. IsWhole names.file backup was (file_of text) m.folder)
+            (λ m inside. whole_new names.file backup was (file_of text) m.folder (holds_on m.folder inside.folder.spares)) made.trace new.trace stores.moments)
+            (whole_new names.file backup was (file_of text) new.folder (holds_on new.folder stores.now.spares)))
+        | inr refused ↦ absurd (true≢false (sym took ∙ refused.0))
+      ]
+
   -- the calls after the sync
   calls_by : (outcome : Outcome) → (outcome ≡ Done) ⊎ (outcome ≡ NoUndo) → took_effect outcome ≡ true → HasCause made.folder_faults new.folder_faults (is_fault outcome ≡ true) → StoresBy names.undo_new names.undo made new
       → FailsLast made new → (is_fault outcome ≡ false → Quiet made new) → FailsOnce names state instruction (ended state syncs instruction is before between old mid s outcome at) mid new
@@ -276,7 +291,7 @@ module _ (state : SessionState) (syncs : List Sync) (instruction : Instruction) 
       → ((true && not (is_fault outcome)) ≡ true → HasUndo names text (history_marked state.machine.history) new.folder) → (is_fault outcome ≡ true → HasRisen old.folder_faults new.folder_faults)
       → FailsOnce names state instruction (ended state syncs instruction is before between old mid s outcome at) old new → (outcome ≡ Done → LeavesNoneMade old.folder new.folder) → Answers state syncs instruction before after (mark state syncs instruction is before between old mid s outcome at) reply old new
   answers_by outcome reply took replied stored cause calls cleared =
-      answers_free state syncs instruction is before between old mid s free true on after outcome at reply new names_after (λ none. refl) calls cleared replied
+      answers_free state syncs instruction is before between old mid s free true on after outcome at reply new names_after (λ none. refl) calls (whole_on outcome took) cleared replied
       (fits_by state syncs instruction is before between old mid s after new.folder outcome at true (written outcome took) (fits_on new.folder stores.now.spares))
       (works_runs names (Some work) (IsUnderWay names during (Some work)) Both old new (frames old made new frame third) (λ d both. both) both_runs)
       (subst (λ (done : Bool). HasWritten names write done (is_fault outcome) (state_now old) (state_now new) × HasStored names undo (done && not (is_fault outcome)) (state_now old) (state_now new)) (sym took)

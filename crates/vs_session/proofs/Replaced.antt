@@ -31,6 +31,7 @@ use Rattle.vs_session.specs.Session.{SessionState, Ended, HasFound, after_sync, 
 use Rattle.vs_session.specs.Fits.{Answers, Fits, names_of}
 use Rattle.vs_session.proofs.Cleared.{cleared_same}
 use Rattle.vs_session.proofs.Failing.{once_stops}
+use Rattle.vs_session.proofs.Wholeness.{whole_unbegun}
 use Rattle.vs_session.proofs.SessionLemmas.{carried_still, saved_is}
 use Rattle.vs_session.proofs.Steps.{assemble_read, between_synced, no_write, recovers_synced, works_looks}
 
@@ -207,7 +208,8 @@ module _ (state : SessionState) (syncs : List Sync) (instruction : Instruction) 
   pub answers_read : Answers state syncs instruction before after mark reply old new
   answers_read =
       assemble_read state syncs instruction before old (never_quits instruction.parsed _ is) fits after mark false read reply new None None found
-      (once_stops names state instruction ended tells old new told (ap (λ (w : Bool). ((w && false) && not lacks) && took_effect outcome) (writes_none instruction.parsed is)) stops) (λ _. cleared_same old.folder new.folder looks.now) (ap (λ (c : Bool). cond c (Some (sync_in state false)) None) none_begun) work replied_as now
+      (once_stops names state instruction ended tells old new told (ap (λ (w : Bool). ((w && false) && not lacks) && took_effect outcome) (writes_none instruction.parsed is)) stops)
+      (whole_unbegun names state instruction ended old new (ap (λ (w : Bool). (w && false) && not lacks) (writes_none instruction.parsed is))) (λ _. cleared_same old.folder new.folder looks.now) (ap (λ (c : Bool). cond c (Some (sync_in state false)) None) none_begun) work replied_as now
       (record {
         works = works_looks names (IsUnderWay names syncs None) old new frame (no_write names syncs old.folder (recovers_synced names before old.folder state syncs refl fits)) looks;
         found = refl;

@@ -45,6 +45,7 @@ use Rattle.vs_session.specs.Stores.{StoresUndo}
 use Rattle.vs_session.specs.Fits.{Answers, Fits, names_of}
 use Rattle.vs_session.proofs.Cleared.{cleared_stored, swap_name}
 use Rattle.vs_session.proofs.Failing.{once_stops}
+use Rattle.vs_session.proofs.Wholeness.{whole_unbegun}
 use Rattle.vs_session.proofs.SessionLemmas.{carried_still}
 use Rattle.vs_session.proofs.UndoNames.{new_name, undo_apart}
 use Rattle.vs_session.proofs.Steps.{assemble, between_synced, no_history, unread, works_runs}
@@ -270,6 +271,7 @@ module _ (state : SessionState) (syncs : List Sync) (instruction : Instruction) 
   answers_stored =
       assemble state syncs instruction before old goes_on fits after mark false reply new None (Some (UndoFile undo)) (no_read instruction.parsed is) (λ unstored. absurd (never unstored))
       (once_stops names state instruction ended tells old new told (ap (λ (w : Bool). ((w && false) && not lacks) && took_effect outcome) (no_write instruction.parsed is)) stops)
+      (whole_unbegun names state instruction ended old new (ap (λ (w : Bool). (w && false) && not lacks) (no_write instruction.parsed is)))
       (λ done. cleared_stored names fits.stands.text.fit.named old.folder new.folder runs.now.spares (stored done).3) (ap (λ (c : Bool). cond c (Some (sync_in state false)) None) none_begun) work replied_as now
       (record {
         found = refl;

@@ -1,9 +1,9 @@
 -- The answer to `w`, after the sync that it begins was acknowledged: the moments of the sync and of the write one after the other, and
 -- what is left.
-use Rattle.std.proofs.Common.{◌≡◌, ◌⊎◌, inl, inr, ℕ, ◌≤◌, Bool, true, false, cond, ◌&&◌, not, length, List, [], ◌∷◌, Option, Some, None, Result, Ok, Err, IfOk, OnErr, is_ok, refl, sym, ◌∙◌, ap, subst}
+use Rattle.std.proofs.Common.{◌≡◌, ◌⊎◌, inl, inr, ℕ, ◌≤◌, Bool, true, false, cond, ◌&&◌, not, length, List, [], ◌∷◌, Option, Some, None, Result, Ok, Err, IfOk, OnErr, is_ok, IsErr, refl, sym, ◌∙◌, ap, subst}
 use Rattle.std.proofs.lemmas.Bool.{true≢false, cases_Bool}
 use Rattle.vs_faults.specs.Faults.{HasCause, HasRisen}
-use Rattle.vs_host.specs.Disk.{Disk}
+use Rattle.vs_host.specs.Disk.{Disk, Name, content_in}
 use Rattle.vs_host.specs.Names.{AreNames}
 use Rattle.vs_host.specs.Trace.{Snapshot, GoesOn}
 use Rattle.vs_host.specs.World.{Scene, ChangesFolder}
@@ -20,7 +20,7 @@ use Rattle.vs_excmd.specs.Request.{Instruction}
 use Rattle.vs_backup.specs.declared.options.WriteOptions.{WriteOptions}
 use Rattle.vs_backup.specs.declared.errors.WriteErr.{WriteErr}
 use Rattle.vs_backup.specs.declared.errors.WriteErr.TheVariants as error
-use Rattle.vs_backup.specs.Backups.{IsNoName, WorksOn, is_backed}
+use Rattle.vs_backup.specs.Backups.{IsNoName, WorksOn, backup_of, is_backed}
 use Rattle.vs_backup.specs.Works.{SparesOthers}
 use Rattle.vs_backup.specs.declared.errors.Place.TheVariants.{Backup}
 use Rattle.vs_backup.specs.Writing.{FailsNoEarlier, IsFailed, OldIn, PutsBack}
@@ -46,10 +46,12 @@ use Rattle.vs_session.specs.Session.{SessionState, Ended, accepts_quit, after_sy
 use Rattle.vs_session.specs.Writes.{HasSynced, Wrote}
 use Rattle.vs_session.specs.Fits.{Answers, Fits, LeavesNoneMade, names_of}
 use Rattle.vs_session.specs.Failures.{FailsOnce, StopsWriting}
+use Rattle.vs_session.specs.Wholeness.{BecomesWhole, StaysUntouched, StaysWhole}
 use Rattle.vs_session.proofs.Cleared.{cleared_same, cleared_synced, cleared_then, cleared_written}
 use Rattle.vs_session.proofs.Failing.{above_quiet, once_after, once_refused, once_unwritten}
 use Rattle.vs_session.proofs.Steps.{assemble, between_synced, flag_true, looked_synced, no_history, risen_since, unread, works_runs}
 use Rattle.vs_session.proofs.FileWrites.{undo_same}
+use Rattle.vs_session.proofs.Wholeness.{becomes, whole_unbegun}
 use Rattle.vs_session.proofs.UndoNames.{undo_unworked}
 use Rattle.vs_session.proofs.WriteCommand.{begins_is, carried_on, never_quits, no_read, no_undo, reply_is}
 use Rattle.vs_session.proofs.WriteMoments.{IsAlone, IsIdle, alone_by, facts, has_written, keeps_moments, keeps_now, keeps_synced, lacks_looks, named_lacks, whole_moments, whole_synced}
@@ -177,6 +179,9 @@ module _ (state : SessionState) (syncs : List Sync) (instruction : Instruction) 
   abbrev pub AtMoment : Disk → Disk → Type 0
   AtMoment a d = Moment names write under old.folder d
 
+  sync_apart : GoesOn (λ m. SameAt (is_apart names) old.folder m.folder) old.trace mid.trace
+  sync_apart = goes_weaker (Inside old (folder.Syncing before.text old.folder)) (λ m. SameAt (is_apart names) old.folder m.folder) (λ m inside. inside.folder.spared text syncs s.fits.stands.text) old.trace mid.trace s.runs.moments
+
   sync_runs : Runs AtMoment old mid
   sync_runs = runs_as (folder.Syncing before.text) AtMoment old mid in_sync s.runs
 
@@ -240,6 +245,13 @@ module _ (state : SessionState) (syncs : List Sync) (instruction : Instruction) 
     pub has_left : (failed : Bool) → (failed ≡ true → OldIn Backup result → IsFailed result) → HasWritten names write (is_ok result) failed (state_now old) (state_now new)
     has_left failed fails = has_written names are options text old.folder mid new same result did.file old.folder_faults later failed (back_of result did.calls) fails
 
+    became : (was : List ℕ) (backup : Name) → content_in old.folder names.file ≡ Some was → backup_of options names.file old.folder ≡ Some backup
+        → BecomesWhole names.file backup was (file_of text) old new ⊎ (IsErr result × StaysUntouched names.file backup old new)
+    became was backup there made = becomes names are options (file_of text) old mid new same sync_apart was backup there made result did.file
+
+    pub stays_whole : (outcome : Outcome) (at : ℕ) → (IsErr result → took_effect outcome ≡ false) → StaysWhole names state instruction (ended outcome at) old new
+    stays_whole outcome at none is_begun was backup there made = elim (became was backup there made) [ inl whole ↦ inl whole | inr refused ↦ inr (none refused.0, refused.1) ]
+
     pub cleared_by : (size : ℕ) → result ≡ Ok size → LeavesNoneMade old.folder new.folder
     cleared_by size ok = cleared_then old.folder mid.folder new.folder (cleared_synced names are old.folder mid.folder same)
         (cleared_written names are options (file_of text) size mid new (subst (λ (r : Result ℕ WriteErr). WritesFile options names (file_of text) mid new r) ok did.file) did.others)
@@ -283,13 +295,13 @@ module _ (state : SessionState) (syncs : List Sync) (instruction : Instruction) 
 
   -- where the file may be written
   module _ (free : lacks ≡ false) (b : Bool) (flag : state.options.undofile ≡ b) where
-    pub answers_free : (after : Session) (outcome : Outcome) (at : ℕ) (reply : Answer) (new : Scene) → names_of after ≡ names → (outcome ≡ NoUndo → b ≡ true) → FailsOnce names state instruction (ended outcome at) old new → (outcome ≡ Done → LeavesNoneMade old.folder new.folder) → reply ≡ reply_of state instruction (ended outcome at)
+    pub answers_free : (after : Session) (outcome : Outcome) (at : ℕ) (reply : Answer) (new : Scene) → names_of after ≡ names → (outcome ≡ NoUndo → b ≡ true) → FailsOnce names state instruction (ended outcome at) old new → StaysWhole names state instruction (ended outcome at) old new → (outcome ≡ Done → LeavesNoneMade old.folder new.folder) → reply ≡ reply_of state instruction (ended outcome at)
         → Fits after new.folder (state_after state instruction (ended outcome at)) all → Works names (Some (work_by b)) (IsUnderWay names under (Some (work_by b))) old new
         → HasLeft names (work_by b) (took_effect outcome) (is_fault outcome) (state_now old) (state_now new) → IsWholeAt names (work_by b) new.folder → Rises names old.folder new.folder
         → (is_fault outcome ≡ true → HasRisen old.folder_faults new.folder_faults) → Answers state syncs instruction before after (mark outcome at) reply old new
-    answers_free after outcome at reply new names_after both calls cleared replied now works wrote whole rises cause =
+    answers_free after outcome at reply new names_after both calls whole_on cleared replied now works wrote whole rises cause =
         assemble state syncs instruction before old goes_on s.fits after (mark outcome at) true reply new (Some (sync_in state true)) (Some (work_by b)) (no_read instruction.parsed is)
-        (λ none. (λ i. ((is i && true) && not (free i)) && (flag ∙ both none) i)) calls cleared sync_is
+        (λ none. (λ i. ((is i && true) && not (free i)) && (flag ∙ both none) i)) calls whole_on cleared sync_is
         ((λ i. cond ((is i && true) && not (free i)) (Some (write_work state old.folder)) (undo_work state old.folder instruction.parsed)) ∙ (λ i. Some (work_by (flag i)))) replied now
         (record {
           found = refl;
@@ -354,6 +366,7 @@ module _ (state : SessionState) (syncs : List Sync) (instruction : Instruction) 
         assemble state syncs instruction before old goes_on s.fits after (mark outcome at) true reply new (Some (sync_in state true)) None (no_read instruction.parsed is) (λ none. absurd (stored none))
         (once_after names state instruction (ended outcome at) old mid new s.quiet (once_unwritten names state instruction (ended outcome at) mid new unwritten idle.last
         (λ here. elim (calm here) [ inl quiet ↦ quiet | inr none ↦ idle.none none ])))
+        (whole_unbegun names state instruction (ended outcome at) old new (λ i. (is i && true) && not (taken i)))
         (λ _. cleared_then old.folder mid.folder new.folder (cleared_synced names are old.folder mid.folder same) (cleared_same mid.folder new.folder idle.looks.now)) sync_is
         ((λ i. cond ((is i && true) && not (taken i)) (Some (write_work state old.folder)) (undo_work state old.folder instruction.parsed)) ∙ no_undo state old.folder instruction.parsed is) replied now
         (looked_synced before after state syncs (state_after state instruction (ended outcome at)) (took_effect outcome) (is_fault outcome) (reply_of state instruction (ended outcome at)).bytes old mid new s.fits between s.names names_after
@@ -367,7 +380,7 @@ module _ (state : SessionState) (syncs : List Sync) (instruction : Instruction) 
         let runs = written_runs after (Err why) new second wrote in
         answers_free free b refl after outcome at reply new names_after (λ unstored. absurd (stored unstored))
         (once_after names state instruction (ended outcome at) old mid new s.quiet (once_free free outcome calm none))
-        (λ done. absurd (true≢false (sym (ap took_effect done) ∙ none))) replied
+        (stays_whole after (Err why) new second wrote outcome at (λ _. none)) (λ done. absurd (true≢false (sym (ap took_effect done) ∙ none))) replied
         (stays after new.folder outcome at unwritten wrote.fits)
         (works_runs names (Some (work_by b)) (IsUnderWay names under (Some (work_by b))) AtMoment old new (written_frame after (Err why) new second wrote) (lead b) runs)
         (left_by b (took_effect outcome) (is_fault outcome) new
@@ -436,7 +449,7 @@ module _ (state : SessionState) (syncs : List Sync) (instruction : Instruction) 
           refused = λ unwritten. absurd (true≢false (sym (written free) ∙ unwritten));
           last = λ unwritten. absurd (true≢false (sym (written free) ∙ unwritten));
           none = λ unwritten. absurd (true≢false (sym (written free) ∙ unwritten));
-        })) (λ _. cleared_by after (Ok size) new second wrote size refl)
+        })) (stays_whole after (Ok size) new second wrote Done at (λ failed. absurd (true≢false (sym failed)))) (λ _. cleared_by after (Ok size) new second wrote size refl)
         (reply_to ∙ line_is free Done size (bytes_left after (Ok size) new second wrote).0 ∙ replied_done at)
         (fits_by after new.folder Done at true (written free) wrote.fits)
         (works_runs names (Some (EditedFile write)) (IsUnderWay names under (Some (EditedFile write))) AtMoment old new (written_frame after (Ok size) new second wrote) (lead false) runs)

@@ -21,6 +21,7 @@ use Rattle.vs_session.specs.declared.session.Step.{Step}
 use Rattle.vs_session.specs.declared.session.Step.TheVariants as step
 use Rattle.vs_session.specs.Session.{SessionState, Ended, HasFound, accepts_quit, reply_of, state_after, syncs_after, is_fault, turn_of}
 use Rattle.vs_session.specs.Failures.{FailsOnce}
+use Rattle.vs_session.specs.Wholeness.{StaysWhole}
 use Rattle.vs_session.specs.Standing.{FitsState}
 use Rattle.vs_session.specs.Summary.{acknowledged_in}
 use Rattle.vs_session.specs.Opened.{Opened, text_in}
@@ -100,6 +101,7 @@ pub record Answers (state : SessionState) (syncs : List Sync) (instruction : Ins
   pub fits : Fits after new.folder (state_after state instruction ended) (syncs_after state instruction ended syncs)
   pub stepped : Stepped (names_of before) syncs (turn_of state instruction ended) old new
   pub calls : FailsOnce (names_of before) state instruction ended old new
+  pub whole : StaysWhole (names_of before) state instruction ended old new
   pub cleared : mark.outcome ≡ Done → LeavesNoneMade old.folder new.folder
 
 -- a command was answered, or an accepted `q` or `q!` changed nothing

@@ -8,5 +8,6 @@ pub mod Fits
 pub mod Writes
 pub mod Stores
 pub mod Failures
+pub mod Wholeness
 pub mod Calls
 pub mod Lent

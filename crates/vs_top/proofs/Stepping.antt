@@ -35,6 +35,7 @@ use Rattle.vs_session.specs.declared.ending.End.TheVariants as end
 use Rattle.vs_session.specs.Session.{SessionState, is_fault, accepts_quit, state_after, syncs_after, turn_of}
 use Rattle.vs_session.specs.Opened.{Opened}
 use Rattle.vs_session.specs.Failures.{FailsOnce}
+use Rattle.vs_session.specs.Wholeness.{StaysWhole}
 use Rattle.vs_session.specs.Fits.{Answers, Fits, StepsIn, names_of}
 use Rattle.vs_top.specs.History.{CommandRun, Past, any_error, commands_then, history_of, marks_of, state_of, written}
 use Rattle.vs_top.specs.Promise.{HasRun, RunsEdit}
@@ -105,6 +106,7 @@ module _ {T : Type 0} {x : T} (tells : Tells) (name : List ℕ) (old now read st
     calls_stepped : StepCalls names state last read stepped
     calls_stepped = record {
       fails = subst (λ (n : Names). FailsOnce n state taken.first answers.ended read stepped) keeps answers.calls;
+      whole = subst (λ (n : Names). StaysWhole n state taken.first answers.ended read stepped) keeps answers.whole;
       cleared = λ clear. answers.cleared (ap (λ (m : Mark). m.outcome) (sym answers.mark_is) ∙ done_is answers.ended.mark.outcome clear);
     }
 

@@ -28,6 +28,7 @@ use Rattle.vs_safety.proofs.Histories.{then_is}
 use Rattle.vs_session.specs.declared.session.Session.{Session}
 use Rattle.vs_session.specs.Session.{SessionState, Ended, is_write, lacks_name, turn_of, undo_work, write_work, writes_files}
 use Rattle.vs_session.specs.Failures.{FailsOnce}
+use Rattle.vs_session.specs.Wholeness.{StaysWhole}
 use Rattle.vs_session.specs.Fits.{Answers, LeavesNoneMade}
 use Rattle.vs_top.specs.Calls.{StepCalls, is_clear}
 use Rattle.vs_top.specs.History.{Past, any_error, commands_then, marks_of}
@@ -205,7 +206,11 @@ module _ (OfHost : Scene → Type 0) (tells : Tells) (old now new : Scene) (sess
               trace = here.added;
             };
             ends = record { of_host = of_host; later = []; earlier = moments; moments_are = refl; later_are = tt; earlier_are = all_up_to; trace = added };
-            holds = record { fails = subst (λ (n : Names). FailsOnce n state instruction answers.ended now new) turn.keeps.names answers.calls; cleared = clear_here };
+            holds = record {
+              fails = subst (λ (n : Names). FailsOnce n state instruction answers.ended now new) turn.keeps.names answers.calls;
+              whole = subst (λ (n : Names). StaysWhole n state instruction answers.ended now new) turn.keeps.names answers.whole;
+              cleared = clear_here;
+            };
           }),
       called_on OfHost old here.moments newer past (λ n most. behind_before n (omega (arith, most, as_many old past))) here.calls,
     )

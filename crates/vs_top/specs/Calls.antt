@@ -1,4 +1,5 @@
--- Which calls of a run failed, and that no file stays under a name under which one was made before it took its own.
+-- Which calls of a run failed, from when on a file that it writes or its backup is whole, and that no file stays under a name under which
+-- one was made before it took its own.
 use Rattle.std.specs.Prelude.{◌≡◌, ◌≢◌, ◌≤◌, ◌+◌, ◌⊎◌, ℕ, Bool, true, List, [], ◌∷◌, ◌++◌, ⊤, length}
 use Rattle.vs_host.specs.Names.{names_of_file}
 use Rattle.vs_host.specs.Trace.{Snapshot, Each}
@@ -11,6 +12,7 @@ use Rattle.vs_safety.specs.Writes.{state_in, state_now}
 use Rattle.vs_session.specs.Session.{SessionState}
 use Rattle.vs_session.specs.Opened.{Opened}
 use Rattle.vs_session.specs.Failures.{FailsOnce}
+use Rattle.vs_session.specs.Wholeness.{StaysWhole}
 use Rattle.vs_machine.specs.Machine.{is_done}
 use Rattle.vs_session.specs.Fits.{LeavesNoneMade}
 use Rattle.vs_top.specs.History.{CommandRun, Past, state_of, written}
@@ -74,9 +76,11 @@ pub record HasOpening (n : ℕ) (start now : Scene) : Type 0 where
 abbrev pub is_clear : CommandRun → Bool
 is_clear command = is_done command.ended.mark.outcome
 
--- The calls of a command: which of them failed, and whether it leaves no file under a name under which it made one.
+-- The calls of a command: which of them failed, from when on the file that it writes or its backup is whole, and whether it leaves no file
+-- under a name under which it made one.
 pub record StepCalls (names : Names) (state : SessionState) (command : CommandRun) (old new : Scene) : Type 0 where
   pub fails : FailsOnce names state command.instruction command.ended old new
+  pub whole : StaysWhole names state command.instruction command.ended old new
   pub cleared : is_clear command ≡ true → LeavesNoneMade old.folder new.folder
 
 -- how long the output is where the replies to these commands are whole in it

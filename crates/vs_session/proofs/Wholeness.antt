@@ -1,0 +1,101 @@
+-- From when on the file or its backup is whole: the sync of the command leaves both untouched, and the write makes them so.
+use Rattle.std.proofs.Common.{◌≡◌, ◌⊎◌, inl, inr, ℕ, false, List, Some, Result, IsErr, refl, sym, ◌∙◌, subst}
+use Rattle.std.proofs.lemmas.Bool.{true≢false}
+use Rattle.vs_host.specs.Disk.{Disk, Name, content_in}
+use Rattle.vs_host.specs.Names.{AreNames, temporary}
+use Rattle.vs_host.specs.Trace.{Snapshot, GoesOn}
+use Rattle.vs_host.specs.World.{Scene}
+use Rattle.vs_host.specs.declared.names.Names.{Names}
+use Rattle.vs_disk.specs.Names.{SameAt}
+use Rattle.vs_disk.specs.Runs.{Inside, Runs}
+use Rattle.vs_disk.proofs.Runs.{goes_then, goes_weaker}
+use Rattle.vs_pair.specs.Pair.{is_apart}
+use Rattle.vs_backup.specs.declared.options.WriteOptions.{WriteOptions}
+use Rattle.vs_backup.specs.declared.errors.WriteErr.{WriteErr}
+use Rattle.vs_backup.specs.Backups.{IsBackupName, backup_of, copies}
+use Rattle.vs_backup.specs.Works.{Narrowed}
+use Rattle.vs_backup.specs.Writing.{BeginsWhole, IsUnseen, IsWhole, WritesWith}
+use Rattle.vs_backup.proofs.Backed.{looks_narrowed, whole_kept}
+use Rattle.vs_backup.proofs.Kept.{kept_by_name, settled_holds}
+use Rattle.vs_excmd.specs.Request.{Instruction}
+use Rattle.vs_safety.specs.Writes.{IsUntouched}
+use Rattle.vs_desk.specs.Writes.{WritesFile}
+use Rattle.vs_session.specs.Session.{SessionState, Ended, begins_write}
+use Rattle.vs_session.specs.Wholeness.{BecomesWhole, StaysUntouched, StaysWhole}
+use Rattle.vs_session.proofs.FileWrites.{backup_named, backup_same, file_same, narrowed_untouched, untouched_old, untouched_then}
+
+-- a command that does not begin to write the file
+pub whole_unbegun : (names : Names) (state : SessionState) (instruction : Instruction) (ended : Ended) (old new : Scene) → begins_write state instruction ended ≡ false → StaysWhole names state instruction ended old new
+whole_unbegun names state instruction ended old new none begins = absurd (true≢false (sym begins ∙ none))
+
+-- the clock before it
+pub whole_clock : (names : Names) (state : SessionState) (instruction : Instruction) (ended : Ended) (old : Scene) (answers : List ℕ) (new : Scene) → StaysWhole names state instruction ended (record old { answers = answers }) new
+    → StaysWhole names state instruction ended old new
+whole_clock names state instruction ended old answers new stays begins was backup there made = elim (stays begins was backup there made) [
+  | inl becomes ↦ inl (record {
+    begun = becomes.begun;
+    synced = becomes.synced;
+    untouched = becomes.untouched;
+    at_once = becomes.at_once;
+    later = becomes.later;
+    now = becomes.now;
+  })
+  | inr refused ↦ inr (refused.0, record { moments = refused.1.moments; now = refused.1.now })
+]
+
+-- calls after it that leave both whole
+pub whole_then : (name backup : Name) (was bytes : List ℕ) (old mid new : Scene) → BecomesWhole name backup was bytes old mid → GoesOn (λ m. IsWhole name backup was bytes m.folder) mid.trace new.trace → IsWhole name backup was bytes new.folder
+    → BecomesWhole name backup was bytes old new
+whole_then name backup was bytes old mid new becomes later now = record {
+  begun = becomes.begun;
+  synced = becomes.synced;
+  untouched = becomes.untouched;
+  at_once = becomes.at_once;
+  later = goes_then (λ m. IsWhole name backup was bytes m.folder) becomes.begun.trace mid.trace new.trace becomes.later later;
+  now = now;
+}
+
+-- ---- a write, after the sync of its command
+module _ (names : Names) (are : AreNames names) (options : WriteOptions) (bytes : List ℕ) (old mid new : Scene) (same : SameAt (is_apart names) old.folder mid.folder)
+    (synced : GoesOn (λ m. SameAt (is_apart names) old.folder m.folder) old.trace mid.trace) (was : List ℕ) (backup : Name) (there : content_in old.folder names.file ≡ Some was) (made : backup_of options names.file old.folder ≡ Some backup) where
+  abbrev Untouched : Snapshot → Type 0
+  Untouched m = IsUntouched names.file backup old.folder m.folder
+
+  abbrev Whole : Snapshot → Type 0
+  Whole m = IsWhole names.file backup was bytes m.folder
+
+  named : IsBackupName names.file backup
+  named = backup_named names are options old.folder backup made
+
+  narrowed_on : (d : Disk) → Narrowed mid.folder d → IsUntouched names.file backup old.folder d
+  narrowed_on d narrowed = untouched_then names.file backup old.folder mid.folder d (untouched_old names are old.folder mid.folder same backup named) (narrowed_untouched names.file backup mid.folder d narrowed)
+
+  -- up to a moment of the write
+  narrowed_to : (to : Scene) → Runs Narrowed mid to → GoesOn Untouched old.trace to.trace
+  narrowed_to to runs = goes_then Untouched old.trace mid.trace to.trace
+      (goes_weaker (λ m. SameAt (is_apart names) old.folder m.folder) Untouched (λ m apart. untouched_old names are old.folder m.folder apart backup named) old.trace mid.trace synced)
+      (goes_weaker (Inside mid (Narrowed mid.folder)) Untouched (λ m inside. narrowed_on m.folder inside.folder) mid.trace to.trace runs.moments)
+
+  module _ (result : Result ℕ WriteErr) where
+    abbrev Becomes : Type 0
+    Becomes = BecomesWhole names.file backup was bytes old new ⊎ (IsErr result × StaysUntouched names.file backup old new)
+
+    begins : BeginsWhole (copies options.copy) options.backup names.file (temporary backup) backup was bytes mid new result → BecomesWhole names.file backup was bytes old new
+    begins write = record {
+      begun = write.begun;
+      synced = write.order;
+      untouched = narrowed_to write.begun write.looked;
+      at_once = whole_kept names.file backup was bytes write.begun.folder (kept_by_name names.file backup was write.begun.folder (settled_holds names.file was write.begun.folder write.settled));
+      later = goes_weaker (Inside write.begun (IsWhole names.file backup was bytes)) Whole (λ m inside. inside.folder) write.begun.trace new.trace write.whole.moments;
+      now = write.whole.now;
+    }
+
+    refused : IsErr result → Runs Narrowed mid new → Becomes
+    refused failed runs = inr (failed, record { moments = narrowed_to new runs; now = narrowed_on new.folder runs.now })
+
+    written : IsUnseen mid new result ⊎ WritesWith options names.file backup was bytes mid new result → Becomes
+    written (inl unseen) = refused (subst (λ (r : Result ℕ WriteErr). IsErr r) (sym unseen.failed) refl) (looks_narrowed mid new unseen.looks)
+    written (inr writes) = elim writes.moments [ inl write ↦ inl (begins write) | inr none ↦ refused none.1 none.0 ]
+
+    pub becomes : WritesFile options names bytes mid new result → Becomes
+    becomes file = written (file.backed was (file_same names are old.folder mid.folder same ∙ there) backup (backup_same names are old.folder mid.folder same options ∙ made))
