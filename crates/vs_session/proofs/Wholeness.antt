@@ -34,6 +34,7 @@ pub whole_clock : (names : Names) (state : SessionState) (instruction : Instruct
 whole_clock names state instruction ended old answers new stays begins was backup there made = elim (stays begins was backup there made) [
   | inl becomes ↦ inl (record {
     begun = becomes.begun;
+    moment = becomes.moment;
     synced = becomes.synced;
     untouched = becomes.untouched;
     at_once = becomes.at_once;
@@ -48,6 +49,7 @@ pub whole_then : (name backup : Name) (was bytes : List ℕ) (old mid new : Scen
     → BecomesWhole name backup was bytes old new
 whole_then name backup was bytes old mid new becomes later now = record {
   begun = becomes.begun;
+  moment = becomes.moment;
   synced = becomes.synced;
   untouched = becomes.untouched;
   at_once = becomes.at_once;
@@ -83,6 +85,7 @@ module _ (names : Names) (are : AreNames names) (options : WriteOptions) (bytes 
     begins : BeginsWhole (copies options.copy) options.backup names.file (temporary backup) backup was bytes mid new result → BecomesWhole names.file backup was bytes old new
     begins write = record {
       begun = write.begun;
+      moment = write.moment;
       synced = write.order;
       untouched = narrowed_to write.begun write.looked;
       at_once = whole_kept names.file backup was bytes write.begun.folder (kept_by_name names.file backup was write.begun.folder (settled_holds names.file was write.begun.folder write.settled));

@@ -2,7 +2,7 @@
 use Rattle.std.specs.Prelude.{◌≡◌, ◌⊎◌, ℕ, true, false, List, Some}
 use Rattle.vs_host.specs.Disk.{Name}
 use Rattle.vs_host.specs.Trace.{GoesOn}
-use Rattle.vs_host.specs.World.{Scene}
+use Rattle.vs_host.specs.World.{HasNewest, Scene}
 use Rattle.vs_host.specs.declared.names.Names.{Names}
 use Rattle.vs_backup.specs.Works.{HasSynced}
 use Rattle.vs_backup.specs.Writing.{IsWhole}
@@ -20,6 +20,7 @@ pub record StaysUntouched (name backup : Name) (old new : Scene) : Type 0 where
 -- each moment and now, in each image one of them has the old or the new bytes whole.
 pub record BecomesWhole (name backup : Name) (was bytes : List ℕ) (old new : Scene) : Type 0 where
   pub begun : Scene
+  pub moment : HasNewest begun
   pub synced : HasSynced name begun
   pub untouched : GoesOn (λ m. IsUntouched name backup old.folder m.folder) old.trace begun.trace
   pub at_once : IsWhole name backup was bytes begun.folder
