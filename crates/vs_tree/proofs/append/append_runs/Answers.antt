@@ -1,3 +1,4 @@
+-- The lines that are put so far are the first ones, and those of the next runs come after them.
 use Rattle.std.proofs.Common.{◌≡◌, ℕ, List, [], ◌++◌, length, map, refl, sym, ap, subst, ◌∙◌, arith, append-nil, length-append}
 use Rattle.std.proofs.lemmas.List.{length-map}
 use Rattle.vs_text.specs.Text.{lines_of, stored_line}

@@ -1,3 +1,4 @@
+-- The lines of the runs that were gone over are those of the first runs.
 use Rattle.std.proofs.Common.{◌≡◌, ◌+◌, [], get_or, ◌∙◌, arith}
 use Rattle.std.proofs.lemmas.List.{get_or_default}
 use Rattle.vs_tree_blocks.proofs.BehindLemmas.{count_more, count_within}
