@@ -57,7 +57,7 @@ none_of : (o : Option (List ℕ)) → (IsSome o → ⊥) → o ≡ None
 none_of None free = refl
 none_of (Some c) free = absurd (free refl)
 
-none_there : (names : Names) (disk : Disk) → IsSettled names disk → (HasSwap names disk → ⊥) → (image : Image) → IsImage disk image → NoneThere names image
+pub none_there : (names : Names) (disk : Disk) → IsSettled names disk → (HasSwap names disk → ⊥) → (image : Image) → IsImage disk image → NoneThere names image
 none_there names disk all free = fresh_image names disk (record {
   no_swp = all.swp (none_of (content_in disk names.swp) (λ is. free (inl is)));
   no_swo = all.swo (none_of (content_in disk names.swo) (λ is. free (inr is)));

@@ -19,3 +19,21 @@ pub mod StressOpening
 pub mod StressForms
 pub mod StressCommands
 mod Does
+pub mod PairKeeps
+pub mod PairStages
+pub mod PairAnswers
+pub mod PairCarried
+pub mod PairSteps
+pub mod PairReads
+pub mod PairOpening
+pub mod PairGreets
+pub mod PairForms
+pub mod PairCalls
+pub mod PairTakes
+pub mod PairRoom
+pub mod PairNext
+pub mod PairLines
+pub mod PairOutput
+pub mod PairEnds
+pub mod PairRuns
+pub mod PairCourse

@@ -30,7 +30,7 @@ use Rattle.vs_top.proofs.Counting.{only_output, all_counted}
 use Rattle.vs_top.proofs.Reading.{fresh_reader, read_start}
 use Rattle.vs_top.proofs.Turning.{IsTurn}
 
-ends_some : (line : List ℕ) → 0 < length (line ++ 10 ∷ [])
+pub ends_some : (line : List ℕ) → 0 < length (line ++ 10 ∷ [])
 ends_some line = let ending : List ℕ = 10 ∷ [] in omega (arith, length-append line ending)
 
 -- no opening reply is empty

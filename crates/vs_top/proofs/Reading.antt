@@ -55,7 +55,7 @@ read_before_limit fresh reader start now done n new limit going =
       ap whole_commands (front ∙ ap (λ (l : List ℕ). l ++ take more now.script) (sym first)) ∙ going.each (take more now.script),
     )
 
-not_ended : (reader : Ahead) (now : Scene) (ended : Bool) → reader.ended ≡ ended → HasSeen reader now → 0 < length now.script → reader.ended ≡ false
+pub not_ended : (reader : Ahead) (now : Scene) (ended : Bool) → reader.ended ≡ ended → HasSeen reader now → 0 < length now.script → reader.ended ≡ false
 not_ended reader now false is seen some = is
 not_ended reader now true is seen some = absurd (omega (arith, ap (λ (l : List ℕ). length l) (seen is), some))
 

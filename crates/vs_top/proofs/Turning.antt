@@ -66,7 +66,7 @@ newest_read old n [] older each is = is
 newest_read old n (m ∷ ms) older each is = each.0
 
 -- and where it failed, that was the last call
-rose_reading : (old now new : Scene) → ReadsOn now new → HasRisen now.script_faults new.script_faults → IsCounted script_count old now → RoseLast script_count old new
+pub rose_reading : (old now new : Scene) → ReadsOn now new → HasRisen now.script_faults new.script_faults → IsCounted script_count old now → RoseLast script_count old new
 rose_reading old now new reads rose counted = record {
   last = reads.last;
   earlier = reads.earlier ++ counted.moments;

@@ -37,7 +37,7 @@ status_of ending.ScriptTooLong = 13
 abbrev pub message_of : Ending → Option (List ℕ)
 message_of ending.Done = None
 message_of ending.WithErrors = None
-message_of ending.Usage = Some (codes "usage: edit NAME | recover NAME | discard NAME | info NAME | stress N")
+message_of ending.Usage = Some (codes "usage: edit NAME | recover NAME | discard NAME | info NAME | stress N | pair NAME NAME")
 message_of ending.SwapFound = Some (codes "swap file found")
 message_of ending.NoSwap = Some (codes "no swap file")
 message_of ending.ScriptFault = Some (codes "script fault")

@@ -15,6 +15,7 @@ use Rattle.vs_top.specs.declared.form.Mode.TheVariants as mode
 use Rattle.vs_top.specs.Ending.{ended_by, recovered_by}
 use Rattle.vs_top.specs.Promise.{RunsEdit}
 use Rattle.vs_top.specs.Promise.{RunsStress}
+use Rattle.vs_top.specs.PairPromise.{IsPair, RunsPair}
 use Rattle.vs_top.specs.Stress.{IsStress}
 
 -- the first argument of a form
@@ -34,7 +35,7 @@ NamesFile words = (mode : Mode) × (name : List ℕ) × IsForm words mode name
 
 -- The arguments are one of the forms that are built.
 abbrev pub IsBuilt : List (List ℕ) → Type 0
-IsBuilt words = NamesFile words ⊎ ((count : ℕ) × IsStress words count)
+IsBuilt words = NamesFile words ⊎ ((count : ℕ) × IsStress words count) ⊎ ((one : Name) × (two : Name) × IsPair words one two)
 
 -- A mode other than `edit` ended so. It has no marks.
 abbrev pub EndsBy : {T : Type 0} → (Ended T → Ending) → (Ended T → Type 0) → Ending → List Mark → Type 0
@@ -54,9 +55,11 @@ pub record DoesNothing (words : List (List ℕ)) (old new : Scene) (end : Ending
   pub idle : new ≡ old
   pub none : marks ≡ []
 
--- What the arguments ask for was done: in their mode with the file of their name, or in the stress mode with their number.
+-- What the arguments ask for was done: in their mode with the file of their name, in the stress mode with their number, or with the files
+-- of their two names.
 abbrev pub Does : (Scene → Type 0) → Tells → List (List ℕ) → Scene → Scene → Ending → List Mark → Type 0
 Does OfHost tells words old new end marks =
     ((mode : Mode) × (name : List ℕ) × IsForm words mode name × Performs mode tells name old new end marks)
     ⊎ ((count : ℕ) × IsStress words count × RunsStress OfHost tells count old new end marks)
+    ⊎ ((one : Name) × (two : Name) × IsPair words one two × RunsPair tells one two old new end marks)
     ⊎ DoesNothing words old new end marks

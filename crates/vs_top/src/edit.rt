@@ -63,7 +63,7 @@ pub(crate) fn ending_of(clean: bool) -> Ending
 }
 
 // The last line of a script.
-fn last_line(how: End) -> Reply
+pub(crate) fn last_line(how: End) -> Reply
     ensures sync { how ≡ End.Sync → result.bytes ≡ preserved_line }
     ensures quit { how ≡ End.Quit → result.bytes ≡ quit_line }
 {

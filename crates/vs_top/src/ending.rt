@@ -73,7 +73,7 @@ impl Ending {
         match self {
             Ending::Done | Ending::WithErrors | Ending::Salvaged => None,
             Ending::Usage => Some(
-                "usage: edit NAME | recover NAME | discard NAME | info NAME | stress N",
+                "usage: edit NAME | recover NAME | discard NAME | info NAME | stress N | pair NAME NAME",
             ),
             Ending::SwapFound => Some("swap file found"),
             Ending::NoSwap => Some("no swap file"),

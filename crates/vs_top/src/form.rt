@@ -1,8 +1,10 @@
 // The forms of the arguments.
-ghost use Rattle.std.specs.Prelude.{◌≡◌, ◌≢◌, ℕ, IfSome, IsNone, map, string_bytes};
+ghost use Rattle.std.specs.Prelude.{◌≡◌, ◌≢◌, List, ℕ, IfSome, IsNone, map, string_bytes};
 ghost use Rattle.vs_top.specs.Forms.{IsForm, NamesFile, word_of};
+ghost use Rattle.vs_top.specs.PairPromise.{IsPair};
 ghost use Rattle.vs_top.specs.Stress.{IsStress};
 
+use vs_family::clash;
 use vs_host::allowed;
 use vs_stress::count_of;
 
@@ -63,4 +65,23 @@ pub fn stress_count(words: &[String]) -> Option<u64>
         return None;
     }
     count_of(number.as_str())
+}
+
+/// The names of the two files that the arguments ask to edit with one script.
+pub fn pair_names(words: &[String]) -> Option<(&str, &str)>
+    ensures some { IfSome result (λ names. IsPair (map string_bytes words.entry.now) names.0.now names.1.now) }
+    ensures none { IsNone result → (one two : List ℕ) → ¬ IsPair (map string_bytes words.entry.now) one two }
+{
+    let [word, one, two] = words else {
+        return None;
+    };
+    if word.as_str() != "pair" {
+        return None;
+    }
+    let one = one.as_str();
+    let two = two.as_str();
+    if !allowed(one) || !allowed(two) || clash(one, two) {
+        return None;
+    }
+    Some((one, two))
 }

@@ -1,13 +1,20 @@
 // Laws of a run that nothing hinders. They do nothing: their contracts are the laws.
-ghost use Rattle.std.specs.Prelude.{◌≡◌, ◌≢◌, ◌⊎◌, ℕ, List, All, IsTrue};
+ghost use Rattle.std.specs.Prelude.{◌≡◌, ◌≢◌, ◌⊎◌, ℕ, List, [], ◌++◌, All, IsTrue};
 ghost use Rattle.vs_host.specs.Names.{names_of_file};
 ghost use Rattle.vs_host.specs.World.{Scene, Tells};
+ghost use Rattle.vs_text.specs.Text.{lines_of};
 ghost use Rattle.vs_machine.specs.declared.command.Mark.{Mark};
+ghost use Rattle.vs_family.specs.declared.which.Which.{Which};
+ghost use Rattle.vs_tagged.specs.Tagged.{lines_under};
 ghost use Rattle.vs_modes.specs.Recover.{remains_in};
 ghost use Rattle.vs_top.specs.Due.{IsOnlyDue, IsSpared};
 ghost use Rattle.vs_top.specs.Forms.{Performs};
+ghost use Rattle.vs_top.specs.PairHistory.{Answers, BothFiles, own_lines, written_both};
+ghost use Rattle.vs_top.specs.PairPromise.{AllWhole, HasRunBoth, files_in};
+ghost use Rattle.vs_top.specs.PairScript.{answers_of};
 ghost use Rattle.vs_top.specs.Promise.{RunsEdit, RunsStress};
 ghost use Rattle.vs_top.specs.Stress.{IsSceneOf};
+ghost use Rattle.vs_top.specs.Tags.{prefix_of};
 ghost use Rattle.vs_top.specs.Unhindered.{IsStressUnhindered, IsThrough, IsThroughMark, IsUnhindered};
 ghost use Rattle.vs_top.specs.declared.ending.Ending.{Ending};
 ghost use Rattle.vs_top.specs.declared.ending.Ending.TheVariants as ending;
@@ -30,6 +37,17 @@ pub fn stress_through<H: Host>()
         → IsStressUnhindered H.tells old new → IsThrough end }
     ensures marks { (count : ℕ) (old new : Scene) (end : Ending) (marks : List Mark) → RunsStress (IsSceneOf H.scene) H.tells count old new end marks
         → IsStressUnhindered H.tells old new → All IsThroughMark marks }
+{}
+
+/// What a `pair` writes for a session is read back from its output under the prefix of that session, and nothing else: its opening reply,
+/// its answers, and the one to each of its lines after its quit.
+pub fn pair_output()
+    ensures answers { (session : Which) (files : BothFiles) (answers : Answers) (rest : List ℕ)
+        → lines_under (prefix_of session) (lines_of (written_both files answers ++ rest))
+        ≡ own_lines session files answers ++ lines_under (prefix_of session) (lines_of rest) }
+    ensures run { (session : Which) (one two : List ℕ) (old new : Scene) (end : Ending) (marks : List Mark) (ran : HasRunBoth one two old new end marks)
+        → old.output ≡ [] → ran.did.extent ≡ AllWhole
+        → lines_under (prefix_of session) (lines_of new.output) ≡ own_lines session (files_in old one two) (answers_of ran.did.transcript) }
 {}
 
 /// Another mode of which no call fails ends as it is to end, and in no other way, or has no memory.

@@ -6,12 +6,14 @@ ghost use Rattle.vs_modes.specs.Info.{RunsInfo};
 ghost use Rattle.vs_modes.specs.Discard.{RunsDiscard};
 ghost use Rattle.vs_top.specs.Ending.{status_of, ending_in, ended_by, recovered_by};
 ghost use Rattle.vs_top.specs.Forms.{Does, EndsBy, IsBuilt, IsForm, Performs};
+ghost use Rattle.vs_top.specs.PairPromise.{IsPair, RunsPair};
 ghost use Rattle.vs_top.specs.Promise.{RunsEdit, RunsStress};
 ghost use Rattle.vs_top.specs.Stress.{IsSceneOf, IsStress};
 
 use crate::edit::edit;
 use crate::ending::Ending;
-use crate::form::{Form, Mode, form_of, stress_count};
+use crate::form::{Form, Mode, form_of, pair_names, stress_count};
+use crate::pair::pair;
 use crate::stress::stress;
 use std::alloc::Global;
 use vs_host::Host;
@@ -89,6 +91,9 @@ fn perform_words<H: Host>(
     if let Some(count) = stress_count(words) {
         return ending_in(stress(alloc, count, host, marks));
     }
+    if let Some((one, two)) = pair_names(words) {
+        return ending_in(pair(alloc, one, two, host, marks));
+    }
     match form_of(words) {
         Some(form) => perform(alloc, form, host, marks),
         None => Ending::Usage,
@@ -96,8 +101,8 @@ fn perform_words<H: Host>(
 }
 
 /// Does what the arguments say: `edit NAME` runs the script of the host over the file of a name, `recover NAME`, `info NAME` and
-/// `discard NAME` go to its swap files, and `stress N` tries a session with N commands of its own. With other arguments it ends
-/// with `Usage`, takes no memory and makes no call. Where nothing hinders it, it comes to its end: that is a law of each mode
+/// `discard NAME` go to its swap files, `stress N` tries a session with N commands of its own, and `pair NAME NAME` runs one script over
+/// two files. With other arguments it ends with `Usage`, takes no memory and makes no call. Where nothing hinders it, it comes to its end: that is a law of each mode
 /// ([`edit_through`](crate::edit_through), [`stress_through`](crate::stress_through), [`mode_due`](crate::mode_due)).
 pub fn run<H: Host>(alloc: Global, words: &[String], host: &mut H) -> Report
     requires clock { IsTrue (H.tells).clock → length (H.scene host.old).answers < 2 ^ 62 }
@@ -115,6 +120,8 @@ pub fn run<H: Host>(alloc: Global, words: &[String], host: &mut H) -> Report
     ensures other { ¬ IsBuilt (map string_bytes words.now) → result.ending ≡ Ending.Usage }
     ensures stress { (count : ℕ) → IsStress (map string_bytes words.now) count →
         RunsStress (IsSceneOf H.scene) H.tells count (H.scene host.old) (H.scene host.new) result.ending result.marks.items }
+    ensures pair { (one two : List ℕ) → IsPair (map string_bytes words.now) one two →
+        RunsPair H.tells one two (H.scene host.old) (H.scene host.new) result.ending result.marks.items }
 {
     let mut marks = Vec::new(alloc);
     let ending = perform_words(alloc, words, host, &mut marks);

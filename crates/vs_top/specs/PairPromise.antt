@@ -1,0 +1,277 @@
+-- What a run of two sessions promises: what it answered, by its ending, and for each session what a run of it alone does, on the names of
+-- its family.
+use Rattle.std.specs.Prelude.{ℕ, Bool, true, false, List, ◌∷◌, [], ◌≡◌, ◌<◌, ◌≤◌, ◌+◌, ◌⊎◌, ◌++◌, ⊤, All, map, length, take, IsTrue, IsSomeAnd, codes}
+use Rattle.vs_host.specs.Disk.{Disk, Name}
+use Rattle.vs_host.specs.Names.{is_allowed, names_of_file}
+use Rattle.vs_host.specs.Trace.{GoesOn}
+use Rattle.vs_host.specs.World.{Tells, Scene, content_of}
+use Rattle.vs_disk.specs.Names.{SameAt}
+use Rattle.vs_disk.specs.Runs.{Looks}
+use Rattle.vs_family.specs.Family.{clash, is_of_family}
+use Rattle.vs_family.specs.declared.which.Which.{Which}
+use Rattle.vs_family.specs.declared.which.Which.TheVariants as which
+use Rattle.vs_text.specs.Text.{lines_of}
+use Rattle.vs_script.specs.Ahead.{script_limit, whole_lines}
+use Rattle.vs_machine.specs.declared.command.Mark.{Mark}
+use Rattle.vs_safety.specs.Causes.{RoseLast, folder_count, output_count, script_count}
+use Rattle.vs_safety.specs.History.{ran_of}
+use Rattle.vs_safety.specs.Safety.{IsCrashSafeAmong}
+use Rattle.vs_safety.specs.Turns.{Closing, NotBegun, quit_line}
+use Rattle.vs_both.specs.Beside.{HasQuit, Party, others_of}
+use Rattle.vs_both.specs.Both.{Stage, Running, Gone}
+use Rattle.vs_both.specs.Parties.{party_of}
+use Rattle.vs_session.specs.Fits.{HasSwap}
+use Rattle.vs_session.specs.Open.{PassesLimit}
+use Rattle.vs_top.specs.Run.{TellsRun, AnswersNone, FaultHasCause, FileFits, IsBarred, counts_of, opened_file}
+use Rattle.vs_top.specs.Promise.{row}
+use Rattle.vs_top.specs.PairHistory.{Answer, Answered, Left, AfterQuit, OfNone, Preserved, Answers, BothFiles, MayAnswer, WereSynced}
+use Rattle.vs_top.specs.PairHistory.{closing_under, file_for, has_error, marks_in, opening_for, reply_after, stage_before, stage_of, stage_opened}
+use Rattle.vs_top.specs.PairHistory.{stage_under, written_both}
+use Rattle.vs_top.specs.PairScript.{IsNewest, IsTranscript, OnlyLines, SessionEnd, Transcript, answers_of, lines_then}
+use Rattle.vs_top.specs.Tags.{tagged_for}
+use Rattle.vs_top.specs.declared.ending.Ending.{Ending}
+use Rattle.vs_top.specs.declared.ending.Ending.TheVariants as ending
+
+-- ---- what was written
+
+-- How far the output of a run came.
+pub data Extent : Type 0 where
+  -- the opening reply of the first session is not whole
+  BeforeOpening : Extent
+  -- that of the second is not
+  BetweenOpenings : Extent
+  -- all answers are whole
+  AllWhole : Extent
+  -- the last answer is not
+  LastCut : Extent
+  -- the last sync or the removal failed, so that its answer was not begun
+  LastFailed : Extent
+
+-- what a run took of the script, with its answers, and how far its output came
+pub record Both : Type 0 where
+  pub transcript : Transcript
+  pub extent : Extent
+
+-- the last line of a session was not to be written, since the last sync or the removal before it failed
+abbrev pub HasFailed : Answer → Type 0
+HasFailed (Answered whose run) = ⊥
+HasFailed (Left whose quit) = ⊤
+HasFailed (AfterQuit whose) = ⊥
+HasFailed OfNone = ⊥
+HasFailed (Preserved whose synced) = synced ≡ false
+
+-- the last answer was written in part
+abbrev pub WritesCut : BothFiles → Scene → Scene → Answers → Type 0
+WritesCut files old new [] = ⊥
+WritesCut files old new (last ∷ earlier) =
+    (count : ℕ) × (new.output ≡ old.output ++ (written_both files earlier ++ take count (reply_after files earlier last))) × WereSynced (last ∷ earlier)
+
+-- it was not written
+abbrev pub WritesFailed : BothFiles → Scene → Scene → Answers → Type 0
+WritesFailed files old new [] = ⊥
+WritesFailed files old new (last ∷ earlier) = (new.output ≡ old.output ++ written_both files earlier) × HasFailed last × WereSynced earlier
+
+-- what was written of these answers
+abbrev pub HasWritten : Extent → BothFiles → Scene → Scene → Answers → Type 0
+HasWritten BeforeOpening files old new answers =
+    (answers ≡ []) × ((count : ℕ) × (new.output ≡ old.output ++ take count (opening_for which.One files)))
+HasWritten BetweenOpenings files old new answers =
+    (answers ≡ []) × ((count : ℕ) × (new.output ≡ old.output ++ (opening_for which.One files ++ take count (opening_for which.Two files))))
+HasWritten AllWhole files old new answers = (new.output ≡ old.output ++ written_both files answers) × WereSynced answers
+HasWritten LastCut files old new answers = WritesCut files old new answers
+HasWritten LastFailed files old new answers = WritesFailed files old new answers
+
+-- ---- by the ending
+
+-- the script came to its end or both sessions have quit, all was answered, and both sessions have ended
+pub record CameToEndBoth (errors : Bool) (files : BothFiles) (did : Both) : Type 0 where
+  pub ended : IsNewest (SessionEnd which.Two) did.transcript
+  pub whole : did.extent ≡ AllWhole
+  pub errors_are : has_error files (answers_of did.transcript) ≡ errors
+
+-- the lines that are whole in these first bytes of the script were answered
+pub record AnswersWhole (taken : List ℕ) (did : Both) : Type 0 where
+  pub lines : lines_then did.transcript [] ≡ whole_lines taken
+  pub only : OnlyLines did.transcript
+  pub whole : did.extent ≡ AllWhole
+
+-- the files were not opened, or not both
+pub record OpensNone (old new : Scene) (marks : List Mark) (did : Both) : Type 0 where
+  pub none : AnswersNone old new marks
+  pub did_none : did ≡ record { transcript = []; extent = BeforeOpening }
+
+-- a reply is not whole
+abbrev pub IsCut : Extent → Type 0
+IsCut BeforeOpening = ⊤
+IsCut BetweenOpenings = ⊤
+IsCut AllWhole = ⊥
+IsCut LastCut = ⊤
+IsCut LastFailed = ⊥
+
+-- what a run of two sessions answered, by its ending
+abbrev pub EndsBoth : Ending → BothFiles → Scene → Scene → List Mark → Both → Type 0
+EndsBoth ending.Done files old new marks did = CameToEndBoth false files did
+EndsBoth ending.WithErrors files old new marks did = CameToEndBoth true files did
+EndsBoth ending.Usage files old new marks did = ⊥
+EndsBoth ending.SwapFound files old new marks did = OpensNone old new marks did
+EndsBoth ending.NoSwap files old new marks did = ⊥
+EndsBoth ending.ScriptFault files old new marks did = (taken : List ℕ) × (old.script ≡ taken ++ new.script) × AnswersWhole taken did
+EndsBoth ending.OutputFault files old new marks did = IsCut did.extent
+EndsBoth ending.FolderFault files old new marks did = OpensNone old new marks did ⊎ (did.extent ≡ LastFailed)
+EndsBoth ending.NoMemory files old new marks did = OpensNone old new marks did ⊎ (did.extent ≡ AllWhole)
+EndsBoth ending.Encrypted files old new marks did = ⊥
+EndsBoth ending.NotSwap files old new marks did = ⊥
+EndsBoth ending.Salvaged files old new marks did = ⊥
+EndsBoth (ending.TextLimit size) files old new marks did = OpensNone old new marks did
+EndsBoth ending.ScriptTooLong files old new marks did = (script_limit < length old.script) × AnswersWhole (take script_limit old.script) did
+
+-- the failed call was the last one, or the folder was only looked at
+abbrev pub FailedBoth : Ending → Scene → Scene → Type 0
+FailedBoth ending.Done old new = ⊤
+FailedBoth ending.WithErrors old new = ⊤
+FailedBoth ending.Usage old new = ⊥
+FailedBoth ending.SwapFound old new = Looks old new
+FailedBoth ending.NoSwap old new = ⊥
+FailedBoth ending.ScriptFault old new = RoseLast script_count old new
+FailedBoth ending.OutputFault old new = RoseLast output_count old new
+FailedBoth ending.FolderFault old new = RoseLast folder_count old new
+FailedBoth ending.NoMemory old new = ⊤
+FailedBoth ending.Encrypted old new = ⊥
+FailedBoth ending.NotSwap old new = ⊥
+FailedBoth ending.Salvaged old new = ⊥
+FailedBoth (ending.TextLimit size) old new = ⊤
+FailedBoth ending.ScriptTooLong old new = ⊤
+
+-- ---- each session
+
+-- a session as one of two: the names of its file and of its family, and its last line where it quits
+abbrev pub party_for : Which → BothFiles → Party
+party_for session files = party_of (file_for session files).name (tagged_for session quit_line)
+
+-- where a session stands at the end of the run
+abbrev pub stage_at : Which → BothFiles → Extent → Answers → Stage
+stage_at session files BeforeOpening answers = stage_before session files
+stage_at session files BetweenOpenings answers = stage_opened session files
+stage_at session files AllWhole answers = stage_of session files answers
+stage_at session files LastCut [] = stage_opened session files
+stage_at session files LastCut (last ∷ earlier) = stage_under session files earlier last
+stage_at session files LastFailed [] = stage_opened session files
+stage_at session files LastFailed (last ∷ earlier) = stage_under session files earlier last
+
+-- whether it had begun to quit
+abbrev pub closing_at : Which → Extent → Answers → Closing
+closing_at session BeforeOpening answers = NotBegun
+closing_at session BetweenOpenings answers = NotBegun
+closing_at session AllWhole answers = NotBegun
+closing_at session LastCut [] = NotBegun
+closing_at session LastCut (last ∷ earlier) = closing_under session last
+closing_at session LastFailed [] = NotBegun
+closing_at session LastFailed (last ∷ earlier) = closing_under session last
+
+-- What is promised of a session at this stage: that of a run of it alone, on the names of its family; and of one that has quit, that its
+-- promise was kept to its last line, that it left no swap file, and that the names of its family stay since then.
+abbrev pub KeepsPromise : Party → Scene → Stage → Closing → Scene → Type 0
+KeepsPromise party old (Running past) closing new = IsCrashSafeAmong (others_of party) party.names party.line old new (ran_of past closing)
+KeepsPromise party old (Gone past) closing new = HasQuit party old past new
+
+-- the promise of a session of this run
+abbrev pub IsSafeBeside : Which → BothFiles → Scene → Scene → Both → Type 0
+IsSafeBeside session files old new did =
+    KeepsPromise (party_for session files) old (stage_at session files did.extent (answers_of did.transcript))
+    (closing_at session did.extent (answers_of did.transcript)) new
+
+-- these names are of neither family
+abbrev pub AreOfNeither : List ℕ → List ℕ → (Name → Bool) → Type 0
+AreOfNeither one two inside = (name : Name) → inside name ≡ true → (is_of_family one name ≡ false) × (is_of_family two name ≡ false)
+
+-- names of neither family stay at each moment
+abbrev pub LeavesOthers : List ℕ → List ℕ → Scene → Scene → Type 0
+LeavesOthers one two old new =
+    (inside : Name → Bool) → AreOfNeither one two inside
+    → GoesOn (λ m. SameAt inside old.folder m.folder) old.trace new.trace × SameAt inside old.folder new.folder
+
+-- ---- times
+
+-- these times are those of the marks, in order, with others between them
+abbrev pub IsMixed : List ℕ → List ℕ → List ℕ → Type 0
+IsMixed [] others times = times ≡ others
+IsMixed (at ∷ marks) others times =
+    (before : List ℕ) × (more : List ℕ) × (rest : List ℕ) × (others ≡ before ++ more) × (times ≡ before ++ at ∷ rest) × IsMixed marks more rest
+
+-- The times of the marks are the clock's answers, in order, without those that accepted quits took, of which there are at most so many.
+pub record IsTimedBoth (most : ℕ) (old new : Scene) (marks : List Mark) : Type 0 where
+  pub quits : List ℕ
+  pub few : length quits ≤ most
+  pub times : List ℕ
+  pub is : new.answers ≡ old.answers ++ times
+  pub mixed : IsMixed (map (λ mark. mark.at) marks) quits times
+
+-- ---- a run
+
+-- the files that both sessions open
+abbrev pub files_in : Scene → List ℕ → List ℕ → BothFiles
+files_in scene one two = record { one = opened_file scene one; two = opened_file scene two }
+
+-- one of the four swap names is there
+abbrev pub EitherHasSwap : List ℕ → List ℕ → Disk → Type 0
+EitherHasSwap one two folder = HasSwap (names_of_file one) folder ⊎ HasSwap (names_of_file two) folder
+
+-- the texts of both files are within the limits
+abbrev pub BothFit : List ℕ → List ℕ → Scene → Type 0
+BothFit one two old = FileFits (content_of old one) × FileFits (content_of old two)
+
+-- what the files are, by the ending: one that is too large is that of the first session, or of the second where the first one's is not
+abbrev pub FilesAre : Ending → List ℕ → List ℕ → Scene → Type 0
+FilesAre ending.Done one two old = BothFit one two old
+FilesAre ending.WithErrors one two old = BothFit one two old
+FilesAre ending.Usage one two old = ⊥
+FilesAre ending.SwapFound one two old = ⊤
+FilesAre ending.NoSwap one two old = ⊥
+FilesAre ending.ScriptFault one two old = BothFit one two old
+FilesAre ending.OutputFault one two old = BothFit one two old
+FilesAre ending.FolderFault one two old = ⊤
+FilesAre ending.NoMemory one two old = ⊤
+FilesAre ending.Encrypted one two old = ⊥
+FilesAre ending.NotSwap one two old = ⊥
+FilesAre ending.Salvaged one two old = ⊥
+FilesAre (ending.TextLimit size) one two old =
+    IsSomeAnd (content_of old one) (λ bytes. PassesLimit (lines_of bytes) size)
+    ⊎ (FileFits (content_of old one) × IsSomeAnd (content_of old two) (λ bytes. PassesLimit (lines_of bytes) size))
+FilesAre ending.ScriptTooLong one two old = BothFit one two old
+
+-- What a run of two sessions did, over a host that tells. The promise of each is of files that had no swap files.
+pub record HasRunBoth (one two : List ℕ) (old new : Scene) (end : Ending) (marks : List Mark) : Type 0 where
+  pub did : Both
+  pub read : IsTranscript old.script did.transcript
+  pub may : MayAnswer (files_in old one two) (answers_of did.transcript)
+  pub kept : marks ≡ marks_in (answers_of did.transcript)
+  pub wrote : HasWritten did.extent (files_in old one two) old new (answers_of did.transcript)
+  pub ends : EndsBoth end (files_in old one two) old new marks did
+  pub first : ¬ EitherHasSwap one two old.folder → IsSafeBeside which.One (files_in old one two) old new did
+  pub second : ¬ EitherHasSwap one two old.folder → IsSafeBeside which.Two (files_in old one two) old new did
+  pub others : LeavesOthers one two old new
+  pub failed : FailedBoth end old new
+
+-- What holds of it over any host.
+pub record EndsPair (tells : Tells) (one two : List ℕ) (old new : Scene) (end : Ending) (marks : List Mark) : Type 0 where
+  pub swap : IsTrue tells.folder → end ≡ ending.SwapFound → EitherHasSwap one two old.folder
+  pub barred : IsTrue tells.folder → EitherHasSwap one two old.folder → IsBarred old new end marks
+  pub files : IsTrue tells.folder → FilesAre end one two old
+  pub taken : IsTrue tells.script → length old.script ≤ length new.script + (row end).taken
+  pub counts : (row end).counts (counts_of old) (counts_of new)
+  pub causes : All (FaultHasCause (counts_of old) (counts_of new)) marks
+  pub times : IsTrue tells.clock → IsTimedBoth 2 old new marks
+
+-- What `pair` does with the files of two names, by its ending.
+pub record RunsPair (tells : Tells) (one two : List ℕ) (old new : Scene) (end : Ending) (marks : List Mark) : Type 0 where
+  pub told : TellsRun tells → HasRunBoth one two old new end marks
+  pub ends : EndsPair tells one two old new end marks
+
+-- ---- the form
+
+-- the arguments are the word `pair` and two names that do not clash
+pub record IsPair (words : List (List ℕ)) (one two : List ℕ) : Type 0 where
+  pub words_are : words ≡ codes "pair" ∷ one ∷ two ∷ []
+  pub one_allowed : IsTrue (is_allowed one)
+  pub two_allowed : IsTrue (is_allowed two)
+  pub apart : clash one two ≡ false
