@@ -4,7 +4,7 @@ use crate::given::{File, Given, Plan, Ran, UNHINDERED, are_same, run_over};
 use crate::images::{image_of, keeps_of};
 use crate::results::{names_of, write_rest, write_result, write_seen};
 use crate::sweeps::Sweep;
-use crate::views::views_of;
+use crate::views::add_views;
 use crate::words::{choice_of, first_word, number_in, swap_name};
 use std::alloc::{AllocError, Global};
 use vs_memory::{Keep, MemHost};
@@ -274,7 +274,32 @@ impl Player {
     // Looks at all images, for the steps `one of` that follow.
     fn view_images(&mut self, step: &Step<'_>) -> Result<(), PlayErr> {
         self.ensure_run()?;
-        self.views = views_of(self.alloc, self.folder()?, &self.keeps, step.rest())?;
+        let mut views = Vec::new(self.alloc);
+        add_views(
+            self.alloc,
+            self.folder()?,
+            &self.keeps,
+            step.rest(),
+            &mut views,
+        )?;
+        self.views = views;
+        Ok(())
+    }
+
+    // Looks at all images of each stop from a call on, for the steps `one of` that follow.
+    fn view_stops(&mut self, step: &Step<'_>) -> Result<(), PlayErr> {
+        let (first, line) = step.rest().split_once(' ').ok_or(PlayErr::NoStep)?;
+        let first = number_in(first)?;
+        self.ensure_run()?;
+        let calls = self.ran()?.host.calls();
+        let failing = self.plan.failing;
+        let mut views = Vec::new(self.alloc);
+        for stop in first..=calls {
+            let plan = Plan { failing, stop };
+            let host = run_over(self.alloc, &self.given, plan, self.first_arguments()?)?.host;
+            add_views(self.alloc, &host, &self.keeps, line, &mut views)?;
+        }
+        self.views = views;
         Ok(())
     }
 
@@ -304,6 +329,7 @@ impl Player {
         match step.key() {
             "image" => self.take_image(step)?,
             "images" => self.view_images(step)?,
+            "stops" => self.view_stops(step)?,
             "one" => self.allow(step)?,
             "then" => self.go_on(step)?,
             _ => return Ok(false),

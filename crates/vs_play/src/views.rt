@@ -39,6 +39,7 @@ fn file_view(
     Ok(view)
 }
 
+// Adds what is shown where it is new.
 fn add_new(views: &mut Vec<String>, view: String) -> Result<(), AllocError> {
     if !views.iter().any(|it| it.as_str() == view.as_str()) {
         views.push(view)?;
@@ -46,21 +47,21 @@ fn add_new(views: &mut Vec<String>, view: String) -> Result<(), AllocError> {
     Ok(())
 }
 
-/// What the images show: `of NAME` is a file, and other words are the arguments of a run over each.
-pub(crate) fn views_of(
+/// Adds what the images show: `of NAME` is a file, and other words are the arguments of a run over each.
+pub(crate) fn add_views(
     alloc: Global,
     host: &MemHost,
     keeps: &[Keep],
     line: &str,
-) -> Result<Vec<String>, PlayErr> {
+    views: &mut Vec<String>,
+) -> Result<(), PlayErr> {
     let arguments = words_of(alloc, line)?;
-    let mut views = Vec::new(alloc);
     for choice in &choices_of(alloc, keeps)? {
         let view = match line.strip_prefix("of ") {
             Some(name) => file_view(alloc, host, choice, name)?,
             None => run_view(alloc, host, choice, &arguments)?,
         };
-        add_new(&mut views, view)?;
+        add_new(views, view)?;
     }
-    Ok(views)
+    Ok(())
 }
