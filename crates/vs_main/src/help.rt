@@ -3,14 +3,14 @@ use std::io::Write;
 use vs_top::Ending;
 
 const SCREEN: &str = "\
-Usage: levertaupe edit NAME < SCRIPT    answer a script over the file NAME
-       levertaupe recover NAME > FILE   write the text of its swap files
-       levertaupe info NAME             say what its swap files are
-       levertaupe discard NAME          remove its swap files
-       levertaupe stress N              try the program with N commands
-       levertaupe -h                    show this screen
-       levertaupe --help                show all commands and exit statuses
-       levertaupe -V | --version        show the version
+Usage: levertaupe edit NAME < SCRIPT       answer a script over the file NAME
+       levertaupe pair NAME NAME < SCRIPT  one over two files, by 1: and 2:
+       levertaupe recover NAME > FILE      write the text of its swap files
+       levertaupe info NAME                say what its swap files are
+       levertaupe discard NAME             remove its swap files
+       levertaupe stress N                 try the program with N commands
+       levertaupe -h | --help              show this screen, or all commands
+       levertaupe -V | --version           show the version
 
 NAME is a file of the current folder. A script has one Ex command on a line:
   a i c        put in the lines that follow, up to a line `.`
@@ -31,6 +31,7 @@ Exit status 0: all was done; 1: a reply is an error. See levertaupe(1).
 
 const HELP: &str = "\
 Usage: levertaupe edit NAME < SCRIPT
+       levertaupe pair NAME NAME < SCRIPT
        levertaupe recover NAME > FILE
        levertaupe info NAME
        levertaupe discard NAME
@@ -39,8 +40,10 @@ Usage: levertaupe edit NAME < SCRIPT
        levertaupe -V | --version
 
 Runs a script of Ex commands over the file NAME of the current folder, and
-answers each command on standard output. After a crash, recover writes the text
-that the swap files of NAME have, info shows what they are, discard removes them.
+answers each command on standard output. pair does so over two files: a line of
+its script is for the first one after 1:, and for the second one after 2:, and
+so is a line that it writes. After a crash, recover writes the text that the
+swap files of NAME have, info shows what they are, discard removes them.
 stress N tries the program: it answers N commands of its own over the file
 stress.vs, and writes what came of them.
 
@@ -86,13 +89,14 @@ Example:
 
 While a file is written it or its backup is whole, unless backup and
 writebackup are both off. A script that ends without q leaves swap files with
-its text.
+its text. So it is of each file of pair.
 
 Exit status; from 2 on, but for 11, a line on standard error says the same:
    0  every command did its work, or the text was recovered, and so on
    1  some reply is an error, or a write stored no undo file
-   2  the arguments are none of the above
-   3  the file to edit, or stress.vs, has a swap file
+   2  the arguments are none of the above, or the names of pair clash: files or
+      backups of both might have one name, as those of f and g, or of f and .f
+   3  a file to edit, or stress.vs, has a swap file
    4  there is no swap file
    5  the script cannot be read
    6  the output cannot be written
@@ -101,7 +105,7 @@ Exit status; from 2 on, but for 11, a line on standard error says the same:
    9  a swap file is encrypted, and none has a text
   10  no swap file has a text
   11  a swap file was damaged: lines that begin with ??? say what is missing
-  12  the file has more than 4,000,000 lines, more than 268,435,456 bytes, or
+  12  a file has more than 4,000,000 lines, more than 268,435,456 bytes, or
       more than 1,048,576 bytes in a line
   13  the script has more than 1,073,741,824 bytes
 
