@@ -12,6 +12,13 @@ splice xs top old new = take top xs ++ new ++ drop (top + old) xs
 abbrev pub cut_out : {X : Type 0} → List X → ℕ → ℕ → List X
 cut_out xs top old = take old (drop top xs)
 
+-- At most one line is put in place of at most one, and a page has room for each of them.
+pub record IsSmallSplice (text : List (List ℕ)) (top old : ℕ) (new : List (List ℕ)) : Type 0 where
+  pub few_out : old ≤ 1
+  pub few_in : length new ≤ 1
+  pub brief_out : All (λ line. length line ≤ 4067) (cut_out text top old)
+  pub brief_in : All (λ line. length line ≤ 4067) new
+
 -- A text with these numbers of lines and bytes has the lines to take out and room for the new ones, also where what goes has no bytes.
 pub record HasRoom (lines bytes top old : ℕ) (new : List (List ℕ)) : Type 0 where
   pub within : top + old ≤ lines

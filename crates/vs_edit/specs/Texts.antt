@@ -24,6 +24,6 @@ abbrev pub untold : ℕ → StoreState → StoreState
 untold faults below = record
     { present = record below.present { Is = λ text. ⊥ }; committed = record below.committed { Is = λ text. ⊥ }; faults = faults + below.faults }
 
--- a text that is told
+-- a text that is told, and stands in no pages
 abbrev pub told : List (List ℕ) → TextState
-told lines = record { Is = λ text. lines ≡ text; lines = length lines; bytes = bytes_of lines }
+told lines = record { Is = λ text. lines ≡ text; lines = length lines; bytes = bytes_of lines; worked_by = λ page. 0; most = 0 }

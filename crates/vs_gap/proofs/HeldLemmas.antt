@@ -10,6 +10,7 @@ use Rattle.vs_text.proofs.FileForm.{bytes_of-append}
 use Rattle.vs_edit.specs.Splices.{splice, cut_out}
 use Rattle.vs_edit.specs.State.{AllowsSplice, IsSpliced, SameText, TextState}
 use Rattle.vs_edit.specs.Texts.{IsSound}
+use Rattle.vs_edit.proofs.Steps.{works_as, works_none}
 use Rattle.vs_edit.proofs.SpliceLemmas.{All-splice, bytes_of-cut_out, bytes_of-splice, length-splice, splice_mid, splice_none}
 use Rattle.vs_gap.specs.declared.held.Held.{Held}
 use Rattle.vs_gap.specs.Held.{FitsText, HoldsMore, IsExchanged, IsHeld, bytes_from, lines_with, shown, with_held}
@@ -145,6 +146,8 @@ module _ (below : TextState) where
     text = λ text at. record { under = at.under; has = at.has; fits = (held-more old new is more).fits at.under at.has; is = at.is ∙ sym (more.text at.under at.has) };
     lines = omega (arith, more.lines, is.within, more.within);
     bytes = more.bytes;
+    worked_by = refl;
+    most = refl;
   }
 
   pub allows-more : (old new : Held) (top count : ℕ) (inserted : List (List ℕ)) → IsHeld below old → HoldsMore below old new → AllowsSplice (shown below old) top count inserted
@@ -177,6 +180,8 @@ module _ (old new : TextState) (held : Held) (same : SameText old new) where
     text = λ text at. record { under = at.under; has = same.text at.under at.has; fits = fits-same at.under at.fits; is = at.is };
     lines = omega (arith, same.lines);
     bytes = refl;
+    worked_by = same.worked_by;
+    most = same.most;
   }
 
 -- a text that a store has still is the one that it had
@@ -288,12 +293,14 @@ module _ (below : TextState) (old new : Held) (top count : ℕ) (inserted : List
       is = ap (λ (xs : List (List ℕ)). splice xs top count inserted) at.is ∙ exchanged-whole at.under old new top count inserted from to (held.fits at.under at.has).within is;
     };
     lines = omega (arith, sizes, held.within, is.replaced, allowed.within);
+    works = λ text at small. works_none below.most below.worked_by below.worked_by refl;
   }
 
 pub spliced-same : {a b c : TextState} {top count : ℕ} {inserted : List (List ℕ)} → IsSpliced a top count inserted b → SameText b c → IsSpliced a top count inserted c
 spliced-same {top} {count} {inserted} spliced same = record {
   text = λ text is. same.text (splice text top count inserted) (spliced.text text is);
   lines = omega (arith, spliced.lines, same.lines);
+  works = λ text is small. works_as refl refl same.worked_by (spliced.works text is small);
 }
 
 -- ---- no line is held
@@ -328,6 +335,8 @@ module _ (below : TextState) (held : Held) (top : held.top ≡ 0) (replaced : he
     text = λ text has. record { under = text; has = has; fits = is.fits text has; is = sym (whole text) };
     lines = count;
     bytes = bytes;
+    worked_by = refl;
+    most = refl;
   }
 
   pub only-none : held.bytes ≡ below.bytes → SameText (shown below held) below
@@ -335,4 +344,6 @@ module _ (below : TextState) (held : Held) (top : held.top ≡ 0) (replaced : he
     text = λ text at. subst below.Is (sym (at.is ∙ whole at.under)) at.has;
     lines = sym count;
     bytes = sym bytes;
+    worked_by = refl;
+    most = refl;
   }

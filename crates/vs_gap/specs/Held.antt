@@ -43,9 +43,9 @@ pub told_with : (below : TextState) (held : Held) → IsHeld below held → ((te
     → (text : List (List ℕ)) × IsShown below held text
 told_with below held is found = (with_held found.0 held, record { under = found.0; has = found.1; fits = is.fits found.0 found.1; is = refl })
 
--- what a store shows, once the held lines stand in it
+-- what a store shows, once the held lines stand in it: no page is worked for them
 abbrev pub shown : TextState → Held → TextState
-shown below held = record { Is = IsShown below held; lines = lines_with below.lines held; bytes = held.bytes }
+shown below held = record below { Is = IsShown below held; lines = lines_with below.lines held; bytes = held.bytes }
 
 -- the lines that were held at the commit, which are those that are held now where no others were kept
 abbrev pub committed_of : Held → Option Held → Held

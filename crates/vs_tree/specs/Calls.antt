@@ -17,7 +17,8 @@ use Rattle.vs_tree.specs.declared.change.EditedTree.{EditedTree}
 use Rattle.vs_tree.specs.declared.texts.Extent.{Extent}
 use Rattle.vs_tree.specs.declared.walk.Root.{Root}
 use Rattle.vs_tree.specs.Runs.{HasTree, run_of}
-use Rattle.vs_tree.specs.Texts.{HasText, IsSmallSplice}
+use Rattle.vs_edit.specs.Splices.{IsSmallSplice}
+use Rattle.vs_tree.specs.Texts.{HasText}
 
 -- The pages have the tree of some lines, as many as the root says.
 abbrev pub StandsTree : {P : Type 0} → Ghosts P → P → Root → Type 0

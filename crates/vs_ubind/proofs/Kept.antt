@@ -8,4 +8,6 @@ still_committed present committed present_now committed_now was kept same back =
   text = λ text is. same.text text (was.text text (back text is));
   lines = same.lines ∙ (was.lines ∙ sym kept.lines);
   bytes = same.bytes ∙ (was.bytes ∙ sym kept.bytes);
+  worked_by = same.worked_by ∙ (was.worked_by ∙ sym kept.worked_by);
+  most = same.most ∙ (was.most ∙ sym kept.most);
 }

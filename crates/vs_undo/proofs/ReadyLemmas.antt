@@ -17,6 +17,8 @@ settled {committed} shown kept told one = record {
   text = λ text has. let was = told text has in subst (λ t. committed.Is t) (one was.0 text (shown.text was.0 was.1) has) (kept.text was.0 was.1);
   lines = kept.lines ∙ sym shown.lines;
   bytes = kept.bytes ∙ sym shown.bytes;
+  worked_by = kept.worked_by ∙ sym shown.worked_by;
+  most = kept.most ∙ sym shown.most;
 }
 
 -- what holds anyway holds after an error

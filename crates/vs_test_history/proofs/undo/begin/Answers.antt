@@ -16,6 +16,8 @@ returns g c =
             subst (λ t. (g.S.LineStore.shows text).committed.Is t) same (c.commit.ensures.committed.text was.0 was.1);
         lines = c.commit.ensures.committed.lines ∙ sym c.commit.ensures.present.lines;
         bytes = c.commit.ensures.committed.bytes ∙ sym c.commit.ensures.present.bytes;
+        worked_by = c.commit.ensures.committed.worked_by ∙ sym c.commit.ensures.present.worked_by;
+        most = c.commit.ensures.committed.most ∙ sym c.commit.ensures.present.most;
       };
       counts = c.in_ok-tree.ensures.counts _;
       texts = λ lines has. c.in_ok-tree.ensures.texts lines;

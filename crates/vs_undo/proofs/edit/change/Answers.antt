@@ -2,7 +2,7 @@
 use Rattle.std.proofs.Common.{◌≡◌, ◌+◌, ◌-◌, ◌∷◌, [], ℕ, List, length, max, refl, rules, sym, ap, subst, ◌∙◌, arith}
 use Rattle.vs_faults.proofs.Causes.{risen_after}
 use Rattle.vs_edit.specs.Splices.{splice}
-use Rattle.vs_edit.proofs.Steps.{SameText-trans, IsSpliced-after}
+use Rattle.vs_edit.proofs.Steps.{SameText-trans, IsSpliced-after, works_as}
 use Rattle.vs_entries.specs.Entries.{Leads, LeadsCount, splice_back}
 use Rattle.vs_entries.proofs.EntryLemmas.{leads_splice_back}
 use Rattle.vs_undo.specs.declared.parts.Parts.{Parts}
@@ -50,7 +50,11 @@ returns-in-Ok-push-clause-changed g c = record {
   few = c.in-Ok-push.ensures.few;
   spliced =
       let spliced = IsSpliced-after c.in-Ok.ensures.kept.present c.in_ok-splice.ensures.ok in
-      record { text = λ text has. c.commit.ensures.present.text (splice text c.args.top c.args.old c.args.new.now) (spliced.text text has); lines = omega (arith, spliced.lines, c.commit.ensures.present.lines) };
+      record {
+        text = λ text has. c.commit.ensures.present.text (splice text c.args.top c.args.old c.args.new.now) (spliced.text text has);
+        lines = omega (arith, spliced.lines, c.commit.ensures.present.lines);
+        works = λ text has small. works_as refl refl c.commit.ensures.present.worked_by (spliced.works text has small);
+      };
   history = λ text history has is. c.in-Ok-push.ensures.history text (splice text c.args.top c.args.old c.args.new.now) history is (leads g c text has);
 }
 
