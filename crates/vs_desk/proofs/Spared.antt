@@ -11,6 +11,7 @@ use Rattle.vs_disk.specs.Names.{SameAt}
 use Rattle.vs_disk.specs.Runs.{Runs}
 use Rattle.vs_disk.proofs.Runs.{runs_as}
 use Rattle.vs_pages.specs.Maps.{Map}
+use Rattle.vs_pages.specs.State.{Commits}
 use Rattle.vs_pages.specs.declared.memory.MemPages.{MemPages}
 use Rattle.vs_tree.specs.Texts.{HasText}
 use Rattle.vs_tree.specs.declared.texts.Extent.{Extent}
@@ -108,6 +109,7 @@ pub paged_same : (told : Bool) (p q : MemPages) (t u : LineTree) (text : Text) �
 paged_same told p q t u text is same paged = record {
   present = has_same (λ x. x.present) (same.present is) paged.present;
   committed = has_same (λ x. x.committed) (same.committed is) paged.committed;
+  idle = same.work is ∙ paged.idle ∙ sym (ap (λ (made : Commits). made.last) (same.commits is));
 }
   where
     has_same : {m n : Map} (extent : LineTree → Extent) → n ≡ m → HasText m (extent t) text → HasText n (extent u) text

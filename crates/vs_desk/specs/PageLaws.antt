@@ -26,13 +26,15 @@ looks_then tells old mid new first second = record {
 }
 
 pub same_none : (told : Bool) (pages : MemPages) (tree : LineTree) → SamePages told pages pages tree tree
-same_none told pages tree = record { tree = refl; present = λ is. refl; committed = λ is. refl; since = keeps_none pages }
+same_none told pages tree = record { tree = refl; present = λ is. refl; committed = λ is. refl; work = λ is. refl; commits = λ is. refl; since = keeps_none pages }
 
 pub same_then : (told : Bool) (p q r : MemPages) (t u v : LineTree) → SamePages told p q t u → SamePages told q r u v → SamePages told p r t v
 same_then told p q r t u v first second = record {
   tree = second.tree ∙ first.tree;
   present = λ is. second.present is ∙ first.present is;
   committed = λ is. second.committed is ∙ first.committed is;
+  work = λ is. second.work is ∙ first.work is;
+  commits = λ is. second.commits is ∙ first.commits is;
   since = keeps_then p q r first.since second.since;
 }
 

@@ -116,13 +116,14 @@ marked-refused showing text marked taken lines e are count is = subst (λ (r : R
 -- the answer that prints what was shown
 pub shown-answers : {S : Type 0} (g : Ghosts S) (state : State) (keep : Keep) (old new : S) (tree : Parts) (showing : Showing) (meant : Result (List Span) ExErr) (output : Output) (reply : Answer)
     → HasShown g old showing meant state.cursor output → reply ≡ prints output.bytes.items → (g.shows old).present.Is state.text → (g.shows new).present.Is state.text
-    → IsHistory tree state.text state.history
-    → AnswersAs g state keep (printing_all (shown_lines showing.numbers state.text) state.cursor meant) (record { reply = reply; cursor = output.cursor; oldest = None }) new tree
-shown-answers g state keep old new tree showing meant output reply shown replied has now history =
+    → IsHistory tree state.text state.history → (g.shows new).present.worked_by ≡ (g.shows old).present.worked_by
+    → AnswersAs g state keep (printing_all (shown_lines showing.numbers state.text) state.cursor meant) (record { reply = reply; cursor = output.cursor; oldest = None }) old new tree
+shown-answers g state keep old new tree showing meant output reply shown replied has now history same =
     as_meant (record {
       reply = replied ∙ ap prints (shown.bytes state.text has);
       after = record { text = now; history = history; cursor = shown.last };
       oldest = refl;
+      works = same;
     }) (sym (ap (printing_all (shown_lines showing.numbers state.text) state.cursor) shown.are))
 
 -- its error

@@ -98,7 +98,7 @@ fn do_searched<S: LineStore>(
     requires some { 1 ≤ keep.levels }
     ensures answers { IfOk result (λ answered. (state : State) → IsIn S.LineStore store.old history.old cursor state → AnswersAs S.LineStore state keep
         (searching (showing_of (command_of nested.now)) state search.now.range search.now.invert search.now.pattern.now (command_of nested.now))
-        answered store.new history.new) }
+        answered store.old store.new history.new) }
     ensures atomic { IsAtomic S.LineStore history.old history.new store.old store.new StoreErr.Failed result }
 {
     match showing_of(nested) {
@@ -121,7 +121,7 @@ fn do_other<S: LineStore>(
     requires shows { changes_text (command_of command.now) ≡ false }
     requires form { HasForm (command_of command.now) }
     ensures answers { IfOk result (λ answered. (state : State) (lines : List (List ℕ)) → IsIn S.LineStore store.old history.old cursor state →
-        AnswersAs S.LineStore state keep (meaning_in state (command_of command.now) lines) answered store.new history.new) }
+        AnswersAs S.LineStore state keep (meaning_in state (command_of command.now) lines) answered store.old store.new history.new) }
     ensures atomic { IsAtomic S.LineStore history.old history.new store.old store.new StoreErr.Failed result }
 {
     match *command {
@@ -188,7 +188,7 @@ fn carry_out<S: LineStore>(
     requires block { is_absent block.now ≡ not (wants_block (command_of command.now)) }
     requires some { 1 ≤ keep.levels }
     ensures answers { IfOk result (λ answered. (state : State) (lines : List (List ℕ)) → IsIn S.LineStore store.old history.old cursor state
-        → StandsFor block.now lines → AnswersAs S.LineStore state keep (meaning_in state (command_of command.now) lines) answered store.new history.new) }
+        → StandsFor block.now lines → AnswersAs S.LineStore state keep (meaning_in state (command_of command.now) lines) answered store.old store.new history.new) }
     ensures atomic { IsAtomic S.LineStore history.old history.new store.old store.new StoreErr.Failed result }
 {
     if changes_text(command) {
@@ -212,7 +212,7 @@ pub fn answer<S: LineStore>(
     requires form { IsFormed request.now }
     requires some { 1 ≤ keep.levels }
     ensures answers { IfOk result (λ answered. (state : State) (instruction : Instruction) → IsIn S.LineStore store.old history.old cursor state
-        → IsRequest request.now instruction → AnswersAs S.LineStore state keep (meaning_at state instruction) answered store.new history.new) }
+        → IsRequest request.now instruction → AnswersAs S.LineStore state keep (meaning_at state instruction) answered store.old store.new history.new) }
     ensures atomic { IsAtomic S.LineStore history.old history.new store.old store.new StoreErr.Failed result }
 {
     match &request.parsed {

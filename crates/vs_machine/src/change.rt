@@ -33,7 +33,7 @@ fn make<S: LineStore>(
     requires allowed { Allows (S.shows store.old).present plan }
     requires some { 1 ≤ keep.levels }
     ensures answers { IfOk result (λ answered. (state : State) → IsIn S.LineStore store.old history.old cursor state
-        → AnswersAs S.LineStore state keep (changing (Ok (effect_of plan))) answered store.new history.new) }
+        → AnswersAs S.LineStore state keep (changing (Ok (effect_of plan))) answered store.old store.new history.new) }
     ensures atomic { IsAtomic S.LineStore history.old history.new store.old store.new StoreErr.Failed result }
 {
     match plan {
@@ -75,7 +75,7 @@ pub(crate) fn change_text<S: LineStore>(
     requires some { 1 ≤ keep.levels }
     ensures answers { IfOk result (λ answered. (state : State) (lines : List (List ℕ)) → IsIn S.LineStore store.old history.old cursor state
         → StandsFor block.now lines
-        → AnswersAs S.LineStore state keep (changing (planned (command_of command.now) lines state.text state.cursor)) answered store.new history.new) }
+        → AnswersAs S.LineStore state keep (changing (planned (command_of command.now) lines state.text state.cursor)) answered store.old store.new history.new) }
     ensures atomic { IsAtomic S.LineStore history.old history.new store.old store.new StoreErr.Failed result }
 {
     match plan(alloc, command, block, store, cursor) {
@@ -103,7 +103,7 @@ pub(crate) fn change_searched<S: LineStore>(
     ensures answers { IfOk result (λ answered. (state : State) → IsIn S.LineStore store.old history.old cursor state
         → AnswersAs S.LineStore state keep
         (changing (global search.now.range search.now.invert search.now.pattern.now (command_of nested.now) state.text state.cursor))
-        answered store.new history.new) }
+        answered store.old store.new history.new) }
     ensures atomic { IsAtomic S.LineStore history.old history.new store.old store.new StoreErr.Failed result }
 {
     match global(alloc, search, nested, store, cursor) {

@@ -113,7 +113,7 @@ pub(crate) fn travel<S: LineStore>(
     requires ready { IsReady S.LineStore history.old store.old }
     requires steps { HasSteps step }
     ensures answers { IfOk result (λ answered. (state : State) (keep : Keep) → IsIn S.LineStore store.old history.old cursor state →
-        AnswersAs S.LineStore state keep (moving (goal_of step state.history.links)) answered store.new history.new) }
+        AnswersAs S.LineStore state keep (moving (goal_of step state.history.links)) answered store.old store.new history.new) }
     ensures atomic { IsAtomic S.LineStore history.old history.new store.old store.new StoreErr.Failed result }
 {
     match go(alloc, store, history, step) {

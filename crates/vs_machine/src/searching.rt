@@ -121,7 +121,7 @@ pub(crate) fn print_searched<S: LineStore>(
     ensures answers { IfOk result (λ answered. (state : State) (keep : Keep) (tree : Parts) → IsIn S.LineStore store.old tree cursor state
         → AnswersAs S.LineStore state keep (printing_all (shown_lines showing.numbers state.text) state.cursor
         (shown_in showing state.text (marked_by search.now.range search.now.invert search.now.pattern.now state.text state.cursor)))
-        answered store.new tree) }
+        answered store.old store.new tree) }
     ensures kept { OnlyReads S.LineStore store.old store.new }
     ensures cause { HasCause (S.shows store.old).faults (S.shows store.new).faults (IsErrOf result StoreErr.Failed) }
 {

@@ -76,7 +76,7 @@ pub(crate) fn print<S: LineStore>(
     requires form { HasCount showing.count }
     ensures answers { IfOk result (λ answered. (state : State) (keep : Keep) (tree : Parts) → IsIn S.LineStore store.old tree cursor state →
         AnswersAs S.LineStore state keep
-        (printing (shown_lines showing.numbers state.text) (shown_by showing (length state.text) state.cursor)) answered store.new tree) }
+        (printing (shown_lines showing.numbers state.text) (shown_by showing (length state.text) state.cursor)) answered store.old store.new tree) }
     ensures kept { OnlyReads S.LineStore store.old store.new }
     ensures cause { HasCause (S.shows store.old).faults (S.shows store.new).faults (IsErrOf result StoreErr.Failed) }
 {
@@ -96,7 +96,7 @@ pub(crate) fn print<S: LineStore>(
 pub(crate) fn print_number<S: LineStore>(store: &S, cursor: u64, range: Range) -> Answered
     requires valid { S.valid store.now }
     ensures { (state : State) (keep : Keep) (tree : Parts) → IsIn S.LineStore store.now tree cursor state →
-        AnswersAs S.LineStore state keep (counting state.cursor (number_shown range (length state.text) state.cursor)) result store.now tree }
+        AnswersAs S.LineStore state keep (counting state.cursor (number_shown range (length state.text) state.cursor)) result store.now store.now tree }
 {
     match number_shown(range, store.len(), cursor) {
         Ok(number) => Answered {
@@ -116,7 +116,7 @@ pub(crate) fn list<S: LineStore>(
     cursor: u64,
 ) -> Result<Answered, StoreErr>
     ensures answers { IfOk result (λ answered. (state : State) (keep : Keep) → IsIn S.LineStore store.now history.now cursor state →
-        AnswersAs S.LineStore state keep (Printed (listing state.history.links.nodes) state.cursor) answered store.now history.now) }
+        AnswersAs S.LineStore state keep (Printed (listing state.history.links.nodes) state.cursor) answered store.now store.now history.now) }
     ensures cause { IfErr result (λ cause. cause ≡ StoreErr.NoMemory) }
 {
     let reply = undo_list(alloc, history)?;

@@ -1,10 +1,10 @@
 -- A text in pages is what a store over them has, so each clause of the store says what the text is.
-use Rattle.std.proofs.Common.{◌≡◌, ◌≤◌, ◌+◌, ℕ, Bool, true, List, ◌++◌, length, drop, All, refl, sym, ap, subst, ◌∙◌, arith}
+use Rattle.std.proofs.Common.{◌≡◌, ◌≤◌, ◌+◌, ◌*◌, ℕ, Bool, true, List, ◌++◌, length, drop, All, refl, sym, ap, subst, ◌∙◌, arith}
 use Rattle.std.proofs.lemmas.List.{length-append}
 use Rattle.std.proofs.lemmas.List.Elements.{All-drop}
 use Rattle.std.proofs.lemmas.Grind.{common_steps}
 use Rattle.vs_pages.specs.Maps.{Map}
-use Rattle.vs_pages.specs.Memory.{present_of, committed_of, state_of}
+use Rattle.vs_pages.specs.Memory.{commits_of, committed_of, present_of, state_of}
 use Rattle.vs_pages.specs.State.{history_of}
 use Rattle.vs_pages.proofs.Steps.{history_present}
 use Rattle.vs_pages.specs.declared.memory.MemPages.{MemPages}
@@ -14,10 +14,10 @@ use Rattle.vs_text.specs.declared.TheConstants.{MAX_LINES, MAX_TEXT_BYTES}
 use Rattle.vs_text.proofs.FileForm.{bytes_of-append}
 use Rattle.vs_edit.specs.State.{SameText}
 use Rattle.vs_tree.specs.declared.texts.Extent.{Extent}
-use Rattle.vs_tree.specs.Texts.{HasText, Fits, Tells, text_of}
+use Rattle.vs_tree.specs.Texts.{HasText, Fits, Tells, text_of, worked_by}
 use Rattle.vs_tree.specs.TextIn.{text_in, text_in-HasText}
 use Rattle.vs_tree.specs.declared.tree.LineTree.{LineTree}
-use Rattle.vs_paged.specs.Pages.{IsCommitted, IsPaged, IsBounded}
+use Rattle.vs_paged.specs.Pages.{IsBounded, IsCommitted, IsIdle, IsPaged}
 
 pub text_had : (m : Map) (x : Extent) → Fits true m x → HasText m x (text_in m x)
 text_had m x fits = let r = fits.one refl in subst (λ (text : List (List ℕ)). HasText m x text) (sym (text_in-HasText m x r.0 r.1)) r.1
@@ -29,7 +29,8 @@ pub text_same : (m : Map) (x : Extent) (text : List (List ℕ)) → Tells true m
 text_same m x text is = text_in-HasText m x text is.has
 
 -- a committed text is the same, present and committed
-pub committed_same : (pages : MemPages) (tree : LineTree) → IsCommitted pages tree → SameText (text_of true (present_of pages) tree.present) (text_of true (committed_of pages) tree.committed)
+pub committed_same : (pages : MemPages) (tree : LineTree) → IsCommitted pages tree
+    → SameText (text_of true (worked_by (state_of pages)) (present_of pages) tree.present) (text_of true (commits_of pages).last (committed_of pages) tree.committed)
 committed_same pages tree is =
     let now = text_had (present_of pages) tree.present is.present_fits in
     let then = text_had (committed_of pages) tree.committed is.committed_fits in
@@ -42,15 +43,19 @@ committed_same pages tree is =
       };
       lines = sym then.lines ∙ (lengths ∙ now.lines);
       bytes = sym then.bytes ∙ (sizes ∙ now.bytes);
+      worked_by = sym is.idle;
+      most = ap (λ h. 5 * h + 12) is.same_height;
     }
 
 -- the same the other way round
 pub is_committed : (pages : MemPages) (tree : LineTree) → Fits true (present_of pages) tree.present → Fits true (committed_of pages) tree.committed
-    → SameText (text_of true (present_of pages) tree.present) (text_of true (committed_of pages) tree.committed) → IsCommitted pages tree
+    → SameText (text_of true (worked_by (state_of pages)) (present_of pages) tree.present) (text_of true (commits_of pages).last (committed_of pages) tree.committed) → IsCommitted pages tree
 is_committed pages tree present committed same = record {
   present_fits = present;
   committed_fits = committed;
   same = text_same (committed_of pages) tree.committed (text_in (present_of pages) tree.present) (same.text (text_in (present_of pages) tree.present) (text_told (present_of pages) tree.present present));
+  same_height = omega (arith, same.most);
+  idle = sym same.worked_by;
 }
 
 -- what was lent is as the store left it
@@ -84,11 +89,13 @@ text_back old new x y back is = text_stays (present_of old) (present_of new) x y
 
 -- the same text, present and committed
 pub is_committed_at : (pages : MemPages) (tree : LineTree) (text : List (List ℕ)) → Fits true (present_of pages) tree.present → Fits true (committed_of pages) tree.committed
-    → Tells true (present_of pages) tree.present text → Tells true (committed_of pages) tree.committed text → IsCommitted pages tree
-is_committed_at pages tree text present committed now then = record {
+    → Tells true (present_of pages) tree.present text → Tells true (committed_of pages) tree.committed text → tree.committed.height ≡ tree.present.height → IsIdle pages → IsCommitted pages tree
+is_committed_at pages tree text present committed now then same_height idle = record {
   present_fits = present;
   committed_fits = committed;
   same = text_same (committed_of pages) tree.committed text then ∙ sym (text_same (present_of pages) tree.present text now);
+  same_height = same_height;
+  idle = idle;
 }
 
 -- the text of committed pages
@@ -96,6 +103,7 @@ pub is_paged : (pages : MemPages) (tree : LineTree) → IsCommitted pages tree �
 is_paged pages tree is = record {
   present = text_had (present_of pages) tree.present is.present_fits;
   committed = let H : List (List ℕ) → Type 0 = λ text. HasText (committed_of pages) tree.committed text in subst H is.same (text_had (committed_of pages) tree.committed is.committed_fits);
+  idle = is.idle;
 }
 
 -- pages that have a text fit its numbers
@@ -107,10 +115,13 @@ fits_text tells m x text has = record {
 }
 
 -- the numbers of a text are within the limits
-pub is_bounded : (pages : MemPages) (tree : LineTree) (text : List (List ℕ)) → IsPaged pages tree text → IsBounded tree
-is_bounded pages tree text is = record {
-  few_lines = omega (arith, is.present.lines, is.present.within.few_lines);
-  few_bytes = omega (arith, is.present.bytes, is.present.within.few_bytes);
-  same_lines = sym is.committed.lines ∙ is.present.lines;
-  same_bytes = sym is.committed.bytes ∙ is.present.bytes;
-}
+pub is_bounded : (pages : MemPages) (tree : LineTree) → IsCommitted pages tree → IsBounded tree
+is_bounded pages tree is =
+    let paged = is_paged pages tree is in
+    record {
+      few_lines = is.present_fits.few;
+      few_bytes = is.present_fits.few_bytes;
+      same_lines = sym paged.committed.lines ∙ paged.present.lines;
+      same_bytes = sym paged.committed.bytes ∙ paged.present.bytes;
+      same_height = is.same_height;
+    }

@@ -1,23 +1,30 @@
 -- A text in pages in memory.
 use Rattle.std.specs.Prelude.{◌≡◌, ◌≤◌, ℕ, List, true}
-use Rattle.vs_pages.specs.Memory.{present_of, committed_of}
+use Rattle.vs_pages.specs.Memory.{commits_of, committed_of, present_of, state_of}
 use Rattle.vs_pages.specs.declared.memory.MemPages.{MemPages}
 use Rattle.vs_text.specs.declared.TheConstants.{MAX_LINES, MAX_TEXT_BYTES}
 use Rattle.vs_tree.specs.TextIn.{text_in}
-use Rattle.vs_tree.specs.Texts.{Fits, HasText}
+use Rattle.vs_tree.specs.Texts.{Fits, HasText, worked_by}
 use Rattle.vs_tree.specs.declared.tree.LineTree.{LineTree}
 use Rattle.vs_safety.specs.Texts.{Text}
+
+-- No page was worked since the last commit.
+abbrev pub IsIdle : MemPages → Type 0
+IsIdle pages = worked_by (state_of pages) ≡ (commits_of pages).last
 
 -- The pages have a text, and what is committed is the same one.
 pub record IsCommitted (pages : MemPages) (tree : LineTree) : Type 0 where
   pub present_fits : Fits true (present_of pages) tree.present
   pub committed_fits : Fits true (committed_of pages) tree.committed
   pub same : text_in (committed_of pages) tree.committed ≡ text_in (present_of pages) tree.present
+  pub same_height : tree.committed.height ≡ tree.present.height
+  pub idle : IsIdle pages
 
--- The pages have this text, as it is now and as it was committed.
+-- The pages have this text, as it is now and as it was committed, and none was worked since.
 pub record IsPaged (pages : MemPages) (tree : LineTree) (text : Text) : Type 0 where
   pub present : HasText (present_of pages) tree.present text
   pub committed : HasText (committed_of pages) tree.committed text
+  pub idle : IsIdle pages
 
 -- The numbers of a text are within the limits, also where no text is told, and the committed ones are the same.
 pub record IsBounded (tree : LineTree) : Type 0 where
@@ -25,6 +32,7 @@ pub record IsBounded (tree : LineTree) : Type 0 where
   pub few_bytes : tree.present.bytes ≤ MAX_TEXT_BYTES
   pub same_lines : tree.committed.lines ≡ tree.present.lines
   pub same_bytes : tree.committed.bytes ≡ tree.present.bytes
+  pub same_height : tree.committed.height ≡ tree.present.height
 
 -- A text that is read into pages: the name of its file, and its lines so far.
 pub record Opening : Type 0 where

@@ -1,11 +1,13 @@
 -- A text in the pages of a pair is what a store over them has, so each clause of the store says what the text is.
-use Rattle.std.proofs.Common.{◌≡◌, inr, ℕ, Bool, IsTrue, List, Result, Ok, Err, IfOk, sym, ap, ◌∙◌, subst, arith}
+use Rattle.std.proofs.Common.{◌≡◌, ◌+◌, ◌*◌, inr, ℕ, Bool, true, false, IsTrue, refl, List, Result, Ok, Err, IfOk, sym, ap, ◌∙◌, subst, arith}
+use Rattle.std.proofs.lemmas.Bool.{false≢true}
 use Rattle.vs_faults.specs.Faults.{HasCause}
-use Rattle.vs_pages.specs.Memory.{present_of, committed_of}
+use Rattle.vs_pages.specs.Memory.{commits_of, committed_of, present_of, state_of}
 use Rattle.vs_pages.specs.declared.memory.MemPages.{MemPages}
 use Rattle.vs_edit.specs.State.{SameText}
 use Rattle.vs_tree.specs.declared.tree.LineTree.{LineTree}
-use Rattle.vs_tree.specs.Texts.{Fits, HasText, Tells, text_of}
+use Rattle.vs_tree.specs.Texts.{Fits, HasText, Tells, shown_work, text_of, worked_by}
+use Rattle.vs_tree.proofs.Kept.{shown_kept}
 use Rattle.vs_tree.specs.Sames.{one_text}
 use Rattle.vs_host.specs.Disk.{Disk}
 use Rattle.vs_host.specs.World as world
@@ -45,7 +47,7 @@ committed_fits tells pages tree bounded paged = record {
 }
 
 pub same_text : (tells : Bool) (pages : MemPages) (tree : LineTree) → IsBounded tree → (IsTrue tells → (text : Text) × IsPaged pages tree text)
-    → SameText (text_of tells (present_of pages) tree.present) (text_of tells (committed_of pages) tree.committed)
+    → SameText (text_of tells (worked_by (state_of pages)) (present_of pages) tree.present) (text_of tells (commits_of pages).last (committed_of pages) tree.committed)
 same_text tells pages tree bounded paged = record {
   text = λ text is.
       let here = paged is.told in
@@ -53,19 +55,32 @@ same_text tells pages tree bounded paged = record {
       record { told = is.told; has = let H : Text → Type 0 = λ t. HasText (committed_of pages) tree.committed t in subst H same here.1.committed };
   lines = bounded.same_lines;
   bytes = bounded.same_bytes;
+  worked_by = shown_kept tells (worked_by (state_of pages)) (commits_of pages).last (λ told. let is = paged told in sym is.1.idle);
+  most = ap (λ h. 5 * h + 12) bounded.same_height;
 }
 
 -- ---- what the store leaves
 
+-- what is shown of the work is the work, where it is told
+pub shown_told : (tells : Bool) (a b : ℕ → ℕ) → IsTrue tells → shown_work tells b ≡ shown_work tells a → b ≡ a
+shown_told true a b told same = same
+shown_told false a b told same = absurd (false≢true told)
+
 pub told_text : (tells : Bool) (pages : MemPages) (tree : LineTree) (text : Text) → IsTrue tells → IsPaged pages tree text → Tells tells (present_of pages) tree.present text
 told_text tells pages tree text told is = record { told = told; has = is.present }
 
-pub paged_text : (tells : Bool) (pages : MemPages) (tree : LineTree) (text : Text) → SameText (text_of tells (present_of pages) tree.present) (text_of tells (committed_of pages) tree.committed)
+pub paged_text : (tells : Bool) (pages : MemPages) (tree : LineTree) (text : Text) → SameText (text_of tells (worked_by (state_of pages)) (present_of pages) tree.present) (text_of tells (commits_of pages).last (committed_of pages) tree.committed)
     → Tells tells (present_of pages) tree.present text → IsPaged pages tree text
-paged_text tells pages tree text same is = record { present = is.has; committed = (same.text text is).has }
+paged_text tells pages tree text same is = record {
+  present = is.has;
+  committed = (same.text text is).has;
+  idle = shown_told tells (commits_of pages).last (worked_by (state_of pages)) is.told (sym same.worked_by);
+}
 
-pub bounded_tree : (tells : Bool) (pages : MemPages) (tree : LineTree) → Fits tells (present_of pages) tree.present → SameText (text_of tells (present_of pages) tree.present) (text_of tells (committed_of pages) tree.committed) → IsBounded tree
-bounded_tree tells pages tree fits same = record { few_lines = fits.few; few_bytes = fits.few_bytes; same_lines = same.lines; same_bytes = same.bytes }
+pub bounded_tree : (tells : Bool) (pages : MemPages) (tree : LineTree) → Fits tells (present_of pages) tree.present
+    → SameText (text_of tells (worked_by (state_of pages)) (present_of pages) tree.present) (text_of tells (commits_of pages).last (committed_of pages) tree.committed) → IsBounded tree
+bounded_tree tells pages tree fits same =
+    record { few_lines = fits.few; few_bytes = fits.few_bytes; same_lines = same.lines; same_bytes = same.bytes; same_height = omega (arith, same.most) }
 
 -- ---- the state of the machine
 
@@ -117,8 +132,9 @@ state_left tells old new undo left was now state after syncs keeps fits stands =
 
 -- what was committed is the present text still, where a store kept both
 pub kept_same : (tells : Bool) (pages left : MemPages) (tree after : LineTree) → IsBounded tree → (IsTrue tells → (text : Text) × IsPaged pages tree text)
-    → SameText (text_of tells (present_of pages) tree.present) (text_of tells (present_of left) after.present) → SameText (text_of tells (committed_of pages) tree.committed) (text_of tells (committed_of left) after.committed)
-    → SameText (text_of tells (present_of left) after.present) (text_of tells (committed_of left) after.committed)
+    → SameText (text_of tells (worked_by (state_of pages)) (present_of pages) tree.present) (text_of tells (worked_by (state_of left)) (present_of left) after.present)
+    → SameText (text_of tells (commits_of pages).last (committed_of pages) tree.committed) (text_of tells (commits_of left).last (committed_of left) after.committed)
+    → SameText (text_of tells (worked_by (state_of left)) (present_of left) after.present) (text_of tells (commits_of left).last (committed_of left) after.committed)
 kept_same tells pages left tree after bounded paged present committed = record {
   text = λ text is.
       let here = paged is.told in
@@ -128,4 +144,6 @@ kept_same tells pages left tree after bounded paged present committed = record {
       subst H same (committed.text here.0 (record { told = is.told; has = here.1.committed }));
   lines = committed.lines ∙ bounded.same_lines ∙ sym present.lines;
   bytes = committed.bytes ∙ bounded.same_bytes ∙ sym present.bytes;
+  worked_by = committed.worked_by ∙ (same_text tells pages tree bounded paged).worked_by ∙ sym present.worked_by;
+  most = committed.most ∙ ap (λ h. 5 * h + 12) bounded.same_height ∙ sym present.most;
 }

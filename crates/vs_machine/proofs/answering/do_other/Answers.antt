@@ -77,7 +77,7 @@ returns-in-Append g c =
     record {
       answers = λ state lines is.
           let after : IsIn g.S.LineStore c.args.store.now c.args.history.now c.refused.result.cursor state = record { text = is.text; history = is.history; cursor = ap (λ (a : Answered). a.cursor) c.refused.ensures ∙ is.cursor } in
-          as_meant (record { reply = ap (λ (a : Answered). a.reply) c.refused.ensures; after = after; oldest = ap (λ (a : Answered). a.oldest) c.refused.ensures }) (meant state lines);
+          as_meant (record { reply = ap (λ (a : Answered). a.reply) c.refused.ensures; after = after; oldest = ap (λ (a : Answered). a.oldest) c.refused.ensures; works = refl }) (meant state lines);
       atomic = record {
         stayed = tt;
         ready = c.requires.ready;

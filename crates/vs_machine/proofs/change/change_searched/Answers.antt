@@ -5,7 +5,7 @@ use Rattle.vs_exparse.specs.Command.{command_of}
 use Rattle.vs_excmd.specs.Answer.{Answers}
 use Rattle.vs_global.specs.Global.{global}
 use Rattle.vs_machine.specs.Machine.{changing}
-use Rattle.vs_machine.proofs.AnswerLemmas.{as_meant, read_in, refused_by}
+use Rattle.vs_machine.proofs.AnswerLemmas.{after_reading, as_meant, read_in, refused_by}
 use Rattle.vs_machine.proofs.MeaningLemmas.{meaning_of_plan, meaning_of_refused}
 use Rattle.vs_machine.proofs.change.change_searched.Goals as goal
 
@@ -13,7 +13,7 @@ pub returns-in-Ok-clause-answers : goal.returns-in-Ok-clause-answers
 returns-in-Ok-clause-answers g c = IfOk-weaker c.make.result _ _
     (λ answered answers state is.
     let sought = c.args.search.now in
-    as_meant (answers state (read_in c.in-Ok.ensures.kept.present is))
+    as_meant (after_reading c.in-Ok.ensures.kept.present (answers state (read_in c.in-Ok.ensures.kept.present is)))
     (meaning_of_plan (global sought.range sought.invert sought.pattern.now (command_of c.args.nested.now) state.text) c.in-Ok.planned c.args.cursor state.cursor (c.in-Ok.ensures.answers state.text is.text) is.cursor))
     c.make.ensures.answers
 
@@ -22,8 +22,8 @@ returns-in-Err-clause-answers g c = IfOk-weaker c.not_planned.result _ _
     (λ answered refusal state is.
     let sought = c.args.search.now in
     let meant = global sought.range sought.invert sought.pattern.now (command_of c.args.nested.now) state.text in
-    refused_by g.S.LineStore state c.args.keep (changing (meant state.cursor)) c.in-Err.error c.args.cursor answered c.global.new.view c.args.history.now refusal
+    refused_by g.S.LineStore state c.args.keep (changing (meant state.cursor)) c.in-Err.error c.args.cursor answered c.args.store.now c.global.new.view c.args.history.now refusal
     (λ e ex. sym (meaning_of_refused (meant state.cursor) c.in-Err.error e
     (subst (λ (n : ℕ). Answers (meant n) (Err c.in-Err.error)) is.cursor (c.in-Err.ensures.answers state.text is.text)) ex))
-    (read_in c.in-Err.ensures.kept.present is))
+    (read_in c.in-Err.ensures.kept.present is) c.in-Err.ensures.kept.present)
     c.not_planned.ensures.refused

@@ -24,6 +24,7 @@ returns-in-Ok-clause-answers g c = λ state keep is.
         cursor = c.kept_within.ensures ∙ (ap (λ n. kept_within n c.args.cursor) lines ∙ ap (kept_within (length (state.history.texts c.in-Ok.number))) is.cursor);
       };
       oldest = refl;
+      works = tt;
     })
     (sym (ap moving meant))
 
@@ -31,12 +32,12 @@ pub returns-in-Err-clause-answers : goal.returns-in-Err-clause-answers
 returns-in-Err-clause-answers g c =
     not_made_answers c.not_made.result
     (λ answered. (state : State) (keep : Keep) → IsIn g.S.LineStore c.args.store.now c.args.history.now c.args.cursor state
-    → AnswersAs g.S.LineStore state keep (moving (goal_of c.args.step state.history.links)) answered c.go.new.store c.go.new.history)
+    → AnswersAs g.S.LineStore state keep (moving (goal_of c.args.step state.history.links)) answered c.args.store.now c.go.new.store c.go.new.history)
     c.in-Err.error _ c.not_made.ensures.refused c.not_made.ensures.done c.not_made.ensures.held
     (λ done held. elim c.in-Err.ensures.err [
       | inl here ↦ λ state keep is.
           let meant : goal_of c.args.step state.history.links ≡ Err c.in-Err.error =
           ap (goal_of c.args.step) (sym is.history.links) ∙ (goal-links_of c.args.step c.args.history.now ∙ here) in
-          as_meant (record { reply = refl; after = same_in c.in-Err.ensures.atomic.stayed is; oldest = refl }) (sym (ap moving meant))
+          as_meant (record { reply = refl; after = same_in c.in-Err.ensures.atomic.stayed is; oldest = refl; works = c.in-Err.ensures.atomic.stayed.text.worked_by }) (sym (ap moving meant))
       | inr other ↦ elim other [ inl no_memory ↦ absurd (done no_memory) | inr failed ↦ absurd (held failed) ]
     ])

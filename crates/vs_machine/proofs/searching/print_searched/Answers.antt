@@ -17,7 +17,7 @@ returns-in-Ok-clause-answers g c = λ state keep tree is.
     let meant : ℕ → _ = λ (n : ℕ). shown_in showing state.text (marked_by sought.range sought.invert sought.pattern.now state.text n) in
     let shown = subst (λ (n : ℕ). HasShown g.S.LineStore c.args.store.now showing (meant n) n c.in-Ok.output) is.cursor (c.in-Ok.ensures.shown state.text is.text) in
     shown-answers g.S.LineStore state keep c.args.store.now c.shown_in.new.store tree showing (meant state.cursor) c.in-Ok.output c.printed.result shown c.printed.ensures is.text
-    (c.in-Ok.ensures.kept.present.text state.text is.text) is.history
+    (c.in-Ok.ensures.kept.present.text state.text is.text) is.history c.in-Ok.ensures.kept.present.worked_by
 
 pub returns-in-Err-clause-answers : goal.returns-in-Err-clause-answers
 returns-in-Err-clause-answers g c = IfOk-weaker c.not_planned.result _ _
@@ -27,6 +27,6 @@ returns-in-Err-clause-answers g c = IfOk-weaker c.not_planned.result _ _
     let form = shown_lines showing.numbers state.text in
     let meant : ℕ → _ = λ (n : ℕ). shown_in showing state.text (marked_by sought.range sought.invert sought.pattern.now state.text n) in
     let refused = subst (λ (n : ℕ). IsRefused (meant n) c.in-Err.error) is.cursor (c.in-Err.ensures.refused state.text is.text) in
-    refused_by g.S.LineStore state keep (printing_all form state.cursor (meant state.cursor)) c.in-Err.error c.args.cursor answered c.shown_in.new.store tree refusal
-    (λ e ex. printing-refused form state.cursor (meant state.cursor) c.in-Err.error e refused ex) (read_in c.in-Err.ensures.kept.present is))
+    refused_by g.S.LineStore state keep (printing_all form state.cursor (meant state.cursor)) c.in-Err.error c.args.cursor answered c.args.store.now c.shown_in.new.store tree refusal
+    (λ e ex. printing-refused form state.cursor (meant state.cursor) c.in-Err.error e refused ex) (read_in c.in-Err.ensures.kept.present is) c.in-Err.ensures.kept.present)
     c.not_planned.ensures.refused

@@ -1,4 +1,4 @@
-use Rattle.std.proofs.Common.{◌≡◌, arith}
+use Rattle.std.proofs.Common.{◌≡◌, ◌∙◌, sym, arith}
 use Rattle.std.proofs.lemmas.Grind.{common_steps}
 use Rattle.vs_pages.specs.Memory.{present_of}
 use Rattle.vs_pages.specs.declared.memory.MemPages.{MemPages}
@@ -20,4 +20,5 @@ returns-clause-committed c =
     let text = text_in (present_of c.args.pages.now) c.args.tree.now.present in
     let told = text_told _ _ c.requires.present in
     given_back _ c.commit.new.self.pages.pages.now _ c.commit.new.self.tree.now (grind (arith, common_steps)) (grind (arith, common_steps))
-    (is_committed_at _ _ text c.commit.ensures.valid.1 c.commit.ensures.valid.2 (c.commit.ensures.present.text text told) (c.commit.ensures.committed.text text told))
+    (is_committed_at _ _ text c.commit.ensures.valid.1 c.commit.ensures.valid.2 (c.commit.ensures.present.text text told) (c.commit.ensures.committed.text text told)
+    (omega (arith, c.commit.ensures.present.most, c.commit.ensures.committed.most)) (c.commit.ensures.present.worked_by ∙ sym c.commit.ensures.committed.worked_by))

@@ -1,6 +1,9 @@
 use Rattle.std.proofs.Common.{◌∙◌, ◌++◌, true, sym, refl, ap}
-use Rattle.vs_pages.specs.Memory.{present_of, committed_of}
-use Rattle.vs_tree.proofs.Kept.{fits_kept}
+use Rattle.vs_pages.specs.Memory.{committed_of, present_of, state_of}
+use Rattle.vs_pages.specs.State.{Commits}
+use Rattle.vs_tree.proofs.Kept.{fits_kept, work_kept}
+use Rattle.vs_tree.proofs.Working.{history_worked}
+use Rattle.vs_tree.specs.declared.texts.Extent.{Extent}
 use Rattle.vs_tree.specs.declared.tree.LineTree.{LineTree}
 use Rattle.vs_tree.specs.TextIn.{text_in, text_in-HasText}
 use Rattle.vs_paged.proofs.PageLemmas.{text_had, room_end, text_back, text_stays}
@@ -39,4 +42,7 @@ returns-in-Err-clause-committed c =
       present_fits = c.push_lines.ensures.fits;
       committed_fits = fits_kept true (committed_of old) (committed_of new) _ _ (λ told. c.push_lines.ensures.kept.committed refl) c.push_lines.ensures.before c.requires.committed.committed_fits;
       same = then ∙ c.requires.committed.same ∙ sym now;
+      same_height = ap (λ (e : Extent). e.height) c.push_lines.ensures.before ∙ c.requires.committed.same_height ∙ sym (ap (λ (t : LineTree). t.present.height) c.in-Err.ensures.same);
+      idle = work_kept (state_of old) (state_of new) (history_worked (state_of old) (state_of new) (c.in-Err.ensures.back refl)) (c.push_lines.ensures.kept.commits refl)
+          ∙ c.requires.committed.idle ∙ sym (ap (λ (made : Commits). made.last) (c.push_lines.ensures.kept.commits refl));
     }

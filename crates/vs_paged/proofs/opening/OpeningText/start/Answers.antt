@@ -7,7 +7,7 @@ use Rattle.vs_host.specs.declared.names.Names.{Names}
 use Rattle.vs_pages.specs.Memory.{committed_of}
 use Rattle.vs_pages.specs.declared.memory.MemPages.{MemPages}
 use Rattle.vs_paged.specs.Fits.{Starting}
-use Rattle.vs_paged.proofs.PageLemmas.{is_paged, is_bounded}
+use Rattle.vs_paged.proofs.PageLemmas.{is_bounded}
 use Rattle.vs_paged.proofs.SyncLemmas.{names_opened, opened_starting, opened_fits, lines_opened}
 use Rattle.vs_paged.proofs.opening.OpeningText.start.Goals as goal
 
@@ -24,7 +24,7 @@ returns-clause-acts g c =
     (λ told d starting. opened_starting c.self.inside.pair c.self.inside.tree _ c.args.self c.self.invariant.0 refl c.self.view_is _ d starting) c.start.ensures.acts
 
 pub invariant_of-result : goal.invariant_of-result
-invariant_of-result g c = record { bounded = is_bounded c.self.inside.pair.pages c.self.inside.tree _ (is_paged _ _ c.self.invariant.0); started = omega (arith, c.in_ok-start.ensures.generation) }
+invariant_of-result g c = record { bounded = is_bounded c.self.inside.pair.pages c.self.inside.tree c.self.invariant.0; started = omega (arith, c.in_ok-start.ensures.generation) }
 
 pub returns-clause-fits : goal.returns-clause-fits
 returns-clause-fits g c told =
