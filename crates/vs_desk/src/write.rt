@@ -5,8 +5,10 @@ ghost use Rattle.vs_host.specs.Names.{AreNames};
 ghost use Rattle.vs_host.specs.Trace.{Looked};
 ghost use Rattle.vs_host.specs.World.{ChangesFolder, IsTold, content_of};
 ghost use Rattle.vs_disk.specs.Runs.{Runs};
+ghost use Rattle.vs_pages.specs.Memory.{state_of};
 ghost use Rattle.vs_pages.specs.declared.memory.MemPages.{MemPages};
 ghost use Rattle.vs_text.specs.Text.{file_of};
+ghost use Rattle.vs_tree.specs.Texts.{worked_by};
 ghost use Rattle.vs_backup.specs.Backups.{IsNoName, WorksOn, backs_up};
 ghost use Rattle.vs_backup.specs.Works.{SparesOthers};
 ghost use Rattle.vs_backup.specs.Writing.{FailsNoEarlier, IsFailed, OldIn};
@@ -96,6 +98,7 @@ pub fn write_text<F: Folder>(
     ensures names { names_of text.new ≡ names_of text.old }
     ensures generation { text.new.pair.files.generation ≡ text.old.pair.files.generation }
     ensures tree { text.new.tree ≡ text.old.tree }
+    ensures work { IsTrue F.tells.folder → worked_by (state_of text.new.pair.pages) ≡ worked_by (state_of text.old.pair.pages) }
 
     // The calls that failed, and the faults of the folder.
     ensures calls { IsTrue F.tells.folder → (lines : Text) (syncs : List Sync) → Fits text.old (F.scene host.old).folder lines syncs

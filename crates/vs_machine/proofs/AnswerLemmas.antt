@@ -1,8 +1,10 @@
 -- What an answer leaves of a store, its undo tree and a cursor.
 use Rattle.std.proofs.Common.{◌≡◌, ◌≢◌, ◌+◌, ◌<◌, ◌≤◌, if◌then◌else◌, ℕ, List, length, true, false, Option, Some, None, unwrap_or, Result, Ok, Err, IfOk, OnOk, ap, sym, subst, ◌∙◌, arith, refl}
+use Rattle.std.proofs.lemmas.Bool.{true≢false}
 use Rattle.std.proofs.lemmas.Bool.Decides.{nat_tests}
-use Rattle.vs_edit.specs.State.{SameText, TextState}
-use Rattle.vs_edit.proofs.Steps.{works_as, works_none}
+use Rattle.vs_edit.specs.Splices.{IsSmallSplice}
+use Rattle.vs_edit.specs.State.{SameText, TextState, WorksAtMost}
+use Rattle.vs_edit.proofs.Steps.{works_none}
 use Rattle.vs_edit.specs.declared.store.LineStore.{Ghosts}
 use Rattle.vs_edit.specs.declared.store.StoreErr.{StoreErr}
 use Rattle.vs_exparse.specs.Command.{Command}
@@ -34,22 +36,19 @@ pub as_meant : {S : Type 0} {g : Ghosts S} {state : State} {keep : Keep} {a b : 
 as_meant {S} {g} {state} {keep} {a} {b} {answered} {before} {store} {tree} answers is = subst (λ (m : Meaning). AnswersAs g state keep m answered before store tree) is answers
 
 -- no page was worked
-pub unworked : (text : List (List ℕ)) (meaning : Meaning) (old new : TextState) → new.worked_by ≡ old.worked_by → WorksAs text meaning old new
-unworked text (Refused error) old new same = same
-unworked text Unchanged old new same = same
-unworked text (Changed change) old new same = λ small. works_none old.most old.worked_by new.worked_by same
-unworked text (Moved number) old new same = tt
-unworked text (Stayed error) old new same = same
-unworked text (Printed bytes line) old new same = same
+pub unworked : (state : State) (meaning : Meaning) (most : ℕ) (old new : ℕ → ℕ) → new ≡ old → WorksAs state meaning most old new
+unworked state (Refused error) most old new same = same
+unworked state Unchanged most old new same = same
+unworked state (Changed change) most old new same = (λ used. same, λ small. works_none most old new same)
+unworked state (Moved number) most old new same = λ stays. same
+unworked state (Stayed error) most old new same = same
+unworked state (Printed bytes line) most old new same = same
 
 -- what was worked after a store was read
-works_read : (text : List (List ℕ)) (meaning : Meaning) (old mid new : TextState) → SameText old mid → WorksAs text meaning mid new → WorksAs text meaning old new
-works_read text (Refused error) old mid new same works = works ∙ same.worked_by
-works_read text Unchanged old mid new same works = works ∙ same.worked_by
-works_read text (Changed change) old mid new same works = λ small. works_as same.most same.worked_by refl (works small)
-works_read text (Moved number) old mid new same works = tt
-works_read text (Stayed error) old mid new same works = works ∙ same.worked_by
-works_read text (Printed bytes line) old mid new same works = works ∙ same.worked_by
+works_read : (state : State) (meaning : Meaning) (old mid new : TextState) → SameText old mid → WorksAs state meaning mid.most mid.worked_by new.worked_by
+    → WorksAs state meaning old.most old.worked_by new.worked_by
+works_read state meaning old mid new same works =
+    subst (λ (n : ℕ). WorksAs state meaning n old.worked_by new.worked_by) same.most (subst (λ (w : ℕ → ℕ). WorksAs state meaning mid.most w new.worked_by) same.worked_by works)
 
 -- an answer after a store was read
 pub after_reading : {S : Type 0} {g : Ghosts S} {state : State} {keep : Keep} {meaning : Meaning} {answered : Answered} {before mid store : S} {tree : Parts}
@@ -58,7 +57,7 @@ after_reading {g} {state} {meaning} {before} {mid} {store} same answers = record
   reply = answers.reply;
   after = answers.after;
   oldest = answers.oldest;
-  works = works_read state.text meaning (g.shows before).present (g.shows mid).present (g.shows store).present same answers.works;
+  works = works_read state meaning (g.shows before).present (g.shows mid).present (g.shows store).present same answers.works;
 }
 
 -- the state stays where tree and text do
@@ -84,7 +83,7 @@ pub made : {S : Type 0} (g : Ghosts S) (state : State) (keep : Keep) (number lin
     → IsHistory old state.text state.history → old.last < MAX_NUMBER → number ≡ old.last + 1 → root ≡ root_kept keep (links_of old) → oldest ≡ unwrap_or root 0 → lines ≡ length (spliced state.text change)
     → reply ≡ says (change_line number lines) → (g.shows store).present.Is (spliced state.text change)
     → IsHistory tree (spliced state.text change) (history_kept (spliced state.text change) keep state.history)
-    → WorksAs state.text (Changed change) (g.shows before).present (g.shows store).present
+    → (IsSmallSplice state.text change.top change.old change.new → WorksAtMost (g.shows before).present.most (g.shows before).present.worked_by (g.shows store).present.worked_by)
     → AnswersAs g state keep (Changed change) (record { reply = reply; cursor = change.cursor; oldest = Some oldest }) before store tree
 made g state keep number lines oldest root change reply old tree before store was room numbered rooted oldest_is counted replied has is works =
     let last : old.last ≡ state.history.links.last = ap (λ (p : Parts). p.last) was.links in
@@ -96,7 +95,7 @@ made g state keep number lines oldest root change reply old tree before store wa
       after = subst (λ (s : State). IsIn g store tree change.cursor s) (sym (ap (λ b. if b then state else changed_state state keep change) free)) (record { text = has; history = is; cursor = refl });
       oldest = ap Some oldest_is ∙ ap (λ (r : Option ℕ). Some (unwrap_or r 0)) (rooted ∙ ap (root_kept keep) was.links)
           ∙ sym (ap (λ b. if b then None else Some (unwrap_or (root_kept keep state.history.links) 0)) free);
-      works = works;
+      works = (λ used. absurd (true≢false (sym used ∙ free)), works);
     }
 
 -- a change for which there is no number
@@ -110,7 +109,7 @@ not_numbered g state keep line change old tree before store was full is same =
       reply = sym (ap (λ b. if b then refuses (undo_error_text NumbersFull) else says (change_line (state.history.links.last + 1) (length (spliced state.text change)))) used);
       after = subst (λ (s : State). IsIn g store tree line s) (sym (ap (λ b. if b then state else changed_state state keep change) used)) is;
       oldest = sym (ap (λ b. if b then None else Some (unwrap_or (root_kept keep state.history.links) 0)) used);
-      works = unworked state.text (Changed change) (g.shows before).present (g.shows store).present same.worked_by;
+      works = unworked state (Changed change) (g.shows before).present.most (g.shows before).present.worked_by (g.shows store).present.worked_by same.worked_by;
     }
 
 -- an error of a command that was planned

@@ -1,6 +1,7 @@
 -- Moves of the undo tree go where the machine says: the way of a state is the one way that it has.
 use Rattle.std.proofs.Common.{◌≡◌, ◌≢◌, ℕ, ◌==◌, ◌&&◌, if◌then◌else◌, true, false, Result, Ok, Err, IfOk, IfErr, inl, inr, ap, sym, subst, ◌∙◌, arith}
 use Rattle.std.proofs.lemmas.Bool.Decides.{nat_tests}
+use Rattle.vs_edit.specs.State.{SameText}
 use Rattle.vs_edit.specs.declared.store.LineStore.{Ghosts}
 use Rattle.vs_undo.specs.declared.error.UndoErr.{UndoErr}
 use Rattle.vs_undo.specs.declared.error.UndoErr.TheVariants.{AtOldest, AtNewest}
@@ -28,6 +29,12 @@ gone g old new before after goal sound moved = λ text history has is.
 pub all_gone : {S : Type 0} (g : Ghosts S) (old new : Parts) (before after : S) (r : Result ℕ UndoErr) → IsSound old → IfOk r (HasMoved g old new before after) → IfOk r (HasGone g old new before after)
 all_gone g old new before after (Ok goal) sound moved = gone g old new before after goal sound moved
 all_gone g old new before after (Err error) sound moved = tt
+
+-- a move to the state that one is in leaves what the store shows
+pub all_still : {S : Type 0} (g : Ghosts S) (old new : Parts) (before after : S) (r : Result ℕ UndoErr) → IfOk r (HasMoved g old new before after)
+    → IfOk r (λ number. number ≡ old.current → SameText (g.shows before).present (g.shows after).present)
+all_still g old new before after (Ok goal) moved = moved.still
+all_still g old new before after (Err error) moved = tt
 
 -- a test of two equations
 both_not : (a b c d : ℕ) (error : UndoErr) (there goal : ℕ) → (a ≡ c → b ≢ d) → goal ≡ there → (if (a == c) && (b == d) then Err error else Ok there) ≡ Ok goal

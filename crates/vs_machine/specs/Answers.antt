@@ -1,7 +1,7 @@
 -- What a session answers to a request over the text of a store with its undo tree.
-use Rattle.std.specs.Prelude.{◌≡◌, ◌⊎◌, ℕ, List, None, Result, Ok, Err}
+use Rattle.std.specs.Prelude.{◌≡◌, ◌⊎◌, ℕ, true, List, None, Result, Ok, Err}
 use Rattle.vs_edit.specs.Splices.{IsSmallSplice}
-use Rattle.vs_edit.specs.State.{TextState, WorksAtMost}
+use Rattle.vs_edit.specs.State.{WorksAtMost}
 use Rattle.vs_edit.specs.declared.store.LineStore.{Ghosts}
 use Rattle.vs_exparse.specs.declared.command.ExErr.{ExErr}
 use Rattle.vs_excmd.specs.declared.answer.PlanErr.{PlanErr}
@@ -14,7 +14,7 @@ use Rattle.vs_undo.specs.declared.error.UndoErr.{UndoErr}
 use Rattle.vs_undo.specs.declared.error.UndoErr.TheVariants.{NoMemory, Failed}
 use Rattle.vs_undo.specs.declared.parts.Parts.{Parts}
 use Rattle.vs_undo.specs.declared.keep.Keep.{Keep}
-use Rattle.vs_machine.specs.Machine.{State, Meaning, meaning_of, done_oldest, done_reply, done_state}
+use Rattle.vs_machine.specs.Machine.{State, Meaning, current_of, meaning_of, done_oldest, done_reply, done_state, is_used_up}
 use Rattle.vs_machine.specs.Machine.Meaning.{Changed, Moved, Printed, Refused, Stayed, Unchanged}
 use Rattle.vs_machine.specs.Replies.{error_text, refuses}
 use Rattle.vs_machine.specs.Shown.{last_shown, printed_all, shown_lines}
@@ -29,15 +29,16 @@ pub record IsIn {S : Type 0} (g : Ghosts S) (store : S) (tree : Parts) (line : �
   pub history : IsHistory tree state.text state.history
   pub cursor : line ≡ state.cursor
 
--- The pages that a command works which comes to this in a text: no more than it may for a small change, any for another one and for a
--- move, and none else.
-abbrev pub WorksAs : List (List ℕ) → Meaning → TextState → TextState → Type 0
-WorksAs text (Refused error) old new = new.worked_by ≡ old.worked_by
-WorksAs text Unchanged old new = new.worked_by ≡ old.worked_by
-WorksAs text (Changed change) old new = IsSmallSplice text change.top change.old change.new → WorksAtMost old.most old.worked_by new.worked_by
-WorksAs text (Moved number) old new = Unit {0}
-WorksAs text (Stayed error) old new = new.worked_by ≡ old.worked_by
-WorksAs text (Printed bytes line) old new = new.worked_by ≡ old.worked_by
+-- The pages that a command works which comes to this in a state: no more than it may for a small change that is made, any for another one and
+-- for a move to another state, and none else.
+abbrev pub WorksAs : State → Meaning → ℕ → (ℕ → ℕ) → (ℕ → ℕ) → Type 0
+WorksAs state (Refused error) most old new = new ≡ old
+WorksAs state Unchanged most old new = new ≡ old
+WorksAs state (Changed change) most old new =
+    (is_used_up state ≡ true → new ≡ old) × (IsSmallSplice state.text change.top change.old change.new → WorksAtMost most old new)
+WorksAs state (Moved number) most old new = number ≡ current_of state → new ≡ old
+WorksAs state (Stayed error) most old new = new ≡ old
+WorksAs state (Printed bytes line) most old new = new ≡ old
 
 -- The reply is the machine's to what a command comes to in a state, where a change is kept as this says, and the store, the tree and
 -- the cursor are in the state after it. The number is the one that the oldest state had before a change.
@@ -46,7 +47,7 @@ pub record AnswersAs {S : Type 0} (g : Ghosts S) (state : State) (keep : Keep) (
   pub reply : answered.reply ≡ done_reply state meaning
   pub after : IsIn g store tree answered.cursor (done_state state keep meaning)
   pub oldest : answered.oldest ≡ done_oldest state keep meaning
-  pub works : WorksAs state.text meaning (g.shows before).present (g.shows store).present
+  pub works : WorksAs state meaning (g.shows before).present.most (g.shows before).present.worked_by (g.shows store).present.worked_by
 
 -- An answer refuses a command for this error, which is one of the command.
 abbrev pub IsRefusal : PlanErr → ℕ → Answered → Type 0

@@ -1,5 +1,6 @@
 // Moves over the history of a text.
 ghost use Rattle.std.specs.Prelude.{◌≡◌, ◌≤◌, Ok, IfErr, IfOk};
+ghost use Rattle.vs_edit.specs.State.{SameText};
 ghost use Rattle.vs_undo.specs.Moves.{IsAtomic, IsReady};
 ghost use Rattle.vs_undo.specs.declared.keep.Keep.{Keep};
 ghost use Rattle.vs_machine.specs.Answers.{AnswersAs, HasGone, IsIn, IsWhy};
@@ -79,6 +80,7 @@ fn go<S: LineStore>(
     requires steps { HasSteps step }
     ensures goal { IfOk result (λ number. goal_of step history.old ≡ Ok number) }
     ensures gone { IfOk result (HasGone S.LineStore history.old history.new store.old store.new) }
+    ensures still { IfOk result (λ number. number ≡ history.old.current → SameText (S.shows store.old).present (S.shows store.new).present) }
     ensures err { IfErr result (IsWhy (goal_of step history.old)) }
     ensures atomic { IsAtomic S.LineStore history.old history.new store.old store.new UndoErr.Failed result }
 {

@@ -1,6 +1,7 @@
 -- Where two ways meet, and what a move writes below that.
-use Rattle.std.proofs.Common.{◌≡◌, ◌≢◌, ℕ, ◌-◌, ◌<◌, ◌≤◌, ◌==◌, if◌then◌else◌, true, false, List, [], ◌∷◌, ◌++◌, length, Option, Some, None, option_map, unwrap_or, IsSome, inl, inr, sym, ap, subst, ◌∙◌, arith, refl, append_assoc, append-nil, length-append}
+use Rattle.std.proofs.Common.{◌≡◌, ◌≢◌, ℕ, ◌-◌, ◌<◌, ◌≤◌, ◌==◌, if◌then◌else◌, true, false, List, [], ◌∷◌, ◌++◌, length, Option, Some, None, option_map, unwrap_or, IsSome, inl, inr, sym, ap, subst, ◌∙◌, arith, refl, append_assoc, append-nil, get_or, length-append, reverse}
 use Rattle.std.proofs.lemmas.Bool.Decides.{nat_tests}
+use Rattle.std.proofs.lemmas.List.{append_cancel_right, length-reverse}
 use Rattle.vs_entries.specs.declared.entry.Entry.{Entry}
 use Rattle.vs_undo.specs.declared.meeting.Meeting.{Meeting}
 use Rattle.vs_undo.specs.declared.parts.Node.{Node}
@@ -10,7 +11,7 @@ use Rattle.vs_undo.specs.Sound.{child_of, IsSound}
 use Rattle.vs_undo.specs.History.{changed, with_child, used, installed, arrived}
 use Rattle.vs_undo.specs.Meetings.{IsMeeting, IsSettled, IsUsed, Meets, used_below}
 use Rattle.vs_undo.proofs.ChangeLemmas.{at_written}
-use Rattle.vs_undo.proofs.MoveLemmas.{arrived_parent, installed_parent, way_same}
+use Rattle.vs_undo.proofs.MoveLemmas.{arrived_parent, installed_parent, same_way, way_same}
 use Rattle.vs_undo.proofs.NodeLemmas.{rest_is}
 use Rattle.vs_undo.proofs.SoundLemmas.{child_after, installed_child, last_child_in, start_kept, with_child_parent}
 use Rattle.vs_undo.proofs.WayLemmas.{one_way}
@@ -85,6 +86,20 @@ between up down path rest is = record {
 pub met_between : (m : Meeting) (from to path rest : List ℕ) → from ≡ m.from.items → to ≡ m.to.items → IsBetween from to path → IsBetween (m.from.items ++ rest) (m.to.items ++ rest) path
 met_between m from to path rest from_is to_is is =
     subst (λ w. IsBetween (m.from.items ++ rest) (w ++ rest) path) to_is (subst (λ w. IsBetween (w ++ rest) (to ++ rest) path) from_is (between from to path rest is))
+
+-- no part of one list below what it shares with itself
+none_apart : (up down : List ℕ) → up ≡ down → (0 < length up → 0 < length down → get_or up (length up - 1) 0 ≢ get_or down (length down - 1) 0) → length up ≡ 0
+none_apart [] down same differ = refl
+none_apart (n ∷ up) down same differ =
+    absurd (differ (omega arith) (subst (λ (way : List ℕ). 0 < length way) same (omega arith)) (ap (λ (way : List ℕ). get_or way (length way - 1) 0) same))
+
+-- there is nothing between two ways of one state
+pub none_between : (nodes : List Node) → IsTree nodes → (a b : ℕ) (from to path : List ℕ) → b ≡ a → IsWayOf nodes a from → IsWayOf nodes b to → IsBetween from to path → length path ≡ 0
+none_between nodes tree a b from to path one is_from is_to is =
+    let whole : from ≡ to = same_way nodes tree a from to is_from (subst (λ k. IsWayOf nodes k to) one is_to) in
+    let same : is.up ≡ is.down = append_cancel_right is.up is.down is.rest (sym is.from_is ∙ whole ∙ is.to_is) in
+    let none = none_apart is.up is.down same is.differ in
+    omega (arith, ap length is.path_is, length-append is.up (reverse is.down), length-reverse is.down, ap length same, none)
 
 -- a child that is last used already
 child_set : (p n : ℕ) (nodes : List Node) → last_child_in (node_at nodes p) ≡ n → changed p (λ (node : Node). record node { last_child = n }) nodes ≡ nodes

@@ -23,7 +23,8 @@ pub record IsReady {S : Type 0} (g : Ghosts S) (tree : Parts) (store : S) : Type
   pub texts : (text : List (List ℕ)) → (g.shows store).present.Is text → FitsText tree text
 
 -- The tree has moved to a state: each state on the way to it is the child last used of its parent, nothing else of the history
--- has changed, the store shows the text of that state, and the entries of each change are those that lead on from there.
+-- has changed, the store shows the text of that state, and the entries of each change are those that lead on from there. Where that
+-- is the state that it was in, the store shows what it showed.
 pub record HasMoved {S : Type 0} (g : Ghosts S) (old new : Parts) (before after : S) (number : ℕ) : Type 0 where
   pub way : List ℕ
   pub is_way : IsWayOf old.nodes number way
@@ -33,6 +34,7 @@ pub record HasMoved {S : Type 0} (g : Ghosts S) (old new : Parts) (before after 
   pub entries : (text : List (List ℕ)) (history : History) → (g.shows before).present.Is text → IsHistory old text history
       → (from : List ℕ) → IsWayOf old.nodes old.current from
       → (k : ℕ) (was now : Node) → node_at old.nodes k ≡ Some was → node_at new.nodes k ≡ Some now → now.entries ≡ exchanged from way history.texts was
+  pub still : number ≡ old.current → SameText (g.shows before).present (g.shows after).present
 
 -- The tree has one more change, with the entry that leads back, and has forgotten the oldest states as far as this says: the new state
 -- is the current one, and the store shows the spliced text.

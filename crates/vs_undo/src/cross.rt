@@ -2,6 +2,7 @@
 ghost use Rattle.std.specs.Prelude.{◌≡◌, ◌≢◌, ◌<◌, ◌≤◌, ℕ, List, [], Some, IfOk, IsErrOf, OnOk, get_or, length, max};
 ghost use Rattle.vs_faults.specs.Faults.{HasCause};
 ghost use Rattle.vs_edit.specs.Calls.{Continues};
+ghost use Rattle.vs_edit.specs.State.{SameText};
 ghost use Rattle.vs_entries.specs.Entries.{Leads, LeadsCount};
 ghost use Rattle.std.specs.List.Sorted.{IsStrictlyIncreasing};
 ghost use Rattle.vs_undo.specs.Numbers.{numbers};
@@ -82,6 +83,7 @@ pub(crate) fn cross<S: LineStore>(
         → (S.shows store.new).present.Is (c.states c.to) × AreTurned Leads nodes.now c.back c.states path.now turned.items (length path.now)) }
     ensures back { IfOk result (λ turned. (text : List (List ℕ)) → (S.shows store.old).present.Is text → (c : Crosses Leads nodes.now path.now text)
         → (i : ℕ) → i < length path.now → AreLedBack nodes.now c.back c.states (get_or path.now i 0) (get_or turned.items i [])) }
+    ensures still { OnOk result (length path.now ≡ 0 → SameText (S.shows store.old).present (S.shows store.new).present) }
     ensures kept { Continues S.LineStore store.old store.new }
     ensures cause { HasCause (S.shows store.old).faults (S.shows store.new).faults (IsErrOf result StoreErr.Failed) }
 {

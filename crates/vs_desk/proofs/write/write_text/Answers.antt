@@ -46,3 +46,6 @@ returns-clause-left g c told lines syncs fits =
 
 pub returns-clause-calls : goal.returns-clause-calls
 returns-clause-calls g c told lines syncs fits = c.write_in.ensures.calls told lines fits.pages
+
+pub returns-clause-work : goal.returns-clause-work
+returns-clause-work g c = c.write_in.ensures.same.work

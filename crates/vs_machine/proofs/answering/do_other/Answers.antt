@@ -1,4 +1,4 @@
-use Rattle.std.proofs.Common.{◌≡◌, ℕ, List, length, ap, sym, subst, ◌∙◌, rules}
+use Rattle.std.proofs.Common.{◌≡◌, ℕ, List, length, ap, sym, subst, ◌∙◌, refl, rules}
 use Rattle.vs_exparse.specs.Command.{Command, command_of}
 use Rattle.vs_exparse.specs.Form.{HasForm}
 use Rattle.vs_exparse.specs.declared.command.Command as borrowed

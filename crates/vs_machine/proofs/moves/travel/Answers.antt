@@ -1,6 +1,7 @@
 -- A move that was made is the machine's, and one that was not leaves all as it was.
 use Rattle.std.proofs.Common.{◌≡◌, length, Ok, Err, inl, inr, ap, sym, ◌∙◌, refl}
 use Rattle.vs_undo.specs.declared.keep.Keep.{Keep}
+use Rattle.vs_undo.specs.declared.parts.Parts.{Parts}
 use Rattle.vs_machine.specs.Answers.{AnswersAs, IsIn}
 use Rattle.vs_machine.specs.Machine.{State, moving}
 use Rattle.vs_machine.specs.Moves.{goal_of, kept_within}
@@ -24,7 +25,7 @@ returns-in-Ok-clause-answers g c = λ state keep is.
         cursor = c.kept_within.ensures ∙ (ap (λ n. kept_within n c.args.cursor) lines ∙ ap (kept_within (length (state.history.texts c.in-Ok.number))) is.cursor);
       };
       oldest = refl;
-      works = tt;
+      works = λ here. (c.in-Ok.ensures.still (here ∙ sym (ap (λ (p : Parts). p.current) is.history.links))).worked_by;
     })
     (sym (ap moving meant))
 

@@ -106,6 +106,7 @@ loop-number-preserved g c =
             ),
           );
       count = search rules;
+      still = λ none. absurd (omega (arith, none));
       some = some_more turned c.in_ok-back.back.items c.push.new.self.items i c.loop-number.invariant.count pushed c.loop-number.invariant.some (omega (arith, c.in_ok-back.ensures.count, ap length entries, c.requires.entries number node here));
       valid = c.in_ok-back.ensures.kept.valid;
       kept = Continues-trans g.met.S.LineStore.stays_on c.loop-number.invariant.kept c.in_ok-back.ensures.kept;
@@ -138,3 +139,6 @@ returns-clause-back g c = λ text has cr i within. (c.loop-number.invariant.text
 
 pub returns-clause-some : goal.returns-clause-some
 returns-clause-some g c = λ i within. c.loop-number.invariant.some i (omega arith)
+
+pub returns-clause-still : goal.returns-clause-still
+returns-clause-still g c = λ none. c.loop-number.invariant.still (omega (arith, none))

@@ -1,5 +1,6 @@
 use Rattle.std.proofs.Common.{◌≡◌, ◌<◌, ◌≤◌, ℕ, List, [], length, get_or, max, drop}
 use Rattle.vs_edit.specs.Calls.{Continues}
+use Rattle.vs_edit.specs.State.{SameText}
 use Rattle.vs_entries.specs.Entries.{Leads, LeadsCount}
 use Rattle.vs_undo.specs.Ways.{parent_at}
 use Rattle.vs_undo.specs.Turns.{AreLedBack}
@@ -19,6 +20,7 @@ invariant-loop-number g l = let old = l.initial.store in record {
       × ((j : ℕ) → j < l.number-index → AreLedBack l.nodes c.back c.states (get_or l.path j 0) (get_or l.turned.items j [])));
   count : length l.turned.items ≡ l.number-index;
   some : (i : ℕ) → i < l.number-index → 0 < length (get_or l.turned.items i []);
+  still : l.number-index ≡ 0 → SameText (g.S.LineStore.shows old).present (g.S.LineStore.shows l.store).present;
   valid : g.S.LineStore.valid l.store;
   kept : Continues g.S.LineStore old l.store;
   faults : (g.S.LineStore.shows old).faults ≤ (g.S.LineStore.shows l.store).faults;

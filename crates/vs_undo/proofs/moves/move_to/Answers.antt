@@ -12,7 +12,7 @@ use Rattle.vs_undo.specs.Forks.{IsStraightBelow}
 use Rattle.vs_undo.specs.Turns.{exchanged}
 use Rattle.vs_undo.proofs.ForkLemmas.{same_straight}
 use Rattle.vs_undo.specs.History.{arrived, links_of, moved}
-use Rattle.vs_undo.proofs.MeetingLemmas.{arrived_settled, met_between}
+use Rattle.vs_undo.proofs.MeetingLemmas.{arrived_settled, met_between, none_between}
 use Rattle.vs_undo.proofs.MoveLemmas.{arrived_parent, crosses_path, crossed, exchanged_after, links_of-arrived, same_way}
 use Rattle.vs_undo.proofs.ReadyLemmas.{gone_back, settled}
 use Rattle.vs_undo.proofs.SoundLemmas.{arrived_sound}
@@ -109,6 +109,11 @@ returns-in-Ok-clause-moved g c =
           subst (λ way. now.entries ≡ exchanged way to history.texts was) (same_way parts.nodes c.requires.sound.tree parts.current from way_from a is_from)
           (exchanged_after history.texts parts c.args.number from to path c.in-Ok.turned.items c.nodes.result.now c.deref-3.result.now text c.requires.sound.tree a (way_to g c) between
           c.nodes.ensures c.deref-3.ensures.value c.in-Ok.ensures.count is.are_states is.current (c.in-Ok.ensures.back text has) k was now was_at there);
+      still = λ here.
+          let met = c.in_ok-meeting.ensures in
+          let between = met_between c.in_ok-meeting.meeting c.deref.result.now c.deref-2.result.now c.in_ok-path.path.items met.meets.rest c.deref.ensures.value c.deref-2.ensures.value c.in_ok-path.ensures in
+          let none = none_between parts.nodes c.requires.sound.tree parts.current c.args.number _ to c.in_ok-path.path.items here met.meets.from (way_to g c) between in
+          SameText-trans (c.in-Ok.ensures.still (ap length c.deref-3.ensures.value ∙ none)) c.commit.ensures.present;
     }
 
 pub returns-in-Ok-clause-settled : goal.returns-in-Ok-clause-settled

@@ -2,6 +2,7 @@ use Rattle.std.proofs.Common.{◌≡◌, List, Some, None, sym, ap, ◌∙◌, i
 use Rattle.vs_undo.specs.declared.parts.Node.{Node}
 use Rattle.vs_undo.specs.declared.parts.Parts.{Parts}
 use Rattle.vs_undo.specs.Ways.{parent_at}
+use Rattle.vs_undo.proofs.ReadyLemmas.{moved}
 use Rattle.vs_undo.proofs.SoundLemmas.{parent_kept, root_is}
 use Rattle.vs_undo.proofs.tree.UndoTree.back.Goals as goal
 
@@ -19,3 +20,6 @@ go_to-requires-clause-kept g c =
 
 pub invariant_of-self-2 : goal.invariant_of-self-2
 invariant_of-self-2 g c = record { sound = c.go_to.ensures.sound; settled = c.go_to.ensures.settled; straight = c.go_to.ensures.straight c.self.inside.fork c.self.invariant.straight }
+
+pub returns-clause-moves : goal.returns-clause-moves
+returns-clause-moves g c = moved c.self.view_is c.in_ok-go_to.ensures.moved c.in_ok-go_to.ensures.atomic
