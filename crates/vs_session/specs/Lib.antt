@@ -11,3 +11,4 @@ pub mod Failures
 pub mod Wholeness
 pub mod Calls
 pub mod Lent
+pub mod Work

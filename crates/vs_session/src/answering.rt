@@ -1,11 +1,12 @@
 // The answer of the machine over a text in pages.
 ghost use Rattle.std.specs.Prelude.{◌≡◌, ◌≤◌, IfOk, IsErrOf, IsTrue, List, OnErr};
 ghost use Rattle.vs_excmd.specs.Request.{Instruction, IsFormed, IsRequest};
-ghost use Rattle.vs_machine.specs.Answers.{meaning_at};
+ghost use Rattle.vs_machine.specs.Answers.{WorksAs, meaning_at};
 ghost use Rattle.vs_machine.specs.Machine.{State, done_oldest, done_reply, done_state};
 ghost use Rattle.vs_safety.specs.Texts.{Sync};
 ghost use Rattle.vs_session.specs.Lent.{FitsWithUndo, IsLentWithUndo, KeepsLentWithUndo, KeepsWithUndo};
 ghost use Rattle.vs_session.specs.Standing.{FitsState, Stands};
+ghost use Rattle.vs_session.specs.Work.{SameWork, most_in, work_in};
 
 use std::alloc::Global;
 use vs_edit::StoreErr;
@@ -40,6 +41,10 @@ fn answer_in<F: Folder>(
     ensures oldest { IfOk result (λ answered. IsTrue F.tells.folder → (state : State) (instruction : Instruction)
         → Stands pair.old.pages tree.old history.old state → cursor ≡ state.cursor → IsRequest request.now instruction
         → answered.oldest ≡ done_oldest state keep (meaning_at state instruction)) }
+    ensures works { IfOk result (λ answered. IsTrue F.tells.folder → (state : State) (instruction : Instruction)
+        → Stands pair.old.pages tree.old history.old state → cursor ≡ state.cursor → IsRequest request.now instruction
+        → WorksAs state (meaning_at state instruction) (most_in tree.old) (work_in pair.old.pages) (work_in pair.new.pages)) }
+    ensures idle { OnErr result (SameWork F.tells pair.old.pages pair.new.pages) }
     ensures err { OnErr result (IsTrue F.tells.folder → (state : State) → Stands pair.old.pages tree.old history.old state
         → Stands pair.new.pages tree.new history.new state) }
     ensures kept { KeepsLentWithUndo F.tells (IsErrOf result StoreErr.Failed) pair.old pair.new tree.new history.new (F.scene host.old) (F.scene host.new) }
@@ -75,6 +80,10 @@ pub(crate) fn answer_text<F: Folder>(
     ensures oldest { IfOk result (λ answered. IsTrue F.tells.folder → (state : State) (syncs : List Sync) (instruction : Instruction)
         → FitsState text.old history.old (F.scene host.old).folder state syncs → cursor ≡ state.cursor → IsRequest request.now instruction
         → answered.oldest ≡ done_oldest state keep (meaning_at state instruction)) }
+    ensures works { IfOk result (λ answered. IsTrue F.tells.folder → (state : State) (syncs : List Sync) (instruction : Instruction)
+        → FitsState text.old history.old (F.scene host.old).folder state syncs → cursor ≡ state.cursor → IsRequest request.now instruction
+        → WorksAs state (meaning_at state instruction) (most_in text.old.tree) (work_in text.old.pair.pages) (work_in text.new.pair.pages)) }
+    ensures idle { OnErr result (SameWork F.tells text.old.pair.pages text.new.pair.pages) }
     ensures err { OnErr result (IsTrue F.tells.folder → (state : State) (syncs : List Sync)
         → FitsState text.old history.old (F.scene host.old).folder state syncs
         → FitsState text.new history.new (F.scene host.new).folder state syncs) }

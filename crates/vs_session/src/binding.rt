@@ -9,6 +9,7 @@ ghost use Rattle.vs_safety.specs.Texts.{Sync, Text};
 ghost use Rattle.vs_paged.specs.Fits as paged;
 ghost use Rattle.vs_paged.specs.Pages.{IsPaged};
 ghost use Rattle.vs_session.specs.Lent.{IsLent, KeepsLent, KeepsText};
+ghost use Rattle.vs_session.specs.Work.{SameWork};
 
 use std::alloc::Global;
 use vs_host::Folder;
@@ -35,6 +36,7 @@ fn bind_in<F: Folder>(
         → IsRefused (history_of contents.now) text error) }
     ensures counts { IfOk result (λ undo. FitsCount undo (max 1 tree.new.present.lines)) }
     ensures kept { KeepsLent F.tells (IsErrOf result BindErr.Failed) pair.old pair.new tree.old tree.new (F.scene host.old) (F.scene host.new) }
+    ensures works { SameWork F.tells pair.old.pages pair.new.pages }
 {
     let mut store = TreeStore {
         tree,
@@ -60,6 +62,7 @@ pub(crate) fn bind_text<F: Folder>(
         → IsRefused (history_of contents.now) lines error) }
     ensures counts { IfOk result (λ undo. FitsCount undo (max 1 text.new.tree.present.lines)) }
     ensures kept { KeepsText F.tells (IsErrOf result BindErr.Failed) text.old text.new (F.scene host.old) (F.scene host.new) }
+    ensures works { SameWork F.tells text.old.pair.pages text.new.pair.pages }
 {
     bind_in(alloc, &mut text.tree, &mut text.pair, host, contents)
 }

@@ -9,6 +9,7 @@ ghost use Rattle.vs_session.specs.Calls.{GoesOnReading, IsUsable};
 ghost use Rattle.vs_session.specs.Fits.{Fits, IsFault, IsMarkedAt, IsStep, names_of};
 ghost use Rattle.vs_session.specs.Session.{SessionState, history_in, is_fault, is_rundo, is_saved, with_history};
 ghost use Rattle.vs_session.specs.Taken.{IsTaken, outcome_by, taken_reply, unreadable_text};
+ghost use Rattle.vs_session.specs.Work.{SameWork};
 
 use crate::taking::{TakeErr, Taken};
 use crate::{Session, Step};
@@ -63,6 +64,7 @@ impl Session {
             × (result.0 ≡ outcome_by read) × (result.1 ≡ taken_reply read)
             × Fits self.new (F.scene host.new).folder (with_history (history_in read) state) syncs }
         ensures kept { GoesOnReading F.tells (is_fault result.0 ≡ true) self.old self.new (F.scene host.old) (F.scene host.new) }
+        ensures works { SameWork F.tells self.old.text.pair.pages self.new.text.pair.pages }
     {
         match self.take_undo(alloc, host) {
             Ok(Taken { tree, changes }) => {
@@ -84,6 +86,7 @@ impl Session {
             → is_rundo instruction.parsed ≡ true → IsStep result state syncs instruction self.old self.new (F.scene host.old) (F.scene host.new) }
         ensures time { IsMarkedAt result at }
         ensures kept { GoesOnReading F.tells (IsFault result) self.old self.new (F.scene host.old) (F.scene host.new) }
+        ensures works { SameWork F.tells self.old.text.pair.pages self.new.text.pair.pages }
     {
         let (outcome, reply) = self.replace_history(alloc, host);
         Step::Answer {

@@ -13,6 +13,7 @@ ghost use Rattle.vs_paged.specs.Fits.{Syncing};
 ghost use Rattle.vs_session.specs.Calls.{AnswersRequest, CarriesRequest, FitsFolder, GoesOnReading, GoesOnSyncing, IsUsable};
 ghost use Rattle.vs_session.specs.Fits.{Fits, FitsUndo, IsFault, IsMarkedAt, IsTimed, SameFile, StepsIn, generation_of, names_of};
 ghost use Rattle.vs_session.specs.Session.{SessionState, after_sync, answered, begins_after, carried, counted, is_fault, is_move, is_rundo, is_saved, is_write, is_wundo, options_set, own_reply, quits, sync_in, uses_files};
+ghost use Rattle.vs_session.specs.Work.{WorksIn, WorksRequest};
 
 use crate::answering::answer_text;
 use crate::session::STEPS_BETWEEN_SYNCS;
@@ -141,6 +142,8 @@ impl Session {
         ensures stays { OnErr result (IsTrue F.tells.folder → Rises (names_of self.old) (F.scene host.old).folder (F.scene host.new).folder → ⊥) }
         ensures file { SameFile self.old self.new }
         ensures generation { generation_of self.new ≡ generation_of self.old + 1 }
+        ensures pages { self.new.text.pair.pages ≡ self.old.text.pair.pages }
+        ensures tree { self.new.text.tree ≡ self.old.text.tree }
         ensures undo { FitsUndo self.old → FitsUndo self.new }
         ensures none { OnOk result (NoneFails F.tells (F.scene host.old) (F.scene host.new)) }
         ensures cause { HasCause (F.scene host.old).folder_faults (F.scene host.new).folder_faults (IsErr result) }
@@ -170,6 +173,7 @@ impl Session {
         ensures fits { CarriesRequest F.tells request.now (record { outcome = result.0; at = at }) self.old self.new
             (F.scene host.old).folder (F.scene host.new).folder }
         ensures kept { GoesOnReading F.tells (is_fault result.0 ≡ true) self.old self.new (F.scene host.old) (F.scene host.new) }
+        ensures works { WorksRequest F.tells request.now result.0 self.old self.new (F.scene host.old).folder }
         ensures stored { result.0 ≢ Outcome.NoUndo }
     {
         let before = self.history.current();
@@ -219,6 +223,7 @@ impl Session {
         ensures fits { CarriesRequest F.tells request.now (record { outcome = result.0; at = at }) self.old self.new
             (F.scene host.old).folder (F.scene host.new).folder }
         ensures kept { GoesOnReading F.tells (is_fault result.0 ≡ true) self.old self.new (F.scene host.old) (F.scene host.new) }
+        ensures works { WorksRequest F.tells request.now result.0 self.old self.new (F.scene host.old).folder }
         ensures stored { result.0 ≢ Outcome.NoUndo }
     {
         match own_reply(request) {
@@ -247,6 +252,7 @@ impl Session {
         ensures step { AnswersRequest F.tells request.now result self.old self.new (F.scene host.old) (F.scene host.new) }
         ensures time { IsMarkedAt result at }
         ensures kept { GoesOnSyncing (IsFault result) self.old self.new (F.scene host.old) (F.scene host.new) }
+        ensures works { WorksIn F.tells request.now result self.old self.new (F.scene host.old).folder }
     {
         match self.sync(host) {
             Ok(()) => {
@@ -275,6 +281,7 @@ impl Session {
         ensures step { AnswersRequest F.tells request.now result self.old self.new (F.scene host.old) (F.scene host.new) }
         ensures time { IsMarkedAt result at }
         ensures kept { GoesOnSyncing (IsFault result) self.old self.new (F.scene host.old) (F.scene host.new) }
+        ensures works { WorksIn F.tells request.now result self.old self.new (F.scene host.old).folder }
     {
         if is_write(request) {
             return self.answer_write(alloc, host, at);
@@ -309,6 +316,7 @@ impl Session {
         ensures file { SameFile self.old self.new }
         ensures room { generation_of self.new ≤ generation_of self.old + 1 }
         ensures quit { result ≡ Step.Quit → quits (result_of request.now.parsed) (is_saved self.old.saved self.old.history.current) ≡ true }
+        ensures works { WorksIn H.tells request.now result self.old self.new (H.scene host.old).folder }
         ensures clock { IsTrue (H.tells).clock → IsTimed result (H.scene host.old) (H.scene host.new) }
         ensures frame { StepsIn (H.scene host.old) (H.scene host.new) }
         ensures cause { HasCause (H.scene host.old).folder_faults (H.scene host.new).folder_faults (IsFault result) }

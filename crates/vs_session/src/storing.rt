@@ -10,6 +10,7 @@ ghost use Rattle.vs_session.specs.Calls.{GoesOn, IsUsable, KeepsState, StoresByt
 ghost use Rattle.vs_session.specs.Fits.{Fits, IsFault, IsMarkedAt, IsStep, names_of};
 ghost use Rattle.vs_session.specs.Session.{SessionState, is_wundo};
 ghost use Rattle.vs_session.specs.Stores.{StoresUndo};
+ghost use Rattle.vs_session.specs.Work.{SameWork};
 
 use crate::{Session, Step};
 use std::alloc::Global;
@@ -39,6 +40,7 @@ impl Session {
         ensures fits { KeepsState F.tells self.old self.new (F.scene host.old).folder (F.scene host.new).folder }
         ensures stops { StopsAtFault F.tells (IsErrOf result StoreErr.Failed) (F.scene host.old) (F.scene host.new) }
         ensures kept { GoesOn (IsErrOf result StoreErr.Failed) self.old self.new (F.scene host.old) (F.scene host.new) }
+        ensures works { SameWork F.tells self.old.text.pair.pages self.new.text.pair.pages }
     {
         let bytes = self.undo_bytes(alloc, host, false)?;
         match self.store_bytes(host, &bytes) {
@@ -55,6 +57,7 @@ impl Session {
             → is_wundo instruction.parsed ≡ true → IsStep result state syncs instruction self.old self.new (F.scene host.old) (F.scene host.new) }
         ensures time { IsMarkedAt result at }
         ensures kept { GoesOn (IsFault result) self.old self.new (F.scene host.old) (F.scene host.new) }
+        ensures works { SameWork F.tells self.old.text.pair.pages self.new.text.pair.pages }
     {
         match self.store_undo(alloc, host) {
             Ok(()) => Step::Answer {

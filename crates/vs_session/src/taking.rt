@@ -11,6 +11,7 @@ ghost use Rattle.vs_session.specs.Fits.{Fits, FitsUndo, SameFile, generation_of,
 ghost use Rattle.vs_session.specs.Lent.{KeepsText};
 ghost use Rattle.vs_session.specs.Session.{SessionState};
 ghost use Rattle.vs_session.specs.Taken.{IsTaken};
+ghost use Rattle.vs_session.specs.Work.{SameWork};
 
 use crate::Session;
 use crate::binding::bind_text;
@@ -83,6 +84,7 @@ fn bind_undo<F: Folder>(
         → IsUndoFile (history_of contents.now) bytes → IsTaken lines (Some bytes) (Err error)) }
     ensures counts { IfOk result (λ undo. FitsCount undo (max 1 text.new.tree.present.lines)) }
     ensures kept { KeepsText F.tells (IsErrOf result TakeErr.Failed) text.old text.new (F.scene host.old) (F.scene host.new) }
+    ensures works { SameWork F.tells text.old.pair.pages text.new.pair.pages }
 {
     match bind_text(alloc, text, host, contents) {
         Ok(tree) => Ok(tree),
@@ -116,6 +118,7 @@ impl Session {
         ensures file { SameFile self.old self.new }
         ensures generation { generation_of self.new ≡ generation_of self.old }
         ensures undo { FitsUndo self.old → FitsUndo self.new }
+        ensures works { SameWork F.tells self.old.text.pair.pages self.new.text.pair.pages }
     {
         let contents = load_undo(alloc, host, &self.text.pair.files.names)?;
         let tree = bind_undo(alloc, &mut self.text, host, &contents)?;

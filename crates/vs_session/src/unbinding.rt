@@ -11,6 +11,7 @@ ghost use Rattle.vs_session.specs.Fits.{Fits};
 ghost use Rattle.vs_session.specs.Lent.{FitsWithUndo, IsLentWithUndo, KeepsLentWithUndo, KeepsWithUndo};
 ghost use Rattle.vs_session.specs.Session.{SessionState};
 ghost use Rattle.vs_session.specs.Standing.{FitsState, Stands};
+ghost use Rattle.vs_session.specs.Work.{SameWork};
 
 use crate::Session;
 use std::alloc::Global;
@@ -39,6 +40,7 @@ fn unbind_in<F: Folder>(
     ensures stands { IsTrue F.tells.folder → (state : State) → Stands pair.old.pages tree.old history.now state
         → Stands pair.new.pages tree.new history.now state }
     ensures kept { KeepsLentWithUndo F.tells (IsErrOf result StoreErr.Failed) pair.old pair.new tree.new history.now (F.scene host.old) (F.scene host.new) }
+    ensures works { SameWork F.tells pair.old.pages pair.new.pages }
 {
     let mut store = TreeStore {
         tree,
@@ -63,6 +65,7 @@ fn unbind_text<F: Folder>(
     ensures fits { IsTrue F.tells.folder → (state : State) (syncs : List Sync) → FitsState text.old history.now (F.scene host.old).folder state syncs
         → FitsState text.new history.now (F.scene host.new).folder state syncs }
     ensures kept { KeepsWithUndo F.tells (IsErrOf result StoreErr.Failed) text.old text.new history.now (F.scene host.old) (F.scene host.new) }
+    ensures works { SameWork F.tells text.old.pair.pages text.new.pair.pages }
 {
     unbind_in(
         alloc,
@@ -91,6 +94,7 @@ impl Session {
         ensures fits { KeepsState F.tells self.old self.new (F.scene host.old).folder (F.scene host.new).folder }
         ensures kept { GoesOnReading F.tells (IsErrOf result StoreErr.Failed) self.old self.new (F.scene host.old) (F.scene host.new) }
         ensures still { IsTrue F.tells.folder → F.scene host.new ≡ F.scene host.old }
+        ensures works { SameWork F.tells self.old.text.pair.pages self.new.text.pair.pages }
     {
         let contents = unbind_text(alloc, &mut self.text, host, &self.history, save_next)?;
         let bytes = encode(alloc, &contents)?;

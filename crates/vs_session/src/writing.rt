@@ -10,6 +10,7 @@ ghost use Rattle.vs_safety.specs.Undo.{HasUndo, IsUndoOf};
 ghost use Rattle.vs_session.specs.Calls.{GoesOn, GoesOnSyncing, IsUsable, StoresBytes};
 ghost use Rattle.vs_session.specs.Fits.{Answers, Fits, IsFault, IsMarkedAt, IsStep, generation_of, names_of};
 ghost use Rattle.vs_session.specs.Session.{SessionState, is_fault, is_write, line_by};
+ghost use Rattle.vs_session.specs.Work.{SameWork};
 ghost use Rattle.vs_session.specs.Writes.{HasSynced, Wrote, outcome_to, reply_to};
 
 use crate::{Session, Step};
@@ -39,6 +40,7 @@ impl Session {
         ensures wrote { IsTrue F.tells.folder → (state : SessionState) (syncs : List Sync) → Fits self.old (F.scene host.old).folder state syncs
             → Wrote state syncs self.old self.new result (F.scene host.old) (F.scene host.new) }
         ensures kept { GoesOn (IsFailed result) self.old self.new (F.scene host.old) (F.scene host.new) }
+        ensures works { SameWork F.tells self.old.text.pair.pages self.new.text.pair.pages }
     {
         match write_text(alloc, &mut self.text, host, &self.options.write) {
             Ok(bytes) => {
@@ -58,6 +60,7 @@ impl Session {
             → is_write instruction.parsed ≡ true → state.options.undofile ≡ false → HasSynced state syncs before self.old start (F.scene host.old)
             → Answers state syncs instruction before self.new (record { outcome = result.0; at = at }) result.1 start (F.scene host.new) }
         ensures kept { GoesOn (is_fault result.0 ≡ true) self.old self.new (F.scene host.old) (F.scene host.new) }
+        ensures works { SameWork F.tells self.old.text.pair.pages self.new.text.pair.pages }
     {
         match self.write(alloc, host) {
             Ok(bytes) => (Outcome::Done, self.written(bytes)),
@@ -107,6 +110,7 @@ impl Session {
             → IsUndoOf state.machine.text (history_marked state.machine.history) undo.now
             → Answers state syncs instruction before self.new (record { outcome = result.0; at = at }) result.1 start (F.scene host.new) }
         ensures kept { GoesOn (is_fault result.0 ≡ true) self.old self.new (F.scene host.old) (F.scene host.new) }
+        ensures works { SameWork F.tells self.old.text.pair.pages self.new.text.pair.pages }
     {
         match self.write(alloc, host) {
             Ok(bytes) => self.store_written(host, undo, bytes),
@@ -122,6 +126,7 @@ impl Session {
             → is_write instruction.parsed ≡ true → state.options.undofile ≡ true → HasSynced state syncs before self.old start (F.scene host.old)
             → Answers state syncs instruction before self.new (record { outcome = result.0; at = at }) result.1 start (F.scene host.new) }
         ensures kept { GoesOn (is_fault result.0 ≡ true) self.old self.new (F.scene host.old) (F.scene host.new) }
+        ensures works { SameWork F.tells self.old.text.pair.pages self.new.text.pair.pages }
     {
         match self.undo_bytes(alloc, host, true) {
             Ok(undo) => self.write_and_store(alloc, host, &undo),
@@ -138,6 +143,7 @@ impl Session {
             → is_write instruction.parsed ≡ true → HasSynced state syncs before self.old start (F.scene host.old)
             → Answers state syncs instruction before self.new (record { outcome = result.0; at = at }) result.1 start (F.scene host.new) }
         ensures kept { GoesOn (is_fault result.0 ≡ true) self.old self.new (F.scene host.old) (F.scene host.new) }
+        ensures works { SameWork F.tells self.old.text.pair.pages self.new.text.pair.pages }
     {
         if self.options.undofile {
             return self.write_with_undo(alloc, host);
@@ -155,6 +161,7 @@ impl Session {
             → is_write instruction.parsed ≡ true → IsStep result state syncs instruction self.old self.new (F.scene host.old) (F.scene host.new) }
         ensures time { IsMarkedAt result at }
         ensures kept { GoesOnSyncing (IsFault result) self.old self.new (F.scene host.old) (F.scene host.new) }
+        ensures works { SameWork F.tells self.old.text.pair.pages self.new.text.pair.pages }
     {
         match self.sync(host) {
             Ok(()) => {

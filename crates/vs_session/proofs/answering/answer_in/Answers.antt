@@ -4,6 +4,9 @@ use Rattle.vs_undo.specs.History.{FitsCount, IsHistory}
 use Rattle.vs_paged.specs.Pages.{IsBounded}
 use Rattle.vs_session.proofs.StoreLemmas.{if_ok_as, present_fits, committed_fits, same_text, told_text, paged_text, bounded_tree, stands_paged, stands_undo, stands_back, keeps_back, cause_back}
 use Rattle.vs_paged.proofs.SyncLemmas.{on_err_as}
+use Rattle.vs_machine.specs.Answers.{meaning_at}
+use Rattle.vs_session.specs.Work.{most_in}
+use Rattle.vs_session.proofs.WorkLemmas.{unworked_back, works_back}
 use Rattle.vs_session.proofs.answering.answer_in.Goals as goal
 
 pub answer-requires-clause-ready : goal.answer-requires-clause-ready
@@ -54,3 +57,18 @@ returns-clause-kept g c =
       keeps = keeps_back g.F.World.tells c.args.pair.now _ _ (g.F.World.scene c.args.host.now) _ _ (c.pair-1.given.1 (sym stays.1.0)) (ap (λ (h : g.row.F.Denot). g.F.World.scene h) (c.host-1.given.1 (sym stays.1.1))) stays.1.2;
       cause = cause_back (g.F.World.scene c.args.host.now).folder_faults _ _ (ap (λ (h : g.row.F.Denot). g.F.World.scene h) (c.host-1.given.1 (sym stays.1.1))) c.answer.ensures.atomic.cause;
     }
+
+pub returns-clause-works : goal.returns-clause-works
+returns-clause-works g c =
+    let stays = c.answer.ensures.atomic.stays in
+    if_ok_as c.answer.result _ _
+    (λ answered ans told state instruction stands cursor is.
+    works_back g.F.World.tells.folder state (meaning_at state instruction) (most_in c.args.tree.now) c.args.pair.now.pages _ c.answer.new.store.pages.pair.now (c.pair-1.given.1 (sym stays.1.0)) told
+    (ans state instruction (record { text = told_text _ _ _ _ told stands.text; history = stands.history; cursor = cursor }) is).works)
+    c.answer.ensures.answers
+
+pub returns-clause-idle : goal.returns-clause-idle
+returns-clause-idle g c =
+    let stays = c.answer.ensures.atomic.stays in
+    on_err_as c.answer.result _ _
+    (λ stayed. unworked_back g.F.World.tells.folder c.args.pair.now.pages _ c.answer.new.store.pages.pair.now (c.pair-1.given.1 (sym stays.1.0)) stayed.text.worked_by) c.answer.ensures.atomic.stayed

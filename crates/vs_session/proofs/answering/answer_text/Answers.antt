@@ -42,3 +42,10 @@ returns-clause-err g c =
     (λ err told state syncs fits.
     state_left _ c.args.text.now _ c.args.history.now _ _ _ state state syncs keeps fits (err told state (record { text = fits.text.pages; history = fits.history })))
     c.answer_in.ensures.err
+
+pub returns-clause-works : goal.returns-clause-works
+returns-clause-works g c =
+    if_ok_as c.answer_in.result _ _ (λ answered works told state syncs instruction fits cursor is. works told state instruction (record { text = fits.text.pages; history = fits.history }) cursor is) c.answer_in.ensures.works
+
+pub returns-clause-idle : goal.returns-clause-idle
+returns-clause-idle g c = c.answer_in.ensures.idle

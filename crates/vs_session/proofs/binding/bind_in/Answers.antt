@@ -5,6 +5,7 @@ use Rattle.vs_paged.specs.Pages.{IsBounded}
 use Rattle.vs_session.proofs.Bindings.{history_there, if_err_as, if_ok_two}
 use Rattle.vs_session.proofs.StoreLemmas.{if_ok_as, present_fits, committed_fits, same_text, told_text, keeps_back, cause_back}
 use Rattle.vs_session.proofs.SummaryLemmas.{bounded_stays, paged_stays}
+use Rattle.vs_session.proofs.WorkLemmas.{unworked_back}
 use Rattle.vs_session.proofs.binding.bind_in.Goals as goal
 
 pub bind-requires-clause-valid : goal.bind-requires-clause-valid
@@ -41,3 +42,7 @@ returns-clause-kept g c =
       keeps = keeps_back g.F.World.tells c.args.pair.now _ _ (g.F.World.scene c.args.host.now) _ _ (c.pair-1.given.1 (sym stays.1.0)) (ap (λ (h : g.row.F.Denot). g.F.World.scene h) (c.host-1.given.1 (sym stays.1.1))) stays.1.2;
       cause = cause_back (g.F.World.scene c.args.host.now).folder_faults _ _ (ap (λ (h : g.row.F.Denot). g.F.World.scene h) (c.host-1.given.1 (sym stays.1.1))) c.bind.ensures.cause;
     }
+
+pub returns-clause-works : goal.returns-clause-works
+returns-clause-works g c =
+    unworked_back g.F.World.tells.folder c.args.pair.now.pages _ c.bind.new.text.pages.pair.now (c.pair-1.given.1 (sym c.bind.ensures.kept.stays.1.0)) c.bind.ensures.present.worked_by

@@ -3,6 +3,7 @@ use Rattle.vs_tree.specs.declared.tree.LineTree.{LineTree}
 use Rattle.vs_undo.specs.History.{FitsCount}
 use Rattle.vs_paged.specs.Pages.{IsBounded}
 use Rattle.vs_session.proofs.StoreLemmas.{if_ok_as, present_fits, committed_fits, same_text, told_text, paged_text, bounded_tree, stands_paged, stands_undo, stands_back, keeps_back, cause_back, kept_same}
+use Rattle.vs_session.proofs.WorkLemmas.{unworked_back}
 use Rattle.vs_session.proofs.unbinding.unbind_in.Goals as goal
 
 pub unbind-requires : goal.unbind-requires
@@ -38,3 +39,8 @@ returns-clause-kept g c =
       keeps = keeps_back g.F.World.tells c.args.pair.now _ _ (g.F.World.scene c.args.host.now) _ _ (c.pair-1.given.1 (sym stays.1.0)) (ap (λ (h : g.row.F.Denot). g.F.World.scene h) (c.host-1.given.1 (sym stays.1.1))) stays.1.2;
       cause = cause_back (g.F.World.scene c.args.host.now).folder_faults _ _ (ap (λ (h : g.row.F.Denot). g.F.World.scene h) (c.host-1.given.1 (sym stays.1.1))) c.unbind.ensures.cause;
     }
+
+pub returns-clause-works : goal.returns-clause-works
+returns-clause-works g c =
+    let kept = c.unbind.ensures.kept in
+    unworked_back g.F.World.tells.folder c.args.pair.now.pages _ c.unbind.new.text.pages.pair.now (c.pair-1.given.1 (sym kept.stays.1.0)) kept.present.worked_by

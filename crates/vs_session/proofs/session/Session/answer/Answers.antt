@@ -2,6 +2,7 @@ use Rattle.std.proofs.Common.{◌≡◌, ◌||◌, false, sym, ap, ◌∙◌}
 use Rattle.vs_session.specs.Session.{is_rundo, is_write, is_wundo, uses_files}
 use Rattle.vs_session.proofs.SessionLemmas.{quits_is, begins_is}
 use Rattle.vs_session.proofs.Steps.{answers_plainly}
+use Rattle.vs_session.proofs.WorkLemmas.{step_unworked}
 use Rattle.vs_session.proofs.session.Session.answer.Goals as goal
 
 pub returns-clause-step : goal.returns-clause-step
@@ -24,3 +25,15 @@ returns-then-is_wundo-clause-step g c told state syncs instruction fits is = c.a
 
 pub returns-then-is_rundo-clause-step : goal.returns-then-is_rundo-clause-step
 returns-then-is_rundo-clause-step g c told state syncs instruction fits is = c.answer_rundo.ensures.step told state syncs instruction fits (sym (ap is_rundo is.parsed) ∙ sym c.is_rundo.ensures ∙ c.if-is_rundo.true)
+
+pub returns-clause-works : goal.returns-clause-works
+returns-clause-works g c = c.carry_out-outcome.ensures.works
+
+pub returns-then-is_write-clause-works : goal.returns-then-is_write-clause-works
+returns-then-is_write-clause-works g c = step_unworked g.F.World.tells c.args.request.now c.answer_write.result c.args.self.now c.answer_write.new.self (g.F.World.scene c.args.host.now).folder c.answer_write.ensures.works
+
+pub returns-then-is_wundo-clause-works : goal.returns-then-is_wundo-clause-works
+returns-then-is_wundo-clause-works g c = step_unworked g.F.World.tells c.args.request.now c.answer_wundo.result c.args.self.now c.answer_wundo.new.self (g.F.World.scene c.args.host.now).folder c.answer_wundo.ensures.works
+
+pub returns-then-is_rundo-clause-works : goal.returns-then-is_rundo-clause-works
+returns-then-is_rundo-clause-works g c = step_unworked g.F.World.tells c.args.request.now c.answer_rundo.result c.args.self.now c.answer_rundo.new.self (g.F.World.scene c.args.host.now).folder c.answer_rundo.ensures.works

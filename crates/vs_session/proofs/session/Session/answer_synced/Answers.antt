@@ -2,6 +2,9 @@ use Rattle.std.proofs.Common.{◌∷◌, true, false, refl, sym, ap, ◌∙◌}
 use Rattle.vs_session.specs.Session.{after_sync, sync_in, uses_files}
 use Rattle.vs_session.proofs.SessionLemmas.{quits_is, begins_is}
 use Rattle.vs_session.proofs.Steps.{answers_synced, answers_failed}
+use Rattle.vs_machine.specs.Answers.{meaning_at}
+use Rattle.vs_session.specs.Work.{work_in}
+use Rattle.vs_session.proofs.WorkLemmas.{works_synced}
 use Rattle.vs_session.proofs.session.Session.answer_synced.Goals as goal
 
 pub carry_out-outcome-requires-clause-usable : goal.carry_out-outcome-requires-clause-usable
@@ -28,3 +31,11 @@ returns-in-Err-clause-step g c told state syncs instruction fits is =
     answers_failed state syncs instruction c.args.self.now old (quits_is c.args.self.now old.folder state syncs instruction _ false fits is.parsed c.requires.goes_on) fits c.sync.new.self c.args.at _ new
     (begins_is c.args.self.now old.folder state syncs instruction _ true fits is.parsed c.requires.begins) c.in-Err.ensures.file.names c.in-Err.ensures.acts.frame (c.in-Err.ensures.acts.runs told) (c.in-Err.ensures.acts.last told)
     (c.in-Err.ensures.cause.risen refl) c.device_fault.ensures (c.in-Err.ensures.stays told) (c.in-Err.ensures.err told state syncs fits)
+
+pub returns-in-Ok-clause-works : goal.returns-in-Ok-clause-works
+returns-in-Ok-clause-works g c told state syncs instruction fits is =
+    works_synced c.carry_out-outcome.result.0 state.machine (meaning_at state.machine instruction) c.args.self.now c.sync.new.self c.carry_out-outcome.new.self c.in-Ok.ensures.pages c.in-Ok.ensures.tree
+    (c.carry_out-outcome.ensures.works told (after_sync state true) (sync_in state true ∷ syncs) instruction (c.in-Ok.ensures.ok told state syncs fits) is)
+
+pub returns-in-Err-clause-works : goal.returns-in-Err-clause-works
+returns-in-Err-clause-works g c told state syncs instruction fits is = ap work_in c.in-Err.ensures.pages

@@ -1,7 +1,8 @@
-use Rattle.std.proofs.Common.{◌∷◌, true, refl}
+use Rattle.std.proofs.Common.{◌∷◌, true, refl, ap, ◌∙◌}
 use Rattle.vs_session.specs.Session.{after_sync, sync_in}
 use Rattle.vs_session.proofs.Steps.{answers_failed}
 use Rattle.vs_session.proofs.WriteCommand.{begins_is, never_quits}
+use Rattle.vs_session.specs.Work.{work_in}
 use Rattle.vs_session.proofs.session.Session.answer_write.Goals as goal
 
 pub write_files-outcome-requires : goal.write_files-outcome-requires
@@ -32,3 +33,9 @@ returns-in-Err-clause-step g c told state syncs instruction fits is =
     answers_failed state syncs instruction c.args.self.now old (never_quits instruction.parsed _ is) fits c.sync.new.self c.args.at _ new
     (begins_is state.steps instruction.parsed is) c.in-Err.ensures.file.names c.in-Err.ensures.acts.frame (c.in-Err.ensures.acts.runs told) (c.in-Err.ensures.acts.last told)
     (c.in-Err.ensures.cause.risen refl) c.device_fault.ensures (c.in-Err.ensures.stays told) (c.in-Err.ensures.err told state syncs fits)
+
+pub returns-in-Ok-clause-works : goal.returns-in-Ok-clause-works
+returns-in-Ok-clause-works g c told = c.write_files-outcome.ensures.works told ∙ ap work_in c.in-Ok.ensures.pages
+
+pub returns-in-Err-clause-works : goal.returns-in-Err-clause-works
+returns-in-Err-clause-works g c told = ap work_in c.in-Err.ensures.pages

@@ -52,3 +52,12 @@ returns-in-Err-Failed-clause-fits g c told state syncs instruction fits is = rec
   options = fits.options;
   acknowledged = fits.acknowledged;
 }
+
+pub returns-in-Ok-clause-works : goal.returns-in-Ok-clause-works
+returns-in-Ok-clause-works g c told state syncs instruction fits is = c.in-Ok.ensures.works told state.machine syncs instruction fits.stands fits.cursor is
+
+pub returns-in-Err-NoMemory-clause-works : goal.returns-in-Err-NoMemory-clause-works
+returns-in-Err-NoMemory-clause-works g c told state syncs instruction fits is = c.in-Err-NoMemory.ensures.idle told
+
+pub returns-in-Err-Failed-clause-works : goal.returns-in-Err-Failed-clause-works
+returns-in-Err-Failed-clause-works g c told state syncs instruction fits is = c.in-Err-Failed.ensures.idle told

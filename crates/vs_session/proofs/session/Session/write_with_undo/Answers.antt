@@ -47,3 +47,6 @@ returns-in-Err-Failed-clause-step g c told state syncs instruction before start 
     answers_refused state syncs instruction is before c.args.self.now start mid s (error.Failed Nowhere) at c.undo_bytes.new.self seen (reads_change mid seen why.kept.frame) (why.kept.file.names ∙ s.names)
     (wrote_nothing (after_sync state true) (sync_in state true ∷ syncs) c.args.self.now c.undo_bytes.new.self mid seen (g.F.World.is_folder c.args.host.now told) (why.kept.looks told) (why.still told) s.synced (why.fits told (after_sync state true) (sync_in state true ∷ syncs) s.synced))
     Fault _ (λ _. inl (quiet_still mid seen (why.still told))) (λ fault in_backup. (Nowhere, refl)) (record { later = why.kept.cause.later; risen = λ e. why.kept.cause.risen (ap error_is c.in-Err-Failed.field-0-is) }) (inr (refl, c.device_fault.ensures))
+
+pub returns-in-Ok-clause-works : goal.returns-in-Ok-clause-works
+returns-in-Ok-clause-works g c told = c.write_and_store.ensures.works told ∙ c.in-Ok.ensures.works told
