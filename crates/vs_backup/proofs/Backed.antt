@@ -8,10 +8,10 @@ use Rattle.vs_host.specs.Disk.{Disk, Name, names_of, read_under, content_in}
 use Rattle.vs_host.specs.World.{HasNewest, Scene, ChangesFolder}
 use Rattle.vs_host.specs.declared.traits.Failed.{Failed}
 use Rattle.vs_disk.specs.Images.{HoldsBytes, MayLeave}
-use Rattle.vs_disk.specs.Runs.{Runs, Looks}
-use Rattle.vs_disk.proofs.Runs.{runs_as, runs_on, starts}
+use Rattle.vs_disk.specs.Runs.{Looks, Runs}
+use Rattle.vs_disk.proofs.Runs.{runs_as}
 use Rattle.vs_disk.proofs.Contents.{image_holds}
-use Rattle.vs_backup.specs.Works.{Drops, HasSynced, IsGone, Narrowed, Spares, SparesOthers, one_name}
+use Rattle.vs_backup.specs.Works.{Drops, HasSynced, IsGone, Narrowed, Spares, SparesOthers, Steps, one_name}
 use Rattle.vs_backup.specs.Writing.{IsKept, IsWhole, IsSettled, OldIn, WritesOver, WritesBacked, BeginsWhole, backed_names, stopped}
 use Rattle.vs_backup.specs.declared.errors.Place.{Place}
 use Rattle.vs_backup.specs.declared.errors.Place.TheVariants as place
@@ -20,7 +20,8 @@ use Rattle.vs_backup.specs.declared.errors.Stop.TheVariants as stop
 use Rattle.vs_backup.specs.declared.errors.WriteErr.{WriteErr}
 use Rattle.vs_backup.specs.declared.errors.WriteErr.TheVariants as error
 use Rattle.vs_backup.proofs.Calls.{runs_wider, spares_on}
-use Rattle.vs_backup.proofs.Frames.{narrowed_none, narrowed_then, holds_spared}
+use Rattle.vs_backup.proofs.Following.{looks_narrowed, narrowed_now, narrowed_on, narrowed_starts}
+use Rattle.vs_backup.proofs.Frames.{holds_spared}
 use Rattle.vs_backup.proofs.Kept.{may_leave_now}
 use Rattle.vs_backup.proofs.Copying.{content_held, kept_on, never_refused}
 use Rattle.vs_backup.proofs.Others.{others_spared, others_looks, others_on, others_starts}
@@ -52,9 +53,6 @@ backup_named false name temporary backup n is = inr is
 pub file_named : (copying : Bool) (name temporary backup : Name) → backed_names copying name temporary backup name
 file_named true name temporary backup = inl refl
 file_named false name temporary backup = inl refl
-
-pub narrowed_starts : (s0 : Scene) → Runs Narrowed s0 s0
-narrowed_starts s0 = starts Narrowed s0 (narrowed_none s0.folder s0.folder refl)
 
 risen_before : (a b c : ℕ) → a ≤ b → HasRisen b c → HasRisen a c
 risen_before a b c le (inl lt) = inl (omega arith)
@@ -165,10 +163,10 @@ module _ (copying keep : Bool) (name temporary backup : Name) (old new : List �
       }
 
 -- ---- from a file that is there
-module _ (copying keep : Bool) (name temporary backup : Name) (old new : List ℕ) (s0 s1 : Scene) (content : content_in s0.folder name ≡ Some old) (looked : Runs Narrowed s0 s1)
+module _ (copying keep : Bool) (name temporary backup : Name) (old new : List ℕ) (s0 s1 : Scene) (content : content_in s0.folder name ≡ Some old) (looked : Steps Narrowed s0 s1)
     (spared : SparesOthers (backed_names copying name temporary backup) s0 s1) where
   may_leave_narrowed : MayLeave s1.folder name (Some old)
-  may_leave_narrowed = may_leave_now name old s1.folder (narrowed_content name s0.folder s1.folder looked.now ∙ content)
+  may_leave_narrowed = may_leave_now name old s1.folder (narrowed_content name s0.folder s1.folder (narrowed_now s0 s1 looked) ∙ content)
 
   -- nothing has changed
   pub backed_not_begun : (why : WriteErr) → (OldIn {T = ℕ} place.Nowhere (Err why) → ⊥) → (OldIn {T = ℕ} place.Backup (Err why) → ⊥) → (IsErrOf {T = ℕ} (Err why) error.NoBackupName → ⊥)
@@ -181,7 +179,7 @@ module _ (copying keep : Bool) (name temporary backup : Name) (old new : List �
     gone = λ goes. tt;
     aside = λ copies. tt;
     not_written = inl may_leave_narrowed;
-    returned = inl (narrowed_content name s0.folder s1.folder looked.now ∙ content);
+    returned = inl (narrowed_content name s0.folder s1.folder (narrowed_now s0 s1 looked) ∙ content);
     in_file = λ refused. inl looked;
     in_backup = λ refused. absurd (not_backup refused);
     somewhere = (somewhere, no_name);
@@ -194,7 +192,7 @@ module _ (copying keep : Bool) (name temporary backup : Name) (old new : List �
     moments = elim backed.moments [
       | inl whole ↦ inl (record {
         begun = whole.begun;
-        looked = runs_on Narrowed narrowed_then s0 s1 whole.begun frame looked whole.looked;
+        looked = narrowed_on s0 s1 whole.begun frame looked whole.looked;
         moment = whole.moment;
         order = whole.order;
         settled = whole.settled;
@@ -204,7 +202,7 @@ module _ (copying keep : Bool) (name temporary backup : Name) (old new : List �
         spares = whole.spares;
         anew = whole.anew;
       })
-      | inr none ↦ inr (runs_on Narrowed narrowed_then s0 s1 s2 frame looked none.0, none.1)
+      | inr none ↦ inr (narrowed_on s0 s1 s2 frame looked none.0, none.1)
     ];
     others = others_on (backed_names copying name temporary backup) s0 s1 s2 frame looked spared backed.others;
     written = backed.written;
@@ -214,7 +212,7 @@ module _ (copying keep : Bool) (name temporary backup : Name) (old new : List �
     not_written = backed.not_written;
     returned = backed.returned;
     in_file = λ refused. elim (backed.in_file refused) [
-      | inl none ↦ inl (runs_on Narrowed narrowed_then s0 s1 s2 frame looked none)
+      | inl none ↦ inl (narrowed_on s0 s1 s2 frame looked none)
       | inr holds ↦ inr holds
     ];
     in_backup = backed.in_backup;
@@ -252,9 +250,6 @@ never_elsewhere stop.NoMemory at other (inr is) = let same : place.File ≡ at =
 never_unnamed : (why : Stop) → IsErrOf {T = ℕ} (Err (stopped why place.File)) error.NoBackupName → ⊥
 never_unnamed stop.Failed is = cc
 never_unnamed stop.NoMemory is = cc
-
-pub looks_narrowed : (s0 s1 : Scene) → Looks s0 s1 → Runs Narrowed s0 s1
-looks_narrowed s0 s1 looks = runs_as (λ a b. b ≡ a) Narrowed s0 s1 (λ d same. narrowed_none s0.folder d same) looks
 
 pub backed_stopped : (copying keep : Bool) (name temporary backup : Name) (old new : List ℕ) (s0 s1 : Scene) → content_in s0.folder name ≡ Some old → Looks s0 s1 → (why : Stop)
     → WritesBacked copying keep name temporary backup old new s0 s1 (Err (stopped why place.File))

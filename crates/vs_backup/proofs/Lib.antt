@@ -5,6 +5,7 @@ pub mod Choosing
 pub mod Copying
 pub mod Doing
 pub mod Filling
+pub mod Following
 pub mod Frames
 pub mod Free
 pub mod Going

@@ -7,7 +7,8 @@ use Rattle.vs_disk.specs.Names.{IsApart, SameAt}
 use Rattle.vs_disk.specs.Runs.{Runs, Looks}
 use Rattle.vs_disk.proofs.Runs.{runs_as, runs_on, starts}
 use Rattle.vs_disk.proofs.Others.{same_none, same_then}
-use Rattle.vs_backup.specs.Works.{Narrowed, Spares, SparesOthers}
+use Rattle.vs_backup.specs.Works.{Narrowed, Spares, SparesOthers, Steps}
+use Rattle.vs_backup.proofs.Following.{narrowed_now}
 
 apart_narrowed : (inside : Name → Bool) (old new : Disk) → Narrowed old new → IsApart inside old → IsApart inside new
 apart_narrowed inside old new narrowed apart = record {
@@ -35,9 +36,9 @@ pub others_wider : (on wide : Name → Type 0) (s0 s1 : Scene) → ((name : Name
 others_wider on wide s0 s1 leads others inside out apart = others inside (λ name is here. out name is (leads name here)) apart
 
 -- after calls that changed nothing that is read
-pub others_on : (on : Name → Type 0) (s0 s1 s2 : Scene) → ChangesFolder s0 s1 → Runs Narrowed s0 s1 → SparesOthers on s0 s1 → SparesOthers on s1 s2 → SparesOthers on s0 s2
+pub others_on : (on : Name → Type 0) (s0 s1 s2 : Scene) → ChangesFolder s0 s1 → Steps Narrowed s0 s1 → SparesOthers on s0 s1 → SparesOthers on s1 s2 → SparesOthers on s0 s2
 others_on on s0 s1 s2 frame looked first second inside out apart =
-    runs_on (SameAt inside) (same_then inside) s0 s1 s2 frame (first inside out apart) (second inside out (apart_narrowed inside s0.folder s1.folder looked.now apart))
+    runs_on (SameAt inside) (same_then inside) s0 s1 s2 frame (first inside out apart) (second inside out (apart_narrowed inside s0.folder s1.folder (narrowed_now s0 s1 looked) apart))
 
 -- the two syncs at the beginning
 pub others_settled : (on : Name → Type 0) (name : Name) (s0 s1 : Scene) → on name → ((inside : Name → Bool) → inside name ≡ false → IsApart inside s0.folder → Runs (SameAt inside) s0 s1) → SparesOthers on s0 s1

@@ -10,13 +10,14 @@ use Rattle.vs_disk.proofs.Runs.{one_call, runs_on}
 use Rattle.vs_disk.proofs.Others.{same_none, same_then, file_outside, sync_outside}
 use Rattle.vs_backup.specs.Works.{Narrowed, Settles, SettlesAny, SyncsBytes, SyncsInOrder}
 use Rattle.vs_backup.specs.Writing.{SettlesBytes, SettlesSynced}
-use Rattle.vs_backup.proofs.Frames.{either, narrowed_none, narrowed_then, narrowed_file, narrowed_names}
+use Rattle.vs_backup.proofs.Following.{narrowed_call, narrowed_on}
+use Rattle.vs_backup.proofs.Frames.{either, narrowed_none, narrowed_file, narrowed_names}
 
 pub settles_on : (told : Bool) (name : Name) (s0 s1 s2 : Scene) → ChangesFolder s0 s1 → Settles told name s0 s1 → SettlesAny told s1 s2 → Settles told name s0 s2
 settles_on told name s0 s1 s2 frame first second =
     let then = second.each name in
     record {
-      narrowed = λ is. runs_on Narrowed narrowed_then s0 s1 s2 frame (first.narrowed is) (then.narrowed is);
+      narrowed = λ is. narrowed_on s0 s1 s2 frame (first.narrowed is) (then.narrowed is);
       same = λ is inside out apart. runs_on (SameAt inside) (same_then inside) s0 s1 s2 frame (first.same is inside out apart) (then.same is inside out (first.apart is inside out apart));
       apart = λ is inside out apart. then.apart is inside out (first.apart is inside out apart);
     }
@@ -52,7 +53,7 @@ module _ (told : Bool) (name : Name) (kind : Kind) (names : List Name) (result :
   settles_call : Narrowed s0.folder s1.folder → ((inside : Name → Bool) → inside name ≡ false → IsApart inside s0.folder → SameAt inside s0.folder s1.folder × IsApart inside s1.folder)
       → Settles told name s0 s1
   settles_call narrowed same = record {
-    narrowed = λ is. one_call Narrowed kind names result s0 s1 frame (is_told is) narrowed;
+    narrowed = λ is. narrowed_call kind names result s0 s1 frame (is_told is) narrowed;
     same = λ is inside out apart. one_call (SameAt inside) kind names result s0 s1 frame (is_told is) (same inside out apart).0;
     apart = λ is inside out apart. (same inside out apart).1;
   }

@@ -10,12 +10,13 @@ use Rattle.vs_disk.specs.Runs.{Runs}
 use Rattle.vs_disk.proofs.Images.{cut_keeps_images}
 use Rattle.vs_disk.proofs.Runs.{one_call, runs_on}
 use Rattle.vs_disk.proofs.Contents.{holds_synced}
-use Rattle.vs_backup.specs.Works.{ChangesOne, Fills, HasSynced, IsAlone, IsGone, Narrowed, Renews, Spares, SparesOthers, one_name, two_names}
+use Rattle.vs_backup.specs.Works.{ChangesOne, Fills, HasSynced, IsAlone, IsGone, Narrowed, Renews, Spares, SparesOthers, Steps, one_name, two_names}
 use Rattle.vs_backup.specs.Writing.{BeginsPlain, IsSettled, WritesFresh, WritesPlain}
 use Rattle.vs_backup.specs.declared.errors.Stop.{Stop}
 use Rattle.vs_backup.proofs.Calls.{runs_wider, runs_file, spares_on, synced_bytes}
 use Rattle.vs_backup.proofs.Frames.{spares_same, content_spared, absent_now}
 use Rattle.vs_backup.proofs.Filling.{changes_by, changes_same, changes_then}
+use Rattle.vs_backup.proofs.Following.{narrowed_now}
 use Rattle.vs_backup.proofs.Kept.{may_leave_now, may_leave_filled, settled_holds}
 use Rattle.vs_backup.proofs.Copying.{alone_now}
 use Rattle.vs_backup.proofs.Others.{others_spared, others_on}
@@ -25,14 +26,14 @@ use Rattle.vs_backup.proofs.Replacing.{takes_on, takes_others}
 use Rattle.vs_backup.proofs.Backed.{narrowed_content}
 
 -- ---- over a file that is there
-module _ (name : Name) (old new : List ℕ) (s0 s1 : Scene) (content : content_in s0.folder name ≡ Some old) (looked : Runs Narrowed s0 s1) (spared : SparesOthers (one_name name) s0 s1) where
+module _ (name : Name) (old new : List ℕ) (s0 s1 : Scene) (content : content_in s0.folder name ≡ Some old) (looked : Steps Narrowed s0 s1) (spared : SparesOthers (one_name name) s0 s1) where
   pub plain_not_begun : (result : Result ℕ Stop) → OnOk result ⊥ → WritesPlain name old new s0 s1 result
   plain_not_begun (Ok size) none = absurd none
   plain_not_begun (Err why) none = record {
     moments = inr (looked, refl);
     others = spared;
     written = tt;
-    not_written = inl (may_leave_now name old s1.folder (narrowed_content name s0.folder s1.folder looked.now ∙ content));
+    not_written = inl (may_leave_now name old s1.folder (narrowed_content name s0.folder s1.folder (narrowed_now s0 s1 looked) ∙ content));
   }
 
   module _ (frame : ChangesFolder s0 s1) (order : HasSynced name s1) (settled : IsSettled name old s1.folder) (folder : IsFolder s1.folder) (s2 : Scene) (framed : ChangesFolder s1 s2) (answer : Result (Unit {0}) Failed) (told : IsTold Cut (name ∷ []) answer s1 s2) where

@@ -8,22 +8,22 @@ use Rattle.vs_host.specs.World.{Scene, ChangesFolder, IsTold, ReadsFolder}
 use Rattle.vs_host.specs.declared.traits.Failed.{Failed}
 use Rattle.vs_disk.specs.Runs.{FailsLast, Looks, Quiet}
 use Rattle.vs_disk.proofs.Quiet.{last_then, quiet_then}
-use Rattle.vs_disk.proofs.Runs.{runs_as, runs_on, runs_then, looks_on, reads_change}
+use Rattle.vs_disk.proofs.Runs.{runs_as, runs_then, looks_on, reads_change}
 use Rattle.vs_backup.specs.Backups.{WorksOn, backup_of, copies}
 use Rattle.vs_backup.specs.Backups.WorksOn.{TheFile, TheNewFile, TheBackup, TheCopy}
 use Rattle.vs_backup.specs.declared.options.WriteOptions.{WriteOptions}
-use Rattle.vs_backup.specs.Works.{Narrowed, RenewsBut, Spares, SparesOthers, one_name, two_names}
+use Rattle.vs_backup.specs.Works.{RenewsBut, Spares, SparesOthers, one_name, two_names}
 use Rattle.vs_backup.specs.Writing.{FindsNoName, IsUnseen, OldIn, WritesFresh, WritesInPlace, WritesPlain, WritesWith, backed_names}
 use Rattle.vs_backup.specs.declared.errors.Place.TheVariants as place
 use Rattle.vs_backup.specs.declared.errors.Stop.{Stop}
 use Rattle.vs_backup.specs.declared.errors.WriteErr.{WriteErr}
 use Rattle.vs_backup.specs.declared.errors.WriteErr.TheVariants as error
 use Rattle.vs_backup.proofs.Calls.{spares_on}
-use Rattle.vs_backup.proofs.Frames.{narrowed_then, spares_same}
+use Rattle.vs_backup.proofs.Following.{looks_narrowed, narrowed_on}
+use Rattle.vs_backup.proofs.Frames.{spares_same}
 use Rattle.vs_backup.proofs.Renewing.{renews_same}
 use Rattle.vs_backup.proofs.Replacing.{takes_on, takes_looks}
 use Rattle.vs_backup.proofs.Copying.{never_refused}
-use Rattle.vs_backup.proofs.Backed.{looks_narrowed}
 use Rattle.vs_backup.proofs.Others.{others_spared, others_looks, others_wider, others_on}
 
 pub unseen : (s0 s1 : Scene) → Looks s0 s1 → FailsLast s0 s1 → IsUnseen s0 s1 (Err (error.Failed place.Nowhere))
@@ -64,13 +64,13 @@ module _ (s0 s1 s2 : Scene) (frame : ReadsFolder s0 s1) (looks : Looks s0 s1) (r
       moments = elim here.plain.moments [
         | inl begins ↦ inl (record {
           begun = begins.begun;
-          looked = runs_on Narrowed narrowed_then s0 s1 begins.begun changed (looks_narrowed s0 s1 looks) begins.looked;
+          looked = narrowed_on s0 s1 begins.begun changed (looks_narrowed s0 s1 looks) begins.looked;
           order = begins.order;
           settled = begins.settled;
           in_place = begins.in_place;
           spares = begins.spares;
         })
-        | inr none ↦ inr (runs_on Narrowed narrowed_then s0 s1 s2 changed (looks_narrowed s0 s1 looks) none.0, none.1)
+        | inr none ↦ inr (narrowed_on s0 s1 s2 changed (looks_narrowed s0 s1 looks) none.0, none.1)
       ];
       others = others_on (one_name name) s0 s1 s2 changed (looks_narrowed s0 s1 looks) (others_looks (one_name name) s0 s1 looks) here.plain.others;
       written = here.plain.written;

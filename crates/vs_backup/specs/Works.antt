@@ -1,12 +1,26 @@
 -- What calls on some names leave of all others.
-use Rattle.std.specs.Prelude.{◌≡◌, ◌≢◌, ◌⊎◌, ℕ, Bool, true, false, List, [], ◌∷◌, Option, Some, None, IsTrue}
+use Rattle.std.specs.Prelude.{◌≡◌, ◌≢◌, ◌⊎◌, ℕ, Bool, true, false, List, [], ◌∷◌, ◌++◌, Option, Some, None, IsTrue}
 use Rattle.vs_host.specs.File.{Cuts, synced_file}
 use Rattle.vs_host.specs.Disk.{Disk, Name, names_of, names_at, ChangesFile, IsFolder, SyncsNames}
-use Rattle.vs_host.specs.Trace.{Snapshot, Synced, SyncedNames}
+use Rattle.vs_host.specs.Trace.{Each, Snapshot, Synced, SyncedNames}
 use Rattle.vs_host.specs.World.{Scene, content_of}
 use Rattle.vs_disk.specs.Images.{Changes, IsSynced, KeepsImages, MayLeave, Narrows}
 use Rattle.vs_disk.specs.Names.{IsApart, SameAt}
-use Rattle.vs_disk.specs.Runs.{Runs, Looks}
+use Rattle.vs_disk.specs.Runs.{Inside, Looks, Runs}
+
+-- The step leads from the folder at the start to that of the oldest of these snapshots, from that of each to that of the next, and from
+-- that of the newest to the folder now.
+abbrev pub Follows : (Disk → Disk → Type 0) → Disk → List Snapshot → Disk → Type 0
+Follows step start [] now = step start now
+Follows step start (newest ∷ older) now = step newest.folder now × Follows step start older newest.folder
+
+-- The step leads from moment to moment: each snapshot since the start is of a call that works on the folder alone, and its folder is
+-- reached from that of the moment before it; so is the folder now.
+pub record Steps (step : Disk → Disk → Type 0) (old new : Scene) : Type 0 where
+  pub added : List Snapshot
+  pub is : new.trace ≡ added ++ old.trace
+  pub inside : Each (Inside old (λ folder. Unit {0})) added
+  pub next : Follows step old.folder added new.folder
 
 -- sets of one name, of two, and of three
 abbrev pub one_name : Name → Name → Type 0
@@ -113,9 +127,9 @@ abbrev pub ChangesOne : Name → Disk → Disk → Type 0
 ChangesOne name = ChangesFile name Changes
 
 -- The file of this name was synced, or the names were: at each moment all names are read as before, and a stop leaves only what it
--- left before, also under other names alone.
+-- left at the moment before, also under other names alone.
 pub record Settles (told : Bool) (name : Name) (before after : Scene) : Type 0 where
-  pub narrowed : IsTrue told → Runs Narrowed before after
+  pub narrowed : IsTrue told → Steps Narrowed before after
   pub same : IsTrue told → (inside : Name → Bool) → inside name ≡ false → IsApart inside before.folder → Runs (SameAt inside) before after
   pub apart : IsTrue told → (inside : Name → Bool) → inside name ≡ false → IsApart inside before.folder → IsApart inside after.folder
 

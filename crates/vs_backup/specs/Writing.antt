@@ -10,7 +10,7 @@ use Rattle.vs_host.specs.World.{HasNewest, Scene, content_of}
 use Rattle.vs_host.specs.declared.traits.Failed.{Failed}
 use Rattle.vs_disk.specs.Images.{HoldsBytes, IsSynced, MayLeave, Takes}
 use Rattle.vs_disk.specs.Runs.{FailsLast, Looks, Quiet, Runs}
-use Rattle.vs_backup.specs.Works.{HasSynced, IsGone, IsHeld, LeadsAway, LeadsTo, Narrowed, Renews, RenewsBut, Spares, SparesOthers, StandsUnder, one_name}
+use Rattle.vs_backup.specs.Works.{HasSynced, IsGone, IsHeld, LeadsAway, LeadsTo, Narrowed, Renews, RenewsBut, Spares, SparesOthers, StandsUnder, Steps, one_name}
 use Rattle.vs_backup.specs.Works.{two_names, three_names}
 use Rattle.vs_backup.specs.Backups.{copies}
 use Rattle.vs_backup.specs.declared.options.WriteOptions.{WriteOptions}
@@ -227,12 +227,13 @@ pub record IsFilled (told : Bool) (name : Name) (has : List (List ℕ) → Type 
 pub record IsFilledFirm (told : Bool) (name : Name) (has : List (List ℕ) → Type 0) (size : ℕ) (after : Scene) : Type 0 where
   pub each : IsTrue told → (text : List (List ℕ)) → has text → (size ≡ length (file_of text)) × IsSettled name (file_of text) after.folder
 
--- Before the two syncs at the beginning, that of the file first, nothing has changed. From them on, at each moment, in each image, the
--- file or its backup is whole, an older backup is whole until the backup takes its name, and other names are left alone.
+-- Up to the two syncs at the beginning, that of the file first, nothing changes, and a stop leaves at each moment only what it left at the
+-- one before. From them on, at each moment, in each image, the file or its backup is whole, an older backup is whole until the backup
+-- takes its name, and other names are left alone.
 pub record BeginsWhole (copying keep : Bool) (name temporary backup : Name) (old new : List ℕ)
     (before after : Scene) (result : Result ℕ WriteErr) : Type 0 where
   pub begun : Scene
-  pub looked : Runs Narrowed before begun
+  pub looked : Steps Narrowed before begun
   pub moment : HasNewest begun
   pub order : HasSynced name begun
   pub settled : IsSettled name old begun.folder
@@ -243,10 +244,11 @@ pub record BeginsWhole (copying keep : Bool) (name temporary backup : Name) (old
   -- the file into which the copy is made
   pub anew : copying ≡ true → Runs (Renews temporary) begun after
 
--- A write over a file that is there, with this backup, which is kept or removed.
+-- A write over a file that is there, with this backup, which is kept or removed. One that does not come to the two syncs at the beginning
+-- is refused, and leaves each moment no worse than the one before.
 pub record WritesBacked (copying keep : Bool) (name temporary backup : Name) (old new : List ℕ)
     (before after : Scene) (result : Result ℕ WriteErr) : Type 0 where
-  pub moments : BeginsWhole copying keep name temporary backup old new before after result ⊎ (Runs Narrowed before after × IsErr result)
+  pub moments : BeginsWhole copying keep name temporary backup old new before after result ⊎ (Steps Narrowed before after × IsErr result)
   pub others : SparesOthers (backed_names copying name temporary backup) before after
   pub written : IfOk result (λ size. (size ≡ length new) × HoldsBytes name new after.folder)
   pub kept : keep ≡ true → OnOk result (HoldsBytes backup old after.folder)
@@ -257,7 +259,7 @@ pub record WritesBacked (copying keep : Bool) (name temporary backup : Name) (ol
   -- the file as it is read after an error
   pub returned : OnErr result ((content_of after name ≡ Some old) ⊎ OldIn Backup result)
   -- where the old bytes are said to stand
-  pub in_file : OldIn File result → Runs Narrowed before after ⊎ HoldsBytes name old after.folder
+  pub in_file : OldIn File result → Steps Narrowed before after ⊎ HoldsBytes name old after.folder
   pub in_backup : OldIn Backup result → IsKept name backup old after.folder × ((copying ≡ true → old ≡ [] → ⊥) → MayLackOld name old after.folder)
   pub somewhere : (OldIn Nowhere result → ⊥) × (IsErrOf result error.NoBackupName → ⊥)
 
@@ -266,19 +268,20 @@ abbrev pub WritesWith : WriteOptions → Name → Name → List ℕ → List ℕ
 WritesWith options name backup old new before after result = WritesBacked (copies options.copy) options.backup name
     (temporary backup) backup old new before after result
 
--- Before the two syncs at the beginning, that of the file first, nothing has changed. After them only the file does, which stays where
--- it is.
+-- Up to the two syncs at the beginning, that of the file first, nothing changes, and a stop leaves at each moment only what it left at the
+-- one before. After them only the file changes, which stays where it is.
 pub record BeginsPlain (name : Name) (old : List ℕ) (before after : Scene) : Type 0 where
   pub begun : Scene
-  pub looked : Runs Narrowed before begun
+  pub looked : Steps Narrowed before begun
   pub order : HasSynced name begun
   pub settled : IsSettled name old begun.folder
   pub in_place : Runs (LeadsTo name name) begun after
   pub spares : Runs (Spares (one_name name)) begun after
 
--- A write over a file that is there, without a backup.
+-- A write over a file that is there, without a backup: one that does not come to the two syncs is refused, and leaves each moment no worse
+-- than the one before.
 pub record WritesPlain (name : Name) (old new : List ℕ) (before after : Scene) (result : Result ℕ Stop) : Type 0 where
-  pub moments : BeginsPlain name old before after ⊎ (Runs Narrowed before after × IsErr result)
+  pub moments : BeginsPlain name old before after ⊎ (Steps Narrowed before after × IsErr result)
   pub others : SparesOthers (one_name name) before after
   pub written : IfOk result (λ size. (size ≡ length new) × HoldsBytes name new after.folder)
   pub not_written : OnErr result (MayLackNew name old after.folder)

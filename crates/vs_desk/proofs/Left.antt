@@ -21,8 +21,9 @@ use Rattle.vs_backup.specs.declared.options.WriteOptions.{WriteOptions}
 use Rattle.vs_backup.specs.declared.errors.WriteErr.{WriteErr}
 use Rattle.vs_backup.specs.Backups.{WorksOn, backs_up, backup_of, copies}
 use Rattle.vs_backup.specs.Backups.WorksOn.{TheFile, TheNewFile, TheBackup, TheCopy}
-use Rattle.vs_backup.specs.Works.{IsOutside, Narrowed, Spares, one_name, two_names}
+use Rattle.vs_backup.specs.Works.{IsOutside, Narrowed, Spares, Steps, one_name, two_names}
 use Rattle.vs_backup.specs.Writing.{FindsNoName, IsUnseen, WritesFresh, WritesPlain, WritesWith, backed_names}
+use Rattle.vs_backup.proofs.Following.{narrowed_runs}
 use Rattle.vs_backup.proofs.NamesApart.{new_name}
 use Rattle.vs_desk.specs.Still.{KeepsLeft}
 use Rattle.vs_desk.specs.Writes.{WritesFile}
@@ -85,11 +86,12 @@ module _ (options : WriteOptions) (names : Names) (are : AreNames names) (bytes 
   from_looks : Looks before after → Moments
   from_looks looks = from_runs (λ a b. b ≡ a) (λ d is. subst Good (sym is) (keeps_none on before.folder)) looks
 
-  from_narrowed : Runs Narrowed before after → Moments
-  from_narrowed runs = from_runs Narrowed (λ d narrowed. keeps_narrowed on before.folder d narrowed) runs
+  from_narrowed : Steps Narrowed before after → Moments
+  from_narrowed steps = from_runs Narrowed (λ d narrowed. keeps_narrowed on before.folder d narrowed) (narrowed_runs before after steps)
 
-  from_begun : (worked : Name → Type 0) → ((name : Name) → worked name → on name) → (begun : Scene) → Runs Narrowed before begun → Runs (Spares worked) begun after → Moments
-  from_begun worked leads begun looked spares =
+  from_begun : (worked : Name → Type 0) → ((name : Name) → worked name → on name) → (begun : Scene) → Steps Narrowed before begun → Runs (Spares worked) begun after → Moments
+  from_begun worked leads begun steps spares =
+      let looked = narrowed_runs before begun steps in
       let there : Good begun.folder = keeps_narrowed on before.folder begun.folder looked.now in
       let since : (d : Disk) → Spares worked begun.folder d → Good d = λ d same. keeps_then on before.folder begun.folder d there (keeps_spared on worked leads begun.folder d same) in (
         goes_then (λ m. Good m.folder) before.trace begun.trace after.trace

@@ -220,6 +220,7 @@ text_synced paged generation head text is empty = committed_text paged.pair page
 pub syncing_texts : (paged : PagedText) (head : Head) (old new : Disk) → head.empty ≡ (paged.tree.committed.lines == 0) → pair.Syncing (known_of paged.pair) (sync_of paged.pair head) old new → Syncing paged old new
 syncing_texts paged head old new empty syncing = record {
   spared = λ text syncs fits. syncing.spared fits.newest fits.later fits.past fits.fit;
+  unmoved = λ text syncs fits. syncing.unmoved fits.newest fits.later fits.past fits.fit;
   safe = λ text syncs fits.
       let sync : Synced = sync_of paged.pair head in
       recovers_texts (names_of paged) fits.fit.named.allowed (fits.newest ∷ sync ∷ fits.later) (fits.newest ∷ fits.past) (text ∷ recoverable syncs)

@@ -5,7 +5,7 @@ use Rattle.vs_host.specs.World.{Tells}
 use Rattle.vs_host.specs.declared.names.Names.{Names}
 use Rattle.vs_disk.specs.Names.{SameAt}
 use Rattle.vs_pair.specs.Swap.{Synced}
-use Rattle.vs_pair.specs.Pair.{IsFit, IsIn, IsTextOf, is_apart, is_foreign, known_of}
+use Rattle.vs_pair.specs.Pair.{IsFit, IsIn, IsTextOf, Unmoved, is_apart, is_foreign, known_of}
 use Rattle.vs_safety.specs.Texts.{Text, Sync, IsNewestOf, IsSyncIn, Recovers, RecoversOrNone, recoverable}
 use Rattle.vs_paged.specs.Pages.{IsPaged}
 use Rattle.vs_paged.specs.declared.paged.PagedText.{PagedText}
@@ -51,9 +51,10 @@ pub record Starting (names : Names) (text : Text) (old new : Disk) : Type 0 wher
   pub spared : SameAt (is_foreign names) old new
   pub safe : RecoversOrNone names (text ∷ []) new
 
--- While the text is synced: all other names are spared, and this text is one of those that may be recovered.
+-- While the text is synced: all other names are spared and unmoved, and this text is one of those that may be recovered.
 pub record Syncing (paged : PagedText) (old new : Disk) : Type 0 where
   pub spared : (text : Text) (syncs : List Sync) → Fits paged old text syncs → SameAt (is_apart (names_of paged)) old new
+  pub unmoved : (text : Text) (syncs : List Sync) → Fits paged old text syncs → Unmoved (is_apart (names_of paged)) old new
   pub safe : (text : Text) (syncs : List Sync) → Fits paged old text syncs → Recovers (names_of paged) (text ∷ recoverable syncs) new
 
 -- While both swap files are removed: all other names are spared, and neither file is there, or recovery goes on to give what it might.

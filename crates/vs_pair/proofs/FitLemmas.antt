@@ -21,7 +21,7 @@ use Rattle.vs_pair.specs.declared.side.Side.{Side}
 use Rattle.vs_pair.specs.declared.side.Side.TheVariants.{Swp, Swo}
 use Rattle.vs_pair.specs.Swap.{Synced, Body, body_of, page_zero, IsOpen, HasBody, Holds, Fits, SyncStep, FailedSync}
 use Rattle.vs_pair.specs.Swap.FailedSync.{InClosing, InWriting, InOpening}
-use Rattle.vs_pair.specs.Pair.{Image, Known, name_of, other_side, is_swap, is_apart, HasEarlier, HasLater, Recovers, IsFit, IsOrdered, Syncing, IsTextOf, IsAbove, RisesAt, Rises}
+use Rattle.vs_pair.specs.Pair.{Image, Known, name_of, other_side, is_swap, is_apart, HasEarlier, HasLater, Recovers, IsFit, IsOrdered, Syncing, Unmoved, IsTextOf, IsAbove, RisesAt, Rises}
 use Rattle.vs_pair.specs.Stale.{nothing}
 use Rattle.vs_pair.proofs.FreshPages.{keeps_nothing, keeps_all}
 use Rattle.vs_pair.proofs.Gates.{body_stays, fits_body, has_at, zeros_not_open}
@@ -251,6 +251,13 @@ module _ (files : Known) (newest : Synced) (begun past : List Synced) (old : Dis
   pub spared : (step : File → File → Type 0) (new : Disk) → IsFolder old → ChangesFile older step old new → SameAt (is_apart files.names) old new
   spared step new folder changes = (file_outside (is_apart files.names) older step old new (side_outside files.names (other_side files.newer)) (fit_apart files newest begun past old fit folder) changes).0
 
+  pub unmoved : (step : File → File → Type 0) (new : Disk) → IsFolder old → ChangesFile older step old new → Unmoved (is_apart files.names) old new
+  unmoved step new folder changes = record {
+    names = λ lost name is. same_at older step old new changes lost name;
+    files = λ lost name number is leads. changes.others number
+        (λ there. (fit_apart files newest begun past old fit folder).alone lost name older number is (side_outside files.names (other_side files.newer)) leads there);
+  }
+
   pub safe : (new : Disk) → ChangesFile older (SyncStep files.gate (body_of file sync)) old new → Recovers files.names (newest ∷ sync ∷ begun) (newest ∷ past) new
   safe new changes image whole =
       let Class : List ℕ → Type 0 = λ c. IsOpen c → HasEarlier file newest (newest ∷ past) c ⊎ HasLater file newest (sync ∷ begun) c in
@@ -376,5 +383,6 @@ pub syncing : (files : Known) (sync : Synced) (old new : Disk) → sync.generati
     → ChangesFile (name_of files.names (other_side files.newer)) (SyncStep files.gate (body_of files.names.file sync)) old new → Syncing files sync old new
 syncing files sync old new next room folder changes = record {
   spared = λ newest begun past fit. spared files newest begun past old fit sync next room (SyncStep files.gate (body_of files.names.file sync)) new folder changes;
+  unmoved = λ newest begun past fit. unmoved files newest begun past old fit sync next room (SyncStep files.gate (body_of files.names.file sync)) new folder changes;
   safe = λ newest begun past fit. safe files newest begun past old fit sync next room new changes;
 }

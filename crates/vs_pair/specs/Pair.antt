@@ -1,8 +1,8 @@
 -- The two swap files of a session: which sync each of them has, and what is recovered from them.
-use Rattle.std.specs.Prelude.{◌≡◌, ◌≢◌, ◌⊎◌, ℕ, ◌+◌, ◌^◌, ◌<◌, ◌≤◌, ◌==◌, Bool, not, ◌||◌, List, [], ◌∷◌, length, Option, Some, None}
+use Rattle.std.specs.Prelude.{◌≡◌, ◌≢◌, ◌⊎◌, ℕ, ◌+◌, ◌^◌, ◌<◌, ◌≤◌, ◌==◌, Bool, true, not, ◌||◌, List, [], ◌∷◌, length, Option, Some, None}
 use Rattle.std.specs.Str.{bytes_eq}
 use Rattle.vs_host.specs.File.{File, Leaves}
-use Rattle.vs_host.specs.Disk.{Disk, Name, IsImage}
+use Rattle.vs_host.specs.Disk.{Disk, Name, IsImage, names_at}
 use Rattle.vs_host.specs.declared.names.Names.{Names}
 use Rattle.vs_host.specs.Names.{AreNames}
 use Rattle.vs_disk.specs.Images.{FileAlways}
@@ -185,10 +185,16 @@ pub record IsFit (files : Known) (disk : Disk) (newest : Synced) (begun past : L
 abbrev pub HasFit : Known → Disk → Type 0
 HasFit files disk = (newest : Synced) × (begun : List Synced) × (past : List Synced) × IsFit files disk newest begun past
 
--- While a sync writes: all other names are spared, and in each image the files offer the newest sync, this one, or one that was
--- begun since the newest.
+-- The names of this set lead, in each state of the names that a stop may leave, to the files to which they led, and these are as they were.
+pub record Unmoved (inside : Name → Bool) (old new : Disk) : Type 0 where
+  pub names : (lost : ℕ) (name : Name) → inside name ≡ true → names_at new lost name ≡ names_at old lost name
+  pub files : (lost : ℕ) (name : Name) (number : ℕ) → inside name ≡ true → names_at old lost name ≡ Some number → new.files number ≡ old.files number
+
+-- While a sync writes: all other names are spared and unmoved, and in each image the files offer the newest sync, this one, or one that
+-- was begun since the newest.
 pub record Syncing (files : Known) (sync : Synced) (old new : Disk) : Type 0 where
   pub spared : (newest : Synced) (begun past : List Synced) → IsFit files old newest begun past → SameAt (is_apart files.names) old new
+  pub unmoved : (newest : Synced) (begun past : List Synced) → IsFit files old newest begun past → Unmoved (is_apart files.names) old new
   pub safe : (newest : Synced) (begun past : List Synced) → IsFit files old newest begun past → Recovers files.names (newest ∷ sync ∷ begun) (newest ∷ past) new
 
 -- the file is not there, or not open, or has what an earlier sync of these wrote, or a later one

@@ -12,7 +12,7 @@ use Rattle.vs_host.specs.declared.names.Names.{Names}
 use Rattle.vs_disk.specs.Images.{Takes}
 use Rattle.vs_disk.specs.Names.{SameAt}
 use Rattle.vs_disk.proofs.Others.{image_same, image_before}
-use Rattle.vs_pair.specs.Pair.{is_apart}
+use Rattle.vs_pair.specs.Pair.{Unmoved, is_apart}
 use Rattle.vs_pair.proofs.MadeFiles.{same_weaker}
 use Rattle.vs_backup.specs.declared.options.WriteOptions.{WriteOptions}
 use Rattle.vs_backup.specs.Backups.{WorksOn, IsBackupName, backup_of, backup_name, candidates, first_free, lettered, letters}
@@ -117,6 +117,34 @@ module _ (names : Names) (are : AreNames names) where
   apart_backup : (backup : Name) → IsBackupName names.file backup → is_apart names backup ≡ true
   apart_backup backup is = apart_name backup (backup_apart names are backup is)
 
+  either_apart : (backup name : Name) → is_apart names backup ≡ true → is_either names.file backup name ≡ true → is_apart names name ≡ true
+  either_apart backup name apart is = elim (cases_Bool (bytes_eq names.file name)) [
+    | inl file ↦ subst (λ (n : Name). is_apart names n ≡ true) ((bytes_eq-Decides names.file name).0 file) apart_file
+    | inr other ↦ subst (λ (n : Name). is_apart names n ≡ true) ((bytes_eq-Decides backup name).0 (sym (ap (λ (b : Bool). b || bytes_eq backup name) other) ∙ is)) apart
+  ]
+
+  -- from one moment of the sync to another
+  pub untouched_between : (start one other : Disk) → Unmoved (is_apart names) start one → Unmoved (is_apart names) start other → (backup : Name) → IsBackupName names.file backup → IsUntouched names.file backup one other
+  untouched_between start one other first second backup named = record {
+    read = λ name is.
+        let apart = either_apart backup name (apart_backup backup named) is in
+        read_same one other (names_of one name) (names_of other name) (names_same 0 name apart) (files_same 0 name apart);
+    left = λ image part. (
+      part.0,
+      λ name is.
+          let apart = either_apart backup name (apart_backup backup named) is in
+          image_same one other (names_at one part.0 name) (names_at other part.0 name) (image name) (names_same part.0 name apart) (files_same part.0 name apart) (part.1 name is),
+    );
+  }
+    where
+      names_same : (lost : ℕ) (name : Name) → is_apart names name ≡ true → names_at other lost name ≡ names_at one lost name
+      names_same lost name apart = second.names lost name apart ∙ sym (first.names lost name apart)
+
+      files_same : (lost : ℕ) (name : Name) → is_apart names name ≡ true → (number : ℕ) → names_at other lost name ≡ Some number → other.files number ≡ one.files number
+      files_same lost name apart number leads =
+          let led : names_at start lost name ≡ Some number = sym (second.names lost name apart) ∙ leads in
+          second.files lost name number apart led ∙ sym (first.files lost name number apart led)
+
   -- ---- from the folder that the command found to the one after its sync
   module _ (old mid : Disk) (same : SameAt (is_apart names) old mid) where
     content_same : (name : Name) → is_apart names name ≡ true → content_in mid name ≡ content_in old name
@@ -153,12 +181,6 @@ module _ (names : Names) (are : AreNames names) where
     works_same options other (TheCopy backup there made copied is) = TheCopy backup (subst (λ (o : Option (List ℕ)). IsSome o) file_same there) (sym (backup_same options) ∙ made) copied is
 
     -- what a stop may leave after the sync, it might leave before
-    either_apart : (backup name : Name) → is_apart names backup ≡ true → is_either names.file backup name ≡ true → is_apart names name ≡ true
-    either_apart backup name apart is = elim (cases_Bool (bytes_eq names.file name)) [
-      | inl file ↦ subst (λ (n : Name). is_apart names n ≡ true) ((bytes_eq-Decides names.file name).0 file) apart_file
-      | inr other ↦ subst (λ (n : Name). is_apart names n ≡ true) ((bytes_eq-Decides backup name).0 (sym (ap (λ (b : Bool). b || bytes_eq backup name) other) ∙ is)) apart
-    ]
-
     pub untouched_old : (backup : Name) → IsBackupName names.file backup → IsUntouched names.file backup old mid
     untouched_old backup named = record {
       read = λ name is. content_same name (either_apart backup name (apart_backup backup named) is);

@@ -26,6 +26,7 @@ use Rattle.vs_backup.specs.Backups.{WorksOn, IsNoName, backs_up, backup_of, copi
 use Rattle.vs_backup.specs.Works.{LeadsTo, Narrowed, SparesOthers, two_names}
 use Rattle.vs_backup.specs.Writing.{BeginsWhole, FindsNoName, IsFailed, IsUnseen, IsWhole, MayLackNew, OldIn, Places, PutsBack, Replaces, WritesFresh, WritesPlain, WritesWith, nowhere, stopped}
 use Rattle.vs_backup.proofs.Copying.{never_no_name, never_other}
+use Rattle.vs_backup.proofs.Following.{narrowed_now, narrowed_runs}
 use Rattle.vs_backup.proofs.Frames.{absent_now}
 use Rattle.vs_backup.proofs.Kept.{may_leave_now}
 use Rattle.vs_backup.proofs.Replacing.{replaces_takes, replaces_then}
@@ -273,13 +274,13 @@ module _ (names : Names) (are : AreNames names) (options : WriteOptions) (text :
 
       backed_moments : (backup : Name) → backup_of options names.file old ≡ Some backup → WritesWith options names.file backup was bytes mid new result → Moments
       backed_moments backup made writes = elim writes.moments [
-        | inr narrowed ↦ from_runs Narrowed narrowed_good narrowed.0
+        | inr narrowed ↦ from_runs Narrowed narrowed_good (narrowed_runs mid new narrowed.0)
         | inl begins ↦ (
           goes_then (λ m. Good m.folder) mid.trace begins.begun.trace new.trace
-              (goes_weaker (Inside mid (Narrowed mid.folder)) (λ m. Good m.folder) (λ m inside. narrowed_good m.folder inside.folder) mid.trace begins.begun.trace begins.looked.moments)
-              (goes_weaker (λ m. After backup begins.begun.folder m.folder) (λ m. Good m.folder) (λ m after. whole_good backup made begins.begun.folder m.folder begins.looked.now after) begins.begun.trace new.trace
+              (goes_weaker (Inside mid (Narrowed mid.folder)) (λ m. Good m.folder) (λ m inside. narrowed_good m.folder inside.folder) mid.trace begins.begun.trace (narrowed_runs mid begins.begun begins.looked).moments)
+              (goes_weaker (λ m. After backup begins.begun.folder m.folder) (λ m. Good m.folder) (λ m after. whole_good backup made begins.begun.folder m.folder (narrowed_now mid begins.begun begins.looked) after) begins.begun.trace new.trace
               (after_moments backup begins)),
-          whole_good backup made begins.begun.folder new.folder begins.looked.now (after_now backup begins),
+          whole_good backup made begins.begun.folder new.folder (narrowed_now mid begins.begun begins.looked) (after_now backup begins),
         )
       ]
 

@@ -14,7 +14,7 @@ use Rattle.vs_disk.specs.Names.{SameAt}
 use Rattle.vs_disk.specs.Runs.{Inside, Runs, Quiet}
 use Rattle.vs_disk.proofs.Quiet.{last_then}
 use Rattle.vs_disk.proofs.Runs.{fails_none, frames, goes_weaker, quiet_none, runs_as, runs_then}
-use Rattle.vs_pair.specs.Pair.{Rises, is_apart, is_swap}
+use Rattle.vs_pair.specs.Pair.{Rises, Unmoved, is_apart, is_swap}
 use Rattle.vs_pair.proofs.Others.{rises_kept}
 use Rattle.vs_excmd.specs.Request.{Instruction}
 use Rattle.vs_backup.specs.declared.options.WriteOptions.{WriteOptions}
@@ -130,6 +130,9 @@ module _ (state : SessionState) (syncs : List Sync) (instruction : Instruction) 
   same : SameAt (is_apart names) old.folder mid.folder
   same = s.runs.now.spared text syncs s.fits.stands.text
 
+  unmoved : Unmoved (is_apart names) old.folder mid.folder
+  unmoved = s.runs.now.unmoved text syncs s.fits.stands.text
+
   goes_on : accepts_quit state instruction ≡ false
   goes_on = never_quits instruction.parsed _ is
 
@@ -181,6 +184,9 @@ module _ (state : SessionState) (syncs : List Sync) (instruction : Instruction) 
 
   sync_apart : GoesOn (λ m. SameAt (is_apart names) old.folder m.folder) old.trace mid.trace
   sync_apart = goes_weaker (Inside old (folder.Syncing before.text old.folder)) (λ m. SameAt (is_apart names) old.folder m.folder) (λ m inside. inside.folder.spared text syncs s.fits.stands.text) old.trace mid.trace s.runs.moments
+
+  sync_unmoved : GoesOn (λ m. Unmoved (is_apart names) old.folder m.folder) old.trace mid.trace
+  sync_unmoved = goes_weaker (Inside old (folder.Syncing before.text old.folder)) (λ m. Unmoved (is_apart names) old.folder m.folder) (λ m inside. inside.folder.unmoved text syncs s.fits.stands.text) old.trace mid.trace s.runs.moments
 
   sync_runs : Runs AtMoment old mid
   sync_runs = runs_as (folder.Syncing before.text) AtMoment old mid in_sync s.runs
@@ -247,7 +253,7 @@ module _ (state : SessionState) (syncs : List Sync) (instruction : Instruction) 
 
     became : (was : List ℕ) (backup : Name) → content_in old.folder names.file ≡ Some was → backup_of options names.file old.folder ≡ Some backup
         → BecomesWhole names.file backup was (file_of text) old new ⊎ (IsErr result × StaysUntouched names.file backup old new)
-    became was backup there made = becomes names are options (file_of text) old mid new same sync_apart was backup there made result did.file
+    became was backup there made = becomes names are options (file_of text) old mid new same unmoved sync_unmoved was backup there made result did.file
 
     pub stays_whole : (outcome : Outcome) (at : ℕ) → (IsErr result → took_effect outcome ≡ false) → StaysWhole names state instruction (ended outcome at) old new
     stays_whole outcome at none is_begun was backup there made = elim (became was backup there made) [ inl whole ↦ inl whole | inr refused ↦ inr (none refused.0, refused.1) ]

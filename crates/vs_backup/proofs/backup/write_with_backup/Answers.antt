@@ -7,6 +7,7 @@ use Rattle.vs_backup.specs.declared.errors.Place.TheVariants as place
 use Rattle.vs_backup.specs.declared.errors.WriteErr.TheVariants as error
 use Rattle.vs_backup.proofs.Backed.{backed_not_begun, backed_after, file_named, narrowed_content}
 use Rattle.vs_backup.proofs.Copying.{only_file}
+use Rattle.vs_backup.proofs.Following.{narrowed_now}
 use Rattle.vs_backup.proofs.Others.{others_settled}
 use Rattle.vs_backup.proofs.Doing as doing
 use Rattle.vs_backup.proofs.backup.write_with_backup.Goals as goal
@@ -40,7 +41,7 @@ pub write_backed-requires-clause-free : goal.write_backed-requires-clause-free
 write_backed-requires-clause-free g c off told =
     let s0 : Scene = g.D.World.scene c.args.desk.now in
     let s1 : Scene = g.D.World.scene c.settle.new.desk in
-    narrowed_content c.args.backing.backup.now s0.folder s1.folder (c.settle.ensures.settles.narrowed told).now ∙ c.requires.free off told
+    narrowed_content c.args.backing.backup.now s0.folder s1.folder (narrowed_now s0 s1 (c.settle.ensures.settles.narrowed told)) ∙ c.requires.free off told
 
 pub returns-in-Ok-clause-calls : goal.returns-in-Ok-clause-calls
 returns-in-Ok-clause-calls g c = λ told text has. doing.fails_then c.args.backing.name.now (file_of text) c.write_backed.result (g.D.World.scene c.args.desk.now) (g.D.World.scene c.settle.new.desk) (g.D.World.scene c.write_backed.new.desk) (c.in-Ok.ensures.kept.stops.none told (λ is. absurd (cc))) (c.write_backed.ensures.calls told text (g.met.D.Desk.stays_text c.args.desk.now c.settle.new.desk text c.settle.ensures.kept.stays has))

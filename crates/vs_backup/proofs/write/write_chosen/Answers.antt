@@ -12,7 +12,8 @@ use Rattle.vs_backup.specs.declared.errors.WriteErr.{WriteErr}
 use Rattle.vs_backup.specs.declared.errors.WriteErr.TheVariants as error
 use Rattle.vs_backup.proofs.Others.{others_looks}
 use Rattle.vs_backup.proofs.Free.{backup_is_free}
-use Rattle.vs_backup.proofs.Backed.{backed_after, backed_stopped, looks_narrowed, old_in_file}
+use Rattle.vs_backup.proofs.Backed.{backed_after, backed_stopped, old_in_file}
+use Rattle.vs_backup.proofs.Following.{looks_narrowed}
 use Rattle.vs_backup.proofs.Doing as doing
 use Rattle.vs_backup.proofs.Going.{stop_here}
 use Rattle.vs_backup.proofs.write.write_chosen.Goals as goal

@@ -10,7 +10,8 @@ use Rattle.vs_disk.proofs.Runs.{one_look, reads_change}
 use Rattle.vs_backup.specs.Backups.{IsBackupName, WorksOn, backs_up, backup_of, copies}
 use Rattle.vs_backup.specs.Works.{SparesOthers, two_names}
 use Rattle.vs_backup.specs.Writing.{FindsNoName, WritesFresh, WritesInPlace, WritesWith, backed_names}
-use Rattle.vs_backup.proofs.Backed.{backed_after, looks_narrowed}
+use Rattle.vs_backup.proofs.Backed.{backed_after}
+use Rattle.vs_backup.proofs.Following.{looks_narrowed}
 use Rattle.vs_backup.proofs.NamesApart.{file_apart, backup_apart, temporary_apart, new_name}
 use Rattle.vs_backup.proofs.Others.{others_looks}
 use Rattle.vs_backup.specs.declared.errors.Place.TheVariants as place

@@ -1,7 +1,7 @@
 use Rattle.std.proofs.lemmas.Result.{err_from_is_err_and}
 use Rattle.vs_text.specs.Text.{file_of}
 use Rattle.vs_host.specs.World.{Scene}
-use Rattle.vs_backup.proofs.Backed.{narrowed_starts}
+use Rattle.vs_backup.proofs.Following.{narrowed_starts}
 use Rattle.vs_backup.specs.Works.{one_name}
 use Rattle.vs_backup.proofs.Others.{others_starts}
 use Rattle.vs_backup.proofs.Unbacked.{plain_not_begun}
