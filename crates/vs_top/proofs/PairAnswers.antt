@@ -27,7 +27,7 @@ use Rattle.vs_top.specs.Run.{TellsRun}
 use Rattle.vs_top.specs.PairHistory.{Answer, Answers, BothFiles, MayAnswer, WasSynced, closing_under, file_for}
 use Rattle.vs_top.specs.PairHistory.{has_error, marks_in, reply_after, stage_of, stage_under, state_for, written_both}
 use Rattle.vs_top.specs.PairScript.{IsTranscript, Source, Transcript, answers_of, entry}
-use Rattle.vs_top.specs.PairPromise.{AllWhole, EndsBoth, FailedBoth, HasFailed, HasRunBoth, KeepsPromise, LastCut, LastFailed, LeavesOthers, files_in, party_for}
+use Rattle.vs_top.specs.PairPromise.{AllWhole, HasFailed, HasRunBoth, KeepsPromise, LastCut, LastFailed, LeavesOthers, files_in, party_for, row_both}
 use Rattle.vs_top.specs.PairTurns.{IsInState, ToldPair}
 use Rattle.vs_top.specs.declared.ending.Ending.{Ending}
 use Rattle.vs_top.specs.declared.ending.Ending.TheVariants as ending
@@ -67,7 +67,7 @@ module _ (tells : Tells) (told : TellsRun tells) (one two : List ℕ) (old now e
   answers = answers_of transcript
 
   -- where the run stops between two answers
-  pub stopped_both : (end : Ending) → EndsBoth end files old now marks (record { transcript = transcript; extent = AllWhole }) → FailedBoth end old now → HasRunBoth one two old now end marks
+  pub stopped_both : (end : Ending) → (row_both end).answered files old now marks (record { transcript = transcript; extent = AllWhole }) → (row_both end).last old now → HasRunBoth one two old now end marks
   stopped_both end ends failed =
       let kept : BothKept (party_for which.One files) (party_for which.Two files) old (stage_of which.One files answers) (stage_of which.Two files answers) now =
       both_stop (party_for which.One files) (party_for which.Two files) old now (stage_of which.One files answers) (stage_of which.Two files answers) here.both in
@@ -85,7 +85,7 @@ module _ (tells : Tells) (told : TellsRun tells) (one two : List ℕ) (old now e
       }
 
   -- where it stops after calls that only looked
-  pub stopped_after : (new : Scene) → Looks now new → (end : Ending) → EndsBoth end files old new marks (record { transcript = transcript; extent = AllWhole }) → FailedBoth end old new → HasRunBoth one two old new end marks
+  pub stopped_after : (new : Scene) → Looks now new → (end : Ending) → (row_both end).answered files old new marks (record { transcript = transcript; extent = AllWhole }) → (row_both end).last old new → HasRunBoth one two old new end marks
   stopped_after new looks end ends failed =
       let going = both_look (party_for which.One files) (party_for which.Two files) old now (stage_of which.One files answers) (stage_of which.Two files answers) here.both new looks in
       let kept : BothKept (party_for which.One files) (party_for which.Two files) old (stage_of which.One files answers) (stage_of which.Two files answers) new =

@@ -5,7 +5,7 @@ use Rattle.std.proofs.lemmas.List.{length-append}
 use Rattle.std.proofs.lemmas.List.Elements.{All-nil, All-cons, All-append}
 use Rattle.vs_faults.specs.Faults.{HasRisen}
 use Rattle.vs_faults.proofs.Causes.{risen_after}
-use Rattle.vs_host.specs.World.{Tells, Scene, ChangesScript}
+use Rattle.vs_host.specs.World.{Tells, Scene, ChangesScript, content_of}
 use Rattle.vs_excmd.specs.declared.request.Request.{Request}
 use Rattle.vs_script.specs.Ahead.{script_limit}
 use Rattle.vs_script.specs.Feed.{IsReady}
@@ -25,7 +25,7 @@ use Rattle.vs_multi.specs.Multi.{FitsBoth, other, session_of}
 use Rattle.vs_multi.specs.Steps.{TakesStep}
 use Rattle.vs_top.specs.Promise.{row}
 use Rattle.vs_top.specs.Run.{counts_of, OnlyFolder, FaultHasCause}
-use Rattle.vs_top.specs.PairPromise.{BothFit, EndsPair, FilesAre, IsMixed, IsTimedBoth}
+use Rattle.vs_top.specs.PairPromise.{BothFit, EndsPair, IsMixed, IsTimedBoth, row_both}
 use Rattle.vs_top.specs.PairTurns.{IsUsable, KeepsPair, TakesMore, ended_of, one_ended}
 use Rattle.vs_top.specs.declared.pair.Sessions.{Sessions}
 use Rattle.vs_top.specs.declared.ending.Ending.{Ending}
@@ -154,7 +154,7 @@ module _ (tells : Tells) (one two : List ℕ) (old now : Scene) (most : ℕ) (ma
   -- ---- where it ends
 
   module _ (few : most ≤ 2) where
-    ends_at : (new : Scene) (end : Ending) → (end ≡ ending.SwapFound → ⊥) → (BothFit one two old → FilesAre end one two old) → (IsTrue tells.script → length old.script ≤ length new.script + (row end).taken)
+    ends_at : (new : Scene) (end : Ending) → (end ≡ ending.SwapFound → ⊥) → (BothFit one two old → (row_both end).files (content_of old one) (content_of old two)) → (IsTrue tells.script → length old.script ≤ length new.script + (row end).taken)
         → (row end).counts (counts_of old) (counts_of new) → now.folder_faults ≤ new.folder_faults → new.answers ≡ now.answers → EndsPair tells one two old new end marks
     ends_at new end not_swap files taken counts later answers = record {
       swap = λ told is. absurd (not_swap is);

@@ -38,7 +38,7 @@ use Rattle.vs_top.specs.Run.{TellsRun}
 use Rattle.vs_top.specs.Tags.{prefix_of}
 use Rattle.vs_top.specs.Turns.{text_at}
 use Rattle.vs_top.specs.PairHistory.{BothFiles, opening_for}
-use Rattle.vs_top.specs.PairPromise.{BeforeOpening, Both, EitherHasSwap, EndsBoth, FailedBoth, HasRunBoth, LeavesOthers, OpensNone, files_in, party_for}
+use Rattle.vs_top.specs.PairPromise.{BeforeOpening, Both, EitherHasSwap, HasRunBoth, LeavesOthers, OpensNone, files_in, party_for, row_both}
 use Rattle.vs_top.specs.PairTurns.{ToldOpenPair}
 use Rattle.vs_top.specs.declared.ending.Ending.{Ending}
 use Rattle.vs_top.specs.declared.ending.Ending.TheVariants as ending
@@ -133,7 +133,7 @@ module _ (tells : Tells) (told : TellsRun tells) (one two : List ℕ) (old new :
     abbrev did : Both
     did = record { transcript = []; extent = BeforeOpening }
 
-    pub unopened : (end : Ending) → EndsBoth end files old new marks did → FailedBoth end old new → HasRunBoth one two old new end marks
+    pub unopened : (end : Ending) → (row_both end).answered files old new marks did → (row_both end).last old new → HasRunBoth one two old new end marks
     unopened end ends failed = record {
       did = did;
       read = tt;

@@ -38,7 +38,7 @@ use Rattle.vs_top.specs.Tags.{prefix_of, tagged_for}
 use Rattle.vs_top.specs.Turns.{text_at}
 use Rattle.vs_top.specs.PairHistory.{BothFiles, opening_for}
 use Rattle.vs_top.specs.PairScript.{Reads}
-use Rattle.vs_top.specs.PairPromise.{BeforeOpening, EitherHasSwap, EndsPair, FilesAre, HasRunBoth, IsMixed, IsTimedBoth, RunsPair, files_in, party_for}
+use Rattle.vs_top.specs.PairPromise.{BeforeOpening, EitherHasSwap, EitherPasses, EndsPair, HasRunBoth, IsMixed, IsTimedBoth, RunsPair, files_in, party_for}
 use Rattle.vs_top.specs.PairTurns.{Greets, IsPlaced, IsUsable, KeepsPair, OpensPair, StandsAt, TakesMore, ToldOpenPair, ToldPair, ended_of, greeting_of, one_ended}
 use Rattle.vs_top.specs.declared.pair.Sessions.{Sessions}
 use Rattle.vs_top.specs.declared.ending.Ending.{Ending}
@@ -59,7 +59,7 @@ fits_not_over None not_over = tt
 fits_not_over (Some bytes) not_over = elim (within_or_not (lines_of bytes)) [ inl within ↦ within | inr over ↦ absurd (not_over over) ]
 
 -- the one that is too large
-too_large : (tells : Tells) (size : ℕ) (one two : List ℕ) (old : Scene) → IsTrue tells.folder → IsEitherTooLarge tells size (content_of old one) (content_of old two) → FilesAre (ending.TextLimit size) one two old
+too_large : (tells : Tells) (size : ℕ) (one two : List ℕ) (old : Scene) → IsTrue tells.folder → IsEitherTooLarge tells size (content_of old one) (content_of old two) → EitherPasses size (content_of old one) (content_of old two)
 too_large tells size one two old told (inl large) = inl (large.passes told)
 too_large tells size one two old told (inr large) = inr (fits_not_over (content_of old one) (large.0 told), large.1.passes told)
 

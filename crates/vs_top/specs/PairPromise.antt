@@ -1,6 +1,7 @@
--- What a run of two sessions promises: what it answered, by its ending, and for each session what a run of it alone does, on the names of
--- its family.
+-- What a run of two sessions promises: one row for each ending, which says what it answered, which call failed and what of the files; and
+-- for each session what a run of it alone does, on the names of its family.
 use Rattle.std.specs.Prelude.{ℕ, Bool, true, false, List, ◌∷◌, [], ◌≡◌, ◌<◌, ◌≤◌, ◌+◌, ◌⊎◌, ◌++◌, ⊤, All, map, length, take, IsTrue, IsSomeAnd, codes}
+use Rattle.std.specs.declared.option.Option.{Option}
 use Rattle.vs_host.specs.Disk.{Disk, Name}
 use Rattle.vs_host.specs.Names.{is_allowed, names_of_file}
 use Rattle.vs_host.specs.Trace.{GoesOn}
@@ -108,39 +109,76 @@ IsCut AllWhole = ⊥
 IsCut LastCut = ⊤
 IsCut LastFailed = ⊥
 
--- what a run of two sessions answered, by its ending
-abbrev pub EndsBoth : Ending → BothFiles → Scene → Scene → List Mark → Both → Type 0
-EndsBoth ending.Done files old new marks did = CameToEndBoth false files did
-EndsBoth ending.WithErrors files old new marks did = CameToEndBoth true files did
-EndsBoth ending.Usage files old new marks did = ⊥
-EndsBoth ending.SwapFound files old new marks did = OpensNone old new marks did
-EndsBoth ending.NoSwap files old new marks did = ⊥
-EndsBoth ending.ScriptFault files old new marks did = (taken : List ℕ) × (old.script ≡ taken ++ new.script) × AnswersWhole taken did
-EndsBoth ending.OutputFault files old new marks did = IsCut did.extent
-EndsBoth ending.FolderFault files old new marks did = OpensNone old new marks did ⊎ (did.extent ≡ LastFailed)
-EndsBoth ending.NoMemory files old new marks did = OpensNone old new marks did ⊎ (did.extent ≡ AllWhole)
-EndsBoth ending.Encrypted files old new marks did = ⊥
-EndsBoth ending.NotSwap files old new marks did = ⊥
-EndsBoth ending.Salvaged files old new marks did = ⊥
-EndsBoth (ending.TextLimit size) files old new marks did = OpensNone old new marks did
-EndsBoth ending.ScriptTooLong files old new marks did = (script_limit < length old.script) × AnswersWhole (take script_limit old.script) did
+-- ---- one row an ending
 
--- the failed call was the last one, or the folder was only looked at
-abbrev pub FailedBoth : Ending → Scene → Scene → Type 0
-FailedBoth ending.Done old new = ⊤
-FailedBoth ending.WithErrors old new = ⊤
-FailedBoth ending.Usage old new = ⊥
-FailedBoth ending.SwapFound old new = Looks old new
-FailedBoth ending.NoSwap old new = ⊥
-FailedBoth ending.ScriptFault old new = RoseLast script_count old new
-FailedBoth ending.OutputFault old new = RoseLast output_count old new
-FailedBoth ending.FolderFault old new = RoseLast folder_count old new
-FailedBoth ending.NoMemory old new = ⊤
-FailedBoth ending.Encrypted old new = ⊥
-FailedBoth ending.NotSwap old new = ⊥
-FailedBoth ending.Salvaged old new = ⊥
-FailedBoth (ending.TextLimit size) old new = ⊤
-FailedBoth ending.ScriptTooLong old new = ⊤
+-- What is said of a run of two sessions that ends so. The counts of failed calls and what is taken of the script are those of `row`.
+pub record RowBoth : Type 1 where
+  -- what it answered
+  pub answered : BothFiles → Scene → Scene → List Mark → Both → Type 0
+  -- the failed call was the last one, or the folder was only looked at
+  pub last : Scene → Scene → Type 0
+  -- what the files are
+  pub files : Option (List ℕ) → Option (List ℕ) → Type 0
+
+-- no run of two sessions ends so
+abbrev pub never_both : RowBoth
+never_both = record { answered = λ files old new marks did. ⊥; last = λ old new. ⊤; files = λ one two. ⊥ }
+
+-- the files were not opened, or not both
+abbrev pub unopened_both : (Option (List ℕ) → Option (List ℕ) → Type 0) → RowBoth
+unopened_both files = record { answered = λ files old new marks did. OpensNone old new marks did; last = λ old new. ⊤; files = files }
+
+-- both files were opened
+abbrev pub after_both : (BothFiles → Scene → Scene → List Mark → Both → Type 0) → RowBoth
+after_both answered = record { answered = answered; last = λ old new. ⊤; files = λ one two. FileFits one × FileFits two }
+
+-- both came to their end, and some answer is an error or none is
+abbrev pub came_both : Bool → RowBoth
+came_both errors = after_both (λ files old new marks did. CameToEndBoth errors files did)
+
+-- a read of the script failed
+abbrev pub script_fault_both : RowBoth
+script_fault_both = record (after_both (λ files old new marks did. (taken : List ℕ) × (old.script ≡ taken ++ new.script) × AnswersWhole taken did)) {
+  last = RoseLast script_count;
+}
+
+-- a write of the output failed
+abbrev pub output_fault_both : RowBoth
+output_fault_both = record (after_both (λ files old new marks did. IsCut did.extent)) { last = RoseLast output_count }
+
+-- a call on the folder failed, of the openings or of the end of a session
+abbrev pub folder_fault_both : RowBoth
+folder_fault_both = record (after_both (λ files old new marks did. OpensNone old new marks did ⊎ (did.extent ≡ LastFailed))) {
+  last = RoseLast folder_count;
+  files = λ one two. ⊤;
+}
+
+-- there was no memory: to open the files or for the script, or for a command
+abbrev pub no_memory_both : RowBoth
+no_memory_both = record (after_both (λ files old new marks did. OpensNone old new marks did ⊎ (did.extent ≡ AllWhole))) { files = λ one two. ⊤ }
+
+-- the number is what passed a limit of the first file; or of the second one, where the first is within the limits
+abbrev pub EitherPasses : ℕ → Option (List ℕ) → Option (List ℕ) → Type 0
+EitherPasses size one two =
+    IsSomeAnd one (λ bytes. PassesLimit (lines_of bytes) size) ⊎ (FileFits one × IsSomeAnd two (λ bytes. PassesLimit (lines_of bytes) size))
+
+-- the row of each ending
+abbrev pub row_both : Ending → RowBoth
+row_both ending.Done = came_both false
+row_both ending.WithErrors = came_both true
+row_both ending.Usage = never_both
+row_both ending.SwapFound = record (unopened_both (λ one two. ⊤)) { last = Looks }
+row_both ending.NoSwap = never_both
+row_both ending.ScriptFault = script_fault_both
+row_both ending.OutputFault = output_fault_both
+row_both ending.FolderFault = folder_fault_both
+row_both ending.NoMemory = no_memory_both
+row_both ending.Encrypted = never_both
+row_both ending.NotSwap = never_both
+row_both ending.Salvaged = never_both
+row_both (ending.TextLimit size) = unopened_both (EitherPasses size)
+row_both ending.ScriptTooLong =
+    after_both (λ files old new marks did. (script_limit < length old.script) × AnswersWhole (take script_limit old.script) did)
 
 -- ---- each session
 
@@ -220,25 +258,6 @@ EitherHasSwap one two folder = HasSwap (names_of_file one) folder ⊎ HasSwap (n
 abbrev pub BothFit : List ℕ → List ℕ → Scene → Type 0
 BothFit one two old = FileFits (content_of old one) × FileFits (content_of old two)
 
--- what the files are, by the ending: one that is too large is that of the first session, or of the second where the first one's is not
-abbrev pub FilesAre : Ending → List ℕ → List ℕ → Scene → Type 0
-FilesAre ending.Done one two old = BothFit one two old
-FilesAre ending.WithErrors one two old = BothFit one two old
-FilesAre ending.Usage one two old = ⊥
-FilesAre ending.SwapFound one two old = ⊤
-FilesAre ending.NoSwap one two old = ⊥
-FilesAre ending.ScriptFault one two old = BothFit one two old
-FilesAre ending.OutputFault one two old = BothFit one two old
-FilesAre ending.FolderFault one two old = ⊤
-FilesAre ending.NoMemory one two old = ⊤
-FilesAre ending.Encrypted one two old = ⊥
-FilesAre ending.NotSwap one two old = ⊥
-FilesAre ending.Salvaged one two old = ⊥
-FilesAre (ending.TextLimit size) one two old =
-    IsSomeAnd (content_of old one) (λ bytes. PassesLimit (lines_of bytes) size)
-    ⊎ (FileFits (content_of old one) × IsSomeAnd (content_of old two) (λ bytes. PassesLimit (lines_of bytes) size))
-FilesAre ending.ScriptTooLong one two old = BothFit one two old
-
 -- What a run of two sessions did, over a host that tells. The promise of each is of files that had no swap files.
 pub record HasRunBoth (one two : List ℕ) (old new : Scene) (end : Ending) (marks : List Mark) : Type 0 where
   pub did : Both
@@ -246,17 +265,17 @@ pub record HasRunBoth (one two : List ℕ) (old new : Scene) (end : Ending) (mar
   pub may : MayAnswer (files_in old one two) (answers_of did.transcript)
   pub kept : marks ≡ marks_in (answers_of did.transcript)
   pub wrote : HasWritten did.extent (files_in old one two) old new (answers_of did.transcript)
-  pub ends : EndsBoth end (files_in old one two) old new marks did
+  pub ends : (row_both end).answered (files_in old one two) old new marks did
   pub first : ¬ EitherHasSwap one two old.folder → IsSafeBeside which.One (files_in old one two) old new did
   pub second : ¬ EitherHasSwap one two old.folder → IsSafeBeside which.Two (files_in old one two) old new did
   pub others : LeavesOthers one two old new
-  pub failed : FailedBoth end old new
+  pub failed : (row_both end).last old new
 
 -- What holds of it over any host.
 pub record EndsPair (tells : Tells) (one two : List ℕ) (old new : Scene) (end : Ending) (marks : List Mark) : Type 0 where
   pub swap : IsTrue tells.folder → end ≡ ending.SwapFound → EitherHasSwap one two old.folder
   pub barred : IsTrue tells.folder → EitherHasSwap one two old.folder → IsBarred old new end marks
-  pub files : IsTrue tells.folder → FilesAre end one two old
+  pub files : IsTrue tells.folder → (row_both end).files (content_of old one) (content_of old two)
   pub taken : IsTrue tells.script → length old.script ≤ length new.script + (row end).taken
   pub counts : (row end).counts (counts_of old) (counts_of new)
   pub causes : All (FaultHasCause (counts_of old) (counts_of new)) marks
