@@ -82,6 +82,7 @@ module _ (tells : Tells) (told : TellsRun tells) (one two : List ℕ) (old now e
         second = λ free. kept_as (party_for which.Two files) old (stage_of which.Two files answers) now kept.second_kept;
         others = here.others;
         failed = failed;
+        left = λ is. absurd (cc);
       }
 
   -- where it stops after calls that only looked
@@ -101,6 +102,7 @@ module _ (tells : Tells) (told : TellsRun tells) (one two : List ℕ) (old now e
         second = λ free. kept_as (party_for which.Two files) old (stage_of which.Two files answers) new kept.second_kept;
         others = others_look one two old now new here.others looks;
         failed = failed;
+        left = λ is. absurd (cc);
       }
 
   -- the work for an answer failed, so that it was not begun
@@ -118,6 +120,7 @@ module _ (tells : Tells) (told : TellsRun tells) (one two : List ℕ) (old now e
     second = λ free. safe.1;
     others = others;
     failed = rose;
+    left = λ is. absurd (cc);
   }
 
   module _ (source : Source) (answer : Answer) (read : IsTranscript old.script (entry source answer ∷ transcript)) (may : MayAnswer files (answer ∷ answers))
@@ -151,6 +154,7 @@ module _ (tells : Tells) (told : TellsRun tells) (one two : List ℕ) (old now e
             second = λ free. safe.1;
             others = others_wrote one two old ended new carried.others part.0 part.2;
             failed = rose_last output_count old ended new (λ m none. none.out) (puts.last told.folder) (puts.cause.risen failed) carried.counted;
+            left = λ is. absurd (cc);
           }
 
       -- it is whole

@@ -59,8 +59,8 @@ module _ (tells : Tells) (told : TellsRun tells) (one two : List ℕ) (old now :
   output_now = here.first.begins.works.output
 
   -- the first is cut short
-  pub greet_cut_one : (Failed : Type 0) (new : Scene) → Puts tells one_line Failed now new → Failed → HasRunBoth one two old new ending.OutputFault marks
-  greet_cut_one Failed new puts failed =
+  pub greet_cut_one : (s : Session) → StandsOpen tells one old now s → (Failed : Type 0) (new : Scene) → Puts tells one_line Failed now new → Failed → HasRunBoth one two old new ending.OutputFault marks
+  greet_cut_one s stands Failed new puts failed =
       let part = puts.part told.folder told.output in
       let taken = part_taken part.0 one_line part.1 in
       let kept = both_first_cut first second old now (text_at old one) (text_at old two) one_line two_line here.first here.second part.0 new some_one part.2 part.1 in
@@ -75,6 +75,7 @@ module _ (tells : Tells) (told : TellsRun tells) (one two : List ℕ) (old now :
         second = λ free. kept_as second old (stage_before which.Two files) new kept.second_kept;
         others = others_wrote one two old now new here.others part.0 part.2;
         failed = rose_last output_count old now new (λ m no_fault. no_fault.out) (puts.last told.folder) (puts.cause.risen failed) here.counted;
+        left = λ is. (s, stands.names, subst (λ (d : Disk). Fits s d files.one.state (opened (text_at old one))) (sym part.2.folder) (stands.fits told.folder));
       }
 
   module _ (mid : Scene) (one_puts : Puts tells one_line ⊥ now mid) where
@@ -112,6 +113,7 @@ module _ (tells : Tells) (told : TellsRun tells) (one two : List ℕ) (old now :
             others = others_wrote one two old mid new others_mid part.0 part.2;
             failed = rose_last output_count old mid new (λ m no_fault. no_fault.out) (puts.last told.folder) (puts.cause.risen failed)
                 (counted_on output_count old now mid (goes_weaker (HasNoFault now) (λ m. m.out_faults ≡ now.out_faults) (λ m no_fault. no_fault.out) now.trace mid.trace one_quiet.moments) one_quiet.out here.counted);
+            left = λ is. absurd (cc);
           }
 
       -- both are whole

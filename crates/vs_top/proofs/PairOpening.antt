@@ -1,12 +1,12 @@
 -- Both files of a run of two sessions are opened, or not both; and both opening replies are written, or one of them in part.
-use Rattle.std.proofs.Common.{◌≡◌, inl, inr, ℕ, ◌<◌, Bool, true, false, not, ◌&&◌, List, [], ◌∷◌, ◌++◌, length, refl, sym, ap, subst, ◌∙◌, append-nil, arith}
+use Rattle.std.proofs.Common.{◌≡◌, ◌⊎◌, inl, inr, ℕ, ◌<◌, Bool, true, false, not, ◌&&◌, List, [], ◌∷◌, ◌++◌, length, refl, sym, ap, subst, ◌∙◌, append-nil, arith}
 use Rattle.std.proofs.lemmas.List.{length-append}
 use Rattle.vs_faults.specs.Faults.{HasRisen}
 use Rattle.vs_host.specs.Disk.{Disk, IsFolder, Name}
 use Rattle.vs_host.specs.Names.{names_of_file}
 use Rattle.vs_host.specs.World.{Tells, Scene}
 use Rattle.vs_disk.specs.Names.{SameAt}
-use Rattle.vs_disk.specs.Runs.{Inside}
+use Rattle.vs_disk.specs.Runs.{Inside, Looks}
 use Rattle.vs_disk.proofs.Hands.{apart_settled}
 use Rattle.vs_disk.proofs.Runs.{goes_weaker}
 use Rattle.vs_pair.specs.Acts.{Acts}
@@ -30,15 +30,16 @@ use Rattle.vs_both.proofs.Names.{others_foreign, others_in_family, share_none}
 use Rattle.vs_session.specs.declared.session.Session.{Session}
 use Rattle.vs_session.specs.declared.open.OpenErr.{OpenErr}
 use Rattle.vs_session.specs.declared.open.OpenErr.TheVariants as opening
+use Rattle.vs_session.specs.Fits.{Opens}
 use Rattle.vs_session.specs.Open.{OnlyLooks}
-use Rattle.vs_multi.specs.Opening.{AreSettled, OpensBoth, StandsOpen, is_of_neither}
+use Rattle.vs_multi.specs.Opening.{AreNotOpened, AreSettled, OpensBoth, StandsOpen, is_of_neither}
 use Rattle.vs_tagged.proofs.Lines.{tagged_some}
 use Rattle.vs_top.specs.Ending.{open_ending}
 use Rattle.vs_top.specs.Run.{TellsRun}
 use Rattle.vs_top.specs.Tags.{prefix_of}
 use Rattle.vs_top.specs.Turns.{text_at}
 use Rattle.vs_top.specs.PairHistory.{BothFiles, opening_for}
-use Rattle.vs_top.specs.PairPromise.{BeforeOpening, Both, EitherHasSwap, HasRunBoth, LeavesOthers, OpensNone, files_in, party_for, row_both}
+use Rattle.vs_top.specs.PairPromise.{BeforeOpening, Both, EitherHasSwap, HasRunBoth, IsJustOpened, LeavesOthers, OpensNone, files_in, party_for, row_both}
 use Rattle.vs_top.specs.PairTurns.{ToldOpenPair}
 use Rattle.vs_top.specs.declared.ending.Ending.{Ending}
 use Rattle.vs_top.specs.declared.ending.Ending.TheVariants as ending
@@ -133,8 +134,8 @@ module _ (tells : Tells) (told : TellsRun tells) (one two : List ℕ) (old new :
     abbrev did : Both
     did = record { transcript = []; extent = BeforeOpening }
 
-    pub unopened : (end : Ending) → (row_both end).answered files old new marks did → (row_both end).last old new → HasRunBoth one two old new end marks
-    unopened end ends failed = record {
+    pub unopened : (end : Ending) → (row_both end).answered files old new marks did → (row_both end).last old new → (row_both end).left files.one old new → HasRunBoth one two old new end marks
+    unopened end ends failed left = record {
       did = did;
       read = tt;
       may = record { one = tt; two = tt; quits = tt };
@@ -146,17 +147,32 @@ module _ (tells : Tells) (told : TellsRun tells) (one two : List ℕ) (old new :
           not_opened (others_of second) second.names second.line (text_at old two) (opening_for which.One files ++ opening_for which.Two files) old new (begins_two free) some_both;
       others = others_opened;
       failed = failed;
+      left = λ is. left;
     }
 
     opens_none : OpensNone old new marks did
     opens_none = record { none = record { none = none; output = ap (λ (s : Scene). s.output) acts.frame }; did_none = refl }
 
-    pub run_unopened : (error : OpenErr) → (error ≡ opening.Failed → HasRisen old.folder_faults new.folder_faults) → (error ≡ opening.SwapFound → OnlyLooks tells old new) → HasRunBoth one two old new (open_ending error) marks
-    run_unopened opening.SwapFound failed looks = unopened ending.SwapFound opens_none ((looks refl).runs told.folder)
-    run_unopened opening.Failed failed looks =
-        unopened ending.FolderFault (inl opens_none) (rose_last folder_count old old new (λ m no_fault. no_fault.folder) (acts.last told.folder) (failed refl) (counted_none folder_count old))
-    run_unopened opening.NoMemory failed looks = unopened ending.NoMemory (inl opens_none) tt
-    run_unopened (opening.TextLimit size) failed looks = unopened (ending.TextLimit size) opens_none tt
+    -- the first file was opened alone
+    first_alone : (session : Session) → StandsOpen tells one old new session → IsJustOpened files.one new.folder
+    first_alone session stands = (session, stands.names, stands.fits told.folder)
+
+    -- it was not opened for want of memory or for its size, or the second was not
+    left_by : (error : OpenErr) → ¬ (error ≡ opening.Failed) → AreNotOpened tells one error old new → Looks old new ⊎ IsJustOpened files.one new.folder
+    left_by error other (inl none) = inl ((none.looks other).runs told.folder)
+    left_by error other (inr alone) = inr (first_alone alone.0 alone.1)
+
+    -- a call failed
+    left_failed : AreNotOpened tells one opening.Failed old new → Opens one old.folder new.folder ⊎ IsJustOpened files.one new.folder
+    left_failed (inl none) = inl (none.acts.runs told.folder).now
+    left_failed (inr alone) = inr (first_alone alone.0 alone.1)
+
+    pub run_unopened : (error : OpenErr) → (error ≡ opening.Failed → HasRisen old.folder_faults new.folder_faults) → (error ≡ opening.SwapFound → OnlyLooks tells old new) → AreNotOpened tells one error old new → HasRunBoth one two old new (open_ending error) marks
+    run_unopened opening.SwapFound failed looks not_both = unopened ending.SwapFound opens_none ((looks refl).runs told.folder) (inl ((looks refl).runs told.folder))
+    run_unopened opening.Failed failed looks not_both =
+        unopened ending.FolderFault (inl opens_none) (rose_last folder_count old old new (λ m no_fault. no_fault.folder) (acts.last told.folder) (failed refl) (counted_none folder_count old)) (left_failed not_both)
+    run_unopened opening.NoMemory failed looks not_both = unopened ending.NoMemory (inl opens_none) tt (left_by opening.NoMemory (λ is. absurd (cc)) not_both)
+    run_unopened (opening.TextLimit size) failed looks not_both = unopened (ending.TextLimit size) opens_none tt (left_by (opening.TextLimit size) (λ is. absurd (cc)) not_both)
 
   -- ---- both were
 

@@ -28,7 +28,7 @@ use Rattle.vs_session.specs.declared.open.OpenErr.TheVariants as opening
 use Rattle.vs_session.specs.Open.{OnlyLooks}
 use Rattle.vs_multi.specs.declared.multi.Multi.{Multi}
 use Rattle.vs_multi.specs.Multi.{FitsBoth}
-use Rattle.vs_multi.specs.Opening.{BothStandOpen, IsEitherTooLarge, OpensBoth, StandsOpen}
+use Rattle.vs_multi.specs.Opening.{AreNotOpened, BothStandOpen, IsEitherTooLarge, OpensBoth, StandsOpen}
 use Rattle.vs_multi.specs.Sessions.{AreOwn, AreOwnWhere, file_of}
 use Rattle.vs_tagged.specs.Tagged.{Puts}
 use Rattle.vs_tagged.proofs.Lines.{tagged_some}
@@ -126,10 +126,10 @@ module _ (tells : Tells) (one two : List ℕ) (old new : Scene) (pending : IsTru
     pub runs_unopened : (error : OpenErr) → (error ≡ opening.Failed → HasRisen old.folder_faults new.folder_faults) → IsQuiet old.folder_faults new.folder_faults (error ≡ opening.Failed)
         → ((size : ℕ) → error ≡ opening.TextLimit size → IsEitherTooLarge tells size (content_of old one) (content_of old two)) → (error ≡ opening.SwapFound → IsTrue tells.folder → EitherHasSwap one two old.folder)
         → (IsTrue tells.folder → EitherHasSwap one two old.folder → (error ≡ opening.SwapFound) ⊎ (error ≡ opening.Failed) ⊎ (error ≡ opening.NoMemory))
-        → (IsTrue tells.folder → EitherHasSwap one two old.folder → OnlyLooks tells old new) → RunsPair tells one two old new (open_ending error) marks
-    runs_unopened error failed quiet limit swap barred barred_looks = record {
+        → (IsTrue tells.folder → EitherHasSwap one two old.folder → OnlyLooks tells old new) → AreNotOpened tells one error old new → RunsPair tells one two old new (open_ending error) marks
+    runs_unopened error failed quiet limit swap barred barred_looks not_both = record {
       told = λ told.
-          run_unopened tells told one two old new (pending told.folder) beside acts marks none error failed (λ is. barred_looks told.folder (swap is told.folder));
+          run_unopened tells told one two old new (pending told.folder) beside acts marks none error failed (λ is. barred_looks told.folder (swap is told.folder)) not_both;
       ends = ends_unopened error failed quiet limit swap barred barred_looks;
     }
 
@@ -239,6 +239,7 @@ module _ (tells : Tells) (one two : List ℕ) (old now : Scene) (multi : Multi) 
         second = λ free. not_opened (others_of (party_for which.Two files)) (party_for which.Two files).names (party_for which.Two files).line (text_at old two) (opening_for which.One files ++ opening_for which.Two files) old now here.second.begins some;
         others = here.others;
         failed = tt;
+        left = λ is. inr (first.0, first.2.names, first.2.fits told.folder);
       }
 
   pub memory_runs : RunsPair tells one two old now ending.NoMemory marks
@@ -254,7 +255,7 @@ module _ (tells : Tells) (one two : List ℕ) (old now : Scene) (multi : Multi) 
   cut_first : (new : Scene) → Puts tells (greeting_of which.One multi.one) (Unit {0}) now new → RunsPair tells one two old new ending.OutputFault marks
   cut_first new puts = record {
     told = λ told.
-        greet_cut_one tells told one two old now (at.told told) marks none (Unit {0}) new (subst (λ (l : List ℕ). Puts tells l (Unit {0}) now new) (one_line told) puts) tt;
+        greet_cut_one tells told one two old now (at.told told) marks none first.0 first.2 (Unit {0}) new (subst (λ (l : List ℕ). Puts tells l (Unit {0}) now new) (one_line told) puts) tt;
     ends = ends_cut tells one two old now 0 marks keeps_now (omega arith) (greeting_of which.One multi.one) (Unit {0}) new puts tt;
   }
 

@@ -1,5 +1,5 @@
--- What a run of two sessions promises: one row for each ending, which says what it answered, which call failed and what of the files; and
--- for each session what a run of it alone does, on the names of its family.
+-- What a run of two sessions promises: one row for each ending, which says what it answered, which call failed, what it leaves of a
+-- file that was opened alone, and what of the files; and for each session what a run of it alone does, on the names of its family.
 use Rattle.std.specs.Prelude.{ℕ, Bool, true, false, List, ◌∷◌, [], ◌≡◌, ◌<◌, ◌≤◌, ◌+◌, ◌⊎◌, ◌++◌, ⊤, All, map, length, take, IsTrue, IsSomeAnd, codes}
 use Rattle.std.specs.declared.option.Option.{Option}
 use Rattle.vs_host.specs.Disk.{Disk, Name}
@@ -21,9 +21,10 @@ use Rattle.vs_safety.specs.Turns.{Closing, NotBegun, quit_line}
 use Rattle.vs_both.specs.Beside.{HasQuit, Party, others_of}
 use Rattle.vs_both.specs.Both.{Stage, Running, Gone}
 use Rattle.vs_both.specs.Parties.{party_of}
-use Rattle.vs_session.specs.Fits.{HasSwap}
+use Rattle.vs_session.specs.Fits.{HasSwap, Opens}
 use Rattle.vs_session.specs.Open.{PassesLimit}
-use Rattle.vs_top.specs.Run.{TellsRun, AnswersNone, FaultHasCause, FileFits, IsBarred, counts_of, opened_file}
+use Rattle.vs_session.specs.Opened.{Opened}
+use Rattle.vs_top.specs.Run.{TellsRun, AnswersNone, FaultHasCause, FileFits, IsBarred, KeepsSwap, counts_of, opened_file}
 use Rattle.vs_top.specs.Promise.{row}
 use Rattle.vs_top.specs.PairHistory.{Answer, Answered, Left, AfterQuit, OfNone, Preserved, Answers, BothFiles, MayAnswer, WereSynced}
 use Rattle.vs_top.specs.PairHistory.{closing_under, file_for, has_error, marks_in, opening_for, reply_after, stage_before, stage_of, stage_opened}
@@ -111,26 +112,42 @@ IsCut LastFailed = ⊥
 
 -- ---- one row an ending
 
+-- both swap files of a file stand as its opening made them: some session fits the folder as one does that has just opened it
+abbrev pub IsJustOpened : Opened → Disk → Type 0
+IsJustOpened file folder = KeepsSwap file (record { past = []; closing = NotBegun }) folder
+
 -- What is said of a run of two sessions that ends so. The counts of failed calls and what is taken of the script are those of `row`.
 pub record RowBoth : Type 1 where
   -- what it answered
   pub answered : BothFiles → Scene → Scene → List Mark → Both → Type 0
   -- the failed call was the last one, or the folder was only looked at
   pub last : Scene → Scene → Type 0
+  -- what it leaves of the first file's swap files where no opening reply is whole
+  pub left : Opened → Scene → Scene → Type 0
   -- what the files are
   pub files : Option (List ℕ) → Option (List ℕ) → Type 0
 
 -- no run of two sessions ends so
 abbrev pub never_both : RowBoth
-never_both = record { answered = λ files old new marks did. ⊥; last = λ old new. ⊤; files = λ one two. ⊥ }
+never_both = record { answered = λ files old new marks did. ⊥; last = λ old new. ⊤; left = λ file old new. ⊤; files = λ one two. ⊥ }
 
--- the files were not opened, or not both
+-- the files were not opened, or the first one alone
 abbrev pub unopened_both : (Option (List ℕ) → Option (List ℕ) → Type 0) → RowBoth
-unopened_both files = record { answered = λ files old new marks did. OpensNone old new marks did; last = λ old new. ⊤; files = files }
+unopened_both files = record {
+  answered = λ files old new marks did. OpensNone old new marks did;
+  last = λ old new. ⊤;
+  left = λ file old new. Looks old new ⊎ IsJustOpened file new.folder;
+  files = files;
+}
 
 -- both files were opened
 abbrev pub after_both : (BothFiles → Scene → Scene → List Mark → Both → Type 0) → RowBoth
-after_both answered = record { answered = answered; last = λ old new. ⊤; files = λ one two. FileFits one × FileFits two }
+after_both answered = record {
+  answered = answered;
+  last = λ old new. ⊤;
+  left = λ file old new. IsJustOpened file new.folder;
+  files = λ one two. FileFits one × FileFits two;
+}
 
 -- both came to their end, and some answer is an error or none is
 abbrev pub came_both : Bool → RowBoth
@@ -150,12 +167,16 @@ output_fault_both = record (after_both (λ files old new marks did. IsCut did.ex
 abbrev pub folder_fault_both : RowBoth
 folder_fault_both = record (after_both (λ files old new marks did. OpensNone old new marks did ⊎ (did.extent ≡ LastFailed))) {
   last = RoseLast folder_count;
+  left = λ file old new. Opens file.name old.folder new.folder ⊎ IsJustOpened file new.folder;
   files = λ one two. ⊤;
 }
 
 -- there was no memory: to open the files or for the script, or for a command
 abbrev pub no_memory_both : RowBoth
-no_memory_both = record (after_both (λ files old new marks did. OpensNone old new marks did ⊎ (did.extent ≡ AllWhole))) { files = λ one two. ⊤ }
+no_memory_both = record (after_both (λ files old new marks did. OpensNone old new marks did ⊎ (did.extent ≡ AllWhole))) {
+  left = λ file old new. Looks old new ⊎ IsJustOpened file new.folder;
+  files = λ one two. ⊤;
+}
 
 -- the number is what passed a limit of the first file; or of the second one, where the first is within the limits
 abbrev pub EitherPasses : ℕ → Option (List ℕ) → Option (List ℕ) → Type 0
@@ -270,6 +291,7 @@ pub record HasRunBoth (one two : List ℕ) (old new : Scene) (end : Ending) (mar
   pub second : ¬ EitherHasSwap one two old.folder → IsSafeBeside which.Two (files_in old one two) old new did
   pub others : LeavesOthers one two old new
   pub failed : (row_both end).last old new
+  pub left : did.extent ≡ BeforeOpening → (row_both end).left (opened_file old one) old new
 
 -- What holds of it over any host.
 pub record EndsPair (tells : Tells) (one two : List ℕ) (old new : Scene) (end : Ending) (marks : List Mark) : Type 0 where

@@ -22,7 +22,7 @@ returns-in_err-multi g c =
     (λ is. c.in_err-multi.ensures.cause.risen (ap Err is)) (λ other. c.in_err-multi.ensures.quiet (λ is. other (cc))) (λ size is. c.in_err-multi.ensures.limit size (ap Err is))
     (λ is. c.in_err-multi.ensures.swap (ap Err is))
     (λ told has. elim (c.in_err-multi.ensures.barred told has) [ inl is ↦ inl (cc) | inr more ↦ elim more [ inl is ↦ inr (inl (cc)) | inr is ↦ inr (inr (cc)) ] ])
-    c.in_err-multi.ensures.barred_looks)
+    c.in_err-multi.ensures.barred_looks (c.in_err-multi.ensures.not_opened _ refl))
 
 pub serve_both-requires-clause-marks : goal.serve_both-requires-clause-marks
 serve_both-requires-clause-marks g c = c.requires.marks
