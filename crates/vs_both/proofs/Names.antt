@@ -12,7 +12,7 @@ use Rattle.vs_pair.specs.Pair.{is_foreign, is_pair_name}
 use Rattle.vs_safety.specs.Writes.{AreIn, outside}
 use Rattle.vs_safety.specs.FileWork.{FileWork, EditedFile, UndoFile, BothFiles, AvoidsFiles, Keeps}
 use Rattle.vs_safety.proofs.Handed.{keeps_avoided, keeps_hands}
-use Rattle.vs_both.specs.Beside.{Party, AreApart, AreBeside, HasFamily, IsSetApart, ShareNone, others_of}
+use Rattle.vs_both.specs.Beside.{Party, AreSetApart, AreBeside, HasFamily, IsSetApart, ShareNone, others_of}
 
 -- ---- one family
 
@@ -97,13 +97,13 @@ module _ (one two : Party) (has : HasFamily one) (apart : ShareNone one two) (wr
     others = hands_own one has write (outside two.family) old new own.others (λ a b is_a is_b. ap not (apart a is_a ∙ sym (apart b is_b))) other.others keeps;
   }
 
-pub first_stays_apart : (one two : Party) (write : Option FileWork) (old new : Disk) → AreBeside one two → AreApart one two old → Keeps one.names write old new → AreApart one two new
+pub first_stays_apart : (one two : Party) (write : Option FileWork) (old new : Disk) → AreBeside one two → AreSetApart one two old → Keeps one.names write old new → AreSetApart one two new
 first_stays_apart one two write old new are apart keeps = record {
   first = own_stays one two are.first are.apart write old new apart.first apart.second keeps;
   second = other_stays one two are.first are.apart write old new apart.first apart.second keeps;
 }
 
-pub second_stays_apart : (one two : Party) (write : Option FileWork) (old new : Disk) → AreBeside one two → AreApart one two old → Keeps two.names write old new → AreApart one two new
+pub second_stays_apart : (one two : Party) (write : Option FileWork) (old new : Disk) → AreBeside one two → AreSetApart one two old → Keeps two.names write old new → AreSetApart one two new
 second_stays_apart one two write old new are apart keeps = record {
   first = other_stays two one are.second (share_none one two are.apart) write old new apart.second apart.first keeps;
   second = own_stays two one are.second (share_none one two are.apart) write old new apart.second apart.first keeps;
@@ -113,5 +113,5 @@ second_stays_apart one two write old new are apart keeps = record {
 set_apart : (family : Name → Bool) (disk : Disk) → disk.pending ≡ [] → IsFolder disk → IsSetApart family disk
 set_apart family disk settled folder = record { own = apart_settled family disk settled folder; others = apart_settled (outside family) disk settled folder }
 
-pub settled_apart : (one two : Party) (disk : Disk) → disk.pending ≡ [] → IsFolder disk → AreApart one two disk
+pub settled_apart : (one two : Party) (disk : Disk) → disk.pending ≡ [] → IsFolder disk → AreSetApart one two disk
 settled_apart one two disk settled folder = record { first = set_apart one.family disk settled folder; second = set_apart two.family disk settled folder }

@@ -48,7 +48,7 @@ pub record IsSetApart (family : Name → Bool) (disk : Disk) : Type 0 where
   pub others : IsApart (outside family) disk
 
 -- The files of both families are their own.
-pub record AreApart (one two : Party) (disk : Disk) : Type 0 where
+pub record AreSetApart (one two : Party) (disk : Disk) : Type 0 where
   pub first : IsSetApart one.family disk
   pub second : IsSetApart two.family disk
 

@@ -10,9 +10,9 @@ ghost use Rattle.vs_safety.specs.FileWork.{FileWork, Keeps};
 ghost use Rattle.vs_safety.specs.Turns.{Quits, Turn, opened};
 ghost use Rattle.vs_safety.specs.Safety.{IsCrashSafeAmong, IsFirstPart, Looks, Stepped, Works, Wrote};
 ghost use Rattle.vs_safety.specs.History.{After, BeginsAmong, HasBegunAmong, History, Open, Replied, ran_of, syncs_of};
-ghost use Rattle.vs_both.specs.Beside.{AreApart, AreBeside, HasFamily, HasQuit, Party, ShareNone, of_others, others_of};
+ghost use Rattle.vs_both.specs.Beside.{AreSetApart, AreBeside, HasFamily, HasQuit, Party, ShareNone, of_others, others_of};
 ghost use Rattle.vs_both.specs.Parties.{party_of};
-ghost use Rattle.vs_both.specs.Both.{BothGo, BothKept, Gone, HasKept, Running, Stage, answered};
+ghost use Rattle.vs_both.specs.Both.{BothGo, BothKept, Gone, HasKept, Running, PartyStage, with_turn};
 
 /// What a stop may leave of a session's swap files goes on where the names of its family stay.
 pub fn standing()
@@ -26,11 +26,11 @@ pub fn standing()
 
 /// The files of both families are their own where nothing is pending in the folder, and after each session's work.
 pub fn apartness()
-    ensures settled { (one two : Party) (disk : Disk) → disk.pending ≡ [] → IsFolder disk → AreApart one two disk }
-    ensures first { (one two : Party) (write : Option FileWork) (old new : Disk) → AreBeside one two → AreApart one two old
-        → Keeps one.names write old new → AreApart one two new }
-    ensures second { (one two : Party) (write : Option FileWork) (old new : Disk) → AreBeside one two → AreApart one two old
-        → Keeps two.names write old new → AreApart one two new }
+    ensures settled { (one two : Party) (disk : Disk) → disk.pending ≡ [] → IsFolder disk → AreSetApart one two disk }
+    ensures first { (one two : Party) (write : Option FileWork) (old new : Disk) → AreBeside one two → AreSetApart one two old
+        → Keeps one.names write old new → AreSetApart one two new }
+    ensures second { (one two : Party) (write : Option FileWork) (old new : Disk) → AreBeside one two → AreSetApart one two old
+        → Keeps two.names write old new → AreSetApart one two new }
     ensures swapped { (one two : Party) → AreBeside one two → AreBeside two one }
 {}
 
@@ -56,7 +56,7 @@ pub fn beginning()
 pub fn opening()
     ensures replies { (one two : Party) (start now mid new : Scene) (text other_text : Text) (reply other_reply : List ℕ)
         → HasBegunAmong (others_of one) one.names text start now → HasBegunAmong (others_of two) two.names other_text start now
-        → AreApart one two now.folder → Replied reply now mid → Replied other_reply mid new
+        → AreSetApart one two now.folder → Replied reply now mid → Replied other_reply mid new
         → BothGo one two start (Running (After (Open text reply) (of_others other_reply))) (Running (Open other_text (reply ++ other_reply))) new }
     ensures first_cut { (one two : Party) (start now new : Scene) (text other_text : Text) (reply other_reply written : List ℕ)
         → HasBegunAmong (others_of one) one.names text start now → HasBegunAmong (others_of two) two.names other_text start now → 0 < length reply
@@ -71,36 +71,36 @@ pub fn opening()
 /// One turn of the run: it looks, the first session carries out a command and its reply is written, or a reply for which nobody works on
 /// the folder. The run may stop at each of these.
 pub fn turning()
-    ensures looks { (one two : Party) (start now new : Scene) (first second : Stage) → BothGo one two start first second now → Looks now new
+    ensures looks { (one two : Party) (start now new : Scene) (first second : PartyStage) → BothGo one two start first second now → Looks now new
         → BothGo one two start first second new }
-    ensures stops { (one two : Party) (start now : Scene) (first second : Stage) → BothGo one two start first second now
+    ensures stops { (one two : Party) (start now : Scene) (first second : PartyStage) → BothGo one two start first second now
         → BothKept one two start first second now }
-    ensures swapped { (one two : Party) (start now : Scene) (first second : Stage) → BothGo one two start first second now
+    ensures swapped { (one two : Party) (start now : Scene) (first second : PartyStage) → BothGo one two start first second now
         → BothGo two one start second first now }
-    ensures answers { (one two : Party) (start now ended new : Scene) (past : History) (second : Stage) (turn : Turn) → AreBeside one two
+    ensures answers { (one two : Party) (start now ended new : Scene) (past : History) (second : PartyStage) (turn : Turn) → AreBeside one two
         → BothGo one two start (Running past) second now → Stepped one.names (syncs_of past) turn now ended → Replied turn.reply ended new
-        → BothGo one two start (Running (After past turn)) (answered second (of_others turn.reply)) new }
-    ensures cut { (one two : Party) (start now ended new : Scene) (past : History) (second : Stage) (turn : Turn) (written : List ℕ) → AreBeside one two
-        → BothGo one two start (Running past) second now → Stepped one.names (syncs_of past) turn now ended → 0 < length turn.reply
+        → BothGo one two start (Running (After past turn)) (with_turn second (of_others turn.reply)) new }
+    ensures cut { (one two : Party) (start now ended new : Scene) (past : History) (second : PartyStage) (turn : Turn) (written : List ℕ)
+        → AreBeside one two → BothGo one two start (Running past) second now → Stepped one.names (syncs_of past) turn now ended → 0 < length turn.reply
         → Wrote written ended new → IsFirstPart written turn.reply
-        → BothKept one two start (Running (After past turn)) (answered second (of_others turn.reply)) new }
-    ensures replies { (one two : Party) (start now new : Scene) (first second : Stage) (reply : List ℕ) → BothGo one two start first second now
-        → Replied reply now new → BothGo one two start (answered first (of_others reply)) (answered second (of_others reply)) new }
-    ensures reply_cut { (one two : Party) (start now new : Scene) (first second : Stage) (reply written : List ℕ) → BothGo one two start first second now
-        → 0 < length reply → Wrote written now new → IsFirstPart written reply
-        → BothKept one two start (answered first (of_others reply)) (answered second (of_others reply)) new }
+        → BothKept one two start (Running (After past turn)) (with_turn second (of_others turn.reply)) new }
+    ensures replies { (one two : Party) (start now new : Scene) (first second : PartyStage) (reply : List ℕ) → BothGo one two start first second now
+        → Replied reply now new → BothGo one two start (with_turn first (of_others reply)) (with_turn second (of_others reply)) new }
+    ensures reply_cut { (one two : Party) (start now new : Scene) (first second : PartyStage) (reply written : List ℕ)
+        → BothGo one two start first second now → 0 < length reply → Wrote written now new → IsFirstPart written reply
+        → BothKept one two start (with_turn first (of_others reply)) (with_turn second (of_others reply)) new }
 {}
 
 /// The first session quits, and the other one goes on; or the run stops there.
 pub fn quitting()
-    ensures quits { (one two : Party) (start now mid new : Scene) (past : History) (second : Stage) → AreBeside one two
+    ensures quits { (one two : Party) (start now mid new : Scene) (past : History) (second : PartyStage) → AreBeside one two
         → BothGo one two start (Running past) second now → Works one.names None (RecoversOrNone one.names (recoverable (syncs_of past))) now mid
-        → NoneLeft one.names mid.folder → Replied one.line mid new → BothGo one two start (Gone past) (answered second (of_others one.line)) new }
-    ensures cut { (one two : Party) (start now mid new : Scene) (past : History) (second : Stage) (written : List ℕ) → AreBeside one two
+        → NoneLeft one.names mid.folder → Replied one.line mid new → BothGo one two start (Gone past) (with_turn second (of_others one.line)) new }
+    ensures cut { (one two : Party) (start now mid new : Scene) (past : History) (second : PartyStage) (written : List ℕ) → AreBeside one two
         → BothGo one two start (Running past) second now → Works one.names None (RecoversOrNone one.names (recoverable (syncs_of past))) now mid
         → 0 < length one.line → Wrote written mid new → IsFirstPart written one.line → LeavesTrace mid new ⊎ NoneLeft one.names mid.folder
         → IsCrashSafeAmong (others_of one) one.names one.line start new (ran_of past Quits)
-        × HasKept two start (answered second (of_others one.line)) new }
+        × HasKept two start (with_turn second (of_others one.line)) new }
     ensures since { (party : Party) (start now : Scene) (past : History) → HasFamily party → HasQuit party start past now
         → NoneLeft party.names now.folder }
 {}

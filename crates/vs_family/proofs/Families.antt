@@ -6,7 +6,7 @@ use Rattle.std.proofs.lemmas.Bool.{cases_Bool, true≢false}
 use Rattle.vs_host.specs.Disk.{Name}
 use Rattle.vs_host.specs.Names.{names_in, names_of_file, temporary}
 use Rattle.vs_backup.specs.Backups.{candidates}
-use Rattle.vs_family.specs.Family.{Shares, any, clash, is_of_family, lasting_names, with_temporary}
+use Rattle.vs_family.specs.Family.{SharesName, any, clash, is_of_family, lasting_names, with_temporary}
 
 or_split : (a b : Bool) → (a || b) ≡ true → (a ≡ true) ⊎ (b ≡ true)
 or_split true b is = inl refl
@@ -58,13 +58,13 @@ made_passes test name (one ∷ names) is pass = elim (or_split (with_temporary (
 
 -- ---- two families
 
-clash_shares : (one two : Name) → clash one two ≡ true → Shares one two
+clash_shares : (one two : Name) → clash one two ≡ true → SharesName one two
 clash_shares one two is = let found = made_found (is_of_family two) (lasting_names one) is in record { name = found.0; first = found.2; second = found.1 }
 
-shares_clash : (one two : Name) → Shares one two → clash one two ≡ true
+shares_clash : (one two : Name) → SharesName one two → clash one two ≡ true
 shares_clash one two shares = made_passes (is_of_family two) shares.name (lasting_names one) shares.first shares.second
 
-pub clash_exact : (one two : Name) → clash one two ≡ true ↔ Shares one two
+pub clash_exact : (one two : Name) → clash one two ≡ true ↔ SharesName one two
 clash_exact one two = (clash_shares one two, shares_clash one two)
 
 pub families_apart : (one two name : Name) → clash one two ≡ false → is_of_family one name ≡ true → is_of_family two name ≡ false

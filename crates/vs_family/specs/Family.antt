@@ -27,7 +27,7 @@ abbrev pub clash : Name → Name → Bool
 clash one two = any (with_temporary (is_of_family two)) (lasting_names one)
 
 -- a name of both families
-pub record Shares (one two : Name) : Type 0 where
+pub record SharesName (one two : Name) : Type 0 where
   pub name : Name
   pub first : is_of_family one name ≡ true
   pub second : is_of_family two name ≡ true

@@ -24,7 +24,7 @@ use Rattle.vs_paged.proofs.SyncLemmas.{fits_kept}
 use Rattle.vs_session.specs.Fits.{Fits, names_of}
 use Rattle.vs_session.specs.Session.{SessionState}
 use Rattle.vs_session.specs.declared.session.Session.{Session}
-use Rattle.vs_multi.specs.Sessions.{AreOwn, AreOwnWhere, FitsWhere, LeavesSession, Stays, file_of}
+use Rattle.vs_multi.specs.Sessions.{AreOwn, AreOwnWhere, FitsWhere, LeavesSession, Stays, file_name_of}
 
 -- the session on a file, as one of two
 abbrev pub party_on : Name → Party
@@ -44,12 +44,12 @@ swap_in party has name is = elim (cases_Bool (party.family name)) [
 ]
 
 -- where these stay, it fits the folder as before
-pub fits_beside : (session : Session) (old new : Disk) → SameAt (is_of_family (file_of session)) old new → (state : SessionState) (syncs : List Sync) → Fits session old state syncs → Fits session new state syncs
+pub fits_beside : (session : Session) (old new : Disk) → SameAt (is_of_family (file_name_of session)) old new → (state : SessionState) (syncs : List Sync) → Fits session old state syncs → Fits session new state syncs
 fits_beside session old new same state syncs fits =
     let are = named session old state syncs fits in
     let swap : SameAt (is_swap (names_of session)) old new =
     subst (λ (n : Names). SameAt (is_swap n) old new) (sym are.others)
-    (same_weaker (is_of_family (file_of session)) (is_swap (names_of_file (file_of session))) old new (swap_in (party_on (file_of session)) (has_family (file_of session) [] are.allowed)) same) in
+    (same_weaker (is_of_family (file_name_of session)) (is_swap (names_of_file (file_name_of session))) old new (swap_in (party_on (file_name_of session)) (has_family (file_name_of session) [] are.allowed)) same) in
     record {
       stands = record { text = fits_kept session.text old new state.machine.text syncs swap fits.stands.text; history = fits.stands.history };
       name = fits.name;
@@ -61,7 +61,7 @@ fits_beside session old new same state syncs fits =
     }
 
 -- what is left of it
-pub leaves : (tells : Tells) (session : Session) (old new : Scene) → (IsTrue tells.folder → GoesBeside (is_of_family (file_of session)) old new) → LeavesSession tells session old new
+pub leaves : (tells : Tells) (session : Session) (old new : Scene) → (IsTrue tells.folder → GoesBeside (is_of_family (file_name_of session)) old new) → LeavesSession tells session old new
 leaves tells session old new beside = record {
   beside = beside;
   fits = λ told. fits_beside session old.folder new.folder (beside told).folder;
@@ -75,13 +75,13 @@ stays_fits tells (Some session) old new stays fits = λ told. let was = fits tol
 
 -- the families of two sessions that were not finished share no name
 abbrev pub AreClear : Option Session → Option Session → Type 0
-AreClear one two = IfSome one (λ first. IfSome two (λ second. clash (file_of first) (file_of second) ≡ false))
+AreClear one two = IfSome one (λ first. IfSome two (λ second. clash (file_name_of first) (file_name_of second) ≡ false))
 
 pub clear_swapped : (one two : Option Session) → AreClear one two → AreClear two one
 clear_swapped None None clear = tt
 clear_swapped None (Some second) clear = tt
 clear_swapped (Some first) None clear = tt
-clear_swapped (Some first) (Some second) clear = clash_either (file_of second) (file_of first) ∙ clear
+clear_swapped (Some first) (Some second) clear = clash_either (file_name_of second) (file_name_of first) ∙ clear
 
 pub own_swapped : (tells : Tells) (one two : Option Session) (disk : Disk) → AreOwnWhere tells one two disk → AreOwnWhere tells two one disk
 own_swapped tells None None disk own = tt
@@ -90,19 +90,19 @@ own_swapped tells (Some first) None disk own = tt
 own_swapped tells (Some first) (Some second) disk own = λ told. let both = own told in (both.1, both.0)
 
 -- work of one session
-module _ (mine theirs : Session) (clear : clash (file_of mine) (file_of theirs) ≡ false) (my_names : AreNames (names_of mine)) (their_names : AreNames (names_of theirs)) (write : Option FileWork) (Q : Disk → Type 0) (old new : Scene)
-    (works : Works (names_of mine) write Q old new) (own : AreOwn (file_of mine) (file_of theirs) old.folder) where
-  are : AreBeside (party_on (file_of mine)) (party_on (file_of theirs))
-  are = are_beside (file_of mine) (file_of theirs) [] [] my_names.allowed their_names.allowed clear
+module _ (mine theirs : Session) (clear : clash (file_name_of mine) (file_name_of theirs) ≡ false) (my_names : AreNames (names_of mine)) (their_names : AreNames (names_of theirs)) (write : Option FileWork) (Q : Disk → Type 0) (old new : Scene)
+    (works : Works (names_of mine) write Q old new) (own : AreOwn (file_name_of mine) (file_name_of theirs) old.folder) where
+  are : AreBeside (party_on (file_name_of mine)) (party_on (file_name_of theirs))
+  are = are_beside (file_name_of mine) (file_name_of theirs) [] [] my_names.allowed their_names.allowed clear
 
-  own_works : Works (names_of_file (file_of mine)) write Q old new
+  own_works : Works (names_of_file (file_name_of mine)) write Q old new
   own_works = subst (λ (n : Names). Works n write Q old new) my_names.others works
 
-  pub works_beside : GoesBeside (is_of_family (file_of theirs)) old new
+  pub works_beside : GoesBeside (is_of_family (file_name_of theirs)) old new
   works_beside =
-      beside_works (party_on (file_of theirs)) (party_on (file_of mine)) write Q old new are.second are.first (share_none (party_on (file_of mine)) (party_on (file_of theirs)) are.apart) own.1.own own_works
+      beside_works (party_on (file_name_of theirs)) (party_on (file_name_of mine)) write Q old new are.second are.first (share_none (party_on (file_name_of mine)) (party_on (file_name_of theirs)) are.apart) own.1.own own_works
 
-  pub works_own : AreOwn (file_of mine) (file_of theirs) new.folder
+  pub works_own : AreOwn (file_name_of mine) (file_name_of theirs) new.folder
   works_own =
-      let apart = first_stays_apart (party_on (file_of mine)) (party_on (file_of theirs)) write old.folder new.folder are (record { first = own.0; second = own.1 }) own_works.spared in
+      let apart = first_stays_apart (party_on (file_name_of mine)) (party_on (file_name_of theirs)) write old.folder new.folder are (record { first = own.0; second = own.1 }) own_works.spared in
       (apart.first, apart.second)

@@ -38,7 +38,7 @@ use Rattle.vs_session.specs.declared.session.Session.{Session}
 use Rattle.vs_session.proofs.Cleared.{cleared_same, cleared_then}
 use Rattle.vs_session.proofs.LookLemmas.{IsLook-then, looks_none, looks_then, opens_looks}
 use Rattle.vs_session.proofs.OpenLemmas.{err_is, handed_back, handed_on, same_content}
-use Rattle.vs_multi.specs.Sessions.{AreOwn, file_of}
+use Rattle.vs_multi.specs.Sessions.{AreOwn, file_name_of}
 use Rattle.vs_multi.specs.Opening.{AreNotOpened, AreSettled, HasAnySwap, IsEitherTooLarge, IsNotOver, OpensBoth, StandsOpen, is_of_neither}
 use Rattle.vs_multi.proofs.Beside.{fits_beside, party_on}
 
@@ -310,9 +310,9 @@ module _ (tells : Tells) (one two : Name) (allowed_one : IsTrue (is_allowed one)
           }
 
           -- no file is handed over, by the names of the sessions
-          pub opened_own : (first second : Session) → names_of first ≡ names_of_file one → names_of second ≡ names_of_file two → IsTrue tells.folder → AreOwn (file_of first) (file_of second) new.folder
+          pub opened_own : (first second : Session) → names_of first ≡ names_of_file one → names_of second ≡ names_of_file two → IsTrue tells.folder → AreOwn (file_name_of first) (file_name_of second) new.folder
           opened_own first second first_is second_is told =
-              subst (λ (n : Name). AreOwn n (file_of second) new.folder) (sym (ap (λ (n : Names). n.file) first_is)) (subst (λ (n : Name). AreOwn one n new.folder) (sym (ap (λ (n : Names). n.file) second_is)) (new_own told))
+              subst (λ (n : Name). AreOwn n (file_name_of second) new.folder) (sym (ap (λ (n : Names). n.file) first_is)) (subst (λ (n : Name). AreOwn one n new.folder) (sym (ap (λ (n : Names). n.file) second_is)) (new_own told))
 
           -- it was not opened, and the first one stays
           pub second_refusal : {T U : Type 0} {e : OpenErr} (r : Result T OpenErr) (session : Session) → (IsTrue tells.folder → HasAnySwap one two old.folder → ⊥) → StandsOpen tells one old mid session → IsNotOver tells (content_of old one)
@@ -345,9 +345,9 @@ stands_same tells name old mid new session same stands = record {
 }
 
 -- the families of the sessions that opened them
-pub opened_clear : (first second : Session) (one two : Name) → names_of first ≡ names_of_file one → names_of second ≡ names_of_file two → clash one two ≡ false → clash (file_of first) (file_of second) ≡ false
+pub opened_clear : (first second : Session) (one two : Name) → names_of first ≡ names_of_file one → names_of second ≡ names_of_file two → clash one two ≡ false → clash (file_name_of first) (file_name_of second) ≡ false
 opened_clear first second one two first_is second_is clear =
-    ap (λ (n : Names). clash n.file (file_of second)) first_is ∙ ap (λ (n : Names). clash one n.file) second_is ∙ clear
+    ap (λ (n : Names). clash n.file (file_name_of second)) first_is ∙ ap (λ (n : Names). clash one n.file) second_is ∙ clear
 
 -- no file stays under a name under which one was made
 pub opened_cleared : (old looked mid new : Scene) → ReadsFolder old looked → LeavesNoneMade looked.folder mid.folder → LeavesNoneMade mid.folder new.folder → LeavesNoneMade old.folder new.folder

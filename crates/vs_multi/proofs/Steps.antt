@@ -21,7 +21,7 @@ use Rattle.vs_session.specs.declared.session.Session.{Session}
 use Rattle.vs_session.specs.declared.session.Step.{Step}
 use Rattle.vs_session.specs.declared.session.Step.TheVariants as step
 use Rattle.vs_session.proofs.Requests.{some_command}
-use Rattle.vs_multi.specs.Sessions.{AreOwn, AreOwnWhere, FitsWhere, Stays, file_of}
+use Rattle.vs_multi.specs.Sessions.{AreOwn, AreOwnWhere, FitsWhere, Stays, file_name_of}
 use Rattle.vs_multi.specs.Steps.{AnswersWhere, TakesStep}
 use Rattle.vs_multi.specs.declared.multi.MultiStep.{MultiStep}
 use Rattle.vs_multi.specs.declared.multi.MultiStep.TheVariants as answer
@@ -43,9 +43,9 @@ takes_fits tells request answered before after old new fits takes told =
 
 -- ---- the other one
 
-module _ (before after theirs : Session) (clear : clash (file_of before) (file_of theirs) ≡ false) (old new : Scene) (instruction : Instruction) (state their_state : SessionState) (syncs their_syncs : List Sync)
-    (fits : Fits before old.folder state syncs) (their_fits : Fits theirs old.folder their_state their_syncs) (own : AreOwn (file_of before) (file_of theirs) old.folder) (frame : StepsIn old new) where
-  step_leaves : (answered : Step) → IsStep answered state syncs instruction before after old new → GoesBeside (is_of_family (file_of theirs)) old new × AreOwn (file_of before) (file_of theirs) new.folder
+module _ (before after theirs : Session) (clear : clash (file_name_of before) (file_name_of theirs) ≡ false) (old new : Scene) (instruction : Instruction) (state their_state : SessionState) (syncs their_syncs : List Sync)
+    (fits : Fits before old.folder state syncs) (their_fits : Fits theirs old.folder their_state their_syncs) (own : AreOwn (file_name_of before) (file_name_of theirs) old.folder) (frame : StepsIn old new) where
+  step_leaves : (answered : Step) → IsStep answered state syncs instruction before after old new → GoesBeside (is_of_family (file_name_of theirs)) old new × AreOwn (file_name_of before) (file_name_of theirs) new.folder
   step_leaves (step.Answer mark reply) is =
       let mine = named before old.folder state syncs fits in
       let other = named theirs old.folder their_state their_syncs their_fits in (
@@ -54,18 +54,18 @@ module _ (before after theirs : Session) (clear : clash (file_of before) (file_o
       )
   step_leaves step.Quit is =
       let looks : Looks old new = record { moments = record { added = []; is = is.2; each = tt }; output = ap (λ (s : Scene). s.output) frame; folder = is.3; faults = is.4 } in
-      (beside_looks (party_on (file_of theirs)) old new looks, subst (λ (d : Disk). AreOwn (file_of before) (file_of theirs) d) (sym is.3) own)
+      (beside_looks (party_on (file_name_of theirs)) old new looks, subst (λ (d : Disk). AreOwn (file_name_of before) (file_name_of theirs) d) (sym is.3) own)
 
-module _ (tells : Tells) (request : Request) (answered : Step) (before after theirs : Session) (old new : Scene) (clear : clash (file_of before) (file_of theirs) ≡ false) (fits : FitsFolder tells before old.folder) (their_fits : FitsFolder tells theirs old.folder)
-    (own : IsTrue tells.folder → AreOwn (file_of before) (file_of theirs) old.folder) (takes : TakesStep tells request answered before after old new) where
-  takes_leaves : IsTrue tells.folder → GoesBeside (is_of_family (file_of theirs)) old new × AreOwn (file_of before) (file_of theirs) new.folder
+module _ (tells : Tells) (request : Request) (answered : Step) (before after theirs : Session) (old new : Scene) (clear : clash (file_name_of before) (file_name_of theirs) ≡ false) (fits : FitsFolder tells before old.folder) (their_fits : FitsFolder tells theirs old.folder)
+    (own : IsTrue tells.folder → AreOwn (file_name_of before) (file_name_of theirs) old.folder) (takes : TakesStep tells request answered before after old new) where
+  takes_leaves : IsTrue tells.folder → GoesBeside (is_of_family (file_name_of theirs)) old new × AreOwn (file_name_of before) (file_name_of theirs) new.folder
   takes_leaves told =
       let was = fits told in
       let other = their_fits told in
       let meant = some_command request in
       step_leaves before after theirs clear old new meant.0 was.0 other.0 was.1 other.1 was.2 other.2 (own told) takes.frame answered (takes.step told was.0 was.1 meant.0 was.2 meant.1)
 
-same_file : (before after : Session) → SameFile before after → file_of after ≡ file_of before
+same_file : (before after : Session) → SameFile before after → file_name_of after ≡ file_name_of before
 same_file before after same = ap (λ (n : Names). n.file) same.names
 
 -- ---- sessions that may have been finished
@@ -83,13 +83,13 @@ where_clear tells request (answer.Step answered) None after theirs old new clear
 where_clear tells request (answer.Step answered) (Some before) None theirs old new clear answers = absurd answers
 where_clear tells request (answer.Step answered) (Some before) (Some after) None old new clear answers = tt
 where_clear tells request (answer.Step answered) (Some before) (Some after) (Some theirs) old new clear answers =
-    ap (λ file. clash file (file_of theirs)) (same_file before after answers.file) ∙ clear
+    ap (λ file. clash file (file_name_of theirs)) (same_file before after answers.file) ∙ clear
 
 pub where_stays : (tells : Tells) (request : Request) (answered : MultiStep) (before after theirs : Option Session) (old new : Scene) → AreClear before theirs → FitsWhere tells before old.folder → FitsWhere tells theirs old.folder
     → AreOwnWhere tells before theirs old.folder → AnswersWhere tells request answered before after old new → Stays tells theirs old new
 where_stays tells request answered before after None old new clear fits their_fits own answers = tt
 where_stays tells request answer.Ended before after (Some theirs) old new clear fits their_fits own answers =
-    leaves tells theirs old new (λ told. subst (λ (s : Scene). GoesBeside (is_of_family (file_of theirs)) old s) (sym answers.1) (beside_none (party_on (file_of theirs)) old))
+    leaves tells theirs old new (λ told. subst (λ (s : Scene). GoesBeside (is_of_family (file_name_of theirs)) old s) (sym answers.1) (beside_none (party_on (file_name_of theirs)) old))
 where_stays tells request (answer.Step answered) None after (Some theirs) old new clear fits their_fits own answers = absurd answers
 where_stays tells request (answer.Step answered) (Some before) None (Some theirs) old new clear fits their_fits own answers = absurd answers
 where_stays tells request (answer.Step answered) (Some before) (Some after) (Some theirs) old new clear fits their_fits own answers =
@@ -103,14 +103,14 @@ where_own tells request (answer.Step answered) None after theirs old new clear f
 where_own tells request (answer.Step answered) (Some before) None theirs old new clear fits their_fits own answers = absurd answers
 where_own tells request (answer.Step answered) (Some before) (Some after) None old new clear fits their_fits own answers = tt
 where_own tells request (answer.Step answered) (Some before) (Some after) (Some theirs) old new clear fits their_fits own answers = λ told.
-    subst (λ file. AreOwn file (file_of theirs) new.folder) (sym (same_file before after answers.file))
+    subst (λ file. AreOwn file (file_name_of theirs) new.folder) (sym (same_file before after answers.file))
     (takes_leaves tells request answered before after theirs old new clear fits their_fits own answers told).1
 
 -- ---- the end of a session
 
-module _ (tells : Tells) (mine theirs : Session) (old new : Scene) (done : Bool) (clear : clash (file_of mine) (file_of theirs) ≡ false) (fits : FitsFolder tells mine old.folder) (their_fits : FitsFolder tells theirs old.folder)
-    (own : IsTrue tells.folder → AreOwn (file_of mine) (file_of theirs) old.folder) where
-  end_leaves : (how : End) → Finishes tells mine old new how done → IsTrue tells.folder → GoesBeside (is_of_family (file_of theirs)) old new
+module _ (tells : Tells) (mine theirs : Session) (old new : Scene) (done : Bool) (clear : clash (file_name_of mine) (file_name_of theirs) ≡ false) (fits : FitsFolder tells mine old.folder) (their_fits : FitsFolder tells theirs old.folder)
+    (own : IsTrue tells.folder → AreOwn (file_name_of mine) (file_name_of theirs) old.folder) where
+  end_leaves : (how : End) → Finishes tells mine old new how done → IsTrue tells.folder → GoesBeside (is_of_family (file_name_of theirs)) old new
   end_leaves end.Sync finishes told =
       let was = fits told in
       let other = their_fits told in

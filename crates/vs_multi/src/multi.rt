@@ -5,7 +5,7 @@ ghost use Rattle.vs_excmd.specs.Request.{IsFormed};
 ghost use Rattle.vs_family.specs.Family.{clash};
 ghost use Rattle.vs_session.specs.Calls.{Finishes};
 ghost use Rattle.vs_session.specs.Fits.{FitsUndo, generation_of};
-ghost use Rattle.vs_multi.specs.Sessions.{FitsWhere, file_of};
+ghost use Rattle.vs_multi.specs.Sessions.{FitsWhere, file_name_of};
 ghost use Rattle.vs_multi.specs.Steps.{AnswersWhere};
 
 use std::alloc::Global;
@@ -19,7 +19,7 @@ use vs_session::{End, Session, Step};
 pub struct Multi {
     pub(crate) one: Option<Session>,
     pub(crate) two: Option<Session>,
-    ghost apart: { IfSome one (λ first. IfSome two (λ second. clash (file_of first) (file_of second) ≡ false)) } by { Prim.hlevel props },
+    ghost apart: { IfSome one (λ first. IfSome two (λ second. clash (file_name_of first) (file_name_of second) ≡ false)) } by { Prim.hlevel props },
 }
 
 // A value with much in it is dropped by a call.

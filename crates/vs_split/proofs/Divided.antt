@@ -7,28 +7,28 @@ use Rattle.vs_script.specs.Script.{at_end, commands_of, not_yet, whole_of}
 use Rattle.vs_script.proofs.Commands.{at_last, before, commands_at, none_whole, one_line}
 use Rattle.vs_family.specs.declared.which.Which.{Which}
 use Rattle.vs_family.specs.declared.which.Which.TheVariants.{One, Two}
-use Rattle.vs_split.specs.Split.{Item, NoSession, commands_for, items_by, items_of, whole_items_of, with_ended}
+use Rattle.vs_split.specs.Split.{ScriptPart, NoSession, commands_for, items_by, items_of, whole_items_of, with_ended}
 use Rattle.vs_split.specs.Tags.{Tag, LineOf, LineOfNone, if_same, line_for, lines_for, tag_of}
 
-ended_own : (ended : Option Instruction) (items : List Item) → commands_for One (with_ended One ended items) ≡ before ended (commands_for One items)
+ended_own : (ended : Option Instruction) (items : List ScriptPart) → commands_for One (with_ended One ended items) ≡ before ended (commands_for One items)
 ended_own None items = refl
 ended_own (Some command) items = refl
 
-ended_own_two : (ended : Option Instruction) (items : List Item) → commands_for Two (with_ended Two ended items) ≡ before ended (commands_for Two items)
+ended_own_two : (ended : Option Instruction) (items : List ScriptPart) → commands_for Two (with_ended Two ended items) ≡ before ended (commands_for Two items)
 ended_own_two None items = refl
 ended_own_two (Some command) items = refl
 
-ended_other : (ended : Option Instruction) (items : List Item) → commands_for One (with_ended Two ended items) ≡ commands_for One items
+ended_other : (ended : Option Instruction) (items : List ScriptPart) → commands_for One (with_ended Two ended items) ≡ commands_for One items
 ended_other None items = refl
 ended_other (Some command) items = refl
 
-ended_other_two : (ended : Option Instruction) (items : List Item) → commands_for Two (with_ended One ended items) ≡ commands_for Two items
+ended_other_two : (ended : Option Instruction) (items : List ScriptPart) → commands_for Two (with_ended One ended items) ≡ commands_for Two items
 ended_other_two None items = refl
 ended_other_two (Some command) items = refl
 
 -- where blocks that are open at the end become these commands
 module _ (unended : Command → List (List ℕ) → List Instruction) (ends : Reading → Option Instruction) (last : (reading : Reading) → commands_at unended reading [] ≡ before (ends reading) []) where
-  abbrev after_tag : List (List ℕ) → Reading → Reading → Tag → List Item
+  abbrev after_tag : List (List ℕ) → Reading → Reading → Tag → List ScriptPart
   after_tag lines one two tag = elim tag [
     | LineOf whose own ↦ if_same One whose
         (with_ended One (takes one own).ended (items_by ends (takes one own).reading two lines))

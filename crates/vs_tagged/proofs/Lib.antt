@@ -1,2 +1,2 @@
-pub mod Puts
+pub mod Writes
 pub mod Lines

@@ -9,10 +9,10 @@ use Rattle.vs_script.proofs.Lines.{first_end}
 use Rattle.vs_text.specs.Text.{IsLine, IsText, lines_of, file_of, onto_first}
 use Rattle.vs_text.proofs.LineEnds.{IsText-lines_of, lines_of-line, lines_of_last}
 use Rattle.vs_text.proofs.Reading.{lines_of-file_then}
-use Rattle.vs_tagged.specs.Tagged.{before, behind, lines_under, tagged}
+use Rattle.vs_tagged.specs.Tagged.{with_first, after_prefix, lines_under, tagged}
 
 -- a line behind its own tag
-behind_own : (tag line : List ℕ) → behind tag (tag ++ line) ≡ Some line
+behind_own : (tag line : List ℕ) → after_prefix tag (tag ++ line) ≡ Some line
 behind_own [] line = refl
 behind_own (byte ∷ tag) line = elim (eqb_tells byte byte) [
   | inl same ↦ rw same.0 (behind_own tag line)
@@ -20,7 +20,7 @@ behind_own (byte ∷ tag) line = elim (eqb_tells byte byte) [
 ]
 
 -- it is not behind another tag of the same length
-behind_other : (tag other line : List ℕ) → length other ≡ length tag → other ≢ tag → behind other (tag ++ line) ≡ None
+behind_other : (tag other line : List ℕ) → length other ≡ length tag → other ≢ tag → after_prefix other (tag ++ line) ≡ None
 behind_other [] [] line size differ = absurd (differ refl)
 behind_other [] (o ∷ other) line size differ = absurd (omega (arith, size))
 behind_other (t ∷ tag) [] line size differ = absurd (omega (arith, size))
@@ -43,13 +43,13 @@ lines_tagged tag reply rest own = lines_of-file_then (map (λ line. tag ++ line)
 under_own : (tag : List ℕ) (lines rest : List (List ℕ)) → lines_under tag (map (λ line. tag ++ line) lines ++ rest) ≡ lines ++ lines_under tag rest
 under_own tag [] rest = refl
 under_own tag (line ∷ lines) rest =
-    ap (λ found. before found (lines_under tag (map (λ line. tag ++ line) lines ++ rest))) (behind_own tag line) ∙ ap (λ ls. line ∷ ls) (under_own tag lines rest)
+    ap (λ found. with_first found (lines_under tag (map (λ line. tag ++ line) lines ++ rest))) (behind_own tag line) ∙ ap (λ ls. line ∷ ls) (under_own tag lines rest)
 
 under_other : (tag other : List ℕ) (lines rest : List (List ℕ)) → length other ≡ length tag → other ≢ tag
     → lines_under other (map (λ line. tag ++ line) lines ++ rest) ≡ lines_under other rest
 under_other tag other [] rest size differ = refl
 under_other tag other (line ∷ lines) rest size differ =
-    ap (λ found. before found (lines_under other (map (λ line. tag ++ line) lines ++ rest))) (behind_other tag other line size differ)
+    ap (λ found. with_first found (lines_under other (map (λ line. tag ++ line) lines ++ rest))) (behind_other tag other line size differ)
     ∙ under_other tag other lines rest size differ
 
 -- a reply is read back under its tag

@@ -1,7 +1,7 @@
 // Writes replies under a tag.
 ghost use Rattle.std.specs.Prelude.{◌≡◌, ◌<◌, ◌++◌, ◌∷◌, [], length, IsErr};
 ghost use Rattle.vs_text.specs.Text.{lines_of};
-ghost use Rattle.vs_tagged.specs.Tagged.{Puts, tagged};
+ghost use Rattle.vs_tagged.specs.Tagged.{WritesTagged, tagged};
 
 use memchr::memchr;
 use vs_host::{Failed, Out};
@@ -20,7 +20,7 @@ fn first_line(bytes: &[u8]) -> (&[u8], &[u8])
 
 // Writes a line after the tag.
 fn put_line<O: Out>(host: &mut O, tag: &[u8], line: &[u8]) -> Result<(), Failed>
-    ensures { Puts O.tells (tag.now ++ (line.now ++ 10 ∷ [])) (IsErr result) (O.scene host.old) (O.scene host.new) }
+    ensures { WritesTagged O.tells (tag.now ++ (line.now ++ 10 ∷ [])) (IsErr result) (O.scene host.old) (O.scene host.new) }
 {
     host.write(tag)?;
     host.write(line)?;
@@ -29,7 +29,7 @@ fn put_line<O: Out>(host: &mut O, tag: &[u8], line: &[u8]) -> Result<(), Failed>
 
 /// Writes a reply, each line after the tag. It takes no memory. Where a write fails, some first part was written.
 pub fn put_tagged<O: Out>(host: &mut O, tag: &[u8], reply: &[u8]) -> Result<(), Failed>
-    ensures { Puts O.tells (tagged tag.now reply.now) (IsErr result) (O.scene host.old) (O.scene host.new) }
+    ensures { WritesTagged O.tells (tagged tag.now reply.now) (IsErr result) (O.scene host.old) (O.scene host.new) }
 {
     let mut rest = reply;
     'lines: while !rest.is_empty() {

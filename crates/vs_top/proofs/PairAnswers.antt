@@ -12,8 +12,8 @@ use Rattle.vs_safety.specs.Safety.{IsFirstPart, Looks, Wrote}
 use Rattle.vs_safety.specs.History.{History, Replied, syncs_of}
 use Rattle.vs_safety.specs.Causes.{IsCounted, RoseLast, folder_count, output_count}
 use Rattle.vs_safety.proofs.Causes.{rose_last}
-use Rattle.vs_tagged.specs.Tagged.{Puts}
-use Rattle.vs_both.specs.Both.{Stage, Running, Gone, BothGo, BothKept, answered}
+use Rattle.vs_tagged.specs.Tagged.{WritesTagged}
+use Rattle.vs_both.specs.Both.{PartyStage, Running, Gone, BothGo, BothKept, with_turn}
 use Rattle.vs_both.specs.Beside.{of_others}
 use Rattle.vs_both.proofs.Both.{both_look, both_stop}
 use Rattle.vs_session.specs.declared.session.Session.{Session}
@@ -24,9 +24,9 @@ use Rattle.vs_multi.specs.declared.multi.Multi.{Multi}
 use Rattle.vs_multi.specs.Multi.{session_of}
 use Rattle.vs_session.specs.Calls.{KeepsState}
 use Rattle.vs_top.specs.Run.{TellsRun}
-use Rattle.vs_top.specs.PairHistory.{Answer, Answers, BothFiles, MayAnswer, WasSynced, closing_under, file_for}
-use Rattle.vs_top.specs.PairHistory.{has_error, marks_in, reply_after, stage_of, stage_under, state_for, written_both}
-use Rattle.vs_top.specs.PairScript.{IsTranscript, Source, Transcript, answers_of, entry}
+use Rattle.vs_top.specs.PairHistory.{PairAnswer, AnswerList, BothFiles, MayAnswer, WasSynced, closing_under, file_for}
+use Rattle.vs_top.specs.PairHistory.{has_error, marks_of_both, reply_after, stage_of, stage_under, state_for, written_both}
+use Rattle.vs_top.specs.PairScript.{IsTranscript, Source, Transcript, answers_of, taking}
 use Rattle.vs_top.specs.PairPromise.{AllWhole, HasFailed, HasRunBoth, KeepsPromise, LastCut, LastFailed, LeavesOthers, files_in, party_for, row_both}
 use Rattle.vs_top.specs.PairTurns.{IsInState, ToldPair}
 use Rattle.vs_top.specs.declared.ending.Ending.{Ending}
@@ -34,13 +34,13 @@ use Rattle.vs_top.specs.declared.ending.Ending.TheVariants as ending
 use Rattle.vs_top.proofs.PairStages.{counted_quiet, kept_as, others_look, others_wrote, wrote_some}
 
 -- both sessions keep their promises while an answer is under way
-abbrev pub KeptUnder : List ℕ → List ℕ → Scene → Scene → Answers → Answer → Type 0
+abbrev pub KeptUnder : List ℕ → List ℕ → Scene → Scene → AnswerList → PairAnswer → Type 0
 KeptUnder one two old new answers answer =
     KeepsPromise (party_for which.One (files_in old one two)) old (stage_under which.One (files_in old one two) answers answer) (closing_under which.One answer) new
     × KeepsPromise (party_for which.Two (files_in old one two)) old (stage_under which.Two (files_in old one two) answers answer) (closing_under which.Two answer) new
 
 -- What was done for an answer, up to its first byte.
-pub record Carried (one two : List ℕ) (old now ended : Scene) (answers : Answers) (answer : Answer) : Type 0 where
+pub record Carried (one two : List ℕ) (old now ended : Scene) (answers : AnswerList) (answer : PairAnswer) : Type 0 where
   pub output : ended.output ≡ now.output
   pub newer : List Snapshot
   pub added : ended.trace ≡ newer ++ now.trace
@@ -63,16 +63,16 @@ module _ (tells : Tells) (told : TellsRun tells) (one two : List ℕ) (old now e
   abbrev files : BothFiles
   files = files_in old one two
 
-  abbrev answers : Answers
+  abbrev answers : AnswerList
   answers = answers_of transcript
 
   -- where the run stops between two answers
-  pub stopped_both : (end : Ending) → (row_both end).answered files old now marks (record { transcript = transcript; extent = AllWhole }) → (row_both end).last old now → HasRunBoth one two old now end marks
+  pub stopped_both : (end : Ending) → (row_both end).answered files old now marks (record { transcript = transcript; reach = AllWhole }) → (row_both end).last old now → HasRunBoth one two old now end marks
   stopped_both end ends failed =
       let kept : BothKept (party_for which.One files) (party_for which.Two files) old (stage_of which.One files answers) (stage_of which.Two files answers) now =
       both_stop (party_for which.One files) (party_for which.Two files) old now (stage_of which.One files answers) (stage_of which.Two files answers) here.both in
       record {
-        did = record { transcript = transcript; extent = AllWhole };
+        did = record { transcript = transcript; reach = AllWhole };
         read = here.read;
         may = here.may;
         kept = here.kept;
@@ -86,13 +86,13 @@ module _ (tells : Tells) (told : TellsRun tells) (one two : List ℕ) (old now e
       }
 
   -- where it stops after calls that only looked
-  pub stopped_after : (new : Scene) → Looks now new → (end : Ending) → (row_both end).answered files old new marks (record { transcript = transcript; extent = AllWhole }) → (row_both end).last old new → HasRunBoth one two old new end marks
+  pub stopped_after : (new : Scene) → Looks now new → (end : Ending) → (row_both end).answered files old new marks (record { transcript = transcript; reach = AllWhole }) → (row_both end).last old new → HasRunBoth one two old new end marks
   stopped_after new looks end ends failed =
       let going = both_look (party_for which.One files) (party_for which.Two files) old now (stage_of which.One files answers) (stage_of which.Two files answers) here.both new looks in
       let kept : BothKept (party_for which.One files) (party_for which.Two files) old (stage_of which.One files answers) (stage_of which.Two files answers) new =
       both_stop (party_for which.One files) (party_for which.Two files) old new (stage_of which.One files answers) (stage_of which.Two files answers) going in
       record {
-        did = record { transcript = transcript; extent = AllWhole };
+        did = record { transcript = transcript; reach = AllWhole };
         read = here.read;
         may = here.may;
         kept = here.kept;
@@ -106,11 +106,11 @@ module _ (tells : Tells) (told : TellsRun tells) (one two : List ℕ) (old now e
       }
 
   -- the work for an answer failed, so that it was not begun
-  pub failed_both : (source : Source) (answer : Answer) → IsTranscript old.script (entry source answer ∷ transcript) → MayAnswer files (answer ∷ answers) → marks ≡ marks_in (answer ∷ answers)
+  pub failed_both : (source : Source) (answer : PairAnswer) → IsTranscript old.script (taking source answer ∷ transcript) → MayAnswer files (answer ∷ answers) → marks ≡ marks_of_both (answer ∷ answers)
       → HasFailed answer → ended.output ≡ now.output → LeavesOthers one two old ended → KeptUnder one two old ended answers answer → RoseLast folder_count old ended
       → HasRunBoth one two old ended ending.FolderFault marks
   failed_both source answer read may kept failed output others safe rose = record {
-    did = record { transcript = entry source answer ∷ transcript; extent = LastFailed };
+    did = record { transcript = taking source answer ∷ transcript; reach = LastFailed };
     read = read;
     may = may;
     kept = kept;
@@ -123,15 +123,15 @@ module _ (tells : Tells) (told : TellsRun tells) (one two : List ℕ) (old now e
     left = λ is. absurd (cc);
   }
 
-  module _ (source : Source) (answer : Answer) (read : IsTranscript old.script (entry source answer ∷ transcript)) (may : MayAnswer files (answer ∷ answers))
-      (marks' : List Mark) (kept : marks' ≡ marks_in (answer ∷ answers)) (carried : Carried one two old now ended answers answer) where
+  module _ (source : Source) (answer : PairAnswer) (read : IsTranscript old.script (taking source answer ∷ transcript)) (may : MayAnswer files (answer ∷ answers))
+      (marks' : List Mark) (kept : marks' ≡ marks_of_both (answer ∷ answers)) (carried : Carried one two old now ended answers answer) where
     abbrev reply : List ℕ
     reply = reply_after files answers answer
 
     output_ended : ended.output ≡ old.output ++ written_both files answers
     output_ended = carried.output ∙ here.output
 
-    module _ (synced : WasSynced answer) (Failed : Type 0) (new : Scene) (puts : Puts tells reply Failed ended new) where
+    module _ (synced : WasSynced answer) (Failed : Type 0) (new : Scene) (puts : WritesTagged tells reply Failed ended new) where
       -- it was written in part
       pub cut_both : Failed → HasRunBoth one two old new ending.OutputFault marks'
       cut_both failed =
@@ -139,7 +139,7 @@ module _ (tells : Tells) (told : TellsRun tells) (one two : List ℕ) (old now e
           let safe = carried.cut new part.0 part.2 part.1 in
           let some = part_taken part.0 reply part.1 in
           record {
-            did = record { transcript = entry source answer ∷ transcript; extent = LastCut };
+            did = record { transcript = taking source answer ∷ transcript; reach = LastCut };
             read = read;
             may = may;
             kept = kept;
@@ -160,7 +160,7 @@ module _ (tells : Tells) (told : TellsRun tells) (one two : List ℕ) (old now e
       -- it is whole
       pub whole_both : ¬ Failed → 0 < length reply → (multi' : Multi) (clean' : Bool) → clean' ≡ not (has_error files (answer ∷ answers))
           → ((session : Which) → IsInState (file_for session files) (session_of session multi') (state_for session files (answer ∷ answers)) (stage_of session files (answer ∷ answers)) new.folder)
-          → ToldPair one two old new multi' marks' clean' (entry source answer ∷ transcript)
+          → ToldPair one two old new multi' marks' clean' (taking source answer ∷ transcript)
       whole_both calm some multi' clean' errors in_state =
           let wrote = puts.wrote told.folder told.output calm in
           record {
@@ -187,19 +187,19 @@ abbrev pub KeepsFit : Tells → Option Session → Disk → Disk → Type 0
 KeepsFit tells session old new = IfSome session (λ s. KeepsState tells s s old new)
 
 -- of one that has no part in an answer
-pub in_state_on : (tells : Tells) (folder : IsTrue tells.folder) (file : Opened) (session : Option Session) (state : SessionState) (stage : Stage) (old new : Disk) (line : List ℕ) → KeepsFit tells session old new
-    → IsInState file session state stage old → IsInState file session state (answered stage (of_others line)) new
+pub in_state_on : (tells : Tells) (folder : IsTrue tells.folder) (file : Opened) (session : Option Session) (state : SessionState) (stage : PartyStage) (old new : Disk) (line : List ℕ) → KeepsFit tells session old new
+    → IsInState file session state stage old → IsInState file session state (with_turn stage (of_others line)) new
 in_state_on tells folder file None state stage old new line stays was = tt
 in_state_on tells folder file (Some s) state (Running past) old new line stays was = (was.0, stays folder state (syncs_of past) was.1)
 in_state_on tells folder file (Some s) state (Gone past) old new line stays was = absurd was
 
 -- of one that is open: it is running
-pub running_of : (file : Opened) (session : Session) (state : SessionState) (stage : Stage) (folder : Disk) → IsInState file (Some session) state stage folder
+pub running_of : (file : Opened) (session : Session) (state : SessionState) (stage : PartyStage) (folder : Disk) → IsInState file (Some session) state stage folder
     → (past : History) × (stage ≡ Running past) × (names_of session ≡ names_of_file file.name) × Fits session folder state (syncs_of past)
 running_of file session state (Running past) folder is = (past, refl, is.0, is.1)
 running_of file session state (Gone past) folder is = absurd is
 
 -- one that has ended is in no state
-pub in_state_none : (file : Opened) (session : Option Session) (state : SessionState) (stage : Stage) (folder : Disk) → session ≡ None → IsInState file session state stage folder
+pub in_state_none : (file : Opened) (session : Option Session) (state : SessionState) (stage : PartyStage) (folder : Disk) → session ≡ None → IsInState file session state stage folder
 in_state_none file None state stage folder is = tt
 in_state_none file (Some s) state stage folder is = absurd (cc)

@@ -10,7 +10,7 @@ use Rattle.vs_family.specs.declared.which.Which.TheVariants as which
 use Rattle.vs_machine.specs.Machine.{is_done}
 use Rattle.vs_machine.specs.Replies.{Answer as Reply}
 use Rattle.vs_machine.specs.declared.command.Mark.{Mark}
-use Rattle.vs_tagged.specs.Tagged.{Puts}
+use Rattle.vs_tagged.specs.Tagged.{WritesTagged}
 use Rattle.vs_session.specs.declared.ending.End.{End}
 use Rattle.vs_session.specs.declared.ending.End.TheVariants as end
 use Rattle.vs_session.specs.declared.session.Session.{Session}
@@ -24,9 +24,9 @@ use Rattle.vs_multi.specs.Steps.{TakesStep}
 use Rattle.vs_top.specs.Run.{TellsRun}
 use Rattle.vs_top.specs.Tags.{tagged_for}
 use Rattle.vs_top.specs.PairHistory.{Left, state_for}
-use Rattle.vs_top.specs.PairScript.{Source, Transcript, answers_of, entry}
+use Rattle.vs_top.specs.PairScript.{Source, Transcript, answers_of, taking}
 use Rattle.vs_top.specs.PairPromise.{EndsPair, HasRunBoth, files_in}
-use Rattle.vs_top.specs.PairTurns.{AsksEnd, AsksFor, HasCommand, IsUsable, KeepsPair, TakesMore, ToldPair, ended_of, last_answer, one_ended}
+use Rattle.vs_top.specs.PairTurns.{AsksEnd, AsksFor, HasCommand, AreUsable, KeepsPair, TakesMore, ToldPair, sessions_ended, last_answer, one_ended}
 use Rattle.vs_top.specs.declared.pair.Sessions.{Sessions}
 use Rattle.vs_top.specs.declared.ending.Ending.{Ending}
 use Rattle.vs_top.specs.declared.ending.Ending.TheVariants as ending
@@ -60,7 +60,7 @@ if_some session s P is has = subst (λ (o : Option Session). IfSome o P) is has
 
 -- ---- room
 
-takes_of : (tells : Tells) (pair : Sessions) (more : ℕ) (now : Scene) (session : Which) → IsUsable tells pair more now → TakesMore more (session_of session pair.multi)
+takes_of : (tells : Tells) (pair : Sessions) (more : ℕ) (now : Scene) (session : Which) → AreUsable tells pair more now → TakesMore more (session_of session pair.multi)
 takes_of tells pair more now which.One usable = usable.first
 takes_of tells pair more now which.Two usable = usable.second
 
@@ -72,14 +72,14 @@ undo_in : (more : ℕ) (session : Option Session) → TakesMore more session →
 undo_in more None takes = tt
 undo_in more (Some s) takes = takes.0
 
-pub room_of : (tells : Tells) (pair : Sessions) (more : ℕ) (now : Scene) (session : Which) → IsUsable tells pair more now → IfSome (session_of session pair.multi) (λ s. generation_of s < 2 ^ 63)
+pub room_of : (tells : Tells) (pair : Sessions) (more : ℕ) (now : Scene) (session : Which) → AreUsable tells pair more now → IfSome (session_of session pair.multi) (λ s. generation_of s < 2 ^ 63)
 room_of tells pair more now session usable = room_in more (session_of session pair.multi) (takes_of tells pair more now session usable)
 
-pub undo_of : (tells : Tells) (pair : Sessions) (more : ℕ) (now : Scene) (session : Which) → IsUsable tells pair more now → IfSome (session_of session pair.multi) FitsUndo
+pub undo_of : (tells : Tells) (pair : Sessions) (more : ℕ) (now : Scene) (session : Which) → AreUsable tells pair more now → IfSome (session_of session pair.multi) FitsUndo
 undo_of tells pair more now session usable = undo_in more (session_of session pair.multi) (takes_of tells pair more now session usable)
 
 -- a reply was written since
-pub usable_puts : (tells : Tells) (pair : Sessions) (more : ℕ) (now new : Scene) (bytes : List ℕ) (Failed : Type 0) → Puts tells bytes Failed now new → IsUsable tells pair more now → IsUsable tells pair more new
+pub usable_puts : (tells : Tells) (pair : Sessions) (more : ℕ) (now new : Scene) (bytes : List ℕ) (Failed : Type 0) → WritesTagged tells bytes Failed now new → AreUsable tells pair more now → AreUsable tells pair more new
 usable_puts tells pair more now new bytes Failed puts usable = record {
   first = usable.first;
   second = usable.second;
@@ -108,7 +108,7 @@ module _ (tells : Tells) (session : Which) (how : End) (multi : Multi) (now mid 
         (if_some (session_of session multi) opened.0 (λ s. Finishes tells s now mid how false) opened.1 finishes)
 
   -- its last line is written
-  module _ (finishes : IfSome (session_of session multi) (λ s. Finishes tells s now mid how true)) (bytes : List ℕ) (r : Result (Unit {0}) Ending) (new : Scene) (puts : Puts tells (tagged_for session bytes) (IsErr r) mid new)
+  module _ (finishes : IfSome (session_of session multi) (λ s. Finishes tells s now mid how true)) (bytes : List ℕ) (r : Result (Unit {0}) Ending) (new : Scene) (puts : WritesTagged tells (tagged_for session bytes) (IsErr r) mid new)
       (out : IfErr r (λ e. e ≡ ending.OutputFault)) where
     done : Finishes tells opened.0 now mid how true
     done = if_some (session_of session multi) opened.0 (λ s. Finishes tells s now mid how true) opened.1 finishes
@@ -124,9 +124,9 @@ module _ (tells : Tells) (session : Which) (how : End) (multi : Multi) (now mid 
     pub close_told_ok : bytes ≡ line_of how → TellsRun tells → (multi' : Multi) → session_of session multi' ≡ None → session_of (other session) multi' ≡ session_of (other session) multi
         → Stays tells (session_of (other session) multi) now mid → (one two : List ℕ) (old : Scene) (marks : List Mark) (clean : Bool) (transcript : Transcript) (source : Source) (quit : Instruction)
         → ToldPair one two old now multi marks clean transcript → AsksEnd session how old.script transcript source (state_for session (files_in old one two) (answers_of transcript)) quit
-        → MatchResult r (λ _. ToldPair one two old new multi' marks clean (entry source (last_answer how session quit true) ∷ transcript)) (λ e. HasRunBoth one two old new e marks)
+        → MatchResult r (λ _. ToldPair one two old new multi' marks clean (taking source (last_answer how session quit true) ∷ transcript)) (λ e. HasRunBoth one two old new e marks)
     close_told_ok line told multi' gone same stays one two old marks clean transcript source quit here asks =
-        by_put r (ToldPair one two old new multi' marks clean (entry source (last_answer how session quit true) ∷ transcript)) (λ e. HasRunBoth one two old new e marks) out
+        by_put r (ToldPair one two old new multi' marks clean (taking source (last_answer how session quit true) ∷ transcript)) (λ e. HasRunBoth one two old new e marks) out
         (λ calm. end_whole tells told one two old now multi marks clean transcript here session opened.0 opened.1 how source quit asks mid done bytes line (IsErr r) new puts calm multi' gone same
         (fit_stays tells (session_of (other session) multi) now mid stays))
         (λ failed. end_cut tells told one two old now multi marks clean transcript here session opened.0 opened.1 how source quit asks mid done bytes line (IsErr r) new puts failed)
@@ -138,25 +138,25 @@ module _ (tells : Tells) (session : Which) (multi multi' : Multi) (now stepped :
     abbrev taken : (b : Session) × (a : Session) × (session_of session multi ≡ Some b) × (session_of session multi' ≡ Some a) × TakesStep tells request s b a now stepped
     taken = steps_one tells request s now stepped (session_of session multi) (session_of session multi') steps
 
-    pub ended_still : ended_of multi' ≡ ended_of multi
+    pub ended_still : sessions_ended multi' ≡ sessions_ended multi
     ended_still = ended_same session multi multi' (ap one_ended taken.3 ∙ sym (ap one_ended taken.2)) same
 
   -- it was answered
   module _ (mark : Mark) (reply : Reply) (steps : StepsWhere tells request (step.Answer mark reply) (session_of session multi) (session_of session multi') now stepped) (marks marks' : List Mark) (kept : marks' ≡ marks ++ mark ∷ [])
-      (r : Result (Unit {0}) Ending) (new : Scene) (puts : Puts tells (tagged_for session reply.bytes) (IsErr r) stepped new) (out : IfErr r (λ e. e ≡ ending.OutputFault)) where
+      (r : Result (Unit {0}) Ending) (new : Scene) (puts : WritesTagged tells (tagged_for session reply.bytes) (IsErr r) stepped new) (out : IfErr r (λ e. e ≡ ending.OutputFault)) where
     took : (b : Session) × (a : Session) × (session_of session multi ≡ Some b) × (session_of session multi' ≡ Some a) × TakesStep tells request (step.Answer mark reply) b a now stepped
     took = taken (step.Answer mark reply) steps
 
-    pub answer_keeps : (one two : List ℕ) (old : Scene) → KeepsPair tells one two old now (ended_of multi) marks
-        → MatchResult r (λ _. KeepsPair tells one two old new (ended_of multi') marks') (λ e. EndsPair tells one two old new e marks')
+    pub answer_keeps : (one two : List ℕ) (old : Scene) → KeepsPair tells one two old now (sessions_ended multi) marks
+        → MatchResult r (λ _. KeepsPair tells one two old new (sessions_ended multi') marks') (λ e. EndsPair tells one two old new e marks')
     answer_keeps one two old keeps =
-        let stepped_keeps : KeepsPair tells one two old stepped (ended_of multi') marks' =
+        let stepped_keeps : KeepsPair tells one two old stepped (sessions_ended multi') marks' =
         subst (λ (n : ℕ). KeepsPair tells one two old stepped n marks') (sym (ended_still (step.Answer mark reply) steps))
-        (subst (λ (l : List Mark). KeepsPair tells one two old stepped (ended_of multi) l) (sym kept)
-        (keeps_mark tells one two old now (ended_of multi) marks keeps stepped took.4.frame took.4.cause.later mark took.4.clock took.4.cause.risen)) in
-        by_put r (KeepsPair tells one two old new (ended_of multi') marks') (λ e. EndsPair tells one two old new e marks') out
-        (λ calm. keeps_puts tells one two old stepped (ended_of multi') marks' stepped_keeps (tagged_for session reply.bytes) (IsErr r) new puts calm)
-        (λ failed. ends_cut tells one two old stepped (ended_of multi') marks' stepped_keeps (ended_few multi') (tagged_for session reply.bytes) (IsErr r) new puts failed)
+        (subst (λ (l : List Mark). KeepsPair tells one two old stepped (sessions_ended multi) l) (sym kept)
+        (keeps_mark tells one two old now (sessions_ended multi) marks keeps stepped took.4.frame took.4.cause.later mark took.4.clock took.4.cause.risen)) in
+        by_put r (KeepsPair tells one two old new (sessions_ended multi') marks') (λ e. EndsPair tells one two old new e marks') out
+        (λ calm. keeps_puts tells one two old stepped (sessions_ended multi') marks' stepped_keeps (tagged_for session reply.bytes) (IsErr r) new puts calm)
+        (λ failed. ends_cut tells one two old stepped (sessions_ended multi') marks' stepped_keeps (ended_few multi') (tagged_for session reply.bytes) (IsErr r) new puts failed)
 
     pub answer_told : 0 < length reply.bytes → Stays tells (session_of (other session) multi) now stepped → TellsRun tells → (one two : List ℕ) (old : Scene) (clean clean' : Bool) → clean' ≡ (clean && (is_done mark.outcome && not reply.is_error))
         → (transcript : Transcript) (source : Source) (command : Instruction) → ToldPair one two old now multi marks clean transcript → IsRequest request command → AsksFor session old.script transcript source command
@@ -177,8 +177,8 @@ module _ (tells : Tells) (session : Which) (multi multi' : Multi) (now stepped :
     left : (b : Session) × (a : Session) × (session_of session multi ≡ Some b) × (session_of session multi' ≡ Some a) × TakesStep tells request step.Quit b a now stepped
     left = taken step.Quit steps
 
-    pub quit_keeps : (one two : List ℕ) (old : Scene) (marks : List Mark) → KeepsPair tells one two old now (ended_of multi) marks → KeepsPair tells one two old stepped (ended_of multi + 1) marks
-    quit_keeps one two old marks keeps = keeps_quit tells one two old now (ended_of multi) marks keeps stepped left.4.frame left.4.cause.later left.4.clock
+    pub quit_keeps : (one two : List ℕ) (old : Scene) (marks : List Mark) → KeepsPair tells one two old now (sessions_ended multi) marks → KeepsPair tells one two old stepped (sessions_ended multi + 1) marks
+    quit_keeps one two old marks keeps = keeps_quit tells one two old now (sessions_ended multi) marks keeps stepped left.4.frame left.4.cause.later left.4.clock
 
     module _ (told : TellsRun tells) (one two : List ℕ) (old : Scene) (marks : List Mark) (clean : Bool) (transcript : Transcript) (source : Source) (command : Instruction) (here : ToldPair one two old now multi marks clean transcript)
         (meant : IsRequest request command) (asks : AsksFor session old.script transcript source command) (stays : Stays tells (session_of (other session) multi) now stepped) where

@@ -13,7 +13,7 @@ use Rattle.vs_safety.specs.Texts.{NoneLeft, Sync, RecoversOrNone, recoverable}
 use Rattle.vs_safety.specs.Turns.{Turn, last_turn, preserved_line, quit_line, with_begun}
 use Rattle.vs_safety.specs.Safety.{IsFirstPart, IsUnderWay, Stepped, Works, Wrote}
 use Rattle.vs_safety.specs.History.{History, Replied, syncs_of}
-use Rattle.vs_both.specs.Both.{Stage, Running, BothGo}
+use Rattle.vs_both.specs.Both.{PartyStage, Running, BothGo}
 use Rattle.vs_both.specs.Beside.{Party}
 use Rattle.vs_both.proofs.Both.{beside_swapped, both_replied, both_reply_cut, both_swapped}
 use Rattle.vs_session.specs.Session.{Ended, sync_in, turn_of}
@@ -58,7 +58,7 @@ module _ (one two : List ℕ) (old now : Scene) (multi : Multi) (marks : List Ma
   abbrev files : BothFiles
   files = files_in old one two
 
-  abbrev answers : history.Answers
+  abbrev answers : history.AnswerList
   answers = answers_of transcript
 
   abbrev first : Party
@@ -67,10 +67,10 @@ module _ (one two : List ℕ) (old now : Scene) (multi : Multi) (marks : List Ma
   abbrev second : Party
   second = party_for which.Two files
 
-  abbrev stage_one : Stage
+  abbrev stage_one : PartyStage
   stage_one = stage_of which.One files answers
 
-  abbrev stage_two : Stage
+  abbrev stage_two : PartyStage
   stage_two = stage_of which.Two files answers
 
   both_back : BothGo second first old stage_two stage_one now
@@ -109,7 +109,7 @@ module _ (one two : List ℕ) (old now : Scene) (multi : Multi) (marks : List Ma
   -- ---- work of a session
 
   module _ (ended : Scene) (out_same : ended.out_faults ≡ now.out_faults) (write : Option FileWork) (P : Disk → Type 0) where
-    worked_one : (answer : history.Answer) → Works first.names write P now ended
+    worked_one : (answer : history.PairAnswer) → Works first.names write P now ended
         → ((new : Scene) → Replied (reply_after files answers answer) ended new → BothGo first second old (stage_of which.One files (answer ∷ answers)) (stage_of which.Two files (answer ∷ answers)) new)
         → ((new : Scene) (written : List ℕ) → Wrote written ended new → IsFirstPart written (reply_after files answers answer) → KeptUnder one two old new answers answer)
         → Carried one two old now ended answers answer
@@ -123,7 +123,7 @@ module _ (one two : List ℕ) (old now : Scene) (multi : Multi) (marks : List Ma
       cut = cut;
     }
 
-    worked_two : (answer : history.Answer) → Works second.names write P now ended
+    worked_two : (answer : history.PairAnswer) → Works second.names write P now ended
         → ((new : Scene) → Replied (reply_after files answers answer) ended new → BothGo first second old (stage_of which.One files (answer ∷ answers)) (stage_of which.Two files (answer ∷ answers)) new)
         → ((new : Scene) (written : List ℕ) → Wrote written ended new → IsFirstPart written (reply_after files answers answer) → KeptUnder one two old new answers answer)
         → Carried one two old now ended answers answer
@@ -145,14 +145,14 @@ module _ (one two : List ℕ) (old now : Scene) (multi : Multi) (marks : List Ma
         → 0 < length (reply_after files answers (Answered session (record { instruction = command; ended = how })))
         → Carried one two old now ended answers (Answered session (record { instruction = command; ended = how }))
     carried_command which.One is stepped some =
-        let answer : history.Answer = Answered which.One (record { instruction = command; ended = how }) in
+        let answer : history.PairAnswer = Answered which.One (record { instruction = command; ended = how }) in
         let turn : Turn = record (turn_of (state_for which.One files answers) command how) { reply = reply_after files answers answer } in
         let own : Stepped first.names (syncs_of past) turn now ended = with_reply first.names (syncs_of past) (turn_of (state_for which.One files answers) command how) (reply_after files answers answer) now ended stepped in
         worked_one ended out_same turn.write (IsUnderWay first.names (with_begun turn.sync (syncs_of past)) turn.write) answer own.works
         (λ new replied. turn_whole first second here.beside old now stage_one stage_two past is here.both turn ended own new replied)
         (λ new written wrote part. turn_cut first second here.beside old now stage_one stage_two past is here.both turn ended own new written some wrote part)
     carried_command which.Two is stepped some =
-        let answer : history.Answer = Answered which.Two (record { instruction = command; ended = how }) in
+        let answer : history.PairAnswer = Answered which.Two (record { instruction = command; ended = how }) in
         let turn : Turn = record (turn_of (state_for which.Two files answers) command how) { reply = reply_after files answers answer } in
         let own : Stepped second.names (syncs_of past) turn now ended = with_reply second.names (syncs_of past) (turn_of (state_for which.Two files answers) command how) (reply_after files answers answer) now ended stepped in
         let back = beside_swapped first second here.beside in
@@ -166,14 +166,14 @@ module _ (one two : List ℕ) (old now : Scene) (multi : Multi) (marks : List Ma
         → Stepped (party_for session files).names (syncs_of past) (last_turn (sync_in (state_for session files answers) synced)) now ended
         → Carried one two old now ended answers (Preserved session synced)
     carried_sync which.One is stepped =
-        let answer : history.Answer = Preserved which.One synced in
+        let answer : history.PairAnswer = Preserved which.One synced in
         let turn : Turn = record (last_turn (sync_in (state_for which.One files answers) synced)) { reply = reply_after files answers answer } in
         let own : Stepped first.names (syncs_of past) turn now ended = with_reply first.names (syncs_of past) (last_turn (sync_in (state_for which.One files answers) synced)) (reply_after files answers answer) now ended stepped in
         worked_one ended out_same turn.write (IsUnderWay first.names (with_begun turn.sync (syncs_of past)) turn.write) answer own.works
         (λ new replied. turn_whole first second here.beside old now stage_one stage_two past is here.both turn ended own new replied)
         (λ new written wrote part. turn_cut first second here.beside old now stage_one stage_two past is here.both turn ended own new written (preserved_some which.One) wrote part)
     carried_sync which.Two is stepped =
-        let answer : history.Answer = Preserved which.Two synced in
+        let answer : history.PairAnswer = Preserved which.Two synced in
         let turn : Turn = record (last_turn (sync_in (state_for which.Two files answers) synced)) { reply = reply_after files answers answer } in
         let own : Stepped second.names (syncs_of past) turn now ended = with_reply second.names (syncs_of past) (last_turn (sync_in (state_for which.Two files answers) synced)) (reply_after files answers answer) now ended stepped in
         let back = beside_swapped first second here.beside in

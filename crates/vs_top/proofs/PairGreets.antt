@@ -20,7 +20,7 @@ use Rattle.vs_session.specs.Fits.{Fits, HasOpened}
 use Rattle.vs_multi.specs.declared.multi.Multi.{Multi}
 use Rattle.vs_multi.specs.Multi.{session_of}
 use Rattle.vs_multi.specs.Opening.{StandsOpen}
-use Rattle.vs_tagged.specs.Tagged.{Puts}
+use Rattle.vs_tagged.specs.Tagged.{WritesTagged}
 use Rattle.vs_tagged.proofs.Lines.{tagged_some}
 use Rattle.vs_top.specs.Run.{TellsRun}
 use Rattle.vs_top.specs.Tags.{prefix_of, tagged_for}
@@ -59,13 +59,13 @@ module _ (tells : Tells) (told : TellsRun tells) (one two : List ℕ) (old now :
   output_now = here.first.begins.works.output
 
   -- the first is cut short
-  pub greet_cut_one : (s : Session) → StandsOpen tells one old now s → (Failed : Type 0) (new : Scene) → Puts tells one_line Failed now new → Failed → HasRunBoth one two old new ending.OutputFault marks
+  pub greet_cut_one : (s : Session) → StandsOpen tells one old now s → (Failed : Type 0) (new : Scene) → WritesTagged tells one_line Failed now new → Failed → HasRunBoth one two old new ending.OutputFault marks
   greet_cut_one s stands Failed new puts failed =
       let part = puts.part told.folder told.output in
       let taken = part_taken part.0 one_line part.1 in
       let kept = both_first_cut first second old now (text_at old one) (text_at old two) one_line two_line here.first here.second part.0 new some_one part.2 part.1 in
       record {
-        did = record { transcript = []; extent = BeforeOpening };
+        did = record { transcript = []; reach = BeforeOpening };
         read = tt;
         may = record { one = tt; two = tt; quits = tt };
         kept = none;
@@ -78,7 +78,7 @@ module _ (tells : Tells) (told : TellsRun tells) (one two : List ℕ) (old now :
         left = λ is. (s, stands.names, subst (λ (d : Disk). Fits s d files.one.state (opened (text_at old one))) (sym part.2.folder) (stands.fits told.folder));
       }
 
-  module _ (mid : Scene) (one_puts : Puts tells one_line ⊥ now mid) where
+  module _ (mid : Scene) (one_puts : WritesTagged tells one_line ⊥ now mid) where
     one_wrote : Wrote one_line now mid
     one_wrote = one_puts.wrote told.folder told.output (λ f. f)
 
@@ -94,7 +94,7 @@ module _ (tells : Tells) (told : TellsRun tells) (one two : List ℕ) (old now :
     one_quiet : Quiet now mid
     one_quiet = one_puts.none told.folder (λ f. f)
 
-    module _ (Failed : Type 0) (new : Scene) (puts : Puts tells two_line Failed mid new) where
+    module _ (Failed : Type 0) (new : Scene) (puts : WritesTagged tells two_line Failed mid new) where
       -- or the second
       pub greet_cut_two : Failed → HasRunBoth one two old new ending.OutputFault marks
       greet_cut_two failed =
@@ -102,7 +102,7 @@ module _ (tells : Tells) (told : TellsRun tells) (one two : List ℕ) (old now :
           let taken = part_taken part.0 two_line part.1 in
           let kept = both_second_cut first second old now (text_at old one) (text_at old two) one_line two_line here.first here.second mid part.0 new one_replied some_two part.2 part.1 in
           record {
-            did = record { transcript = []; extent = BetweenOpenings };
+            did = record { transcript = []; reach = BetweenOpenings };
             read = tt;
             may = record { one = tt; two = tt; quits = tt };
             kept = none;

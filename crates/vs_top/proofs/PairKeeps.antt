@@ -12,7 +12,7 @@ use Rattle.vs_script.specs.Feed.{IsReady}
 use Rattle.vs_machine.specs.declared.command.Mark.{Mark}
 use Rattle.vs_family.specs.declared.which.Which.{Which}
 use Rattle.vs_family.specs.declared.which.Which.TheVariants as which
-use Rattle.vs_tagged.specs.Tagged.{Puts}
+use Rattle.vs_tagged.specs.Tagged.{WritesTagged}
 use Rattle.vs_session.specs.declared.ending.End.{End}
 use Rattle.vs_session.specs.declared.session.Session.{Session}
 use Rattle.vs_session.specs.declared.session.Step.{Step}
@@ -26,7 +26,7 @@ use Rattle.vs_multi.specs.Steps.{TakesStep}
 use Rattle.vs_top.specs.Promise.{row}
 use Rattle.vs_top.specs.Run.{counts_of, OnlyFolder, FaultHasCause}
 use Rattle.vs_top.specs.PairPromise.{BothFit, EndsPair, IsMixed, IsTimedBoth, row_both}
-use Rattle.vs_top.specs.PairTurns.{IsUsable, KeepsPair, TakesMore, ended_of, one_ended}
+use Rattle.vs_top.specs.PairTurns.{AreUsable, KeepsPair, TakesMore, sessions_ended, one_ended}
 use Rattle.vs_top.specs.declared.pair.Sessions.{Sessions}
 use Rattle.vs_top.specs.declared.ending.Ending.{Ending}
 use Rattle.vs_top.specs.declared.ending.Ending.TheVariants as ending
@@ -111,7 +111,7 @@ module _ (tells : Tells) (one two : List ℕ) (old now : Scene) (most : ℕ) (ma
   }
 
   -- a reply was written
-  pub keeps_puts : (bytes : List ℕ) (Failed : Type 0) (new : Scene) → Puts tells bytes Failed now new → ¬ Failed → KeepsPair tells one two old new most marks
+  pub keeps_puts : (bytes : List ℕ) (Failed : Type 0) (new : Scene) → WritesTagged tells bytes Failed now new → ¬ Failed → KeepsPair tells one two old new most marks
   keeps_puts bytes Failed new puts calm =
       let only = only_output now new puts.frame in
       keeps_on new (record { script = only.script; output = puts.quiet calm; later = only.later }) (ap (λ (s : Scene). s.script) puts.frame) (ap (λ (s : Scene). s.answers) puts.frame)
@@ -167,7 +167,7 @@ module _ (tells : Tells) (one two : List ℕ) (old now : Scene) (most : ℕ) (ma
     }
 
     -- a reply was written in part
-    pub ends_cut : (bytes : List ℕ) (Failed : Type 0) (new : Scene) → Puts tells bytes Failed now new → Failed → EndsPair tells one two old new ending.OutputFault marks
+    pub ends_cut : (bytes : List ℕ) (Failed : Type 0) (new : Scene) → WritesTagged tells bytes Failed now new → Failed → EndsPair tells one two old new ending.OutputFault marks
     ends_cut bytes Failed new puts failed =
         let only = only_output now new puts.frame in
         ends_at new ending.OutputFault (λ is. absurd (cc)) (λ fit. fit) (λ told. omega (arith, keeps.taken told, ap (λ (s : Scene). length s.script) puts.frame)) (
@@ -232,7 +232,7 @@ ended_one : (session : Option Session) → one_ended session ≤ 1
 ended_one None = omega arith
 ended_one (Some session) = omega arith
 
-pub ended_few : (multi : Multi) → ended_of multi ≤ 2
+pub ended_few : (multi : Multi) → sessions_ended multi ≤ 2
 ended_few multi = omega (arith, ended_one multi.one, ended_one multi.two)
 
 is_open : (session : Option Session) → is_none session ≡ false → one_ended session ≡ 0
@@ -241,13 +241,13 @@ is_open (Some s) is = refl
 
 -- one more
 pub ended_next : (session : Which) (before after : Multi) → is_none (session_of session before) ≡ false → session_of session after ≡ None
-    → session_of (other session) after ≡ session_of (other session) before → ended_of after ≡ ended_of before + 1
+    → session_of (other session) after ≡ session_of (other session) before → sessions_ended after ≡ sessions_ended before + 1
 ended_next which.One before after is_one gone same = omega (arith, is_open before.one is_one, ap one_ended gone, ap one_ended same)
 ended_next which.Two before after is_one gone same = omega (arith, is_open before.two is_one, ap one_ended gone, ap one_ended same)
 
 -- or none
 pub ended_same : (session : Which) (before after : Multi) → one_ended (session_of session after) ≡ one_ended (session_of session before)
-    → session_of (other session) after ≡ session_of (other session) before → ended_of after ≡ ended_of before
+    → session_of (other session) after ≡ session_of (other session) before → sessions_ended after ≡ sessions_ended before
 ended_same which.One before after own same = omega (arith, own, ap one_ended same)
 ended_same which.Two before after own same = omega (arith, own, ap one_ended same)
 
@@ -285,7 +285,7 @@ timed_long step.Quit old new is = let one : List ℕ = is.0 ∷ [] in omega (ari
 
 module _ (tells : Tells) (pair new_pair : Sessions) (old new : Scene) (one_same : new_pair.one ≡ pair.one) (two_same : new_pair.two ≡ pair.two) (fits : FitsBoth tells new_pair.multi new.folder) where
   pub usable_step : (request : Request) (s : Step) (session : Which) (more : ℕ) → StepsWhere tells request s (session_of session pair.multi) (session_of session new_pair.multi) old new
-      → session_of (other session) new_pair.multi ≡ session_of (other session) pair.multi → IsUsable tells pair (more + 1) old → IsUsable tells new_pair more new
+      → session_of (other session) new_pair.multi ≡ session_of (other session) pair.multi → AreUsable tells pair (more + 1) old → AreUsable tells new_pair more new
   usable_step request s which.One more steps same usable = record {
     first = takes_step tells request s old new more pair.multi.one new_pair.multi.one steps usable.first;
     second = takes_same (more + 1) more pair.multi.two new_pair.multi.two (omega arith) same usable.second;
@@ -305,7 +305,7 @@ module _ (tells : Tells) (pair new_pair : Sessions) (old new : Scene) (one_same 
 
   -- a session ended
   pub usable_finish : (session : Which) (more : ℕ) → session_of session new_pair.multi ≡ None → session_of (other session) new_pair.multi ≡ session_of (other session) pair.multi → new.answers ≡ old.answers
-      → IsUsable tells pair more old → IsUsable tells new_pair more new
+      → AreUsable tells pair more old → AreUsable tells new_pair more new
   usable_finish which.One more gone same answers usable = record {
     first = takes_none more new_pair.multi.one gone;
     second = takes_same more more pair.multi.two new_pair.multi.two (omega arith) same usable.second;

@@ -18,7 +18,7 @@ use Rattle.vs_top.specs.Run.{TellsRun}
 use Rattle.vs_top.specs.PairHistory.{file_for, stage_of, state_for}
 use Rattle.vs_top.specs.PairScript.{Comes, Line, OnlyLines, ScriptEnd, Transcript, answers_of, lines_then}
 use Rattle.vs_top.specs.PairPromise.{AllWhole, EndsPair, HasRunBoth, files_in, row_both}
-use Rattle.vs_top.specs.PairTurns.{HasNext, IsInState, IsPlaced, KeepsPair, ToldPair}
+use Rattle.vs_top.specs.PairTurns.{HasNext, IsInState, ArePlaced, KeepsPair, ToldPair}
 use Rattle.vs_top.specs.declared.pair.Sessions.{Sessions}
 use Rattle.vs_top.specs.declared.ending.Ending.{Ending}
 use Rattle.vs_top.specs.declared.ending.Ending.TheVariants as ending
@@ -34,7 +34,7 @@ use Rattle.vs_top.proofs.PairTakes.{item}
 -- What is known before each line, over a host that tells.
 pub record AtLine (one two : List ℕ) (old now : Scene) (pair : Sessions) (marks : List Mark) (reader : Ahead) (transcript : Transcript) : Type 0 where
   pub told : ToldPair one two old now pair.multi marks pair.clean transcript
-  pub placed : IsPlaced pair transcript
+  pub placed : ArePlaced pair transcript
   pub only : OnlyLines transcript
   pub has : HasLines reader old now (lines_then transcript)
 
@@ -68,7 +68,7 @@ module _ (tells : Tells) (told : TellsRun tells) (one two : List ℕ) (old now r
   lines_over over = (here.only, inl (over_by pair transcript here.placed over))
 
   module _ {T : Type 0} {result : Result T ScriptErr} (reads : ReadsScript tells result now read) where
-    stopped_reading : (end : Ending) → (row_both end).answered (files_in old one two) old read marks (record { transcript = transcript; extent = AllWhole }) → (row_both end).last old read → HasRunBoth one two old read end marks
+    stopped_reading : (end : Ending) → (row_both end).answered (files_in old one two) old read marks (record { transcript = transcript; reach = AllWhole }) → (row_both end).last old read → HasRunBoth one two old read end marks
     stopped_reading end ends failed = stopped_after tells told one two old now now pair.multi marks pair.clean transcript here.told read (reads_look now read reads.frame (reads.last told.folder)) end ends failed
 
     pub fails_reading : Stops script_error.Failed whole_lines [] reader reader' now read → HasRisen now.script_faults read.script_faults → HasRunBoth one two old read ending.ScriptFault marks

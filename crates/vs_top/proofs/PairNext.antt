@@ -13,13 +13,13 @@ use Rattle.vs_machine.specs.declared.command.Mark.{Mark}
 use Rattle.vs_session.specs.declared.session.Session.{Session}
 use Rattle.vs_multi.specs.declared.multi.Multi.{Multi}
 use Rattle.vs_multi.specs.Multi.{other, session_of}
-use Rattle.vs_tagged.specs.Tagged.{Puts}
+use Rattle.vs_tagged.specs.Tagged.{WritesTagged}
 use Rattle.vs_top.specs.Run.{TellsRun}
 use Rattle.vs_top.specs.Tags.{no_session, session_ended, tagged_for}
-use Rattle.vs_top.specs.PairHistory.{Answer, AfterQuit, Left, OfNone}
-use Rattle.vs_top.specs.PairScript.{AnswersSource, Comes, IsTranscript, Line, Over, Place, Reads, Source, Transcript, after_any, entry, place_of, read_on}
+use Rattle.vs_top.specs.PairHistory.{PairAnswer, AfterQuit, Left, OfNone}
+use Rattle.vs_top.specs.PairScript.{AnswersSource, Comes, IsTranscript, Line, Over, FeedPlace, Reads, Source, Transcript, after_any, taking, feed_place, read_on}
 use Rattle.vs_top.specs.PairPromise.{EndsPair, HasRunBoth}
-use Rattle.vs_top.specs.PairTurns.{AsksFor, HasCommand, HasNext, IsPlaced, KeepsPair, StandsAt, StaysOpen, ToldPair, ended_of, feed_of}
+use Rattle.vs_top.specs.PairTurns.{AsksFor, HasCommand, HasNext, ArePlaced, KeepsPair, FeedStandsAt, StaysOpen, ToldPair, sessions_ended, feed_of}
 use Rattle.vs_top.specs.declared.pair.Sessions.{Sessions}
 use Rattle.vs_top.specs.declared.ending.Ending.{Ending}
 use Rattle.vs_top.specs.declared.ending.Ending.TheVariants as ending
@@ -33,21 +33,21 @@ use Rattle.vs_top.proofs.PairTakes.{as_ended, item, line_none, line_other, line_
 -- one session more has ended
 pub quit_closes : (tells : Tells) (one two : List ℕ) (old new : Scene) (session : Which) (multi closed : Multi) (marks : List Mark) (r : Result (Unit {0}) Ending) → is_none (session_of session multi) ≡ false
     → session_of session closed ≡ None → session_of (other session) closed ≡ session_of (other session) multi
-    → MatchResult r (λ _. KeepsPair tells one two old new (ended_of multi + 1) marks) (λ e. ended_of multi + 1 ≤ 2 → EndsPair tells one two old new e marks)
-    → MatchResult r (λ _. KeepsPair tells one two old new (ended_of closed) marks) (λ e. EndsPair tells one two old new e marks)
+    → MatchResult r (λ _. KeepsPair tells one two old new (sessions_ended multi + 1) marks) (λ e. sessions_ended multi + 1 ≤ 2 → EndsPair tells one two old new e marks)
+    → MatchResult r (λ _. KeepsPair tells one two old new (sessions_ended closed) marks) (λ e. EndsPair tells one two old new e marks)
 quit_closes tells one two old new session multi closed marks r is_open gone same closes =
     let more = ended_next session multi closed is_open gone same in
-    by_call r (KeepsPair tells one two old new (ended_of multi + 1) marks) (KeepsPair tells one two old new (ended_of closed) marks)
-    (λ e. ended_of multi + 1 ≤ 2 → EndsPair tells one two old new e marks) (λ e. EndsPair tells one two old new e marks)
+    by_call r (KeepsPair tells one two old new (sessions_ended multi + 1) marks) (KeepsPair tells one two old new (sessions_ended closed) marks)
+    (λ e. sessions_ended multi + 1 ≤ 2 → EndsPair tells one two old new e marks) (λ e. EndsPair tells one two old new e marks)
     (λ keeps. subst (λ (n : ℕ). KeepsPair tells one two old new n marks) (sym more) keeps) (λ e ends. ends (omega (arith, more, ended_few closed))) closes
 
 -- its last line answers the command
 pub quit_answers : (session : Which) (one two : List ℕ) (old new : Scene) (closed : Multi) (marks : List Mark) (clean : Bool) (transcript : Transcript) (source : Source) (command : Instruction) (r : Result (Unit {0}) Ending)
     → session_of session closed ≡ None
-    → MatchResult r (λ _. ToldPair one two old new closed marks clean (entry source (Left session command) ∷ transcript)) (λ e. HasRunBoth one two old new e marks)
+    → MatchResult r (λ _. ToldPair one two old new closed marks clean (taking source (Left session command) ∷ transcript)) (λ e. HasRunBoth one two old new e marks)
     → MatchResult r (λ _. HasCommand session one two old new closed marks clean transcript source command) (λ e. HasRunBoth one two old new e marks)
 quit_answers session one two old new closed marks clean transcript source command r gone closes =
-    by_call r (ToldPair one two old new closed marks clean (entry source (Left session command) ∷ transcript)) (HasCommand session one two old new closed marks clean transcript source command)
+    by_call r (ToldPair one two old new closed marks clean (taking source (Left session command) ∷ transcript)) (HasCommand session one two old new closed marks clean transcript source command)
     (λ e. HasRunBoth one two old new e marks) (λ e. HasRunBoth one two old new e marks)
     (λ told. record {
       answer = Left session command;
@@ -63,20 +63,20 @@ feed_clean which.One pair = refl
 feed_clean which.Two pair = refl
 
 module _ (tells : Tells) (now new : Scene) (pair refused : Sessions) (is : refused ≡ record pair { clean = false }) (bytes : List ℕ) (r : Result (Unit {0}) Ending) (out : IfErr r (λ e. e ≡ ending.OutputFault))
-    (puts : Puts tells bytes (IsErr r) now new) (one two : List ℕ) (old : Scene) (marks : List Mark) where
-  pub refused_keeps : KeepsPair tells one two old now (ended_of pair.multi) marks
-      → MatchResult r (λ _. KeepsPair tells one two old new (ended_of refused.multi) marks) (λ e. EndsPair tells one two old new e marks)
+    (puts : WritesTagged tells bytes (IsErr r) now new) (one two : List ℕ) (old : Scene) (marks : List Mark) where
+  pub refused_keeps : KeepsPair tells one two old now (sessions_ended pair.multi) marks
+      → MatchResult r (λ _. KeepsPair tells one two old new (sessions_ended refused.multi) marks) (λ e. EndsPair tells one two old new e marks)
   refused_keeps keeps =
-      subst (λ (p : Sessions). MatchResult r (λ _. KeepsPair tells one two old new (ended_of p.multi) marks) (λ e. EndsPair tells one two old new e marks)) (sym is)
-      (by_put r (KeepsPair tells one two old new (ended_of pair.multi) marks) (λ e. EndsPair tells one two old new e marks) out
-      (λ calm. keeps_puts tells one two old now (ended_of pair.multi) marks keeps bytes (IsErr r) new puts calm)
-      (λ failed. ends_cut tells one two old now (ended_of pair.multi) marks keeps (ended_few pair.multi) bytes (IsErr r) new puts failed))
+      subst (λ (p : Sessions). MatchResult r (λ _. KeepsPair tells one two old new (sessions_ended p.multi) marks) (λ e. EndsPair tells one two old new e marks)) (sym is)
+      (by_put r (KeepsPair tells one two old new (sessions_ended pair.multi) marks) (λ e. EndsPair tells one two old new e marks) out
+      (λ calm. keeps_puts tells one two old now (sessions_ended pair.multi) marks keeps bytes (IsErr r) new puts calm)
+      (λ failed. ends_cut tells one two old now (sessions_ended pair.multi) marks keeps (ended_few pair.multi) bytes (IsErr r) new puts failed))
 
-  module _ (told : TellsRun tells) (transcript : Transcript) (whole : List ℕ) (placed : IsPlaced pair transcript) (here : ToldPair one two old now pair.multi marks pair.clean transcript)
+  module _ (told : TellsRun tells) (transcript : Transcript) (whole : List ℕ) (placed : ArePlaced pair transcript) (here : ToldPair one two old now pair.multi marks pair.clean transcript)
       (comes : Comes old.script transcript (Line whole)) where
     -- where both stand afterwards
-    refused_by : (answer : Answer) → IsPlaced (record pair { clean = false }) (entry (Line whole) answer ∷ transcript)
-        → (¬ IsErr r → ToldPair one two old new pair.multi marks false (entry (Line whole) answer ∷ transcript)) → (IsErr r → HasRunBoth one two old new ending.OutputFault marks)
+    refused_by : (answer : PairAnswer) → ArePlaced (record pair { clean = false }) (taking (Line whole) answer ∷ transcript)
+        → (¬ IsErr r → ToldPair one two old new pair.multi marks false (taking (Line whole) answer ∷ transcript)) → (IsErr r → HasRunBoth one two old new ending.OutputFault marks)
         → MatchResult r (λ _. HasNext one two old new refused marks transcript (Line whole)) (λ e. HasRunBoth one two old new e marks)
     refused_by answer stand said cut =
         subst (λ (p : Sessions). MatchResult r (λ _. HasNext one two old new p marks transcript (Line whole)) (λ e. HasRunBoth one two old new e marks)) (sym is)
@@ -85,52 +85,52 @@ module _ (tells : Tells) (now new : Scene) (pair refused : Sessions) (is : refus
 
     -- it is no session's
     module _ (tag : tag_of whole ≡ LineOfNone) where
-      none_stand : (session : Which) → StandsAt (session_of session pair.multi) (feed_of session (record pair { clean = false })) (place_of session (entry (Line whole) OfNone ∷ transcript))
+      none_stand : (session : Which) → FeedStandsAt (session_of session pair.multi) (feed_of session (record pair { clean = false })) (feed_place session (taking (Line whole) OfNone ∷ transcript))
       none_stand session =
-          subst (λ (p : Place). StandsAt (session_of session pair.multi) (feed_of session (record pair { clean = false })) p) (sym (line_none session whole (Some OfNone) transcript tag))
-          (subst (λ (f : CommandFeed). StandsAt (session_of session pair.multi) f (place_of session transcript)) (sym (feed_clean session pair)) (placed session))
+          subst (λ (p : FeedPlace). FeedStandsAt (session_of session pair.multi) (feed_of session (record pair { clean = false })) p) (sym (line_none session whole (Some OfNone) transcript tag))
+          (subst (λ (f : CommandFeed). FeedStandsAt (session_of session pair.multi) f (feed_place session transcript)) (sym (feed_clean session pair)) (placed session))
 
-      none_read : IsTranscript old.script (entry (Line whole) OfNone ∷ transcript)
+      none_read : IsTranscript old.script (taking (Line whole) OfNone ∷ transcript)
       none_read = (comes, none_line whole transcript tag, here.read)
 
       pub none_told : bytes ≡ no_session → MatchResult r (λ _. HasNext one two old new refused marks transcript (Line whole)) (λ e. HasRunBoth one two old new e marks)
       none_told are =
-          let wrote : Puts tells no_session (IsErr r) now new = subst (λ (l : List ℕ). Puts tells l (IsErr r) now new) are puts in
+          let wrote : WritesTagged tells no_session (IsErr r) now new = subst (λ (l : List ℕ). WritesTagged tells l (IsErr r) now new) are puts in
           refused_by OfNone none_stand
           (λ calm. said_none tells told one two old now pair.multi marks pair.clean transcript here (Line whole) (IsErr r) new none_read wrote calm)
           (λ failed. cut_none tells told one two old now pair.multi marks pair.clean transcript here (Line whole) (IsErr r) new none_read wrote failed)
 
     -- it is that of a session that has ended
     module _ (session : Which) (own : List ℕ) (tag : tag_of whole ≡ LineOf session own) (ended : is_none (session_of session pair.multi) ≡ true) where
-      over : (place_of session transcript ≡ Over) × ((f : CommandFeed) → StandsAt (session_of session pair.multi) f Over)
-      over = over_at (session_of session pair.multi) (feed_of session pair) (place_of session transcript) (placed session) ended
+      over : (feed_place session transcript ≡ Over) × ((f : CommandFeed) → FeedStandsAt (session_of session pair.multi) f Over)
+      over = over_at (session_of session pair.multi) (feed_of session pair) (feed_place session transcript) (placed session) ended
 
-      after_read : IsTranscript old.script (entry (Line whole) (AfterQuit session) ∷ transcript)
+      after_read : IsTranscript old.script (taking (Line whole) (AfterQuit session) ∷ transcript)
       after_read = (comes, own_line session whole own (Some (AfterQuit session)) transcript Over tag over.0 refl, here.read)
 
-      after_stand : IsPlaced (record pair { clean = false }) (entry (Line whole) (AfterQuit session) ∷ transcript)
+      after_stand : ArePlaced (record pair { clean = false }) (taking (Line whole) (AfterQuit session) ∷ transcript)
       after_stand =
-          placed_next session pair (record pair { clean = false }) transcript (entry (Line whole) (AfterQuit session)) placed (line_other session whole own (Some (AfterQuit session)) transcript tag)
+          placed_next session pair (record pair { clean = false }) transcript (taking (Line whole) (AfterQuit session)) placed (line_other session whole own (Some (AfterQuit session)) transcript tag)
           refl (feed_clean (other session) pair)
-          (subst (λ (p : Place). StandsAt (session_of session pair.multi) (feed_of session (record pair { clean = false })) p)
+          (subst (λ (p : FeedPlace). FeedStandsAt (session_of session pair.multi) (feed_of session (record pair { clean = false })) p)
           (sym (line_own session whole own (Some (AfterQuit session)) transcript tag ∙ ap (read_on own (Some (AfterQuit session))) over.0)) (over.1 (feed_of session (record pair { clean = false }))))
 
       pub after_told : bytes ≡ tagged_for session session_ended → MatchResult r (λ _. HasNext one two old new refused marks transcript (Line whole)) (λ e. HasRunBoth one two old new e marks)
       after_told are =
-          let wrote : Puts tells (tagged_for session session_ended) (IsErr r) now new = subst (λ (l : List ℕ). Puts tells l (IsErr r) now new) are puts in
+          let wrote : WritesTagged tells (tagged_for session session_ended) (IsErr r) now new = subst (λ (l : List ℕ). WritesTagged tells l (IsErr r) now new) are puts in
           refused_by (AfterQuit session) after_stand
           (λ calm. said_after tells told one two old now pair.multi marks pair.clean transcript here (Line whole) (IsErr r) new session after_read wrote calm)
           (λ failed. cut_after tells told one two old now pair.multi marks pair.clean transcript here (Line whole) (IsErr r) new session after_read wrote failed)
 
 -- ---- an entry of a session that has not ended
 
-reads_stand : (session : Option Session) (own : CommandFeed) (reading : Reading) → is_none session ≡ false → feed.IsAt own reading → StandsAt session own (Reads reading)
+reads_stand : (session : Option Session) (own : CommandFeed) (reading : Reading) → is_none session ≡ false → feed.IsAt own reading → FeedStandsAt session own (Reads reading)
 reads_stand None own reading is_open at = absurd (cc)
 reads_stand (Some s) own reading is_open at = at
 
-module _ (session : Which) (one two : List ℕ) (old new : Scene) (pair after : Sessions) (marks : List Mark) (transcript : Transcript) (source : Source) (reading : Reading) (placed : IsPlaced pair transcript)
-    (beside : (answer : Option Answer) → place_of (other session) (item source answer ∷ transcript) ≡ place_of (other session) transcript)
-    (own : (answer : Option Answer) → place_of session (item source answer ∷ transcript) ≡ after_any answer (Reads reading))
+module _ (session : Which) (one two : List ℕ) (old new : Scene) (pair after : Sessions) (marks : List Mark) (transcript : Transcript) (source : Source) (reading : Reading) (placed : ArePlaced pair transcript)
+    (beside : (answer : Option PairAnswer) → feed_place (other session) (item source answer ∷ transcript) ≡ feed_place (other session) transcript)
+    (own : (answer : Option PairAnswer) → feed_place session (item source answer ∷ transcript) ≡ after_any answer (Reads reading))
     (same : session_of (other session) after.multi ≡ session_of (other session) pair.multi) (feeds : feed_of (other session) after ≡ feed_of (other session) pair)
     (at : feed.IsAt (feed_of session after) reading) where
   -- its command was answered
@@ -138,7 +138,7 @@ module _ (session : Which) (one two : List ℕ) (old new : Scene) (pair after : 
   command_next command has = (
     Some has.answer,
     placed_next session pair after transcript (item source (Some has.answer)) placed (beside (Some has.answer)) same feeds
-        (subst (λ (p : Place). StandsAt (session_of session after.multi) (feed_of session after) p) (sym (own (Some has.answer)))
+        (subst (λ (p : FeedPlace). FeedStandsAt (session_of session after.multi) (feed_of session after) p) (sym (own (Some has.answer)))
         (stands_after has.answer (session_of session after.multi) (feed_of session after) reading has.stays at)),
     has.told,
   )
@@ -149,7 +149,7 @@ module _ (session : Which) (one two : List ℕ) (old new : Scene) (pair after : 
   silent_next is_open comes answers here = (
     None,
     placed_next session pair after transcript (item source None) placed (beside None) same feeds
-        (subst (λ (p : Place). StandsAt (session_of session after.multi) (feed_of session after) p) (sym (own None)) (reads_stand (session_of session after.multi) (feed_of session after) reading is_open at)),
+        (subst (λ (p : FeedPlace). FeedStandsAt (session_of session after.multi) (feed_of session after) p) (sym (own None)) (reads_stand (session_of session after.multi) (feed_of session after) reading is_open at)),
     told_silent one two old new after.multi marks after.clean transcript source here comes answers,
   )
 
@@ -160,11 +160,11 @@ feed_same which.Two pair after one two = two
 
 -- ---- a line of a session that has not ended
 
-module _ (session : Which) (whole own : List ℕ) (transcript : Transcript) (reading : Reading) (tag : tag_of whole ≡ LineOf session own) (at : place_of session transcript ≡ Reads reading) where
-  pub line_beside : (answer : Option Answer) → place_of (other session) (item (Line whole) answer ∷ transcript) ≡ place_of (other session) transcript
+module _ (session : Which) (whole own : List ℕ) (transcript : Transcript) (reading : Reading) (tag : tag_of whole ≡ LineOf session own) (at : feed_place session transcript ≡ Reads reading) where
+  pub line_beside : (answer : Option PairAnswer) → feed_place (other session) (item (Line whole) answer ∷ transcript) ≡ feed_place (other session) transcript
   line_beside answer = line_other session whole own answer transcript tag
 
-  pub line_read : (answer : Option Answer) → place_of session (item (Line whole) answer ∷ transcript) ≡ after_any answer (Reads (takes reading own).reading)
+  pub line_read : (answer : Option PairAnswer) → feed_place session (item (Line whole) answer ∷ transcript) ≡ after_any answer (Reads (takes reading own).reading)
   line_read answer = line_own session whole own answer transcript tag ∙ ap (read_on own answer) at
 
   pub asks_line : (script : List ℕ) (command : Instruction) → (takes reading own).ended ≡ Some command → Comes script transcript (Line whole) → IsTranscript script transcript → AsksFor session script transcript (Line whole) command

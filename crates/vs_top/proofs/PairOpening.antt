@@ -25,7 +25,7 @@ use Rattle.vs_safety.proofs.Causes.{counted_none, counted_on, rose_last}
 use Rattle.vs_safety.proofs.Endings.{not_opened}
 use Rattle.vs_safety.proofs.Works.{works_from}
 use Rattle.vs_paged.proofs.SyncLemmas.{fits_between}
-use Rattle.vs_both.specs.Beside.{AreApart, AreBeside, HasFamily, Party, others_of}
+use Rattle.vs_both.specs.Beside.{AreSetApart, AreBeside, HasFamily, Party, others_of}
 use Rattle.vs_both.proofs.Names.{others_foreign, others_in_family, share_none}
 use Rattle.vs_session.specs.declared.session.Session.{Session}
 use Rattle.vs_session.specs.declared.open.OpenErr.{OpenErr}
@@ -132,7 +132,7 @@ module _ (tells : Tells) (told : TellsRun tells) (one two : List ℕ) (old new :
   -- the run ends with nothing written
   module _ (marks : List Mark) (none : marks ≡ []) where
     abbrev did : Both
-    did = record { transcript = []; extent = BeforeOpening }
+    did = record { transcript = []; reach = BeforeOpening }
 
     pub unopened : (end : Ending) → (row_both end).answered files old new marks did → (row_both end).last old new → (row_both end).left files.one old new → HasRunBoth one two old new end marks
     unopened end ends failed left = record {
@@ -176,7 +176,7 @@ module _ (tells : Tells) (told : TellsRun tells) (one two : List ℕ) (old new :
 
   -- ---- both were
 
-  module _ (s t : Session) (one_stands : StandsOpen tells one old new s) (two_stands : StandsOpen tells two old new t) (free : ¬ EitherHasSwap one two old.folder) (own : AreApart first second new.folder) where
+  module _ (s t : Session) (one_stands : StandsOpen tells one old new s) (two_stands : StandsOpen tells two old new t) (free : ¬ EitherHasSwap one two old.folder) (own : AreSetApart first second new.folder) where
     between_one : IsBetween first.names (opened (text_at old one)) new.folder
     between_one = subst (λ n. IsBetween n (opened (text_at old one)) new.folder) one_stands.names (fits_between s.text new.folder _ _ (one_stands.fits told.folder).stands.text)
 

@@ -14,9 +14,9 @@ use Rattle.vs_split.specs.Tags.{if_same}
 use Rattle.vs_tagged.specs.Tagged.{lines_under}
 use Rattle.vs_tagged.proofs.Lines.{reads_other, reads_own}
 use Rattle.vs_top.specs.Tags.{no_session, prefix_of, session_ended, tagged_for}
-use Rattle.vs_top.specs.PairHistory.{Answer, Answered, Left, AfterQuit, OfNone, Preserved, Answers, BothFiles, lines_for, opening_for, own_lines, reply_after, state_for, written_both}
+use Rattle.vs_top.specs.PairHistory.{PairAnswer, Answered, Left, AfterQuit, OfNone, Preserved, AnswerList, BothFiles, answer_lines, opening_for, own_lines, reply_after, state_for, written_both}
 use Rattle.vs_top.specs.PairScript.{answers_of}
-use Rattle.vs_top.specs.PairPromise.{AllWhole, Extent, HasRunBoth, HasWritten, files_in}
+use Rattle.vs_top.specs.PairPromise.{AllWhole, Reach, HasRunBoth, WroteBoth, files_in}
 use Rattle.vs_top.specs.declared.ending.Ending.{Ending}
 
 line_of_two : (byte : ℕ) → byte ≢ 10 → IsLine (byte ∷ 58 ∷ [])
@@ -47,8 +47,8 @@ no_reply which.One rest = reads_other (codes "0:") (codes "1:") (codes "no sessi
 no_reply which.Two rest = reads_other (codes "0:") (codes "2:") (codes "no session" ++ 10 ∷ []) rest line_none refl (differ 50 48 (λ is. omega (arith, is)))
 
 -- an answer
-one_answer : (session : Which) (files : BothFiles) (earlier : Answers) (answer : Answer) (rest : List ℕ)
-    → lines_under (prefix_of session) (lines_of (reply_after files earlier answer ++ rest)) ≡ lines_for session files earlier answer ++ lines_under (prefix_of session) (lines_of rest)
+one_answer : (session : Which) (files : BothFiles) (earlier : AnswerList) (answer : PairAnswer) (rest : List ℕ)
+    → lines_under (prefix_of session) (lines_of (reply_after files earlier answer ++ rest)) ≡ answer_lines session files earlier answer ++ lines_under (prefix_of session) (lines_of rest)
 one_answer session files earlier (Answered whose run) rest = one_reply session whose (reply_of (state_for whose files earlier) run.instruction run.ended).bytes rest
 one_answer session files earlier (Left whose quit) rest = one_reply session whose quit_line rest
 one_answer session files earlier (AfterQuit whose) rest = one_reply session whose session_ended rest
@@ -67,21 +67,21 @@ both_openings which.Two files rest =
     ∙ one_reply which.Two which.Two (opening_of files.two.name files.two.found).bytes rest
 
 -- all answers, and what follows
-pub own_output : (session : Which) (files : BothFiles) (answers : Answers) (rest : List ℕ)
+pub own_output : (session : Which) (files : BothFiles) (answers : AnswerList) (rest : List ℕ)
     → lines_under (prefix_of session) (lines_of (written_both files answers ++ rest)) ≡ own_lines session files answers ++ lines_under (prefix_of session) (lines_of rest)
 own_output session files [] rest = both_openings session files rest
 own_output session files (last ∷ earlier) rest =
     ap (λ (l : List ℕ). lines_under (prefix_of session) (lines_of l)) (append_assoc (written_both files earlier) (reply_after files earlier last) rest)
     ∙ own_output session files earlier (reply_after files earlier last ++ rest)
     ∙ ap (λ (ls : List (List ℕ)). own_lines session files earlier ++ ls) (one_answer session files earlier last rest)
-    ∙ sym (append_assoc (own_lines session files earlier) (lines_for session files earlier last) (lines_under (prefix_of session) (lines_of rest)))
+    ∙ sym (append_assoc (own_lines session files earlier) (answer_lines session files earlier last) (lines_under (prefix_of session) (lines_of rest)))
 
 -- of a run whose answers are all whole
-pub own_run : (session : Which) (one two : List ℕ) (old new : Scene) (end : Ending) (marks : List Mark) (ran : HasRunBoth one two old new end marks) → old.output ≡ [] → ran.did.extent ≡ AllWhole
+pub own_run : (session : Which) (one two : List ℕ) (old new : Scene) (end : Ending) (marks : List Mark) (ran : HasRunBoth one two old new end marks) → old.output ≡ [] → ran.did.reach ≡ AllWhole
     → lines_under (prefix_of session) (lines_of new.output) ≡ own_lines session (files_in old one two) (answers_of ran.did.transcript)
 own_run session one two old new end marks ran empty whole =
     let files : BothFiles = files_in old one two in
-    let answers : Answers = answers_of ran.did.transcript in
-    let wrote : HasWritten AllWhole files old new answers = subst (λ (e : Extent). HasWritten e files old new answers) whole ran.wrote in
+    let answers : AnswerList = answers_of ran.did.transcript in
+    let wrote : WroteBoth AllWhole files old new answers = subst (λ (e : Reach). WroteBoth e files old new answers) whole ran.wrote in
     let output : new.output ≡ written_both files answers ++ [] = wrote.0 ∙ ap (λ (l : List ℕ). l ++ written_both files answers) empty ∙ sym (append-nil (written_both files answers)) in
     ap (λ (l : List ℕ). lines_under (prefix_of session) (lines_of l)) output ∙ own_output session files answers [] ∙ append-nil (own_lines session files answers)

@@ -11,8 +11,8 @@ use Rattle.vs_script.specs.declared.reader.ScriptErr.{ScriptErr}
 use Rattle.vs_script.proofs.Going.{goes_on_by, goes_on_in, goes_on_start, goes_on_twice, stops_by, stops_then}
 use Rattle.vs_family.specs.declared.which.Which.TheVariants as which
 use Rattle.vs_session.specs.declared.session.Session.{Session}
-use Rattle.vs_top.specs.PairScript.{AreOver, Over, Place, Reads, Transcript, lines_within, place_of}
-use Rattle.vs_top.specs.PairTurns.{IsPlaced, StandsAt}
+use Rattle.vs_top.specs.PairScript.{AreOver, Over, FeedPlace, Reads, Transcript, script_lines, feed_place}
+use Rattle.vs_top.specs.PairTurns.{ArePlaced, FeedStandsAt}
 use Rattle.vs_top.specs.declared.pair.Sessions.{Sessions}
 use Rattle.vs_top.proofs.Reading.{fresh_reader, not_ended}
 
@@ -48,7 +48,7 @@ lines_in reader start now scene done has same = record {
 
 -- what was read so far are first lines of the script within its limit
 pub lines_first : (reader : Ahead) (start now : Scene) (done : List (List ℕ) → List (List ℕ)) → HasLines reader start now done → HasSeen reader now → CountsTaken fresh_reader reader start now → reader.taken ≤ script_limit
-    → (rest : List (List ℕ)) × (lines_within start.script ≡ done rest)
+    → (rest : List (List ℕ)) × (script_lines start.script ≡ done rest)
 lines_first reader start now done has seen counts limit = elim (leb_tells (length start.script) script_limit) [
   | inl small ↦ (lines_ahead reader now, rw small.0 has.ahead)
   | inr large ↦
@@ -88,12 +88,12 @@ lines_stopped error old now after reader reader' done has stop =
 
 -- ---- the places
 
-placed_over : (session : Option Session) (feed : CommandFeed) (place : Place) → StandsAt session feed place → is_none session ≡ true → place ≡ Over
+placed_over : (session : Option Session) (feed : CommandFeed) (place : FeedPlace) → FeedStandsAt session feed place → is_none session ≡ true → place ≡ Over
 placed_over None feed Over stands none = refl
 placed_over None feed (Reads reading) stands none = absurd stands
 placed_over (Some s) feed place stands none = absurd (cc)
 
-over_none : (session : Option Session) (feed : CommandFeed) (place : Place) → StandsAt session feed place → place ≡ Over → is_none session ≡ true
+over_none : (session : Option Session) (feed : CommandFeed) (place : FeedPlace) → FeedStandsAt session feed place → place ≡ Over → is_none session ≡ true
 over_none None feed place stands over = refl
 over_none (Some s) feed Over stands over = absurd stands
 over_none (Some s) feed (Reads reading) stands over = absurd (cc)
@@ -111,15 +111,15 @@ and_right true b is = is
 and_right false b is = absurd (cc)
 
 -- both sessions have ended where the run says so
-pub over_by : (pair : Sessions) (transcript : Transcript) → IsPlaced pair transcript → (is_none pair.multi.one && is_none pair.multi.two) ≡ true → AreOver transcript
+pub over_by : (pair : Sessions) (transcript : Transcript) → ArePlaced pair transcript → (is_none pair.multi.one && is_none pair.multi.two) ≡ true → AreOver transcript
 over_by pair transcript placed is = (
-  placed_over pair.multi.one pair.one (place_of which.One transcript) (placed which.One) (and_left (is_none pair.multi.one) (is_none pair.multi.two) is),
-  placed_over pair.multi.two pair.two (place_of which.Two transcript) (placed which.Two) (and_right (is_none pair.multi.one) (is_none pair.multi.two) is),
+  placed_over pair.multi.one pair.one (feed_place which.One transcript) (placed which.One) (and_left (is_none pair.multi.one) (is_none pair.multi.two) is),
+  placed_over pair.multi.two pair.two (feed_place which.Two transcript) (placed which.Two) (and_right (is_none pair.multi.one) (is_none pair.multi.two) is),
 )
 
-pub not_over_by : (pair : Sessions) (transcript : Transcript) → IsPlaced pair transcript → (is_none pair.multi.one && is_none pair.multi.two) ≡ false → ¬ AreOver transcript
+pub not_over_by : (pair : Sessions) (transcript : Transcript) → ArePlaced pair transcript → (is_none pair.multi.one && is_none pair.multi.two) ≡ false → ¬ AreOver transcript
 not_over_by pair transcript placed is over =
     let both = and_true (is_none pair.multi.one) (is_none pair.multi.two)
-    (over_none pair.multi.one pair.one (place_of which.One transcript) (placed which.One) over.0)
-    (over_none pair.multi.two pair.two (place_of which.Two transcript) (placed which.Two) over.1) in
+    (over_none pair.multi.one pair.one (feed_place which.One transcript) (placed which.One) over.0)
+    (over_none pair.multi.two pair.two (feed_place which.Two transcript) (placed which.Two) over.1) in
     Rattle.std.proofs.lemmas.Bool.true≢false (sym both ∙ is)

@@ -6,20 +6,20 @@ use Rattle.vs_excmd.specs.declared.request.Request.{Request}
 use Rattle.vs_script.specs.Feed as feed
 use Rattle.vs_family.specs.declared.which.Which.{Which}
 use Rattle.vs_family.specs.declared.which.Which.TheVariants as which
-use Rattle.vs_tagged.specs.Tagged.{Puts}
+use Rattle.vs_tagged.specs.Tagged.{WritesTagged}
 use Rattle.vs_session.specs.declared.ending.End.{End}
 use Rattle.vs_session.specs.declared.session.Session.{Session}
 use Rattle.vs_session.specs.declared.session.Step.{Step}
 use Rattle.vs_session.specs.Calls.{Finishes}
 use Rattle.vs_multi.specs.declared.multi.Multi.{Multi}
 use Rattle.vs_multi.specs.Multi.{FitsBoth, other}
-use Rattle.vs_top.specs.PairTurns.{IsUsable, TakesMore, feed_of}
+use Rattle.vs_top.specs.PairTurns.{AreUsable, TakesMore, feed_of}
 use Rattle.vs_top.specs.declared.pair.Sessions.{Sessions}
 use Rattle.vs_top.proofs.PairCalls.{usable_puts}
 use Rattle.vs_top.proofs.PairKeeps.{StepsWhere, takes_fewer}
 
 -- fewer commands
-pub usable_fewer : (tells : Tells) (pair : Sessions) (more fewer : ℕ) (now : Scene) → fewer ≤ more → IsUsable tells pair more now → IsUsable tells pair fewer now
+pub usable_fewer : (tells : Tells) (pair : Sessions) (more fewer : ℕ) (now : Scene) → fewer ≤ more → AreUsable tells pair more now → AreUsable tells pair fewer now
 usable_fewer tells pair more fewer now le usable = record {
   first = takes_fewer more fewer pair.multi.one le usable.first;
   second = takes_fewer more fewer pair.multi.two le usable.second;
@@ -30,13 +30,13 @@ usable_fewer tells pair more fewer now le usable = record {
 }
 
 -- the feed of each session is ready
-pub ready_of : (tells : Tells) (pair : Sessions) (more : ℕ) (now : Scene) (session : Which) → IsUsable tells pair more now → feed.IsReady (feed_of session pair)
+pub ready_of : (tells : Tells) (pair : Sessions) (more : ℕ) (now : Scene) (session : Which) → AreUsable tells pair more now → feed.IsReady (feed_of session pair)
 ready_of tells pair more now which.One usable = usable.one_ready
 ready_of tells pair more now which.Two usable = usable.two_ready
 
 -- a feed took a line, or gave what was left in it
 pub usable_fed : (tells : Tells) (pair fed : Sessions) (more : ℕ) (now : Scene) (session : Which) → fed.multi ≡ pair.multi → feed.IsReady (feed_of session fed) → feed_of (other session) fed ≡ feed_of (other session) pair
-    → IsUsable tells pair more now → IsUsable tells fed more now
+    → AreUsable tells pair more now → AreUsable tells fed more now
 usable_fed tells pair fed more now which.One multi ready same usable = record {
   first = subst (λ (m : Multi). TakesMore more m.one) (sym multi) usable.first;
   second = subst (λ (m : Multi). TakesMore more m.two) (sym multi) usable.second;
@@ -55,11 +55,11 @@ usable_fed tells pair fed more now which.Two multi ready same usable = record {
 }
 
 -- a line was refused
-pub usable_refused : (tells : Tells) (pair refused : Sessions) (more : ℕ) (now new : Scene) (bytes : List ℕ) (Failed : Type 0) → refused ≡ record pair { clean = false } → Puts tells bytes Failed now new
-    → IsUsable tells pair (more + 1) now → IsUsable tells refused more new
+pub usable_refused : (tells : Tells) (pair refused : Sessions) (more : ℕ) (now new : Scene) (bytes : List ℕ) (Failed : Type 0) → refused ≡ record pair { clean = false } → WritesTagged tells bytes Failed now new
+    → AreUsable tells pair (more + 1) now → AreUsable tells refused more new
 usable_refused tells pair refused more now new bytes Failed is puts usable =
     let fewer = usable_fewer tells pair (more + 1) more now (omega arith) usable in
-    usable_puts tells refused more now new bytes Failed puts (subst (λ (p : Sessions). IsUsable tells p more now) (sym is) (record {
+    usable_puts tells refused more now new bytes Failed puts (subst (λ (p : Sessions). AreUsable tells p more now) (sym is) (record {
       first = fewer.first;
       second = fewer.second;
       clock = fewer.clock;

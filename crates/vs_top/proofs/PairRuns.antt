@@ -21,7 +21,7 @@ use Rattle.vs_machine.specs.Replies.{opening_of}
 use Rattle.vs_machine.specs.Replies.{Answer as Reply}
 use Rattle.vs_machine.specs.declared.command.Mark.{Mark}
 use Rattle.vs_safety.proofs.Endings.{not_opened}
-use Rattle.vs_both.specs.Beside.{AreApart, AreBeside, IsSetApart, others_of}
+use Rattle.vs_both.specs.Beside.{AreSetApart, AreBeside, IsSetApart, others_of}
 use Rattle.vs_session.specs.declared.session.Session.{Session}
 use Rattle.vs_session.specs.declared.open.OpenErr.{OpenErr}
 use Rattle.vs_session.specs.declared.open.OpenErr.TheVariants as opening
@@ -29,8 +29,8 @@ use Rattle.vs_session.specs.Open.{OnlyLooks}
 use Rattle.vs_multi.specs.declared.multi.Multi.{Multi}
 use Rattle.vs_multi.specs.Multi.{FitsBoth}
 use Rattle.vs_multi.specs.Opening.{AreNotOpened, BothStandOpen, IsEitherTooLarge, OpensBoth, StandsOpen}
-use Rattle.vs_multi.specs.Sessions.{AreOwn, AreOwnWhere, file_of}
-use Rattle.vs_tagged.specs.Tagged.{Puts}
+use Rattle.vs_multi.specs.Sessions.{AreOwn, AreOwnWhere, file_name_of}
+use Rattle.vs_tagged.specs.Tagged.{WritesTagged}
 use Rattle.vs_tagged.proofs.Lines.{tagged_some}
 use Rattle.vs_top.specs.Ending.{ending_in, open_ending}
 use Rattle.vs_top.specs.Run.{TellsRun, FileFits, counts_of, FaultHasCause}
@@ -39,7 +39,7 @@ use Rattle.vs_top.specs.Turns.{text_at}
 use Rattle.vs_top.specs.PairHistory.{BothFiles, opening_for}
 use Rattle.vs_top.specs.PairScript.{Reads}
 use Rattle.vs_top.specs.PairPromise.{BeforeOpening, EitherHasSwap, EitherPasses, EndsPair, HasRunBoth, IsMixed, IsTimedBoth, RunsPair, files_in, party_for}
-use Rattle.vs_top.specs.PairTurns.{Greets, IsPlaced, IsUsable, KeepsPair, OpensPair, StandsAt, TakesMore, ToldOpenPair, ToldPair, ended_of, greeting_of, one_ended}
+use Rattle.vs_top.specs.PairTurns.{Greets, ArePlaced, AreUsable, KeepsPair, OpensPair, FeedStandsAt, TakesMore, ToldOpenPair, ToldPair, sessions_ended, greeting_of, one_ended}
 use Rattle.vs_top.specs.declared.pair.Sessions.{Sessions}
 use Rattle.vs_top.specs.declared.ending.Ending.{Ending}
 use Rattle.vs_top.specs.declared.ending.Ending.TheVariants as ending
@@ -137,8 +137,8 @@ module _ (tells : Tells) (one two : List ℕ) (old new : Scene) (pending : IsTru
 
   module _ (multi : Multi) (opened : BothStandOpen tells one two old new multi) (fits : FitsBoth tells multi new.folder) (free : IsTrue tells.folder → EitherHasSwap one two old.folder → ⊥)
       (one_fits : IsTrue tells.folder → FileFits (content_of old one)) (two_fits : IsTrue tells.folder → FileFits (content_of old two)) where
-    own_files : (s t : Session) → StandsOpen tells one old new s → StandsOpen tells two old new t → AreOwn (file_of s) (file_of t) new.folder
-        → AreApart (party_for which.One (files_in old one two)) (party_for which.Two (files_in old one two)) new.folder
+    own_files : (s t : Session) → StandsOpen tells one old new s → StandsOpen tells two old new t → AreOwn (file_name_of s) (file_name_of t) new.folder
+        → AreSetApart (party_for which.One (files_in old one two)) (party_for which.Two (files_in old one two)) new.folder
     own_files s t one_stands two_stands own = record {
       first = subst (λ (n : Name). IsSetApart (is_of_family n) new.folder) (ap (λ (n : Names). n.file) one_stands.names) own.0;
       second = subst (λ (n : Name). IsSetApart (is_of_family n) new.folder) (ap (λ (n : Names). n.file) two_stands.names) own.1;
@@ -169,7 +169,7 @@ module _ (tells : Tells) (one two : List ℕ) (old new : Scene) (pending : IsTru
 -- ---- the opening replies
 
 -- the same write, where the failure is said in other words
-pub puts_for : (tells : Tells) (bytes : List ℕ) (Failed Failed' : Type 0) (old new : Scene) → (Failed → Failed') → (Failed' → Failed) → Puts tells bytes Failed old new → Puts tells bytes Failed' old new
+pub puts_for : (tells : Tells) (bytes : List ℕ) (Failed Failed' : Type 0) (old new : Scene) → (Failed → Failed') → (Failed' → Failed) → WritesTagged tells bytes Failed old new → WritesTagged tells bytes Failed' old new
 puts_for tells bytes Failed Failed' old new to from puts = record {
   wrote = λ folder output calm. puts.wrote folder output (λ failed. calm (to failed));
   part = puts.part;
@@ -190,16 +190,16 @@ is_error (Err e) one is = refl
 
 -- the first of two replies is cut short, or it is whole
 pub greets_first : (tells : Tells) (multi : Multi) (r : Result (Unit {0}) Ending) (one : Ending) (bytes : List ℕ) (Failed : Type 0) (old new : Scene) → IsErrAnd r (λ e. e ≡ one) → bytes ≡ greeting_of which.One multi.one → Failed
-    → Puts tells bytes Failed old new → Greets tells multi r old new
+    → WritesTagged tells bytes Failed old new → Greets tells multi r old new
 greets_first tells multi r one bytes Failed old new is line failed puts =
-    inl (is_error r one is, subst (λ (l : List ℕ). Puts tells l (Unit {0}) old new) line (puts_for tells bytes Failed (Unit {0}) old new (λ f. tt) (λ u. failed) puts))
+    inl (is_error r one is, subst (λ (l : List ℕ). WritesTagged tells l (Unit {0}) old new) line (puts_for tells bytes Failed (Unit {0}) old new (λ f. tt) (λ u. failed) puts))
 
 pub greets_both : (tells : Tells) (multi : Multi) (r : Result (Unit {0}) Ending) (bytes more : List ℕ) (Failed : Type 0) (old mid new : Scene) → bytes ≡ greeting_of which.One multi.one → more ≡ greeting_of which.Two multi.two → ¬ Failed
-    → Puts tells bytes Failed old mid → Puts tells more (IsErr r) mid new → Greets tells multi r old new
+    → WritesTagged tells bytes Failed old mid → WritesTagged tells more (IsErr r) mid new → Greets tells multi r old new
 greets_both tells multi r bytes more Failed old mid new line next calm puts second = inr (
   mid,
-  subst (λ (l : List ℕ). Puts tells l ⊥ old mid) line (puts_for tells bytes Failed ⊥ old mid calm (λ none. absurd none) puts),
-  subst (λ (l : List ℕ). Puts tells l (IsErr r) mid new) next second,
+  subst (λ (l : List ℕ). WritesTagged tells l ⊥ old mid) line (puts_for tells bytes Failed ⊥ old mid calm (λ none. absurd none) puts),
+  subst (λ (l : List ℕ). WritesTagged tells l (IsErr r) mid new) next second,
 )
 
 -- a session that stands open
@@ -229,7 +229,7 @@ module _ (tells : Tells) (one two : List ℕ) (old now : Scene) (multi : Multi) 
       omega (arith, one_some, length-append (opening_for which.One files) (opening_for which.Two files)) in
       let output : now.output ≡ old.output = here.first.begins.works.output in
       record {
-        did = record { transcript = []; extent = BeforeOpening };
+        did = record { transcript = []; reach = BeforeOpening };
         read = tt;
         may = record { one = tt; two = tt; quits = tt };
         kept = none;
@@ -252,24 +252,24 @@ module _ (tells : Tells) (one two : List ℕ) (old now : Scene) (multi : Multi) 
   two_line told = ap (λ (o : Option Session). greeting_of which.Two o) second.1 ∙ greeting_two tells told one two old now (at.told told) marks none second.0 (second.2.file told.folder)
 
   -- that of the first is cut short
-  cut_first : (new : Scene) → Puts tells (greeting_of which.One multi.one) (Unit {0}) now new → RunsPair tells one two old new ending.OutputFault marks
+  cut_first : (new : Scene) → WritesTagged tells (greeting_of which.One multi.one) (Unit {0}) now new → RunsPair tells one two old new ending.OutputFault marks
   cut_first new puts = record {
     told = λ told.
-        greet_cut_one tells told one two old now (at.told told) marks none first.0 first.2 (Unit {0}) new (subst (λ (l : List ℕ). Puts tells l (Unit {0}) now new) (one_line told) puts) tt;
+        greet_cut_one tells told one two old now (at.told told) marks none first.0 first.2 (Unit {0}) new (subst (λ (l : List ℕ). WritesTagged tells l (Unit {0}) now new) (one_line told) puts) tt;
     ends = ends_cut tells one two old now 0 marks keeps_now (omega arith) (greeting_of which.One multi.one) (Unit {0}) new puts tt;
   }
 
-  module _ (mid : Scene) (one_puts : Puts tells (greeting_of which.One multi.one) ⊥ now mid) where
+  module _ (mid : Scene) (one_puts : WritesTagged tells (greeting_of which.One multi.one) ⊥ now mid) where
     keeps_mid : KeepsPair tells one two old mid 0 marks
     keeps_mid = keeps_puts tells one two old now 0 marks keeps_now (greeting_of which.One multi.one) ⊥ mid one_puts (λ failed. failed)
 
-    module _ (Failed : Type 0) (new : Scene) (puts : Puts tells (greeting_of which.Two multi.two) Failed mid new) where
+    module _ (Failed : Type 0) (new : Scene) (puts : WritesTagged tells (greeting_of which.Two multi.two) Failed mid new) where
       -- or that of the second
       cut_second : Failed → RunsPair tells one two old new ending.OutputFault marks
       cut_second failed = record {
         told = λ told.
-            greet_cut_two tells told one two old now (at.told told) marks none mid (subst (λ (l : List ℕ). Puts tells l ⊥ now mid) (one_line told) one_puts) Failed new
-            (subst (λ (l : List ℕ). Puts tells l Failed mid new) (two_line told) puts) failed;
+            greet_cut_two tells told one two old now (at.told told) marks none mid (subst (λ (l : List ℕ). WritesTagged tells l ⊥ now mid) (one_line told) one_puts) Failed new
+            (subst (λ (l : List ℕ). WritesTagged tells l Failed mid new) (two_line told) puts) failed;
         ends = ends_cut tells one two old mid 0 marks keeps_mid (omega arith) (greeting_of which.Two multi.two) Failed new puts failed;
       }
 
@@ -278,10 +278,10 @@ module _ (tells : Tells) (one two : List ℕ) (old now : Scene) (multi : Multi) 
 
       told_both : ¬ Failed → TellsRun tells → ToldPair one two old new multi marks true []
       told_both calm told =
-          greeted tells told one two old now (at.told told) marks none mid (subst (λ (l : List ℕ). Puts tells l ⊥ now mid) (one_line told) one_puts) Failed new
-          (subst (λ (l : List ℕ). Puts tells l Failed mid new) (two_line told) puts) calm multi first.0 second.0 first.1 second.1 first.2 second.2
+          greeted tells told one two old now (at.told told) marks none mid (subst (λ (l : List ℕ). WritesTagged tells l ⊥ now mid) (one_line told) one_puts) Failed new
+          (subst (λ (l : List ℕ). WritesTagged tells l Failed mid new) (two_line told) puts) calm multi first.0 second.0 first.1 second.1 first.2 second.2
 
-  none_ended : ended_of multi ≡ 0
+  none_ended : sessions_ended multi ≡ 0
   none_ended = omega (arith, ap one_ended first.1, ap one_ended second.1)
 
   -- not both are whole
@@ -291,7 +291,7 @@ module _ (tells : Tells) (one two : List ℕ) (old now : Scene) (multi : Multi) 
 
   -- both are
   module _ (r : Result (Unit {0}) Ending) (new : Scene) (calm : ¬ IsErr r) where
-    pub greet_keeps : Greets tells multi r now new → KeepsPair tells one two old new (ended_of multi) marks
+    pub greet_keeps : Greets tells multi r now new → KeepsPair tells one two old new (sessions_ended multi) marks
     greet_keeps (inl cut) = absurd (calm cut.0)
     greet_keeps (inr both) = subst (λ (n : ℕ). KeepsPair tells one two old new n marks) (sym none_ended) (keeps_both both.0 both.1 (IsErr r) new both.2 calm)
 
@@ -317,7 +317,7 @@ greet_folder tells multi r now new calm (inr both) = (
 )
 
 pub usable_start : (tells : Tells) (one two : List ℕ) (old now new : Scene) (pair : Sessions) (r : Result (Unit {0}) Ending) → ¬ IsErr r → Greets tells pair.multi r now new → BothStandOpen tells one two old now pair.multi
-    → (IsTrue tells.clock → length now.answers < 2 ^ 62) → FitsBoth tells pair.multi now.folder → feed.IsAt pair.one Between → feed.IsAt pair.two Between → IsUsable tells pair (script_limit + 2) new
+    → (IsTrue tells.clock → length now.answers < 2 ^ 62) → FitsBoth tells pair.multi now.folder → feed.IsAt pair.one Between → feed.IsAt pair.two Between → AreUsable tells pair (script_limit + 2) new
 usable_start tells one two old now new pair r calm greets opened clock fits one_at two_at =
     let same = greet_folder tells pair.multi r now new calm greets in
     record {
@@ -329,11 +329,11 @@ usable_start tells one two old now new pair r calm greets opened clock fits one_
       two_ready = (Between, two_at);
     }
 
-stands_start : (opened : Option Session) (own : CommandFeed) (P : Session → Type 0) → IsSomeAnd opened P → feed.IsAt own Between → StandsAt opened own (Reads Between)
+stands_start : (opened : Option Session) (own : CommandFeed) (P : Session → Type 0) → IsSomeAnd opened P → feed.IsAt own Between → FeedStandsAt opened own (Reads Between)
 stands_start None own P stands at = absurd stands
 stands_start (Some s) own P stands at = at
 
-pub placed_start : (tells : Tells) (one two : List ℕ) (old now : Scene) (pair : Sessions) → BothStandOpen tells one two old now pair.multi → feed.IsAt pair.one Between → feed.IsAt pair.two Between → IsPlaced pair []
+pub placed_start : (tells : Tells) (one two : List ℕ) (old now : Scene) (pair : Sessions) → BothStandOpen tells one two old now pair.multi → feed.IsAt pair.one Between → feed.IsAt pair.two Between → ArePlaced pair []
 placed_start tells one two old now pair opened one_at two_at which.One = stands_start pair.multi.one pair.one (StandsOpen tells one old now) opened.first one_at
 placed_start tells one two old now pair opened one_at two_at which.Two = stands_start pair.multi.two pair.two (StandsOpen tells two old now) opened.second two_at
 

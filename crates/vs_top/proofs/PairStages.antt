@@ -19,7 +19,7 @@ use Rattle.vs_safety.specs.Turns.{Turn, NotBegun, Quits}
 use Rattle.vs_safety.specs.Safety.{IsFirstPart, IsWriting, Looks, Spares, Stepped, Works, Wrote}
 use Rattle.vs_safety.specs.History.{History, After, Replied, syncs_of}
 use Rattle.vs_both.specs.Beside.{AreBeside, HasFamily, Party, of_others}
-use Rattle.vs_both.specs.Both.{Stage, Running, Gone, BothGo, HasKept, answered}
+use Rattle.vs_both.specs.Both.{PartyStage, Running, Gone, BothGo, HasKept, with_turn}
 use Rattle.vs_both.proofs.Both.{both_answered, both_cut, both_quit, both_quit_cut}
 use Rattle.vs_family.specs.Family.{is_of_family}
 use Rattle.vs_top.specs.PairHistory.{gone}
@@ -29,42 +29,42 @@ use Rattle.vs_top.specs.Turns.{AreCounted}
 -- ---- one session
 
 -- a promise that was kept where nothing had begun to close
-pub kept_as : (party : Party) (start : Scene) (stage : Stage) (now : Scene) → HasKept party start stage now → KeepsPromise party start stage NotBegun now
+pub kept_as : (party : Party) (start : Scene) (stage : PartyStage) (now : Scene) → HasKept party start stage now → KeepsPromise party start stage NotBegun now
 kept_as party start (Running past) now kept = kept
 kept_as party start (Gone past) now kept = kept
 
 -- ---- one session carries out a command, or ends
 
-module _ (self other : Party) (are : AreBeside self other) (start now : Scene) (stage second : Stage) (past : History) (is : stage ≡ Running past) (both : BothGo self other start stage second now) where
+module _ (self other : Party) (are : AreBeside self other) (start now : Scene) (stage second : PartyStage) (past : History) (is : stage ≡ Running past) (both : BothGo self other start stage second now) where
   both_running : BothGo self other start (Running past) second now
-  both_running = subst (λ (s : Stage). BothGo self other start s second now) is both
+  both_running = subst (λ (s : PartyStage). BothGo self other start s second now) is both
 
   module _ (turn : Turn) (ended : Scene) (stepped : Stepped self.names (syncs_of past) turn now ended) where
-    pub turn_whole : (new : Scene) → Replied turn.reply ended new → BothGo self other start (answered stage turn) (answered second (of_others turn.reply)) new
+    pub turn_whole : (new : Scene) → Replied turn.reply ended new → BothGo self other start (with_turn stage turn) (with_turn second (of_others turn.reply)) new
     turn_whole new replied =
-        subst (λ (s : Stage). BothGo self other start (answered s turn) (answered second (of_others turn.reply)) new) (sym is)
+        subst (λ (s : PartyStage). BothGo self other start (with_turn s turn) (with_turn second (of_others turn.reply)) new) (sym is)
         (both_answered self other are start now past second both_running turn ended stepped new replied)
 
     pub turn_cut : (new : Scene) (written : List ℕ) → 0 < length turn.reply → Wrote written ended new → IsFirstPart written turn.reply
-        → KeepsPromise self start (answered stage turn) NotBegun new × KeepsPromise other start (answered second (of_others turn.reply)) NotBegun new
+        → KeepsPromise self start (with_turn stage turn) NotBegun new × KeepsPromise other start (with_turn second (of_others turn.reply)) NotBegun new
     turn_cut new written some wrote part =
         let kept = both_cut self other are start now past second both_running turn ended stepped written new some wrote part in (
-          subst (λ (s : Stage). KeepsPromise self start (answered s turn) NotBegun new) (sym is) (kept_as self start (Running (After past turn)) new kept.first_kept),
-          kept_as other start (answered second (of_others turn.reply)) new kept.second_kept,
+          subst (λ (s : PartyStage). KeepsPromise self start (with_turn s turn) NotBegun new) (sym is) (kept_as self start (Running (After past turn)) new kept.first_kept),
+          kept_as other start (with_turn second (of_others turn.reply)) new kept.second_kept,
         )
 
   module _ (ended : Scene) (works : Works self.names None (RecoversOrNone self.names (recoverable (syncs_of past))) now ended) where
-    pub quit_whole : (new : Scene) → NoneLeft self.names ended.folder → Replied self.line ended new → BothGo self other start (gone stage) (answered second (of_others self.line)) new
+    pub quit_whole : (new : Scene) → NoneLeft self.names ended.folder → Replied self.line ended new → BothGo self other start (gone stage) (with_turn second (of_others self.line)) new
     quit_whole new none replied =
-        subst (λ (s : Stage). BothGo self other start (gone s) (answered second (of_others self.line)) new) (sym is)
+        subst (λ (s : PartyStage). BothGo self other start (gone s) (with_turn second (of_others self.line)) new) (sym is)
         (both_quit self other are start now past second both_running ended works new none replied)
 
     pub quit_cut : (new : Scene) (written : List ℕ) → 0 < length self.line → Wrote written ended new → IsFirstPart written self.line → LeavesTrace ended new ⊎ NoneLeft self.names ended.folder
-        → KeepsPromise self start stage Quits new × KeepsPromise other start (answered second (of_others self.line)) NotBegun new
+        → KeepsPromise self start stage Quits new × KeepsPromise other start (with_turn second (of_others self.line)) NotBegun new
     quit_cut new written some wrote part either =
         let kept = both_quit_cut self other are start now past second both_running ended works written new some wrote part either in (
-          subst (λ (s : Stage). KeepsPromise self start s Quits new) (sym is) kept.0,
-          kept_as other start (answered second (of_others self.line)) new kept.1,
+          subst (λ (s : PartyStage). KeepsPromise self start s Quits new) (sym is) kept.0,
+          kept_as other start (with_turn second (of_others self.line)) new kept.1,
         )
 
 -- ---- the names of neither family

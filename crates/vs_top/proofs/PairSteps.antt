@@ -18,9 +18,9 @@ use Rattle.vs_safety.specs.History.{History, syncs_of}
 use Rattle.vs_safety.specs.Causes.{folder_count}
 use Rattle.vs_safety.proofs.Causes.{rose_last}
 use Rattle.vs_safety.proofs.Replies.{wrote_none}
-use Rattle.vs_tagged.specs.Tagged.{Puts}
+use Rattle.vs_tagged.specs.Tagged.{WritesTagged}
 use Rattle.vs_both.specs.Beside.{of_others}
-use Rattle.vs_both.specs.Both.{Running, answered}
+use Rattle.vs_both.specs.Both.{Running, with_turn}
 use Rattle.vs_both.proofs.Both.{both_look}
 use Rattle.vs_session.specs.declared.ending.End.{End}
 use Rattle.vs_session.specs.declared.ending.End.TheVariants as end
@@ -36,8 +36,8 @@ use Rattle.vs_top.specs.Tags.{tagged_for}
 use Rattle.vs_top.specs.Turns.{AreCounted}
 use Rattle.vs_top.specs.History.{CommandRun}
 use Rattle.vs_top.specs.PairHistory as history
-use Rattle.vs_top.specs.PairHistory.{Answered, Left, AfterQuit, OfNone, Preserved, BothFiles, MayAnswer, WasSynced, file_for, has_error, marks_in, reply_after, stage_of, state_for}
-use Rattle.vs_top.specs.PairScript.{IsTranscript, Source, Transcript, answers_of, entry}
+use Rattle.vs_top.specs.PairHistory.{Answered, Left, AfterQuit, OfNone, Preserved, BothFiles, MayAnswer, WasSynced, file_for, has_error, marks_of_both, reply_after, stage_of, state_for}
+use Rattle.vs_top.specs.PairScript.{IsTranscript, Source, Transcript, answers_of, taking}
 use Rattle.vs_top.specs.PairPromise.{HasFailed, HasRunBoth, files_in, party_for}
 use Rattle.vs_top.specs.PairTurns.{AsksEnd, AsksFor, HasCommand, IsInState, ToldPair, last_answer}
 use Rattle.vs_top.specs.declared.ending.Ending.TheVariants as ending
@@ -80,7 +80,7 @@ module _ (tells : Tells) (told : TellsRun tells) (one two : List ℕ) (old now :
   abbrev files : BothFiles
   files = files_in old one two
 
-  abbrev answers : history.Answers
+  abbrev answers : history.AnswerList
   answers = answers_of transcript
 
   -- ---- calls that only looked
@@ -106,8 +106,8 @@ module _ (tells : Tells) (told : TellsRun tells) (one two : List ℕ) (old now :
   -- ---- an answer that is no command's
 
   module _ (source : Source) (Failed : Type 0) (new : Scene) where
-    in_state_said : (reply : List ℕ) → Puts tells reply Failed now new → (session : Which)
-        → IsInState (file_for session files) (session_of session multi) (state_for session files answers) (answered (stage_of session files answers) (of_others reply)) new.folder
+    in_state_said : (reply : List ℕ) → WritesTagged tells reply Failed now new → (session : Which)
+        → IsInState (file_for session files) (session_of session multi) (state_for session files answers) (with_turn (stage_of session files answers) (of_others reply)) new.folder
     in_state_said reply puts session =
         in_state_on tells told.folder (file_for session files) (session_of session multi) (state_for session files answers) (stage_of session files answers) now.folder new.folder reply
         (stays_same tells (session_of session multi) now.folder new.folder (ap (λ (s : Scene). s.folder) puts.frame)) (here.in_state session)
@@ -115,13 +115,13 @@ module _ (tells : Tells) (told : TellsRun tells) (one two : List ℕ) (old now :
     may_none : MayAnswer files (OfNone ∷ answers)
     may_none = record { one = here.may.one; two = here.may.two; quits = (tt, here.may.quits) }
 
-    pub said_none : IsTranscript old.script (entry source OfNone ∷ transcript) → Puts tells (reply_after files answers OfNone) Failed now new → ¬ Failed
-        → ToldPair one two old new multi marks false (entry source OfNone ∷ transcript)
+    pub said_none : IsTranscript old.script (taking source OfNone ∷ transcript) → WritesTagged tells (reply_after files answers OfNone) Failed now new → ¬ Failed
+        → ToldPair one two old new multi marks false (taking source OfNone ∷ transcript)
     said_none read puts calm =
         whole_both tells told one two old now now multi marks clean transcript here source OfNone read may_none marks here.kept (carried_none one two old now multi marks clean transcript here)
         tt Failed new puts calm none_some multi false (ap not (sym (or_true (has_error files answers)))) (in_state_said (reply_after files answers OfNone) puts)
 
-    pub cut_none : IsTranscript old.script (entry source OfNone ∷ transcript) → Puts tells (reply_after files answers OfNone) Failed now new → Failed
+    pub cut_none : IsTranscript old.script (taking source OfNone ∷ transcript) → WritesTagged tells (reply_after files answers OfNone) Failed now new → Failed
         → HasRunBoth one two old new ending.OutputFault marks
     cut_none read puts failed =
         cut_both tells told one two old now now multi marks clean transcript here source OfNone read may_none marks here.kept (carried_none one two old now multi marks clean transcript here)
@@ -130,14 +130,14 @@ module _ (tells : Tells) (told : TellsRun tells) (one two : List ℕ) (old now :
     may_after : (session : Which) → MayAnswer files (AfterQuit session ∷ answers)
     may_after session = record { one = here.may.one; two = here.may.two; quits = (tt, here.may.quits) }
 
-    pub said_after : (session : Which) → IsTranscript old.script (entry source (AfterQuit session) ∷ transcript) → Puts tells (reply_after files answers (AfterQuit session)) Failed now new → ¬ Failed
-        → ToldPair one two old new multi marks false (entry source (AfterQuit session) ∷ transcript)
+    pub said_after : (session : Which) → IsTranscript old.script (taking source (AfterQuit session) ∷ transcript) → WritesTagged tells (reply_after files answers (AfterQuit session)) Failed now new → ¬ Failed
+        → ToldPair one two old new multi marks false (taking source (AfterQuit session) ∷ transcript)
     said_after session read puts calm =
         whole_both tells told one two old now now multi marks clean transcript here source (AfterQuit session) read (may_after session) marks here.kept
         (carried_after one two old now multi marks clean transcript here session) tt Failed new puts calm (ended_some session) multi false (ap not (sym (or_true (has_error files answers))))
         (in_state_said (reply_after files answers (AfterQuit session)) puts)
 
-    pub cut_after : (session : Which) → IsTranscript old.script (entry source (AfterQuit session) ∷ transcript) → Puts tells (reply_after files answers (AfterQuit session)) Failed now new → Failed
+    pub cut_after : (session : Which) → IsTranscript old.script (taking source (AfterQuit session) ∷ transcript) → WritesTagged tells (reply_after files answers (AfterQuit session)) Failed now new → Failed
         → HasRunBoth one two old new ending.OutputFault marks
     cut_after session read puts failed =
         cut_both tells told one two old now now multi marks clean transcript here source (AfterQuit session) read (may_after session) marks here.kept
@@ -145,9 +145,9 @@ module _ (tells : Tells) (told : TellsRun tells) (one two : List ℕ) (old now :
 
   -- ---- what the other session sees of an answer to one
 
-  abbrev Seen : Which → history.Answer → Type 0
+  abbrev Seen : Which → history.PairAnswer → Type 0
   Seen session answer =
-      (stage_of (other session) files (answer ∷ answers) ≡ answered (stage_of (other session) files answers) (of_others (reply_after files answers answer)))
+      (stage_of (other session) files (answer ∷ answers) ≡ with_turn (stage_of (other session) files answers) (of_others (reply_after files answers answer)))
       × (state_for (other session) files (answer ∷ answers) ≡ state_for (other session) files answers)
 
   seen_command : (session : Which) (run : CommandRun) → Seen session (Answered session run)
@@ -160,7 +160,7 @@ module _ (tells : Tells) (told : TellsRun tells) (one two : List ℕ) (old now :
   seen_last end.Quit which.One quit synced = (refl, refl)
   seen_last end.Quit which.Two quit synced = (refl, refl)
 
-  in_other : (session : Which) (answer : history.Answer) (multi' : Multi) (folder : Disk) → Seen session answer → session_of (other session) multi' ≡ session_of (other session) multi
+  in_other : (session : Which) (answer : history.PairAnswer) (multi' : Multi) (folder : Disk) → Seen session answer → session_of (other session) multi' ≡ session_of (other session) multi
       → KeepsFit tells (session_of (other session) multi) now.folder folder
       → IsInState (file_for (other session) files) (session_of (other session) multi') (state_for (other session) files (answer ∷ answers)) (stage_of (other session) files (answer ∷ answers)) folder
   in_other session answer multi' folder seen same stays =
@@ -168,7 +168,7 @@ module _ (tells : Tells) (told : TellsRun tells) (one two : List ℕ) (old now :
       let base = in_state_on tells told.folder (file_for next files) (session_of next multi) (state_for next files answers) (stage_of next files answers) now.folder folder (reply_after files answers answer) stays (here.in_state next) in
       subst (λ (s : Option Session). IsInState (file_for next files) s (state_for next files (answer ∷ answers)) (stage_of next files (answer ∷ answers)) folder) (sym same)
       (subst (λ (s : SessionState). IsInState (file_for next files) (session_of next multi) s (stage_of next files (answer ∷ answers)) folder) (sym seen.1)
-      (subst (λ (s : Rattle.vs_both.specs.Both.Stage). IsInState (file_for next files) (session_of next multi) (state_for next files answers) s folder) (sym seen.0) base))
+      (subst (λ (s : Rattle.vs_both.specs.Both.PartyStage). IsInState (file_for next files) (session_of next multi) (state_for next files answers) s folder) (sym seen.0) base))
 
   -- ---- a session that is open
 
@@ -225,7 +225,7 @@ module _ (tells : Tells) (told : TellsRun tells) (one two : List ℕ) (old now :
       may_end end.Sync synced may = record { one = here.may.one; two = here.may.two; quits = (tt, here.may.quits) }
       may_end end.Quit synced may = record { one = here.may.one; two = here.may.two; quits = (may, here.may.quits) }
 
-      marks_end : (how : End) (synced : Bool) → marks ≡ marks_in (last_answer how session quit synced ∷ answers)
+      marks_end : (how : End) (synced : Bool) → marks ≡ marks_of_both (last_answer how session quit synced ∷ answers)
       marks_end end.Sync synced = here.kept
       marks_end end.Quit synced = here.kept
 
@@ -256,9 +256,9 @@ module _ (tells : Tells) (told : TellsRun tells) (one two : List ℕ) (old now :
       line_tagged end.Sync = refl
       line_tagged end.Quit = refl
 
-      module _ (finishes : Finishes tells s now mid how true) (bytes : List ℕ) (line : bytes ≡ line_of how) (Failed : Type 0) (new : Scene) (puts : Puts tells (tagged_for session bytes) Failed mid new) where
-        puts_line : Puts tells (reply_after files answers (last_answer how session quit true)) Failed mid new
-        puts_line = subst (λ (l : List ℕ). Puts tells l Failed mid new) (ap (tagged_for session) line ∙ line_tagged how) puts
+      module _ (finishes : Finishes tells s now mid how true) (bytes : List ℕ) (line : bytes ≡ line_of how) (Failed : Type 0) (new : Scene) (puts : WritesTagged tells (tagged_for session bytes) Failed mid new) where
+        puts_line : WritesTagged tells (reply_after files answers (last_answer how session quit true)) Failed mid new
+        puts_line = subst (λ (l : List ℕ). WritesTagged tells l Failed mid new) (ap (tagged_for session) line ∙ line_tagged how) puts
 
         pub end_cut : Failed → HasRunBoth one two old new ending.OutputFault marks
         end_cut failed =
@@ -266,9 +266,9 @@ module _ (tells : Tells) (told : TellsRun tells) (one two : List ℕ) (old now :
             (was_synced how) Failed new puts_line failed
 
         pub end_whole : ¬ Failed → (multi' : Multi) → session_of session multi' ≡ None → session_of (other session) multi' ≡ session_of (other session) multi
-            → KeepsFit tells (session_of (other session) multi) now.folder mid.folder → ToldPair one two old new multi' marks clean (entry source (last_answer how session quit true) ∷ transcript)
+            → KeepsFit tells (session_of (other session) multi) now.folder mid.folder → ToldPair one two old new multi' marks clean (taking source (last_answer how session quit true) ∷ transcript)
         end_whole calm multi' gone same stays =
-            let answer : history.Answer = last_answer how session quit true in
+            let answer : history.PairAnswer = last_answer how session quit true in
             whole_both tells told one two old now mid multi marks clean transcript here source answer (asks.read true) (may_end how true asks.may) marks (marks_end how true) (carried_end how finishes)
             (was_synced how) Failed new puts_line calm (line_some how) multi' clean (errors_end how true)
             (both_cases (λ w. IsInState (file_for w files) (session_of w multi') (state_for w files (answer ∷ answers)) (stage_of w files (answer ∷ answers)) new.folder) session
@@ -307,7 +307,7 @@ module _ (tells : Tells) (told : TellsRun tells) (one two : List ℕ) (old now :
         abbrev run : CommandRun
         run = record { instruction = command; ended = step.ended }
 
-        abbrev answer : history.Answer
+        abbrev answer : history.PairAnswer
         answer = Answered session run
 
         step_own : Stepped (party_for session files).names (syncs_of running.0) (turn_of (state_for session files answers) command step.ended) now stepped
@@ -333,15 +333,15 @@ module _ (tells : Tells) (told : TellsRun tells) (one two : List ℕ) (old now :
           quits = (tt, here.may.quits);
         }
 
-        module _ (marks' : List Mark) (kept : marks' ≡ marks ++ mark ∷ []) (some : 0 < length reply.bytes) (Failed : Type 0) (new : Scene) (puts : Puts tells (tagged_for session reply.bytes) Failed stepped new) where
-          marks_step : marks' ≡ marks_in (answer ∷ answers)
-          marks_step = kept ∙ ap (λ (l : List Mark). l ++ mark ∷ []) here.kept ∙ ap (λ (m : Mark). marks_in answers ++ m ∷ []) (sym step.mark_is)
+        module _ (marks' : List Mark) (kept : marks' ≡ marks ++ mark ∷ []) (some : 0 < length reply.bytes) (Failed : Type 0) (new : Scene) (puts : WritesTagged tells (tagged_for session reply.bytes) Failed stepped new) where
+          marks_step : marks' ≡ marks_of_both (answer ∷ answers)
+          marks_step = kept ∙ ap (λ (l : List Mark). l ++ mark ∷ []) here.kept ∙ ap (λ (m : Mark). marks_of_both answers ++ m ∷ []) (sym step.mark_is)
 
           bytes_are : tagged_for session reply.bytes ≡ reply_after files answers answer
           bytes_are = ap (λ (r : Reply). tagged_for session r.bytes) step.reply_is
 
-          puts_reply : Puts tells (reply_after files answers answer) Failed stepped new
-          puts_reply = subst (λ (l : List ℕ). Puts tells l Failed stepped new) bytes_are puts
+          puts_reply : WritesTagged tells (reply_after files answers answer) Failed stepped new
+          puts_reply = subst (λ (l : List ℕ). WritesTagged tells l Failed stepped new) bytes_are puts
 
           reply_some : 0 < length (reply_after files answers answer)
           reply_some =
@@ -359,11 +359,11 @@ module _ (tells : Tells) (told : TellsRun tells) (one two : List ℕ) (old now :
               → Fits after new.folder (state_after (state_for w files answers) command step.ended) (Rattle.vs_session.specs.Session.syncs_after (state_for w files answers) command step.ended (syncs_of p))
               → IsInState (file_for w files) (Some after) (state_for w files (Answered w run ∷ answers)) (stage_of w files (Answered w run ∷ answers)) new.folder
           own_after which.One is p stage named fits =
-              subst (λ (g : Rattle.vs_both.specs.Both.Stage). IsInState (file_for which.One files) (Some after) (state_for which.One files (Answered which.One run ∷ answers))
-              (answered g (history.turn_for which.One files answers (Answered which.One run))) new.folder) (sym stage) (named, fits)
+              subst (λ (g : Rattle.vs_both.specs.Both.PartyStage). IsInState (file_for which.One files) (Some after) (state_for which.One files (Answered which.One run ∷ answers))
+              (with_turn g (history.turn_for which.One files answers (Answered which.One run))) new.folder) (sym stage) (named, fits)
           own_after which.Two is p stage named fits =
-              subst (λ (g : Rattle.vs_both.specs.Both.Stage). IsInState (file_for which.Two files) (Some after) (state_for which.Two files (Answered which.Two run ∷ answers))
-              (answered g (history.turn_for which.Two files answers (Answered which.Two run))) new.folder) (sym stage) (named, fits)
+              subst (λ (g : Rattle.vs_both.specs.Both.PartyStage). IsInState (file_for which.Two files) (Some after) (state_for which.Two files (Answered which.Two run ∷ answers))
+              (with_turn g (history.turn_for which.Two files answers (Answered which.Two run))) new.folder) (sym stage) (named, fits)
 
           pub step_whole : ¬ Failed → (clean' : Bool) → clean' ≡ (clean && (is_done mark.outcome && not reply.is_error)) → HasCommand session one two old new multi' marks' clean' transcript source command
           step_whole calm clean' cleans = record {

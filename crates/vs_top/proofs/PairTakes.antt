@@ -14,65 +14,65 @@ use Rattle.vs_machine.specs.declared.command.Mark.{Mark}
 use Rattle.vs_session.specs.declared.session.Session.{Session}
 use Rattle.vs_multi.specs.declared.multi.Multi.{Multi}
 use Rattle.vs_multi.specs.Multi.{other, session_of}
-use Rattle.vs_top.specs.PairHistory.{Answer, Answered, Left, AfterQuit, OfNone, Preserved}
-use Rattle.vs_top.specs.PairScript.{AnswersCommand, AnswersLine, AnswersOwn, AnswersSource, Comes, Entry, Line, Over, Place, Reads, ScriptEnd, SessionEnd, Source, Transcript, after_any, end_block, place_by, place_of, read_on}
-use Rattle.vs_top.specs.PairTurns.{IsPlaced, StandsAt, StaysOpen, ToldPair, feed_of}
+use Rattle.vs_top.specs.PairHistory.{PairAnswer, Answered, Left, AfterQuit, OfNone, Preserved}
+use Rattle.vs_top.specs.PairScript.{AnswersCommand, AnswersLine, AnswersOwn, AnswersSource, Comes, Taking, Line, Over, FeedPlace, Reads, ScriptEnd, SessionEnd, Source, Transcript, after_any, end_block, place_by, feed_place, read_on}
+use Rattle.vs_top.specs.PairTurns.{ArePlaced, FeedStandsAt, StaysOpen, ToldPair, feed_of}
 use Rattle.vs_top.specs.declared.pair.Sessions.{Sessions}
 use Rattle.vs_top.proofs.PairSteps.{both_cases}
 
 -- an entry with an answer, or without one
-abbrev pub item : Source → Option Answer → Entry
+abbrev pub item : Source → Option PairAnswer → Taking
 item source answer = record { source = source; answer = answer }
 
 -- ---- where each session stands
 
 -- after a line of one of them
-pub line_own : (session : Which) (whole own : List ℕ) (answer : Option Answer) (transcript : Transcript) → tag_of whole ≡ LineOf session own
-    → place_of session (item (Line whole) answer ∷ transcript) ≡ read_on own answer (place_of session transcript)
-line_own which.One whole own answer transcript tag = ap (λ (t : Tag). place_by which.One t answer (place_of which.One transcript)) tag
-line_own which.Two whole own answer transcript tag = ap (λ (t : Tag). place_by which.Two t answer (place_of which.Two transcript)) tag
+pub line_own : (session : Which) (whole own : List ℕ) (answer : Option PairAnswer) (transcript : Transcript) → tag_of whole ≡ LineOf session own
+    → feed_place session (item (Line whole) answer ∷ transcript) ≡ read_on own answer (feed_place session transcript)
+line_own which.One whole own answer transcript tag = ap (λ (t : Tag). place_by which.One t answer (feed_place which.One transcript)) tag
+line_own which.Two whole own answer transcript tag = ap (λ (t : Tag). place_by which.Two t answer (feed_place which.Two transcript)) tag
 
-pub line_other : (session : Which) (whole own : List ℕ) (answer : Option Answer) (transcript : Transcript) → tag_of whole ≡ LineOf session own
-    → place_of (other session) (item (Line whole) answer ∷ transcript) ≡ place_of (other session) transcript
-line_other which.One whole own answer transcript tag = ap (λ (t : Tag). place_by which.Two t answer (place_of which.Two transcript)) tag
-line_other which.Two whole own answer transcript tag = ap (λ (t : Tag). place_by which.One t answer (place_of which.One transcript)) tag
+pub line_other : (session : Which) (whole own : List ℕ) (answer : Option PairAnswer) (transcript : Transcript) → tag_of whole ≡ LineOf session own
+    → feed_place (other session) (item (Line whole) answer ∷ transcript) ≡ feed_place (other session) transcript
+line_other which.One whole own answer transcript tag = ap (λ (t : Tag). place_by which.Two t answer (feed_place which.Two transcript)) tag
+line_other which.Two whole own answer transcript tag = ap (λ (t : Tag). place_by which.One t answer (feed_place which.One transcript)) tag
 
 -- after a line of neither
-pub line_none : (session : Which) (whole : List ℕ) (answer : Option Answer) (transcript : Transcript) → tag_of whole ≡ LineOfNone
-    → place_of session (item (Line whole) answer ∷ transcript) ≡ place_of session transcript
-line_none session whole answer transcript tag = ap (λ (t : Tag). place_by session t answer (place_of session transcript)) tag
+pub line_none : (session : Which) (whole : List ℕ) (answer : Option PairAnswer) (transcript : Transcript) → tag_of whole ≡ LineOfNone
+    → feed_place session (item (Line whole) answer ∷ transcript) ≡ feed_place session transcript
+line_none session whole answer transcript tag = ap (λ (t : Tag). place_by session t answer (feed_place session transcript)) tag
 
 -- after the end of the script of one
-pub end_own : (session : Which) (answer : Option Answer) (transcript : Transcript) → place_of session (item (ScriptEnd session) answer ∷ transcript) ≡ end_block answer (place_of session transcript)
+pub end_own : (session : Which) (answer : Option PairAnswer) (transcript : Transcript) → feed_place session (item (ScriptEnd session) answer ∷ transcript) ≡ end_block answer (feed_place session transcript)
 end_own which.One answer transcript = refl
 end_own which.Two answer transcript = refl
 
-pub end_other : (session : Which) (answer : Option Answer) (transcript : Transcript) → place_of (other session) (item (ScriptEnd session) answer ∷ transcript) ≡ place_of (other session) transcript
+pub end_other : (session : Which) (answer : Option PairAnswer) (transcript : Transcript) → feed_place (other session) (item (ScriptEnd session) answer ∷ transcript) ≡ feed_place (other session) transcript
 end_other which.One answer transcript = refl
 end_other which.Two answer transcript = refl
 
 -- and after its own end
-pub last_own : (session : Which) (answer : Option Answer) (transcript : Transcript) → place_of session (item (SessionEnd session) answer ∷ transcript) ≡ Over
+pub last_own : (session : Which) (answer : Option PairAnswer) (transcript : Transcript) → feed_place session (item (SessionEnd session) answer ∷ transcript) ≡ Over
 last_own which.One answer transcript = refl
 last_own which.Two answer transcript = refl
 
-pub last_other : (session : Which) (answer : Option Answer) (transcript : Transcript) → place_of (other session) (item (SessionEnd session) answer ∷ transcript) ≡ place_of (other session) transcript
+pub last_other : (session : Which) (answer : Option PairAnswer) (transcript : Transcript) → feed_place (other session) (item (SessionEnd session) answer ∷ transcript) ≡ feed_place (other session) transcript
 last_other which.One answer transcript = refl
 last_other which.Two answer transcript = refl
 
 -- both stand where they do, if one does and the other is as before
-pub placed_next : (session : Which) (pair pair' : Sessions) (transcript : Transcript) (e : Entry) → IsPlaced pair transcript → place_of (other session) (e ∷ transcript) ≡ place_of (other session) transcript
+pub placed_next : (session : Which) (pair pair' : Sessions) (transcript : Transcript) (e : Taking) → ArePlaced pair transcript → feed_place (other session) (e ∷ transcript) ≡ feed_place (other session) transcript
     → session_of (other session) pair'.multi ≡ session_of (other session) pair.multi → feed_of (other session) pair' ≡ feed_of (other session) pair
-    → StandsAt (session_of session pair'.multi) (feed_of session pair') (place_of session (e ∷ transcript)) → IsPlaced pair' (e ∷ transcript)
+    → FeedStandsAt (session_of session pair'.multi) (feed_of session pair') (feed_place session (e ∷ transcript)) → ArePlaced pair' (e ∷ transcript)
 placed_next session pair pair' transcript e placed place same feeds own =
     let next : Which = other session in
-    both_cases (λ w. StandsAt (session_of w pair'.multi) (feed_of w pair') (place_of w (e ∷ transcript))) session own
-    (subst (λ (p : Place). StandsAt (session_of next pair'.multi) (feed_of next pair') p) (sym place)
-    (subst (λ (f : CommandFeed). StandsAt (session_of next pair'.multi) f (place_of next transcript)) (sym feeds)
-    (subst (λ (s : Option Session). StandsAt s (feed_of next pair) (place_of next transcript)) (sym same) (placed next))))
+    both_cases (λ w. FeedStandsAt (session_of w pair'.multi) (feed_of w pair') (feed_place w (e ∷ transcript))) session own
+    (subst (λ (p : FeedPlace). FeedStandsAt (session_of next pair'.multi) (feed_of next pair') p) (sym place)
+    (subst (λ (f : CommandFeed). FeedStandsAt (session_of next pair'.multi) f (feed_place next transcript)) (sym feeds)
+    (subst (λ (s : Option Session). FeedStandsAt s (feed_of next pair) (feed_place next transcript)) (sym same) (placed next))))
 
 -- after a command that was answered
-pub stands_after : (answer : Answer) (session : Option Session) (feed_now : CommandFeed) (reading : Reading) → StaysOpen answer session → feed.IsAt feed_now reading → StandsAt session feed_now (after_any (Some answer) (Reads reading))
+pub stands_after : (answer : PairAnswer) (session : Option Session) (feed_now : CommandFeed) (reading : Reading) → StaysOpen answer session → feed.IsAt feed_now reading → FeedStandsAt session feed_now (after_any (Some answer) (Reads reading))
 stands_after (Answered whose run) None feed_now reading stays at = absurd stays
 stands_after (Answered whose run) (Some s) feed_now reading stays at = at
 stands_after (Left whose quit) None feed_now reading stays at = tt
@@ -82,13 +82,13 @@ stands_after OfNone session feed_now reading stays at = absurd stays
 stands_after (Preserved whose synced) session feed_now reading stays at = absurd stays
 
 -- a session that has not ended reads its script
-pub reads_at : (session : Option Session) (feed_now : CommandFeed) (place : Place) → StandsAt session feed_now place → is_none session ≡ false → (reading : Reading) × (place ≡ Reads reading) × feed.IsAt feed_now reading
+pub reads_at : (session : Option Session) (feed_now : CommandFeed) (place : FeedPlace) → FeedStandsAt session feed_now place → is_none session ≡ false → (reading : Reading) × (place ≡ Reads reading) × feed.IsAt feed_now reading
 reads_at None feed_now place stands is = absurd (cc)
 reads_at (Some s) feed_now Over stands is = absurd stands
 reads_at (Some s) feed_now (Reads reading) stands is = (reading, refl, stands)
 
 -- one that has ended stands at its end
-pub over_at : (session : Option Session) (feed_now : CommandFeed) (place : Place) → StandsAt session feed_now place → is_none session ≡ true → (place ≡ Over) × ((f : CommandFeed) → StandsAt session f Over)
+pub over_at : (session : Option Session) (feed_now : CommandFeed) (place : FeedPlace) → FeedStandsAt session feed_now place → is_none session ≡ true → (place ≡ Over) × ((f : CommandFeed) → FeedStandsAt session f Over)
 over_at None feed_now Over stands is = (refl, λ f. tt)
 over_at None feed_now (Reads reading) stands is = absurd stands
 over_at (Some s) feed_now place stands is = absurd (cc)
@@ -96,10 +96,10 @@ over_at (Some s) feed_now place stands is = absurd (cc)
 -- ---- what is asked
 
 -- a line of a session that has ended, or a line that may end a command
-pub own_line : (session : Which) (whole own : List ℕ) (answer : Option Answer) (transcript : Transcript) (place : Place) → tag_of whole ≡ LineOf session own → place_of session transcript ≡ place → AnswersOwn session own place answer
+pub own_line : (session : Which) (whole own : List ℕ) (answer : Option PairAnswer) (transcript : Transcript) (place : FeedPlace) → tag_of whole ≡ LineOf session own → feed_place session transcript ≡ place → AnswersOwn session own place answer
     → AnswersSource transcript (Line whole) answer
 own_line session whole own answer transcript place tag at answers =
-    subst (λ (t : Tag). AnswersLine transcript t answer) (sym tag) (subst (λ (p : Place). AnswersOwn session own p answer) (sym at) answers)
+    subst (λ (t : Tag). AnswersLine transcript t answer) (sym tag) (subst (λ (p : FeedPlace). AnswersOwn session own p answer) (sym at) answers)
 
 pub none_line : (whole : List ℕ) (transcript : Transcript) → tag_of whole ≡ LineOfNone → AnswersSource transcript (Line whole) (Some OfNone)
 none_line whole transcript tag = subst (λ (t : Tag). AnswersLine transcript t (Some OfNone)) (sym tag) refl
@@ -114,7 +114,7 @@ ended_none None is = refl
 ended_none (Some command) is = absurd is
 
 -- the answer to a command that was ended
-pub as_ended : (session : Which) (ended : Option Instruction) (command : Instruction) (answer : Option Answer) → ended ≡ Some command → AnswersCommand session (Some command) answer → AnswersCommand session ended answer
+pub as_ended : (session : Which) (ended : Option Instruction) (command : Instruction) (answer : Option PairAnswer) → ended ≡ Some command → AnswersCommand session (Some command) answer → AnswersCommand session ended answer
 as_ended session ended command answer is answers = subst (λ (e : Option Instruction). AnswersCommand session e answer) (sym is) answers
 
 pub as_none : (session : Which) (ended : Option Instruction) → ended ≡ None → AnswersCommand session ended None

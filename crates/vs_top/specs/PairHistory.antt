@@ -11,31 +11,31 @@ use Rattle.vs_split.specs.Tags.{if_same}
 use Rattle.vs_safety.specs.History.{Open}
 use Rattle.vs_safety.specs.Turns.{Closing, NotBegun, Quits, Turn, last_turn, preserved_line, quit_line}
 use Rattle.vs_both.specs.Beside.{of_others}
-use Rattle.vs_both.specs.Both.{Stage, Running, Gone, answered}
+use Rattle.vs_both.specs.Both.{PartyStage, Running, Gone, with_turn}
 use Rattle.vs_session.specs.Session.{SessionState, accepts_quit, reply_of, sync_in, turn_of}
 use Rattle.vs_session.specs.Opened.{Opened}
 use Rattle.vs_top.specs.History.{CommandRun, Past, AreAnswered, state_of}
 use Rattle.vs_top.specs.Tags.{no_session, session_ended, tagged_for}
 
 -- one answer of a run of two sessions
-pub data Answer : Type 0 where
+pub data PairAnswer : Type 0 where
   -- to a command of a session, which ended so
-  Answered : Which → CommandRun → Answer
+  Answered : Which → CommandRun → PairAnswer
   -- to this command of a session, an accepted quit: its last line, after its swap files were removed
-  Left : Which → Instruction → Answer
+  Left : Which → Instruction → PairAnswer
   -- to a line of a session that has quit
-  AfterQuit : Which → Answer
+  AfterQuit : Which → PairAnswer
   -- to a line of neither session
-  OfNone : Answer
+  OfNone : PairAnswer
   -- the last line of a session at the script's end, after its last sync, which was acknowledged or not
-  Preserved : Which → Bool → Answer
+  Preserved : Which → Bool → PairAnswer
 
 -- the answers, the newest first
-abbrev pub Answers : Type 0
-Answers = List Answer
+abbrev pub AnswerList : Type 0
+AnswerList = List PairAnswer
 
 -- a command before those of a session, where it is one of its own
-abbrev pub with_own : Which → Answer → Past → Past
+abbrev pub with_own : Which → PairAnswer → Past → Past
 with_own session (Answered whose run) past = if_same session whose (run ∷ past) past
 with_own session (Left whose quit) past = past
 with_own session (AfterQuit whose) past = past
@@ -43,12 +43,12 @@ with_own session OfNone past = past
 with_own session (Preserved whose synced) past = past
 
 -- the commands of a session that were answered, the newest first
-abbrev pub past_of : Which → Answers → Past
+abbrev pub past_of : Which → AnswerList → Past
 past_of session [] = []
 past_of session (last ∷ earlier) = with_own session last (past_of session earlier)
 
 -- the mark of an answer, after these
-abbrev pub with_mark : Answer → List Mark → List Mark
+abbrev pub with_mark : PairAnswer → List Mark → List Mark
 with_mark (Answered whose run) marks = marks ++ run.ended.mark ∷ []
 with_mark (Left whose quit) marks = marks
 with_mark (AfterQuit whose) marks = marks
@@ -56,9 +56,9 @@ with_mark OfNone marks = marks
 with_mark (Preserved whose synced) marks = marks
 
 -- the marks of the commands of both, in the order in which they were carried out
-abbrev pub marks_in : Answers → List Mark
-marks_in [] = []
-marks_in (last ∷ earlier) = with_mark last (marks_in earlier)
+abbrev pub marks_of_both : AnswerList → List Mark
+marks_of_both [] = []
+marks_of_both (last ∷ earlier) = with_mark last (marks_of_both earlier)
 
 -- ---- the files
 
@@ -73,7 +73,7 @@ file_for which.One files = files.one
 file_for which.Two files = files.two
 
 -- the state of a session after these answers
-abbrev pub state_for : Which → BothFiles → Answers → SessionState
+abbrev pub state_for : Which → BothFiles → AnswerList → SessionState
 state_for session files answers = state_of (file_for session files).state (past_of session answers)
 
 -- ---- the output
@@ -83,7 +83,7 @@ abbrev pub opening_for : Which → BothFiles → List ℕ
 opening_for session files = let file = file_for session files in tagged_for session (opening_of file.name file.found).bytes
 
 -- an answer after these, as it is written
-abbrev pub reply_after : BothFiles → Answers → Answer → List ℕ
+abbrev pub reply_after : BothFiles → AnswerList → PairAnswer → List ℕ
 reply_after files earlier (Answered whose run) = tagged_for whose (reply_of (state_for whose files earlier) run.instruction run.ended).bytes
 reply_after files earlier (Left whose quit) = tagged_for whose quit_line
 reply_after files earlier (AfterQuit whose) = tagged_for whose session_ended
@@ -91,26 +91,26 @@ reply_after files earlier OfNone = no_session
 reply_after files earlier (Preserved whose synced) = tagged_for whose preserved_line
 
 -- what is written over two files: the opening reply of each, and these answers
-abbrev pub written_both : BothFiles → Answers → List ℕ
+abbrev pub written_both : BothFiles → AnswerList → List ℕ
 written_both files [] = opening_for which.One files ++ opening_for which.Two files
 written_both files (last ∷ earlier) = written_both files earlier ++ reply_after files earlier last
 
 -- the lines of an answer, where it is to a session
-abbrev pub lines_for : Which → BothFiles → Answers → Answer → List (List ℕ)
-lines_for session files earlier (Answered whose run) =
+abbrev pub answer_lines : Which → BothFiles → AnswerList → PairAnswer → List (List ℕ)
+answer_lines session files earlier (Answered whose run) =
     if_same session whose (lines_of (reply_of (state_for whose files earlier) run.instruction run.ended).bytes) []
-lines_for session files earlier (Left whose quit) = if_same session whose (lines_of quit_line) []
-lines_for session files earlier (AfterQuit whose) = if_same session whose (lines_of session_ended) []
-lines_for session files earlier OfNone = []
-lines_for session files earlier (Preserved whose synced) = if_same session whose (lines_of preserved_line) []
+answer_lines session files earlier (Left whose quit) = if_same session whose (lines_of quit_line) []
+answer_lines session files earlier (AfterQuit whose) = if_same session whose (lines_of session_ended) []
+answer_lines session files earlier OfNone = []
+answer_lines session files earlier (Preserved whose synced) = if_same session whose (lines_of preserved_line) []
 
 -- what a session writes: its opening reply, its answers, and the one to each line after its quit
-abbrev pub own_lines : Which → BothFiles → Answers → List (List ℕ)
+abbrev pub own_lines : Which → BothFiles → AnswerList → List (List ℕ)
 own_lines session files [] = let file = file_for session files in lines_of (opening_of file.name file.found).bytes
-own_lines session files (last ∷ earlier) = own_lines session files earlier ++ lines_for session files earlier last
+own_lines session files (last ∷ earlier) = own_lines session files earlier ++ answer_lines session files earlier last
 
 -- whether an answer after these is an error, or one to a command that did not end as Done
-abbrev pub is_error_after : BothFiles → Answers → Answer → Bool
+abbrev pub is_error_after : BothFiles → AnswerList → PairAnswer → Bool
 is_error_after files earlier (Answered whose run) =
     not (is_done run.ended.mark.outcome) || (reply_of (state_for whose files earlier) run.instruction run.ended).is_error
 is_error_after files earlier (Left whose quit) = false
@@ -119,14 +119,14 @@ is_error_after files earlier OfNone = true
 is_error_after files earlier (Preserved whose synced) = false
 
 -- whether some answer is
-abbrev pub has_error : BothFiles → Answers → Bool
+abbrev pub has_error : BothFiles → AnswerList → Bool
 has_error files [] = false
 has_error files (last ∷ earlier) = has_error files earlier || is_error_after files earlier last
 
 -- ---- what may have been answered
 
 -- A quit after these answers was accepted.
-abbrev pub QuitsAfter : BothFiles → Answers → Answer → Type 0
+abbrev pub QuitsAfter : BothFiles → AnswerList → PairAnswer → Type 0
 QuitsAfter files earlier (Answered whose run) = ⊤
 QuitsAfter files earlier (Left whose quit) = accepts_quit (state_for whose files earlier) quit ≡ true
 QuitsAfter files earlier (AfterQuit whose) = ⊤
@@ -134,18 +134,18 @@ QuitsAfter files earlier OfNone = ⊤
 QuitsAfter files earlier (Preserved whose synced) = ⊤
 
 -- Each quit among these answers was accepted.
-abbrev pub QuitsAreAccepted : BothFiles → Answers → Type 0
+abbrev pub QuitsAreAccepted : BothFiles → AnswerList → Type 0
 QuitsAreAccepted files [] = ⊤
 QuitsAreAccepted files (last ∷ earlier) = QuitsAfter files earlier last × QuitsAreAccepted files earlier
 
 -- Both sessions may have answered so: what each of them answered, it may have answered alone.
-pub record MayAnswer (files : BothFiles) (answers : Answers) : Type 0 where
+pub record MayAnswer (files : BothFiles) (answers : AnswerList) : Type 0 where
   pub one : AreAnswered files.one.state (past_of which.One answers)
   pub two : AreAnswered files.two.state (past_of which.Two answers)
   pub quits : QuitsAreAccepted files answers
 
 -- a last sync was acknowledged
-abbrev pub WasSynced : Answer → Type 0
+abbrev pub WasSynced : PairAnswer → Type 0
 WasSynced (Answered whose run) = ⊤
 WasSynced (Left whose quit) = ⊤
 WasSynced (AfterQuit whose) = ⊤
@@ -153,7 +153,7 @@ WasSynced OfNone = ⊤
 WasSynced (Preserved whose synced) = synced ≡ true
 
 -- each last sync among these answers was
-abbrev pub WereSynced : Answers → Type 0
+abbrev pub WereSynced : AnswerList → Type 0
 WereSynced [] = ⊤
 WereSynced (last ∷ earlier) = WasSynced last × WereSynced earlier
 
@@ -161,7 +161,7 @@ WereSynced (last ∷ earlier) = WasSynced last × WereSynced earlier
 
 -- The turn of an answer, as a session sees it: its own command or its last sync, with the reply as it is written. An answer of the other
 -- session, or to nobody's line, is a turn that does nothing.
-abbrev pub turn_for : Which → BothFiles → Answers → Answer → Turn
+abbrev pub turn_for : Which → BothFiles → AnswerList → PairAnswer → Turn
 turn_for session files earlier (Answered whose run) =
     let reply = reply_after files earlier (Answered whose run) in
     if_same session whose (record (turn_of (state_for whose files earlier) run.instruction run.ended) { reply = reply }) (of_others reply)
@@ -173,37 +173,38 @@ turn_for session files earlier (Preserved whose synced) =
     if_same session whose (record (last_turn (sync_in (state_for whose files earlier) synced)) { reply = reply }) (of_others reply)
 
 -- a session that has quit, with what it did before
-abbrev pub gone : Stage → Stage
+abbrev pub gone : PartyStage → PartyStage
 gone (Running past) = Gone past
 gone (Gone past) = Gone past
 
 -- where a session stands after one more answer
-abbrev pub stage_after : Which → BothFiles → Answers → Answer → Stage → Stage
-stage_after session files earlier (Answered whose run) stage = answered stage (turn_for session files earlier (Answered whose run))
-stage_after session files earlier (Left whose quit) stage = if_same session whose (gone stage) (answered stage (turn_for session files earlier (Left whose quit)))
-stage_after session files earlier (AfterQuit whose) stage = answered stage (turn_for session files earlier (AfterQuit whose))
-stage_after session files earlier OfNone stage = answered stage (turn_for session files earlier OfNone)
-stage_after session files earlier (Preserved whose synced) stage = answered stage (turn_for session files earlier (Preserved whose synced))
+abbrev pub stage_after : Which → BothFiles → AnswerList → PairAnswer → PartyStage → PartyStage
+stage_after session files earlier (Answered whose run) stage = with_turn stage (turn_for session files earlier (Answered whose run))
+stage_after session files earlier (Left whose quit) stage =
+    if_same session whose (gone stage) (with_turn stage (turn_for session files earlier (Left whose quit)))
+stage_after session files earlier (AfterQuit whose) stage = with_turn stage (turn_for session files earlier (AfterQuit whose))
+stage_after session files earlier OfNone stage = with_turn stage (turn_for session files earlier OfNone)
+stage_after session files earlier (Preserved whose synced) stage = with_turn stage (turn_for session files earlier (Preserved whose synced))
 
 -- Where a session stands before the first opening reply is whole: its run begins with its own opening reply, or with both.
-abbrev pub stage_before : Which → BothFiles → Stage
+abbrev pub stage_before : Which → BothFiles → PartyStage
 stage_before which.One files = Running (Open files.one.state.machine.text (opening_for which.One files))
 stage_before which.Two files = Running (Open files.two.state.machine.text (opening_for which.One files ++ opening_for which.Two files))
 
 -- where it stands when both sessions are open: for the first one the other's opening reply is a turn
-abbrev pub stage_opened : Which → BothFiles → Stage
-stage_opened which.One files = answered (stage_before which.One files) (of_others (opening_for which.Two files))
+abbrev pub stage_opened : Which → BothFiles → PartyStage
+stage_opened which.One files = with_turn (stage_before which.One files) (of_others (opening_for which.Two files))
 stage_opened which.Two files = stage_before which.Two files
 
 -- where it stands after these answers
-abbrev pub stage_of : Which → BothFiles → Answers → Stage
+abbrev pub stage_of : Which → BothFiles → AnswerList → PartyStage
 stage_of session files [] = stage_opened session files
 stage_of session files (last ∷ earlier) = stage_after session files earlier last (stage_of session files earlier)
 
 -- ---- an answer that was not written whole
 
 -- whether a session had begun to quit
-abbrev pub closing_under : Which → Answer → Closing
+abbrev pub closing_under : Which → PairAnswer → Closing
 closing_under session (Answered whose run) = NotBegun
 closing_under session (Left whose quit) = if_same session whose Quits NotBegun
 closing_under session (AfterQuit whose) = NotBegun
@@ -211,7 +212,7 @@ closing_under session OfNone = NotBegun
 closing_under session (Preserved whose synced) = NotBegun
 
 -- where a session stands while an answer is under way: one that quits has not quit yet
-abbrev pub stage_under : Which → BothFiles → Answers → Answer → Stage
+abbrev pub stage_under : Which → BothFiles → AnswerList → PairAnswer → PartyStage
 stage_under session files earlier (Answered whose run) = stage_of session files (Answered whose run ∷ earlier)
 stage_under session files earlier (Left whose quit) =
     if_same session whose (stage_of session files earlier) (stage_of session files (Left whose quit ∷ earlier))

@@ -19,17 +19,17 @@ use Rattle.vs_safety.specs.History.{ran_of}
 use Rattle.vs_safety.specs.Safety.{IsCrashSafeAmong}
 use Rattle.vs_safety.specs.Turns.{Closing, NotBegun, quit_line}
 use Rattle.vs_both.specs.Beside.{HasQuit, Party, others_of}
-use Rattle.vs_both.specs.Both.{Stage, Running, Gone}
+use Rattle.vs_both.specs.Both.{PartyStage, Running, Gone}
 use Rattle.vs_both.specs.Parties.{party_of}
 use Rattle.vs_session.specs.Fits.{HasSwap, Opens}
 use Rattle.vs_session.specs.Open.{PassesLimit}
 use Rattle.vs_session.specs.Opened.{Opened}
 use Rattle.vs_top.specs.Run.{TellsRun, AnswersNone, FaultHasCause, FileFits, IsBarred, KeepsSwap, counts_of, opened_file}
 use Rattle.vs_top.specs.Promise.{row}
-use Rattle.vs_top.specs.PairHistory.{Answer, Answered, Left, AfterQuit, OfNone, Preserved, Answers, BothFiles, MayAnswer, WereSynced}
-use Rattle.vs_top.specs.PairHistory.{closing_under, file_for, has_error, marks_in, opening_for, reply_after, stage_before, stage_of, stage_opened}
+use Rattle.vs_top.specs.PairHistory.{PairAnswer, Answered, Left, AfterQuit, OfNone, Preserved, AnswerList, BothFiles, MayAnswer, WereSynced}
+use Rattle.vs_top.specs.PairHistory.{closing_under, file_for, has_error, marks_of_both, opening_for, reply_after, stage_before, stage_of, stage_opened}
 use Rattle.vs_top.specs.PairHistory.{stage_under, written_both}
-use Rattle.vs_top.specs.PairScript.{IsNewest, IsTranscript, OnlyLines, SessionEnd, Transcript, answers_of, lines_then}
+use Rattle.vs_top.specs.PairScript.{IsLastTaken, IsTranscript, OnlyLines, SessionEnd, Transcript, answers_of, lines_then}
 use Rattle.vs_top.specs.Tags.{tagged_for}
 use Rattle.vs_top.specs.declared.ending.Ending.{Ending}
 use Rattle.vs_top.specs.declared.ending.Ending.TheVariants as ending
@@ -37,25 +37,25 @@ use Rattle.vs_top.specs.declared.ending.Ending.TheVariants as ending
 -- ---- what was written
 
 -- How far the output of a run came.
-pub data Extent : Type 0 where
+pub data Reach : Type 0 where
   -- the opening reply of the first session is not whole
-  BeforeOpening : Extent
+  BeforeOpening : Reach
   -- that of the second is not
-  BetweenOpenings : Extent
+  BetweenOpenings : Reach
   -- all answers are whole
-  AllWhole : Extent
+  AllWhole : Reach
   -- the last answer is not
-  LastCut : Extent
+  LastCut : Reach
   -- the last sync or the removal failed, so that its answer was not begun
-  LastFailed : Extent
+  LastFailed : Reach
 
 -- what a run took of the script, with its answers, and how far its output came
 pub record Both : Type 0 where
   pub transcript : Transcript
-  pub extent : Extent
+  pub reach : Reach
 
 -- the last line of a session was not to be written, since the last sync or the removal before it failed
-abbrev pub HasFailed : Answer → Type 0
+abbrev pub HasFailed : PairAnswer → Type 0
 HasFailed (Answered whose run) = ⊥
 HasFailed (Left whose quit) = ⊤
 HasFailed (AfterQuit whose) = ⊥
@@ -63,52 +63,52 @@ HasFailed OfNone = ⊥
 HasFailed (Preserved whose synced) = synced ≡ false
 
 -- the last answer was written in part
-abbrev pub WritesCut : BothFiles → Scene → Scene → Answers → Type 0
+abbrev pub WritesCut : BothFiles → Scene → Scene → AnswerList → Type 0
 WritesCut files old new [] = ⊥
 WritesCut files old new (last ∷ earlier) =
     (count : ℕ) × (new.output ≡ old.output ++ (written_both files earlier ++ take count (reply_after files earlier last))) × WereSynced (last ∷ earlier)
 
 -- it was not written
-abbrev pub WritesFailed : BothFiles → Scene → Scene → Answers → Type 0
+abbrev pub WritesFailed : BothFiles → Scene → Scene → AnswerList → Type 0
 WritesFailed files old new [] = ⊥
 WritesFailed files old new (last ∷ earlier) = (new.output ≡ old.output ++ written_both files earlier) × HasFailed last × WereSynced earlier
 
 -- what was written of these answers
-abbrev pub HasWritten : Extent → BothFiles → Scene → Scene → Answers → Type 0
-HasWritten BeforeOpening files old new answers =
+abbrev pub WroteBoth : Reach → BothFiles → Scene → Scene → AnswerList → Type 0
+WroteBoth BeforeOpening files old new answers =
     (answers ≡ []) × ((count : ℕ) × (new.output ≡ old.output ++ take count (opening_for which.One files)))
-HasWritten BetweenOpenings files old new answers =
+WroteBoth BetweenOpenings files old new answers =
     (answers ≡ []) × ((count : ℕ) × (new.output ≡ old.output ++ (opening_for which.One files ++ take count (opening_for which.Two files))))
-HasWritten AllWhole files old new answers = (new.output ≡ old.output ++ written_both files answers) × WereSynced answers
-HasWritten LastCut files old new answers = WritesCut files old new answers
-HasWritten LastFailed files old new answers = WritesFailed files old new answers
+WroteBoth AllWhole files old new answers = (new.output ≡ old.output ++ written_both files answers) × WereSynced answers
+WroteBoth LastCut files old new answers = WritesCut files old new answers
+WroteBoth LastFailed files old new answers = WritesFailed files old new answers
 
 -- ---- by the ending
 
 -- the script came to its end or both sessions have quit, all was answered, and both sessions have ended
 pub record CameToEndBoth (errors : Bool) (files : BothFiles) (did : Both) : Type 0 where
-  pub ended : IsNewest (SessionEnd which.Two) did.transcript
-  pub whole : did.extent ≡ AllWhole
+  pub ended : IsLastTaken (SessionEnd which.Two) did.transcript
+  pub whole : did.reach ≡ AllWhole
   pub errors_are : has_error files (answers_of did.transcript) ≡ errors
 
 -- the lines that are whole in these first bytes of the script were answered
 pub record AnswersWhole (taken : List ℕ) (did : Both) : Type 0 where
   pub lines : lines_then did.transcript [] ≡ whole_lines taken
   pub only : OnlyLines did.transcript
-  pub whole : did.extent ≡ AllWhole
+  pub whole : did.reach ≡ AllWhole
 
 -- the files were not opened, or not both
 pub record OpensNone (old new : Scene) (marks : List Mark) (did : Both) : Type 0 where
   pub none : AnswersNone old new marks
-  pub did_none : did ≡ record { transcript = []; extent = BeforeOpening }
+  pub did_none : did ≡ record { transcript = []; reach = BeforeOpening }
 
 -- a reply is not whole
-abbrev pub IsCut : Extent → Type 0
-IsCut BeforeOpening = ⊤
-IsCut BetweenOpenings = ⊤
-IsCut AllWhole = ⊥
-IsCut LastCut = ⊤
-IsCut LastFailed = ⊥
+abbrev pub CutsReply : Reach → Type 0
+CutsReply BeforeOpening = ⊤
+CutsReply BetweenOpenings = ⊤
+CutsReply AllWhole = ⊥
+CutsReply LastCut = ⊤
+CutsReply LastFailed = ⊥
 
 -- ---- one row an ending
 
@@ -161,11 +161,11 @@ script_fault_both = record (after_both (λ files old new marks did. (taken : Lis
 
 -- a write of the output failed
 abbrev pub output_fault_both : RowBoth
-output_fault_both = record (after_both (λ files old new marks did. IsCut did.extent)) { last = RoseLast output_count }
+output_fault_both = record (after_both (λ files old new marks did. CutsReply did.reach)) { last = RoseLast output_count }
 
 -- a call on the folder failed, of the openings or of the end of a session
 abbrev pub folder_fault_both : RowBoth
-folder_fault_both = record (after_both (λ files old new marks did. OpensNone old new marks did ⊎ (did.extent ≡ LastFailed))) {
+folder_fault_both = record (after_both (λ files old new marks did. OpensNone old new marks did ⊎ (did.reach ≡ LastFailed))) {
   last = RoseLast folder_count;
   left = λ file old new. Opens file.name old.folder new.folder ⊎ IsJustOpened file new.folder;
   files = λ one two. ⊤;
@@ -173,7 +173,7 @@ folder_fault_both = record (after_both (λ files old new marks did. OpensNone ol
 
 -- there was no memory: to open the files or for the script, or for a command
 abbrev pub no_memory_both : RowBoth
-no_memory_both = record (after_both (λ files old new marks did. OpensNone old new marks did ⊎ (did.extent ≡ AllWhole))) {
+no_memory_both = record (after_both (λ files old new marks did. OpensNone old new marks did ⊎ (did.reach ≡ AllWhole))) {
   left = λ file old new. Looks old new ⊎ IsJustOpened file new.folder;
   files = λ one two. ⊤;
 }
@@ -208,7 +208,7 @@ abbrev pub party_for : Which → BothFiles → Party
 party_for session files = party_of (file_for session files).name (tagged_for session quit_line)
 
 -- where a session stands at the end of the run
-abbrev pub stage_at : Which → BothFiles → Extent → Answers → Stage
+abbrev pub stage_at : Which → BothFiles → Reach → AnswerList → PartyStage
 stage_at session files BeforeOpening answers = stage_before session files
 stage_at session files BetweenOpenings answers = stage_opened session files
 stage_at session files AllWhole answers = stage_of session files answers
@@ -218,7 +218,7 @@ stage_at session files LastFailed [] = stage_opened session files
 stage_at session files LastFailed (last ∷ earlier) = stage_under session files earlier last
 
 -- whether it had begun to quit
-abbrev pub closing_at : Which → Extent → Answers → Closing
+abbrev pub closing_at : Which → Reach → AnswerList → Closing
 closing_at session BeforeOpening answers = NotBegun
 closing_at session BetweenOpenings answers = NotBegun
 closing_at session AllWhole answers = NotBegun
@@ -229,15 +229,15 @@ closing_at session LastFailed (last ∷ earlier) = closing_under session last
 
 -- What is promised of a session at this stage: that of a run of it alone, on the names of its family; and of one that has quit, that its
 -- promise was kept to its last line, that it left no swap file, and that the names of its family stay since then.
-abbrev pub KeepsPromise : Party → Scene → Stage → Closing → Scene → Type 0
+abbrev pub KeepsPromise : Party → Scene → PartyStage → Closing → Scene → Type 0
 KeepsPromise party old (Running past) closing new = IsCrashSafeAmong (others_of party) party.names party.line old new (ran_of past closing)
 KeepsPromise party old (Gone past) closing new = HasQuit party old past new
 
 -- the promise of a session of this run
 abbrev pub IsSafeBeside : Which → BothFiles → Scene → Scene → Both → Type 0
 IsSafeBeside session files old new did =
-    KeepsPromise (party_for session files) old (stage_at session files did.extent (answers_of did.transcript))
-    (closing_at session did.extent (answers_of did.transcript)) new
+    KeepsPromise (party_for session files) old (stage_at session files did.reach (answers_of did.transcript))
+    (closing_at session did.reach (answers_of did.transcript)) new
 
 -- these names are of neither family
 abbrev pub AreOfNeither : List ℕ → List ℕ → (Name → Bool) → Type 0
@@ -284,14 +284,14 @@ pub record HasRunBoth (one two : List ℕ) (old new : Scene) (end : Ending) (mar
   pub did : Both
   pub read : IsTranscript old.script did.transcript
   pub may : MayAnswer (files_in old one two) (answers_of did.transcript)
-  pub kept : marks ≡ marks_in (answers_of did.transcript)
-  pub wrote : HasWritten did.extent (files_in old one two) old new (answers_of did.transcript)
+  pub kept : marks ≡ marks_of_both (answers_of did.transcript)
+  pub wrote : WroteBoth did.reach (files_in old one two) old new (answers_of did.transcript)
   pub ends : (row_both end).answered (files_in old one two) old new marks did
   pub first : ¬ EitherHasSwap one two old.folder → IsSafeBeside which.One (files_in old one two) old new did
   pub second : ¬ EitherHasSwap one two old.folder → IsSafeBeside which.Two (files_in old one two) old new did
   pub others : LeavesOthers one two old new
   pub failed : (row_both end).last old new
-  pub left : did.extent ≡ BeforeOpening → (row_both end).left (opened_file old one) old new
+  pub left : did.reach ≡ BeforeOpening → (row_both end).left (opened_file old one) old new
 
 -- What holds of it over any host.
 pub record EndsPair (tells : Tells) (one two : List ℕ) (old new : Scene) (end : Ending) (marks : List Mark) : Type 0 where

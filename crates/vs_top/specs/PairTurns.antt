@@ -1,4 +1,4 @@
--- What is known of a run of two sessions after its files were opened, between two entries of its transcript.
+-- What is known of a run of two sessions after its files were opened, before and after each line or end that it takes.
 use Rattle.std.specs.Prelude.{IsErr, string_bytes}
 use Rattle.std.specs.declared.result.Result.{Result}
 use Rattle.std.specs.Prelude.{ℕ, Bool, true, not, List, [], ◌∷◌, ◌≡◌, ◌⊎◌, ◌<◌, ◌≤◌, ◌+◌, ◌^◌, ◌++◌, ⊤, All, length, IsTrue, IfSome, Option, Some, None}
@@ -15,8 +15,8 @@ use Rattle.vs_family.specs.declared.which.Which.{Which}
 use Rattle.vs_family.specs.declared.which.Which.TheVariants as which
 use Rattle.vs_safety.specs.Causes.{IsCounted, output_count}
 use Rattle.vs_safety.specs.History.{HasBegunAmong, syncs_of}
-use Rattle.vs_both.specs.Beside.{AreApart, AreBeside, others_of}
-use Rattle.vs_both.specs.Both.{Stage, Running, Gone, BothGo}
+use Rattle.vs_both.specs.Beside.{AreSetApart, AreBeside, others_of}
+use Rattle.vs_both.specs.Both.{PartyStage, Running, Gone, BothGo}
 use Rattle.vs_session.specs.declared.ending.End.{End}
 use Rattle.vs_session.specs.declared.ending.End.TheVariants as end
 use Rattle.vs_session.specs.declared.session.Session.{Session}
@@ -27,12 +27,13 @@ use Rattle.vs_multi.specs.declared.multi.Multi.{Multi}
 use Rattle.vs_multi.specs.Multi.{FitsBoth, session_of}
 use Rattle.vs_multi.specs.Opening.{BothStandOpen}
 use Rattle.vs_top.specs.Run.{TellsRun, FaultHasCause, OnlyFolder, counts_of}
-use Rattle.vs_tagged.specs.Tagged.{Puts}
+use Rattle.vs_tagged.specs.Tagged.{WritesTagged}
 use Rattle.vs_top.specs.Tags.{tagged_for}
 use Rattle.vs_top.specs.Turns.{AreCounted, text_at}
-use Rattle.vs_top.specs.PairHistory.{Answer, Answered, Left, AfterQuit, OfNone, Preserved, MayAnswer, WereSynced, file_for, has_error, marks_in, stage_of}
-use Rattle.vs_top.specs.PairHistory.{state_for, written_both}
-use Rattle.vs_top.specs.PairScript.{AnswersCommand, Comes, IsNewest, IsTranscript, Place, Reads, Over, ScriptEnd, SessionEnd, Source, Transcript, answers_of, entry, place_of}
+use Rattle.vs_top.specs.PairHistory.{PairAnswer, Answered, Left, AfterQuit, OfNone, Preserved, MayAnswer, WereSynced, file_for, has_error}
+use Rattle.vs_top.specs.PairHistory.{marks_of_both, stage_of, state_for, written_both}
+use Rattle.vs_top.specs.PairScript.{AnswersCommand, Comes, IsLastTaken, IsTranscript, FeedPlace, Reads, Over, ScriptEnd, SessionEnd, Source}
+use Rattle.vs_top.specs.PairScript.{Transcript, answers_of, feed_place, taking}
 use Rattle.vs_top.specs.PairPromise.{BothFit, EitherHasSwap, IsTimedBoth, LeavesOthers, files_in, party_for}
 use Rattle.vs_top.specs.declared.ending.Ending.{Ending}
 use Rattle.vs_top.specs.declared.pair.Sessions.{Sessions}
@@ -45,8 +46,8 @@ one_ended None = 1
 one_ended (Some session) = 0
 
 -- how many sessions have ended
-abbrev pub ended_of : Multi → ℕ
-ended_of multi = one_ended multi.one + one_ended multi.two
+abbrev pub sessions_ended : Multi → ℕ
+sessions_ended multi = one_ended multi.one + one_ended multi.two
 
 -- The files were within their limits and had no swap files, but for commands that were answered so no call failed, and accepted quits took
 -- at most so many answers of the clock.
@@ -63,7 +64,7 @@ abbrev pub TakesMore : ℕ → Option Session → Type 0
 TakesMore more session = IfSome session (λ s. FitsUndo s × (generation_of s + more < 2 ^ 63))
 
 -- Both sessions take so many commands more, and their feeds stand in their scripts.
-pub record IsUsable (tells : Tells) (pair : Sessions) (more : ℕ) (now : Scene) : Type 0 where
+pub record AreUsable (tells : Tells) (pair : Sessions) (more : ℕ) (now : Scene) : Type 0 where
   pub first : TakesMore more pair.multi.one
   pub second : TakesMore more pair.multi.two
   pub clock : IsTrue tells.clock → length now.answers + more < 2 ^ 63
@@ -74,19 +75,19 @@ pub record IsUsable (tells : Tells) (pair : Sessions) (more : ℕ) (now : Scene)
 -- ---- over a host that tells
 
 -- a session that has not ended has this file, is in this state, and fits the folder after the syncs of its stage
-abbrev pub IsInState : Opened → Option Session → SessionState → Stage → Disk → Type 0
+abbrev pub IsInState : Opened → Option Session → SessionState → PartyStage → Disk → Type 0
 IsInState file None state stage folder = ⊤
 IsInState file (Some session) state (Running past) folder =
     (names_of session ≡ names_of_file file.name) × Fits session folder state (syncs_of past)
 IsInState file (Some session) state (Gone past) folder = ⊥
 
--- All of these entries are answered, and the run waits for the next one.
+-- All of these are answered, and the run waits for what it takes next.
 pub record ToldPair (one two : List ℕ) (old now : Scene) (multi : Multi) (marks : List Mark) (clean : Bool) (transcript : Transcript) : Type 0 where
   pub beside : AreBeside (party_for which.One (files_in old one two)) (party_for which.Two (files_in old one two))
   pub settled : old.folder.pending ≡ []
   pub read : IsTranscript old.script transcript
   pub may : MayAnswer (files_in old one two) (answers_of transcript)
-  pub kept : marks ≡ marks_in (answers_of transcript)
+  pub kept : marks ≡ marks_of_both (answers_of transcript)
   pub synced : WereSynced (answers_of transcript)
   pub errors : clean ≡ not (has_error (files_in old one two) (answers_of transcript))
   pub output : now.output ≡ old.output ++ written_both (files_in old one two) (answers_of transcript)
@@ -100,11 +101,11 @@ pub record ToldPair (one two : List ℕ) (old now : Scene) (multi : Multi) (mark
 -- ---- the places in the script
 
 -- a session has ended, or its feed stands at its place
-abbrev pub StandsAt : Option Session → CommandFeed → Place → Type 0
-StandsAt None own Over = ⊤
-StandsAt None own (Reads reading) = ⊥
-StandsAt (Some session) own Over = ⊥
-StandsAt (Some session) own (Reads reading) = feed.IsAt own reading
+abbrev pub FeedStandsAt : Option Session → CommandFeed → FeedPlace → Type 0
+FeedStandsAt None own Over = ⊤
+FeedStandsAt None own (Reads reading) = ⊥
+FeedStandsAt (Some session) own Over = ⊥
+FeedStandsAt (Some session) own (Reads reading) = feed.IsAt own reading
 
 -- the feed of a session
 abbrev pub feed_of : Which → Sessions → CommandFeed
@@ -112,25 +113,25 @@ feed_of which.One pair = pair.one
 feed_of which.Two pair = pair.two
 
 -- So it is for both.
-abbrev pub IsPlaced : Sessions → Transcript → Type 0
-IsPlaced pair transcript = (session : Which) → StandsAt (session_of session pair.multi) (feed_of session pair) (place_of session transcript)
+abbrev pub ArePlaced : Sessions → Transcript → Type 0
+ArePlaced pair transcript = (session : Which) → FeedStandsAt (session_of session pair.multi) (feed_of session pair) (feed_place session transcript)
 
--- one more entry is answered, and the run waits for the next one
+-- one more is answered, and the run waits for the next one
 abbrev pub HasNext : List ℕ → List ℕ → Scene → Scene → Sessions → List Mark → Transcript → Source → Type 0
 HasNext one two old now pair marks transcript source =
-    (answer : Option Answer) × IsPlaced pair (record { source = source; answer = answer } ∷ transcript)
+    (answer : Option PairAnswer) × ArePlaced pair (record { source = source; answer = answer } ∷ transcript)
     × ToldPair one two old now pair.multi marks pair.clean (record { source = source; answer = answer } ∷ transcript)
 
 -- ---- a command
 
--- the next entry has a command of this session, whatever is answered to it
+-- what is taken next has a command of this session, whatever is answered to it
 abbrev pub AsksFor : Which → List ℕ → Transcript → Source → Instruction → Type 0
 AsksFor session script transcript source command =
-    (answer : Answer) → AnswersCommand session (Some command) (Some answer)
-    → IsTranscript script (entry source answer ∷ transcript)
+    (answer : PairAnswer) → AnswersCommand session (Some command) (Some answer)
+    → IsTranscript script (taking source answer ∷ transcript)
 
 -- a session goes on after an answer to its command, or has ended
-abbrev pub StaysOpen : Answer → Option Session → Type 0
+abbrev pub StaysOpen : PairAnswer → Option Session → Type 0
 StaysOpen (Answered whose run) None = ⊥
 StaysOpen (Answered whose run) (Some session) = ⊤
 StaysOpen (Left whose quit) None = ⊤
@@ -139,18 +140,18 @@ StaysOpen (AfterQuit whose) session = ⊥
 StaysOpen OfNone session = ⊥
 StaysOpen (Preserved whose synced) session = ⊥
 
--- The command of the next entry is answered.
+-- The command of what is taken next is answered.
 pub record HasCommand (session : Which) (one two : List ℕ) (old now : Scene) (multi : Multi) (marks : List Mark) (clean : Bool)
     (transcript : Transcript) (source : Source) (command : Instruction) : Type 0 where
-  pub answer : Answer
+  pub answer : PairAnswer
   pub answers : AnswersCommand session (Some command) (Some answer)
   pub stays : StaysOpen answer (session_of session multi)
-  pub told : ToldPair one two old now multi marks clean (entry source answer ∷ transcript)
+  pub told : ToldPair one two old now multi marks clean (taking source answer ∷ transcript)
 
 -- ---- the end of a session
 
 -- the answer with which a session ends
-abbrev pub last_answer : End → Which → Instruction → Bool → Answer
+abbrev pub last_answer : End → Which → Instruction → Bool → PairAnswer
 last_answer end.Sync session quit synced = Preserved session synced
 last_answer end.Quit session quit synced = Left session quit
 
@@ -159,24 +160,24 @@ abbrev pub MayEnd : End → SessionState → Instruction → Type 0
 MayEnd end.Sync state quit = ⊤
 MayEnd end.Quit state quit = accepts_quit state quit ≡ true
 
--- The next entry is the end of a session.
+-- What is taken next is the end of a session.
 pub record AsksEnd (session : Which) (how : End) (script : List ℕ) (transcript : Transcript) (source : Source) (state : SessionState)
     (quit : Instruction) : Type 0 where
   pub may : MayEnd how state quit
-  pub read : (synced : Bool) → IsTranscript script (entry source (last_answer how session quit synced) ∷ transcript)
+  pub read : (synced : Bool) → IsTranscript script (taking source (last_answer how session quit synced) ∷ transcript)
 
 -- ---- the whole course
 
 -- Of the script all was taken that is to be taken, and the run waits for its end.
-abbrev pub HasTaken : List ℕ → List ℕ → Scene → Scene → Sessions → List Mark → Type 0
-HasTaken one two old now pair marks =
-    (transcript : Transcript) × Comes old.script transcript (ScriptEnd which.One) × IsPlaced pair transcript
+abbrev pub TookLines : List ℕ → List ℕ → Scene → Scene → Sessions → List Mark → Type 0
+TookLines one two old now pair marks =
+    (transcript : Transcript) × Comes old.script transcript (ScriptEnd which.One) × ArePlaced pair transcript
     × ToldPair one two old now pair.multi marks pair.clean transcript
 
 -- both sessions have ended
-abbrev pub HasEnded : List ℕ → List ℕ → Scene → Scene → Sessions → List Mark → Type 0
-HasEnded one two old now pair marks =
-    (transcript : Transcript) × IsNewest (SessionEnd which.Two) transcript × ToldPair one two old now pair.multi marks pair.clean transcript
+abbrev pub EndedBoth : List ℕ → List ℕ → Scene → Scene → Sessions → List Mark → Type 0
+EndedBoth one two old now pair marks =
+    (transcript : Transcript) × IsLastTaken (SessionEnd which.Two) transcript × ToldPair one two old now pair.multi marks pair.clean transcript
 
 -- the opening reply of a session, as it is written
 abbrev pub greeting_of : Which → Option Session → List ℕ
@@ -186,14 +187,15 @@ greeting_of session (Some opened) = tagged_for session (opening_of (string_bytes
 -- the opening replies were written, that of the first session first
 abbrev pub Greets : Tells → Multi → Result (Unit {0}) Ending → Scene → Scene → Type 0
 Greets tells multi result old new =
-    (IsErr result × Puts tells (greeting_of which.One multi.one) (Unit {0}) old new)
-    ⊎ ((mid : Scene) × Puts tells (greeting_of which.One multi.one) ⊥ old mid × Puts tells (greeting_of which.Two multi.two) (IsErr result) mid new)
+    (IsErr result × WritesTagged tells (greeting_of which.One multi.one) (Unit {0}) old new)
+    ⊎ ((mid : Scene) × WritesTagged tells (greeting_of which.One multi.one) ⊥ old mid
+    × WritesTagged tells (greeting_of which.Two multi.two) (IsErr result) mid new)
 
 -- Both files were opened, and nothing was written, over a host that tells.
 pub record ToldOpenPair (one two : List ℕ) (old now : Scene) : Type 0 where
   pub beside : AreBeside (party_for which.One (files_in old one two)) (party_for which.Two (files_in old one two))
   pub settled : old.folder.pending ≡ []
-  pub apart : AreApart (party_for which.One (files_in old one two)) (party_for which.Two (files_in old one two)) now.folder
+  pub apart : AreSetApart (party_for which.One (files_in old one two)) (party_for which.Two (files_in old one two)) now.folder
   pub first : let party = party_for which.One (files_in old one two) in
       HasBegunAmong (others_of party) party.names (text_at old one) old now
   pub second : let party = party_for which.Two (files_in old one two) in

@@ -9,7 +9,7 @@ ghost use Rattle.vs_tagged.specs.Tagged.{lines_under};
 ghost use Rattle.vs_modes.specs.Recover.{remains_in};
 ghost use Rattle.vs_top.specs.Due.{IsOnlyDue, IsSpared};
 ghost use Rattle.vs_top.specs.Forms.{Performs};
-ghost use Rattle.vs_top.specs.PairHistory.{Answers, BothFiles, own_lines, written_both};
+ghost use Rattle.vs_top.specs.PairHistory.{AnswerList, BothFiles, own_lines, written_both};
 ghost use Rattle.vs_top.specs.PairPromise.{AllWhole, HasRunBoth, files_in};
 ghost use Rattle.vs_top.specs.PairScript.{answers_of};
 ghost use Rattle.vs_top.specs.Promise.{RunsEdit, RunsStress};
@@ -42,11 +42,11 @@ pub fn stress_through<H: Host>()
 /// What a `pair` writes for a session is read back from its output under the prefix of that session, and nothing else: its opening reply,
 /// its answers, and the one to each of its lines after its quit.
 pub fn pair_output()
-    ensures answers { (session : Which) (files : BothFiles) (answers : Answers) (rest : List ℕ)
+    ensures answers { (session : Which) (files : BothFiles) (answers : AnswerList) (rest : List ℕ)
         → lines_under (prefix_of session) (lines_of (written_both files answers ++ rest))
         ≡ own_lines session files answers ++ lines_under (prefix_of session) (lines_of rest) }
     ensures run { (session : Which) (one two : List ℕ) (old new : Scene) (end : Ending) (marks : List Mark) (ran : HasRunBoth one two old new end marks)
-        → old.output ≡ [] → ran.did.extent ≡ AllWhole
+        → old.output ≡ [] → ran.did.reach ≡ AllWhole
         → lines_under (prefix_of session) (lines_of new.output) ≡ own_lines session (files_in old one two) (answers_of ran.did.transcript) }
 {}
 

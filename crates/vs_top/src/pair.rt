@@ -9,15 +9,15 @@ ghost use Rattle.vs_family.specs.Family.{clash};
 ghost use Rattle.vs_script.specs.Ahead.{MeanSame, script_limit};
 ghost use Rattle.vs_script.specs.Feed.{Between, IsAt, IsEnded, IsReady, Reading, ended_last, takes};
 ghost use Rattle.vs_split.specs.Tags.{LineOf, tag_of};
-ghost use Rattle.vs_tagged.specs.Tagged.{Puts, tagged};
+ghost use Rattle.vs_tagged.specs.Tagged.{WritesTagged, tagged};
 ghost use Rattle.vs_multi.specs.Multi.{FitsBoth, other, session_of};
 ghost use Rattle.vs_multi.specs.Opening.{BothStandOpen};
 ghost use Rattle.vs_top.specs.Run.{TellsRun};
 ghost use Rattle.vs_top.specs.Ending.{ending_in};
 ghost use Rattle.vs_top.specs.PairHistory.{state_for};
-ghost use Rattle.vs_top.specs.PairScript.{Comes, Line, ScriptEnd, SessionEnd, Source, Transcript, answers_of, entry};
+ghost use Rattle.vs_top.specs.PairScript.{Comes, Line, ScriptEnd, SessionEnd, Source, Transcript, answers_of, taking};
 ghost use Rattle.vs_top.specs.PairPromise.{EndsPair, HasRunBoth, RunsPair, files_in};
-ghost use Rattle.vs_top.specs.PairTurns.{AsksEnd, AsksFor, Greets, HasCommand, HasEnded, HasNext, HasTaken, IsPlaced, IsUsable, KeepsPair, OpensPair, ToldPair, ended_of, feed_of, last_answer};
+ghost use Rattle.vs_top.specs.PairTurns.{AsksEnd, AsksFor, Greets, HasCommand, EndedBoth, HasNext, TookLines, ArePlaced, AreUsable, KeepsPair, OpensPair, ToldPair, sessions_ended, feed_of, last_answer};
 
 use crate::edit::{ending_of, is_clean, keep, last_line};
 use crate::ending::Ending;
@@ -85,8 +85,8 @@ impl Sessions {
     // Ends a session, and writes its last line.
     fn close<H: Host>(&mut self, host: &mut H, which: Which, how: End) -> Result<(), Ending>
         requires open { is_none (session_of which self.old.multi) ≡ false }
-        requires usable { IsUsable H.tells self.old 0 (H.scene host.old) }
-        ensures usable { (more : ℕ) → IsUsable H.tells self.old more (H.scene host.old) → IsUsable H.tells self.new more (H.scene host.new) }
+        requires usable { AreUsable H.tells self.old 0 (H.scene host.old) }
+        ensures usable { (more : ℕ) → AreUsable H.tells self.old more (H.scene host.old) → AreUsable H.tells self.new more (H.scene host.new) }
         ensures gone { session_of which self.new.multi ≡ None }
         ensures others { session_of (other which) self.new.multi ≡ session_of (other which) self.old.multi }
         ensures same { (self.new.one ≡ self.old.one) × (self.new.two ≡ self.old.two) × (self.new.clean ≡ self.old.clean) }
@@ -100,7 +100,7 @@ impl Sessions {
             → ToldPair one two old (H.scene host.old) self.old.multi marks self.old.clean transcript
             → AsksEnd which how old.script transcript source (state_for which (files_in old one two) (answers_of transcript)) quit
             → MatchResult result
-            (λ _. ToldPair one two old (H.scene host.new) self.new.multi marks self.new.clean (entry source (last_answer how which quit true) ∷ transcript))
+            (λ _. ToldPair one two old (H.scene host.new) self.new.multi marks self.new.clean (taking source (last_answer how which quit true) ∷ transcript))
             (λ ending. HasRunBoth one two old (H.scene host.new) ending marks) }
     {
         match self.multi.finish(host, which, how) {
@@ -120,13 +120,13 @@ impl Sessions {
     ) -> Result<(), Ending>
         requires open { is_none (session_of which self.old.multi) ≡ false }
         requires form { IsFormed request.now }
-        requires usable { IsUsable H.tells self.old 1 (H.scene host.old) }
-        ensures usable { (more : ℕ) → IsUsable H.tells self.old (more + 1) (H.scene host.old) → IsUsable H.tells self.new more (H.scene host.new) }
+        requires usable { AreUsable H.tells self.old 1 (H.scene host.old) }
+        ensures usable { (more : ℕ) → AreUsable H.tells self.old (more + 1) (H.scene host.old) → AreUsable H.tells self.new more (H.scene host.new) }
         ensures others { session_of (other which) self.new.multi ≡ session_of (other which) self.old.multi }
         ensures same { (self.new.one ≡ self.old.one) × (self.new.two ≡ self.old.two) }
         ensures script { (H.scene host.new).script ≡ (H.scene host.old).script }
-        ensures keeps { (one two : List ℕ) (old : Scene) → KeepsPair H.tells one two old (H.scene host.old) (ended_of self.old.multi) marks.old.items
-            → MatchResult result (λ _. KeepsPair H.tells one two old (H.scene host.new) (ended_of self.new.multi) marks.new.items)
+        ensures keeps { (one two : List ℕ) (old : Scene) → KeepsPair H.tells one two old (H.scene host.old) (sessions_ended self.old.multi) marks.old.items
+            → MatchResult result (λ _. KeepsPair H.tells one two old (H.scene host.new) (sessions_ended self.new.multi) marks.new.items)
             (λ ending. EndsPair H.tells one two old (H.scene host.new) ending marks.new.items) }
         ensures told { TellsRun H.tells → (one two : List ℕ) (old : Scene) (transcript : Transcript) (source : Source) (command : Instruction)
             → ToldPair one two old (H.scene host.old) self.old.multi marks.old.items self.old.clean transcript → IsRequest request.now command
@@ -150,7 +150,7 @@ impl Sessions {
     // Answers a line that is no session's, or that of a session that has ended.
     fn refuse<O: Out>(&mut self, host: &mut O, prefix: &[u8], line: &[u8]) -> Result<(), Ending>
         ensures clean { self.new ≡ record self.old { clean = false } }
-        ensures puts { Puts O.tells (tagged prefix.now line.now) (IsErr result) (O.scene host.old) (O.scene host.new) }
+        ensures puts { WritesTagged O.tells (tagged prefix.now line.now) (IsErr result) (O.scene host.old) (O.scene host.new) }
         ensures out { IfErr result (λ ending. ending ≡ Ending.OutputFault) }
     {
         self.clean = false;
@@ -167,13 +167,13 @@ impl Sessions {
         line: &[u8],
     ) -> Result<(), Ending>
         requires line { text.IsLine line.now }
-        requires usable { IsUsable H.tells self.old 1 (H.scene host.old) }
-        ensures usable { (more : ℕ) → IsUsable H.tells self.old (more + 1) (H.scene host.old) → IsUsable H.tells self.new more (H.scene host.new) }
+        requires usable { AreUsable H.tells self.old 1 (H.scene host.old) }
+        ensures usable { (more : ℕ) → AreUsable H.tells self.old (more + 1) (H.scene host.old) → AreUsable H.tells self.new more (H.scene host.new) }
         ensures script { (H.scene host.new).script ≡ (H.scene host.old).script }
-        ensures keeps { (one two : List ℕ) (old : Scene) → KeepsPair H.tells one two old (H.scene host.old) (ended_of self.old.multi) marks.old.items
-            → MatchResult result (λ _. KeepsPair H.tells one two old (H.scene host.new) (ended_of self.new.multi) marks.new.items)
+        ensures keeps { (one two : List ℕ) (old : Scene) → KeepsPair H.tells one two old (H.scene host.old) (sessions_ended self.old.multi) marks.old.items
+            → MatchResult result (λ _. KeepsPair H.tells one two old (H.scene host.new) (sessions_ended self.new.multi) marks.new.items)
             (λ ending. EndsPair H.tells one two old (H.scene host.new) ending marks.new.items) }
-        ensures told { TellsRun H.tells → (one two : List ℕ) (old : Scene) (transcript : Transcript) (whole own : List ℕ) → IsPlaced self.old transcript
+        ensures told { TellsRun H.tells → (one two : List ℕ) (old : Scene) (transcript : Transcript) (whole own : List ℕ) → ArePlaced self.old transcript
             → ToldPair one two old (H.scene host.old) self.old.multi marks.old.items self.old.clean transcript → Comes old.script transcript (Line whole)
             → tag_of whole ≡ LineOf which own → MeanSame line.now own
             → MatchResult result (λ _. HasNext one two old (H.scene host.new) self.new marks.new.items transcript (Line whole))
@@ -197,13 +197,13 @@ impl Sessions {
         line: &[u8],
     ) -> Result<(), Ending>
         requires line { text.IsLine line.now }
-        requires usable { IsUsable H.tells self.old 1 (H.scene host.old) }
-        ensures usable { (more : ℕ) → IsUsable H.tells self.old (more + 1) (H.scene host.old) → IsUsable H.tells self.new more (H.scene host.new) }
+        requires usable { AreUsable H.tells self.old 1 (H.scene host.old) }
+        ensures usable { (more : ℕ) → AreUsable H.tells self.old (more + 1) (H.scene host.old) → AreUsable H.tells self.new more (H.scene host.new) }
         ensures script { (H.scene host.new).script ≡ (H.scene host.old).script }
-        ensures keeps { (one two : List ℕ) (old : Scene) → KeepsPair H.tells one two old (H.scene host.old) (ended_of self.old.multi) marks.old.items
-            → MatchResult result (λ _. KeepsPair H.tells one two old (H.scene host.new) (ended_of self.new.multi) marks.new.items)
+        ensures keeps { (one two : List ℕ) (old : Scene) → KeepsPair H.tells one two old (H.scene host.old) (sessions_ended self.old.multi) marks.old.items
+            → MatchResult result (λ _. KeepsPair H.tells one two old (H.scene host.new) (sessions_ended self.new.multi) marks.new.items)
             (λ ending. EndsPair H.tells one two old (H.scene host.new) ending marks.new.items) }
-        ensures told { TellsRun H.tells → (one two : List ℕ) (old : Scene) (transcript : Transcript) (whole : List ℕ) → IsPlaced self.old transcript
+        ensures told { TellsRun H.tells → (one two : List ℕ) (old : Scene) (transcript : Transcript) (whole : List ℕ) → ArePlaced self.old transcript
             → ToldPair one two old (H.scene host.old) self.old.multi marks.old.items self.old.clean transcript → Comes old.script transcript (Line whole)
             → line.now ≡ take (max_line_bytes + 3) whole
             → MatchResult result (λ _. HasNext one two old (H.scene host.new) self.new marks.new.items transcript (Line whole))
@@ -223,12 +223,12 @@ impl Sessions {
         marks: &mut Vec<Mark>,
         which: Which,
     ) -> Result<(), Ending>
-        requires usable { IsUsable H.tells self.old 1 (H.scene host.old) }
-        ensures usable { (more : ℕ) → IsUsable H.tells self.old (more + 1) (H.scene host.old) → IsUsable H.tells self.new more (H.scene host.new) }
-        ensures keeps { (one two : List ℕ) (old : Scene) → KeepsPair H.tells one two old (H.scene host.old) (ended_of self.old.multi) marks.old.items
-            → MatchResult result (λ _. KeepsPair H.tells one two old (H.scene host.new) (ended_of self.new.multi) marks.new.items)
+        requires usable { AreUsable H.tells self.old 1 (H.scene host.old) }
+        ensures usable { (more : ℕ) → AreUsable H.tells self.old (more + 1) (H.scene host.old) → AreUsable H.tells self.new more (H.scene host.new) }
+        ensures keeps { (one two : List ℕ) (old : Scene) → KeepsPair H.tells one two old (H.scene host.old) (sessions_ended self.old.multi) marks.old.items
+            → MatchResult result (λ _. KeepsPair H.tells one two old (H.scene host.new) (sessions_ended self.new.multi) marks.new.items)
             (λ ending. EndsPair H.tells one two old (H.scene host.new) ending marks.new.items) }
-        ensures told { TellsRun H.tells → (one two : List ℕ) (old : Scene) (transcript : Transcript) → IsPlaced self.old transcript
+        ensures told { TellsRun H.tells → (one two : List ℕ) (old : Scene) (transcript : Transcript) → ArePlaced self.old transcript
             → ToldPair one two old (H.scene host.old) self.old.multi marks.old.items self.old.clean transcript → Comes old.script transcript (ScriptEnd which)
             → MatchResult result (λ _. HasNext one two old (H.scene host.new) self.new marks.new.items transcript (ScriptEnd which))
             (λ ending. HasRunBoth one two old (H.scene host.new) ending marks.new.items) }
@@ -244,13 +244,13 @@ impl Sessions {
 
     // Ends a session with the script, where it has not quit.
     fn end_session<H: Host>(&mut self, host: &mut H, which: Which) -> Result<(), Ending>
-        requires usable { IsUsable H.tells self.old 0 (H.scene host.old) }
-        ensures usable { (more : ℕ) → IsUsable H.tells self.old more (H.scene host.old) → IsUsable H.tells self.new more (H.scene host.new) }
+        requires usable { AreUsable H.tells self.old 0 (H.scene host.old) }
+        ensures usable { (more : ℕ) → AreUsable H.tells self.old more (H.scene host.old) → AreUsable H.tells self.new more (H.scene host.new) }
         ensures keeps { (one two : List ℕ) (old : Scene) (marks : List Mark)
-            → KeepsPair H.tells one two old (H.scene host.old) (ended_of self.old.multi) marks
-            → MatchResult result (λ _. KeepsPair H.tells one two old (H.scene host.new) (ended_of self.new.multi) marks)
+            → KeepsPair H.tells one two old (H.scene host.old) (sessions_ended self.old.multi) marks
+            → MatchResult result (λ _. KeepsPair H.tells one two old (H.scene host.new) (sessions_ended self.new.multi) marks)
             (λ ending. EndsPair H.tells one two old (H.scene host.new) ending marks) }
-        ensures told { TellsRun H.tells → (one two : List ℕ) (old : Scene) (marks : List Mark) (transcript : Transcript) → IsPlaced self.old transcript
+        ensures told { TellsRun H.tells → (one two : List ℕ) (old : Scene) (marks : List Mark) (transcript : Transcript) → ArePlaced self.old transcript
             → ToldPair one two old (H.scene host.old) self.old.multi marks self.old.clean transcript → Comes old.script transcript (SessionEnd which)
             → MatchResult result (λ _. HasNext one two old (H.scene host.new) self.new marks transcript (SessionEnd which))
             (λ ending. HasRunBoth one two old (H.scene host.new) ending marks) }
@@ -268,13 +268,14 @@ impl Sessions {
         host: &mut H,
         marks: &mut Vec<Mark>,
     ) -> Result<(), Ending>
-        requires usable { IsUsable H.tells self.old 2 (H.scene host.old) }
-        ensures keeps { (one two : List ℕ) (old : Scene) → KeepsPair H.tells one two old (H.scene host.old) (ended_of self.old.multi) marks.old.items
-            → MatchResult result (λ _. KeepsPair H.tells one two old (H.scene host.new) (ended_of self.new.multi) marks.new.items)
+        requires usable { AreUsable H.tells self.old 2 (H.scene host.old) }
+        ensures keeps { (one two : List ℕ) (old : Scene) → KeepsPair H.tells one two old (H.scene host.old) (sessions_ended self.old.multi) marks.old.items
+            → MatchResult result (λ _. KeepsPair H.tells one two old (H.scene host.new) (sessions_ended self.new.multi) marks.new.items)
             (λ ending. EndsPair H.tells one two old (H.scene host.new) ending marks.new.items) }
-        ensures told { TellsRun H.tells → (one two : List ℕ) (old : Scene) (transcript : Transcript) → IsPlaced self.old transcript
-            → ToldPair one two old (H.scene host.old) self.old.multi marks.old.items self.old.clean transcript → Comes old.script transcript (ScriptEnd Which.One)
-            → MatchResult result (λ _. HasEnded one two old (H.scene host.new) self.new marks.new.items)
+        ensures told { TellsRun H.tells → (one two : List ℕ) (old : Scene) (transcript : Transcript) → ArePlaced self.old transcript
+            → ToldPair one two old (H.scene host.old) self.old.multi marks.old.items self.old.clean transcript
+            → Comes old.script transcript (ScriptEnd Which.One)
+            → MatchResult result (λ _. EndedBoth one two old (H.scene host.new) self.new marks.new.items)
             (λ ending. HasRunBoth one two old (H.scene host.new) ending marks.new.items) }
     {
         self.end_script(alloc, host, marks, Which::One)?;
@@ -300,15 +301,15 @@ impl Sessions {
     ) -> Result<(), Ending>
         requires fresh { reader ≡ record { bytes = []; taken = 0; ended = false } }
         requires room { line.room ≡ max_line_bytes + 3 }
-        requires usable { IsUsable H.tells self.old (script_limit + 2) (H.scene host.old) }
-        ensures usable { OnOk result (IsUsable H.tells self.new 2 (H.scene host.new)) }
+        requires usable { AreUsable H.tells self.old (script_limit + 2) (H.scene host.old) }
+        ensures usable { OnOk result (AreUsable H.tells self.new 2 (H.scene host.new)) }
         ensures keeps { (one two : List ℕ) (old : Scene) → (H.scene host.old).script ≡ old.script
-            → KeepsPair H.tells one two old (H.scene host.old) (ended_of self.old.multi) marks.old.items
-            → MatchResult result (λ _. KeepsPair H.tells one two old (H.scene host.new) (ended_of self.new.multi) marks.new.items)
+            → KeepsPair H.tells one two old (H.scene host.old) (sessions_ended self.old.multi) marks.old.items
+            → MatchResult result (λ _. KeepsPair H.tells one two old (H.scene host.new) (sessions_ended self.new.multi) marks.new.items)
             (λ ending. EndsPair H.tells one two old (H.scene host.new) ending marks.new.items) }
-        ensures told { TellsRun H.tells → (one two : List ℕ) (old : Scene) → (H.scene host.old).script ≡ old.script → IsPlaced self.old []
+        ensures told { TellsRun H.tells → (one two : List ℕ) (old : Scene) → (H.scene host.old).script ≡ old.script → ArePlaced self.old []
             → ToldPair one two old (H.scene host.old) self.old.multi marks.old.items self.old.clean []
-            → MatchResult result (λ _. HasTaken one two old (H.scene host.new) self.new marks.new.items)
+            → MatchResult result (λ _. TookLines one two old (H.scene host.new) self.new marks.new.items)
             (λ ending. HasRunBoth one two old (H.scene host.new) ending marks.new.items) }
     {
         let mut reader = reader;

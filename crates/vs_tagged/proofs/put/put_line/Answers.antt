@@ -1,6 +1,6 @@
 use Rattle.std.proofs.Common.{◌++◌, ◌∷◌, [], IsErr}
 use Rattle.vs_host.specs.World.{Scene}
-use Rattle.vs_tagged.proofs.Puts.{calm_by, failed_by, is_err_on, puts_cut, puts_one, puts_then}
+use Rattle.vs_tagged.proofs.Writes.{calm_by, failed_by, is_err_on, puts_cut, puts_one, puts_then}
 use Rattle.vs_tagged.proofs.put.put_line.Goals as goal
 
 pub returns-in_err-write : goal.returns-in_err-write

@@ -3,7 +3,7 @@ use Rattle.std.proofs.lemmas.List.{append-nil}
 use Rattle.vs_host.specs.World.{Scene}
 use Rattle.vs_tagged.specs.Tagged.{tagged}
 use Rattle.vs_tagged.proofs.Lines.{none_left, tagged_first}
-use Rattle.vs_tagged.proofs.Puts.{calm_by, failed_by, is_err_on, puts_as, puts_cut, puts_done, puts_none, puts_then}
+use Rattle.vs_tagged.proofs.Writes.{calm_by, failed_by, is_err_on, puts_as, puts_cut, puts_done, puts_none, puts_then}
 use Rattle.vs_tagged.proofs.put.put_tagged.Goals as goal
 
 pub lines-init : goal.lines-init

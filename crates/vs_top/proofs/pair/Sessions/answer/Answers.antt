@@ -6,7 +6,7 @@ use Rattle.vs_multi.specs.Multi.{session_of}
 use Rattle.vs_session.specs.declared.session.Step.TheVariants as step
 use Rattle.vs_top.specs.Tags.{tagged_for}
 use Rattle.vs_top.specs.PairPromise.{EndsPair, HasRunBoth}
-use Rattle.vs_top.specs.PairTurns.{HasCommand, KeepsPair, ended_of}
+use Rattle.vs_top.specs.PairTurns.{HasCommand, KeepsPair, sessions_ended}
 use Rattle.vs_top.specs.declared.ending.Ending.TheVariants as ending
 use Rattle.vs_top.specs.declared.pair.Sessions.{Sessions}
 use Rattle.vs_top.proofs.PairAnswers.{stopped_both}
@@ -22,7 +22,7 @@ returns-in_err-reserve-clause-usable g c = λ more usable. usable_fewer g.H.Worl
 pub returns-in_err-reserve-clause-keeps : goal.returns-in_err-reserve-clause-keeps
 returns-in_err-reserve-clause-keeps g c = λ one two old keeps.
     let now : Scene = g.H.World.scene c.args.host.now in
-    let most = ended_of c.args.self.now.multi in
+    let most = sessions_ended c.args.self.now.multi in
     by_err c.from_residual.result (KeepsPair g.H.World.tells one two old now most c.reserve.new.self.items) (λ e. EndsPair g.H.World.tells one two old now e c.reserve.new.self.items) _ ending.NoMemory c.from_residual.ensures.1 refl
     (subst (λ (l : List Mark). EndsPair g.H.World.tells one two old now ending.NoMemory l) (sym {A = List Mark} c.reserve.ensures.items)
     (ends_memory g.H.World.tells one two old now most c.args.marks.now.items keeps (ended_few c.args.self.now.multi)))
@@ -83,8 +83,8 @@ returns-in-Step-Quit-clause-keeps g c = λ one two old keeps.
     let new : Scene = g.H.World.scene c.close.new.host in
     let which = c.args.which in
     let steps : StepsWhere g.H.World.tells c.args.request.now step.Quit (session_of which c.args.self.now.multi) (session_of which c.step.new.self) now stepped = rw c.in-Step-Quit.field-0-is at c.in-Step-Quit.ensures.step in
-    let most = ended_of c.args.self.now.multi + 1 in
-    subst (λ (l : List Mark). MatchResult c.close.result (λ _. KeepsPair g.H.World.tells one two old new (ended_of c.close.new.self.multi) l) (λ e. EndsPair g.H.World.tells one two old new e l)) (sym {A = List Mark} c.reserve.ensures.items)
+    let most = sessions_ended c.args.self.now.multi + 1 in
+    subst (λ (l : List Mark). MatchResult c.close.result (λ _. KeepsPair g.H.World.tells one two old new (sessions_ended c.close.new.self.multi) l) (λ e. EndsPair g.H.World.tells one two old new e l)) (sym {A = List Mark} c.reserve.ensures.items)
     (quit_closes g.H.World.tells one two old new which c.args.self.now.multi c.close.new.self.multi c.args.marks.now.items c.close.result c.requires.open c.close.ensures.gone (c.close.ensures.others ∙ c.step.ensures.other)
     (c.close.ensures.keeps one two old most c.args.marks.now.items
     (quit_keeps g.H.World.tells which c.args.self.now.multi c.step.new.self now stepped c.args.request.now c.step.ensures.other steps one two old c.args.marks.now.items keeps)))

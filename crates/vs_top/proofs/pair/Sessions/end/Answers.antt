@@ -2,7 +2,7 @@ use Rattle.std.proofs.Common.{◌∷◌, refl, arith}
 use Rattle.vs_family.specs.declared.which.Which.TheVariants as which
 use Rattle.vs_top.specs.PairPromise.{EndsPair, HasRunBoth}
 use Rattle.vs_top.specs.PairScript.{ScriptEnd, SessionEnd, Transcript}
-use Rattle.vs_top.specs.PairTurns.{HasEnded, HasNext}
+use Rattle.vs_top.specs.PairTurns.{EndedBoth, HasNext}
 use Rattle.vs_top.proofs.PairCalls.{by_call, by_err}
 use Rattle.vs_top.proofs.PairEnds.{has_ended}
 use Rattle.vs_top.proofs.PairRoom.{usable_fewer}
@@ -61,7 +61,7 @@ returns-clause-told g c = λ told one two old transcript placed here comes.
     let third = c.in_ok-end_session.ensures.told told one two old c.end_script-2.new.marks.items closing second.1 second.2 refl in
     let last : Transcript = item (SessionEnd which.One) third.0 ∷ closing in
     by_call c.end_session-2.result (HasNext one two old (g.H.World.scene c.end_session-2.new.host) c.end_session-2.new.self c.end_script-2.new.marks.items last (SessionEnd which.Two))
-    (HasEnded one two old (g.H.World.scene c.end_session-2.new.host) c.end_session-2.new.self c.end_script-2.new.marks.items)
+    (EndedBoth one two old (g.H.World.scene c.end_session-2.new.host) c.end_session-2.new.self c.end_script-2.new.marks.items)
     (λ e. HasRunBoth one two old (g.H.World.scene c.end_session-2.new.host) e c.end_script-2.new.marks.items) (λ e. HasRunBoth one two old (g.H.World.scene c.end_session-2.new.host) e c.end_script-2.new.marks.items)
     (has_ended one two old (g.H.World.scene c.end_session-2.new.host) c.end_session-2.new.self c.end_script-2.new.marks.items last) (λ e ran. ran)
     (c.end_session-2.ensures.told told one two old c.end_script-2.new.marks.items last third.1 third.2 refl)

@@ -2,7 +2,7 @@ use Rattle.std.proofs.Common.{◌∙◌, ◌+◌, refl, ap, sym, subst}
 use Rattle.vs_host.specs.World.{Scene}
 use Rattle.vs_script.specs.Ahead.{bytes_left}
 use Rattle.vs_top.specs.PairPromise.{EndsPair, HasRunBoth}
-use Rattle.vs_top.specs.PairTurns.{HasTaken, IsUsable, KeepsPair, ended_of}
+use Rattle.vs_top.specs.PairTurns.{TookLines, AreUsable, KeepsPair, sessions_ended}
 use Rattle.vs_top.proofs.PairCalls.{by_err}
 use Rattle.vs_top.proofs.PairCourse.{all_keeps, all_taken, all_usable, course_next, course_start, line_cut, line_ends, line_usable, over_taken, over_usable, stops_ends, stops_told}
 use Rattle.vs_top.proofs.pair.Sessions.take_lines.Goals as goal
@@ -17,11 +17,11 @@ lines-init g c = record {
 pub returns-clause-usable : goal.returns-clause-usable
 returns-clause-usable g c = elim c.lines-test.branch [
   | then-lines-test+in_ok-next_line+else-branch w ↦
-      subst (λ (s : Scene). IsUsable g.H.World.tells c.lines.self 2 s) (sym (ap g.H.World.scene w.host-is))
+      subst (λ (s : Scene). AreUsable g.H.World.tells c.lines.self 2 s) (sym (ap g.H.World.scene w.host-is))
       (all_usable g.H.World.tells (g.H.World.scene c.args.host.now) (g.H.World.scene c.lines.host) c.args.self.now c.lines.self c.args.marks.now.items c.lines.marks.items c.lines.reader c.lines.invariant.course
       w.in_ok-next_line.field-0 (g.H.World.scene w.next_line.new.host) w.next_line.new.self w.in_ok-next_line.ensures.reads w.in_ok-next_line.ensures.track w.if-branch.false w.next_line.new.line w.in_ok-next_line.ensures.line)
   | else-lines-test w ↦
-      subst (λ (s : Scene). IsUsable g.H.World.tells c.lines.self 2 s) (sym (ap g.H.World.scene w.host-is))
+      subst (λ (s : Scene). AreUsable g.H.World.tells c.lines.self 2 s) (sym (ap g.H.World.scene w.host-is))
       (over_usable g.H.World.tells (g.H.World.scene c.args.host.now) (g.H.World.scene c.lines.host) c.args.self.now c.lines.self c.args.marks.now.items c.lines.marks.items c.lines.reader c.lines.invariant.course)
 ]
 
@@ -79,22 +79,22 @@ returns-in_err-take_line-clause-told g c = λ told one two old same placed here.
 pub returns-clause-keeps : goal.returns-clause-keeps
 returns-clause-keeps g c = λ one two old same keeps. elim c.lines-test.branch [
   | then-lines-test+in_ok-next_line+else-branch w ↦
-      subst (λ (s : Scene). KeepsPair g.H.World.tells one two old s (ended_of c.lines.self.multi) c.lines.marks.items) (sym (ap g.H.World.scene w.host-is))
+      subst (λ (s : Scene). KeepsPair g.H.World.tells one two old s (sessions_ended c.lines.self.multi) c.lines.marks.items) (sym (ap g.H.World.scene w.host-is))
       (all_keeps g.H.World.tells (g.H.World.scene c.args.host.now) (g.H.World.scene c.lines.host) c.args.self.now c.lines.self c.args.marks.now.items c.lines.marks.items c.lines.reader c.lines.invariant.course
       w.in_ok-next_line.field-0 (g.H.World.scene w.next_line.new.host) w.next_line.new.self w.in_ok-next_line.ensures.reads w.in_ok-next_line.ensures.track w.if-branch.false w.next_line.new.line w.in_ok-next_line.ensures.line one two old same keeps)
   | else-lines-test w ↦
-      subst (λ (s : Scene). KeepsPair g.H.World.tells one two old s (ended_of c.lines.self.multi) c.lines.marks.items) (sym (ap g.H.World.scene w.host-is))
+      subst (λ (s : Scene). KeepsPair g.H.World.tells one two old s (sessions_ended c.lines.self.multi) c.lines.marks.items) (sym (ap g.H.World.scene w.host-is))
       (c.lines.invariant.course.keeps one two old same keeps)
 ]
 
 pub returns-clause-told : goal.returns-clause-told
 returns-clause-told g c = λ told one two old same placed here. elim c.lines-test.branch [
   | then-lines-test+in_ok-next_line+else-branch w ↦
-      subst (λ (s : Scene). HasTaken one two old s c.lines.self c.lines.marks.items) (sym (ap g.H.World.scene w.host-is))
+      subst (λ (s : Scene). TookLines one two old s c.lines.self c.lines.marks.items) (sym (ap g.H.World.scene w.host-is))
       (all_taken g.H.World.tells (g.H.World.scene c.args.host.now) (g.H.World.scene c.lines.host) c.args.self.now c.lines.self c.args.marks.now.items c.lines.marks.items c.lines.reader c.lines.invariant.course
       w.in_ok-next_line.field-0 (g.H.World.scene w.next_line.new.host) w.next_line.new.self w.in_ok-next_line.ensures.reads w.in_ok-next_line.ensures.track w.if-branch.false w.next_line.new.line w.in_ok-next_line.ensures.line told one two old same placed here)
   | else-lines-test w ↦
-      subst (λ (s : Scene). HasTaken one two old s c.lines.self c.lines.marks.items) (sym (ap g.H.World.scene w.host-is))
+      subst (λ (s : Scene). TookLines one two old s c.lines.self c.lines.marks.items) (sym (ap g.H.World.scene w.host-is))
       (over_taken g.H.World.tells (g.H.World.scene c.args.host.now) (g.H.World.scene c.lines.host) c.args.self.now c.lines.self c.args.marks.now.items c.lines.marks.items c.lines.reader c.lines.invariant.course
       (sym c.is_over.ensures ∙ w.lines-test.false) told one two old same placed here)
 ]

@@ -9,8 +9,8 @@ use Rattle.vs_script.specs.Feed.{takes}
 use Rattle.vs_tagged.specs.Tagged.{tagged}
 use Rattle.vs_top.specs.Tags.{session_ended}
 use Rattle.vs_top.specs.PairPromise.{HasRunBoth}
-use Rattle.vs_top.specs.PairScript.{Line, Reads, place_of}
-use Rattle.vs_top.specs.PairTurns.{HasCommand, HasNext, KeepsPair, ended_of, feed_of}
+use Rattle.vs_top.specs.PairScript.{Line, Reads, feed_place}
+use Rattle.vs_top.specs.PairTurns.{HasCommand, HasNext, KeepsPair, sessions_ended, feed_of}
 use Rattle.vs_top.proofs.PairCalls.{by_call}
 use Rattle.vs_top.proofs.PairNext.{after_told, asks_line, command_next, feed_same, line_beside, line_read, refused_keeps, silent_next, told_fed}
 use Rattle.vs_top.proofs.PairRoom.{ready_of, usable_fed, usable_fewer, usable_refused}
@@ -59,14 +59,14 @@ returns-in-Some-clause-usable g c = λ more usable.
 pub returns-in-Some-clause-keeps : goal.returns-in-Some-clause-keeps
 returns-in-Some-clause-keeps g c = λ one two old keeps.
     c.answer.ensures.keeps one two old
-    (subst (λ (n : ℕ). KeepsPair g.H.World.tells one two old (g.H.World.scene c.args.host.now) n c.args.marks.now.items) (sym {A = ℕ} (ap ended_of c.feed.ensures.same.0)) keeps)
+    (subst (λ (n : ℕ). KeepsPair g.H.World.tells one two old (g.H.World.scene c.args.host.now) n c.args.marks.now.items) (sym {A = ℕ} (ap sessions_ended c.feed.ensures.same.0)) keeps)
 
 pub returns-in-Some-clause-told : goal.returns-in-Some-clause-told
 returns-in-Some-clause-told g c = λ told one two old transcript whole own placed here comes tag means.
     let now : Scene = g.H.World.scene c.args.host.now in
     let new : Scene = g.H.World.scene c.answer.new.host in
     let which = c.args.which in
-    let at = reads_at (session_of which c.args.self.now.multi) (feed_of which c.args.self.now) (place_of which transcript) (placed which) (sym c.is_finished.ensures ∙ c.if-is_finished.false) in
+    let at = reads_at (session_of which c.args.self.now.multi) (feed_of which c.args.self.now) (feed_place which transcript) (placed which) (sym c.is_finished.ensures ∙ c.if-is_finished.false) in
     let taken = c.in-Some.ensures.takes at.0 own at.2 means in
     let ended = ended_by c.in-Some.request (takes at.0 own).ended taken.0 in
     let reads = line_read which whole own transcript at.0 tag at.1 in
@@ -92,13 +92,13 @@ returns-in-None-clause-usable g c = λ more usable.
 
 pub returns-in-None-clause-keeps : goal.returns-in-None-clause-keeps
 returns-in-None-clause-keeps g c = λ one two old keeps.
-    subst (λ (n : ℕ). KeepsPair g.H.World.tells one two old (g.H.World.scene c.args.host.now) n c.args.marks.now.items) (sym {A = ℕ} (ap ended_of c.feed.ensures.same.0)) keeps
+    subst (λ (n : ℕ). KeepsPair g.H.World.tells one two old (g.H.World.scene c.args.host.now) n c.args.marks.now.items) (sym {A = ℕ} (ap sessions_ended c.feed.ensures.same.0)) keeps
 
 pub returns-in-None-clause-told : goal.returns-in-None-clause-told
 returns-in-None-clause-told g c = λ told one two old transcript whole own placed here comes tag means.
     let now : Scene = g.H.World.scene c.args.host.now in
     let which = c.args.which in
-    let at = reads_at (session_of which c.args.self.now.multi) (feed_of which c.args.self.now) (place_of which transcript) (placed which) (sym c.is_finished.ensures ∙ c.if-is_finished.false) in
+    let at = reads_at (session_of which c.args.self.now.multi) (feed_of which c.args.self.now) (feed_place which transcript) (placed which) (sym c.is_finished.ensures ∙ c.if-is_finished.false) in
     let taken = c.in-None.ensures.takes at.0 own at.2 means in
     let answers = own_line which whole own None transcript (Reads at.0) tag at.1 (as_none which (takes at.0 own).ended (ended_none (takes at.0 own).ended taken.0)) in
     silent_next which one two old now c.args.self.now c.feed.new.self c.args.marks.now.items transcript (Line whole) (takes at.0 own).reading placed (line_beside which whole own transcript at.0 tag at.1)

@@ -11,10 +11,10 @@ use Rattle.vs_disk.proofs.Runs.{fails_call, fails_none, quiet_call, quiet_none}
 use Rattle.vs_safety.specs.Safety.{IsAdded, Writes, Wrote}
 use Rattle.vs_safety.proofs.Moments.{part_same, part_then}
 use Rattle.vs_safety.proofs.Replies.{first_part, wrote_none, wrote_one, wrote_then}
-use Rattle.vs_tagged.specs.Tagged.{Puts}
+use Rattle.vs_tagged.specs.Tagged.{WritesTagged}
 
 -- nothing was written
-pub puts_none : (tells : Tells) (Failed : Type 0) (now : Scene) → ¬ Failed → Puts tells [] Failed now now
+pub puts_none : (tells : Tells) (Failed : Type 0) (now : Scene) → ¬ Failed → WritesTagged tells [] Failed now now
 puts_none tells Failed now not = record {
   wrote = λ folder output fails. wrote_none now;
   part = λ folder output. ([], ([], refl), wrote_none now);
@@ -49,7 +49,7 @@ module _ (tells : Tells) (piece : List ℕ) (old new : Scene) (frame : ChangesOu
       → OnErr result (IsTrue tells.output → (n : ℕ) × (new.output ≡ old.output ++ take n piece)) → HasCause old.out_faults new.out_faults (IsErr result)
       → OnOk result (new.out_faults ≡ old.out_faults) → (IsTrue tells.folder → IsAdded WroteOutput [] old new)
       → (IsTrue tells.folder → FailsLast old new) → (IsTrue tells.folder → new.out_faults ≡ old.out_faults → Quiet old new)
-      → Puts tells piece (IsErr result) old new
+      → WritesTagged tells piece (IsErr result) old new
   one_by (Ok done) ok err cause quiet added last none = record {
     wrote = λ folder output fails. wrote_whole (ok output) (added folder);
     part = λ folder output. (piece, part_same piece, wrote_whole (ok output) (added folder));
@@ -74,7 +74,7 @@ module _ (tells : Tells) (piece : List ℕ) (old new : Scene) (frame : ChangesOu
   pub puts_one : {E : Type 0} (result : Result (Unit {0}) E) → OnOk result (IsTrue tells.output → new.output ≡ old.output ++ piece)
       → OnErr result (IsTrue tells.output → (n : ℕ) × (new.output ≡ old.output ++ take n piece)) → HasCause old.out_faults new.out_faults (IsErr result)
       → OnOk result (new.out_faults ≡ old.out_faults) → (IsTrue tells.folder → IsTold WroteOutput [] result old new)
-      → Puts tells piece (IsErr result) old new
+      → WritesTagged tells piece (IsErr result) old new
   puts_one result ok err cause quiet told =
       one_by result ok err cause quiet (λ folder. added_of result old new (told folder)) (λ folder. fails_call WroteOutput [] result old new (told folder))
       (λ folder out. one_quiet result (told folder) out)
@@ -85,9 +85,9 @@ rises_on a b c le (inl more) = inl (omega (arith, le, more))
 rises_on a b c le (inr most) = inr most
 
 -- The second after the first, which did not fail.
-module _ (tells : Tells) (first second : List ℕ) (F G : Type 0) (old mid new : Scene) (calm : ¬ F) (one : Puts tells first F old mid)
-    (two : Puts tells second G mid new) where
-  pub puts_then : Puts tells (first ++ second) G old new
+module _ (tells : Tells) (first second : List ℕ) (F G : Type 0) (old mid new : Scene) (calm : ¬ F) (one : WritesTagged tells first F old mid)
+    (two : WritesTagged tells second G mid new) where
+  pub puts_then : WritesTagged tells (first ++ second) G old new
   puts_then = record {
     wrote = λ folder output fails. wrote_then first second old mid new (one.wrote folder output calm) (two.wrote folder output fails);
     part = λ folder output.
@@ -107,8 +107,8 @@ module _ (tells : Tells) (first second : List ℕ) (F G : Type 0) (old mid new :
   }
 
 -- The first failed, and the second was not begun.
-pub puts_cut : (tells : Tells) (first second : List ℕ) (F G : Type 0) (old new : Scene) → F → G → Puts tells first F old new
-    → Puts tells (first ++ second) G old new
+pub puts_cut : (tells : Tells) (first second : List ℕ) (F G : Type 0) (old new : Scene) → F → G → WritesTagged tells first F old new
+    → WritesTagged tells (first ++ second) G old new
 puts_cut tells first second F G old new failed fails one = record {
   wrote = λ folder output calm. absurd (calm fails);
   part = λ folder output.
@@ -122,10 +122,10 @@ puts_cut tells first second F G old new failed fails one = record {
 }
 
 -- the same of other bytes that are these
-pub puts_as : (tells : Tells) (bytes same : List ℕ) (F G : Type 0) (old new : Scene) → bytes ≡ same → (F → G) → (G → F) → Puts tells bytes F old new
-    → Puts tells same G old new
+pub puts_as : (tells : Tells) (bytes same : List ℕ) (F G : Type 0) (old new : Scene) → bytes ≡ same → (F → G) → (G → F) → WritesTagged tells bytes F old new
+    → WritesTagged tells same G old new
 puts_as tells bytes same F G old new is to from puts =
-    subst (λ (l : List ℕ). Puts tells l G old new) is (record {
+    subst (λ (l : List ℕ). WritesTagged tells l G old new) is (record {
       wrote = λ folder output calm. puts.wrote folder output (λ f. calm (to f));
       part = puts.part;
       cause = record { later = puts.cause.later; risen = λ g. puts.cause.risen (from g) };
@@ -153,5 +153,5 @@ calm_by (Err e) x is err = absurd (cc)
 not_failed : false ≡ true → ⊥
 not_failed is = absurd (cc)
 
-pub puts_done : (tells : Tells) (bytes same : List ℕ) (old new : Scene) → bytes ≡ same → Puts tells bytes ⊥ old new → Puts tells same (false ≡ true) old new
+pub puts_done : (tells : Tells) (bytes same : List ℕ) (old new : Scene) → bytes ≡ same → WritesTagged tells bytes ⊥ old new → WritesTagged tells same (false ≡ true) old new
 puts_done tells bytes same old new is puts = puts_as tells bytes same ⊥ (false ≡ true) old new is (λ f. absurd f) not_failed puts
