@@ -29,7 +29,8 @@ use Rattle.vs_both.specs.Beside.{AreBeside, HasFamily, Party, ShareNone}
 use Rattle.vs_both.proofs.Images.{or_none_kept}
 use Rattle.vs_both.proofs.Names.{first_stays_apart, second_stays_apart, share_none, swo_in, swp_in}
 use Rattle.vs_both.proofs.Parties.{are_beside}
-use Rattle.vs_session.specs.Fits.{Fits, HasOpened, HasSwap, IsSettled, LeavesNoneMade, Opens, names_of}
+use Rattle.vs_session.specs.Fits.{Fits, HasOpened, HasSwap, IsSettled, Opens, names_of}
+use Rattle.vs_session.specs.Made.{LeavesNoneMade}
 use Rattle.vs_session.specs.Open.{IsReading, IsTooLarge, OnlyLooks, PassesLimit}
 use Rattle.vs_session.specs.Opened.{opened, text_in}
 use Rattle.vs_session.specs.declared.open.OpenErr.{OpenErr}

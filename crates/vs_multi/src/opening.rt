@@ -8,7 +8,7 @@ ghost use Rattle.vs_pair.specs.Acts.{Acts};
 ghost use Rattle.vs_text.specs.Limits.{IsWithinLimits};
 ghost use Rattle.vs_text.specs.Text.{lines_of};
 ghost use Rattle.vs_family.specs.Family.{clash};
-ghost use Rattle.vs_session.specs.Fits.{LeavesNoneMade};
+ghost use Rattle.vs_session.specs.Made.{LeavesNoneMade};
 ghost use Rattle.vs_session.specs.Open.{IsReading, OnlyLooks};
 ghost use Rattle.vs_multi.specs.Multi.{FitsBoth};
 ghost use Rattle.vs_multi.specs.Opening.{AreNotOpened, AreSettled, BothStandOpen, HasAnySwap, IsEitherTooLarge, OpensBoth};

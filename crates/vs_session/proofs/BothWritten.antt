@@ -50,8 +50,9 @@ use Rattle.vs_session.specs.Failures.{FailsOnce}
 use Rattle.vs_session.specs.Wholeness.{StaysWhole}
 use Rattle.vs_session.specs.Stores.{StoresUndo}
 use Rattle.vs_session.specs.Writes.{HasSynced, Wrote}
-use Rattle.vs_session.specs.Fits.{Answers, Fits, LeavesNoneMade, names_of}
-use Rattle.vs_session.proofs.Cleared.{cleared_stored, cleared_then}
+use Rattle.vs_session.specs.Fits.{Answers, Fits, names_of}
+use Rattle.vs_session.specs.Made.{ClearsMade, LeavesNoneMade}
+use Rattle.vs_session.proofs.Cleared.{but_carried, but_stored, cleared_stored, cleared_then, moved_stored, moved_then}
 use Rattle.vs_session.proofs.Failing.{above_quiet, once_after}
 use Rattle.vs_session.proofs.SummaryLemmas.{fails_still}
 use Rattle.vs_session.proofs.Steps.{recovers_synced, risen_since, risen_until, works_runs}
@@ -59,7 +60,7 @@ use Rattle.vs_session.proofs.FileWrites.{backup_named}
 use Rattle.vs_session.proofs.Wholeness.{whole_then}
 use Rattle.vs_session.proofs.Stored.{fits_stored, undo_outside}
 use Rattle.vs_session.proofs.UndoNames.{backup_outside, file_outside}
-use Rattle.vs_session.proofs.Written.{Moment, answers_free, are, bytes_left, cleared_by, ended, fits_by, has_left, lacks, lead, line_is, mark, not_lacks, recovers_on, replied_done, replied_none, stays_whole, under, written_frame, written_rises, written_runs}
+use Rattle.vs_session.proofs.Written.{Moment, answers_free, are, bytes_left, cleared_by, ended, fits_by, has_left, lacks, lead, line_is, mark, moved_by, not_lacks, recovers_on, replied_done, replied_none, stays_whole, under, written_frame, written_rises, written_runs}
 
 -- ---- before the write
 
@@ -289,7 +290,7 @@ module _ (state : SessionState) (syncs : List Sync) (instruction : Instruction) 
   -- however the storing ended
   answers_by : (outcome : Outcome) (reply : Answer) → took_effect outcome ≡ true → reply ≡ reply_of state instruction (ended state syncs instruction is before between old mid s outcome at)
       → ((true && not (is_fault outcome)) ≡ true → HasUndo names text (history_marked state.machine.history) new.folder) → (is_fault outcome ≡ true → HasRisen old.folder_faults new.folder_faults)
-      → FailsOnce names state instruction (ended state syncs instruction is before between old mid s outcome at) old new → (outcome ≡ Done → LeavesNoneMade old.folder new.folder) → Answers state syncs instruction before after (mark state syncs instruction is before between old mid s outcome at) reply old new
+      → FailsOnce names state instruction (ended state syncs instruction is before between old mid s outcome at) old new → ClearsMade names state instruction (ended state syncs instruction is before between old mid s outcome at) old new → Answers state syncs instruction before after (mark state syncs instruction is before between old mid s outcome at) reply old new
   answers_by outcome reply took replied stored cause calls cleared =
       answers_free state syncs instruction is before between old mid s free true on after outcome at reply new names_after (λ none. refl) calls (whole_on outcome took) cleared replied
       (fits_by state syncs instruction is before between old mid s after new.folder outcome at true (written outcome took) (fits_on new.folder stores.now.spares))
@@ -297,6 +298,9 @@ module _ (state : SessionState) (syncs : List Sync) (instruction : Instruction) 
       (subst (λ (done : Bool). HasWritten names write done (is_fault outcome) (state_now old) (state_now new) × HasStored names undo (done && not (is_fault outcome)) (state_now old) (state_now new)) (sym took)
       (wrote_new (is_fault outcome), record { found = refl; stored = stored }))
       both_runs.now.folder.whole rises cause
+
+  cleared_made : LeavesNoneMade old.folder made.folder
+  cleared_made = cleared_by state syncs instruction is before between old mid s after (Ok size) made second wrote size refl
 
   replied_as : (outcome : Outcome) → (outcome ≡ Done) ⊎ (outcome ≡ NoUndo) → write_reply state outcome old.folder ≡ reply_of state instruction (ended state syncs instruction is before between old mid s outcome at)
   replied_as outcome (inl done) =
@@ -322,5 +326,10 @@ module _ (state : SessionState) (syncs : List Sync) (instruction : Instruction) 
       (λ calm. stored (done_as outcome ended_as calm))
       (λ failed. risen_since old.folder_faults made.folder_faults new.folder_faults above.later (cause.risen failed))
       (once_after names state instruction (ended state syncs instruction is before between old mid s outcome at) old mid new s.quiet (calls_by outcome ended_as (took_as outcome ended_as) cause calls last quiet))
-      (λ done. cleared_then old.folder made.folder new.folder (cleared_by state syncs instruction is before between old mid s after (Ok size) made second wrote size refl)
-      (cleared_stored names named made.folder new.folder stores.now.spares (stored done).3))
+      (record {
+        left = but_carried names state instruction old.folder outcome ended_as old.folder new.folder
+            (λ done. cleared_then old.folder made.folder new.folder cleared_made (cleared_stored names named made.folder new.folder stores.now.spares (stored done).3))
+            (λ name out was. but_stored names named made.folder new.folder stores.now.spares name out (cleared_made name was));
+        moved = moved_then names named old made new (moved_by state syncs instruction is before between old mid s after (Ok size) made second wrote)
+            (moved_stored names named (StoresUndo names text (history_marked state.machine.history)) made new (λ d storing. storing.spares) stores);
+      })

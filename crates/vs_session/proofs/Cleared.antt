@@ -5,13 +5,17 @@ use Rattle.std.specs.Prelude.{nat_eq, nat_le}
 use Rattle.std.specs.Str.{bytes_eq}
 use Rattle.std.proofs.lemmas.Bool.{true≢false, cases_Bool}
 use Rattle.std.proofs.lemmas.Bool.Decides.{Decides-eqb}
-use Rattle.std.proofs.lemmas.List.{same_from_push}
+use Rattle.std.proofs.lemmas.List.{append_cancel_right, same_from_push}
 use Rattle.std.proofs.lemmas.Slice.Eq.{bytes_eq-Decides, ends_is}
 use Rattle.vs_host.specs.Disk.{Disk, Name, names_at}
+use Rattle.vs_host.specs.Trace.{Snapshot, GoesOn}
 use Rattle.vs_host.specs.Names.{AreNames, is_name_byte, is_reserved, temporary}
 use Rattle.vs_host.specs.World.{Scene, content_of}
 use Rattle.vs_host.specs.declared.names.Names.{Names}
+use Rattle.vs_host.proofs.Apart.{names_apart}
 use Rattle.vs_disk.specs.Names.{SameAt}
+use Rattle.vs_disk.specs.Runs.{Inside, Looks, Runs}
+use Rattle.vs_disk.proofs.Runs.{goes_then, goes_weaker}
 use Rattle.vs_disk.proofs.Steps.{itself}
 use Rattle.vs_pair.specs.Pair.{is_apart, is_foreign, is_swap}
 use Rattle.vs_pair.specs.Pair.{name_of}
@@ -25,10 +29,16 @@ use Rattle.vs_backup.specs.Works.{IsGone, Spares as SparesNames, SparesOthers, t
 use Rattle.vs_backup.specs.Writing.{IsUnseen, WritesNew, WritesWith, nowhere}
 use Rattle.vs_backup.specs.declared.options.WriteOptions.{WriteOptions}
 use Rattle.vs_backup.proofs.Choosing.{some_name}
-use Rattle.vs_backup.proofs.NamesApart.{new_name, temporary_apart}
+use Rattle.vs_backup.proofs.NamesApart.{backup_apart, new_name, temporary_apart}
 use Rattle.vs_desk.specs.Writes.{WritesFile}
+use Rattle.vs_excmd.specs.Request.{Instruction}
+use Rattle.vs_machine.specs.Machine.{took_effect}
+use Rattle.vs_machine.specs.declared.command.Outcome.{Outcome}
+use Rattle.vs_machine.specs.declared.command.Outcome.TheVariants.{Done, NoMemory, Fault, NoUndo}
+use Rattle.vs_desk.proofs.Left.{goes_both}
 use Rattle.vs_desk.proofs.Spared.{chosen_name}
-use Rattle.vs_session.specs.Fits.{LeavesNoneMade}
+use Rattle.vs_session.specs.Made.{ClearsMade, IsLeftBy, LeavesNoneBut, LeavesNoneMade, StaysMoved, WritesUnder}
+use Rattle.vs_session.specs.Session.{SessionState, Ended}
 use Rattle.vs_session.proofs.UndoNames.{not_temporary}
 
 pub cleared_same : (old new : Disk) → new ≡ old → LeavesNoneMade old new
@@ -37,19 +47,42 @@ cleared_same old new is made was = subst (λ (d : Disk). IsGone (temporary made)
 pub cleared_then : (old mid new : Disk) → LeavesNoneMade old mid → LeavesNoneMade mid new → LeavesNoneMade old new
 cleared_then old mid new first second made was = second made (first made was)
 
+-- a command that leaves none at all
+pub clears_none : (names : Names) (state : SessionState) (instruction : Instruction) (ended : Ended) (old new : Scene) → LeavesNoneMade old.folder new.folder → StaysMoved names old new → ClearsMade names state instruction ended old new
+clears_none names state instruction ended old new none moved = record { left = λ made out was. none made was; moved = moved }
+
+-- a write that was refused leaves one under the names on which it works, and no other
+pub but_refused : (names : Names) (state : SessionState) (instruction : Instruction) (found : Disk) (outcome : Outcome) → took_effect outcome ≡ false → (old new : Disk) → LeavesNoneBut (WritesUnder names state instruction found) old new
+    → LeavesNoneBut (IsLeftBy outcome names state instruction found) old new
+but_refused names state instruction found Done none old new but = absurd (true≢false none)
+but_refused names state instruction found NoMemory none old new but = but
+but_refused names state instruction found Fault none old new but = λ made out was. but made (λ works. out (inl works)) was
+but_refused names state instruction found NoUndo none old new but = absurd (true≢false none)
+
+-- one that was carried out leaves none, or that of an undo file that was not stored
+pub but_carried : (names : Names) (state : SessionState) (instruction : Instruction) (found : Disk) (outcome : Outcome) → (outcome ≡ Done) ⊎ (outcome ≡ NoUndo) → (old new : Disk) → (outcome ≡ Done → LeavesNoneMade old new)
+    → LeavesNoneBut (λ name. name ≡ names.undo_new) old new → LeavesNoneBut (IsLeftBy outcome names state instruction found) old new
+but_carried names state instruction found Done ended old new none but = λ made out was. none refl made was
+but_carried names state instruction found NoMemory ended old new none but = elim ended [ inl is ↦ absurd (cc) | inr is ↦ absurd (cc) ]
+but_carried names state instruction found Fault ended old new none but = elim ended [ inl is ↦ absurd (cc) | inr is ↦ absurd (cc) ]
+but_carried names state instruction found NoUndo ended old new none but = but
+
 -- a name that is left alone
 gone_same : (inside : Name → Bool) (name : Name) (old new : Disk) → SameAt inside old new → inside name ≡ true → IsGone name old → IsGone name new
 gone_same inside name old new same is gone lost = let at = same.back lost in at.1 name is ∙ gone at.0
 
 -- of which no file is known, so that no other name leads to it
-gone_spared : (on : Name → Type 0) (name : Name) (old new : Scene) → SparesOthers on old new → (on name → ⊥) → IsGone name old.folder → IsGone name new.folder
-gone_spared on name old new spares out gone =
-    let runs = spares (bytes_eq name) (λ other is works. out (subst on (sym ((bytes_eq-Decides name other).0 is)) works))
+spared_alone : (on : Name → Type 0) (name : Name) (old new : Scene) → SparesOthers on old new → (on name → ⊥) → IsGone name old.folder → Runs (SameAt (bytes_eq name)) old new
+spared_alone on name old new spares out gone =
+    spares (bytes_eq name) (λ other is works. out (subst on (sym ((bytes_eq-Decides name other).0 is)) works))
     (record {
       alone = λ lost one other number is outside leads there.
           let clash : None ≡ Some number = sym (gone lost) ∙ ap (names_at old.folder lost) ((bytes_eq-Decides name one).0 is) ∙ leads in cc;
-    }) in
-    gone_same (bytes_eq name) name old.folder new.folder runs.now (itself name) gone
+    })
+
+pub gone_spared : (on : Name → Type 0) (name : Name) (old new : Scene) → SparesOthers on old new → (on name → ⊥) → IsGone name old.folder → IsGone name new.folder
+gone_spared on name old new spares out gone =
+    gone_same (bytes_eq name) name old.folder new.folder (spared_alone on name old new spares out gone).now (itself name) gone
 
 reserved_last : (a b r : Bool) → r ≡ true → (a && (b && not r)) ≡ true → ⊥
 reserved_last true true r is all = true≢false (sym all ∙ ap not is)
@@ -122,6 +155,91 @@ module _ (names : Names) (are : AreNames names) where
       outside : bytes_eq (temporary made) names.undo_new ≡ false → two_names names.undo_new names.undo (temporary made) → ⊥
       outside other (inl new) = true≢false (sym ((bytes_eq-Decides (temporary made) names.undo_new).1 new) ∙ other)
       outside other (inr undo) = not_temporary names are made (sym undo)
+
+  -- but under that of the undo file it leaves none in any case
+  pub but_stored : (old new : Disk) → SparesNames (two_names names.undo_new names.undo) old new → LeavesNoneBut (λ name. name ≡ names.undo_new) old new
+  but_stored old new spares made out was =
+      gone_same (bytes_eq (temporary made)) (temporary made) old new
+      (spares (bytes_eq (temporary made)) (λ name is on. outside (subst (two_names names.undo_new names.undo) (sym ((bytes_eq-Decides (temporary made) name).0 is)) on))) (itself (temporary made)) was
+    where
+      outside : two_names names.undo_new names.undo (temporary made) → ⊥
+      outside (inl new) = out new
+      outside (inr undo) = not_temporary names are made (sym undo)
+
+  -- ---- the names under which the swap files are made
+
+  pub swp_made : names.swp_new ≡ temporary names.swp
+  swp_made = ap (λ (n : Names). n.swp_new) are.others ∙ ap (λ (n : Names). temporary n.swp) (sym are.others)
+
+  pub swo_made : names.swo_new ≡ temporary names.swo
+  swo_made = ap (λ (n : Names). n.swo_new) are.others ∙ ap (λ (n : Names). temporary n.swo) (sym are.others)
+
+  -- they stay so where all names do but some others
+  both_but : (left : Name → Type 0) (old d : Disk) → LeavesNoneBut left old d → (left names.swp_new → ⊥) → (left names.swo_new → ⊥) → BothMoved names old → BothMoved names d
+  both_but left old d but swp swo moved = (
+    subst (λ (n : Name). IsGone n d) (sym swp_made) (but names.swp (λ is. swp (subst left (sym swp_made) is)) (subst (λ (n : Name). IsGone n old) swp_made moved.0)),
+    subst (λ (n : Name). IsGone n d) (sym swo_made) (but names.swo (λ is. swo (subst left (sym swo_made) is)) (subst (λ (n : Name). IsGone n old) swo_made moved.1)),
+  )
+
+  both_of : (old d : Disk) → LeavesNoneMade old d → BothMoved names old → BothMoved names d
+  both_of old d none = both_but (λ name. ⊥) old d (λ made out was. none made was) (λ never. never) (λ never. never)
+
+  moved_by : (P : Snapshot → Type 0) (old new : Scene) → GoesOn P old.trace new.trace → ((m : Snapshot) → P m → BothMoved names old.folder → BothMoved names m.folder)
+      → (BothMoved names old.folder → BothMoved names new.folder) → StaysMoved names old new
+  moved_by P old new goes each now moved = (goes_weaker P (λ m. BothMoved names m.folder) (λ m has. each m has moved) old.trace new.trace goes, now moved)
+
+  pub moved_apart : (old new : Scene) → GoesOn (λ m. SameAt (is_apart names) old.folder m.folder) old.trace new.trace → SameAt (is_apart names) old.folder new.folder → StaysMoved names old new
+  moved_apart old new goes now =
+      moved_by (λ m. SameAt (is_apart names) old.folder m.folder) old new goes (λ m same. both_of old.folder m.folder (cleared_synced old.folder m.folder same))
+      (both_of old.folder new.folder (cleared_synced old.folder new.folder now))
+
+  pub moved_looks : (old new : Scene) → Looks old new → StaysMoved names old new
+  moved_looks old new looks =
+      moved_by (Inside old (λ d. d ≡ old.folder)) old new looks.moments (λ m inside. both_of old.folder m.folder (cleared_same old.folder m.folder inside.folder))
+      (both_of old.folder new.folder (cleared_same old.folder new.folder looks.now))
+
+  pub moved_then : (old mid new : Scene) → StaysMoved names old mid → StaysMoved names mid new → StaysMoved names old new
+  moved_then old mid new first second moved =
+      let at = first moved in
+      let now = second at.1 in
+      (goes_then (λ m. BothMoved names m.folder) old.trace mid.trace new.trace at.0 now.0, now.1)
+
+  pub moved_stored : (P : Disk → Disk → Type 0) (old new : Scene) → ((d : Disk) → P old.folder d → SparesNames (two_names names.undo_new names.undo) old.folder d) → Runs P old new → StaysMoved names old new
+  moved_stored P old new spared runs =
+      moved_by (Inside old (P old.folder)) old new runs.moments (λ m inside. stays m.folder (spared m.folder inside.folder)) (stays new.folder (spared new.folder runs.now))
+    where
+      stays : (d : Disk) → SparesNames (two_names names.undo_new names.undo) old.folder d → BothMoved names old.folder → BothMoved names d
+      stays d spares = both_but (λ name. name ≡ names.undo_new) old.folder d (but_stored old.folder d spares) ((names_apart names are).1.1.1.1.1.0.1.0) ((names_apart names are).1.1.1.1.1.1.0.0)
+
+  -- a write does not work on them
+  swp_unworked : (options : WriteOptions) (disk : Disk) → WorksOn options names.file disk names.swp_new → ⊥
+  swp_unworked options disk (TheFile same) = file_unmade names.swp (sym swp_made ∙ same)
+  swp_unworked options disk (TheNewFile none same) = (names_apart names are).1.1.1.1.0.0 (new_name names are ∙ sym same)
+  swp_unworked options disk (TheBackup backup there chosen same) =
+      backup_unmade names.swp backup (chosen_name options names.file disk backup (some_name names.file are.allowed) chosen) (sym swp_made ∙ same)
+  swp_unworked options disk (TheCopy backup there chosen copied same) =
+      backup_apart names are backup (chosen_name options names.file disk backup (some_name names.file are.allowed) chosen) (inl (sym (append_cancel_right names.swp backup (codes ".vsnew") (sym swp_made ∙ same))))
+
+  swo_unworked : (options : WriteOptions) (disk : Disk) → WorksOn options names.file disk names.swo_new → ⊥
+  swo_unworked options disk (TheFile same) = file_unmade names.swo (sym swo_made ∙ same)
+  swo_unworked options disk (TheNewFile none same) = (names_apart names are).1.1.1.1.0.1.0 (new_name names are ∙ sym same)
+  swo_unworked options disk (TheBackup backup there chosen same) =
+      backup_unmade names.swo backup (chosen_name options names.file disk backup (some_name names.file are.allowed) chosen) (sym swo_made ∙ same)
+  swo_unworked options disk (TheCopy backup there chosen copied same) =
+      backup_apart names are backup (chosen_name options names.file disk backup (some_name names.file are.allowed) chosen) (inr (sym (append_cancel_right names.swo backup (codes ".vsnew") (sym swo_made ∙ same))))
+
+  gone_goes : (name : Name) (old new : Scene) → IsGone name old.folder → Runs (SameAt (bytes_eq name)) old new → GoesOn (λ m. IsGone name m.folder) old.trace new.trace × IsGone name new.folder
+  gone_goes name old new gone runs = (
+    goes_weaker (Inside old (SameAt (bytes_eq name) old.folder)) (λ m. IsGone name m.folder) (λ m inside. gone_same (bytes_eq name) name old.folder m.folder inside.folder (itself name) gone) old.trace new.trace runs.moments,
+    gone_same (bytes_eq name) name old.folder new.folder runs.now (itself name) gone,
+  )
+
+  pub moved_write : (options : WriteOptions) (old new : Scene) → SparesOthers (WorksOn options names.file old.folder) old new → StaysMoved names old new
+  moved_write options old new others moved =
+      let on : Name → Type 0 = WorksOn options names.file old.folder in
+      let swp = gone_goes names.swp_new old new moved.0 (spared_alone on names.swp_new old new others (swp_unworked options old.folder) moved.0) in
+      let swo = gone_goes names.swo_new old new moved.1 (spared_alone on names.swo_new old new others (swo_unworked options old.folder) moved.1) in
+      (goes_both (λ m. IsGone names.swp_new m.folder) (λ m. IsGone names.swo_new m.folder) old.trace new.trace swp.0 swo.0, (swp.1, swo.1))
 
   -- a write that was carried out
   module _ (options : WriteOptions) (bytes : List ℕ) (size : ℕ) (old new : Scene) (file : WritesFile options names bytes old new (Ok size)) (others : SparesOthers (WorksOn options names.file old.folder) old new)

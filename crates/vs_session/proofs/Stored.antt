@@ -43,7 +43,8 @@ use Rattle.vs_session.specs.declared.session.Session.{Session}
 use Rattle.vs_session.specs.Session.{SessionState, Ended, accepts_quit, after_sync, answered, begins_after, begins_sync, carried, is_fault, is_rundo, is_write, is_wundo, lacks_name, options_after, quits, reply_of, session_reply, state_after, sync_in, undo_in, undo_work, with_history, work_of, write_work, written_state}
 use Rattle.vs_session.specs.Stores.{StoresUndo}
 use Rattle.vs_session.specs.Fits.{Answers, Fits, names_of}
-use Rattle.vs_session.proofs.Cleared.{cleared_stored, swap_name}
+use Rattle.vs_session.specs.Made.{IsLeftBy, LeavesNoneBut}
+use Rattle.vs_session.proofs.Cleared.{but_stored, cleared_same, cleared_stored, moved_stored, swap_name}
 use Rattle.vs_session.proofs.Failing.{once_stops}
 use Rattle.vs_session.proofs.Wholeness.{whole_unbegun}
 use Rattle.vs_session.proofs.SessionLemmas.{carried_still}
@@ -192,7 +193,7 @@ options_stay options NoUndo parsed is = absurd (true≢false (sym is))
 module _ (state : SessionState) (syncs : List Sync) (instruction : Instruction) (before : Session) (old : Scene) (fits : Fits before old.folder state syncs) (is : is_wundo instruction.parsed ≡ true) (after : Session)
     (outcome : Outcome) (at : ℕ) (reply : Answer) (new : Scene) (names_after : names_of after ≡ names_of before) (frame : ChangesFolder old new)
     (tells : Tells) (told : IsTrue tells.folder) (stops : StopsAtFault tells (is_fault outcome ≡ true) old new) (runs : Runs (StoresUndo (names_of before) state.machine.text state.machine.history) old new)
-    (stored : outcome ≡ Done → HasUndo (names_of before) state.machine.text state.machine.history new.folder) (cause : HasCause old.folder_faults new.folder_faults (is_fault outcome ≡ true)) (never : outcome ≡ NoUndo → ⊥)
+    (stored : outcome ≡ Done → HasUndo (names_of before) state.machine.text state.machine.history new.folder) (idle : outcome ≡ NoMemory → new.folder ≡ old.folder) (cause : HasCause old.folder_faults new.folder_faults (is_fault outcome ≡ true)) (never : outcome ≡ NoUndo → ⊥)
     (reply_to : reply ≡ answered outcome (Some (says undo_file_written)) (machine.reply_of state.machine instruction (record { outcome = outcome; at = at }))) (left : Fits after new.folder state syncs) where
   abbrev names : Names
   names = names_of before
@@ -267,12 +268,22 @@ module _ (state : SessionState) (syncs : List Sync) (instruction : Instruction) 
   done_is Fault none one = absurd (true≢false (sym one))
   done_is NoUndo none one = absurd (none refl)
 
+  named : AreNames names
+  named = fits.stands.text.fit.named
+
+  -- under its temporary name it leaves a file only where a call failed
+  made_left : (o : Outcome) → outcome ≡ o → LeavesNoneBut (IsLeftBy o names state instruction old.folder) old.folder new.folder
+  made_left Done at = λ made out was. cleared_stored names named old.folder new.folder runs.now.spares (stored at).3 made was
+  made_left NoMemory at = λ made out was. cleared_same old.folder new.folder (idle at) made was
+  made_left Fault at = λ made out was. but_stored names named old.folder new.folder runs.now.spares made (λ same. out (inr (is, same))) was
+  made_left NoUndo at = absurd (never at)
+
   pub answers_stored : Answers state syncs instruction before after mark reply old new
   answers_stored =
       assemble state syncs instruction before old goes_on fits after mark false reply new None (Some (UndoFile undo)) (no_read instruction.parsed is) (λ unstored. absurd (never unstored))
       (once_stops names state instruction ended tells old new told (ap (λ (w : Bool). ((w && false) && not lacks) && took_effect outcome) (no_write instruction.parsed is)) stops)
       (whole_unbegun names state instruction ended old new (ap (λ (w : Bool). (w && false) && not lacks) (no_write instruction.parsed is)))
-      (λ done. cleared_stored names fits.stands.text.fit.named old.folder new.folder runs.now.spares (stored done).3) (ap (λ (c : Bool). cond c (Some (sync_in state false)) None) none_begun) work replied_as now
+      (record { left = made_left outcome refl; moved = moved_stored names named (StoresUndo names state.machine.text state.machine.history) old new (λ d storing. storing.spares) runs }) (ap (λ (c : Bool). cond c (Some (sync_in state false)) None) none_begun) work replied_as now
       (record {
         found = refl;
         works = works;

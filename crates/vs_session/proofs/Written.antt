@@ -4,7 +4,7 @@ use Rattle.std.proofs.Common.{◌≡◌, ◌⊎◌, inl, inr, ℕ, ◌≤◌, Bo
 use Rattle.std.proofs.lemmas.Bool.{true≢false, cases_Bool}
 use Rattle.vs_faults.specs.Faults.{HasCause, HasRisen}
 use Rattle.vs_host.specs.Disk.{Disk, Name, content_in}
-use Rattle.vs_host.specs.Names.{AreNames}
+use Rattle.vs_host.specs.Names.{AreNames, temporary}
 use Rattle.vs_host.specs.Trace.{Snapshot, GoesOn}
 use Rattle.vs_host.specs.World.{Scene, ChangesFolder}
 use Rattle.vs_host.specs.declared.names.Names.{Names}
@@ -44,13 +44,14 @@ use Rattle.vs_desk.proofs.Stillness.{still_fits}
 use Rattle.vs_session.specs.declared.session.Session.{Session}
 use Rattle.vs_session.specs.Session.{SessionState, Ended, accepts_quit, after_sync, answered, begins_sync, carried, is_fault, is_write, lacks_name, line_by, reply_of, state_after, sync_in, undo_after, undo_work, with_history, write_in, write_reply, write_work, written_state}
 use Rattle.vs_session.specs.Writes.{HasSynced, Wrote}
-use Rattle.vs_session.specs.Fits.{Answers, Fits, LeavesNoneMade, names_of}
+use Rattle.vs_session.specs.Fits.{Answers, Fits, names_of}
+use Rattle.vs_session.specs.Made.{ClearsMade, LeavesNoneBut, LeavesNoneMade, StaysMoved, WritesUnder}
 use Rattle.vs_session.specs.Failures.{FailsOnce, StopsWriting}
 use Rattle.vs_session.specs.Wholeness.{BecomesWhole, StaysUntouched, StaysWhole}
-use Rattle.vs_session.proofs.Cleared.{cleared_same, cleared_synced, cleared_then, cleared_written}
+use Rattle.vs_session.proofs.Cleared.{but_refused, cleared_same, cleared_synced, cleared_then, cleared_written, clears_none, gone_spared, moved_apart, moved_looks, moved_then, moved_write}
 use Rattle.vs_session.proofs.Failing.{above_quiet, once_after, once_refused, once_unwritten}
 use Rattle.vs_session.proofs.Steps.{assemble, between_synced, flag_true, looked_synced, no_history, risen_since, unread, works_runs}
-use Rattle.vs_session.proofs.FileWrites.{undo_same}
+use Rattle.vs_session.proofs.FileWrites.{undo_same, works_same}
 use Rattle.vs_session.proofs.Wholeness.{becomes, whole_unbegun}
 use Rattle.vs_session.proofs.UndoNames.{undo_unworked}
 use Rattle.vs_session.proofs.WriteCommand.{begins_is, carried_on, never_quits, no_read, no_undo, reply_is}
@@ -185,6 +186,9 @@ module _ (state : SessionState) (syncs : List Sync) (instruction : Instruction) 
   sync_apart : GoesOn (λ m. SameAt (is_apart names) old.folder m.folder) old.trace mid.trace
   sync_apart = goes_weaker (Inside old (folder.Syncing before.text old.folder)) (λ m. SameAt (is_apart names) old.folder m.folder) (λ m inside. inside.folder.spared text syncs s.fits.stands.text) old.trace mid.trace s.runs.moments
 
+  sync_moved : StaysMoved names old mid
+  sync_moved = moved_apart names are old mid sync_apart same
+
   sync_unmoved : GoesOn (λ m. Unmoved (is_apart names) old.folder m.folder) old.trace mid.trace
   sync_unmoved = goes_weaker (Inside old (folder.Syncing before.text old.folder)) (λ m. Unmoved (is_apart names) old.folder m.folder) (λ m inside. inside.folder.unmoved text syncs s.fits.stands.text) old.trace mid.trace s.runs.moments
 
@@ -262,6 +266,16 @@ module _ (state : SessionState) (syncs : List Sync) (instruction : Instruction) 
     cleared_by size ok = cleared_then old.folder mid.folder new.folder (cleared_synced names are old.folder mid.folder same)
         (cleared_written names are options (file_of text) size mid new (subst (λ (r : Result ℕ WriteErr). WritesFile options names (file_of text) mid new r) ok did.file) did.others)
 
+    -- and one that was not leaves one only where it works
+    but_by : LeavesNoneBut (WritesUnder names state instruction old.folder) old.folder new.folder
+    but_by made out was =
+        gone_spared (WorksOn options names.file mid.folder) (temporary made) mid new did.others (λ works. out (is, works_same names are old.folder mid.folder same options (temporary made) works))
+        (cleared_synced names are old.folder mid.folder same made was)
+
+    -- at no moment is there one for a swap file
+    pub moved_by : StaysMoved names old new
+    moved_by = moved_then names are old mid new sync_moved (moved_write names are options mid new did.others)
+
     pub bytes_left : IfOk result (λ size. (size ≡ length (file_of text)) × HoldsBytes names.file (file_of text) new.folder)
     bytes_left = (facts names are options text old.folder mid new same result did.file old.folder_faults later).written
 
@@ -301,7 +315,7 @@ module _ (state : SessionState) (syncs : List Sync) (instruction : Instruction) 
 
   -- where the file may be written
   module _ (free : lacks ≡ false) (b : Bool) (flag : state.options.undofile ≡ b) where
-    pub answers_free : (after : Session) (outcome : Outcome) (at : ℕ) (reply : Answer) (new : Scene) → names_of after ≡ names → (outcome ≡ NoUndo → b ≡ true) → FailsOnce names state instruction (ended outcome at) old new → StaysWhole names state instruction (ended outcome at) old new → (outcome ≡ Done → LeavesNoneMade old.folder new.folder) → reply ≡ reply_of state instruction (ended outcome at)
+    pub answers_free : (after : Session) (outcome : Outcome) (at : ℕ) (reply : Answer) (new : Scene) → names_of after ≡ names → (outcome ≡ NoUndo → b ≡ true) → FailsOnce names state instruction (ended outcome at) old new → StaysWhole names state instruction (ended outcome at) old new → ClearsMade names state instruction (ended outcome at) old new → reply ≡ reply_of state instruction (ended outcome at)
         → Fits after new.folder (state_after state instruction (ended outcome at)) all → Works names (Some (work_by b)) (IsUnderWay names under (Some (work_by b))) old new
         → HasLeft names (work_by b) (took_effect outcome) (is_fault outcome) (state_now old) (state_now new) → IsWholeAt names (work_by b) new.folder → Rises names old.folder new.folder
         → (is_fault outcome ≡ true → HasRisen old.folder_faults new.folder_faults) → Answers state syncs instruction before after (mark outcome at) reply old new
@@ -373,7 +387,9 @@ module _ (state : SessionState) (syncs : List Sync) (instruction : Instruction) 
         (once_after names state instruction (ended outcome at) old mid new s.quiet (once_unwritten names state instruction (ended outcome at) mid new unwritten idle.last
         (λ here. elim (calm here) [ inl quiet ↦ quiet | inr none ↦ idle.none none ])))
         (whole_unbegun names state instruction (ended outcome at) old new (λ i. (is i && true) && not (taken i)))
-        (λ _. cleared_then old.folder mid.folder new.folder (cleared_synced names are old.folder mid.folder same) (cleared_same mid.folder new.folder idle.looks.now)) sync_is
+        (clears_none names state instruction (ended outcome at) old new
+        (cleared_then old.folder mid.folder new.folder (cleared_synced names are old.folder mid.folder same) (cleared_same mid.folder new.folder idle.looks.now))
+        (moved_then names are old mid new sync_moved (moved_looks names are mid new idle.looks))) sync_is
         ((λ i. cond ((is i && true) && not (taken i)) (Some (write_work state old.folder)) (undo_work state old.folder instruction.parsed)) ∙ no_undo state old.folder instruction.parsed is) replied now
         (looked_synced before after state syncs (state_after state instruction (ended outcome at)) (took_effect outcome) (is_fault outcome) (reply_of state instruction (ended outcome at)).bytes old mid new s.fits between s.names names_after
         s.frame s.runs s.rises s.synced idle.looks.now second idle.looks cause now)
@@ -386,7 +402,10 @@ module _ (state : SessionState) (syncs : List Sync) (instruction : Instruction) 
         let runs = written_runs after (Err why) new second wrote in
         answers_free free b refl after outcome at reply new names_after (λ unstored. absurd (stored unstored))
         (once_after names state instruction (ended outcome at) old mid new s.quiet (once_free free outcome calm none))
-        (stays_whole after (Err why) new second wrote outcome at (λ _. none)) (λ done. absurd (true≢false (sym (ap took_effect done) ∙ none))) replied
+        (stays_whole after (Err why) new second wrote outcome at (λ _. none)) (record {
+          left = but_refused names state instruction old.folder outcome none old.folder new.folder (but_by after (Err why) new second wrote);
+          moved = moved_by after (Err why) new second wrote;
+        }) replied
         (stays after new.folder outcome at unwritten wrote.fits)
         (works_runs names (Some (work_by b)) (IsUnderWay names under (Some (work_by b))) AtMoment old new (written_frame after (Err why) new second wrote) (lead b) runs)
         (left_by b (took_effect outcome) (is_fault outcome) new
@@ -455,7 +474,7 @@ module _ (state : SessionState) (syncs : List Sync) (instruction : Instruction) 
           refused = λ unwritten. absurd (true≢false (sym (written free) ∙ unwritten));
           last = λ unwritten. absurd (true≢false (sym (written free) ∙ unwritten));
           none = λ unwritten. absurd (true≢false (sym (written free) ∙ unwritten));
-        })) (stays_whole after (Ok size) new second wrote Done at (λ failed. absurd (true≢false (sym failed)))) (λ _. cleared_by after (Ok size) new second wrote size refl)
+        })) (stays_whole after (Ok size) new second wrote Done at (λ failed. absurd (true≢false (sym failed)))) (clears_none names state instruction (ended Done at) old new (cleared_by after (Ok size) new second wrote size refl) (moved_by after (Ok size) new second wrote))
         (reply_to ∙ line_is free Done size (bytes_left after (Ok size) new second wrote).0 ∙ replied_done at)
         (fits_by after new.folder Done at true (written free) wrote.fits)
         (works_runs names (Some (EditedFile write)) (IsUnderWay names under (Some (EditedFile write))) AtMoment old new (written_frame after (Ok size) new second wrote) (lead false) runs)

@@ -22,6 +22,7 @@ use Rattle.vs_session.specs.declared.ending.End.{End}
 use Rattle.vs_session.specs.declared.ending.End.TheVariants as end
 use Rattle.vs_session.specs.Session.{SessionState, carried, sync_in}
 use Rattle.vs_session.specs.Stores.{StoresUndo}
+use Rattle.vs_session.specs.Made.{LeavesNoneMade, StaysMoved}
 use Rattle.vs_session.specs.Fits.{Fits, FitsUndo, HasSyncs, IsStep, Leaves, SameFile, generation_of, names_of}
 
 -- Where the folder is told, the session is in some state, and the folder has the swap files that some syncs made.
@@ -86,7 +87,8 @@ pub record GoesOnSyncing (Failed : Type 0) (before after : Session) (old new : S
   pub cause : HasCause old.folder_faults new.folder_faults Failed
 
 -- What the end of a session leaves, done or failed. The last sync steps from the syncs before to itself, and some session with these
--- names fits the folder after it; a quit leaves what the syncs allow, and no swap file where it is done. No call but the last one failed.
+-- names fits the folder after it; a quit leaves what the syncs allow, and no swap file where it is done. Under a name under which files are
+-- made it leaves none, and at no moment one under those for the swap files. No call but the last one failed.
 pub record Finishes (tells : Tells) (session : Session) (old new : Scene) (how : End) (done : Bool) : Type 0 where
   pub sync : how ≡ end.Sync → IsTrue tells.folder → (state : SessionState) (syncs : List Sync) → Fits session old.folder state syncs
       → Stepped (names_of session) syncs (last_turn (sync_in state done)) old new
@@ -96,6 +98,8 @@ pub record Finishes (tells : Tells) (session : Session) (old new : Scene) (how :
   pub quit : how ≡ end.Quit → IsTrue tells.folder → (state : SessionState) (syncs : List Sync) → Fits session old.folder state syncs
       → Leaves (names_of session) syncs old new
   pub gone : done ≡ true → how ≡ end.Quit → IsTrue tells.folder → IsFresh (names_of session) new.folder
+  pub cleared : IsTrue tells.folder → LeavesNoneMade old.folder new.folder
+  pub moved : IsTrue tells.folder → StaysMoved (names_of session) old new
   pub last : IsTrue tells.folder → FailsLast old new
   pub none : done ≡ true → NoneFails tells old new
   pub frame : ChangesFolder old new

@@ -1,16 +1,14 @@
 -- A session between two commands, and what opening it, one step and its end do to the folder.
 use Rattle.std.specs.Prelude.{◌≡◌, ◌⊎◌, ℕ, max, true, false, List, [], ◌∷◌, ◌++◌, IsSome, None, string_bytes}
-use Rattle.vs_host.specs.Disk.{Disk, Name, content_in}
-use Rattle.vs_host.specs.Names.{names_of_file, temporary}
+use Rattle.vs_host.specs.Disk.{Disk, content_in}
+use Rattle.vs_host.specs.Names.{names_of_file}
 use Rattle.vs_host.specs.World.{Scene}
 use Rattle.vs_host.specs.declared.names.Names.{Names}
 use Rattle.vs_disk.specs.Names.{SameAt}
 use Rattle.vs_pair.specs.Pair.{is_foreign}
 use Rattle.vs_pair.specs.Steps.{IsAbsent}
-use Rattle.vs_backup.specs.Works.{IsGone}
 use Rattle.vs_excmd.specs.Request.{Instruction}
 use Rattle.vs_machine.specs.declared.command.Mark.{Mark}
-use Rattle.vs_machine.specs.declared.command.Outcome.TheVariants.{Done}
 use Rattle.vs_machine.specs.Replies.{Answer}
 use Rattle.vs_safety.specs.Texts.{Sync, RecoversOrNone, recoverable}
 use Rattle.vs_safety.specs.Safety.{Stepped, Works}
@@ -24,6 +22,7 @@ use Rattle.vs_session.specs.Failures.{FailsOnce}
 use Rattle.vs_session.specs.Wholeness.{StaysWhole}
 use Rattle.vs_session.specs.Standing.{FitsState}
 use Rattle.vs_session.specs.Summary.{acknowledged_in}
+use Rattle.vs_session.specs.Made.{ClearsMade}
 use Rattle.vs_session.specs.Opened.{Opened, text_in}
 
 -- The session is in this state, and the folder has the swap files that these syncs, the newest first, made.
@@ -85,12 +84,8 @@ pub record SameFile (old new : Session) : Type 0 where
 
 -- ---- one step
 
--- A name under which a file is made that is renamed then, and under which no image has a file, has none in any image later.
-abbrev pub LeavesNoneMade : Disk → Disk → Type 0
-LeavesNoneMade old new = (name : Name) → IsGone (temporary name) old → IsGone (temporary name) new
-
 -- The session answered a command: the reply, the state and the syncs are those of the state before, and at each moment what may be
--- recovered is recovered. One that is carried out leaves no file under a name under which it made one.
+-- recovered is recovered. Under a name under which files are made it leaves one only where it ended so that it may.
 pub record Answers (state : SessionState) (syncs : List Sync) (instruction : Instruction) (before after : Session) (mark : Mark) (reply : Answer)
     (old new : Scene) : Type 0 where
   pub not_quit : accepts_quit state instruction ≡ false
@@ -102,7 +97,7 @@ pub record Answers (state : SessionState) (syncs : List Sync) (instruction : Ins
   pub stepped : Stepped (names_of before) syncs (turn_of state instruction ended) old new
   pub calls : FailsOnce (names_of before) state instruction ended old new
   pub whole : StaysWhole (names_of before) state instruction ended old new
-  pub cleared : mark.outcome ≡ Done → LeavesNoneMade old.folder new.folder
+  pub cleared : ClearsMade (names_of before) state instruction ended old new
 
 -- a command was answered, or an accepted `q` or `q!` changed nothing
 abbrev pub IsStep : Step → SessionState → List Sync → Instruction → Session → Session → Scene → Scene → Type 0

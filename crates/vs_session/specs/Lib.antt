@@ -4,6 +4,7 @@ pub mod Opened
 pub mod Open
 pub mod Standing
 pub mod Summary
+pub mod Made
 pub mod Fits
 pub mod Writes
 pub mod Stores

@@ -10,7 +10,8 @@ ghost use Rattle.vs_text.specs.Limits.{IsWithinLimits};
 ghost use Rattle.vs_text.specs.Text.{lines_of};
 ghost use Rattle.vs_machine.specs.Replies.{opening_of};
 ghost use Rattle.vs_safety.specs.Turns as turns;
-ghost use Rattle.vs_session.specs.Fits.{Fits, FitsUndo, HasOpened, HasSwap, IsSettled, LeavesNoneMade, Opens, generation_of, names_of};
+ghost use Rattle.vs_session.specs.Fits.{Fits, FitsUndo, HasOpened, HasSwap, IsSettled, Opens, generation_of, names_of};
+ghost use Rattle.vs_session.specs.Made.{LeavesNoneMade};
 ghost use Rattle.vs_session.specs.Open.{IsLook, IsReading, IsTooLarge, KeepsToLimits, OnlyLooks};
 ghost use Rattle.vs_session.specs.Opened.{opened, sizes_of, text_in};
 

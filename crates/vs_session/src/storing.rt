@@ -38,6 +38,7 @@ impl Session {
             Fits self.old (F.scene host.old).folder state syncs
             → HasUndo (names_of self.old) state.machine.text state.machine.history (F.scene host.new).folder) }
         ensures fits { KeepsState F.tells self.old self.new (F.scene host.old).folder (F.scene host.new).folder }
+        ensures idle { IsErrOf result StoreErr.NoMemory → IsTrue F.tells.folder → (F.scene host.new).folder ≡ (F.scene host.old).folder }
         ensures stops { StopsAtFault F.tells (IsErrOf result StoreErr.Failed) (F.scene host.old) (F.scene host.new) }
         ensures kept { GoesOn (IsErrOf result StoreErr.Failed) self.old self.new (F.scene host.old) (F.scene host.new) }
         ensures works { SameWork F.tells self.old.text.pair.pages self.new.text.pair.pages }

@@ -9,7 +9,11 @@ use Rattle.vs_host.specs.Names.{AreNames, names_of_file}
 use Rattle.vs_host.specs.World.{Tells, Scene, content_of}
 use Rattle.vs_host.specs.declared.names.Names.{Names}
 use Rattle.vs_disk.proofs.Contents.{leads_nowhere}
+use Rattle.vs_disk.specs.Runs.{Inside}
+use Rattle.vs_disk.proofs.Runs.{Each-weaker}
 use Rattle.vs_disk.proofs.Steps.{one_state}
+use Rattle.vs_pair.specs.Steps.{BothMoved}
+use Rattle.vs_safety.specs.Stretches.{IsShorter}
 use Rattle.vs_pair.specs.Acts.{Acts}
 use Rattle.vs_pair.specs.Pair.{Image, NoneThere, is_foreign}
 use Rattle.vs_text.specs.Text.{lines_of}
@@ -32,7 +36,9 @@ use Rattle.vs_session.specs.declared.session.Session.{Session}
 use Rattle.vs_session.specs.declared.open.OpenErr.{OpenErr}
 use Rattle.vs_session.specs.declared.open.OpenErr.TheVariants as opening
 use Rattle.vs_session.specs.Open.{IsTooLarge, OnlyLooks}
-use Rattle.vs_session.specs.Fits.{Fits, HasOpened, HasSwap, IsSettled, LeavesNoneMade, Opens, names_of}
+use Rattle.vs_session.specs.Fits.{Fits, HasOpened, HasSwap, IsSettled, Opens, names_of}
+use Rattle.vs_session.specs.Made.{LeavesNoneMade}
+use Rattle.vs_session.proofs.Cleared.{cleared_same}
 use Rattle.vs_top.specs.Ending.{open_ending}
 use Rattle.vs_top.specs.Promise.{HasRun, RunsEdit, row}
 use Rattle.vs_top.specs.Unhindered.{IsThrough, IsThroughMark, IsUnhindered}
@@ -98,7 +104,11 @@ module _ (tells : Tells) (name : List ℕ) (old new : Scene) (pending : IsTrue t
       safe = λ free. not_opened (is_foreign (names_of_file name)) (names_of_file name) quit_line (text_at old name) (opening_at old name) old new (begins told free) (opening_some name (opened_file old name).found);
       left = left;
       last = last;
-      calls = calls_unopened (opened_file old name) old new (ap (λ (s : Scene). s.output) acts.frame) (opening_some name (opened_file old name).found);
+      calls =
+          let runs = acts.runs told.folder in
+          calls_unopened (opened_file old name) old new (ap (λ (s : Scene). s.output) acts.frame) (opening_some name (opened_file old name).found) runs.moments.added runs.moments.is
+          (Each-weaker (Inside old (Opens name old.folder)) (IsShorter (length old.output + length (opening_at old name)))
+          (λ m inside. let some = opening_some name (opened_file old name).found in omega (arith, some, ap (λ (l : List ℕ). length l) inside.output)) runs.moments.added runs.moments.each);
     }
 
     output_same : new.output ≡ old.output
@@ -136,7 +146,7 @@ module _ (tells : Tells) (name : List ℕ) (old new : Scene) (pending : IsTrue t
       times = λ told. no_times old new marks none (ap (λ (s : Scene). s.answers) acts.frame);
     }
     open_fails opening.NoMemory failed quiet limit swap barred barred_looks looks = record {
-      told = λ told. run_none ending.NoMemory told (inl (record { none = none; output = output_same })) tt (refl, inl ((looks (λ is. absurd (cc))).runs told.folder));
+      told = λ told. let looked = (looks (λ is. absurd (cc))).runs told.folder in run_none ending.NoMemory told (inl (record { answered = record { none = none; output = output_same }; cleared = cleared_same old.folder new.folder looked.now })) tt (refl, inl looked);
       swap = λ told is. absurd (cc);
       barred = λ told has. only_looked tells old new ending.NoMemory marks (inr (inl refl)) none (barred_looks told has) told;
       file = λ told. tt;
@@ -159,8 +169,8 @@ module _ (tells : Tells) (name : List ℕ) (old new : Scene) (pending : IsTrue t
   -- it was opened
   pub is_opened : (session : Session) → names_of session ≡ names_of_file name → (IsTrue tells.folder → HasSwap (names_of_file name) old.folder → ⊥) → (IsTrue tells.folder → FileFits (content_of old name))
       → (IsTrue tells.folder → HasOpened (opened_file old name) session) → (IsTrue tells.folder → Fits session new.folder (opened_file old name).state (opened (text_at old name)))
-      → new.folder_faults ≡ old.folder_faults → (IsTrue tells.folder → LeavesNoneMade old.folder new.folder) → IsOpened tells name old new session
-  is_opened session names free file has fits none cleared = record {
+      → new.folder_faults ≡ old.folder_faults → (IsTrue tells.folder → LeavesNoneMade old.folder new.folder) → (IsTrue tells.folder → BothMoved (names_of_file name) new.folder) → IsOpened tells name old new session
+  is_opened session names free file has fits none cleared moved = record {
     told = λ told. record {
       file = has told.folder;
       fits = fits told.folder;
@@ -170,7 +180,7 @@ module _ (tells : Tells) (name : List ℕ) (old new : Scene) (pending : IsTrue t
         between = subst (λ (n : Names). IsBetween n (opened (text_at old name)) new.folder) names (fits_between session.text new.folder _ _ (fits told.folder).stands.text);
       };
       counted = counted_works (names_of_file name) None _ old old new (ap (λ (s : Scene). s.out_faults) acts.frame) (works told (free told.folder)) (counted_none output_count old);
-      clean = record { last = acts.last told.folder; none = none; cleared = cleared told.folder };
+      clean = record { last = acts.last told.folder; none = none; cleared = cleared told.folder; moved = moved told.folder };
     };
     keeps = record { free = free; file = file; names = names; counts = only_folder old new acts.frame acts.later; causes = All-nil (FaultHasCause (counts_of old) (counts_of new)) };
     script = ap (λ (s : Scene). s.script) acts.frame;

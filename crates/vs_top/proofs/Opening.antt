@@ -64,11 +64,12 @@ module _ (tells : Tells) (name : List ℕ) (old now : Scene) (session : Session)
         record {
           did = did_none;
           kept = kept_none name old marks none;
-          answered = inl (record { none = none; output = here.begun.begins.works.output });
+          answered = inl (record { answered = record { none = none; output = here.begun.begins.works.output }; cleared = here.clean.cleared });
           safe = λ free. not_opened (is_foreign (names_of_file name)) (names_of_file name) quit_line (text_at old name) (opening_at old name) old now here.begun.begins (opening_some name (opened_file old name).found);
           left = (refl, inr (session, at.keeps.names, here.fits));
           last = tt;
-          calls = calls_unopened (opened_file old name) old now here.begun.begins.works.output (opening_some name (opened_file old name).found);
+          calls = calls_unopened (opened_file old name) old now here.begun.begins.works.output (opening_some name (opened_file old name).found) here.begun.begins.works.moments.added here.begun.begins.works.moments.is
+              (shorter_by (names_of_file name) None _ old now here.begun.begins.works (length old.output + length (opening_at old name)) (let some = opening_some name (opened_file old name).found in omega (arith, some)));
         };
     swap = λ told is. absurd (cc);
     barred = λ told has. absurd (at.keeps.free told has);
@@ -125,7 +126,8 @@ module _ (tells : Tells) (name : List ℕ) (old now : Scene) (session : Session)
                     (wrote_one now new cut.0 (opening_at old name) writes) (first_part cut.0 (opening_at old name));
                 left = (session, at.keeps.names, subst (λ (d : Disk). Fits session d (opened_file old name).state (opened (text_at old name))) (sym writes.folder) here.fits);
                 last = rose_at output_count old now new WroteOutput [] writes.added rose here.counted;
-                calls = calls_opened (opened_file old name) old now new here.clean (near_end now new writes.added writes.folder writes.faults);
+                calls = calls_opened (opened_file old name) old now new here.clean (near_end now new writes.added writes.folder writes.faults) here.begun.begins.works.moments.added here.begun.begins.works.moments.is
+                    (shorter_by (names_of_file name) None _ old now here.begun.begins.works (length old.output + length (opening_at old name)) (let some = opening_some name (opened_file old name).found in omega (arith, some)));
               };
           swap = λ told is. absurd (cc);
           barred = λ told has. absurd (at.keeps.free told has);

@@ -35,6 +35,7 @@ use Rattle.vs_session.specs.declared.ending.End.TheVariants as end
 use Rattle.vs_session.specs.Session.{SessionState, is_fault, accepts_quit, state_after, syncs_after, turn_of}
 use Rattle.vs_session.specs.Opened.{Opened}
 use Rattle.vs_session.specs.Failures.{FailsOnce}
+use Rattle.vs_session.specs.Made.{ClearsMade}
 use Rattle.vs_session.specs.Wholeness.{StaysWhole}
 use Rattle.vs_session.specs.Fits.{Answers, Fits, StepsIn, names_of}
 use Rattle.vs_top.specs.History.{CommandRun, Past, any_error, commands_then, history_of, marks_of, state_of, written}
@@ -44,7 +45,7 @@ use Rattle.vs_top.specs.Calls.{CallsSoFar, StepCalls}
 use Rattle.vs_top.specs.Turns.{Told, KeepsOpenFile, IsAtClose}
 use Rattle.vs_top.specs.declared.ending.Ending.TheVariants as ending
 use Rattle.vs_top.proofs.Pushes.{and_not, map_push}
-use Rattle.vs_top.proofs.Calls.{done_is, calls_cut, calls_next, calls_on, calls_read, near_end, shorter_on}
+use Rattle.vs_top.proofs.Calls.{calls_cut, calls_next, calls_on, calls_read, near_end, shorter_on}
 use Rattle.vs_top.proofs.Counting.{only_then, only_output, only_script, causes_on, counted_works, counted_reads, all_counted}
 use Rattle.vs_top.proofs.Turning.{reads_look, IsTurn}
 use Rattle.vs_top.proofs.Reading.{fresh_reader, HasRead, read_on, read_in, read_within, done_is_all, all_ahead, counts_on, few_taken}
@@ -107,7 +108,7 @@ module _ {T : Type 0} {x : T} (tells : Tells) (name : List ℕ) (old now read st
     calls_stepped = record {
       fails = subst (λ (n : Names). FailsOnce n state taken.first answers.ended read stepped) keeps answers.calls;
       whole = subst (λ (n : Names). StaysWhole n state taken.first answers.ended read stepped) keeps answers.whole;
-      cleared = λ clear. answers.cleared (ap (λ (m : Mark). m.outcome) (sym answers.mark_is) ∙ done_is answers.ended.mark.outcome clear);
+      cleared = subst (λ (n : Names). ClearsMade n state taken.first answers.ended read stepped) keeps answers.cleared;
     }
 
     kept_now : (marks' : List Mark) → marks' ≡ marks ++ mark ∷ [] → KeepsMarks file marks' past'

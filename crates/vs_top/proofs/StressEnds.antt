@@ -7,14 +7,14 @@ use Rattle.vs_faults.specs.Faults.{HasRisen}
 use Rattle.vs_faults.proofs.Causes.{risen_after}
 use Rattle.vs_host.specs.Disk.{Disk}
 use Rattle.vs_host.specs.Names.{names_of_file}
-use Rattle.vs_host.specs.Trace.{WroteOutput, Snapshot, Each}
+use Rattle.vs_host.specs.Trace.{WroteOutput, Snapshot, Each, GoesOn}
 use Rattle.vs_host.specs.World.{Tells, Scene, HasNewest, ChangesOutput, ReadsFolder, snapshot_of}
 use Rattle.vs_host.specs.declared.names.Names.{Names}
 use Rattle.vs_disk.specs.Runs.{Inside}
 use Rattle.vs_disk.proofs.Runs.{Each-append, Each-weaker}
 use Rattle.vs_disk.proofs.Others.{same_then}
 use Rattle.vs_pair.specs.Pair.{is_foreign}
-use Rattle.vs_pair.specs.Steps.{IsFresh}
+use Rattle.vs_pair.specs.Steps.{BothMoved, IsFresh}
 use Rattle.vs_excmd.specs.Request.{Instruction}
 use Rattle.vs_machine.specs.declared.command.Mark.{Mark}
 use Rattle.vs_safety.specs.Texts.{Text, Sync, IsBetween, Recovers, RecoversOrNone, recoverable}
@@ -30,6 +30,8 @@ use Rattle.vs_session.specs.declared.ending.End.TheVariants as end
 use Rattle.vs_session.specs.Session.{SessionState}
 use Rattle.vs_session.specs.Calls.{Finishes}
 use Rattle.vs_session.specs.Fits.{Fits, names_of}
+use Rattle.vs_session.specs.Made.{LeavesNoneMade, StaysMoved}
+use Rattle.vs_desk.proofs.Left.{moved_to}
 use Rattle.vs_stress.specs.Commands.{stress_commands}
 use Rattle.vs_top.specs.Ending.{ending_in}
 use Rattle.vs_top.specs.History.{Past, any_error}
@@ -85,13 +87,13 @@ module _ (OfHost : Scene → Type 0) (tells : Tells) (old now : Scene) (session 
         answered = answered;
         safe = λ free. safe_now told (stress_line count old here.0);
         last = last;
-        calls = record { moments = here.2.moments; added = here.2.added; each = here.2.calls };
+        calls = record { moments = here.2.moments; added = here.2.added; each = here.2.calls; moved = here.2.moved };
       }
 
   -- there is no memory
   pub no_memory : (count : ℕ) (rest : List Instruction) → stress_commands count ≡ commands ++ rest → RunsStress OfHost tells count old now ending.NoMemory marks
   no_memory count rest is = record {
-    told = λ told. stops count ending.NoMemory told (record { rest = rest; first = is ∙ sym (ap (λ (l : List Instruction). l ++ rest) (turn.told told).1) ∙ sym (commands_are (turn.told told).0 rest); output = (turn.told told).2.output; closing = refl; kept = inr (session, turn.keeps.names, (turn.told told).2.fits) }) tt;
+    told = λ told. stops count ending.NoMemory told (record { rest = rest; first = is ∙ sym (ap (λ (l : List Instruction). l ++ rest) (turn.told told).1) ∙ sym (commands_are (turn.told told).0 rest); output = (turn.told told).2.output; closing = refl; kept = inr (session, turn.keeps.names, (turn.told told).2.fits); cleared = (turn.told told).2.cleared }) tt;
     swap = λ told same. absurd (cc);
     barred = λ told has. absurd (turn.keeps.free told has);
     file = λ told. tt;
@@ -106,7 +108,7 @@ module _ (OfHost : Scene → Type 0) (tells : Tells) (old now : Scene) (session 
   no_summary count was all rose later last = record {
     told = λ told.
         let here = turn.told told in
-        stops count ending.FolderFault told (inr (inl (record { all = here.1 ∙ all; output = here.2.output ∙ sym (append-nil old.output) }))) (full_last old now here.2.moments here.2.added (last told.folder));
+        stops count ending.FolderFault told (inr (inl (record { all = here.1 ∙ all; output = here.2.output ∙ sym (append-nil old.output); cleared = here.2.cleared; moved = here.2.here }))) (full_last old now here.2.moments here.2.added (last told.folder));
     swap = λ told same. absurd (cc);
     barred = λ told has. absurd (turn.keeps.free told has);
     file = λ told. tt;
@@ -136,6 +138,9 @@ module _ (OfHost : Scene → Type 0) (tells : Tells) (old now : Scene) (session 
             steps = subst (λ (s : Scene). HasStretches OfHost names old here.2.moments (stress_turns old here.0) s.folder_faults) (sym is) here.2.steps;
             of_host = subst OfHost (sym is) here.2.of_host;
             calls = here.2.calls;
+            cleared = subst (λ (s : Scene). LeavesNoneMade old.folder s.folder) (sym is) here.2.cleared;
+            moved = here.2.moved;
+            here = subst (λ (s : Scene). BothMoved names s.folder) (sym is) here.2.here;
             newest_at_start = here.2.newest_at_start;
             newest = subst HasNewest (sym is) here.2.newest;
             output = ap (λ (s : Scene). s.output) is ∙ here.2.output;
@@ -218,9 +223,16 @@ module _ (OfHost : Scene → Type 0) (tells : Tells) (old now : Scene) (session 
           | inr left ↦ record { moments = here.moments; added = left.trace ∙ here.added; safe = moments_now told (told_line told); spared = spared; steps = steps }
         ]
 
+    -- under the names under which files are made it leaves none
+    cleared_by : (new : Scene) → new.folder ≡ now.folder → (told : TellsStress tells) → LeavesNoneMade old.folder new.folder
+    cleared_by new same told = subst (λ (d : Disk). LeavesNoneMade old.folder d) (sym same) (turn.told told).2.cleared
+
+    moved_by : (new : Scene) → new.folder ≡ now.folder → (told : TellsStress tells) → BothMoved names new.folder
+    moved_by new same told = subst (λ (d : Disk). BothMoved names d) (sym same) (turn.told told).2.here
+
     -- and of the calls of the commands
-    put_calls : (new : Scene) → (IsTrue tells.folder → IsAdded WroteOutput [] now new) → (told : TellsStress tells) → StressCalls OfHost old new (past told)
-    put_calls new added told =
+    put_calls : (new : Scene) → ChangesOutput now new → (IsTrue tells.folder → IsAdded WroteOutput [] now new) → (told : TellsStress tells) → StressCalls OfHost old new (past told)
+    put_calls new frame added told =
         let here = (turn.told told).2 in
         let last : Snapshot = snapshot_of new WroteOutput [] in
         elim (added told.folder) [
@@ -228,8 +240,9 @@ module _ (OfHost : Scene → Type 0) (tells : Tells) (old now : Scene) (session 
             moments = last ∷ here.moments;
             added = told_here ∙ ap (λ (ms : List Snapshot). last ∷ ms) here.added;
             each = called_on OfHost old here.moments (last ∷ []) (past told) (λ n most. (inr refl, tt)) here.calls;
+            moved = ((λ later. moved_by new (ap (λ (s : Scene). s.folder) frame) told), here.moved);
           }
-          | inr left ↦ record { moments = here.moments; added = left.trace ∙ here.added; each = here.calls }
+          | inr left ↦ record { moments = here.moments; added = left.trace ∙ here.added; each = here.calls; moved = here.moved }
         ]
 
     -- a part of it was written
@@ -246,10 +259,10 @@ module _ (OfHost : Scene → Type 0) (tells : Tells) (old now : Scene) (session 
               record {
                 did = did_of here.0;
                 kept = here.2.kept;
-                answered = (cut.0, record { all = here.1 ∙ all; output = output });
+                answered = (cut.0, record { all = here.1 ∙ all; output = output; cleared = cleared_by new (ap (λ (s : Scene). s.folder) frame) told; moved = moved_by new (ap (λ (s : Scene). s.folder) frame) told });
                 safe = λ free. put_safe new frame added told cut.0 output;
                 last = rose_at output_count old now new WroteOutput [] (added told.folder) rose here.2.counted;
-                calls = put_calls new added told;
+                calls = put_calls new frame added told;
               };
           swap = λ told same. absurd (cc);
           barred = λ told has. absurd (turn.keeps.free told has);
@@ -337,17 +350,31 @@ module _ (OfHost : Scene → Type 0) (tells : Tells) (old now : Scene) (session 
                   (stretches_on OfHost names old was.moments works.moments.added (turns told) mid.folder_faults all_behind same_folders was.steps);
             }
 
+        same_mid : mid.folder ≡ now.folder
+        same_mid = ap (λ (s : Scene). s.folder) frame
+
+        moved_end : GoesOn (λ m. BothMoved names m.folder) mid.trace new.trace × BothMoved names new.folder
+        moved_end = subst (λ (n : Names). StaysMoved n mid new) turn.keeps.names (finishes.moved told.folder) (moved_by mid same_mid told)
+
         end_calls : StressCalls OfHost old new (past told)
         end_calls =
-            let was = put_calls mid added told in
+            let was = put_calls mid frame added told in
             record {
               moments = works.moments.added ++ was.moments;
               added = works.moments.is ∙ ap (λ (ms : List Snapshot). works.moments.added ++ ms) was.added ∙ sym (append_assoc works.moments.added was.moments old.trace);
               each = called_on OfHost old was.moments works.moments.added (past told) (λ n most. all_behind n (omega (arith, most, as_many old (past told)))) was.each;
+              moved = Each-append (λ m. is_up_to old 0 m ≡ false → BothMoved names m.folder) works.moments.added was.moments
+                  (Each-weaker (λ m. BothMoved names m.folder) (λ m. is_up_to old 0 m ≡ false → BothMoved names m.folder) (λ m at later. at) works.moments.added
+                  (moved_to (λ m. BothMoved names m.folder) mid.trace new.trace works.moments.added works.moments.is moved_end.0)) was.moved;
             }
 
         stressed : HasStressed count old new (did_of (past told)) (told_line told)
-        stressed = record { all = (turn.told told).1 ∙ all; output = works.output ∙ mid_output }
+        stressed = record {
+          all = (turn.told told).1 ∙ all;
+          output = works.output ∙ mid_output;
+          cleared = λ made gone. finishes.cleared told.folder made (cleared_by mid same_mid told made gone);
+          moved = moved_end.1;
+        }
 
         kept : KeepsMarks (opened_file old stress_name) marks (past told)
         kept = (turn.told told).2.kept

@@ -32,6 +32,10 @@ later_read start n m more = grind (arith, nat_tests)
 pub later_written : (start : Scene) (n : ℕ) (m : Snapshot) → length start.output < length m.output → is_up_to start n m ≡ false
 later_written start n m more = grind (arith, nat_tests)
 
+-- nor is one of the opening
+pub up_to_start : (start : Scene) (m : Snapshot) → m.answered ≡ length start.answers → m.output ≡ start.output → is_up_to start 0 m ≡ true
+up_to_start start m answered output = up_to start 0 m (omega (arith, answered)) (omega (arith, ap (λ (l : List ℕ). length l) output))
+
 -- no moment before the line is
 pub before_line : (names : Names) (start : Scene) (text : Text) (turns : List Turn) (n : ℕ) → length turns ≤ n → (m : Snapshot) → IsBeforeLine names start text turns m → is_up_to start n m ≡ true
 before_line names start text turns n most m is = elim is.recovers [

@@ -1,5 +1,6 @@
 -- The opening of the stress mode, and what comes of it where it fails.
-use Rattle.std.proofs.Common.{◌≡◌, ◌⊎◌, inl, inr, ℕ, true, List, [], ◌++◌, length, IsTrue, refl, sym, ap, ◌∙◌, append-nil, arith}
+use Rattle.std.proofs.Common.{◌≡◌, ◌⊎◌, inl, inr, ℕ, true, false, List, [], ◌++◌, length, IsTrue, refl, sym, ap, ◌∙◌, append-nil, arith}
+use Rattle.std.proofs.lemmas.Bool.{true≢false}
 use Rattle.std.proofs.lemmas.List.Elements.{All-nil}
 use Rattle.vs_faults.specs.Faults.{HasRisen, IsQuiet}
 use Rattle.vs_host.specs.Names.{names_of_file}
@@ -9,6 +10,7 @@ use Rattle.vs_host.specs.declared.names.Names.{Names}
 use Rattle.vs_disk.specs.Runs.{Inside}
 use Rattle.vs_disk.proofs.Runs.{Each-weaker}
 use Rattle.vs_pair.specs.Acts.{Acts}
+use Rattle.vs_pair.specs.Steps.{BothMoved}
 use Rattle.vs_machine.specs.declared.command.Mark.{Mark}
 use Rattle.vs_safety.specs.Turns.{opened}
 use Rattle.vs_safety.specs.Causes.{folder_count, output_count}
@@ -18,6 +20,8 @@ use Rattle.vs_session.specs.declared.open.OpenErr.{OpenErr}
 use Rattle.vs_session.specs.declared.open.OpenErr.TheVariants as opening
 use Rattle.vs_session.specs.Open.{IsTooLarge, OnlyLooks}
 use Rattle.vs_session.specs.Fits.{Fits, HasSwap, Opens, names_of}
+use Rattle.vs_session.specs.Made.{LeavesNoneMade}
+use Rattle.vs_session.proofs.Cleared.{cleared_same}
 use Rattle.vs_stress.specs.Commands.{stress_commands}
 use Rattle.vs_top.specs.Ending.{open_ending}
 use Rattle.vs_top.specs.Promise.{HasStress, RunsStress, row}
@@ -30,7 +34,7 @@ use Rattle.vs_top.proofs.Counting.{only_folder}
 use Rattle.vs_top.proofs.Edits.{only_looked}
 use Rattle.vs_top.proofs.Opening.{did_none, kept_none, no_causes, no_times}
 use Rattle.vs_top.proofs.StressEnds.{at_moment}
-use Rattle.vs_top.proofs.StressFolders.{before_line, counts_now}
+use Rattle.vs_top.proofs.StressFolders.{before_line, counts_now, up_to_start}
 
 abbrev names : Names
 names = names_of_file stress_name
@@ -42,6 +46,11 @@ module _ (OfHost : Scene → Type 0) (tells : Tells) (old new : Scene) (acts : A
   -- no command has begun at it
   up_to_none : (free : HasSwap names old.folder → ⊥) → (m : Snapshot) → Inside old (Opens stress_name old.folder) m → is_up_to old 0 m ≡ true
   up_to_none free m inside = before_line names old (stress_text old) [] 0 (omega arith) m (before free m inside)
+
+  -- so that nothing is said of the names under which its swap files are made
+  moved_none : (moments : List Snapshot) → Each (Inside old (Opens stress_name old.folder)) moments → Each (λ m. is_up_to old 0 m ≡ false → BothMoved names m.folder) moments
+  moved_none moments each = Each-weaker (Inside old (Opens stress_name old.folder)) (λ m. is_up_to old 0 m ≡ false → BothMoved names m.folder)
+      (λ m inside later. absurd (true≢false (sym (up_to_start old m inside.answered inside.output) ∙ later))) moments each
 
   -- and the count of the calls that failed is that of the host
   first_count : (moments : List Snapshot) → new.trace ≡ moments ++ old.trace → Each (λ m. is_up_to old 0 m ≡ true) moments → HasStretches OfHost names old moments [] new.folder_faults
@@ -64,7 +73,7 @@ module _ (OfHost : Scene → Type 0) (tells : Tells) (old new : Scene) (acts : A
             steps = first_count runs.moments.added runs.moments.is (Each-weaker (Inside old (Opens stress_name old.folder)) (λ m. is_up_to old 0 m ≡ true) (up_to_none free) runs.moments.added runs.moments.each);
           };
       last = last;
-      calls = record { moments = (acts.runs told.folder).moments.added; added = (acts.runs told.folder).moments.is; each = tt };
+      calls = let runs = acts.runs told.folder in record { moments = runs.moments.added; added = runs.moments.is; each = tt; moved = moved_none runs.moments.added runs.moments.each };
     }
 
     output_same : new.output ≡ old.output
@@ -99,7 +108,7 @@ module _ (OfHost : Scene → Type 0) (tells : Tells) (old new : Scene) (acts : A
       times = λ told. no_times old new marks none (ap (λ (s : Scene). s.answers) acts.frame);
     }
     stress_open_fails opening.NoMemory failed quiet limit swap barred barred_looks looks = record {
-      told = λ told. stress_none ending.NoMemory told (record { rest = stress_commands count; first = refl; output = output_same; closing = refl; kept = inl ((looks (λ is. absurd (cc))).runs told.folder) }) tt;
+      told = λ told. stress_none ending.NoMemory told (record { rest = stress_commands count; first = refl; output = output_same; closing = refl; kept = inl ((looks (λ is. absurd (cc))).runs told.folder); cleared = cleared_same old.folder new.folder ((looks (λ is. absurd (cc))).runs told.folder).now }) tt;
       swap = λ told is. absurd (cc);
       barred = λ told has. only_looked tells old new ending.NoMemory marks (inr (inl refl)) none (barred_looks told has) told;
       file = λ told. tt;
@@ -122,8 +131,8 @@ module _ (OfHost : Scene → Type 0) (tells : Tells) (old new : Scene) (acts : A
   -- it was opened
   pub stress_opened : (session : Session) → names_of session ≡ names → (IsTrue tells.folder → HasSwap names old.folder → ⊥) → (IsTrue tells.folder → FileFits (content_of old stress_name))
       → (IsTrue tells.folder → Fits session new.folder (opened_file old stress_name).state (opened (stress_text old))) → (IsTrue tells.folder → HasNewest old) → (IsTrue tells.folder → HasNewest new)
-      → IsStressTurn OfHost tells old new session [] true []
-  stress_opened session same free file fits newest_at_start newest = record {
+      → (IsTrue tells.folder → LeavesNoneMade old.folder new.folder) → (IsTrue tells.folder → BothMoved names new.folder) → IsStressTurn OfHost tells old new session [] true []
+  stress_opened session same free file fits newest_at_start newest cleared moved = record {
     told = λ told.
         let runs = acts.runs told.folder in (
           [],
@@ -139,6 +148,9 @@ module _ (OfHost : Scene → Type 0) (tells : Tells) (old new : Scene) (acts : A
             steps = first_count runs.moments.added runs.moments.is (Each-weaker (Inside old (Opens stress_name old.folder)) (λ m. is_up_to old 0 m ≡ true) (up_to_none (free told.folder)) runs.moments.added runs.moments.each);
             of_host = of_host;
             calls = tt;
+            cleared = cleared told.folder;
+            moved = moved_none runs.moments.added runs.moments.each;
+            here = moved told.folder;
             newest_at_start = newest_at_start told.folder;
             newest = newest told.folder;
             output = ap (λ (s : Scene). s.output) acts.frame;

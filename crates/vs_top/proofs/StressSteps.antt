@@ -13,12 +13,16 @@ use Rattle.vs_disk.specs.Runs.{Inside}
 use Rattle.vs_disk.proofs.Runs.{Each-append, Each-weaker}
 use Rattle.vs_disk.proofs.Others.{same_then}
 use Rattle.vs_pair.specs.Pair.{is_foreign}
+use Rattle.vs_pair.specs.Steps.{BothMoved}
+use Rattle.vs_desk.proofs.Left.{moved_to}
 use Rattle.vs_exparse.specs.Command.Command.{Write as WriteFile, WriteUndo}
 use Rattle.vs_excmd.specs.Request.{Instruction, IsRequest}
 use Rattle.vs_excmd.specs.declared.request.Request.{Request}
 use Rattle.vs_machine.specs.Machine.{is_done}
 use Rattle.vs_machine.specs.Replies.{Answer}
 use Rattle.vs_machine.specs.declared.command.Mark.{Mark}
+use Rattle.vs_machine.specs.declared.command.Outcome.{Outcome}
+use Rattle.vs_machine.specs.declared.command.Outcome.TheVariants as outcome
 use Rattle.vs_safety.specs.Texts.{Text, Sync, Recovers, recoverable}
 use Rattle.vs_safety.specs.Turns.{Turn, with_begun}
 use Rattle.vs_safety.specs.History.{syncs_of}
@@ -26,17 +30,17 @@ use Rattle.vs_safety.specs.FileWork.{FileWork}
 use Rattle.vs_safety.specs.Safety.{IsUnderWay, Spares, Stepped, Works}
 use Rattle.vs_safety.proofs.Histories.{then_is}
 use Rattle.vs_session.specs.declared.session.Session.{Session}
-use Rattle.vs_session.specs.Session.{SessionState, Ended, is_write, lacks_name, turn_of, undo_work, write_work, writes_files}
+use Rattle.vs_session.specs.Session.{SessionState, Ended, is_write, is_wundo, lacks_name, stores_both, turn_of, undo_work, write_work, writes_files}
 use Rattle.vs_session.specs.Failures.{FailsOnce}
 use Rattle.vs_session.specs.Wholeness.{StaysWhole}
-use Rattle.vs_session.specs.Fits.{Answers, LeavesNoneMade}
-use Rattle.vs_top.specs.Calls.{StepCalls, is_clear}
+use Rattle.vs_session.specs.Fits.{Answers}
+use Rattle.vs_session.specs.Made.{ClearsMade, IsLeftBy, LeavesNoneBut, LeavesNoneMade}
+use Rattle.vs_top.specs.Calls.{StepCalls}
 use Rattle.vs_top.specs.History.{Past, any_error, commands_then, marks_of}
 use Rattle.vs_top.specs.Run.{counts_of, FaultHasCause, opened_file}
 use Rattle.vs_top.specs.Stress.{TellsStress, HasEnds, HasStretches, IsBeforeLine, IsBehind, folder_after, is_up_to, stress_history, stress_name, stress_state, stress_text, stress_turns}
 use Rattle.vs_top.specs.StressCalls.{EachCalled, HasCalled}
 use Rattle.vs_top.specs.StressTurns.{IsStressTurn, StressTold}
-use Rattle.vs_top.proofs.Calls.{done_is}
 use Rattle.vs_top.proofs.Counting.{causes_on, counted_works}
 use Rattle.vs_top.proofs.Pushes.{and_not, map_push}
 use Rattle.vs_top.proofs.Stepping.{HasStepped}
@@ -77,6 +81,27 @@ no_work state found acknowledged lacks parsed plain = refl
 
 pub writes_none : (state : SessionState) (instruction : Instruction) (ended : Ended) → writes_files instruction.parsed ≡ false → (turn_of state instruction ended).write ≡ None
 writes_none state instruction ended plain = no_work state ended.found ended.acknowledged (lacks_name state.options.write state.name ended.found) instruction.parsed plain
+
+-- nor does it leave a file under a name under which files are made
+no_write : (parsed : _) → writes_files parsed ≡ false → is_write parsed ≡ false
+no_write (Ok (WriteFile bang)) plain = absurd (true≢false plain)
+no_write parsed plain = refl
+
+no_store : (parsed : _) → writes_files parsed ≡ false → is_wundo parsed ≡ false
+no_store (Ok WriteUndo) plain = absurd (true≢false plain)
+no_store parsed plain = refl
+
+none_both : (state : SessionState) (instruction : Instruction) (ended : Ended) → writes_files instruction.parsed ≡ false → stores_both state instruction ended ≡ false
+none_both state instruction ended plain =
+    ap (λ (w : Bool). ((w && ended.acknowledged) && not (lacks_name state.options.write state.name ended.found)) && state.options.undofile) (no_write instruction.parsed plain)
+
+none_left : (o : Outcome) (names : Names) (state : SessionState) (instruction : Instruction) (found old new : Disk) → writes_files instruction.parsed ≡ false → (o ≡ outcome.NoUndo → ⊥)
+    → LeavesNoneBut (IsLeftBy o names state instruction found) old new → LeavesNoneMade old new
+none_left outcome.Done names state instruction found old new plain stored but made gone = but made (λ never. never) gone
+none_left outcome.NoMemory names state instruction found old new plain stored but made gone = but made (λ left. true≢false (sym left.0 ∙ no_write instruction.parsed plain)) gone
+none_left outcome.Fault names state instruction found old new plain stored but made gone =
+    but made (λ left. elim left [ inl writes ↦ true≢false (sym writes.0 ∙ no_write instruction.parsed plain) | inr stores ↦ true≢false (sym stores.0 ∙ no_store instruction.parsed plain) ]) gone
+none_left outcome.NoUndo names state instruction found old new plain stored but made gone = absurd (stored refl)
 
 module _ (OfHost : Scene → Type 0) (tells : Tells) (old now new : Scene) (session after : Session) (marks : List Mark) (clean : Bool) (request : Request) (mark : Mark) (reply : Answer) (instruction : Instruction) (commands : List Instruction)
     (step : HasStepped tells now new session after request mark reply) (newest : IsTrue tells.folder → HasNewest new) (of_host : OfHost new) (meant : IsRequest request instruction) (plain : writes_files instruction.parsed ≡ false) (turn : IsStressTurn OfHost tells old now session marks clean commands) where
@@ -186,8 +211,16 @@ module _ (OfHost : Scene → Type 0) (tells : Tells) (old now new : Scene) (sess
         (stretches_on OfHost names old here.moments newer turns now.folder_faults behind_before same_before here.steps)
         (counts_now OfHost old new (length turns + 1) moments of_host added all_up_to) ends_here
 
-    clear_here : is_clear (record { instruction = instruction; ended = answers.ended }) ≡ true → LeavesNoneMade now.folder new.folder
-    clear_here clear = answers.cleared (ap (λ (m : Mark). m.outcome) (sym answers.mark_is) ∙ done_is answers.ended.mark.outcome clear)
+    clears : ClearsMade names state instruction answers.ended now new
+    clears = subst (λ (n : Names). ClearsMade n state instruction answers.ended now new) turn.keeps.names answers.cleared
+
+    clear_here : LeavesNoneMade now.folder new.folder
+    clear_here =
+        none_left answers.ended.mark.outcome names state instruction answers.ended.found now.folder new.folder plain
+        (λ unstored. true≢false (sym (answers.found.unstored unstored) ∙ none_both state instruction answers.ended plain)) clears.left
+
+    moved_here : Each (λ m. BothMoved names m.folder) newer
+    moved_here = moved_to (λ m. BothMoved names m.folder) now.trace new.trace newer works.moments.is (clears.moved here.here).0
 
     calls : EachCalled OfHost old moments past'
     calls = (
@@ -209,7 +242,7 @@ module _ (OfHost : Scene → Type 0) (tells : Tells) (old now new : Scene) (sess
             holds = record {
               fails = subst (λ (n : Names). FailsOnce n state instruction answers.ended now new) turn.keeps.names answers.calls;
               whole = subst (λ (n : Names). StaysWhole n state instruction answers.ended now new) turn.keeps.names answers.whole;
-              cleared = clear_here;
+              cleared = clears;
             };
           }),
       called_on OfHost old here.moments newer past (λ n most. behind_before n (omega (arith, most, as_many old past))) here.calls,
@@ -235,6 +268,10 @@ module _ (OfHost : Scene → Type 0) (tells : Tells) (old now new : Scene) (sess
           steps = subst (λ (ts : List Turn). HasStretches OfHost names old moments ts new.folder_faults) (sym turns_are) steps;
           of_host = of_host;
           calls = calls;
+          cleared = λ made gone. clear_here made (here.cleared made gone);
+          moved = Each-append (λ m. is_up_to old 0 m ≡ false → BothMoved names m.folder) newer here.moments
+              (Each-weaker (λ m. BothMoved names m.folder) (λ m. is_up_to old 0 m ≡ false → BothMoved names m.folder) (λ m at later. at) newer moved_here) here.moved;
+          here = (clears.moved here.here).1;
           newest_at_start = here.newest_at_start;
           newest = newest told.folder;
           output = works.output ∙ here.output;

@@ -123,9 +123,7 @@ module _ {T : Type 0} {result : Result T ScriptErr} (tells : Tells) (name : List
         record { output = so_far.output; closing = refl; stays = since_reply (names_of_file name) old (history_of file past) read read so_far [] refl (λ m. state_now read ≡ state_in m) (sym so_far.state) }
 
     calls : CallsAsMarked file old read did
-    calls =
-        let moved = reads.last told.folder in
-        calls_stop file old now read past here.calls (ap (λ (s : Scene). s.folder) reads.frame) (moved.last ++ moved.earlier) (moved.is ∙ sym (append_assoc moved.last moved.earlier now.trace))
+    calls = calls_stop file old now read past here.calls (reads_look now read reads.frame (reads.last told.folder))
 
     -- the session still fits the folder
     left : KeepsSwap file did read.folder

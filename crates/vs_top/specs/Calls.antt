@@ -1,11 +1,13 @@
--- Which calls of a run failed, from when on a file that it writes or its backup is whole, and that no file stays under a name under which
--- one was made before it took its own.
+-- Which calls of a run failed, from when on a file that it writes or its backup is whole, and what stays under the names under which files
+-- are made before they take their own.
 use Rattle.std.specs.Prelude.{◌≡◌, ◌≢◌, ◌≤◌, ◌+◌, ◌⊎◌, ℕ, Bool, true, List, [], ◌∷◌, ◌++◌, ⊤, length}
+use Rattle.vs_host.specs.Disk.{Name}
 use Rattle.vs_host.specs.Names.{names_of_file}
 use Rattle.vs_host.specs.Trace.{Snapshot, Each}
 use Rattle.vs_host.specs.World.{Scene}
 use Rattle.vs_host.specs.declared.names.Names.{Names}
 use Rattle.vs_disk.specs.Runs.{FailsLast}
+use Rattle.vs_pair.specs.Steps.{BothMoved}
 use Rattle.vs_safety.specs.Stretches.{IsFirst}
 use Rattle.vs_safety.specs.Turns.{NotBegun}
 use Rattle.vs_safety.specs.Writes.{state_in, state_now}
@@ -13,8 +15,7 @@ use Rattle.vs_session.specs.Session.{SessionState}
 use Rattle.vs_session.specs.Opened.{Opened}
 use Rattle.vs_session.specs.Failures.{FailsOnce}
 use Rattle.vs_session.specs.Wholeness.{StaysWhole}
-use Rattle.vs_machine.specs.Machine.{is_done}
-use Rattle.vs_session.specs.Fits.{LeavesNoneMade}
+use Rattle.vs_session.specs.Made.{ClearsMade, IsLeftBy, LeavesNoneBut, LeavesNoneMade}
 use Rattle.vs_top.specs.History.{CommandRun, Past, state_of, written}
 use Rattle.vs_top.specs.Run.{Did, closing_line}
 
@@ -43,6 +44,7 @@ pub record IsNearEnd (ended now : Scene) : Type 0 where
   pub last : List Snapshot
   pub one : length last ≤ 1
   pub is : now.trace ≡ last ++ ended.trace
+  pub each : Each (λ m. state_in m ≡ state_now ended) last
   pub state : state_now now ≡ state_now ended
 
 -- the next call brought the output to n bytes, or was the last one of the run
@@ -60,28 +62,26 @@ pub record HasBetween (P : Scene → Scene → Type 0) (from to : ℕ) (start no
 
 -- ---- the calls of a run
 
--- The file was opened. No call failed, and no file stays under a name under which one was made.
-pub record OpensClean (start opened : Scene) : Type 0 where
+-- The file was opened. No call failed, and no file stays under a name under which one was made, also none of an earlier run under those for
+-- the swap files.
+pub record OpensClean (names : Names) (start opened : Scene) : Type 0 where
   pub last : FailsLast start opened
   pub none : opened.folder_faults ≡ start.folder_faults
   pub cleared : LeavesNoneMade start.folder opened.folder
+  pub moved : BothMoved names opened.folder
 
 -- So it was, and then the opening reply was written, to n bytes of output.
-pub record HasOpening (n : ℕ) (start now : Scene) : Type 0 where
+pub record HasOpening (names : Names) (n : ℕ) (start now : Scene) : Type 0 where
   pub opened : Scene
-  pub clean : OpensClean start opened
+  pub clean : OpensClean names start opened
   pub ends : IsFollowed n opened now
 
--- whether a command leaves no file under a name under which it made one: it was carried out
-abbrev pub is_clear : CommandRun → Bool
-is_clear command = is_done command.ended.mark.outcome
-
--- The calls of a command: which of them failed, from when on the file that it writes or its backup is whole, and whether it leaves no file
--- under a name under which it made one.
+-- The calls of a command: which of them failed, from when on the file that it writes or its backup is whole, and what it leaves under the
+-- names under which files are made.
 pub record StepCalls (names : Names) (state : SessionState) (command : CommandRun) (old new : Scene) : Type 0 where
   pub fails : FailsOnce names state command.instruction command.ended old new
   pub whole : StaysWhole names state command.instruction command.ended old new
-  pub cleared : is_clear command ≡ true → LeavesNoneMade old.folder new.folder
+  pub cleared : ClearsMade names state command.instruction command.ended old new
 
 -- how long the output is where the replies to these commands are whole in it
 abbrev pub long_at : Opened → Scene → Past → ℕ
@@ -94,24 +94,36 @@ EachCommand file start now (last ∷ past) =
     HasBetween (StepCalls (names_of_file file.name) (state_of file.state past) last) (long_at file start past) (long_at file start (last ∷ past)) start now
     × EachCommand file start now past
 
--- Each of these commands leaves no file under a name under which it made one.
-abbrev pub AllClear : Past → Type 0
-AllClear [] = ⊤
-AllClear (last ∷ past) = (is_clear last ≡ true) × AllClear past
+-- some command of these may have left a file under this name
+abbrev pub SomeLeft : Opened → Past → Name → Type 0
+SomeLeft file [] name = ⊥
+SomeLeft file (last ∷ past) name =
+    IsLeftBy last.ended.mark.outcome (names_of_file file.name) (state_of file.state past) last.instruction last.ended.found name
+    ⊎ SomeLeft file past name
+
+-- At each moment at which the output has n bytes, and now if it has, no image has a file under a name under which a swap file is made.
+pub record MovedSince (names : Names) (n : ℕ) (start now : Scene) : Type 0 where
+  pub moments : List Snapshot
+  pub added : now.trace ≡ moments ++ start.trace
+  pub each : Each (λ m. n ≤ length m.output → BothMoved names m.folder) moments
+  pub here : n ≤ length now.output → BothMoved names now.folder
 
 -- Of the opening no call failed, where its reply was written; of each command as its mark says; and of the last sync or the removal
--- none but the last one. From the opening reply on until the run closes, no file stands under a name under which one was made that had
--- none at the start, unless a command left it.
+-- none but the last one. From the opening reply on, at each moment, no file stands under a name under which a swap file is made; and in the
+-- end none under another name under which files are made that had none at the start, unless a command left it.
 pub record CallsAsMarked (file : Opened) (old new : Scene) (did : Did) : Type 0 where
-  pub opening : long_at file old [] ≤ length new.output → HasOpening (long_at file old []) old new
+  pub opening : long_at file old [] ≤ length new.output → HasOpening (names_of_file file.name) (long_at file old []) old new
   pub commands : EachCommand file old new did.past
   pub closing : did.closing ≢ NotBegun
       → HasBetween FailsLast (long_at file old did.past) (long_at file old did.past + length (closing_line did.closing)) old new
-  pub cleared : did.closing ≡ NotBegun → long_at file old [] ≤ length new.output → AllClear did.past → LeavesNoneMade old.folder new.folder
+  pub cleared : long_at file old [] ≤ length new.output → LeavesNoneBut (SomeLeft file did.past) old.folder new.folder
+  pub moved : MovedSince (names_of_file file.name) (long_at file old []) old new
 
 -- What is known between two commands, however the trace goes on.
 pub record CallsSoFar (file : Opened) (start now : Scene) (past : Past) : Type 0 where
   pub still : StillSince (long_at file start past) start now
-  pub opening : (new : Scene) (newer : List Snapshot) → new.trace ≡ newer ++ now.trace → HasOpening (long_at file start []) start new
+  pub opening : (new : Scene) (newer : List Snapshot) → new.trace ≡ newer ++ now.trace → HasOpening (names_of_file file.name) (long_at file start []) start new
   pub commands : (new : Scene) (newer : List Snapshot) → new.trace ≡ newer ++ now.trace → EachCommand file start new past
-  pub cleared : AllClear past → LeavesNoneMade start.folder now.folder
+  pub cleared : LeavesNoneBut (SomeLeft file past) start.folder now.folder
+  pub moved : MovedSince (names_of_file file.name) (long_at file start []) start now
+  pub here : BothMoved (names_of_file file.name) now.folder

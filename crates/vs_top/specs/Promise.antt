@@ -15,7 +15,7 @@ use Rattle.vs_safety.specs.Causes.{RoseLast, script_count, output_count, folder_
 use Rattle.vs_session.specs.Open.{PassesLimit}
 use Rattle.vs_session.specs.Opened.{Opened}
 use Rattle.vs_session.specs.Fits.{HasSwap, Opens}
-use Rattle.vs_top.specs.Run.{TellsRun, Did, KeepsMarks, AnswersNone, AnswersAll, AnswersTaken, AnswersLimit, LacksMemory, IsCutShort, IsCutLast}
+use Rattle.vs_top.specs.Run.{TellsRun, Did, KeepsMarks, AnswersNone, AnswersAll, AnswersTaken, AnswersLimit, LacksAtOnce, LacksMemory, IsCutShort, IsCutLast}
 use Rattle.vs_top.specs.Run.{FailsToClose, KeepsSwap, Counts, counts_of, OnlyFolder, FaultHasCause, FileFits, IsBarred, IsTimed, opened_file, ran_of}
 use Rattle.vs_top.specs.Calls.{CallsAsMarked}
 use Rattle.vs_top.specs.Stress.{TellsStress, HasStressed, IsStressing, IsStressSafe, StressEnds, stress_line, stress_name, stress_text, stress_turns}
@@ -118,7 +118,7 @@ folder_fault = record (after_opening (λ file old new marks did. failed_opening 
 
 -- there was no memory: to open the file, so that the folder was only looked at, or later
 abbrev pub no_memory : Row
-no_memory = record (after_opening (λ file old new marks did. AnswersNone old new marks ⊎ LacksMemory file old new did)
+no_memory = record (after_opening (λ file old new marks did. LacksAtOnce old new marks ⊎ LacksMemory file old new did)
     (λ count old new marks did. IsStressing count old new did)) {
       left = λ file old new did. (did.closing ≡ NotBegun) × (Looks old new ⊎ KeepsSwap file did new.folder);
       file = λ file. ⊤;

@@ -27,6 +27,7 @@ use Rattle.vs_session.specs.declared.session.Session.{Session}
 use Rattle.vs_session.specs.Session.{SessionState, is_fault, accepts_quit, sync_in}
 use Rattle.vs_session.specs.Opened.{Opened, opened}
 use Rattle.vs_session.specs.Fits.{Fits, HasSyncs, names_of}
+use Rattle.vs_session.specs.Made.{LeavesNoneMade}
 use Rattle.vs_top.specs.History.{Past, AreAnswered, any_error, commands_then, history_of, marks_of, state_of, written}
 use Rattle.vs_top.specs.declared.ending.Ending.{Ending}
 use Rattle.vs_top.specs.declared.ending.Ending.TheVariants as ending
@@ -160,6 +161,11 @@ pub record LacksMemory (file : Opened) (old new : Scene) (did : Did) : Type 0 wh
 pub record AnswersNone (old new : Scene) (marks : List Mark) : Type 0 where
   pub none : marks ≡ []
   pub output : new.output ≡ old.output
+
+-- There was no memory before the opening reply. No file stays under a name under which one was made.
+pub record LacksAtOnce (old new : Scene) (marks : List Mark) : Type 0 where
+  pub answered : AnswersNone old new marks
+  pub cleared : LeavesNoneMade old.folder new.folder
 
 -- what was whole in the output before the last reply: nothing before the opening reply
 abbrev pub written_before : Opened → Past → List ℕ

@@ -10,13 +10,14 @@ use Rattle.vs_host.specs.declared.names.Names.{Names}
 use Rattle.vs_disk.specs.Names.{SameAt}
 use Rattle.vs_disk.specs.Runs.{Looks}
 use Rattle.vs_pair.specs.Pair.{is_foreign}
-use Rattle.vs_pair.specs.Steps.{IsFresh}
+use Rattle.vs_pair.specs.Steps.{BothMoved, IsFresh}
 use Rattle.vs_excmd.specs.Request.{Instruction}
 use Rattle.vs_safety.specs.Texts.{Text, Recovers, RecoversOrNone, IsFlag, recoverable}
 use Rattle.vs_safety.specs.Turns.{NotBegun, Turn, with_begun, after_turns, opened}
 use Rattle.vs_safety.specs.History.{History, syncs_of, turns_then}
 use Rattle.vs_session.specs.Session.{SessionState}
 use Rattle.vs_session.specs.Opened.{text_in}
+use Rattle.vs_session.specs.Made.{LeavesNoneMade}
 use Rattle.vs_session.specs.Summary.{summary_of}
 use Rattle.vs_stress.specs.Arguments.{IsCount, summary_line}
 use Rattle.vs_stress.specs.Commands.{stress_commands}
@@ -61,10 +62,12 @@ stress_line count old past =
     let summary = summary_of (stress_state old past) (syncs_of (stress_history old past)) in
     summary_line count summary.lines summary.changes summary.syncs summary.digest
 
--- All commands were answered, and this was written.
+-- All commands were answered, and this was written. No file stays under a name under which one was made.
 pub record HasStressed (count : ℕ) (old new : Scene) (did : Did) (written : List ℕ) : Type 0 where
   pub all : commands_then did.past [] ≡ stress_commands count
   pub output : new.output ≡ old.output ++ written
+  pub cleared : LeavesNoneMade old.folder new.folder
+  pub moved : BothMoved (names_of_file stress_name) new.folder
 
 -- The whole line was written, and the swap files were removed.
 pub record StressEnds (errors : Bool) (count : ℕ) (old new : Scene) (did : Did) : Type 0 where
@@ -73,13 +76,14 @@ pub record StressEnds (errors : Bool) (count : ℕ) (old new : Scene) (did : Did
   pub gone : IsFresh (names_of_file stress_name) new.folder
 
 -- The first commands were answered, and nothing was written. The folder was only looked at, or some session fits it, so that both swap
--- files are there.
+-- files are there. No file stays under a name under which one was made.
 pub record IsStressing (count : ℕ) (old new : Scene) (did : Did) : Type 0 where
   pub rest : List Instruction
   pub first : stress_commands count ≡ commands_then did.past rest
   pub output : new.output ≡ old.output
   pub closing : did.closing ≡ NotBegun
   pub kept : Looks old new ⊎ KeepsSwap (opened_file old stress_name) did new.folder
+  pub cleared : LeavesNoneMade old.folder new.folder
 
 -- ---- the folder between two commands
 

@@ -1,8 +1,9 @@
--- Which calls of the stress mode failed, and that no file stays under a name under which one was made before it took its own.
-use Rattle.std.specs.Prelude.{◌≡◌, ℕ, ◌+◌, true, List, [], ◌∷◌, ◌++◌, ⊤, length}
+-- Which calls of the stress mode failed, and that no file stands under a name under which a swap file is made.
+use Rattle.std.specs.Prelude.{◌≡◌, ℕ, ◌+◌, true, false, List, [], ◌∷◌, ◌++◌, ⊤, length}
 use Rattle.vs_host.specs.Names.{names_of_file}
 use Rattle.vs_host.specs.Trace.{Snapshot, Each}
 use Rattle.vs_host.specs.World.{Scene}
+use Rattle.vs_pair.specs.Steps.{BothMoved}
 use Rattle.vs_top.specs.Calls.{StepCalls}
 use Rattle.vs_top.specs.History.{Past}
 use Rattle.vs_top.specs.Stress.{IsBehind, is_up_to, stress_name, stress_state}
@@ -31,8 +32,10 @@ EachCalled OfHost start moments [] = ⊤
 EachCalled OfHost start moments (last ∷ past) =
     HasCalled OfHost (StepCalls (names_of_file stress_name) (stress_state start past) last) start moments (length past) × EachCalled OfHost start moments past
 
--- So it is at the moments from one scene to another.
+-- So it is at the moments from one scene to another. At each of them, once a command has begun, no image has a file under a name under which
+-- a swap file is made.
 pub record StressCalls (OfHost : Scene → Type 0) (start now : Scene) (past : Past) : Type 0 where
   pub moments : List Snapshot
   pub added : now.trace ≡ moments ++ start.trace
   pub each : EachCalled OfHost start moments past
+  pub moved : Each (λ m. is_up_to start 0 m ≡ false → BothMoved (names_of_file stress_name) m.folder) moments

@@ -1,20 +1,22 @@
 -- What is known of the stress mode between two of its commands.
-use Rattle.std.specs.Prelude.{ℕ, Bool, not, List, [], ◌≡◌, ◌+◌, ◌++◌, length, map, IsTrue}
+use Rattle.std.specs.Prelude.{ℕ, Bool, false, not, List, [], ◌≡◌, ◌+◌, ◌++◌, length, map, IsTrue}
 use Rattle.vs_host.specs.Names.{names_of_file}
 use Rattle.vs_host.specs.Trace.{Snapshot, Each}
 use Rattle.vs_host.specs.World.{Tells, Scene, HasNewest}
 use Rattle.vs_disk.specs.Names.{SameAt}
 use Rattle.vs_pair.specs.Pair.{is_foreign}
+use Rattle.vs_pair.specs.Steps.{BothMoved}
 use Rattle.vs_excmd.specs.Request.{Instruction}
 use Rattle.vs_machine.specs.declared.command.Mark.{Mark}
 use Rattle.vs_safety.specs.History.{syncs_of}
 use Rattle.vs_safety.specs.Causes.{IsCounted, output_count}
 use Rattle.vs_session.specs.declared.session.Session.{Session}
 use Rattle.vs_session.specs.Fits.{Fits}
+use Rattle.vs_session.specs.Made.{LeavesNoneMade}
 use Rattle.vs_stress.specs.Commands.{stress_commands}
 use Rattle.vs_top.specs.History.{Past, any_error, commands_then}
 use Rattle.vs_top.specs.Run.{KeepsMarks, opened_file}
-use Rattle.vs_top.specs.Stress.{TellsStress, HasStretches, IsBeforeLine, stress_history, stress_name, stress_state, stress_text, stress_turns}
+use Rattle.vs_top.specs.Stress.{TellsStress, HasStretches, IsBeforeLine, is_up_to, stress_history, stress_name, stress_state, stress_text, stress_turns}
 use Rattle.vs_top.specs.StressCalls.{EachCalled}
 use Rattle.vs_top.specs.Turns.{KeepsOpenFile}
 
@@ -30,6 +32,9 @@ pub record StressTold (OfHost : Scene → Type 0) (old now : Scene) (session : S
   pub steps : HasStretches OfHost (names_of_file stress_name) old moments (stress_turns old past) now.folder_faults
   pub of_host : OfHost now
   pub calls : EachCalled OfHost old moments past
+  pub cleared : LeavesNoneMade old.folder now.folder
+  pub moved : Each (λ m. is_up_to old 0 m ≡ false → BothMoved (names_of_file stress_name) m.folder) moments
+  pub here : BothMoved (names_of_file stress_name) now.folder
   pub newest_at_start : HasNewest old
   pub newest : HasNewest now
   pub output : now.output ≡ old.output

@@ -48,7 +48,7 @@ pub record ToldOpen (name : List ℕ) (old now : Scene) (session : Session) : Ty
   pub fits : Fits session now.folder (opened_file old name).state (opened (text_at old name))
   pub begun : HasBegun (names_of_file name) (text_at old name) old now
   pub counted : IsCounted output_count old now
-  pub clean : OpensClean old now
+  pub clean : OpensClean (names_of_file name) old now
 
 -- What a run over any host keeps: the file was within its limits and had no swap file, the names are those of the file, and but for
 -- commands that were answered so no call failed.

@@ -45,4 +45,4 @@ returns g c =
     (is_opened g.H.World.tells c.args.name.now old mid c.requires.settled c.open.ensures.acts c.in_ok-session.session c.in_ok-session.ensures.name.1
     (λ told has. elim (c.in_ok-session.ensures.barred told has) [ inl is ↦ absurd (cc) | inr more ↦ elim more [ inl is ↦ absurd (cc) | inr is ↦ absurd (cc) ] ])
     (λ told. file_fits _ (c.in_ok-session.ensures.over told)) c.in_ok-session.ensures.file c.in_ok-session.ensures.fits
-    (c.in_ok-session.ensures.quiet (λ is. absurd (cc))) c.in_ok-session.ensures.cleared)
+    (c.in_ok-session.ensures.quiet (λ is. absurd (cc))) c.in_ok-session.ensures.cleared c.in_ok-session.ensures.moved)

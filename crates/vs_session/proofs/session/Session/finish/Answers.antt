@@ -1,5 +1,5 @@
 use Rattle.vs_paged.proofs.SyncLemmas.{on_ok_as, on_err_as}
-use Rattle.vs_session.proofs.Steps.{has_syncs, last_step, leaves, not_ok, when_ok}
+use Rattle.vs_session.proofs.Steps.{end_clears, has_syncs, last_clears, last_step, leaves, not_ok, when_ok}
 use Rattle.vs_session.proofs.session.Session.finish.Goals as goal
 
 pub returns-in-Sync : goal.returns-in-Sync
@@ -14,6 +14,8 @@ returns-in-Sync g c = record {
   rises = λ done how. when_ok c.sync.result _ done c.sync.ensures.rises;
   quit = λ how. absurd (cc);
   gone = λ done how. absurd (cc);
+  cleared = λ told. (last_clears c.args.self (g.H.World.scene c.args.host.now) (g.H.World.scene c.sync.new.host) (c.requires.fits told) (c.sync.ensures.acts.runs told)).0;
+  moved = λ told. (last_clears c.args.self (g.H.World.scene c.args.host.now) (g.H.World.scene c.sync.new.host) (c.requires.fits told) (c.sync.ensures.acts.runs told)).1;
   last = c.sync.ensures.acts.last;
   none = λ done. when_ok c.sync.result _ done c.sync.ensures.none;
   frame = c.sync.ensures.acts.frame;
@@ -27,6 +29,8 @@ returns-in-Quit g c = record {
   rises = λ done how. absurd (cc);
   quit = λ how told state syncs fits. leaves c.args.self state syncs (g.H.World.scene c.args.host.now) (g.H.World.scene c.end.new.host) fits c.end.ensures.acts.frame (c.end.ensures.acts.runs told);
   gone = λ done how told. let both = when_ok c.end.result _ done c.end.ensures.gone told in record { no_swp = both.0; no_swo = both.1 };
+  cleared = λ told. (end_clears c.args.self (g.H.World.scene c.args.host.now) (g.H.World.scene c.end.new.host) (c.requires.fits told) (c.end.ensures.acts.runs told)).0;
+  moved = λ told. (end_clears c.args.self (g.H.World.scene c.args.host.now) (g.H.World.scene c.end.new.host) (c.requires.fits told) (c.end.ensures.acts.runs told)).1;
   last = c.end.ensures.acts.last;
   none = λ done. when_ok c.end.result _ done c.end.ensures.none;
   frame = c.end.ensures.acts.frame;

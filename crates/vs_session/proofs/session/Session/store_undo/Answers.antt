@@ -1,4 +1,4 @@
-use Rattle.std.proofs.Common.{refl}
+use Rattle.std.proofs.Common.{ap, refl}
 use Rattle.vs_host.specs.World.{Scene}
 use Rattle.vs_backup.proofs.Stops.{stops_as, stops_then}
 use Rattle.vs_session.specs.Fits.{names_of}
@@ -7,6 +7,9 @@ use Rattle.vs_session.proofs.session.Session.store_undo.Goals as goal
 
 pub returns-in_err-bytes-clause-runs : goal.returns-in_err-bytes-clause-runs
 returns-in_err-bytes-clause-runs g c told state syncs fits = stores_looked _ _ _ _ _ (c.in_err-bytes.ensures.kept.looks told)
+
+pub returns-in_err-bytes-clause-idle : goal.returns-in_err-bytes-clause-idle
+returns-in_err-bytes-clause-idle g c = λ lacks told. ap (λ (s : Scene). s.folder) (c.in_err-bytes.ensures.still told)
 
 pub returns-in-Ok-clause-runs : goal.returns-in-Ok-clause-runs
 returns-in-Ok-clause-runs g c told state syncs fits =
