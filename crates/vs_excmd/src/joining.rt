@@ -82,17 +82,17 @@ fn join_span<S: LineStore>(
     // called for its contract alone: the number of lines fits 64 bits
     let _ = view.len();
     let mut reader = LineReader::new(alloc, first - 1, last - (first - 1));
-    let mut left = Vec::new(alloc);
-    reader.line(alloc, view, &mut left)?;
-    let mut right = Vec::new(alloc);
+    reader.advance(alloc, view)?;
+    let mut left = Vec::with_capacity(alloc, reader.copied_len())?;
+    left.extend_from_slice(reader.current())?;
     for _ in 0..last - first {
-        reader.line(alloc, view, &mut right)?;
-        join_two(&mut left, &right, bang)?;
+        reader.advance(alloc, view)?;
+        join_two(&mut left, reader.current(), bang)?;
         if left.len() as u64 > MAX_LINE_BYTES {
             return Err(PlanErr::Ex(ExErr::LineTooLong));
         }
     }
-    let mut new = Vec::new(alloc);
+    let mut new = Vec::with_capacity(alloc, 1)?;
     new.push(Line::from_vec(left))?;
     Ok(Plan::Splice {
         top: first - 1,

@@ -38,7 +38,7 @@ impl Rewritten {
 fn literal_bytes(alloc: Global, pattern: &[u8]) -> Result<Vec<u8>, AllocError>
     ensures { IfOk result (λ literal. literal.items ≡ literal_of pattern.now) }
 {
-    let mut literal = Vec::new(alloc);
+    let mut literal = Vec::with_capacity(alloc, pattern.len())?;
     let mut rest = pattern;
     'pieces: while let Some((piece, after)) = next_piece(rest) {
         literal.push(piece.byte)?;
@@ -62,7 +62,7 @@ fn replacement_bytes(alloc: Global, found: &[u8], written: &[u8]) -> Result<Vec<
     ensures value { IfOk result (λ new. StandsIn new.items (replaced_by found.now written.now)) }
     ensures front { IfOk result (λ new. new.items ≡ take (length new.items) (replaced_by found.now written.now)) }
 {
-    let mut new = Vec::new(alloc);
+    let mut new = Vec::with_capacity(alloc, written.len())?;
     let mut rest = written;
     'pieces: while new.len() as u64 <= MAX_LINE_BYTES
         && let Some((piece, after)) = next_piece(rest)
@@ -159,7 +159,7 @@ pub(crate) fn rewrite_line(
         return Ok(Rewritten::Unmatched);
     };
     let width = finder.needle().len();
-    let mut out = Vec::with_capacity(alloc, line.len())?;
+    let mut out = Vec::with_capacity(alloc, line.len().saturating_add(new.len()))?;
     if !put_piece(&mut out, line, 0, first, new)? {
         return Ok(Rewritten::TooLong);
     }

@@ -116,10 +116,9 @@ fn any_long<S: LineStore>(
     // called for its contract alone: the number of lines fits 64 bits
     let _ = view.len();
     let mut reader = LineReader::new(alloc, top, count);
-    let mut line = Vec::new(alloc);
     for _ in 0..count {
-        reader.line(alloc, view, &mut line)?;
-        let found = rewrite_line(alloc, &line, finder, new, all)?;
+        reader.advance(alloc, view)?;
+        let found = rewrite_line(alloc, reader.current(), finder, new, all)?;
         if found.is_too_long() {
             return Ok(true);
         }
@@ -159,10 +158,9 @@ fn rewrite<S: LineStore>(
     // called for its contract alone: the number of lines fits 64 bits
     let _ = view.len();
     let mut reader = LineReader::new(alloc, top, count);
-    let mut line = Vec::new(alloc);
     for i in 0..count {
-        reader.line(alloc, view, &mut line)?;
-        let read = line.as_slice();
+        reader.advance(alloc, view)?;
+        let read = reader.current();
         let found = rewrite_line(alloc, read, finder, new, all)?;
         if found.is_too_long() {
             return Err(PlanErr::Ex(ExErr::LineTooLong));

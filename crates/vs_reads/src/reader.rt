@@ -147,6 +147,14 @@ impl LineReader {
         &self.run[self.start..self.stop]
     }
 
+    /// How many bytes are copied from the line that was read last on. They are at least those of the line.
+    pub fn copied_len(&self) -> usize
+        requires { HasLine self.now }
+        ensures { length (line_of self.now) ≤ result }
+    {
+        self.run.len() - self.start
+    }
+
     /// Puts the bytes of the next line into a vector, in place of what that holds.
     ///
     /// After an `Err` the vector may hold anything, and the reader is to be let go. [`StoreErr::Failed`] comes only from the store.
