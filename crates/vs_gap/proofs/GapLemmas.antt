@@ -1,10 +1,12 @@
 -- A list before a gap, and one after it.
-use Rattle.std.proofs.Common.{◌≡◌, ◌∙◌, ℕ, ◌+◌, ◌-◌, ◌<◌, ◌≤◌, List, [], ◌∷◌, ◌++◌, length, get_or, min, take, drop, ap, sym, arith, refl, append_assoc, length-append, length-drop, Result, Ok, Err, OnErr}
+use Rattle.std.proofs.Common.{◌≡◌, ◌∙◌, ℕ, ◌+◌, ◌-◌, ◌<◌, ◌≤◌, List, [], ◌∷◌, ◌++◌, length, get_or, min, take, drop, ap, sym, subst, arith, refl, append_assoc, length-append, length-drop, Result, Ok, Err, OnErr}
 use Rattle.std.proofs.Math.Seq.{drop-append-add, take-add}
 use Rattle.std.proofs.lemmas.List.{append-nil, drop-append-le, drop_at, get_or-append-add, get_or_append_left, get_or_read_under, take-append-le, take_at}
-use Rattle.vs_text.specs.Text.{bytes_of}
+use Rattle.std.proofs.lemmas.List.Elements.{All-push}
+use Rattle.vs_text.specs.Text.{IsLine, IsText, bytes_of, file_of}
 use Rattle.vs_text.proofs.FileForm.{bytes_of-append}
 use Rattle.vs_edit.specs.Splices.{splice, cut_out}
+use Rattle.vs_edit.proofs.FileForm.{cut_out-more, file_of-more}
 use Rattle.vs_edit.proofs.SpliceLemmas.{splice_mid}
 
 -- what holds anyway holds after an error
@@ -29,6 +31,19 @@ exchanged before after new at old is =
 
 pub gone : {X : Type 0} (before after : List X) (at old : ℕ) → length before ≡ at → cut_out (before ++ after) at old ≡ take old after
 gone before after at old is = ap (take old) (drop_at before after at is)
+
+-- ---- one line more is copied
+
+pub copied-more : (lines : List (List ℕ)) (at i : ℕ) (into line read put new : List ℕ) → at + i < length lines → into ≡ file_of (cut_out lines at i) → line ≡ get_or lines (at + i) [] → read ≡ line
+    → put ≡ into ++ read → new ≡ put ++ 10 ∷ [] → new ≡ file_of (cut_out lines at (i + 1))
+copied-more lines at i into line read put new within before is same one two =
+    two ∙ ap (λ (l : List ℕ). l ++ 10 ∷ []) (one ∙ ap (λ (l : List ℕ). into ++ l) (same ∙ is) ∙ ap (λ (l : List ℕ). l ++ get_or lines (at + i) []) before)
+    ∙ file_of-more (cut_out lines at i) (get_or lines (at + i) []) ∙ ap file_of (cut_out-more lines at i within)
+
+pub text-more : (lines : List (List ℕ)) (at i : ℕ) (line : List ℕ) → at + i < length lines → IsText (cut_out lines at i) → line ≡ get_or lines (at + i) [] → IsLine line
+    → IsText (cut_out lines at (i + 1))
+text-more lines at i line within before is is_line =
+    subst IsText (cut_out-more lines at i within) (All-push IsLine (cut_out lines at i) (get_or lines (at + i) []) before (subst IsLine is is_line))
 
 -- ---- a change that lies in the first of two lists, or in the second
 

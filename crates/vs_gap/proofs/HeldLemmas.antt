@@ -1,7 +1,7 @@
 -- A text once held lines stand in it, as more of them are held, and as some are exchanged.
-use Rattle.std.proofs.Common.{◌≡◌, ◌∙◌, ◌⊎◌, inl, inr, ℕ, ◌+◌, ◌-◌, ◌<◌, ◌≤◌, List, [], ◌++◌, All, length, take, drop, get_or, ap, sym, subst, arith, refl, rules, append_assoc, length-append, length-take}
+use Rattle.std.proofs.Common.{◌≡◌, ◌∙◌, ◌⊎◌, inl, inr, ℕ, ◌+◌, ◌-◌, ◌<◌, ◌≤◌, List, [], ◌++◌, All, length, take, drop, get_or, ap, sym, subst, arith, refl, rules, append_assoc, length-append, length-take, Option, Some, None}
 use Rattle.std.proofs.Math.Seq.{take-add}
-use Rattle.std.proofs.lemmas.List.{drop-drop, get_or-drop, get_or-take, get_or_append_left, get_or-append_right, take-append-drop}
+use Rattle.std.proofs.lemmas.List.{drop-drop, drop-take, take-take, get_or-drop, get_or-take, get_or_append_left, get_or-append_right, take-append-drop}
 use Rattle.std.proofs.lemmas.List.Elements.{All-append}
 use Rattle.vs_text.specs.Text.{IsLine, IsText, bytes_of}
 use Rattle.vs_text.specs.Limits.{IsShort}
@@ -10,10 +10,11 @@ use Rattle.vs_text.proofs.FileForm.{bytes_of-append}
 use Rattle.vs_edit.specs.Splices.{splice, cut_out}
 use Rattle.vs_edit.specs.State.{AllowsSplice, IsSpliced, SameText, TextState}
 use Rattle.vs_edit.specs.Texts.{IsSound}
-use Rattle.vs_edit.proofs.Steps.{works_as, works_none}
+use Rattle.vs_edit.proofs.Steps.{SameText-trans, works_as, works_none}
 use Rattle.vs_edit.proofs.SpliceLemmas.{All-splice, bytes_of-cut_out, bytes_of-splice, length-splice, splice_mid, splice_none}
+use Rattle.vs_gap.proofs.GapLemmas.{cut-first, cut-last}
 use Rattle.vs_gap.specs.declared.held.Held.{Held}
-use Rattle.vs_gap.specs.Held.{FitsText, HoldsMore, IsExchanged, IsHeld, bytes_from, lines_with, shown, with_held}
+use Rattle.vs_gap.specs.Held.{FitsText, HoldsMore, IsExchanged, IsHeld, bytes_from, committed_of, lines_with, shown, with_held}
 
 -- ---- a line
 
@@ -35,6 +36,23 @@ module _ (text lines : List (List ℕ)) (top old : ℕ) (within : top ≤ length
   line-after at from past =
       get_or-append_right (take top text ++ lines) (drop (top + old) text) (top + length lines) at [] (omega (arith, size, length-append (take top text) lines)) (omega (arith, from, past))
       ∙ get_or-drop (top + old) text (at - (top + length lines)) [] ∙ ap (λ (n : ℕ). get_or text n []) (omega (arith, from, past))
+
+  pub cut-before : (at count : ℕ) → at + count ≤ top → cut_out (splice text top old lines) at count ≡ cut_out text at count
+  cut-before at count below =
+      cut-first (take top text ++ lines) (drop (top + old) text) at count (omega (arith, below, size, length-append (take top text) lines))
+      ∙ cut-first (take top text) lines at count (omega (arith, below, size))
+      ∙ ap (λ (n : ℕ). cut_out (take n text) at count) (omega (arith, below)) ∙ ap (take count) (drop-take at (top - at) text)
+      ∙ take-take count (top - at) (drop at text) (omega (arith, below))
+
+  pub cut-held : (at count : ℕ) → top ≤ at → at - top + count ≤ length lines → cut_out (splice text top old lines) at count ≡ cut_out lines (at - top) count
+  cut-held at count from inside =
+      cut-first (take top text ++ lines) (drop (top + old) text) at count (omega (arith, from, inside, size, length-append (take top text) lines))
+      ∙ cut-last (take top text) lines at (at - top) count (omega (arith, from, size))
+
+  pub cut-after : (at count : ℕ) → top ≤ at → length lines ≤ at - top → cut_out (splice text top old lines) at count ≡ cut_out text (at + old - length lines) count
+  cut-after at count from past =
+      cut-last (take top text ++ lines) (drop (top + old) text) at (at - (top + length lines)) count (omega (arith, from, past, size, length-append (take top text) lines))
+      ∙ ap (take count) (drop-drop (at - (top + length lines)) (top + old) text ∙ ap (λ (n : ℕ). drop n text) (omega (arith, from, past)))
 
 -- ---- more lines
 
@@ -183,6 +201,16 @@ module _ (old new : TextState) (held : Held) (same : SameText old new) where
     worked_by = same.worked_by;
     most = same.most;
   }
+
+-- more lines are held, of what was committed, too, where that was nothing else
+module _ (below later : TextState) (same : SameText below later) (old new : Held) (is : IsHeld below old) (more : HoldsMore below old new) where
+  pub held-read : (committed : Option Held) → ((text : List (List ℕ)) → later.Is text → below.Is text) → IsHeld below (committed_of old committed) → IsHeld later (committed_of new committed)
+  held-read None back held = held-same below later new same back (held-more below old new is more)
+  held-read (Some other) back held = held-same below later other same back held
+
+  pub shown-read : (committed : Option Held) → SameText (shown below (committed_of old committed)) (shown later (committed_of new committed))
+  shown-read None = SameText-trans (shown-more below old new is more) (shown-same below later new same)
+  shown-read (Some other) = shown-same below later other same
 
 -- a text that a store has still is the one that it had
 pub told-before : {Told : Type 0} (Old New : List (List ℕ) → Type 0) → (Told → (text : List (List ℕ)) × Old text) → ((text : List (List ℕ)) → New text → Told)

@@ -1,6 +1,6 @@
 // A list of lines with two gaps.
 ghost use Rattle.std.specs.Prelude.{◌≡◌, ◌≤◌, ◌<◌, ◌+◌, ◌-◌, ◌++◌, ◌^◌, [], ℕ, List, IfOk, IsTrue, OnErr, OnOk, drop, get_or, length, max, min, take};
-ghost use Rattle.vs_text.specs.Text.{IsText, bytes_of};
+ghost use Rattle.vs_text.specs.Text.{IsText, bytes_of, file_of};
 ghost use Rattle.vs_edit.specs.Splices.{cut_out, splice};
 
 use std::alloc::{AllocError, Global};
@@ -191,6 +191,52 @@ impl GapLines {
             return &self.between[past];
         }
         &self.after[past - between]
+    }
+
+    // The number of bytes of lines, with one for each line end, as far as its type goes.
+    fn size(&self, at: usize, count: usize) -> usize
+        requires within { at + count ≤ length self.now }
+        requires few { length self.now < 2 ^ 63 }
+    {
+        let mut size = 0usize;
+        for i in 0..count {
+            let len = self.line(at + i).bytes().len();
+            size = size.saturating_add(len).saturating_add(1);
+        }
+        size
+    }
+
+    /// Puts `count` lines from line `at` on into a vector, each followed by byte 10, in place of what that holds.
+    pub fn copy_lines(&self, at: usize, count: usize, into: &mut Vec<u8>) -> Result<(), AllocError>
+        requires within { at + count ≤ length self.now }
+        requires few { length self.now < 2 ^ 63 }
+        ensures bytes { OnOk result (into.new.items ≡ file_of (cut_out self.now at count)) }
+        ensures text { OnOk result (IsText (cut_out self.now at count)) }
+    {
+        into.clear();
+        into.reserve(self.size(at, count))?;
+        for i in 0..count {
+            into.extend_from_slice(self.line(at + i).bytes())?;
+            into.push(b'\n')?;
+        }
+        Ok(())
+    }
+
+    /// `count` lines from line `at` on, in the memory that they have.
+    pub fn into_lines(self, at: usize, count: usize) -> Result<Vec<Line>, AllocError>
+        requires { at + count ≤ length self }
+        ensures { IfOk result (λ lines. lines.items ≡ cut_out self at count) }
+    {
+        let GapLines {
+            before: mut lines,
+            mut between,
+            mut after,
+        } = self;
+        lines.append(&mut between)?;
+        lines.append(&mut after)?;
+        lines.truncate(at + count);
+        let _ = take_away(&mut lines, at);
+        Ok(Vec::from(lines))
     }
 
     /// The same lines once more.

@@ -1,10 +1,11 @@
 // Lines of a store that are held, and may be changed, while the store stays as it is.
-ghost use Rattle.std.specs.Prelude.{◌≡◌, ◌≤◌, ◌<◌, ◌⊎◌, ◌+◌, ◌^◌, [], IfOk, IsErrOf, OnErr, OnOk, length};
+ghost use Rattle.std.specs.Prelude.{◌≡◌, ◌≤◌, ◌<◌, ◌⊎◌, ◌+◌, ◌-◌, ◌^◌, [], ℕ, List, IfOk, IfSome, IsErrOf, OnErr, OnOk, length};
 ghost use Rattle.vs_faults.specs.Faults.{HasCause};
 ghost use Rattle.vs_text.specs.declared.TheConstants.{MAX_LINES};
 ghost use Rattle.vs_edit.specs.Calls.{OnlyReads};
+ghost use Rattle.vs_edit.specs.Splices.{cut_out};
 ghost use Rattle.vs_edit.specs.State.{SameText};
-ghost use Rattle.vs_gap.specs.Held.{HoldsMore, IsExchanged, IsHeld, shown};
+ghost use Rattle.vs_gap.specs.Held.{HoldsMore, IsExchanged, IsHeld, lines_with, shown, with_held};
 
 use crate::gap::{GapLines, bytes_in};
 use std::alloc::{AllocError, Global};
@@ -71,6 +72,45 @@ impl Held {
             .min(MAX_TEXT_BYTES);
         Ok(())
     }
+}
+
+/// Where lines of a text stand among the held ones, where they are all held.
+pub(crate) fn place_held(held: &Held, at: u64, count: u64) -> Option<usize>
+    requires { length held.now.lines < 2 ^ 63 }
+    ensures place { IfSome result (λ place. (held.now.top ≤ at) × (place ≡ at - held.now.top)) }
+    ensures within { IfSome result (λ place. place + count ≤ length held.now.lines) }
+{
+    if at < held.top {
+        return None;
+    }
+    let lines = held.lines.len() as u64;
+    let past = at - held.top;
+    if past > lines || count > lines - past {
+        return None;
+    }
+    Some(past as usize)
+}
+
+/// Where lines of a text stand in the text that is without the held ones, where none of them is held.
+pub(crate) fn place_below(held: &Held, at: u64, count: u64) -> Option<u64>
+    requires few { length held.now.lines < 2 ^ 63 }
+    requires small { at + held.now.replaced < 2 ^ 64 }
+    ensures lines { IfSome result (λ place. (text : List (List ℕ)) → held.now.top + held.now.replaced ≤ length text
+        → cut_out (with_held text held.now) at count ≡ cut_out text place count) }
+    ensures within { IfSome result (λ place. (lines : ℕ) → held.now.top + held.now.replaced ≤ lines → at + count ≤ lines_with lines held.now
+        → place + count ≤ lines) }
+{
+    if at < held.top {
+        if count > held.top - at {
+            return None;
+        }
+        return Some(at);
+    }
+    let lines = held.lines.len() as u64;
+    if at - held.top < lines {
+        return None;
+    }
+    Some(at + held.replaced - lines)
 }
 
 // Holds the lines from this one on.

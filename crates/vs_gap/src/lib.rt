@@ -8,4 +8,4 @@ mod store;
 
 pub use gap::GapLines;
 pub use held::Held;
-pub use store::{GapStore, Overlay};
+pub use store::{GapStore, LineGiver, Overlay};

@@ -1,10 +1,17 @@
 // A store that holds the lines of another that are changed.
-ghost use Rattle.std.specs.Prelude.{◌≡◌, Some, OnErr, OnOk};
+ghost use Rattle.std.specs.Prelude.{◌≡◌, ◌≤◌, ◌+◌, ℕ, List, All, Some, None, IfNone, IfOk, IfSome, IsErrOf, OnErr, OnOk, OnSome, length};
+ghost use Rattle.vs_faults.specs.Faults.{HasCause};
+ghost use Rattle.vs_text.specs.Limits.{IsShort};
+ghost use Rattle.vs_edit.specs.Splices.{cut_out};
+ghost use Rattle.vs_edit.specs.State.{KeepsCommitted};
 ghost use Rattle.vs_gap.specs.Held.{committed_of};
 
-use crate::held::{Held, hold};
+use crate::gap::GapLines;
+use crate::held::{Held, hold, place_below, place_held};
 use std::alloc::{AllocError, Global};
+use std::mem;
 use vs_edit::{LineStore, StoreErr};
+use vs_reads::push_lines;
 use vs_text::Line;
 
 /// The lines that a store holds over another.
@@ -15,8 +22,22 @@ pub struct Overlay {
     pub committed: Option<Held>,
 }
 
-/// A store over another, which it only reads. It holds the lines from the first that was changed to the last one, and so takes into
-/// memory what is changed: it is meant for changes that stand near to each other, or at two places in turn.
+/// A store that may give lines of its text away.
+pub trait LineGiver: LineStore {
+    /// `count` lines from line `top` on. The store goes back to no more than its committed text: it is to be rolled back, or let go.
+    fn give_lines(&mut self, alloc: Global, top: u64, count: u64) -> Result<Vec<Line>, StoreErr>
+        requires valid { Self.valid self.old }
+        requires within { top + count ≤ (Self.shows self.old).present.lines }
+        ensures lines { IfOk result (λ lines. (text : List (List ℕ)) → (Self.shows self.old).present.Is text → lines.items ≡ cut_out text top count) }
+        ensures count { IfOk result (λ lines. length lines.items ≡ count) }
+        ensures short { IfOk result (λ lines. All IsShort lines.items) }
+        ensures kept { KeepsCommitted Self.shows Self.valid Self.stays self.old self.new }
+        ensures cause { HasCause (Self.shows self.old).faults (Self.shows self.new).faults (IsErrOf result StoreErr.Failed) };
+}
+
+/// A store over another, which it only reads. It holds the lines from the first that was changed to the last one, and those that were
+/// read together with some of them, and so takes into memory what is changed: it is meant for changes that stand near to each other, or at
+/// two places in turn.
 #[derive(Drop)]
 pub struct GapStore<'s, S: LineStore> {
     pub below: &'s mut S,
@@ -34,6 +55,19 @@ impl Overlay {
             self.committed = Some(self.present.copy()?);
         }
         Ok(())
+    }
+
+    // Goes back to what was committed, where something else may be held, and gives the lines that were held.
+    fn let_go(&mut self) -> Option<GapLines>
+        ensures some { IfSome result (λ lines. lines ≡ self.old.present.lines) }
+        ensures present { OnSome result (self.new.present ≡ committed_of self.old.present self.old.committed) }
+        ensures committed { OnSome result (self.new.committed ≡ None) }
+        ensures none { IfNone result (self.new ≡ self.old) }
+    {
+        match self.committed.take() {
+            None => None,
+            Some(committed) => Some(mem::replace(&mut self.present, committed).lines),
+        }
     }
 }
 
@@ -104,6 +138,23 @@ impl<'s, S: LineStore> LineStore for GapStore<'s, S> {
         Ok(())
     }
 
+    fn copy_lines(
+        &mut self,
+        alloc: Global,
+        at: u64,
+        count: u64,
+        into: &mut Vec<u8>,
+    ) -> Result<(), StoreErr> {
+        if let Some(place) = place_below(&self.overlay.present, at, count) {
+            return self.below.copy_lines(alloc, place, count, into);
+        }
+        hold(alloc, &mut self.overlay.present, self.below, at, count)?;
+        let held = &self.overlay.present;
+        held.lines
+            .copy_lines((at - held.top) as usize, count as usize, into)?;
+        Ok(())
+    }
+
     fn splice(&mut self, alloc: Global, top: u64, old: u64, new: &[Line]) -> Result<(), StoreErr> {
         self.overlay.keep_committed()?;
         hold(alloc, &mut self.overlay.present, self.below, top, old)?;
@@ -119,5 +170,18 @@ impl<'s, S: LineStore> LineStore for GapStore<'s, S> {
         if let Some(held) = self.overlay.committed.take() {
             self.overlay.present = held;
         }
+    }
+}
+
+impl<'s, S: LineStore> LineGiver for GapStore<'s, S> {
+    fn give_lines(&mut self, alloc: Global, top: u64, count: u64) -> Result<Vec<Line>, StoreErr> {
+        if let Some(place) = place_held(&self.overlay.present, top, count)
+            && let Some(lines) = self.overlay.let_go()
+        {
+            return Ok(lines.into_lines(place, count as usize)?);
+        }
+        let mut new = Vec::new(alloc);
+        push_lines(alloc, self, top, count, &mut new)?;
+        Ok(new)
     }
 }

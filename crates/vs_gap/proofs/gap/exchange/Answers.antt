@@ -1,5 +1,5 @@
 -- The gap is where the old lines begin: they are the first ones after it.
-use Rattle.std.proofs.Common.{◌≡◌, ◌∙◌, ◌-◌, ◌^◌, ◌++◌, ℕ, List, ap, arith, length, length-append, min, sym, take}
+use Rattle.std.proofs.Common.{◌∙◌, ◌-◌, ◌^◌, ◌++◌, ℕ, List, ap, arith, length, length-append, min, sym, take}
 use Rattle.vs_edit.specs.Splices.{cut_out, splice}
 use Rattle.vs_text.specs.Text.{bytes_of}
 use Rattle.vs_gap.proofs.GapLemmas.{exchanged, gone}

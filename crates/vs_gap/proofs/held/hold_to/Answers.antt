@@ -1,5 +1,5 @@
 -- The lines after the last one are read.
-use Rattle.std.proofs.Common.{◌∙◌, ◌+◌, ◌-◌, ◌++◌, ℕ, List, All, ap, arith, length, refl, rules, subst, sym}
+use Rattle.std.proofs.Common.{◌∙◌, ◌+◌, ◌++◌, ℕ, List, All, ap, arith, length, refl, rules, subst, sym}
 use Rattle.vs_text.specs.Limits.{IsShort}
 use Rattle.vs_edit.specs.Splices.{cut_out}
 use Rattle.vs_gap.specs.declared.held.Held.{Held}
