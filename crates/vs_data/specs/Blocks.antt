@@ -1,9 +1,9 @@
 -- A data block: stored lines of a text. Places are bytes of the block, and lines are counted from 0.
-use Rattle.std.specs.Prelude.{◌≡◌, ℕ, zero, suc, ◌+◌, ◌-◌, ◌*◌, ◌/◌, ◌%◌, ◌^◌, ◌<◌, ◌≤◌, Bool, not, ◌&&◌, ◌||◌, if◌then◌else◌, ◌==◌, nat_le, nat_lt, List}
+use Rattle.std.specs.Prelude.{◌≡◌, ◌≢◌, All, replicate, ℕ, zero, suc, ◌+◌, ◌-◌, ◌*◌, ◌/◌, ◌%◌, ◌^◌, ◌<◌, ◌≤◌, Bool, not, ◌&&◌, ◌||◌, if◌then◌else◌, ◌==◌, nat_le, nat_lt, List}
 use Rattle.std.specs.Prelude.{[], ◌∷◌, ◌++◌, length, take, drop, map, slice_index, slice_range, Option, None, Some, Result, Ok, Err}
 use Rattle.std.specs.Option.{option_and_then, option_map}
 use Rattle.std.specs.Result.{result_ok}
-use Rattle.std.specs.List.{find, list_all, range_with_len, sum_by}
+use Rattle.std.specs.List.{find, flat_map, list_all, range_with_len, sum_by}
 use Rattle.vs_bytes.specs.Fields.{Little, bytes_of, number_at}
 use Rattle.vs_data.specs.declared.DataView.{DataView}
 use Rattle.vs_data.specs.declared.DataErr.{DataErr}
@@ -157,6 +157,30 @@ pub record HasRest (old : List ℕ) (from : ℕ) (new : List ℕ) (view : DataVi
   pub marks : marks_in new ≡ drop from (marks_in old)
   pub free : free_field new ≡ free_space view
   pub front : take 4 new ≡ id_bytes
+
+-- stored lines, each followed by a zero byte
+abbrev pub ended_of : List (List ℕ) → List ℕ
+ended_of lines = flat_map (λ line. line ++ 0 ∷ []) lines
+
+-- Of stored lines that are given by their bytes the first ones stand after those of the block: so many bytes, each line with its zero byte.
+pub record PutsLast (old new : List ℕ) (before after : DataView) (bytes : List ℕ) (taken : ℕ) : Type 0 where
+  pub put : List (List ℕ)
+  pub lines_end : take taken bytes ≡ ended_of put
+  pub within : taken ≤ length bytes
+  pub no_zero : All (All (λ byte. byte ≢ 0)) put
+  pub count : after.count ≡ before.count + length put
+  pub start : after.text_start + taken ≡ before.text_start
+  pub end : after.text_end ≡ before.text_end
+  pub view : view_in new ≡ Ok after
+  pub lines : lines_in new ≡ option_map (λ lines. lines ++ put) (lines_in old)
+  pub marks : marks_in new ≡ marks_in old ++ replicate (length put) 0
+  pub free : 0 < length put → free_field new ≡ free_space after
+  pub front : take 4 new ≡ take 4 old
+  pub beyond : drop after.text_end new ≡ drop after.text_end old
+
+-- There is no room for the line that ends first in the bytes.
+abbrev pub HasNoRoom : DataView → List ℕ → Type 0
+HasNoRoom view bytes = (line rest : List ℕ) → bytes ≡ line ++ (0 ∷ rest) → All (λ byte. byte ≢ 0) line → free_space view < length line + 5
 
 -- the length of a block: whole pages, no more than a block of one line has
 pub record IsBlockLength (n : ℕ) : Type 0 where

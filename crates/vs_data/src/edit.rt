@@ -22,13 +22,25 @@ impl DataView {
         ensures lines { lines_in block.new ≡ Some [] }
         ensures bytes { block.new ≡ id_bytes ++ header_of result ++ replicate (length block.old - 24) 0 }
     {
+        block.fill(0);
+        DataView::fresh_in_zeros(block)
+    }
+
+    /// Makes a block without lines of zeros, as `fresh` does of any bytes.
+    pub fn fresh_in_zeros(block: &mut [u8]) -> DataView
+        requires length { IsBlockLength (length block.old) }
+        requires zeros { block.old ≡ replicate (length block.old) 0 }
+        ensures header { result ≡ record { count = 0; text_start = length block.old; text_end = length block.old } }
+        ensures view { view_in block.new ≡ Ok result }
+        ensures lines { lines_in block.new ≡ Some [] }
+        ensures bytes { block.new ≡ id_bytes ++ header_of result ++ replicate (length block.old - 24) 0 }
+    {
         let length = block.len() as u32;
         let view = DataView {
             count: 0,
             text_start: length,
             text_end: length,
         };
-        block.fill(0);
         put_le_u16(block, 0, ID);
         view.write_header(block);
         view
@@ -174,7 +186,7 @@ impl DataView {
     }
 
     // Writes the header's fields after the identifier.
-    fn write_header(&self, block: &mut [u8])
+    pub(crate) fn write_header(&self, block: &mut [u8])
         requires { 24 ≤ length block.old }
         ensures { block.new ≡ with_field block.old 4 (header_of self.now) }
     {

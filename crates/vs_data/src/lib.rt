@@ -5,6 +5,7 @@
 //! docs/FORMATS.md, "Data blocks". No call takes memory.
 #![tactic(auto)]
 
+mod append;
 mod bytes;
 mod edit;
 mod index;
