@@ -28,4 +28,4 @@ pub use exchange::{exchange_entry, exchange_in_root};
 pub use find::find_below;
 pub use first::write_first;
 pub use load::{load_data, load_line};
-pub use run::Run;
+pub use run::{FirstRun, Run};

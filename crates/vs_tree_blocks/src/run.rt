@@ -8,7 +8,7 @@ ghost use Rattle.vs_tree_shape.specs.Changes.{splice};
 ghost use Rattle.vs_tree_blocks.specs.Blocks.{FitsFields};
 ghost use Rattle.vs_tree_blocks.specs.Edits.{IsStored};
 ghost use Rattle.vs_tree_blocks.specs.Parts.{IsBlock, IsPage, page_lines};
-ghost use Rattle.vs_tree_blocks.specs.Runs.{lines_within, pages_of};
+ghost use Rattle.vs_tree_blocks.specs.Runs.{IsFirstRun, lines_within, pages_of};
 ghost use Rattle.vs_tree_blocks.specs.Writes.{AddsBlock, Touches};
 
 use crate::add_block;
@@ -47,6 +47,13 @@ impl Model for Run {
     ghost invariant = { λ run. IsRun run.bytes.items run.view run.pages };
 }
 
+/// A run of the first of some lines, and the number of the bytes of these.
+#[derive(Drop)]
+pub struct FirstRun {
+    pub run: Run,
+    pub taken: usize,
+}
+
 impl Run {
     /// The run of one stored line.
     pub fn of(alloc: Global, line: &[u8]) -> Result<Run, AllocError>
@@ -58,6 +65,22 @@ impl Run {
         let mut view = DataView::fresh(&mut bytes);
         view.insert(&mut bytes, 0, line);
         Ok(Run { bytes, view, pages })
+    }
+
+    /// The run of the first of some stored lines, from their bytes, each followed by a zero byte: as many as a page has room for. It has
+    /// no line where none ends in the bytes, or the first is too long for a page.
+    pub fn of_first(alloc: Global, lines: &[u8]) -> Result<FirstRun, AllocError>
+        ensures { IfOk result (λ first. IsFirstRun lines.now first.run first.taken) }
+    {
+        let mut bytes = vec![in alloc; 0u8; PAGE_SIZE]?;
+        let mut view = DataView::fresh_in_zeros(&mut bytes);
+        let taken = view.append_ended(&mut bytes, lines);
+        let run = Run {
+            bytes,
+            view,
+            pages: 1,
+        };
+        Ok(FirstRun { run, taken })
     }
 
     /// Puts a stored line after the others where a page has room for all of them, and tells whether it did.
