@@ -51,16 +51,6 @@ filled_first bytes first after stored run is less stored_is run_is = record {
   less = less;
 }
 
--- one more line in a run
-pub filled_more : (bytes rest line after stored : List ℕ) (run now : List (List ℕ)) → lines_of rest ≡ line ∷ lines_of after → length after < length rest → stored ≡ stored_line line → now ≡ run ++ stored ∷ [] → IsFilled bytes run rest → IsFilled bytes now after
-filled_more bytes rest line after stored run now is less stored_is now_is h = record {
-  put = h.put ++ line ∷ [];
-  lines = h.lines ∙ ap (λ (ls : List (List ℕ)). h.put ++ ls) is ∙ sym (append_assoc h.put (line ∷ []) (lines_of after));
-  stored = now_is ∙ ap (λ (xs : List (List ℕ)). xs ++ stored ∷ []) h.stored ∙ ap (λ (x : List ℕ). map stored_line h.put ++ x ∷ []) stored_is ∙ sym (map-append stored_line h.put (line ∷ []));
-  some = omega (arith, length-append h.put (line ∷ []), h.some);
-  less = omega (arith, h.less, less);
-}
-
 -- the lines after the first of some are not too long
 pub short_after : (bytes rest : List ℕ) (put : List (List ℕ)) → lines_of bytes ≡ put ++ lines_of rest → All IsShort (lines_of bytes) → All IsShort (lines_of rest)
 short_after bytes rest put is short = part_short put (lines_of rest) [] (lines_of bytes) (is ∙ ap (λ (ls : List (List ℕ)). put ++ ls) (sym (append-nil (lines_of rest)))) short

@@ -1,16 +1,16 @@
 -- Stored lines that end with byte 0 turn into their file form byte by byte, since no stored line has that byte.
-use Rattle.std.proofs.Common.{◌≡◌, ◌≢◌, ℕ, ◌+◌, ◌-◌, ◌<◌, List, [], ◌∷◌, ◌++◌, Some, length, get_or, take, drop, map, All, refl, sym, ap, ◌∙◌, arith, append-nil, append_assoc, length-append}
+use Rattle.std.proofs.Common.{◌≡◌, ◌≢◌, ℕ, ◌+◌, ◌<◌, List, [], ◌∷◌, ◌++◌, Some, length, get_or, take, drop, map, All, refl, sym, ap, ◌∙◌, arith, append-nil, append_assoc, length-append}
 use Rattle.std.specs.List.{AllByRecursion}
 use Rattle.std.proofs.lemmas.Bool.Decides.{nat_tests}
 use Rattle.std.proofs.lemmas.Grind.{common_steps}
 use Rattle.std.proofs.lemmas.List.{length-map, map-append}
 use Rattle.std.proofs.lemmas.List.Concat.{flat_map-append}
 use Rattle.std.proofs.lemmas.List.Elements.{All-append, All-nil, All-from_recursion, recursion_from_All}
-use Rattle.vs_text.specs.Text.{IsLine, file_of, plain_byte, plain_line}
+use Rattle.vs_text.specs.Text.{IsLine, plain_byte, plain_line}
 use Rattle.vs_text.specs.Limits.{IsShort}
 use Rattle.vs_text.proofs.StoredForm.{IsLine-plain_line}
-use Rattle.vs_data.specs.Blocks.{lines_in}
-use Rattle.vs_tree.specs.Reads.{AddsEnded, AddsLines, ended_of, exchanged_byte, file_of_stored}
+use Rattle.vs_data.specs.Blocks.{ended_of, lines_in}
+use Rattle.vs_tree.specs.Reads.{AddsEnded, AddsLines, exchanged_byte, file_of_stored}
 
 abbrev HasNoZero : List ℕ → Type 0
 HasNoZero line = All (λ byte. byte ≢ 0) line
@@ -25,7 +25,7 @@ plain_line_is (byte ∷ line) some = rw (plain_byte_is byte some.0, plain_line_i
 ended_line : (line : List ℕ) → HasNoZero line → map exchanged_byte (line ++ 0 ∷ []) ≡ plain_line line ++ 10 ∷ []
 ended_line line some = map-append exchanged_byte line (0 ∷ []) ∙ ap (λ xs. xs ++ 10 ∷ []) (plain_line_is line (recursion_from_All (λ byte. byte ≢ 0) line some))
 
-ended_lines : (lines : List (List ℕ)) → AllByRecursion HasNoZero lines → map exchanged_byte (ended_of lines) ≡ file_of_stored lines
+pub ended_lines : (lines : List (List ℕ)) → AllByRecursion HasNoZero lines → map exchanged_byte (ended_of lines) ≡ file_of_stored lines
 ended_lines [] none = refl
 ended_lines (line ∷ lines) some =
     map-append exchanged_byte (line ++ 0 ∷ []) (ended_of lines)
@@ -62,7 +62,7 @@ ended_next block old now new from n k line more added some short is there = reco
       ∙ sym (take_next all from n (there all reads).0) ∙ ap (λ m. take m (drop from all)) (sym more);
 }
 
-lines_plain : (lines : List (List ℕ)) → AllByRecursion IsLine (map plain_line lines)
+pub lines_plain : (lines : List (List ℕ)) → AllByRecursion IsLine (map plain_line lines)
 lines_plain [] = tt
 lines_plain (line ∷ lines) = (IsLine-plain_line line, lines_plain lines)
 

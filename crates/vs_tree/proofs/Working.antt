@@ -1,5 +1,5 @@
 -- The pages that a small splice worked, as the store of a text shows them: those whose commit became another.
-use Rattle.std.proofs.Common.{◌≡◌, ◌≢◌, ◌+◌, ◌∙◌, ℕ, Bool, true, false, List, [], ◌∷◌, ◌++◌, All, IsTrue, refl, ap, arith}
+use Rattle.std.proofs.Common.{◌≡◌, ◌≢◌, ◌∙◌, ℕ, Bool, true, false, List, [], ◌∷◌, IsTrue, refl, ap, arith}
 use Rattle.std.specs.List.{AllByRecursion}
 use Rattle.std.specs.Prelude.{if◌then◌else◌, nat_eq}
 use Rattle.std.proofs.lemmas.Bool.Decides.{nat_tests}
@@ -27,7 +27,7 @@ works_shown old new most commits works = record {
   others = λ page apart.
       let none = works.only.covers page (total_apart page works.names (recursion_from_All (λ name. name ≢ page) works.names apart)) in
       let same : total (λ at. one at page) new.worked ≡ total (λ at. one at page) old.worked =
-          ap (λ (w : List ℕ). total (λ at. one at page) w) works.only.is ∙ omega (arith, none, total-append (λ at. one at page) works.only.added old.worked) in
+      ap (λ (w : List ℕ). total (λ at. one at page) w) works.only.is ∙ omega (arith, none, total-append (λ at. one at page) works.only.added old.worked) in
       ap (λ (c : Commits). (one_more new.worked c).last page) commits ∙ ap (λ n. if nat_eq n 0 then old.commits.last page else old.commits.count) same;
 }
 

@@ -11,10 +11,11 @@ ghost use Rattle.vs_tree.specs.Appends.{Appends, AppendsTree, IsFilled, IsFilled
 ghost use Rattle.vs_tree.specs.Calls.{StandsTree};
 ghost use Rattle.vs_tree.specs.Texts.{Fits};
 
+use crate::copy::exchange_into;
 use crate::runs::{put_run, put_runs};
 use crate::{Extent, LineTree, Root, splice_within};
 use std::alloc::{AllocError, Global};
-use vs_pages::{PageErr, Pages};
+use vs_pages::{PAGE_SIZE, PageErr, Pages};
 use vs_pieces::{EndedLines, ended_line};
 use vs_text::{Line, to_stored};
 use vs_tree_blocks::{MOST_RUNS, Run};
@@ -52,26 +53,37 @@ struct Filled<'b> {
     rest: &'b [u8],
 }
 
-// The first lines of some bytes, in their stored form: as many as a page has room for, and at least one.
-fn fill_from(alloc: Global, bytes: &[u8]) -> Result<Filled<'_>, AllocError>
+// The first line of some bytes, in its stored form.
+fn fill_line(alloc: Global, bytes: &[u8]) -> Result<Filled<'_>, AllocError>
     requires some { 0 < length bytes.now }
     requires short { All IsShort (lines_of bytes.now) }
     ensures { IfOk result (λ filled. IsFilled bytes.now filled.run filled.rest.now) }
 {
     let mut stored = Vec::new(alloc);
-    let (first, after) = first_line(bytes);
+    let (first, rest) = first_line(bytes);
     store_bytes(first, &mut stored)?;
-    let mut run = Run::of(alloc, &stored)?;
-    let mut rest = after;
-    'lines: while !rest.is_empty() {
-        let (line, after) = first_line(rest);
-        store_bytes(line, &mut stored)?;
-        if !run.push(&stored) {
-            return Ok(Filled { run, rest });
-        }
-        rest = after;
-    }
+    let run = Run::of(alloc, &stored)?;
     Ok(Filled { run, rest })
+}
+
+// The first lines of some bytes, in their stored form: as many as a page has room for, and at least one. `page` takes the bytes of
+// the lines on the way.
+fn fill_from<'b>(alloc: Global, bytes: &'b [u8], page: &mut [u8]) -> Result<Filled<'b>, AllocError>
+    requires some { 0 < length bytes.now }
+    requires short { All IsShort (lines_of bytes.now) }
+    ensures { IfOk result (λ filled. IsFilled bytes.now filled.run filled.rest.now) }
+{
+    let count = bytes.len().min(page.len());
+    let stored = &mut page[..count];
+    exchange_into(&bytes[..count], stored);
+    let first = Run::of_first(alloc, stored)?;
+    if first.taken == 0 {
+        return fill_line(alloc, bytes);
+    }
+    Ok(Filled {
+        run: first.run,
+        rest: &bytes[first.taken..],
+    })
 }
 
 // Runs of the first lines of some bytes, and the bytes after them.
@@ -82,12 +94,16 @@ struct FilledRuns<'b> {
 }
 
 // The first lines of some bytes, in their stored form, in runs that are put in together: each has as many as a page has room for.
-fn fill_runs(alloc: Global, bytes: &[u8]) -> Result<FilledRuns<'_>, AllocError>
+fn fill_runs<'b>(
+    alloc: Global,
+    bytes: &'b [u8],
+    page: &mut [u8],
+) -> Result<FilledRuns<'b>, AllocError>
     requires some { 0 < length bytes.now }
     requires short { All IsShort (lines_of bytes.now) }
     ensures { IfOk result (λ filled. IsFilledBy bytes.now filled.runs.items filled.rest.now) }
 {
-    let first = match fill_from(alloc, bytes) {
+    let first = match fill_from(alloc, bytes, page) {
         Ok(first) => first,
         Err(error) => return Err(error),
     };
@@ -97,7 +113,7 @@ fn fill_runs(alloc: Global, bytes: &[u8]) -> Result<FilledRuns<'_>, AllocError>
         if runs.len() >= MOST_RUNS {
             return Ok(FilledRuns { runs, rest });
         }
-        let filled = match fill_from(alloc, rest) {
+        let filled = match fill_from(alloc, rest, page) {
             Ok(filled) => filled,
             Err(error) => return Err(error),
         };
@@ -113,6 +129,7 @@ fn append_runs<P: Pages>(
     pages: &mut P,
     root: Root,
     bytes: &[u8],
+    page: &mut [u8],
 ) -> Result<Root, PageErr>
     requires valid { P.valid pages.old }
     requires short { All IsShort (lines_of bytes.now) }
@@ -127,7 +144,7 @@ fn append_runs<P: Pages>(
     let mut now = root;
     let mut rest = bytes;
     'runs: while !rest.is_empty() {
-        let filled = match fill_runs(alloc, rest) {
+        let filled = match fill_runs(alloc, rest, page) {
             Ok(filled) => filled,
             Err(error) => return Err(error.into()),
         };
@@ -144,6 +161,7 @@ fn append_lines<P: Pages>(
     pages: &mut P,
     root: Root,
     bytes: &[u8],
+    page: &mut [u8],
 ) -> Result<Root, PageErr>
     requires valid { P.valid pages.old }
     requires short { All IsShort (lines_of bytes.now) }
@@ -158,12 +176,12 @@ fn append_lines<P: Pages>(
     if bytes.is_empty() {
         return Ok(root);
     }
-    let filled = match fill_from(alloc, bytes) {
+    let filled = match fill_from(alloc, bytes, page) {
         Ok(filled) => filled,
         Err(error) => return Err(error.into()),
     };
     let now = put_run(alloc, pages, root, root.lines, &filled.run)?;
-    append_runs(alloc, pages, now, filled.rest)
+    append_runs(alloc, pages, now, filled.rest, page)
 }
 
 // Puts lines after the last one of a text that has lines. They have `size` bytes, with one for each line end.
@@ -187,7 +205,8 @@ fn append_text<P: Pages>(
     ensures kept { Continues P.Pages pages.old pages.new }
     ensures cause { HasCause (P.shows pages.old).faults (P.shows pages.new).faults (IsErrOf result PageErr.Failed) }
 {
-    let tree = append_lines(alloc, pages, now.root(), bytes)?;
+    let mut page = [0; PAGE_SIZE];
+    let tree = append_lines(alloc, pages, now.root(), bytes, &mut page)?;
     Ok(Extent {
         height: tree.height,
         lines: tree.lines,
