@@ -11,8 +11,10 @@ use Rattle.vs_excmd.specs.declared.answer.PlanErr.{PlanErr}
 use Rattle.vs_excmd.specs.declared.answer.PlanErr.TheVariants as error
 use Rattle.vs_excmd.specs.declared.place.Place.{Place}
 use Rattle.vs_excmd.specs.Answer.{Answers, effect_of}
-use Rattle.vs_excmd.specs.Change.{Change, Effect}
+use Rattle.vs_excmd.specs.Change.{Change, Effect, bounded}
 use Rattle.vs_excmd.specs.Errors.{on}
+use Rattle.vs_excmd.specs.Meaning.{effect, planned}
+use Rattle.vs_excmd.specs.Place.{place_of}
 use Rattle.vs_marks.specs.Marks.{lines_of, marks_after}
 use Rattle.vs_global.specs.Global.{Marked, all_marked, carried_out, is_E486, changed_by, first_mark, next_marked, taken_at, without_first, exchanged_marks, found, is_move, marks_by, places, unless_E486}
 use Rattle.vs_global.specs.Carry.{Ends, Finds, IsAt, IsRefused, Reaches}
@@ -21,10 +23,28 @@ use Rattle.vs_marks.specs.declared.marks.Marks.{Marks}
 use Rattle.vs_global.specs.declared.run.Run.{Run}
 use Rattle.vs_global.proofs.PlacesLemmas.{places-exchanged, length-exchanged, first-none, first-some, length-without}
 
-pub find-err : (r : Result Place ExErr) (place : Place) (meant : Result Effect ExErr) (e : PlanErr) → r ≡ Ok place → Answers meant (Err e) → Finds (on r (λ p. on meant (λ effect. Ok (p, effect)))) (Err e)
-find-err r place meant (error.Ex e) is answers = rw (is, answers) refl
-find-err r place meant error.NoMemory is answers = tt
-find-err r place meant error.Failed is answers = tt
+-- what is planned has a place
+ok-place : (r : Result Place ExErr) (f : Place → Result Effect ExErr) (change : Effect) → on r f ≡ Ok change → (place : Place) × (r ≡ Ok place)
+ok-place (Ok place) f change is = (place, refl)
+ok-place (Err e) f change is = cc
+
+err-found : (r : Result Place ExErr) (f : Place → Result Effect ExErr) (e : ExErr) → on r f ≡ Err e
+    → on {Y = Place × Effect} r (λ p. on {Y = Place × Effect} (on r f) (λ change. Ok (p, change))) ≡ Err e
+err-found (Ok place) f e is = ap (λ (r : Result Effect ExErr). on {Y = Place × Effect} r (λ change. Ok (place, change))) is
+err-found (Err other) f e is = ap (λ (r : Result Effect ExErr). on {Y = Place × Effect} r (λ change. Err e)) is
+
+found-place : (r : Result Place ExErr) (meant : Result Effect ExErr) (place : Place) (change : Effect) → r ≡ Ok place → meant ≡ Ok change
+    → on {Y = Place × Effect} r (λ p. on {Y = Place × Effect} meant (λ e. Ok (p, e))) ≡ Ok (place, change)
+found-place r meant place change is answers = rw (is, answers) refl
+
+pub finds-plan : (command : Command) (text : List (List ℕ)) (cursor : ℕ) (answer : Result Plan PlanErr) → Answers (planned command [] text cursor) answer
+    → Finds (found command text cursor) answer
+finds-plan command text cursor (Ok plan) is =
+    let place = ok-place (place_of command (length text) cursor) (λ place. bounded text (effect command [] text place)) (effect_of plan) is in
+    (place.0, found-place (place_of command (length text) cursor) (planned command [] text cursor) place.0 (effect_of plan) place.1 is)
+finds-plan command text cursor (Err (error.Ex e)) is = err-found (place_of command (length text) cursor) (λ place. bounded text (effect command [] text place)) e is
+finds-plan command text cursor (Err error.NoMemory) is = tt
+finds-plan command text cursor (Err error.Failed) is = tt
 
 pub came : (command : Command) (at : Marked) (a b : Result (Place × Effect) ExErr) → a ≡ b → unless_E486 at (on a (λ found. Ok (changed_by command at found.0 found.1))) ≡ unless_E486 at (on b (λ found. Ok (changed_by command at found.0 found.1)))
 came command at a b is = ap (λ (r : Result (Place × Effect) ExErr). unless_E486 at (on r (λ found. Ok (changed_by command at found.0 found.1)))) is

@@ -21,9 +21,9 @@ use Rattle.vs_global.specs.declared.run.Run.{Run}
 use Rattle.vs_global.specs.declared.run.Untouched.{Untouched}
 use Rattle.vs_global.specs.Global.{Marked, all_marked, carried_out, come_to, is_E486, places}
 
--- The answer is what was found, or that there was no memory, or that the store failed.
-abbrev pub Finds : Result (Place × Effect) ExErr → Result (Place × Plan) PlanErr → Type 0
-Finds meant (Ok found) = meant ≡ Ok (found.0, effect_of found.1)
+-- The answer is what was found at some place, or that there was no memory, or that the store failed.
+abbrev pub Finds : Result (Place × Effect) ExErr → Result Plan PlanErr → Type 0
+Finds meant (Ok plan) = (place : Place) × (meant ≡ Ok (place, effect_of plan))
 Finds meant (Err (error.Ex e)) = meant ≡ Err e
 Finds meant (Err error.NoMemory) = ⊤
 Finds meant (Err error.Failed) = ⊤

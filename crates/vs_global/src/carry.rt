@@ -8,7 +8,6 @@ ghost use Rattle.vs_exparse.specs.Command.{command_of, wants_block};
 ghost use Rattle.vs_exparse.specs.Form.{HasForm};
 ghost use Rattle.vs_excmd.specs.Answer.{Allows};
 ghost use Rattle.vs_excmd.specs.Meaning.{changes_text};
-ghost use Rattle.vs_excmd.specs.Place.{BeginsAtLine, IsOutside, IsPlaceIn};
 ghost use Rattle.vs_marks.specs.Marks.{lines_of};
 ghost use Rattle.vs_global.specs.Global.{Marked, all_marked, found, is_move};
 ghost use Rattle.vs_global.specs.Carry.{Carries, Ends, Finds, HasLead, IsAt, IsOther, IsReady, IsRefused, KeepsEnds, NearLead, Refuses};
@@ -17,34 +16,27 @@ use crate::moving::{move_lines, move_marks, stretch_of};
 use crate::run::{Run, touched};
 use std::alloc::Global;
 use vs_edit::LineStore;
-use vs_excmd::{Block, Place, Plan, PlanErr, place_of, plan};
+use vs_excmd::{Block, Plan, PlanErr, place_of, plan};
 use vs_exparse::{Command, ExErr};
 use vs_marks::Marks;
 
-// Where a nested command works, and what it does.
+// What a nested command does.
 fn find<S: LineStore>(
     alloc: Global,
     nested: &Command,
     view: &mut S,
     cursor: u64,
-) -> Result<(Place, Plan), PlanErr>
+) -> Result<Plan, PlanErr>
     requires valid { S.valid view.old }
     requires changes { IsTrue (changes_text (command_of nested.now)) }
     requires form { HasForm (command_of nested.now) }
     requires no_block { wants_block (command_of nested.now) ≡ false }
     ensures finds { (text : List (List ℕ)) → (S.shows view.old).present.Is text → Finds (found (command_of nested.now) text cursor) result }
-    ensures lies { IfOk result (λ found. IsPlaceIn (S.shows view.old).present.lines found.0) }
-    ensures begins { IfOk result (λ found. BeginsAtLine (command_of nested.now) found.0) }
-    ensures outside { IfOk result (λ found. IsOutside (command_of nested.now) found.0) }
-    ensures allowed { IfOk result (λ found. Allows (S.shows view.new).present found.1) }
+    ensures allowed { IfOk result (λ plan. Allows (S.shows view.new).present plan) }
     ensures kept { OnlyReads S.LineStore view.old view.new }
     ensures cause { HasCause (S.shows view.old).faults (S.shows view.new).faults (IsErrOf result PlanErr.Failed) }
 {
-    let place = place_of(nested, view.len(), cursor)?;
-    match plan(alloc, nested, &Block::Absent, view, cursor) {
-        Ok(plan) => Ok((place, plan)),
-        Err(error) => Err(error),
-    }
+    plan(alloc, nested, &Block::Absent, view, cursor)
 }
 
 // E486 of a nested command is no change.
@@ -86,17 +78,14 @@ fn carry_splice<S: LineStore>(
     run.cursor = line + 1;
     match find(alloc, nested, view, line + 1) {
         Err(error) => unless_unmatched(error),
-        Ok((_, Plan::NoChange)) => Ok(()),
+        Ok(Plan::NoChange) => Ok(()),
         Ok(
-            (
-                _,
-                Plan::Splice {
-                    top,
-                    old,
-                    new,
-                    cursor,
-                },
-            ),
+            Plan::Splice {
+                top,
+                old,
+                new,
+                cursor,
+            },
         ) => {
             let lines = view.len();
             view.splice(alloc, top, old, &new)?;

@@ -20,12 +20,12 @@ use std::alloc::Global;
 use vs_edit::LineStore;
 use vs_excmd::{Plan, PlanErr};
 use vs_exparse::Command;
-use vs_gap::{GapStore, Held, Overlay};
+use vs_gap::{GapStore, Held, LineGiver, Overlay};
 use vs_marks::Marks;
 
 // Carries a command of the text out at each of these lines, and plans all that came of it as one splice. The store is left as it is
 // then, and the committed text as it was.
-fn change_all<S: LineStore>(
+fn change_all<S: LineGiver>(
     alloc: Global,
     nested: &Command,
     view: &mut S,

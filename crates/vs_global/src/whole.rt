@@ -1,7 +1,7 @@
 // The one splice that leads from the first text to the last.
 ghost use Rattle.std.specs.Prelude.{◌≡◌, ◌≤◌, ℕ, List, IfOk, IsErrOf, length};
 ghost use Rattle.vs_faults.specs.Faults.{HasCause};
-ghost use Rattle.vs_edit.specs.Calls.{OnlyReads};
+ghost use Rattle.vs_edit.specs.Calls.{Continues};
 ghost use Rattle.vs_excmd.specs.Answer.{effect_of};
 ghost use Rattle.vs_text.specs.declared.TheConstants.{MAX_LINES};
 ghost use Rattle.vs_global.specs.Carry.{AllowsFrom, Covers, StaysWithin};
@@ -9,12 +9,13 @@ ghost use Rattle.vs_global.specs.Global.{whole_by};
 
 use crate::run::Run;
 use std::alloc::Global;
-use vs_edit::{LineStore, StoreErr};
+use vs_edit::StoreErr;
 use vs_excmd::Plan;
-use vs_reads::push_lines;
+use vs_gap::LineGiver;
 
-/// The splice that leads from a text with so many lines to the one that the store has now, by what was left untouched between them.
-pub(crate) fn whole_plan<S: LineStore>(
+/// The splice that leads from a text with so many lines to the one that the store has now, by what was left untouched between them. The
+/// store may go back to its committed text then.
+pub(crate) fn whole_plan<S: LineGiver>(
     alloc: Global,
     view: &mut S,
     lines: u64,
@@ -27,16 +28,14 @@ pub(crate) fn whole_plan<S: LineStore>(
         Covers run.made start now
         → effect_of plan ≡ whole_by start now run.cursor run.made) }
     ensures allowed { IfOk result (AllowsFrom S.LineStore view.old lines run.made) }
-    ensures kept { OnlyReads S.LineStore view.old view.new }
+    ensures kept { Continues S.LineStore view.old view.new }
     ensures cause { HasCause (S.shows view.old).faults (S.shows view.new).faults (IsErrOf result StoreErr.Failed) }
 {
     let Some(made) = run.made else {
         return Ok(Plan::NoChange);
     };
-    let mut new = Vec::new(alloc);
-    let now = view.len();
-    let between = now - made.tail - made.lo;
-    push_lines(alloc, view, made.lo, between, &mut new)?;
+    let between = view.len() - made.tail - made.lo;
+    let new = view.give_lines(alloc, made.lo, between)?;
     Ok(Plan::Splice {
         top: made.lo,
         old: lines - made.tail - made.lo,

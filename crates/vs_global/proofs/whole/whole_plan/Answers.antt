@@ -1,7 +1,5 @@
 -- The lines between what no splice has touched are those of the last text.
-use Rattle.std.proofs.Common.{◌≡◌, ◌∙◌, ◌-◌, ℕ, List, ◌++◌, All, length, ap, sym, subst, arith}
-use Rattle.std.proofs.lemmas.List.Elements.{All-nil}
-use Rattle.vs_text.specs.Limits.{IsShort}
+use Rattle.std.proofs.Common.{◌≡◌, ◌∙◌, ◌-◌, ℕ, length, ap, sym, subst, arith}
 use Rattle.vs_edit.specs.Splices.{cut_out}
 use Rattle.std.specs.Prelude.{Option}
 use Rattle.vs_global.specs.Carry.{Covers, StaysWithin}
@@ -16,11 +14,10 @@ returns-in_default-clause-value g c = λ start now has lines cov. ap (λ (m : Op
 pub returns-clause-value : goal.returns-clause-value
 returns-clause-value g c = λ start now has lines cov.
     let made = c.in-Some.made in
-    let between : c.len-now.result - made.tail - made.lo ≡ length now - made.tail - made.lo =
-    ap (λ (n : ℕ). n - made.tail - made.lo) (c.len-now.ensures ∙ sym (g.met.S.LineStore.has_lines c.args.view.now now has)) in
-    let put : c.push_lines.new.into.items ≡ cut_out now made.lo (c.len-now.result - made.tail - made.lo) =
-    c.in_ok-push_lines.ensures.lines now has ∙ ap (λ (l : List (List ℕ)). l ++ cut_out now made.lo (c.len-now.result - made.tail - made.lo)) c.new-new.ensures.items in
-    whole-value made start now c.push_lines.new.into.items c.args.lines (c.len-now.result - made.tail - made.lo) c.args.run.cursor lines between put
+    let between : c.len.result - made.tail - made.lo ≡ length now - made.tail - made.lo =
+    ap (λ (n : ℕ). n - made.tail - made.lo) (c.len.ensures ∙ sym (g.met.S.LineStore.has_lines c.args.view.now now has)) in
+    let put : c.in_ok-new.new.items ≡ cut_out now made.lo (c.len.result - made.tail - made.lo) = c.in_ok-new.ensures.lines now has in
+    whole-value made start now c.in_ok-new.new.items c.args.lines (c.len.result - made.tail - made.lo) c.args.run.cursor lines between put
     ∙ ap (whole_by start now c.args.run.cursor) (sym c.in-Some.is)
 
 pub returns-clause-allowed : goal.returns-clause-allowed
@@ -32,17 +29,16 @@ returns-clause-allowed g c =
     let few = law.few_lines c.args.view.now c.requires.valid in (
       record {
         within = omega (arith, stays.0);
-        few_lines = omega (arith, stays.0, stays.1, few, c.len-now.ensures, c.in_ok-push_lines.ensures.count, ap (λ (l : List (List ℕ)). length l) c.new-new.ensures.items);
-        short_lines = c.in_ok-push_lines.ensures.short (subst (All IsShort) (sym c.new-new.ensures.items) (All-nil IsShort));
+        few_lines = omega (arith, stays.0, stays.1, few, c.len.ensures, c.in_ok-new.ensures.count);
+        short_lines = c.in_ok-new.ensures.short;
       },
       λ start count was.
           let now = was.0 in
           let has = was.1 in
           let same = subst (λ (m : Option Untouched). Covers m start now) c.in-Some.is was.2 in
-          let between : c.len-now.result - made.tail - made.lo ≡ length now - made.tail - made.lo =
-          ap (λ (n : ℕ). n - made.tail - made.lo) (c.len-now.ensures ∙ sym (law.has_lines c.args.view.now now has)) in
-          let put : c.push_lines.new.into.items ≡ cut_out now made.lo (c.len-now.result - made.tail - made.lo) =
-          c.in_ok-push_lines.ensures.lines now has ∙ ap (λ (l : List (List ℕ)). l ++ cut_out now made.lo (c.len-now.result - made.tail - made.lo)) c.new-new.ensures.items in
-          let bytes = whole-bytes made start now c.push_lines.new.into.items c.args.lines (c.len-now.result - made.tail - made.lo) count between put same in
+          let between : c.len.result - made.tail - made.lo ≡ length now - made.tail - made.lo =
+          ap (λ (n : ℕ). n - made.tail - made.lo) (c.len.ensures ∙ sym (law.has_lines c.args.view.now now has)) in
+          let put : c.in_ok-new.new.items ≡ cut_out now made.lo (c.len.result - made.tail - made.lo) = c.in_ok-new.ensures.lines now has in
+          let bytes = whole-bytes made start now c.in_ok-new.new.items c.args.lines (c.len.result - made.tail - made.lo) count between put same in
           omega (arith, bytes, (law.has_within c.args.view.now now c.requires.valid has).few_bytes),
     )
