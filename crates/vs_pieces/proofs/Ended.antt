@@ -1,10 +1,15 @@
 -- A line or several that are added to ended lines are the last of them.
-use Rattle.std.proofs.Common.{◌≡◌, ℕ, ◌+◌, ◌*◌, ◌≤◌, List, [], ◌∷◌, ◌++◌, length, take, Err, Ok, OnErr, OnOk, Result, is_ok, if◌then◌else◌, sym, ap, subst, ◌∙◌, arith, append_assoc, length-append}
-use Rattle.std.proofs.lemmas.Grind.{common_steps, flat_map-append}
-use Rattle.vs_text.specs.Text.{lines_of, file_of, IsLine, IsText}
-use Rattle.vs_text.proofs.FileForm.{lines_of-file_of}
-use Rattle.vs_pieces.specs.declared.lines.WholeLines.{WholeLines}
-use Rattle.vs_pieces.specs.Whole.{AreWhole}
+use Rattle.std.proofs.Common.{◌≡◌, ◌≢◌, ℕ, ◌+◌, ◌*◌, ◌<◌, ◌≤◌, List, [], ◌∷◌, ◌++◌, length, get_or, drop, count_by, Err, Ok, OnErr, OnOk, Result, is_ok, cond, if◌then◌else◌, inl, inr, refl, sym, ap, subst, ◌∙◌, arith, append_assoc, length-append, length-drop}
+use Rattle.std.specs.List.{AllByRecursion}
+use Rattle.std.proofs.lemmas.Bool.{eq-eqb, ne_eqb}
+use Rattle.std.proofs.lemmas.Bool.Decides.{eqb_tells}
+use Rattle.std.proofs.lemmas.Grind.{flat_map-append}
+use Rattle.std.proofs.lemmas.List.{get_or-drop, get_or_default}
+use Rattle.std.proofs.lemmas.List.Elements.{recursion_from_All}
+use Rattle.std.proofs.lemmas.List.Sums.{sum_by-append, sum_by-cons}
+use Rattle.memchr.specs.Find.{Nowhere, Passes, is_byte}
+use Rattle.vs_text.specs.Text.{lines_of, file_of, onto_first, IsLine}
+use Rattle.vs_pieces.specs.Whole.{is_end}
 use Rattle.vs_text.proofs.LineEnds.{lines_of-line, IsText-lines_of}
 use Rattle.vs_text.proofs.Reading.{lines_of-file_then, file_of-one_more}
 
@@ -40,34 +45,51 @@ pub run_after : {E : Type 0} (result : Result (Unit {0}) E) (bytes lines now : L
 run_after (Ok x) bytes lines now whole ended is = run_whole bytes lines now whole ended is
 run_after (Err e) bytes lines now whole ended is = subst (λ (xs : List ℕ). file_of (lines_of xs) ≡ xs) (sym is) whole
 
--- one more line that ends
-pub cut_next : (bytes rest line after : List ℕ) (seen : List (List ℕ)) → bytes ≡ file_of seen ++ rest → rest ≡ line ++ 10 ∷ after → bytes ≡ file_of (seen ++ line ∷ []) ++ after
-cut_next bytes rest line after seen cut is =
-    let parts : file_of seen ++ (line ++ 10 ∷ after) ≡ (file_of seen ++ (line ++ 10 ∷ [])) ++ after = simp append_assoc in
-    cut ∙ ap (λ (xs : List ℕ). file_of seen ++ xs) is ∙ parts ∙ ap (λ (xs : List ℕ). xs ++ after) (sym (file_of-one_more seen line))
+-- a byte before lines
+file_of-onto : (byte : ℕ) (lines : List (List ℕ)) (bytes : List ℕ) → 0 < length bytes → file_of lines ≡ bytes → file_of (onto_first byte lines) ≡ byte ∷ bytes
+file_of-onto byte [] bytes some is = absurd (omega (arith, some, ap (λ (xs : List ℕ). length xs) is))
+file_of-onto byte (line ∷ lines) bytes some is = ap (λ (xs : List ℕ). byte ∷ xs) is
+
+-- bytes up to a line end are lines with their ends
+pub whole_to_end : (front : List ℕ) → file_of (lines_of (front ++ 10 ∷ [])) ≡ front ++ 10 ∷ []
+whole_to_end [] = refl
+whole_to_end (byte ∷ front) =
+    let bytes = front ++ 10 ∷ [] in
+    elim (eqb_tells byte 10) [
+      | inl ten ↦ rw ten.1 (ap (λ (xs : List ℕ). 10 ∷ xs) (whole_to_end front))
+      | inr other ↦ rw other.0 (file_of-onto byte (lines_of bytes) bytes (omega (arith, length-append front (10 ∷ []))) (whole_to_end front))
+    ]
+
+-- no line end is after the last one
+pub line_after : (bytes rest : List ℕ) (n : ℕ) → Nowhere (Passes (is_byte 10) bytes) n (length bytes) → rest ≡ drop n bytes → IsLine rest
+line_after bytes rest n none is = subst IsLine (sym is) (λ k d below ten.
+    let size = length-drop n bytes in
+    let place : get_or (drop n bytes) k 0 ≡ get_or bytes (n + k) 0 = get_or-drop n bytes k 0 in
+    none (n + k) (omega arith) (omega (arith, below, size)) (eq-eqb (get_or bytes (n + k) 0) 10 (sym place ∙ get_or_default (drop n bytes) k 0 d below ∙ ten)))
+
+count_line : (line : List ℕ) → AllByRecursion (λ byte. byte ≢ 10) line → count_by is_end line ≡ 0
+count_line [] h = refl
+count_line (byte ∷ line) h = sum_by-cons (λ b. cond (is_end b) 1 0) byte line ∙ rw (ne_eqb byte 10 h.0) (omega (arith, count_line line h.1))
+
+count_file : (text : List (List ℕ)) → AllByRecursion IsLine text → count_by is_end (file_of text) ≡ length text
+count_file [] h = refl
+count_file (line ∷ text) h =
+    omega (
+      arith,
+      sum_by-append (λ b. cond (is_end b) 1 0) (line ++ 10 ∷ []) (file_of text),
+      sum_by-append (λ b. cond (is_end b) 1 0) line (10 ∷ []),
+      count_line line (recursion_from_All (λ byte. byte ≢ 10) line h.0),
+      count_file text h.1,
+    )
+
+-- each line has one line end
+pub count_lines : (bytes : List ℕ) → file_of (lines_of bytes) ≡ bytes → length (lines_of bytes) ≡ count_by is_end bytes
+count_lines bytes whole = sym (ap (count_by is_end) (sym whole) ∙ count_file (lines_of bytes) (recursion_from_All IsLine (lines_of bytes) (IsText-lines_of bytes)))
 
 -- there are no more lines than bytes
 pub lines_few : (seen : List (List ℕ)) → length seen ≤ length (file_of seen)
 lines_few [] = omega arith
 lines_few (line ∷ seen) = omega (arith, length-append (line ++ 10 ∷ []) (file_of seen), length-append line (10 ∷ []), lines_few seen)
-
--- the bytes before the rest are the lines
-pub ended_is : (bytes rest front : List ℕ) (seen : List (List ℕ)) (n : ℕ) → bytes ≡ file_of seen ++ rest → n + length rest ≡ length bytes → front ≡ take n bytes → front ≡ file_of seen
-ended_is bytes rest front seen n cut size is =
-    let all : n ≡ length (file_of seen) = omega (arith, size, ap length cut, length-append (file_of seen) rest) in
-    is ∙ ap (λ (xs : List ℕ). take n xs) cut ∙ grind (arith, common_steps)
-
--- the lines that were passed, with what is left
-pub whole_is : (bytes : List ℕ) (ended : WholeLines) (seen : List (List ℕ)) (n : ℕ) → ended.lines.now ≡ take n bytes → n + length ended.rest.now ≡ length bytes → bytes ≡ file_of seen ++ ended.rest.now → IsText seen → ended.count ≡ length seen → IsLine ended.rest.now → AreWhole bytes ended
-whole_is bytes ended seen n front size cut text count line =
-    let is : ended.lines.now ≡ file_of seen = ended_is bytes ended.rest.now ended.lines.now seen n cut size front in
-    let back : lines_of (file_of seen) ≡ seen = lines_of-file_of seen text in
-    record {
-      cut = cut ∙ ap (λ (xs : List ℕ). xs ++ ended.rest.now) (sym is);
-      whole = ap (λ (xs : List ℕ). file_of (lines_of xs)) is ∙ ap file_of back ∙ sym is;
-      count = ap (λ (xs : List ℕ). length (lines_of xs)) is ∙ ap length back ∙ sym count;
-      line = line;
-    }
 
 -- lines whose bytes are no more than one line may have
 pub lines_most : (lines : List (List ℕ)) → length (file_of lines) ≤ 1048576 → length (file_of lines) ≤ length lines * 1048577

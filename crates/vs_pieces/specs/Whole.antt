@@ -1,5 +1,5 @@
 -- Lines that end among some bytes.
-use Rattle.std.specs.Prelude.{◌≡◌, ℕ, List, ◌++◌, length}
+use Rattle.std.specs.Prelude.{◌≡◌, ◌==◌, ℕ, Bool, List, ◌++◌, length}
 use Rattle.vs_text.specs.Text.{IsLine, file_of, lines_of}
 use Rattle.vs_pieces.specs.declared.lines.WholeLines.{WholeLines}
 
@@ -9,3 +9,7 @@ pub record AreWhole (bytes : List ℕ) (ended : WholeLines) : Type 0 where
   pub whole : file_of (lines_of ended.lines.now) ≡ ended.lines.now
   pub count : length (lines_of ended.lines.now) ≡ ended.count
   pub line : IsLine ended.rest.now
+
+-- whether a byte ends a line
+abbrev pub is_end : ℕ → Bool
+is_end byte = byte == 10

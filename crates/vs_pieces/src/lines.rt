@@ -1,11 +1,14 @@
 // Lines in one piece of memory.
-ghost use Rattle.std.specs.Prelude.{◌≡◌, ◌<◌, ◌++◌, ◌∷◌, [], MatchOption, OnErr, OnOk, length};
-ghost use Rattle.vs_pieces.specs.Whole.{AreWhole};
+ghost use Rattle.std.specs.Prelude.{◌≡◌, ◌<◌, ◌≤◌, ◌++◌, ◌∷◌, [], MatchOption, OnErr, OnOk, count_by, length};
+ghost use Rattle.vs_pieces.specs.Whole.{AreWhole, is_end};
 ghost use Rattle.vs_text.specs.Text.{IsLine, file_of, lines_of};
 
-use memchr::memchr;
+use memchr::{memchr, memrchr};
 use std::alloc::{AllocError, Global};
 use std::marker::Model;
+
+/// The greatest number of bytes whose line ends are counted in a byte: a multiple of the bytes that a step takes.
+const SHORT_PART: usize = 192;
 
 /// Lines in the file form of a text, each ended by byte 10, seen as the list of them (docs/FORMATS.md, "The file form of a text").
 #[derive(Debug, Drop)]
@@ -44,14 +47,49 @@ pub struct WholeLines<'b> {
 pub fn whole_lines(bytes: &[u8]) -> WholeLines<'_>
     ensures { AreWhole bytes.now result }
 {
+    let (lines, rest) = split_ended(bytes);
+    let count = count_ends(lines);
+    WholeLines { lines, count, rest }
+}
+
+// The bytes up to the last line end, with it, and those after it.
+fn split_ended(bytes: &[u8]) -> (&[u8], &[u8])
+    ensures cut { bytes.now ≡ result.0.now ++ result.1.now }
+    ensures whole { file_of (lines_of result.0.now) ≡ result.0.now }
+    ensures line { IsLine result.1.now }
+{
+    match memrchr(b'\n', bytes) {
+        Some(last) => bytes.split_at(last + 1),
+        None => bytes.split_at(0),
+    }
+}
+
+// The number of line ends. It is summed over short parts, since a count that is a byte is taken of many bytes in one step.
+fn count_ends(bytes: &[u8]) -> u64
+    ensures { result ≡ count_by is_end bytes.now }
+{
     let mut count = 0;
     let mut rest = bytes;
-    'lines: while let Some((_line, after)) = ended_line(rest) {
-        count += 1;
+    'parts: while !rest.is_empty() {
+        let (part, after) = rest.split_at(rest.len().min(SHORT_PART));
+        count += u64::from(count_few_ends(part));
         rest = after;
     }
-    let lines = &bytes[..bytes.len() - rest.len()];
-    WholeLines { lines, count, rest }
+    count
+}
+
+// The number of line ends of a short part.
+fn count_few_ends(part: &[u8]) -> u8
+    requires { length part.now ≤ SHORT_PART }
+    ensures { result ≡ count_by is_end part.now }
+{
+    let mut count = 0;
+    for byte in part {
+        if *byte == b'\n' {
+            count += 1;
+        }
+    }
+    count
 }
 
 // Adds a line and byte 10. After an error the bytes are as before.
