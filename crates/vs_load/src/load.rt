@@ -52,8 +52,8 @@ fn sample_lines(alloc: Global, count: usize) -> Result<Vec<Line>, AllocError>
     Ok(lines)
 }
 
-// Puts lines in place of `old` lines from a place on, and commits.
-fn put<S: LineStore>(
+/// Puts lines in place of `old` lines from a place on, and commits.
+pub fn put<S: LineStore>(
     alloc: Global,
     store: &mut S,
     at: u64,
@@ -74,8 +74,8 @@ fn put<S: LineStore>(
     Ok(())
 }
 
-// Puts lines after the last one, as many at a time as a file is loaded by.
-fn fill<S: LineStore>(alloc: Global, store: &mut S, count: u64) -> Result<(), LoadErr>
+/// Puts lines after the last one, as many at a time as a file is loaded by.
+pub fn fill<S: LineStore>(alloc: Global, store: &mut S, count: u64) -> Result<(), LoadErr>
     requires { S.valid store.old }
     ensures text { OnOk result ((n : ℕ) → (S.shows store.old).present.Is (samples n) → (S.shows store.new).present.Is (samples (n + count))) }
     ensures valid { S.valid store.new }

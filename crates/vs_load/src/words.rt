@@ -1,5 +1,26 @@
 // The words of the command line.
 
+/// What is measured.
+#[derive(Clone, Copy, Debug, PartialEq, Eq)]
+pub enum Task {
+    /// A load is carried out.
+    Load(Load),
+    /// This many lines are put in, and then this many changes of one line each are made.
+    Change(u64, u64),
+}
+
+impl Task {
+    /// What these words name; None where they name nothing.
+    pub fn of(words: &[String]) -> Option<Task> {
+        match words {
+            [verb, lines, changes] if verb.as_str() == "change" => {
+                Some(Task::Change(lines.parse().ok()?, changes.parse().ok()?))
+            }
+            _ => Some(Task::Load(Load::of(words)?)),
+        }
+    }
+}
+
 /// What is done with an empty tree.
 #[derive(Clone, Copy, Debug, PartialEq, Eq)]
 pub enum Load {
