@@ -1,6 +1,5 @@
-use Rattle.std.proofs.Common.{◌≡◌, ℕ, ◌+◌, ◌*◌, refl, ap, sym, subst, ◌∙◌, IsSome, arith}
+use Rattle.std.proofs.Common.{◌≡◌, ℕ, ◌+◌, ◌*◌, refl, ap, subst, ◌∙◌, arith}
 use Rattle.std.proofs.lemmas.List.{length-replicate}
-use Rattle.vs_pages.specs.Maps.{Map, pages_at}
 use Rattle.vs_pages.specs.Memory.{present_of}
 use Rattle.vs_tree.specs.Texts.{HasText}
 use Rattle.vs_load.specs.Loads.{sample, samples, lines_after, counts_of}

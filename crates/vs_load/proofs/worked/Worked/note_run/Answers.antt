@@ -1,5 +1,5 @@
 -- A page before the last one was counted, and it stays so.
-use Rattle.std.proofs.Common.{◌≡◌, ◌∙◌, ℕ, Contains, sym, subst, arith, inl, inr}
+use Rattle.std.proofs.Common.{◌≡◌, ◌∙◌, ℕ, Contains, subst, arith, inl, inr}
 use Rattle.std.proofs.lemmas.Bool.{cases_lt}
 use Rattle.vs_load.proofs.worked.Worked.note_run.Goals as goal
 
