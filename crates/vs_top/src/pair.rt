@@ -173,9 +173,9 @@ impl Sessions {
         ensures keeps { (one two : List ℕ) (old : Scene) → KeepsPair H.tells one two old (H.scene host.old) (sessions_ended self.old.multi) marks.old.items
             → MatchResult result (λ _. KeepsPair H.tells one two old (H.scene host.new) (sessions_ended self.new.multi) marks.new.items)
             (λ ending. EndsPair H.tells one two old (H.scene host.new) ending marks.new.items) }
-        ensures told { TellsRun H.tells → (one two : List ℕ) (old : Scene) (transcript : Transcript) (whole own : List ℕ) → ArePlaced self.old transcript
-            → ToldPair one two old (H.scene host.old) self.old.multi marks.old.items self.old.clean transcript → Comes old.script transcript (Line whole)
-            → tag_of whole ≡ LineOf which own → MeanSame line.now own
+        ensures told { TellsRun H.tells → (one two : List ℕ) (old : Scene) (transcript : Transcript) (whole own : List ℕ)
+            → ArePlaced self.old transcript → ToldPair one two old (H.scene host.old) self.old.multi marks.old.items self.old.clean transcript
+            → Comes old.script transcript (Line whole) → tag_of whole ≡ LineOf which own → MeanSame line.now own
             → MatchResult result (λ _. HasNext one two old (H.scene host.new) self.new marks.new.items transcript (Line whole))
             (λ ending. HasRunBoth one two old (H.scene host.new) ending marks.new.items) }
     {
