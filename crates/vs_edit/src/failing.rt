@@ -70,6 +70,8 @@ impl<S: LineStore> LineStore for FailingStore<S> {
 
     ghost stays = { λ a b. S.stays a.store b.store };
 
+    ghost earlier = { λ _. 0 };
+
     ghost tells_one = { λ s valid told. absurd (false≢true told) };
 
     ghost has_told = { λ s text is. absurd is };

@@ -1,7 +1,6 @@
 // Calls over any store.
 ghost use Rattle.std.specs.Prelude.{◌≡◌, ℕ, List, IfOk, IsErrOf, length};
-ghost use Rattle.vs_faults.specs.Faults.{HasCause};
-ghost use Rattle.vs_edit.specs.Calls.{OnlyReads};
+ghost use Rattle.vs_edit.specs.Calls.{OnlyReads, StopsAtFault};
 
 use crate::{LineStore, StoreErr};
 use std::alloc::Global;
@@ -13,7 +12,7 @@ pub fn text_of<S: LineStore>(alloc: Global, store: &mut S) -> Result<Text, Store
     ensures text { IfOk result (λ whole. (text : List (List ℕ)) → (S.shows store.old).present.Is text → whole ≡ text) }
     ensures lines { IfOk result (λ whole. length whole ≡ (S.shows store.old).present.lines) }
     ensures kept { OnlyReads S.LineStore store.old store.new }
-    ensures cause { HasCause (S.shows store.old).faults (S.shows store.new).faults (IsErrOf result StoreErr.Failed) }
+    ensures cause { StopsAtFault S.LineStore (IsErrOf result StoreErr.Failed) store.old store.new }
 {
     let mut lines = Vec::new(alloc);
     for at in 0..store.len() {

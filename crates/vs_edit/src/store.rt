@@ -1,6 +1,6 @@
 // Stores of one text.
 ghost use Rattle.std.specs.Prelude.{◌≡◌, ◌+◌, ◌<◌, ◌≤◌, Bool, ℕ, List, [], IsTrue, IsErrOf, OnErr, OnOk, get_or, length};
-ghost use Rattle.vs_faults.specs.Faults.{HasCause};
+ghost use Rattle.vs_faults.specs.OneCause.{HasOneCause};
 ghost use Rattle.vs_text.specs.Text.{IsLine, IsText, bytes_of, file_of};
 ghost use Rattle.vs_text.specs.Limits.{IsShort, IsWithinLimits};
 ghost use Rattle.vs_text.specs.declared.TheConstants.{MAX_LINES, MAX_TEXT_BYTES};
@@ -57,6 +57,9 @@ pub trait LineStore {
     ghost valid: { Self → Type 0 };
     /// What was lent to the store is still the same, and all else that it stands on has only changed as a store may change it.
     ghost stays: { Self → Self → Type 0 };
+    /// How many calls had failed below the store before the last one there, where it tells what lies below, and else 0. It failed
+    /// if the count has risen since then.
+    ghost earlier: { Self → ℕ };
 
     /// The number of lines. It takes no memory.
     fn len(&self) -> u64
@@ -78,7 +81,7 @@ pub trait LineStore {
         ensures is_line { OnOk result (IsLine into.new.items) }
         ensures is_short { OnOk result (IsShort into.new.items) }
         ensures kept { KeepsTexts shows valid stays self.old self.new }
-        ensures cause { HasCause (shows self.old).faults (shows self.new).faults (IsErrOf result StoreErr.Failed) };
+        ensures cause { HasOneCause (shows self.old).faults (shows self.new).faults (earlier self.new) (IsErrOf result StoreErr.Failed) };
 
     /// Puts `count` lines from line `at` on into a vector, each followed by byte 10, in place of what that holds. After an
     /// `Err` the vector may hold anything.
@@ -96,7 +99,7 @@ pub trait LineStore {
         ensures lines { OnOk result ((text : List (List ℕ)) → (shows self.old).present.Is text → into.new.items ≡ file_of (cut_out text at count)) }
         ensures are_lines { OnOk result (HoldsLines count into.new.items) }
         ensures kept { KeepsTexts shows valid stays self.old self.new }
-        ensures cause { HasCause (shows self.old).faults (shows self.new).faults (IsErrOf result StoreErr.Failed) }
+        ensures cause { HasOneCause (shows self.old).faults (shows self.new).faults (earlier self.new) (IsErrOf result StoreErr.Failed) }
     {
         into.clear();
         let mut line = Vec::new(alloc);
@@ -116,7 +119,7 @@ pub trait LineStore {
         ensures ok { OnOk result (IsSpliced (shows self.old).present top old new.now (shows self.new).present) }
         ensures same { OnErr result (SameText (shows self.old).present (shows self.new).present) }
         ensures kept { KeepsCommitted shows valid stays self.old self.new }
-        ensures cause { HasCause (shows self.old).faults (shows self.new).faults (IsErrOf result StoreErr.Failed) };
+        ensures cause { HasOneCause (shows self.old).faults (shows self.new).faults (earlier self.new) (IsErrOf result StoreErr.Failed) };
 
     /// Makes the text that the store has now the committed one. It takes no memory.
     fn commit(&mut self)
@@ -124,6 +127,7 @@ pub trait LineStore {
         ensures present { SameText (shows self.old).present (shows self.new).present }
         ensures committed { SameText (shows self.old).present (shows self.new).committed }
         ensures faults { (shows self.new).faults ≡ (shows self.old).faults }
+        ensures earlier { earlier self.new ≡ earlier self.old }
         ensures valid { valid self.new }
         ensures stays { stays self.old self.new };
 
@@ -133,6 +137,7 @@ pub trait LineStore {
         ensures present { SameText (shows self.old).committed (shows self.new).present }
         ensures committed { SameText (shows self.old).committed (shows self.new).committed }
         ensures faults { (shows self.new).faults ≡ (shows self.old).faults }
+        ensures earlier { earlier self.new ≡ earlier self.old }
         ensures valid { valid self.new }
         ensures stays { stays self.old self.new };
 

@@ -225,6 +225,8 @@ impl LineStore for VecStore {
 
     ghost stays = { λ _ _. Unit {0} };
 
+    ghost earlier = { λ _. 0 };
+
     ghost tells_one = { λ s valid told. (s.present, refl) };
 
     ghost has_told = { λ s text is. refl };

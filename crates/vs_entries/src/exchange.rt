@@ -1,7 +1,6 @@
 // Applying an entry to the text of a store.
 ghost use Rattle.std.specs.Prelude.{◌≡◌, ◌-◌, ◌^◌, ◌<◌, ℕ, List, IfOk, IsErrOf, OnOk, OnSome, MatchOption, max};
-ghost use Rattle.vs_faults.specs.Faults.{HasCause};
-ghost use Rattle.vs_edit.specs.Calls.{Continues};
+ghost use Rattle.vs_edit.specs.Calls.{Continues, StopsAtFault};
 ghost use Rattle.vs_entries.specs.Entries.{filled, settled, applied, led_back, range_in, AllowsEntry, Fits, LeadsCount};
 
 use crate::read::{bottom_back, lines_at, one_empty};
@@ -16,7 +15,7 @@ fn fill<S: LineStore>(alloc: Global, store: &mut S) -> Result<(), EditErr>
     ensures lines { OnOk result ((S.shows store.new).present.lines ≡ max 1 (S.shows store.old).present.lines) }
     ensures in_range { ¬ (IsErrOf result EditErr.OutOfRange) }
     ensures kept { Continues S.LineStore store.old store.new }
-    ensures cause { HasCause (S.shows store.old).faults (S.shows store.new).faults (IsErrOf result EditErr.Failed) }
+    ensures cause { StopsAtFault S.LineStore (IsErrOf result EditErr.Failed) store.old store.new }
 {
     if store.len() == 0 {
         let line = one_empty(alloc)?;
@@ -32,7 +31,7 @@ fn settle<S: LineStore>(alloc: Global, store: &mut S, empty: bool) -> Result<(),
     ensures lines { OnOk result (max 1 (S.shows store.new).present.lines ≡ max 1 (S.shows store.old).present.lines) }
     ensures in_range { ¬ (IsErrOf result EditErr.OutOfRange) }
     ensures kept { Continues S.LineStore store.old store.new }
-    ensures cause { HasCause (S.shows store.old).faults (S.shows store.new).faults (IsErrOf result EditErr.Failed) }
+    ensures cause { StopsAtFault S.LineStore (IsErrOf result EditErr.Failed) store.old store.new }
 {
     if !empty {
         return fill(alloc, store);
@@ -74,7 +73,7 @@ pub fn apply<S: LineStore>(alloc: Global, store: &mut S, entry: &Entry) -> Resul
     ensures back_counts { IfOk result (λ back. LeadsCount back (max 1 (S.shows store.new).present.lines) (max 1 (S.shows store.old).present.lines)) }
     ensures out_of_range { IsErrOf result EditErr.OutOfRange → ¬ (Fits entry.now (max 1 (S.shows store.old).present.lines)) }
     ensures kept { Continues S.LineStore store.old store.new }
-    ensures cause { HasCause (S.shows store.old).faults (S.shows store.new).faults (IsErrOf result EditErr.Failed) }
+    ensures cause { StopsAtFault S.LineStore (IsErrOf result EditErr.Failed) store.old store.new }
 {
     let lines = store.len();
     let count = lines.max(1);

@@ -1,8 +1,7 @@
 // Whether an entry may be applied to the text of a store.
-ghost use Rattle.std.specs.Prelude.{◌≡◌, ◌≢◌, ◌+◌, ◌≤◌, ℕ, List, IfNone, IfOk, IfSome, IsErrOf, IsTrue, OnOk, max};
-ghost use Rattle.vs_faults.specs.Faults.{HasCause};
+ghost use Rattle.std.specs.Prelude.{◌≡◌, ◌≢◌, ◌+◌, ◌≤◌, ◌↔◌, ℕ, List, IfNone, IfOk, IfSome, IsErrOf, IsTrue, OnOk, max};
 ghost use Rattle.vs_text.specs.Text.{bytes_of};
-ghost use Rattle.vs_edit.specs.Calls.{Continues, OnlyReads};
+ghost use Rattle.vs_edit.specs.Calls.{Continues, OnlyReads, StopsAtFault};
 ghost use Rattle.vs_edit.specs.Splices.{cut_out};
 ghost use Rattle.vs_entries.specs.Entries.{applied, filled, led_back, AllowsEntry, Fits, Leads, LeadsCount};
 
@@ -20,7 +19,7 @@ fn bytes_at<S: LineStore>(alloc: Global, store: &mut S, top: u64, old: u64) -> R
     ensures bytes { IfOk result (λ bytes. (text : List (List ℕ)) → (S.shows store.old).present.Is text →
         bytes ≡ bytes_of (cut_out (filled text) top old)) }
     ensures kept { OnlyReads S.LineStore store.old store.new }
-    ensures cause { HasCause (S.shows store.old).faults (S.shows store.new).faults (IsErrOf result StoreErr.Failed) }
+    ensures cause { StopsAtFault S.LineStore (IsErrOf result StoreErr.Failed) store.old store.new }
 {
     if store.len() == 0 {
         return Ok(old);
@@ -39,7 +38,7 @@ pub fn fits<S: LineStore>(alloc: Global, store: &mut S, entry: &Entry) -> Result
     ensures refused { IfOk result (λ yes. ¬ (IsTrue yes) → (text to : List (List ℕ)) → (S.shows store.old).present.Is text →
         Leads entry.now text to → ⊥) }
     ensures kept { OnlyReads S.LineStore store.old store.new }
-    ensures cause { HasCause (S.shows store.old).faults (S.shows store.new).faults (IsErrOf result StoreErr.Failed) }
+    ensures cause { StopsAtFault S.LineStore (IsErrOf result StoreErr.Failed) store.old store.new }
 {
     let count = store.len().max(1);
     let bytes = store.bytes().max(1);
@@ -64,7 +63,7 @@ pub fn fits<S: LineStore>(alloc: Global, store: &mut S, entry: &Entry) -> Result
 // The same cause, where the range of the entry lies within the text.
 fn store_err(error: EditErr) -> StoreErr
     requires { error ≢ EditErr.OutOfRange }
-    ensures { result ≡ StoreErr.Failed → error ≡ EditErr.Failed }
+    ensures { (result ≡ StoreErr.Failed) ↔ (error ≡ EditErr.Failed) }
 {
     match error {
         EditErr::OutOfRange => unreachable!(),
@@ -98,7 +97,7 @@ pub fn try_apply<S: LineStore>(
     ensures refused { IfOk result (λ o. IfNone o ((text to : List (List ℕ)) → (S.shows store.old).present.Is text → Leads entry.now text to → ⊥)) }
     ensures unchanged { IfOk result (λ o. IfNone o (OnlyReads S.LineStore store.old store.new)) }
     ensures kept { Continues S.LineStore store.old store.new }
-    ensures cause { HasCause (S.shows store.old).faults (S.shows store.new).faults (IsErrOf result StoreErr.Failed) }
+    ensures cause { StopsAtFault S.LineStore (IsErrOf result StoreErr.Failed) store.old store.new }
 {
     if !fits(alloc, store, entry)? {
         return Ok(None);

@@ -1,10 +1,9 @@
 // Reading the lines that a splice takes out.
 ghost use Rattle.std.specs.Prelude.{◌≡◌, ◌+◌, ◌-◌, ◌^◌, ◌<◌, ◌≤◌, ◌==◌, if◌then◌else◌, ◌∷◌, [], ℕ, List, All, IfOk, IsErrOf, length, max};
-ghost use Rattle.vs_faults.specs.Faults.{HasCause};
 ghost use Rattle.vs_text.specs.Limits.{IsShort};
 ghost use Rattle.vs_text.specs.declared.TheConstants.{MAX_LINES};
 ghost use Rattle.vs_edit.specs.Splices.{cut_out};
-ghost use Rattle.vs_edit.specs.Calls.{OnlyReads};
+ghost use Rattle.vs_edit.specs.Calls.{OnlyReads, StopsAtFault};
 ghost use Rattle.vs_entries.specs.Entries.{splice_back, LeadsCount};
 
 use crate::{EditErr, Entry};
@@ -26,7 +25,7 @@ pub(crate) fn lines_at<S: LineStore>(
     ensures count { IfOk result (λ lines. length lines ≡ count) }
     ensures short { IfOk result (λ lines. All IsShort lines) }
     ensures kept { OnlyReads S.LineStore store.old store.new }
-    ensures cause { HasCause (S.shows store.old).faults (S.shows store.new).faults (IsErrOf result StoreErr.Failed) }
+    ensures cause { StopsAtFault S.LineStore (IsErrOf result StoreErr.Failed) store.old store.new }
 {
     let mut lines = Vec::new(alloc);
     push_lines(alloc, store, top, count, &mut lines)?;
@@ -72,7 +71,7 @@ pub fn entry_of_splice<S: LineStore>(
         (λ entry. LeadsCount entry (max 1 ((S.shows store.old).present.lines + new_len - old)) (max 1 (S.shows store.old).present.lines)) }
     ensures in_range { ¬ (IsErrOf result EditErr.OutOfRange) }
     ensures kept { OnlyReads S.LineStore store.old store.new }
-    ensures cause { HasCause (S.shows store.old).faults (S.shows store.new).faults (IsErrOf result EditErr.Failed) }
+    ensures cause { StopsAtFault S.LineStore (IsErrOf result EditErr.Failed) store.old store.new }
 {
     if store.len() == 0 {
         let lines = one_empty(alloc)?;

@@ -1,8 +1,7 @@
 // The first change of a tree that does not fit a text.
 ghost use Rattle.std.specs.Prelude.{◌≡◌, ◌++◌, ◌+◌, ◌<◌, ◌≤◌, ◌⊎◌, ℕ, List, [], Option, Some, None, IfNone, IfOk, IfSome, IsErrOf, OnOk, get_or, length, map, max, reverse, take};
 ghost use Rattle.std.specs.List.Sorted.{IsStrictlyIncreasing};
-ghost use Rattle.vs_faults.specs.Faults.{HasCause};
-ghost use Rattle.vs_edit.specs.Calls.{Continues};
+ghost use Rattle.vs_edit.specs.Calls.{Continues, StopsAtFault};
 ghost use Rattle.vs_edit.specs.State.{SameText};
 ghost use Rattle.vs_undo.specs.History.{FitsCount, FitsText};
 ghost use Rattle.vs_undo.specs.Numbers.{numbers};
@@ -243,7 +242,7 @@ pub fn first_misfit<S: LineStore>(
         → IsFirstMisfit parts.now lines number)) }
     ensures present { SameText (S.shows text.old).present (S.shows text.new).present }
     ensures kept { Continues S.LineStore text.old text.new }
-    ensures cause { HasCause (S.shows text.old).faults (S.shows text.new).faults (IsErrOf result StoreErr.Failed) }
+    ensures cause { StopsAtFault S.LineStore (IsErrOf result StoreErr.Failed) text.old text.new }
 {
     let found = find_misfit(alloc, parts, text);
     text.rollback();

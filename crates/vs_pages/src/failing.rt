@@ -1,6 +1,6 @@
 //! A store whose calls fail where a test wants them to.
-ghost use Rattle.std.specs.Prelude.{◌≡◌, ◌-◌, ◌↔◌, None, IsSome, IsErr, OnOk, OnErr, ⊤};
-ghost use Rattle.vs_faults.specs.Faults.{HasCause};
+ghost use Rattle.std.specs.Prelude.{◌≡◌, ◌-◌, ◌↔◌, None, IsSome, IsErr, IsErrOf, OnOk, OnErr, ⊤};
+ghost use Rattle.vs_faults.specs.OneCause.{HasOneCause};
 ghost use Rattle.vs_pages.specs.Maps.{pages_at};
 ghost use Rattle.vs_pages.specs.Memory.{present_of, state_of};
 ghost use Rattle.vs_pages.specs.MemoryLaws.{are_present, are_committed};
@@ -39,7 +39,7 @@ impl<const TELLS: bool> FailingPages<TELLS> {
 
     // Counts a fault.
     fn rise(&mut self)
-        ensures cause { HasCause self.old.faults self.new.faults ⊤ }
+        ensures cause { HasOneCause self.old.faults self.new.faults (self.new.faults - 1) ⊤ }
         ensures pages { self.new.pages ≡ self.old.pages }
         ensures fail_call { self.new.fail_call ≡ self.old.fail_call }
     {
@@ -51,7 +51,7 @@ impl<const TELLS: bool> FailingPages<TELLS> {
         ensures chosen { IsErr result ↔ (self.old.fail_call ≡ 1) }
         ensures next { self.new.fail_call ≡ self.old.fail_call - 1 }
         ensures pages { self.new.pages ≡ self.old.pages }
-        ensures cause { HasCause self.old.faults self.new.faults (IsErr result) }
+        ensures cause { HasOneCause self.old.faults self.new.faults (self.new.faults - 1) (IsErrOf result PageErr.Failed) }
     {
         let call = self.fail_call;
         self.fail_call = call.saturating_sub(1);
@@ -68,7 +68,7 @@ impl<const TELLS: bool> FailingPages<TELLS> {
         ensures chosen { OnErr result (IsSome (pages_at (present_of self.old.pages) at pages) → self.old.fail_call ≡ 1) }
         ensures next { self.new.fail_call ≡ self.old.fail_call - 1 }
         ensures pages { self.new.pages ≡ self.old.pages }
-        ensures cause { HasCause self.old.faults self.new.faults (IsErr result) }
+        ensures cause { HasOneCause self.old.faults self.new.faults (self.new.faults - 1) (IsErrOf result PageErr.Failed) }
     {
         self.count_call()?;
         if !self.pages.has(at, pages) {
@@ -87,6 +87,8 @@ impl<const TELLS: bool> Pages for FailingPages<TELLS> {
     ghost valid = { λ _. Unit {0} };
 
     ghost stays = { λ _ _. Unit {0} };
+
+    ghost earlier = { λ store. store.faults - 1 };
 
     ghost present_pages = { λ store _ _. are_present store.pages };
 

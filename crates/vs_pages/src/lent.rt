@@ -23,6 +23,8 @@ impl<'p> Pages for LentPages<'p> {
 
     ghost stays = { λ old new. new.pages.ghost_name ≡ old.pages.ghost_name };
 
+    ghost earlier = { λ _. 0 };
+
     ghost present_pages = { λ store _ _. are_present store.pages.now };
 
     ghost committed_pages = { λ store _ _. are_committed store.pages.now };

@@ -1,8 +1,7 @@
 // A history is taken with the text that it was made for.
 ghost use Rattle.std.specs.Prelude.{◌≡◌, ℕ, List, IfErr, IfOk, IsErrOf, OnOk, max};
 ghost use Rattle.std.specs.Bool.{Decides};
-ghost use Rattle.vs_faults.specs.Faults.{HasCause};
-ghost use Rattle.vs_edit.specs.Calls.{Continues, OnlyReads};
+ghost use Rattle.vs_edit.specs.Calls.{Continues, OnlyReads, StopsAtFault};
 ghost use Rattle.vs_edit.specs.State.{SameText};
 ghost use Rattle.vs_undo.specs.History.{History, IsHistory};
 ghost use Rattle.vs_undo.specs.Moves.{IsReady};
@@ -77,7 +76,7 @@ fn compare<S: LineStore>(alloc: Global, history: &FileHistory, text: &mut S) -> 
     ensures refused { IfErr result (λ e. (lines : List (List ℕ)) → (S.shows text.old).present.Is lines → IsRefused (history_of history.now) lines e) }
     ensures carried { IfErr result (λ e. Carries (history_of history.now) (max 1 (S.shows text.old).present.lines) e) }
     ensures kept { OnlyReads S.LineStore text.old text.new }
-    ensures cause { HasCause (S.shows text.old).faults (S.shows text.new).faults (IsErrOf result BindErr.Failed) }
+    ensures cause { StopsAtFault S.LineStore (IsErrOf result BindErr.Failed) text.old text.new }
 {
     let count = text.len().max(1);
     let own = digest(alloc, text)?;
@@ -121,7 +120,7 @@ pub fn bind<S: LineStore>(
     ensures carried { IfErr result (λ e. Carries (history_of history.now) (max 1 (S.shows text.old).present.lines) e) }
     ensures present { SameText (S.shows text.old).present (S.shows text.new).present }
     ensures kept { Continues S.LineStore text.old text.new }
-    ensures cause { HasCause (S.shows text.old).faults (S.shows text.new).faults (IsErrOf result BindErr.Failed) }
+    ensures cause { StopsAtFault S.LineStore (IsErrOf result BindErr.Failed) text.old text.new }
 {
     compare(alloc, history, text)?;
     let parts = parts_of(alloc, history)?;

@@ -1,9 +1,8 @@
 // The digest of a text, whose lines are read in runs.
 ghost use Rattle.std.specs.Prelude.{◌≡◌, ◌++◌, ◌∷◌, [], ℕ, List, IfOk, IsErrOf};
 ghost use Rattle.sha2.specs.Hashers.{Holds256};
-ghost use Rattle.vs_faults.specs.Faults.{HasCause};
 ghost use Rattle.vs_text.specs.Text.{stored_line};
-ghost use Rattle.vs_edit.specs.Calls.{OnlyReads};
+ghost use Rattle.vs_edit.specs.Calls.{OnlyReads, StopsAtFault};
 ghost use Rattle.vs_ubind.specs.Digest.{digest_of};
 
 use sha2::{Digest, Sha256};
@@ -30,7 +29,7 @@ pub fn digest<S: LineStore>(alloc: Global, text: &mut S) -> Result<[u8; 32], Sto
     requires { S.valid text.old }
     ensures digest { IfOk result (λ digest. (lines : List (List ℕ)) → (S.shows text.old).present.Is lines → digest ≡ digest_of lines) }
     ensures kept { OnlyReads S.LineStore text.old text.new }
-    ensures cause { HasCause (S.shows text.old).faults (S.shows text.new).faults (IsErrOf result StoreErr.Failed) }
+    ensures cause { StopsAtFault S.LineStore (IsErrOf result StoreErr.Failed) text.old text.new }
 {
     let count = text.len();
     if count == 0 {

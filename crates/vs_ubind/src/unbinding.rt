@@ -1,7 +1,6 @@
 // The data of an undo file for a tree at its text.
 ghost use Rattle.std.specs.Prelude.{◌≡◌, ℕ, List, IfOk, IsErrOf, max};
-ghost use Rattle.vs_faults.specs.Faults.{HasCause};
-ghost use Rattle.vs_edit.specs.Calls.{OnlyReads};
+ghost use Rattle.vs_edit.specs.Calls.{OnlyReads, StopsAtFault};
 ghost use Rattle.vs_undo.specs.History.{History, IsHistory};
 ghost use Rattle.vs_undo.specs.Moves.{IsReady};
 ghost use Rattle.vs_ufile.specs.Decode.{IsWellFormed};
@@ -36,7 +35,7 @@ pub fn unbind<S: LineStore>(
         → IsDataOf (history_of contents) lines (history_next save_next history)) }
     ensures formed { IfOk result (λ contents. IsWellFormed (history_of contents)) }
     ensures kept { OnlyReads S.LineStore text.old text.new }
-    ensures cause { HasCause (S.shows text.old).faults (S.shows text.new).faults (IsErrOf result StoreErr.Failed) }
+    ensures cause { StopsAtFault S.LineStore (IsErrOf result StoreErr.Failed) text.old text.new }
 {
     let lines = narrow(text.len().max(1))?;
     let digest = digest(alloc, text)?;

@@ -1,6 +1,6 @@
 -- A store that has just committed its text, gone back to the committed one, or kept both, shows one text, and what was ready before is so again.
 use Rattle.std.proofs.Common.{◌≡◌, ℕ, List, max, Result, Ok, Err, IsErrAnd, OnErr, sym, ap, subst, ◌∙◌}
-use Rattle.vs_faults.proofs.Causes.{HasCause-weaker}
+use Rattle.vs_faults.proofs.OneCause.{one_as}
 use Rattle.vs_edit.proofs.Steps.{SameText-trans}
 use Rattle.vs_edit.specs.State.{SameText, TextState}
 use Rattle.vs_edit.specs.declared.store.LineStore.{Ghosts}
@@ -51,17 +51,17 @@ module _ {S X : Type 0} {g : Ghosts S} {parts seen new : Parts} {before after : 
   pub moved : {x : X} {number : ℕ} → HasMoved g parts new before after number → IsAtomic g parts new before after Failed (Ok x) → IsMove g seen new before after (Ok number)
   moved {number} has is = record {
     moved = subst (λ (p : Parts). HasMoved g p new before after number) same has;
-    atomic = record { stayed = tt; ready = is.ready; stays = is.stays; cause = HasCause-weaker is.cause (λ failed. absurd (cc)) };
+    atomic = record { stayed = tt; ready = is.ready; stays = is.stays; cause = one_as is.cause (λ failed. absurd (cc)) (λ failed. absurd (cc)) };
   }
 
   pub not_moved : {error : UndoErr} (r : Result ℕ UndoErr) → IsErrAnd r (λ e. e ≡ error) → IsAtomic {X = X} g parts new before after Failed (Err error) → IsMove g seen new before after r
   not_moved (Ok number) gives is = absurd gives
-  not_moved (Err e) gives is = record {
+  not_moved {error = error} (Err e) gives is = record {
     moved = tt;
     atomic = record {
       stayed = subst (λ (p : Parts). HasStayed g p new before after) same is.stayed;
       ready = is.ready;
       stays = is.stays;
-      cause = HasCause-weaker is.cause (λ failed. let of : e ≡ Failed = cc in ap Err (sym gives ∙ of));
+      cause = one_as is.cause (λ failed. let of : e ≡ Failed = cc in ap Err (sym gives ∙ of)) (λ failed. let of : error ≡ Failed = cc in ap Err (gives ∙ of));
     };
   }

@@ -1,6 +1,6 @@
 -- What a call asks of a tree and a store with its current text, and what it leaves of them.
 use Rattle.std.specs.Prelude.{ℕ, ◌≡◌, ◌+◌, ◌≤◌, List, [], ◌∷◌, length, max, Some, Result, IfOk, IsErrOf, OnErr}
-use Rattle.vs_faults.specs.Faults.{HasCause}
+use Rattle.vs_edit.specs.Calls.{StopsAtFault}
 use Rattle.vs_edit.specs.Splices.{splice}
 use Rattle.vs_edit.specs.State.{SameText, IsSpliced}
 use Rattle.vs_edit.specs.declared.store.LineStore.{Ghosts}
@@ -57,7 +57,7 @@ pub record IsAtomic {S X E : Type 0} (g : Ghosts S) (old new : Parts) (before af
   pub stayed : OnErr result (HasStayed g old new before after)
   pub ready : IsReady g new after
   pub stays : g.stays before after
-  pub cause : HasCause (g.shows before).faults (g.shows after).faults (IsErrOf result failed)
+  pub cause : StopsAtFault g (IsErrOf result failed) before after
 
 -- The tree has moved to the state whose number was given, or nothing has changed.
 pub record IsMove {S : Type 0} (g : Ghosts S) (old new : Parts) (before after : S) (result : Result ℕ UndoErr) : Type 0 where

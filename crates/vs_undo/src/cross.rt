@@ -1,7 +1,6 @@
 // Walking the text of a store over the edges of the tree.
-ghost use Rattle.std.specs.Prelude.{◌≡◌, ◌≢◌, ◌<◌, ◌≤◌, ℕ, List, [], Some, IfOk, IsErrOf, OnOk, get_or, length, max};
-ghost use Rattle.vs_faults.specs.Faults.{HasCause};
-ghost use Rattle.vs_edit.specs.Calls.{Continues};
+ghost use Rattle.std.specs.Prelude.{◌≡◌, ◌≢◌, ◌<◌, ◌≤◌, ◌↔◌, ℕ, List, [], Some, IfOk, IsErrOf, OnOk, get_or, length, max};
+ghost use Rattle.vs_edit.specs.Calls.{Continues, StopsAtFault};
 ghost use Rattle.vs_edit.specs.State.{SameText};
 ghost use Rattle.vs_entries.specs.Entries.{Leads, LeadsCount};
 ghost use Rattle.std.specs.List.Sorted.{IsStrictlyIncreasing};
@@ -21,7 +20,7 @@ use vs_entries::{EditErr, Entry, apply};
 // The same cause, where the entry fits.
 fn store_err(error: EditErr) -> StoreErr
     requires { error ≢ EditErr.OutOfRange }
-    ensures { result ≡ StoreErr.Failed → error ≡ EditErr.Failed }
+    ensures { (result ≡ StoreErr.Failed) ↔ (error ≡ EditErr.Failed) }
 {
     match error {
         EditErr::OutOfRange => unreachable!(),
@@ -49,7 +48,7 @@ pub fn apply_all<S: LineStore>(
         → (S.shows store.new).present.Is to × IsLed Leads back.items to text) }
     ensures back { IfOk result (λ back. (text : List (List ℕ)) → (S.shows store.old).present.Is text → back.items ≡ all_led_back entries.now text) }
     ensures kept { Continues S.LineStore store.old store.new }
-    ensures cause { HasCause (S.shows store.old).faults (S.shows store.new).faults (IsErrOf result StoreErr.Failed) }
+    ensures cause { StopsAtFault S.LineStore (IsErrOf result StoreErr.Failed) store.old store.new }
 {
     let mut back = Vec::with_capacity(alloc, entries.len())?;
     for entry in entries {
@@ -85,7 +84,7 @@ pub(crate) fn cross<S: LineStore>(
         → (i : ℕ) → i < length path.now → AreLedBack nodes.now c.back c.states (get_or path.now i 0) (get_or turned.items i [])) }
     ensures still { OnOk result (length path.now ≡ 0 → SameText (S.shows store.old).present (S.shows store.new).present) }
     ensures kept { Continues S.LineStore store.old store.new }
-    ensures cause { HasCause (S.shows store.old).faults (S.shows store.new).faults (IsErrOf result StoreErr.Failed) }
+    ensures cause { StopsAtFault S.LineStore (IsErrOf result StoreErr.Failed) store.old store.new }
 {
     let mut turned = Vec::with_capacity(alloc, path.len())?;
     for number in path {

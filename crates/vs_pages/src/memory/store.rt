@@ -1,6 +1,6 @@
 // Pages in memory as a store of pages.
 ghost use Rattle.std.specs.Prelude.{◌≡◌, ◌+◌, ◌-◌, ◌*◌, ◌^◌, ◌≤◌, [], true, Some, IfOk, OnOk, OnErr, IsErrOf, IfSome, IsSome, drop, length, option_map};
-ghost use Rattle.vs_faults.specs.Faults.{HasCause};
+ghost use Rattle.vs_faults.specs.OneCause.{HasOneCause};
 ghost use Rattle.vs_pages.specs.Maps.{numbers, patched, pages_at, put, put_pages, without, zeros, IsVacant};
 ghost use Rattle.vs_pages.specs.State.{IsChange, IsStill, history_of, one_more};
 ghost use Rattle.vs_pages.specs.Memory.{present_of, committed_of, commits_of, state_of, GoesOn, KeepsSince, OnlyRead};
@@ -22,6 +22,8 @@ impl Pages for MemPages {
 
     ghost stays = { KeepsSince };
 
+    ghost earlier = { λ _. 0 };
+
     ghost present_pages = { λ pages _ _. are_present pages };
 
     ghost committed_pages = { λ pages _ _. are_committed pages };
@@ -42,7 +44,7 @@ impl Pages for MemPages {
         ensures size { OnOk result (length into.new.items ≡ 4096 * pages) }
         ensures loaded { OnOk result (pages_at (present_of self.old) at pages ≡ Some into.new.items) }
         ensures kept { OnlyRead self.old self.new }
-        ensures cause { HasCause 0 0 (IsErrOf result PageErr.Failed) }
+        ensures cause { HasOneCause 0 0 0 (IsErrOf result PageErr.Failed) }
         ensures same { self.new ≡ self.old }
     {
         self.copy_pages(at, pages, into)?;

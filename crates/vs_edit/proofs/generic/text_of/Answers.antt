@@ -1,7 +1,6 @@
 -- Each turn reads one line more.
-use Rattle.std.proofs.Common.{◌≡◌, ◌+◌, ◌<◌, ◌++◌, ◌∷◌, [], ◌∙◌, ℕ, List, arith, rules, ap, sym, take, length, length-append}
+use Rattle.std.proofs.Common.{◌+◌, ◌<◌, ◌++◌, ◌∷◌, [], ◌∙◌, ℕ, List, arith, ap, sym, take, length, length-append}
 use Rattle.std.proofs.lemmas.List.{take_all, take_more}
-use Rattle.vs_faults.proofs.Causes.{risen_after}
 use Rattle.vs_edit.proofs.Steps.{OnlyReads-trans}
 use Rattle.vs_edit.proofs.generic.text_of.Goals as goal
 
@@ -19,20 +18,14 @@ loop-at-preserved g c =
           ∙ ap (λ read_line. take at text ++ read_line ∷ []) (c.from_vec.ensures ∙ read.line text (before.kept.present.text text has)) ∙ sym (take_more text at [] below);
       count = omega (arith, before.count, ap length c.in_ok-push.ensures.items, length-append c.loop-at.lines.items (line ∷ []));
       kept = OnlyReads-trans law.stays_on before.kept read.kept;
-      faults = omega (arith, before.faults, read.cause.later);
+      faults = read.cause.none (λ failed. absurd (cc)) ∙ before.faults;
     }
 
 pub returns-in_err-line-clause-kept : goal.returns-in_err-line-clause-kept
 returns-in_err-line-clause-kept g c = OnlyReads-trans g.met.S.LineStore.stays_on c.loop-at.invariant.kept c.line.ensures.kept
 
-pub returns-in_err-line-clause-cause : goal.returns-in_err-line-clause-cause
-returns-in_err-line-clause-cause g c = record { later = omega (arith, c.loop-at.invariant.faults, c.line.ensures.cause.later); risen = λ failed. risen_after c.loop-at.invariant.faults (c.line.ensures.cause.risen (search rules)) }
-
 pub returns-in_err-push-clause-kept : goal.returns-in_err-push-clause-kept
 returns-in_err-push-clause-kept g c = OnlyReads-trans g.met.S.LineStore.stays_on c.loop-at.invariant.kept c.in_ok-line.ensures.kept
-
-pub returns-in_err-push-clause-cause : goal.returns-in_err-push-clause-cause
-returns-in_err-push-clause-cause g c = record { later = omega (arith, c.loop-at.invariant.faults, c.line.ensures.cause.later); risen = λ failed. absurd (search rules) }
 
 pub returns-clause-text : goal.returns-clause-text
 returns-clause-text g c = λ text has.
@@ -43,6 +36,3 @@ returns-clause-lines g c = omega (arith, ap length c.of.ensures, c.loop-at.invar
 
 pub returns-clause-kept : goal.returns-clause-kept
 returns-clause-kept g c = c.loop-at.invariant.kept
-
-pub returns-clause-cause : goal.returns-clause-cause
-returns-clause-cause g c = record { later = c.loop-at.invariant.faults; risen = λ failed. absurd (search rules) }

@@ -1,6 +1,5 @@
 -- What the calls before left of the text, put together.
-use Rattle.std.proofs.Common.{◌≡◌, ◌≤◌, ℕ, length, max, sym, ap, subst, ◌∙◌, arith, rules, nat_eq, All}
-use Rattle.vs_faults.proofs.Causes.{risen_after}
+use Rattle.std.proofs.Common.{◌≡◌, ◌≤◌, ℕ, length, max, sym, ap, subst, ◌∙◌, arith, nat_eq, All}
 use Rattle.vs_text.specs.Text.{bytes_of}
 use Rattle.vs_text.specs.Limits.{IsShort}
 use Rattle.vs_text.specs.declared.TheConstants.{MAX_LINES}
@@ -78,35 +77,11 @@ returns-in_err-settle-clause-kept g c =
     let read = Continues-trans law.stays_on c.in_ok-fill.ensures.kept (OnlyReads-continues c.in_ok-gone.ensures.kept) in
     Continues-trans law.stays_on (Continues-trans law.stays_on read c.in_ok-splice.ensures.kept) c.settle.ensures.kept
 
-pub returns-in_err-gone-clause-cause : goal.returns-in_err-gone-clause-cause
-returns-in_err-gone-clause-cause g c = record {
-  later = omega (arith, c.in_ok-fill.ensures.cause.later, c.lines_at.ensures.cause.later);
-  risen = λ failed. risen_after c.in_ok-fill.ensures.cause.later (c.lines_at.ensures.cause.risen (search rules));
-}
-
-pub returns-in_err-splice-clause-cause : goal.returns-in_err-splice-clause-cause
-returns-in_err-splice-clause-cause g c = record {
-  later = omega (arith, c.in_ok-fill.ensures.cause.later, c.in_ok-gone.ensures.cause.later, c.splice.ensures.cause.later);
-  risen = λ failed. risen_after (omega (arith, c.in_ok-fill.ensures.cause.later, c.in_ok-gone.ensures.cause.later)) (c.splice.ensures.cause.risen (search rules));
-}
-
-pub returns-in_err-settle-clause-cause : goal.returns-in_err-settle-clause-cause
-returns-in_err-settle-clause-cause g c = record {
-  later = omega (arith, c.in_ok-fill.ensures.cause.later, c.in_ok-gone.ensures.cause.later, c.in_ok-splice.ensures.cause.later, c.settle.ensures.cause.later);
-  risen = λ failed. risen_after (omega (arith, c.in_ok-fill.ensures.cause.later, c.in_ok-gone.ensures.cause.later, c.in_ok-splice.ensures.cause.later)) (c.settle.ensures.cause.risen (search rules));
-}
-
 pub returns-clause-kept : goal.returns-clause-kept
 returns-clause-kept g c =
     let law = g.met.S.LineStore in
     let read = Continues-trans law.stays_on c.in_ok-fill.ensures.kept (OnlyReads-continues c.in_ok-gone.ensures.kept) in
     Continues-trans law.stays_on (Continues-trans law.stays_on read c.in_ok-splice.ensures.kept) c.in_ok-settle.ensures.kept
-
-pub returns-clause-cause : goal.returns-clause-cause
-returns-clause-cause g c = record {
-  later = omega (arith, c.in_ok-fill.ensures.cause.later, c.in_ok-gone.ensures.cause.later, c.in_ok-splice.ensures.cause.later, c.in_ok-settle.ensures.cause.later);
-  risen = λ failed. absurd (search rules);
-}
 
 pub returns-clause-counts : goal.returns-clause-counts
 returns-clause-counts g c =

@@ -1,10 +1,10 @@
 -- Each entry leads one step on, and what it gives leads back over that step.
-use Rattle.std.proofs.Common.{◌≡◌, ◌∷◌, ◌∙◌, Err, ap, reverse, arith}
+use Rattle.std.proofs.Common.{◌≡◌, ◌∷◌, ◌∙◌, Err, ap, reverse}
 use Rattle.std.proofs.lemmas.Result.{err_from_is_err_and}
 use Rattle.vs_edit.proofs.UndoingLemmas.{reverse_pushed}
 use Rattle.vs_edit.proofs.Steps.{Continues-trans}
 use Rattle.vs_entries.specs.Entries.{applied, Leads, LeadsCount}
-use Rattle.vs_outward.proofs.GoingLemmas.{out_of_memory}
+use Rattle.vs_outward.proofs.GoingLemmas.{ended, out_of_memory}
 use Rattle.vs_outward.proofs.LedLemmas.{ahead_more, if_some, left_more, one_text}
 use Rattle.vs_outward.proofs.crossing.try_all.Goals as goal
 
@@ -37,7 +37,7 @@ loop-entry-preserved g c =
           );
       valid = out.kept.valid;
       kept = Continues-trans g.met.S.LineStore.stays_on inv.kept out.kept;
-      faults = omega (arith, inv.faults, out.cause.later);
+      faults = out.cause.none (λ failed. absurd (cc)) ∙ inv.faults;
     }
 
 pub returns-in_err-push-clause-goes_on : goal.returns-in_err-push-clause-goes_on
@@ -45,4 +45,11 @@ returns-in_err-push-clause-goes_on g c =
     let inv = c.loop-entry.invariant in
     let out = c.in_ok-other.ensures in
     let p = err_from_is_err_and c.from_residual-in_err-push.result c.from_residual-in_err-push.ensures.1 in
-    out_of_memory c.from_residual-in_err-push.result (p.1 ∙ ap Err p.2) (Continues-trans g.met.S.LineStore.stays_on inv.kept out.kept) (omega (arith, inv.faults, out.cause.later))
+    out_of_memory c.from_residual-in_err-push.result (p.1 ∙ ap Err p.2) (Continues-trans g.met.S.LineStore.stays_on inv.kept out.kept) (out.cause.none (λ failed. absurd (cc)) ∙ inv.faults)
+
+pub returns-in_default-clause-goes_on : goal.returns-in_default-clause-goes_on
+returns-in_default-clause-goes_on g c =
+    let on = g.met.S.LineStore.stays_on in
+    let inv = c.loop-entry.invariant in
+    let out = c.in_ok-other.ensures in
+    ended on (Continues-trans on inv.kept out.kept) (out.cause.none (λ failed. absurd (cc)) ∙ inv.faults) c.in_ok-take_back.ensures.goes_on

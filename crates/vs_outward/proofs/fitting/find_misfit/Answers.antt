@@ -79,7 +79,7 @@ loop-place-init g c =
       seen = λ k node far. absurd (omega arith);
       valid = out.goes_on.kept.valid;
       kept = out.goes_on.kept;
-      faults = omega (arith, out.goes_on.cause.later);
+      faults = out.goes_on.cause.none (λ failed. absurd (cc));
     }
 
 pub visit_at-requires-clause-within : goal.visit_at-requires-clause-within
@@ -109,7 +109,7 @@ loop-place-preserved g c =
       ];
       valid = out.goes_on.kept.valid;
       kept = Continues-trans g.met.S.LineStore.stays_on inv.kept out.goes_on.kept;
-      faults = omega (arith, inv.faults, out.goes_on.cause.later);
+      faults = out.goes_on.cause.none (λ failed. absurd (cc)) ∙ inv.faults;
     }
 
 pub returns-clause-counts : goal.returns-clause-counts

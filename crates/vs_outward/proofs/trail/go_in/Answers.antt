@@ -1,4 +1,4 @@
-use Rattle.std.proofs.Common.{◌∙◌, Err, ap, arith}
+use Rattle.std.proofs.Common.{◌∙◌, Err, ap}
 use Rattle.std.proofs.lemmas.Result.{err_from_is_err_and}
 use Rattle.vs_edit.proofs.Steps.{Continues-trans}
 use Rattle.vs_outward.proofs.GoingLemmas.{stopped}
@@ -14,7 +14,7 @@ loop-preserved g c =
       less = out.less ∙ take_less c.args.trail.now.items c.loop.trail.items c.loop.counter inv.less;
       valid = out.goes_on.kept.valid;
       kept = Continues-trans g.met.S.LineStore.stays_on inv.kept out.goes_on.kept;
-      faults = omega (arith, inv.faults, out.goes_on.cause.later);
+      faults = out.goes_on.cause.none (λ failed. absurd (cc)) ∙ inv.faults;
     }
 
 pub returns-in_err-step_in-clause-goes_on : goal.returns-in_err-step_in-clause-goes_on

@@ -1,4 +1,4 @@
-use Rattle.std.proofs.Common.{◌≡◌, ◌≤◌, ◌-◌, length, take}
+use Rattle.std.proofs.Common.{◌≡◌, ◌-◌, length, take}
 use Rattle.vs_edit.specs.Calls.{Continues}
 use Rattle.vs_outward.specs.Trails.{IsOnTrail}
 use Rattle.vs_outward.proofs.trail.go_in.Given as goal
@@ -9,5 +9,5 @@ invariant-loop g l = let old = l.initial in record {
   less : l.trail.items ≡ take (length old.trail.items - l.counter) old.trail.items;
   valid : g.S.LineStore.valid l.store;
   kept : Continues g.S.LineStore old.store l.store;
-  faults : (g.S.LineStore.shows old.store).faults ≤ (g.S.LineStore.shows l.store).faults;
+  faults : (g.S.LineStore.shows l.store).faults ≡ (g.S.LineStore.shows old.store).faults;
 }

@@ -1,9 +1,10 @@
-use Rattle.std.proofs.Common.{◌≡◌, ◌+◌, ◌++◌, ◌∷◌, [], map, get_or, take, drop, sym, ap, ◌∙◌, arith}
+use Rattle.std.proofs.Common.{◌≡◌, Err, ◌+◌, ◌++◌, ◌∷◌, [], map, get_or, take, drop, sym, ap, ◌∙◌, arith}
 use Rattle.std.proofs.lemmas.Bool.Decides.{nat_tests}
 use Rattle.std.proofs.lemmas.List.{map-append, take_more}
+use Rattle.std.proofs.lemmas.Result.{err_from_is_err_and}
 use Rattle.vs_edit.proofs.Steps.{Continues-trans}
 use Rattle.vs_outward.specs.declared.trail.Step.{Step}
-use Rattle.vs_outward.proofs.GoingLemmas.{ended}
+use Rattle.vs_outward.proofs.GoingLemmas.{ended, stopped}
 use Rattle.vs_outward.proofs.LedLemmas.{cut_path}
 use Rattle.vs_outward.proofs.trail.go_out.Goals as goal
 
@@ -32,5 +33,11 @@ loop-k-preserved g c =
           ∙ (ap (λ n. take k path ++ n ∷ []) crossed.1.1 ∙ sym (take_more path k 0 (omega arith)))));
       valid = out.goes_on.kept.valid;
       kept = Continues-trans g.met.S.LineStore.stays_on inv.kept out.goes_on.kept;
-      faults = omega (arith, inv.faults, out.goes_on.cause.later);
+      faults = out.goes_on.cause.none (λ failed. absurd (cc)) ∙ inv.faults;
     }
+
+pub returns-in_err-step_out-clause-goes_on : goal.returns-in_err-step_out-clause-goes_on
+returns-in_err-step_out-clause-goes_on g c =
+    let inv = c.loop-k.invariant in
+    let p = err_from_is_err_and c.from_residual.result c.from_residual.ensures.1 in
+    stopped g.met.S.LineStore.stays_on inv.kept inv.faults c.from_residual.result (p.1 ∙ ap Err p.2) c.in_err-step_out.ensures.goes_on

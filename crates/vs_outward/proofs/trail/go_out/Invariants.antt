@@ -1,4 +1,4 @@
-use Rattle.std.proofs.Common.{◌≡◌, ◌≤◌, map, take}
+use Rattle.std.proofs.Common.{◌≡◌, map, take}
 use Rattle.vs_edit.specs.Calls.{Continues}
 use Rattle.vs_outward.specs.declared.trail.Step.{Step}
 use Rattle.vs_outward.specs.Trails.{IsOnTrail}
@@ -10,5 +10,5 @@ invariant-loop-k g l = let old = l.initial in record {
   begun : map (λ (step : Step). step.number) l.trail.items ≡ take l.k l.path;
   valid : g.S.LineStore.valid l.store;
   kept : Continues g.S.LineStore old.store l.store;
-  faults : (g.S.LineStore.shows old.store).faults ≤ (g.S.LineStore.shows l.store).faults;
+  faults : (g.S.LineStore.shows l.store).faults ≡ (g.S.LineStore.shows old.store).faults;
 }

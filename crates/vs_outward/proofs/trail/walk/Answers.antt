@@ -87,4 +87,4 @@ returns-clause-barred g c =
     c.in_ok-go_in.ensures.on c.go_out.result c.go_out.ensures.on c.go_out.ensures.barred c.go_out.ensures.refused
 
 pub returns-clause-goes_on : goal.returns-clause-goes_on
-returns-clause-goes_on g c = after g.met.S.LineStore.stays_on c.in_ok-go_in.ensures.goes_on.kept c.in_ok-go_in.ensures.goes_on.cause.later c.go_out.ensures.goes_on
+returns-clause-goes_on g c = after g.met.S.LineStore.stays_on c.in_ok-go_in.ensures.goes_on.kept (c.in_ok-go_in.ensures.goes_on.cause.none (λ failed. absurd (cc))) c.go_out.ensures.goes_on

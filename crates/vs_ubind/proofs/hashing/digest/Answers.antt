@@ -19,7 +19,7 @@ lines-preserved g c =
       at = next-at c.lines.reader c.line.new.self c.lines._at c.len-count.result (c.lines._at + 1) before.at read.at refl;
       copied = λ lines is. read.copied lines (before.kept.present.text lines is) (before.copied lines is);
       kept = OnlyReads-trans law.stays_on before.kept read.kept;
-      faults = omega (arith, before.faults, read.cause.later);
+      faults = read.cause.none (λ failed. absurd (cc)) ∙ before.faults;
     }
 
 pub returns-then-count-eq0-clause-digest : goal.returns-then-count-eq0-clause-digest

@@ -1,4 +1,4 @@
-use Rattle.std.proofs.Common.{◌≤◌, ℕ, List}
+use Rattle.std.proofs.Common.{◌≡◌, ℕ, List}
 use Rattle.sha2.specs.Hashers.{Holds256}
 use Rattle.vs_edit.specs.Calls.{OnlyReads}
 use Rattle.vs_reads.specs.Reading.{HasCopied, IsAt}
@@ -11,5 +11,5 @@ invariant-lines g l = let old = l.initial.text in record {
   at : IsAt l.reader l._at l.count;
   copied : (lines : List (List ℕ)) → (g.S.LineStore.shows old).present.Is lines → HasCopied lines l.reader;
   kept : OnlyReads g.S.LineStore old l.text;
-  faults : (g.S.LineStore.shows old).faults ≤ (g.S.LineStore.shows l.text).faults;
+  faults : (g.S.LineStore.shows l.text).faults ≡ (g.S.LineStore.shows old).faults;
 }

@@ -55,7 +55,7 @@ loop-entry-preserved g c =
       count = omega (arith, ap length c.in_ok-push-in-Ok.ensures.items, length-append c.loop-entry.back.items (c.in-Ok.other ∷ []), c.loop-entry.invariant.count);
       valid = c.in-Ok.ensures.kept.valid;
       kept = Continues-trans g.met.S.LineStore.stays_on c.loop-entry.invariant.kept c.in-Ok.ensures.kept;
-      faults = omega (arith, c.loop-entry.invariant.faults, c.in-Ok.ensures.cause.later);
+      faults = c.in-Ok.ensures.cause.none (λ failed. absurd (cc)) ∙ c.loop-entry.invariant.faults;
     }
 
 pub returns-in-Err-clause-kept : goal.returns-in-Err-clause-kept

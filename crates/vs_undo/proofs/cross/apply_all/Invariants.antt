@@ -1,4 +1,4 @@
-use Rattle.std.proofs.Common.{◌≡◌, ◌≤◌, ℕ, List, length, max, drop, reverse, ◌++◌}
+use Rattle.std.proofs.Common.{◌≡◌, ℕ, List, length, max, drop, reverse, ◌++◌}
 use Rattle.vs_edit.specs.Calls.{Continues}
 use Rattle.vs_entries.specs.Entries.{Leads, LeadsCount}
 use Rattle.vs_undo.specs.Edges.{IsLed}
@@ -16,5 +16,5 @@ invariant-loop-entry g l = let old = l.initial.store in record {
   count : length l.back.items ≡ l.entry-index;
   valid : g.S.LineStore.valid l.store;
   kept : Continues g.S.LineStore old l.store;
-  faults : (g.S.LineStore.shows old).faults ≤ (g.S.LineStore.shows l.store).faults;
+  faults : (g.S.LineStore.shows l.store).faults ≡ (g.S.LineStore.shows old).faults;
 }

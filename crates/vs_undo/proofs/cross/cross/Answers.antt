@@ -110,7 +110,7 @@ loop-number-preserved g c =
       some = some_more turned c.in_ok-back.back.items c.push.new.self.items i c.loop-number.invariant.count pushed c.loop-number.invariant.some (omega (arith, c.in_ok-back.ensures.count, ap length entries, c.requires.entries number node here));
       valid = c.in_ok-back.ensures.kept.valid;
       kept = Continues-trans g.met.S.LineStore.stays_on c.loop-number.invariant.kept c.in_ok-back.ensures.kept;
-      faults = omega (arith, c.loop-number.invariant.faults, c.in_ok-back.ensures.cause.later);
+      faults = c.in_ok-back.ensures.cause.none (λ failed. absurd (cc)) ∙ c.loop-number.invariant.faults;
     }
 
 pub returns-in_err-back-clause-kept : goal.returns-in_err-back-clause-kept

@@ -1,4 +1,4 @@
-use Rattle.std.proofs.Common.{◌≡◌, ◌<◌, ◌≤◌, ℕ, List, [], length, get_or, max, drop}
+use Rattle.std.proofs.Common.{◌≡◌, ◌<◌, ℕ, List, [], length, get_or, max, drop}
 use Rattle.vs_edit.specs.Calls.{Continues}
 use Rattle.vs_edit.specs.State.{SameText}
 use Rattle.vs_entries.specs.Entries.{Leads, LeadsCount}
@@ -23,5 +23,5 @@ invariant-loop-number g l = let old = l.initial.store in record {
   still : l.number-index ≡ 0 → SameText (g.S.LineStore.shows old).present (g.S.LineStore.shows l.store).present;
   valid : g.S.LineStore.valid l.store;
   kept : Continues g.S.LineStore old l.store;
-  faults : (g.S.LineStore.shows old).faults ≤ (g.S.LineStore.shows l.store).faults;
+  faults : (g.S.LineStore.shows l.store).faults ≡ (g.S.LineStore.shows old).faults;
 }

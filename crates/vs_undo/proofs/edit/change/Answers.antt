@@ -1,6 +1,6 @@
 -- The entry of the splice leads back over it, so the push keeps the history. What is forgotten does not depend on the entries.
 use Rattle.std.proofs.Common.{◌≡◌, ◌+◌, ◌-◌, ◌∷◌, [], ℕ, List, length, max, refl, rules, sym, ap, subst, ◌∙◌, arith}
-use Rattle.vs_faults.proofs.Causes.{risen_after}
+use Rattle.vs_faults.proofs.OneCause.{one_as, one_back, one_then}
 use Rattle.vs_edit.specs.Splices.{splice}
 use Rattle.vs_edit.proofs.Steps.{SameText-trans, IsSpliced-after, works_as}
 use Rattle.vs_entries.specs.Entries.{Leads, LeadsCount, splice_back}
@@ -76,7 +76,7 @@ returns-in-Ok-push-clause-atomic g c =
             subst (λ t. FitsText c.push.new.self t) same (c.in-Ok-push.ensures.texts was.0 after (ready.texts was.0 was.1) (leads g c was.0 was.1));
       };
       stays = laws.stays_on _ _ _ c.in-Ok.ensures.kept.stays (laws.stays_on _ _ _ c.splice.ensures.kept.stays c.commit.ensures.stays);
-      cause = search rules;
+      cause = one_as (one_back (one_then c.in-Ok.ensures.cause (λ failed. absurd (cc)) c.in_ok-splice.ensures.cause) c.commit.ensures.faults c.commit.ensures.earlier) (λ failed. absurd (cc)) (λ failed. absurd (cc));
     }
 
 pub returns-in_err-splice-clause-atomic : goal.returns-in_err-splice-clause-atomic
@@ -90,10 +90,7 @@ returns-in_err-splice-clause-atomic g c =
       ready = stayed g.S.LineStore c.args.tree.now c.args.text.now c.splice.new.self ready present (SameText-trans read.committed c.splice.ensures.kept.committed) c.splice.ensures.kept.valid
           (λ text has. laws.tells_one c.args.text.now ready.valid (laws.has_told c.splice.new.self text has)) (laws.has_one c.splice.new.self);
       stays = laws.stays_on _ _ _ read.stays c.splice.ensures.kept.stays;
-      cause = record {
-        later = omega (arith, c.in-Ok.ensures.cause.later, c.splice.ensures.cause.later);
-        risen = λ failed. risen_after c.in-Ok.ensures.cause.later (c.splice.ensures.cause.risen (search rules));
-      };
+      cause = one_as (one_then c.in-Ok.ensures.cause (λ failed. absurd (cc)) c.splice.ensures.cause) (λ failed. search rules) (λ failed. search rules);
     }
 
 pub returns-in-Err-push-clause-atomic : goal.returns-in-Err-push-clause-atomic
@@ -109,5 +106,5 @@ returns-in-Err-push-clause-atomic g c =
           (gone_back g.S.LineStore c.args.tree.now c.args.text.now c.splice.new.self c.rollback.new.self ready kept back.present back.committed back.valid
           (λ text has. laws.tells_one c.args.text.now ready.valid (laws.has_told c.rollback.new.self text has)) (laws.has_one c.rollback.new.self));
       stays = laws.stays_on _ _ _ c.in-Ok.ensures.kept.stays (laws.stays_on _ _ _ c.splice.ensures.kept.stays back.stays);
-      cause = search rules;
+      cause = one_as (one_back (one_then c.in-Ok.ensures.cause (λ failed. absurd (cc)) c.in_ok-splice.ensures.cause) back.faults back.earlier) (λ failed. search rules) (λ failed. absurd (cc));
     }

@@ -1,5 +1,6 @@
 -- The walk, and what it leaves, by the lemmas on moves: once for the numbers of lines and once for the texts.
 use Rattle.std.proofs.Common.{◌≡◌, ◌<◌, ◌++◌, ℕ, List, [], Some, length, get_or, max, rules, sym, ap, subst, ◌∙◌, refl}
+use Rattle.vs_faults.proofs.OneCause.{one_as, one_back}
 use Rattle.vs_edit.proofs.Steps.{SameText-trans}
 use Rattle.vs_entries.specs.Entries.{Leads, LeadsCount}
 use Rattle.vs_undo.specs.declared.parts.Node.{Node}
@@ -154,7 +155,7 @@ returns-in-Ok-clause-atomic g c =
             record { texts = fits.texts; are_states = done.0; current = one text (fits.texts c.args.number) has done.1 ∙ sym (ap fits.texts (current g c)) };
       };
       stays = laws.stays_on _ _ _ c.in-Ok.ensures.kept.stays c.commit.ensures.stays;
-      cause = search rules;
+      cause = one_as (one_back c.in-Ok.ensures.cause c.commit.ensures.faults c.commit.ensures.earlier) (λ failed. absurd (cc)) (λ failed. absurd (cc));
     }
 
 pub returns-clause-atomic : goal.returns-clause-atomic
@@ -168,5 +169,5 @@ returns-clause-atomic g c =
       ready = gone_back g.S.LineStore c.args.parts.now c.args.store.now c.cross.new.store c.rollback.new.self ready kept.committed back.present back.committed back.valid
           (λ text has. laws.tells_one c.args.store.now ready.valid (laws.has_told c.rollback.new.self text has)) (laws.has_one c.rollback.new.self);
       stays = laws.stays_on _ _ _ kept.stays back.stays;
-      cause = search rules;
+      cause = one_as (one_back c.in-Err.ensures.cause back.faults back.earlier) (λ failed. search rules) (λ failed. search rules);
     }

@@ -33,5 +33,5 @@ loop-i-preserved g c =
           copied_more text c.args.at i c.loop-i.into.items c.line.new.into.items c.push.new.self.items within bytes (before.lines text has) (read.line text kept);
       are_lines = subst (HoldsLines (i + 1)) (sym bytes) (holds_more c.line.new.into.items before.are_lines read.is_line read.is_short);
       kept = OnlyReads-trans law.stays_on before.kept read.kept;
-      faults = omega (arith, before.faults, read.cause.later);
+      faults = read.cause.none (λ failed. absurd (cc)) ∙ before.faults;
     }

@@ -1,4 +1,4 @@
-use Rattle.std.proofs.Common.{◌≡◌, ◌≤◌, ℕ, List}
+use Rattle.std.proofs.Common.{◌≡◌, ℕ, List}
 use Rattle.vs_text.specs.Text.{file_of}
 use Rattle.vs_edit.specs.Splices.{cut_out, HoldsLines}
 use Rattle.vs_edit.specs.Calls.{OnlyReads}
@@ -9,5 +9,5 @@ invariant-loop-i g l = let old = l.initial.self in record {
   lines : (text : List (List ℕ)) → (g.Self.LineStore.shows old).present.Is text → l.into.items ≡ file_of (cut_out text l.at l.i);
   are_lines : HoldsLines l.i l.into.items;
   kept : OnlyReads g.Self.LineStore old l.self;
-  faults : (g.Self.LineStore.shows old).faults ≤ (g.Self.LineStore.shows l.self).faults;
+  faults : (g.Self.LineStore.shows l.self).faults ≡ (g.Self.LineStore.shows old).faults;
 }
