@@ -4,5 +4,6 @@ pub mod JoinLemmas
 pub mod LimitLemmas
 pub mod LongLemmas
 pub mod MatchLemmas
+pub mod PassLemmas
 pub mod RewriteLemmas
 pub mod WrittenLemmas

@@ -39,11 +39,11 @@ before-hit : (hits : List ℕ → Bool) (lines : List (List ℕ)) (line : List �
 before-hit hits [] line is = rw is refl
 before-hit hits (first ∷ lines) line is = rw (before-hit hits lines line is) refl
 
-or-first : (a b : Bool) → (a || b) ≡ false → a ≡ false
+pub or-first : (a b : Bool) → (a || b) ≡ false → a ≡ false
 or-first true b none = none
 or-first false b none = refl
 
-or-second : (a b : Bool) → (a || b) ≡ false → b ≡ false
+pub or-second : (a b : Bool) → (a || b) ≡ false → b ≡ false
 or-second true b none = cc
 or-second false b none = none
 
@@ -51,7 +51,7 @@ not-empty : {X : Type 0} (xs : List X) (x : X) → not (is_empty (xs ++ x ∷ []
 not-empty [] x = ap not (not_empty x [])
 not-empty (y ∷ xs) x = ap not (not_empty y (xs ++ x ∷ []))
 
-all-before : (hits : List ℕ → Bool) (lines : List (List ℕ)) → list_any hits lines ≡ false → prefix_len (λ line. not (hits line)) lines ≡ length lines
+pub all-before : (hits : List ℕ → Bool) (lines : List (List ℕ)) → list_any hits lines ≡ false → prefix_len (λ line. not (hits line)) lines ≡ length lines
 all-before hits [] none = refl
 all-before hits (first ∷ lines) none =
     let first_miss : hits first ≡ false = or-first (hits first) (list_any hits lines) none in

@@ -1,7 +1,6 @@
 // The command that joins lines.
 ghost use Rattle.std.specs.Prelude.{◌≡◌, ◌≤◌, ◌<◌, ◌+◌, ℕ, List, IfOk, IfErr, OnOk, IsErrOf, Ok};
-ghost use Rattle.vs_faults.specs.Faults.{HasCause};
-ghost use Rattle.vs_edit.specs.Calls.{OnlyReads};
+ghost use Rattle.vs_edit.specs.Calls.{OnlyReads, StopsAtFault};
 ghost use Rattle.vs_excmd.specs.Answer.{IsLate, Leads, LiesIn};
 ghost use Rattle.vs_excmd.specs.Join.{addresses_in, addresses_of, joined, joined_span, joined_two, joint};
 ghost use Rattle.vs_excmd.specs.Place.{IsSpanIn};
@@ -77,7 +76,7 @@ fn join_span<S: LineStore>(
     ensures lies { IfOk result (λ plan. LiesIn (S.shows view.old).present.lines plan) }
     ensures late { IfErr result IsLate }
     ensures kept { OnlyReads S.LineStore view.old view.new }
-    ensures cause { HasCause (S.shows view.old).faults (S.shows view.new).faults (IsErrOf result PlanErr.Failed) }
+    ensures cause { StopsAtFault S.LineStore (IsErrOf result PlanErr.Failed) view.old view.new }
 {
     // called for its contract alone: the number of lines fits 64 bits
     let _ = view.len();
@@ -118,7 +117,7 @@ pub(crate) fn join_lines<S: LineStore>(
     ensures lies { IfOk result (λ plan. LiesIn (S.shows view.old).present.lines plan) }
     ensures late { IfErr result IsLate }
     ensures kept { OnlyReads S.LineStore view.old view.new }
-    ensures cause { HasCause (S.shows view.old).faults (S.shows view.new).faults (IsErrOf result PlanErr.Failed) }
+    ensures cause { StopsAtFault S.LineStore (IsErrOf result PlanErr.Failed) view.old view.new }
 {
     let Span { first, last } = lines;
     if first < last {

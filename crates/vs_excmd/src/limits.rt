@@ -1,11 +1,10 @@
 // The limits of lines and of a text.
 ghost use Rattle.std.specs.Prelude.{◌≡◌, ◌≤◌, ◌+◌, ◌-◌, ◌^◌, ℕ, List, IfOk, IfErr, IsErrOf, IsTrue, Ok, All, length, min};
 ghost use Rattle.std.specs.List.{list_all};
-ghost use Rattle.vs_faults.specs.Faults.{HasCause};
 ghost use Rattle.vs_text.specs.Text.{bytes_of};
 ghost use Rattle.vs_text.specs.Limits.{IsShort};
 ghost use Rattle.vs_text.specs.declared.TheConstants.{MAX_LINES};
-ghost use Rattle.vs_edit.specs.Calls.{OnlyReads};
+ghost use Rattle.vs_edit.specs.Calls.{OnlyReads, StopsAtFault};
 ghost use Rattle.vs_edit.specs.Splices.{cut_out, splice};
 ghost use Rattle.vs_excmd.specs.Answer.{Allows, Answers, IsLate, LiesIn, effect_of};
 ghost use Rattle.vs_excmd.specs.Change.{bounded, is_short, is_within};
@@ -54,7 +53,7 @@ fn fits<S: LineStore>(
         fits ≡ is_within (splice text top old new.now)) }
     ensures few { IfOk result (λ fits. IsTrue fits → (S.shows view.old).present.lines + length new.now ≤ MAX_LINES + old) }
     ensures kept { OnlyReads S.LineStore view.old view.new }
-    ensures cause { HasCause (S.shows view.old).faults (S.shows view.new).faults (IsErrOf result StoreErr.Failed) }
+    ensures cause { StopsAtFault S.LineStore (IsErrOf result StoreErr.Failed) view.old view.new }
 {
     if new.len() as u64 > MAX_LINES - (view.len() - old) {
         return Ok(false);
@@ -80,7 +79,7 @@ pub(crate) fn bounded<S: LineStore>(
     ensures allowed { IfOk result (λ plan. Allows (S.shows view.new).present plan) }
     ensures late { IfErr result IsLate }
     ensures kept { OnlyReads S.LineStore view.old view.new }
-    ensures cause { HasCause (S.shows view.old).faults (S.shows view.new).faults (IsErrOf result PlanErr.Failed) }
+    ensures cause { StopsAtFault S.LineStore (IsErrOf result PlanErr.Failed) view.old view.new }
 {
     match plan {
         Plan::NoChange => Ok(Plan::NoChange),
@@ -119,7 +118,7 @@ pub(crate) fn fits_copied<S: LineStore>(
     ensures value { IfOk result (λ fits. (text : List (List ℕ)) (to : ℕ) → (S.shows view.old).present.Is text → to ≤ length text
         → fits ≡ is_within (splice text to 0 (cut_out text top count))) }
     ensures kept { OnlyReads S.LineStore view.old view.new }
-    ensures cause { HasCause (S.shows view.old).faults (S.shows view.new).faults (IsErrOf result StoreErr.Failed) }
+    ensures cause { StopsAtFault S.LineStore (IsErrOf result StoreErr.Failed) view.old view.new }
 {
     if count > MAX_LINES - view.len() {
         return Ok(false);

@@ -1,7 +1,6 @@
 // The meaning of the commands of the text.
 ghost use Rattle.std.specs.Prelude.{◌≡◌, ℕ, List, IfOk, IfErr, IsErrOf, IsTrue, not};
-ghost use Rattle.vs_faults.specs.Faults.{HasCause};
-ghost use Rattle.vs_edit.specs.Calls.{OnlyReads};
+ghost use Rattle.vs_edit.specs.Calls.{OnlyReads, StopsAtFault};
 ghost use Rattle.vs_exparse.specs.Command.{command_of, wants_block};
 ghost use Rattle.vs_exparse.specs.Form.{HasForm};
 ghost use Rattle.vs_excmd.specs.Answer.{Allows, Answers, IsLate, IsPlaced, Leads, LiesIn};
@@ -80,7 +79,7 @@ fn effect<S: LineStore>(
     ensures lies { IfOk result (λ plan. LiesIn (S.shows view.old).present.lines plan) }
     ensures late { IfErr result IsLate }
     ensures kept { OnlyReads S.LineStore view.old view.new }
-    ensures cause { HasCause (S.shows view.old).faults (S.shows view.new).faults (IsErrOf result PlanErr.Failed) }
+    ensures cause { StopsAtFault S.LineStore (IsErrOf result PlanErr.Failed) view.old view.new }
 {
     let len = view.len();
     let lines = place.lines;
@@ -140,7 +139,7 @@ pub fn plan<S: LineStore>(
     ensures placed { IsPlaced (place_of (command_of command.now) (S.shows view.old).present.lines cursor) result }
     ensures allowed { IfOk result (λ plan. Allows (S.shows view.new).present plan) }
     ensures kept { OnlyReads S.LineStore view.old view.new }
-    ensures cause { HasCause (S.shows view.old).faults (S.shows view.new).faults (IsErrOf result PlanErr.Failed) }
+    ensures cause { StopsAtFault S.LineStore (IsErrOf result PlanErr.Failed) view.old view.new }
 {
     let place = place_of(command, view.len(), cursor)?;
     let plan = effect(alloc, command, block, view, place)?;

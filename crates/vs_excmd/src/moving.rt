@@ -1,7 +1,6 @@
 // Commands that move and copy lines.
 ghost use Rattle.std.specs.Prelude.{◌≡◌, ℕ, List, IfOk, IfErr, IsErrOf, Ok, false};
-ghost use Rattle.vs_faults.specs.Faults.{HasCause};
-ghost use Rattle.vs_edit.specs.Calls.{OnlyReads};
+ghost use Rattle.vs_edit.specs.Calls.{OnlyReads, StopsAtFault};
 ghost use Rattle.vs_excmd.specs.Answer.{IsLate, Leads, LiesIn, effect_of};
 ghost use Rattle.vs_excmd.specs.Change.{copied, moved};
 ghost use Rattle.vs_excmd.specs.Place.{IsPlaceIn, is_into_itself};
@@ -25,7 +24,7 @@ pub(crate) fn move_lines<S: LineStore>(
     ensures value { IfOk result (λ plan. (text : List (List ℕ)) → (S.shows view.old).present.Is text → effect_of plan ≡ moved text place) }
     ensures lies { IfOk result (λ plan. LiesIn (S.shows view.old).present.lines plan) }
     ensures kept { OnlyReads S.LineStore view.old view.new }
-    ensures cause { HasCause (S.shows view.old).faults (S.shows view.new).faults (IsErrOf result StoreErr.Failed) }
+    ensures cause { StopsAtFault S.LineStore (IsErrOf result StoreErr.Failed) view.old view.new }
 {
     let Place { lines, to } = place;
     let top = lines.before();
@@ -65,7 +64,7 @@ pub(crate) fn copy_lines<S: LineStore>(
     ensures lies { IfOk result (λ plan. LiesIn (S.shows view.old).present.lines plan) }
     ensures late { IfErr result IsLate }
     ensures kept { OnlyReads S.LineStore view.old view.new }
-    ensures cause { HasCause (S.shows view.old).faults (S.shows view.new).faults (IsErrOf result PlanErr.Failed) }
+    ensures cause { StopsAtFault S.LineStore (IsErrOf result PlanErr.Failed) view.old view.new }
 {
     let Place { lines, to } = place;
     let count = lines.size();

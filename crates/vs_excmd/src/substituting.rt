@@ -1,10 +1,9 @@
 // The command that replaces a literal text.
 ghost use Rattle.std.specs.Prelude.{◌≡◌, ◌≤◌, ◌<◌, ◌+◌, ◌*◌, ◌^◌, ◌++◌, ◌∷◌, [], ℕ, List, Bool, true, false, if◌then◌else◌, IfOk, IfErr, OnOk, IsErrOf, IsTrue, Ok, Err, length};
 ghost use Rattle.std.specs.List.{list_any};
-ghost use Rattle.vs_faults.specs.Faults.{HasCause};
 ghost use Rattle.vs_text.specs.Text.{IsLine, bytes_of};
 ghost use Rattle.vs_text.specs.Limits.{IsShort};
-ghost use Rattle.vs_edit.specs.Calls.{OnlyReads};
+ghost use Rattle.vs_edit.specs.Calls.{OnlyReads, StopsAtFault};
 ghost use Rattle.vs_edit.specs.Splices.{cut_out};
 ghost use Rattle.vs_exparse.specs.Bytes.{is_empty};
 ghost use Rattle.vs_exparse.specs.Pieces.{is_pattern, is_replacement};
@@ -111,7 +110,7 @@ fn any_long<S: LineStore>(
     ensures value { IfOk result (λ long. (text : List (List ℕ)) (whole : List ℕ) → (S.shows view.old).present.Is text → StandsIn new.now whole
         → long ≡ list_any (is_long (has_match finder.now) (replaced all finder.now whole)) (cut_out text top count)) }
     ensures kept { OnlyReads S.LineStore view.old view.new }
-    ensures cause { HasCause (S.shows view.old).faults (S.shows view.new).faults (IsErrOf result StoreErr.Failed) }
+    ensures cause { StopsAtFault S.LineStore (IsErrOf result StoreErr.Failed) view.old view.new }
 {
     // called for its contract alone: the number of lines fits 64 bits
     let _ = view.len();
@@ -139,6 +138,7 @@ fn rewrite<S: LineStore>(
     requires valid { S.valid view.old }
     requires within { top + count ≤ (S.shows view.old).present.lines }
     requires some { 0 < length finder.now }
+    requires needle { IsLine finder.now }
     requires new_line { IsLine new.now }
     ensures rewriting { IfOk result (λ state. (text : List (List ℕ)) (whole : List ℕ) → (S.shows view.old).present.Is text → StandsIn new.now whole
         → IsRewriting (has_match finder.now) (replaced all finder.now whole) (cut_out text top count) state.before state.lines.items state.kept) }
@@ -147,18 +147,20 @@ fn rewrite<S: LineStore>(
         → Answers (bounded text (substituted_lines (has_match finder.now) (replaced all finder.now whole) top (cut_out text top count))) (Err e)) }
     ensures late { IfErr result IsLate }
     ensures kept { OnlyReads S.LineStore view.old view.new }
-    ensures cause { HasCause (S.shows view.old).faults (S.shows view.new).faults (IsErrOf result PlanErr.Failed) }
+    ensures cause { StopsAtFault S.LineStore (IsErrOf result PlanErr.Failed) view.old view.new }
 {
+    // called for its contract alone: the number of lines fits 64 bits
+    let _ = view.len();
+    let mut reader = LineReader::new(alloc, top, count);
+    reader.pass_unmatched(alloc, view, finder)?;
+    let before = reader.next() - top;
     let mut state = Rewriting {
-        before: 0,
+        before,
         lines: Vec::new(alloc),
         kept: 0,
         bytes: 0,
     };
-    // called for its contract alone: the number of lines fits 64 bits
-    let _ = view.len();
-    let mut reader = LineReader::new(alloc, top, count);
-    for i in 0..count {
+    for i in before..count {
         reader.advance(alloc, view)?;
         let read = reader.current();
         let found = rewrite_line(alloc, read, finder, new, all)?;
@@ -224,13 +226,14 @@ fn substitute_lines<S: LineStore>(
     requires valid { S.valid view.old }
     requires within { top + count ≤ (S.shows view.old).present.lines }
     requires some { 0 < length finder.now }
+    requires needle { IsLine finder.now }
     requires new_line { IsLine new.now }
     ensures leads { (text : List (List ℕ)) (whole : List ℕ) → (S.shows view.old).present.Is text → StandsIn new.now whole
         → Leads text (substituted_lines (has_match finder.now) (replaced all finder.now whole) top (cut_out text top count)) result }
     ensures lies { IfOk result (λ plan. LiesIn (S.shows view.old).present.lines plan) }
     ensures late { IfErr result IsLate }
     ensures kept { OnlyReads S.LineStore view.old view.new }
-    ensures cause { HasCause (S.shows view.old).faults (S.shows view.new).faults (IsErrOf result PlanErr.Failed) }
+    ensures cause { StopsAtFault S.LineStore (IsErrOf result PlanErr.Failed) view.old view.new }
 {
     let state = rewrite(alloc, view, top, count, finder, new, all)?;
     if is_none(state.lines.as_slice()) {
@@ -256,7 +259,7 @@ pub(crate) fn substitute<S: LineStore>(
     ensures lies { IfOk result (λ plan. LiesIn (S.shows view.old).present.lines plan) }
     ensures late { IfErr result IsLate }
     ensures kept { OnlyReads S.LineStore view.old view.new }
-    ensures cause { HasCause (S.shows view.old).faults (S.shows view.new).faults (IsErrOf result PlanErr.Failed) }
+    ensures cause { StopsAtFault S.LineStore (IsErrOf result PlanErr.Failed) view.old view.new }
 {
     let literal = literal(alloc, pattern)?;
     let new = replacement(alloc, literal.as_slice(), written)?;

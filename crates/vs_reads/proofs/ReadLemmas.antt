@@ -2,7 +2,8 @@
 use Rattle.std.proofs.Common.{◌≡◌, ℕ, ◌<◌, ◌≤◌, ◌+◌, ◌-◌, List, [], ◌∷◌, ◌++◌, length, get_or, take, drop, sym, ap, ◌∙◌, arith, append_assoc, length-append, length-take, length-drop}
 use Rattle.std.proofs.lemmas.List.{take_at, drop_at, drop-drop, drop-take, get_or-take, get_or-drop}
 use Rattle.std.proofs.lemmas.List.Elements.{All-head, All-drop, All-take}
-use Rattle.vs_text.specs.Text.{IsLine, IsText, file_of}
+use Rattle.vs_text.specs.Text.{IsLine, IsText, file_of, lines_of}
+use Rattle.vs_text.proofs.FileForm.{lines_of-file_of}
 use Rattle.vs_text.specs.Limits.{IsShort}
 use Rattle.vs_edit.specs.Splices.{cut_out, HoldsLines}
 use Rattle.vs_reads.specs.declared.reader.LineReader.{LineReader}
@@ -16,7 +17,7 @@ parts : (bytes : List ℕ) (lines : List (List ℕ)) → 0 < length lines → by
 parts bytes [] some is = absurd (omega arith)
 parts bytes (line ∷ after) some is = is
 
-first-length : (bytes : List ℕ) (lines : List (List ℕ)) (len : ℕ) → IsText lines → 0 < length lines → bytes ≡ file_of lines → IsFirstLength bytes len → len ≡ length (get_or lines 0 [])
+pub first-length : (bytes : List ℕ) (lines : List (List ℕ)) (len : ℕ) → IsText lines → 0 < length lines → bytes ≡ file_of lines → IsFirstLength bytes len → len ≡ length (get_or lines 0 [])
 first-length bytes [] len text some is found = absurd (omega arith)
 first-length bytes (line ∷ after) len text some is found = found line after (All-head IsLine line after text) is
 
@@ -53,6 +54,17 @@ holds-rest n len bytes rest some holds found is = record {
   form = is ∙ first-rest bytes holds.lines len holds.is_text (omega (arith, some, holds.counted)) holds.form found;
 }
 
+-- how many bytes there are
+pub first-size : (bytes rest : List ℕ) (lines : List (List ℕ)) → 0 < length lines → bytes ≡ file_of lines → rest ≡ file_of (drop 1 lines) → length bytes ≡ length (get_or lines 0 []) + 1 + length rest
+first-size bytes rest lines some is rest_is =
+    omega (
+      arith,
+      ap (λ (l : List ℕ). length l) (parts bytes lines some is),
+      length-append (get_or lines 0 [] ++ 10 ∷ []) (file_of (drop 1 lines)),
+      length-append (get_or lines 0 []) (10 ∷ []),
+      ap (λ (l : List ℕ). length l) rest_is,
+    )
+
 -- some lines have bytes
 pub some-bytes : (bytes : List ℕ) (lines : List (List ℕ)) → 0 < length lines → bytes ≡ file_of lines → 0 < length bytes
 some-bytes bytes lines some is =
@@ -68,6 +80,20 @@ copied-some text at held below some = omega (arith, below, some, length-take hel
 -- the first of them
 pub copied-first : (line : List ℕ) (text : List (List ℕ)) (at held now : ℕ) → 0 < held → now ≡ at → line ≡ get_or (cut_out text now held) 0 [] → line ≡ get_or text at []
 copied-first line text at held now some same is = is ∙ get_or-take held (drop now text) 0 [] some ∙ get_or-drop now text 0 [] ∙ ap (λ i. get_or text i []) (omega (arith, same))
+
+-- as many lines are copied as are held
+pub copied-count : (bytes : List ℕ) (text : List (List ℕ)) (at held : ℕ) → IsText text → (holds : HoldsLines held bytes) → bytes ≡ file_of (cut_out text at held) → length (cut_out text at held) ≡ held
+copied-count bytes text at held is_text holds is =
+    let cut = cut_out text at held in
+    ap (λ (xs : List (List ℕ)). length xs) (sym (lines_of-file_of cut (copied-text text at held is_text)) ∙ ap lines_of (sym is ∙ holds.form) ∙ lines_of-file_of holds.lines holds.is_text)
+    ∙ holds.counted
+
+-- those after the first ones
+pub copied-later : (text : List (List ℕ)) (at held count next left : ℕ) → count ≤ held → next ≡ at + count → left ≡ held - count → file_of (drop count (cut_out text at held)) ≡ file_of (cut_out text next left)
+copied-later text at held count next left within next_is left_is =
+    let size : held ≡ count + left = omega (arith, within, left_is) in
+    ap file_of (ap (λ n. drop count (take n (drop at text))) size ∙ drop-take count left (drop at text)
+    ∙ ap (take left) (drop-drop count at text ∙ ap (λ n. drop n text) (sym next_is)))
 
 -- those after the first
 pub copied-rest : (text : List (List ℕ)) (at held next left : ℕ) → 0 < held → next ≡ at + 1 → left ≡ held - 1 → file_of (drop 1 (cut_out text at held)) ≡ file_of (cut_out text next left)

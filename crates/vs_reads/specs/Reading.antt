@@ -1,5 +1,5 @@
 -- Lines that are read one after another, from runs that were copied from a store.
-use Rattle.std.specs.Prelude.{ℕ, ◌≡◌, ◌≤◌, ◌-◌, List, drop, length, take}
+use Rattle.std.specs.Prelude.{ℕ, ◌≡◌, ◌≤◌, ◌+◌, ◌-◌, List, drop, length, take}
 use Rattle.vs_text.specs.Text.{file_of}
 use Rattle.vs_edit.specs.Splices.{cut_out, HoldsLines}
 use Rattle.vs_reads.specs.declared.reader.LineReader.{LineReader}
@@ -25,3 +25,7 @@ pub record IsAt (reader : LineReader) (at end : ℕ) : Type 0 where
 -- What a reader has copied are the lines of the text that it reads next.
 abbrev pub HasCopied : List (List ℕ) → LineReader → Type 0
 HasCopied text reader = rest_of reader ≡ file_of (cut_out text reader.at reader.held)
+
+-- The lines that are held come before the one before which the reader stops.
+abbrev pub StopsWithin : LineReader → Type 0
+StopsWithin reader = reader.at + reader.held ≤ reader.end

@@ -4,9 +4,11 @@
 #![tactic(auto)]
 
 mod lines;
+mod newline;
 mod reader;
 mod runs;
 
 pub use lines::{bytes_in, push_lines};
+pub use newline::line_len;
 pub use reader::LineReader;
 pub use runs::{FIRST_RUN_LINES, MAX_RUN_LINES, RUN_BYTES, run_lines};

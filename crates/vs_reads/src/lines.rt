@@ -1,9 +1,8 @@
 // Lines that are copied out of a store, and how many bytes they have.
 ghost use Rattle.std.specs.Prelude.{◌≡◌, ◌≤◌, ◌+◌, ◌++◌, ℕ, List, All, IfOk, IsErrOf, OnOk, length};
-ghost use Rattle.vs_faults.specs.Faults.{HasCause};
 ghost use Rattle.vs_text.specs.Text.{bytes_of};
 ghost use Rattle.vs_text.specs.Limits.{IsShort};
-ghost use Rattle.vs_edit.specs.Calls.{OnlyReads};
+ghost use Rattle.vs_edit.specs.Calls.{OnlyReads, StopsAtFault};
 ghost use Rattle.vs_edit.specs.Splices.{cut_out};
 
 use crate::LineReader;
@@ -28,7 +27,7 @@ pub fn push_lines<S: LineStore>(
     ensures count { OnOk result (length into.new.items ≡ length into.old.items + count) }
     ensures short { OnOk result (All IsShort into.old.items → All IsShort into.new.items) }
     ensures kept { OnlyReads S.LineStore view.old view.new }
-    ensures cause { HasCause (S.shows view.old).faults (S.shows view.new).faults (IsErrOf result StoreErr.Failed) }
+    ensures cause { StopsAtFault S.LineStore (IsErrOf result StoreErr.Failed) view.old view.new }
 {
     let _ = view.len();
     let mut reader = LineReader::new(alloc, top, count);
@@ -54,7 +53,7 @@ pub fn bytes_in<S: LineStore>(
     requires within { top + count ≤ (S.shows view.old).present.lines }
     ensures bytes { IfOk result (λ bytes. (text : List (List ℕ)) → (S.shows view.old).present.Is text → bytes ≡ bytes_of (cut_out text top count)) }
     ensures kept { OnlyReads S.LineStore view.old view.new }
-    ensures cause { HasCause (S.shows view.old).faults (S.shows view.new).faults (IsErrOf result StoreErr.Failed) }
+    ensures cause { StopsAtFault S.LineStore (IsErrOf result StoreErr.Failed) view.old view.new }
 {
     let _ = view.len();
     let mut reader = LineReader::new(alloc, top, count);

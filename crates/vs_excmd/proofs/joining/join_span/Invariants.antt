@@ -1,4 +1,4 @@
-use Rattle.std.proofs.Common.{◌≡◌, ◌≤◌, ◌+◌, ◌-◌, ℕ, List}
+use Rattle.std.proofs.Common.{◌≡◌, ◌+◌, ◌-◌, ℕ, List}
 use Rattle.vs_text.specs.Text.{IsLine}
 use Rattle.vs_edit.specs.Calls.{OnlyReads}
 use Rattle.vs_edit.specs.Splices.{cut_out}
@@ -13,5 +13,5 @@ invariant-loop g l = let old = l.fn.view in record {
   at : IsAt l.reader (l.first + l.counter) l.last;
   copied : (text : List (List ℕ)) → (g.S.LineStore.shows old).present.Is text → HasCopied text l.reader;
   kept : OnlyReads g.S.LineStore old l.view;
-  faults : (g.S.LineStore.shows old).faults ≤ (g.S.LineStore.shows l.view).faults;
+  faults : (g.S.LineStore.shows l.view).faults ≡ (g.S.LineStore.shows old).faults;
 }

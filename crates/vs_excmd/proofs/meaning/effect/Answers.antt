@@ -1,6 +1,5 @@
 -- The command that is matched is the one that was given.
 use Rattle.std.proofs.Common.{sym, subst}
-use Rattle.vs_faults.proofs.Causes.{cause_none}
 use Rattle.vs_edit.proofs.Steps.{OnlyReads-none}
 use Rattle.vs_exparse.specs.Command.{command_of}
 use Rattle.vs_excmd.specs.Answer.{Leads}
@@ -23,20 +22,11 @@ returns-in-Change-clause-kept g c = OnlyReads-none g.met.S.LineStore.stays_itsel
 pub returns-in-Delete-clause-kept : goal.returns-in-Delete-clause-kept
 returns-in-Delete-clause-kept g c = OnlyReads-none g.met.S.LineStore.stays_itself c.requires.valid
 
-pub returns-in-Append-clause-cause : goal.returns-in-Append-clause-cause
-returns-in-Append-clause-cause g c = cause_none c.put_block.ensures.never_failed
-
 pub returns-in-Append-clause-late : goal.returns-in-Append-clause-late
 returns-in-Append-clause-late g c = c.put_block.ensures.late
 
-pub returns-in-Insert-clause-cause : goal.returns-in-Insert-clause-cause
-returns-in-Insert-clause-cause g c = cause_none c.put_block-in-Insert.ensures.never_failed
-
 pub returns-in-Insert-clause-late : goal.returns-in-Insert-clause-late
 returns-in-Insert-clause-late g c = c.put_block-in-Insert.ensures.late
-
-pub returns-in-Change-clause-cause : goal.returns-in-Change-clause-cause
-returns-in-Change-clause-cause g c = cause_none c.put_block-in-Change.ensures.never_failed
 
 pub returns-in-Change-clause-late : goal.returns-in-Change-clause-late
 returns-in-Change-clause-late g c = c.put_block-in-Change.ensures.late
@@ -50,9 +40,6 @@ returns-in-Join-clause-late g c = c.join_lines.ensures.late
 pub returns-in-Join-clause-kept : goal.returns-in-Join-clause-kept
 returns-in-Join-clause-kept g c = c.join_lines.ensures.kept
 
-pub returns-in-Join-clause-cause : goal.returns-in-Join-clause-cause
-returns-in-Join-clause-cause g c = c.join_lines.ensures.cause
-
 pub returns-in-Substitute-clause-lies : goal.returns-in-Substitute-clause-lies
 returns-in-Substitute-clause-lies g c = c.substitute.ensures.lies
 
@@ -61,6 +48,3 @@ returns-in-Substitute-clause-late g c = c.substitute.ensures.late
 
 pub returns-in-Substitute-clause-kept : goal.returns-in-Substitute-clause-kept
 returns-in-Substitute-clause-kept g c = c.substitute.ensures.kept
-
-pub returns-in-Substitute-clause-cause : goal.returns-in-Substitute-clause-cause
-returns-in-Substitute-clause-cause g c = c.substitute.ensures.cause

@@ -1,4 +1,4 @@
-use Rattle.std.proofs.Common.{◌≡◌, ◌≤◌, ◌+◌, ℕ, List, false}
+use Rattle.std.proofs.Common.{◌≡◌, ◌+◌, ℕ, List, false}
 use Rattle.std.specs.List.{list_any}
 use Rattle.vs_edit.specs.Calls.{OnlyReads}
 use Rattle.vs_edit.specs.Splices.{cut_out}
@@ -14,5 +14,5 @@ invariant-loop g l = let old = l.fn.view in record {
   at : IsAt l.reader (l.top + l.counter) (l.top + l.count);
   copied : (text : List (List ℕ)) → (g.S.LineStore.shows old).present.Is text → HasCopied text l.reader;
   kept : OnlyReads g.S.LineStore old l.view;
-  faults : (g.S.LineStore.shows old).faults ≤ (g.S.LineStore.shows l.view).faults;
+  faults : (g.S.LineStore.shows l.view).faults ≡ (g.S.LineStore.shows old).faults;
 }

@@ -10,6 +10,7 @@ use Rattle.vs_excmd.proofs.substituting.rewrite.Given as goal
 
 abbrev pub invariant-loop-i : goal.invariant-loop-i
 invariant-loop-i g l = let old = l.fn.view in record {
+  within : l.i ≤ l.count;
   few : l.state.before + length l.state.lines.items ≤ l.i;
   few_bytes : l.state.bytes ≤ 1048577 * l.i;
   counted : l.state.bytes ≡ bytes_of l.state.lines.items;
@@ -20,5 +21,5 @@ invariant-loop-i g l = let old = l.fn.view in record {
   at : IsAt l.reader (l.top + l.i) (l.top + l.count);
   copied : (text : List (List ℕ)) → (g.S.LineStore.shows old).present.Is text → HasCopied text l.reader;
   kept : OnlyReads g.S.LineStore old l.view;
-  faults : (g.S.LineStore.shows old).faults ≤ (g.S.LineStore.shows l.view).faults;
+  faults : (g.S.LineStore.shows l.view).faults ≡ (g.S.LineStore.shows old).faults;
 }

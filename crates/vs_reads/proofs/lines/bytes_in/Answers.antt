@@ -1,5 +1,5 @@
 -- Each turn counts the bytes of one line more.
-use Rattle.std.proofs.Common.{◌<◌, ◌+◌, ap, arith, length}
+use Rattle.std.proofs.Common.{◌∙◌, ◌<◌, ◌+◌, ap, arith, length}
 use Rattle.vs_edit.proofs.Steps.{OnlyReads-trans}
 use Rattle.vs_reads.specs.Reading.{line_of}
 use Rattle.vs_reads.proofs.CutLemmas.{bytes-more}
@@ -23,7 +23,7 @@ loop-preserved g c =
       at = next-at c.loop.reader c.advance.new.self at end (c.args.top + (c.loop.counter + 1)) before.at read.at (omega arith);
       copied = λ text has. read.copied text (before.kept.present.text text has) (before.copied text has);
       kept = OnlyReads-trans law.stays_on before.kept read.kept;
-      faults = omega (arith, before.faults, read.cause.later);
+      faults = read.cause.none (λ failed. absurd (cc)) ∙ before.faults;
     }
 
 pub returns-in_err-advance-clause-kept : goal.returns-in_err-advance-clause-kept

@@ -12,5 +12,5 @@ invariant-loop g l = let old = l.fn.view in record {
   at : IsAt l.reader (l.top + l.counter) (l.top + l.count);
   copied : (text : List (List ℕ)) → (g.S.LineStore.shows old).present.Is text → HasCopied text l.reader;
   kept : OnlyReads g.S.LineStore old l.view;
-  faults : (g.S.LineStore.shows old).faults ≤ (g.S.LineStore.shows l.view).faults;
+  faults : (g.S.LineStore.shows l.view).faults ≡ (g.S.LineStore.shows old).faults;
 }

@@ -1,7 +1,6 @@
 -- Each turn reads one line more.
-use Rattle.std.proofs.Common.{◌≡◌, ◌<◌, ◌+◌, ◌++◌, ◌∙◌, arith, rules, length, subst, sym}
+use Rattle.std.proofs.Common.{◌≡◌, ◌<◌, ◌+◌, ◌++◌, ◌∙◌, arith, length, subst, sym}
 use Rattle.vs_text.specs.Text.{IsLine}
-use Rattle.vs_faults.proofs.Causes.{cause_none, risen_after}
 use Rattle.vs_edit.specs.Splices.{cut_out}
 use Rattle.vs_edit.proofs.Steps.{OnlyReads-none, OnlyReads-trans}
 use Rattle.vs_reads.specs.Reading.{line_of}
@@ -31,26 +30,17 @@ loop-preserved g c =
       at = next-at c.loop.reader c.advance.new.self at end (c.args.top + (c.loop.counter + 1)) before.at read.at (omega arith);
       copied = λ text has. read.copied text (before.kept.present.text text has) (before.copied text has);
       kept = OnlyReads-trans law.stays_on before.kept read.kept;
-      faults = omega (arith, before.faults, read.cause.later);
+      faults = read.cause.none (λ failed. absurd (cc)) ∙ before.faults;
     }
 
 pub returns-in_err-reserve-clause-kept : goal.returns-in_err-reserve-clause-kept
 returns-in_err-reserve-clause-kept g c = OnlyReads-none g.met.S.LineStore.stays_itself c.requires.valid
 
-pub returns-in_err-reserve-clause-cause : goal.returns-in_err-reserve-clause-cause
-returns-in_err-reserve-clause-cause g c = cause_none (λ failed. absurd (search rules))
-
 pub returns-in_err-advance-clause-kept : goal.returns-in_err-advance-clause-kept
 returns-in_err-advance-clause-kept g c = OnlyReads-trans g.met.S.LineStore.stays_on c.loop.invariant.kept c.advance.ensures.kept
 
-pub returns-in_err-advance-clause-cause : goal.returns-in_err-advance-clause-cause
-returns-in_err-advance-clause-cause g c = record { later = omega (arith, c.loop.invariant.faults, c.advance.ensures.cause.later); risen = λ failed. risen_after c.loop.invariant.faults (c.advance.ensures.cause.risen (search rules)) }
-
 pub returns-in_err-push-clause-kept : goal.returns-in_err-push-clause-kept
 returns-in_err-push-clause-kept g c = OnlyReads-trans g.met.S.LineStore.stays_on c.loop.invariant.kept c.in_ok-advance.ensures.kept
-
-pub returns-in_err-push-clause-cause : goal.returns-in_err-push-clause-cause
-returns-in_err-push-clause-cause g c = record { later = omega (arith, c.loop.invariant.faults, c.advance.ensures.cause.later); risen = λ failed. absurd (search rules) }
 
 pub returns-clause-lines : goal.returns-clause-lines
 returns-clause-lines g c = λ text has. subst (λ k. c.loop.into.items ≡ c.args.into.now.items ++ cut_out text c.args.top k) (omega arith) (c.loop.invariant.lines text has)
@@ -64,11 +54,5 @@ returns-clause-short g c = c.loop.invariant.short
 pub returns-clause-kept : goal.returns-clause-kept
 returns-clause-kept g c = c.loop.invariant.kept
 
-pub returns-clause-cause : goal.returns-clause-cause
-returns-clause-cause g c = record { later = c.loop.invariant.faults; risen = λ failed. absurd (search rules) }
-
 pub returns-in_err-line-clause-kept : goal.returns-in_err-line-clause-kept
 returns-in_err-line-clause-kept g c = OnlyReads-trans g.met.S.LineStore.stays_on c.loop.invariant.kept c.in_ok-advance.ensures.kept
-
-pub returns-in_err-line-clause-cause : goal.returns-in_err-line-clause-cause
-returns-in_err-line-clause-cause g c = record { later = omega (arith, c.loop.invariant.faults, c.advance.ensures.cause.later); risen = λ failed. absurd (search rules) }
