@@ -69,6 +69,10 @@ module _ (below : TextState) where
     text = λ text has. second.text text has ∙ first.text text has;
   }
 
+  -- the lines are the same, however they are kept
+  pub more-same : (a b : Held) (lines : List (List ℕ)) → lines ≡ b.lines → HoldsMore below a b → HoldsMore below a (record b { lines = lines })
+  more-same a b lines is more = subst (λ (l : List (List ℕ)). HoldsMore below a (record b { lines = l })) (sym is) more
+
   pub more-before : (other : TextState) (a b : Held) → SameText below other → HoldsMore other a b → HoldsMore below a b
   more-before other a b same more = record {
     within = omega (arith, more.within, same.lines);

@@ -1,2 +1,4 @@
-mod GapLemmas
-mod HeldLemmas
+pub mod AheadLemmas
+pub mod GapLemmas
+pub mod HeldLemmas
+pub mod LinesLemmas

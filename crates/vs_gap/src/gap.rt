@@ -1,5 +1,5 @@
 // A list of lines with two gaps.
-ghost use Rattle.std.specs.Prelude.{◌≡◌, ◌≤◌, ◌<◌, ◌+◌, ◌-◌, ◌++◌, ◌^◌, [], ℕ, List, IfOk, IsTrue, OnErr, OnOk, drop, get_or, length, max, min, take};
+ghost use Rattle.std.specs.Prelude.{◌≡◌, ◌≤◌, ◌<◌, ◌+◌, ◌-◌, ◌++◌, ◌∷◌, ◌^◌, [], ℕ, List, IfOk, IsTrue, OnErr, OnOk, drop, get_or, length, max, min, take};
 ghost use Rattle.vs_text.specs.Text.{IsText, bytes_of, file_of};
 ghost use Rattle.vs_edit.specs.Splices.{cut_out, splice};
 
@@ -111,36 +111,22 @@ fn take_away(lines: &mut VecDeque<Line>, count: usize) -> u64
     bytes
 }
 
-// Puts copies of lines after those before a gap. After an `Err` some of them may stand there.
-fn push_copies(before: &mut VecDeque<Line>, lines: &[Line]) -> Result<(), AllocError>
-    ensures ok { OnOk result (before.new.items ≡ before.old.items ++ lines.now) }
-    ensures err { OnErr result (take (length before.old.items) before.new.items ≡ before.old.items) }
-{
-    for line in lines {
-        before.push_back(line.clone()?)?;
-    }
-    Ok(())
-}
-
-// Puts copies of new lines in the place of others. Gives the number of bytes of those that went, as far as 64 bits go. After an `Err`
-// the lines are as before.
+// Puts new lines in the place of others. Gives the number of bytes of those that went, as far as 64 bits go. After an `Err` the lines
+// are as before.
 fn exchange(
     before: &mut VecDeque<Line>,
     after: &mut VecDeque<Line>,
     at: usize,
     old: usize,
-    new: &[Line],
+    new: Vec<Line>,
 ) -> Result<u64, AllocError>
     requires { at + old ≤ length before.old.items + length after.old.items }
-    ensures lines { OnOk result (before.new.items ++ after.new.items ≡ splice (before.old.items ++ after.old.items) at old new.now) }
+    ensures lines { OnOk result (before.new.items ++ after.new.items ≡ splice (before.old.items ++ after.old.items) at old new.items) }
     ensures gone { IfOk result (λ gone. gone ≡ min (bytes_of (cut_out (before.old.items ++ after.old.items) at old)) (2 ^ 64 - 1)) }
     ensures err { OnErr result (before.new.items ++ after.new.items ≡ before.old.items ++ after.old.items) }
 {
     move_gap(before, after, at)?;
-    if let Err(error) = push_copies(before, new) {
-        before.truncate(at);
-        return Err(error);
-    }
+    before.append(&mut VecDeque::from(new))?;
     Ok(take_away(after, old))
 }
 
@@ -250,11 +236,11 @@ impl GapLines {
         })
     }
 
-    /// Puts copies of new lines in the place of `old` lines from line `at` on. Gives the number of bytes of those that went, as far as
-    /// 64 bits go. After an `Err` the lines are as before.
-    pub fn splice(&mut self, at: usize, old: usize, new: &[Line]) -> Result<u64, AllocError>
+    /// Puts new lines in the place of `old` lines from line `at` on. Gives the number of bytes of those that went, as far as 64 bits
+    /// go. After an `Err` the lines are as before.
+    pub fn splice(&mut self, at: usize, old: usize, new: Vec<Line>) -> Result<u64, AllocError>
         requires { at + old ≤ length self.old }
-        ensures lines { OnOk result (self.new ≡ splice self.old at old new.now) }
+        ensures lines { OnOk result (self.new ≡ splice self.old at old new.items) }
         ensures gone { IfOk result (λ gone. gone ≡ min (bytes_of (cut_out self.old at old)) (2 ^ 64 - 1)) }
         ensures err { OnErr result (self.new ≡ self.old) }
     {
@@ -277,11 +263,12 @@ impl GapLines {
         Ok(())
     }
 
-    /// Puts lines after the last one. After an `Err` the lines are as before.
-    pub fn append(&mut self, lines: Vec<Line>) -> Result<(), AllocError>
-        ensures ok { OnOk result (self.new ≡ self.old ++ lines.items) }
+    /// Puts a line after the last one. After an `Err` the lines are as before.
+    pub fn push(&mut self, line: Line) -> Result<(), AllocError>
+        ensures ok { OnOk result (self.new ≡ self.old ++ line ∷ []) }
         ensures err { OnErr result (self.new ≡ self.old) }
     {
-        self.after.append(&mut VecDeque::from(lines))
+        self.after.push_back(line)?;
+        Ok(())
     }
 }

@@ -1,13 +1,13 @@
 // Lines of a store that are held, and may be changed, while the store stays as it is.
 ghost use Rattle.std.specs.Prelude.{◌≡◌, ◌≤◌, ◌<◌, ◌⊎◌, ◌+◌, ◌-◌, ◌^◌, [], ℕ, List, IfOk, IfSome, IsErrOf, OnErr, OnOk, length};
-ghost use Rattle.vs_faults.specs.Faults.{HasCause};
 ghost use Rattle.vs_text.specs.declared.TheConstants.{MAX_LINES};
-ghost use Rattle.vs_edit.specs.Calls.{OnlyReads};
+ghost use Rattle.vs_edit.specs.Calls.{OnlyReads, StopsAtFault};
 ghost use Rattle.vs_edit.specs.Splices.{cut_out};
 ghost use Rattle.vs_edit.specs.State.{SameText};
 ghost use Rattle.vs_gap.specs.Held.{HoldsMore, IsExchanged, IsHeld, lines_with, shown, with_held};
 
-use crate::gap::{GapLines, bytes_in};
+use crate::gap::bytes_in;
+use crate::lines::HeldLines;
 use std::alloc::{AllocError, Global};
 use vs_edit::{LineStore, StoreErr};
 use vs_reads::push_lines;
@@ -22,7 +22,7 @@ pub struct Held {
     /// The first of the lines in whose place they stand, counted from 0, and how many those are.
     pub top: u64,
     pub replaced: u64,
-    pub lines: GapLines,
+    pub lines: HeldLines,
     pub bytes: u64,
 }
 
@@ -37,7 +37,7 @@ impl Held {
         Held {
             top: 0,
             replaced: 0,
-            lines: GapLines::new(alloc),
+            lines: HeldLines::new(alloc),
             bytes: store.bytes(),
         }
     }
@@ -54,21 +54,28 @@ impl Held {
         })
     }
 
-    /// Puts copies of new lines in the place of `old` lines from line `top` of the text on. After an `Err` the lines are as before.
-    pub fn exchange(&mut self, top: u64, old: u64, new: &[Line]) -> Result<(), AllocError>
+    /// Puts new lines in the place of `old` lines from line `top` of the text on. After an `Err` the lines are as before.
+    pub fn exchange(
+        &mut self,
+        alloc: Global,
+        top: u64,
+        old: u64,
+        new: Vec<Line>,
+    ) -> Result<(), AllocError>
         requires from { self.old.top ≤ top }
         requires to { top + old ≤ self.old.top + length self.old.lines }
         requires few { length self.old.lines < 2 ^ 32 }
-        ensures ok { OnOk result (IsExchanged self.old top old new.now self.new) }
+        ensures ok { OnOk result (IsExchanged self.old top old new.items self.new) }
         ensures err { OnErr result (self.new ≡ self.old) }
     {
+        let more = bytes_in(&new);
         let gone = self
             .lines
-            .splice((top - self.top) as usize, old as usize, new)?;
+            .splice(alloc, (top - self.top) as usize, old as usize, new)?;
         self.bytes = self
             .bytes
             .saturating_sub(gone)
-            .saturating_add(bytes_in(new))
+            .saturating_add(more)
             .min(MAX_TEXT_BYTES);
         Ok(())
     }
@@ -125,7 +132,7 @@ fn hold_from<S: LineStore>(
     ensures holds { OnOk result (held.new.top ≤ top) }
     ensures more { HoldsMore (S.shows below.old).present held.old held.new }
     ensures kept { OnlyReads S.LineStore below.old below.new }
-    ensures cause { HasCause (S.shows below.old).faults (S.shows below.new).faults (IsErrOf result StoreErr.Failed) }
+    ensures cause { StopsAtFault S.LineStore (IsErrOf result StoreErr.Failed) below.old below.new }
 {
     // called for its contract alone: the number of lines fits 64 bits
     let _ = below.len();
@@ -156,7 +163,7 @@ fn hold_to<S: LineStore>(
     ensures top { OnOk result (held.new.top ≡ held.old.top) }
     ensures more { HoldsMore (S.shows below.old).present held.old held.new }
     ensures kept { OnlyReads S.LineStore below.old below.new }
-    ensures cause { HasCause (S.shows below.old).faults (S.shows below.new).faults (IsErrOf result StoreErr.Failed) }
+    ensures cause { StopsAtFault S.LineStore (IsErrOf result StoreErr.Failed) below.old below.new }
 {
     let lines = below.len();
     let held_to = held.top + held.lines.len() as u64;
@@ -166,8 +173,8 @@ fn hold_to<S: LineStore>(
     let next = held.top + held.replaced;
     let count = (end - held_to + LINES_AHEAD).min(lines - next);
     let mut more = Vec::new(alloc);
-    push_lines(alloc, below, next, count, &mut more)?;
-    held.lines.append(more)?;
+    below.copy_lines(alloc, next, count, &mut more)?;
+    held.lines.append(&more, count as usize)?;
     held.replaced += count;
     Ok(())
 }
@@ -199,11 +206,12 @@ pub(crate) fn hold<S: LineStore>(
     ensures to { OnOk result (top + count ≤ held.new.top + length held.new.lines) }
     ensures more { HoldsMore (S.shows below.old).present held.old held.new }
     ensures kept { OnlyReads S.LineStore below.old below.new }
-    ensures cause { HasCause (S.shows below.old).faults (S.shows below.new).faults (IsErrOf result StoreErr.Failed) }
+    ensures cause { StopsAtFault S.LineStore (IsErrOf result StoreErr.Failed) below.old below.new }
 {
     let _ = below.len();
     seat(held, top);
     hold_from(alloc, held, below, top)?;
     hold_to(alloc, held, below, top + count)?;
+    held.lines.reach(alloc, (top - held.top) as usize)?;
     Ok(())
 }

@@ -2,10 +2,14 @@
 //! with two gaps, so that a change costs no more than the way of the nearer gap to its place.
 #![tactic(auto)]
 
+mod ahead;
 mod gap;
 mod held;
+mod lines;
 mod store;
 
+pub use ahead::Ahead;
 pub use gap::GapLines;
 pub use held::Held;
+pub use lines::HeldLines;
 pub use store::{GapStore, LineGiver, Overlay};

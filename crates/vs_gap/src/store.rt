@@ -1,13 +1,13 @@
 // A store that holds the lines of another that are changed.
 ghost use Rattle.std.specs.Prelude.{◌≡◌, ◌≤◌, ◌+◌, ℕ, List, All, Some, None, IfNone, IfOk, IfSome, IsErrOf, OnErr, OnOk, OnSome, length};
-ghost use Rattle.vs_faults.specs.Faults.{HasCause};
+ghost use Rattle.vs_faults.specs.OneCause.{HasOneCause};
 ghost use Rattle.vs_text.specs.Limits.{IsShort};
 ghost use Rattle.vs_edit.specs.Splices.{cut_out};
-ghost use Rattle.vs_edit.specs.State.{KeepsCommitted};
+ghost use Rattle.vs_edit.specs.State.{AllowsSplice, IsSpliced, KeepsCommitted, SameText};
 ghost use Rattle.vs_gap.specs.Held.{committed_of};
 
-use crate::gap::GapLines;
 use crate::held::{Held, hold, place_below, place_held};
+use crate::lines::HeldLines;
 use std::alloc::{AllocError, Global};
 use std::mem;
 use vs_edit::{LineStore, StoreErr};
@@ -22,8 +22,24 @@ pub struct Overlay {
     pub committed: Option<Held>,
 }
 
-/// A store that may give lines of its text away.
+/// A store that may take lines in the memory that they have, and give lines of its text away.
 pub trait LineGiver: LineStore {
+    /// Puts new lines in the place of `old` lines from line `top` on, where the result is within the limits. After an `Err` the text is
+    /// as before.
+    fn take_splice(
+        &mut self,
+        alloc: Global,
+        top: u64,
+        old: u64,
+        new: Vec<Line>,
+    ) -> Result<(), StoreErr>
+        requires valid { Self.valid self.old }
+        requires allowed { AllowsSplice (Self.shows self.old).present top old new.items }
+        ensures ok { OnOk result (IsSpliced (Self.shows self.old).present top old new.items (Self.shows self.new).present) }
+        ensures same { OnErr result (SameText (Self.shows self.old).present (Self.shows self.new).present) }
+        ensures kept { KeepsCommitted Self.shows Self.valid Self.stays self.old self.new }
+        ensures cause { HasOneCause (Self.shows self.old).faults (Self.shows self.new).faults (Self.earlier self.new) (IsErrOf result StoreErr.Failed) };
+
     /// `count` lines from line `top` on. The store goes back to no more than its committed text: it is to be rolled back, or let go.
     fn give_lines(&mut self, alloc: Global, top: u64, count: u64) -> Result<Vec<Line>, StoreErr>
         requires valid { Self.valid self.old }
@@ -32,7 +48,7 @@ pub trait LineGiver: LineStore {
         ensures count { IfOk result (λ lines. length lines.items ≡ count) }
         ensures short { IfOk result (λ lines. All IsShort lines.items) }
         ensures kept { KeepsCommitted Self.shows Self.valid Self.stays self.old self.new }
-        ensures cause { HasCause (Self.shows self.old).faults (Self.shows self.new).faults (IsErrOf result StoreErr.Failed) };
+        ensures cause { HasOneCause (Self.shows self.old).faults (Self.shows self.new).faults (Self.earlier self.new) (IsErrOf result StoreErr.Failed) };
 }
 
 /// A store over another, which it only reads. It holds the lines from the first that was changed to the last one, and those that were
@@ -42,6 +58,17 @@ pub trait LineGiver: LineStore {
 pub struct GapStore<'s, S: LineStore> {
     pub below: &'s mut S,
     pub overlay: &'s mut Overlay,
+}
+
+// Lines with memory of their own.
+fn copies(alloc: Global, lines: &[Line]) -> Result<Vec<Line>, AllocError>
+    ensures { IfOk result (λ copies. copies.items ≡ lines.now) }
+{
+    let mut copies = Vec::with_capacity(alloc, lines.len())?;
+    for line in lines {
+        copies.push(line.clone()?)?;
+    }
+    Ok(copies)
 }
 
 impl Overlay {
@@ -58,7 +85,7 @@ impl Overlay {
     }
 
     // Goes back to what was committed, where something else may be held, and gives the lines that were held.
-    fn let_go(&mut self) -> Option<GapLines>
+    fn let_go(&mut self) -> Option<HeldLines>
         ensures some { IfSome result (λ lines. lines ≡ self.old.present.lines) }
         ensures present { OnSome result (self.new.present ≡ committed_of self.old.present self.old.committed) }
         ensures committed { OnSome result (self.new.committed ≡ None) }
@@ -90,6 +117,8 @@ impl<'s, S: LineStore> LineStore for GapStore<'s, S> {
     ghost stays = { λ a b. (b.below.ghost_name ≡ a.below.ghost_name) × S.stays a.below.now b.below.now
         × SameText (S.shows a.below.now).present (S.shows b.below.now).present
         × SameText (S.shows a.below.now).committed (S.shows b.below.now).committed };
+
+    ghost earlier = { λ s. S.earlier s.below.now };
 
     ghost tells_one = { λ s v told. told_with (S.shows s.below.now).present s.overlay.now.present v.1 (S.tells_one s.below.now v.0 told) };
 
@@ -134,7 +163,7 @@ impl<'s, S: LineStore> LineStore for GapStore<'s, S> {
             return self.below.line(alloc, place, into);
         }
         into.clear();
-        into.extend_from_slice(held.lines.line(past as usize).bytes())?;
+        into.extend_from_slice(held.lines.line(past as usize))?;
         Ok(())
     }
 
@@ -156,10 +185,8 @@ impl<'s, S: LineStore> LineStore for GapStore<'s, S> {
     }
 
     fn splice(&mut self, alloc: Global, top: u64, old: u64, new: &[Line]) -> Result<(), StoreErr> {
-        self.overlay.keep_committed()?;
-        hold(alloc, &mut self.overlay.present, self.below, top, old)?;
-        self.overlay.present.exchange(top, old, new)?;
-        Ok(())
+        let new = copies(alloc, new)?;
+        self.take_splice(alloc, top, old, new)
     }
 
     fn commit(&mut self) {
@@ -174,11 +201,24 @@ impl<'s, S: LineStore> LineStore for GapStore<'s, S> {
 }
 
 impl<'s, S: LineStore> LineGiver for GapStore<'s, S> {
+    fn take_splice(
+        &mut self,
+        alloc: Global,
+        top: u64,
+        old: u64,
+        new: Vec<Line>,
+    ) -> Result<(), StoreErr> {
+        self.overlay.keep_committed()?;
+        hold(alloc, &mut self.overlay.present, self.below, top, old)?;
+        self.overlay.present.exchange(alloc, top, old, new)?;
+        Ok(())
+    }
+
     fn give_lines(&mut self, alloc: Global, top: u64, count: u64) -> Result<Vec<Line>, StoreErr> {
         if let Some(place) = place_held(&self.overlay.present, top, count)
             && let Some(lines) = self.overlay.let_go()
         {
-            return Ok(lines.into_lines(place, count as usize)?);
+            return Ok(lines.into_lines(alloc, place, count as usize)?);
         }
         let mut new = Vec::new(alloc);
         push_lines(alloc, self, top, count, &mut new)?;

@@ -1,6 +1,5 @@
 -- The whole of a global command, by its parts.
 use Rattle.std.proofs.Common.{◌≡◌, ◌∙◌, ℕ, ◌-◌, Bool, not, List, length, Option, Some, None, Result, Ok, Err, refl, ap, sym, subst, arith}
-use Rattle.vs_faults.specs.Faults.{HasCause}
 use Rattle.vs_text.specs.Text.{bytes_of}
 use Rattle.vs_edit.specs.Splices.{splice, cut_out}
 use Rattle.vs_edit.specs.Calls.{Continues}
@@ -117,8 +116,3 @@ pub lent-back : {S : Type 0} (g : Ghosts S) (view now after : S) → after ≡ n
     → SameText (g.shows view).committed (g.shows now).committed → Continues g view after
 lent-back {S} g view now after ends valid stays committed =
     subst (λ (s : S). Continues g view s) (sym ends) (record { valid = valid; stays = stays; committed = committed })
-
-pub lent-cause : {S : Type 0} (g : Ghosts S) (view now after : S) {Failed : Type 0} → after ≡ now
-    → HasCause (g.shows view).faults (g.shows now).faults Failed → HasCause (g.shows view).faults (g.shows after).faults Failed
-lent-cause {S} g view now after {Failed} ends cause =
-    subst (λ (s : S). HasCause (g.shows view).faults (g.shows s).faults Failed) (sym ends) cause

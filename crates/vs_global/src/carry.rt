@@ -1,7 +1,6 @@
 // A nested command at one line after the other.
 ghost use Rattle.std.specs.Prelude.{◌≡◌, ◌≤◌, ◌<◌, ◌+◌, ◌^◌, ℕ, List, [], false, true, IfErr, IfOk, IsErrOf, IsTrue, OnOk};
-ghost use Rattle.vs_faults.specs.Faults.{HasCause};
-ghost use Rattle.vs_edit.specs.Calls.{Continues, OnlyReads};
+ghost use Rattle.vs_edit.specs.Calls.{Continues, OnlyReads, StopsAtFault};
 ghost use Rattle.vs_exparse.specs.declared.command.ExErr.{ExErr};
 ghost use Rattle.vs_exparse.specs.declared.command.ExErr.TheVariants.{E486};
 ghost use Rattle.vs_exparse.specs.Command.{command_of, wants_block};
@@ -18,6 +17,7 @@ use std::alloc::Global;
 use vs_edit::LineStore;
 use vs_excmd::{Block, Plan, PlanErr, place_of, plan};
 use vs_exparse::{Command, ExErr};
+use vs_gap::LineGiver;
 use vs_marks::Marks;
 
 // What a nested command does.
@@ -34,7 +34,7 @@ fn find<S: LineStore>(
     ensures finds { (text : List (List ℕ)) → (S.shows view.old).present.Is text → Finds (found (command_of nested.now) text cursor) result }
     ensures allowed { IfOk result (λ plan. Allows (S.shows view.new).present plan) }
     ensures kept { OnlyReads S.LineStore view.old view.new }
-    ensures cause { HasCause (S.shows view.old).faults (S.shows view.new).faults (IsErrOf result PlanErr.Failed) }
+    ensures cause { StopsAtFault S.LineStore (IsErrOf result PlanErr.Failed) view.old view.new }
 {
     plan(alloc, nested, &Block::Absent, view, cursor)
 }
@@ -52,7 +52,7 @@ fn unless_unmatched(error: PlanErr) -> Result<(), PlanErr>
 }
 
 // Carries a nested command out at a line, counted from 0, where it makes one splice.
-fn carry_splice<S: LineStore>(
+fn carry_splice<S: LineGiver>(
     alloc: Global,
     nested: &Command,
     view: &mut S,
@@ -73,7 +73,7 @@ fn carry_splice<S: LineStore>(
     ensures carried { OnOk result (Carries S.LineStore (command_of nested.now) line view.old marks.old run.old view.new marks.new run.new) }
     ensures refused { IfErr result (Refuses S.LineStore (command_of nested.now) line view.old marks.old run.old) }
     ensures kept { Continues S.LineStore view.old view.new }
-    ensures cause { HasCause (S.shows view.old).faults (S.shows view.new).faults (IsErrOf result PlanErr.Failed) }
+    ensures cause { StopsAtFault S.LineStore (IsErrOf result PlanErr.Failed) view.old view.new }
 {
     run.cursor = line + 1;
     match find(alloc, nested, view, line + 1) {
@@ -88,8 +88,9 @@ fn carry_splice<S: LineStore>(
             },
         ) => {
             let lines = view.len();
-            view.splice(alloc, top, old, &new)?;
-            marks.splice(top, old, new.len() as u64)?;
+            let count = new.as_slice().len() as u64;
+            view.take_splice(alloc, top, old, new)?;
+            marks.splice(top, old, count)?;
             run.made = touched(run.made, lines, top, old);
             run.cursor = cursor;
             Ok(())
@@ -98,7 +99,7 @@ fn carry_splice<S: LineStore>(
 }
 
 // Carries `:m` out at a line, counted from 0. A plan of it has all lines up to the destination, so it is not asked for.
-fn carry_move<S: LineStore>(
+fn carry_move<S: LineGiver>(
     alloc: Global,
     nested: &Command,
     view: &mut S,
@@ -117,7 +118,7 @@ fn carry_move<S: LineStore>(
     ensures carried { OnOk result (Carries S.LineStore (command_of nested.now) line view.old marks.old run.old view.new marks.new run.new) }
     ensures refused { IfErr result (Refuses S.LineStore (command_of nested.now) line view.old marks.old run.old) }
     ensures kept { Continues S.LineStore view.old view.new }
-    ensures cause { HasCause (S.shows view.old).faults (S.shows view.new).faults (IsErrOf result PlanErr.Failed) }
+    ensures cause { StopsAtFault S.LineStore (IsErrOf result PlanErr.Failed) view.old view.new }
 {
     run.cursor = line + 1;
     let lines = view.len();
@@ -142,7 +143,7 @@ fn is_move(nested: &Command) -> bool
 }
 
 // Carries a nested command out at a line, counted from 0.
-fn carry<S: LineStore>(
+fn carry<S: LineGiver>(
     alloc: Global,
     nested: &Command,
     view: &mut S,
@@ -162,7 +163,7 @@ fn carry<S: LineStore>(
     ensures carried { OnOk result (Carries S.LineStore (command_of nested.now) line view.old marks.old run.old view.new marks.new run.new) }
     ensures refused { IfErr result (Refuses S.LineStore (command_of nested.now) line view.old marks.old run.old) }
     ensures kept { Continues S.LineStore view.old view.new }
-    ensures cause { HasCause (S.shows view.old).faults (S.shows view.new).faults (IsErrOf result PlanErr.Failed) }
+    ensures cause { StopsAtFault S.LineStore (IsErrOf result PlanErr.Failed) view.old view.new }
 {
     if is_move(nested) {
         return carry_move(alloc, nested, view, marks, run, line);
@@ -171,7 +172,7 @@ fn carry<S: LineStore>(
 }
 
 /// Carries a nested command out at each marked line, the least first, for so many lines at most.
-pub(crate) fn carry_all<S: LineStore>(
+pub(crate) fn carry_all<S: LineGiver>(
     alloc: Global,
     nested: &Command,
     view: &mut S,
@@ -192,7 +193,7 @@ pub(crate) fn carry_all<S: LineStore>(
     ensures refused { IfErr result (λ e. (start : Marked) → IsAt S.LineStore view.old marks.old run.old start
         → IsRefused (all_marked count (command_of nested.now) start) e) }
     ensures kept { Continues S.LineStore view.old view.new }
-    ensures cause { HasCause (S.shows view.old).faults (S.shows view.new).faults (IsErrOf result PlanErr.Failed) }
+    ensures cause { StopsAtFault S.LineStore (IsErrOf result PlanErr.Failed) view.old view.new }
 {
     for _ in 0..count {
         match marks.take_first() {

@@ -1,7 +1,6 @@
 // The whole of a global command.
 ghost use Rattle.std.specs.Prelude.{◌≡◌, ◌<◌, ◌≤◌, ℕ, Bool, false, List, All, IfOk, IsErrOf, IsTrue, length};
-ghost use Rattle.vs_faults.specs.Faults.{HasCause};
-ghost use Rattle.vs_edit.specs.Calls.{Continues, OnlyReads};
+ghost use Rattle.vs_edit.specs.Calls.{Continues, OnlyReads, StopsAtFault};
 ghost use Rattle.vs_edit.specs.State.{SameText};
 ghost use Rattle.vs_exparse.specs.Command.{command_of, wants_block};
 ghost use Rattle.vs_exparse.specs.Form.{HasForm};
@@ -45,7 +44,7 @@ fn change_all<S: LineGiver>(
         → Answers (changed_at (command_of nested.now) text cursor marks) result }
     ensures allowed { IfOk result (λ plan. Allows (S.shows view.old).present plan) }
     ensures kept { Continues S.LineStore view.old view.new }
-    ensures cause { HasCause (S.shows view.old).faults (S.shows view.new).faults (IsErrOf result PlanErr.Failed) }
+    ensures cause { StopsAtFault S.LineStore (IsErrOf result PlanErr.Failed) view.old view.new }
 {
     let lines = view.len();
     let count = taken.len() as u64;
@@ -77,7 +76,7 @@ fn change<S: LineStore>(
         → Answers (changed_at (command_of nested.now) text cursor marks) result }
     ensures allowed { IfOk result (λ plan. Allows (S.shows view.old).present plan) }
     ensures kept { Continues S.LineStore view.old view.new }
-    ensures cause { HasCause (S.shows view.old).faults (S.shows view.new).faults (IsErrOf result PlanErr.Failed) }
+    ensures cause { StopsAtFault S.LineStore (IsErrOf result PlanErr.Failed) view.old view.new }
 {
     let present = Held::over(alloc, view);
     let mut overlay = Overlay {
@@ -114,7 +113,7 @@ pub fn global<S: LineStore>(
         → Answers (global search.now.range search.now.invert search.now.pattern.now (command_of nested.now) text cursor) result }
     ensures allowed { IfOk result (λ plan. Allows (S.shows view.new).present plan) }
     ensures kept { OnlyReads S.LineStore view.old view.new }
-    ensures cause { HasCause (S.shows view.old).faults (S.shows view.new).faults (IsErrOf result PlanErr.Failed) }
+    ensures cause { StopsAtFault S.LineStore (IsErrOf result PlanErr.Failed) view.old view.new }
 {
     let taken = marked_lines(alloc, view, search, cursor)?;
     let plan = change(alloc, nested, view, taken, cursor);

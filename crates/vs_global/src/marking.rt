@@ -1,13 +1,14 @@
 // The lines that match, or that do not, of which none was changed yet.
-ghost use Rattle.std.specs.Prelude.{◌≡◌, ◌≤◌, ◌<◌, ◌+◌, ◌++◌, ◌∷◌, [], ℕ, List, All, IfOk, IsErrOf, IsTrue, OnOk, if◌then◌else◌, length, map};
-ghost use Rattle.vs_faults.specs.Faults.{HasCause};
-ghost use Rattle.vs_edit.specs.Calls.{OnlyReads};
+ghost use Rattle.std.specs.Prelude.{◌≡◌, ◌≤◌, ◌<◌, ◌+◌, ◌++◌, ◌∷◌, [], ℕ, List, All, IfOk, IsErrOf, IsTrue, OnOk, if◌then◌else◌, length, map, ◌-◌, replicate};
+ghost use Rattle.vs_edit.specs.Calls.{OnlyReads, StopsAtFault};
+ghost use Rattle.vs_text.specs.Text.{IsLine};
 ghost use Rattle.vs_edit.specs.Splices.{cut_out};
+ghost use Rattle.vs_reads.specs.Reading.{HasCopied, IsAt, StopsWithin};
 ghost use Rattle.vs_exparse.specs.Pieces.{is_pattern, literal_of};
 ghost use Rattle.vs_excmd.specs.Place.{IsSpanIn};
-ghost use Rattle.vs_excmd.specs.Substitute.{has_match};
 ghost use Rattle.vs_marks.specs.Marks.{Ascends};
 ghost use Rattle.vs_global.specs.Global.{is_taken, places, taken_marks};
+ghost use Rattle.vs_global.specs.Taking.{TakesAll, TakesSome};
 
 use memchr::memmem::Finder;
 use std::alloc::{AllocError, Global};
@@ -15,31 +16,57 @@ use vs_edit::{LineStore, StoreErr};
 use vs_excmd::{Span, literal};
 use vs_reads::LineReader;
 
-// Whether a text stands in a line.
-fn has_match(line: &[u8], finder: &Finder<'_>) -> bool
-    requires { 0 < length finder.now }
-    ensures { result ≡ has_match finder.now line.now }
+// Adds the numbers of lines that are taken, or none.
+fn push_numbers(taken: &mut Vec<u64>, from: u64, to: u64, takes: bool) -> Result<(), AllocError>
+    requires { from ≤ to }
+    ensures { OnOk result (taken.new.items ≡ taken.old.items ++ places from (replicate (to - from) takes)) }
 {
-    finder.find(line).is_some()
-}
-
-// Adds the number of a line that is taken.
-fn push_taken(
-    taken: &mut Vec<u64>,
-    number: u64,
-    line: &[u8],
-    finder: &Finder<'_>,
-    invert: bool,
-) -> Result<(), AllocError>
-    requires { 0 < length finder.now }
-    ensures { OnOk result (taken.new.items ≡ taken.old.items ++ (if is_taken invert finder.now line.now then number ∷ [] else [])) }
-{
-    let hit = has_match(line, finder);
-    let takes = if invert { !hit } else { hit };
-    if takes {
+    if !takes {
+        return Ok(());
+    }
+    for number in from..to {
         taken.push(number)?;
     }
     Ok(())
+}
+
+// Looks at the lines up to the next one in which a text stands, and adds the numbers of those that are taken.
+fn take_next<S: LineStore>(
+    alloc: Global,
+    view: &mut S,
+    reader: &mut LineReader,
+    finder: &Finder<'_>,
+    invert: bool,
+    taken: &mut Vec<u64>,
+) -> Result<(), StoreErr>
+    requires valid { S.valid view.old }
+    requires at { IsAt reader.old reader.old.at reader.old.end }
+    requires below { reader.old.at < reader.old.end }
+    requires within { reader.old.end ≤ (S.shows view.old).present.lines }
+    requires stops { StopsWithin reader.old }
+    requires needle { IsLine finder.now }
+    requires some { 0 < length finder.now }
+    ensures taken { OnOk result ((text : List (List ℕ)) → (S.shows view.old).present.Is text → HasCopied text reader.old
+        → TakesAll invert finder.now text reader.old.at reader.new.at taken.old.items taken.new.items) }
+    ensures some { OnOk result (TakesSome reader.old.at reader.new.at taken.old.items taken.new.items) }
+    ensures copied { OnOk result ((text : List (List ℕ)) → (S.shows view.old).present.Is text → HasCopied text reader.old → HasCopied text reader.new) }
+    ensures at { OnOk result (IsAt reader.new reader.new.at reader.old.end) }
+    ensures later { OnOk result (reader.old.at < reader.new.at) }
+    ensures stops { OnOk result (StopsWithin reader.new) }
+    ensures kept { OnlyReads S.LineStore view.old view.new }
+    ensures cause { StopsAtFault S.LineStore (IsErrOf result StoreErr.Failed) view.old view.new }
+{
+    // called for its contract alone: the number of lines fits 64 bits
+    let _ = view.len();
+    let from = reader.next();
+    reader.pass_unmatched(alloc, view, finder)?;
+    let to = reader.next();
+    push_numbers(taken, from, to, invert)?;
+    if reader.is_done() {
+        return Ok(());
+    }
+    push_numbers(taken, to, to + 1, !invert)?;
+    reader.advance(alloc, view)
 }
 
 // The lines that are taken among `count` lines from line `top` on, by their numbers.
@@ -53,6 +80,7 @@ fn taken_in<S: LineStore>(
 ) -> Result<Vec<u64>, StoreErr>
     requires valid { S.valid view.old }
     requires within { top + count ≤ (S.shows view.old).present.lines }
+    requires needle { IsLine finder.now }
     requires some { 0 < length finder.now }
     ensures taken { IfOk result (λ taken. (text : List (List ℕ)) → (S.shows view.old).present.Is text
         → taken.items ≡ places top (map (is_taken invert finder.now) (cut_out text top count))) }
@@ -60,15 +88,14 @@ fn taken_in<S: LineStore>(
     ensures within { IfOk result (λ taken. All (λ line. line < top + count) taken.items) }
     ensures few { IfOk result (λ taken. length taken.items ≤ count) }
     ensures kept { OnlyReads S.LineStore view.old view.new }
-    ensures cause { HasCause (S.shows view.old).faults (S.shows view.new).faults (IsErrOf result StoreErr.Failed) }
+    ensures cause { StopsAtFault S.LineStore (IsErrOf result StoreErr.Failed) view.old view.new }
 {
     // called for its contract alone: the number of lines fits 64 bits
     let _ = view.len();
     let mut reader = LineReader::new(alloc, top, count);
     let mut taken = Vec::new(alloc);
-    for i in 0..count {
-        reader.advance(alloc, view)?;
-        push_taken(&mut taken, top + i, reader.current(), finder, invert)?;
+    'lines: while !reader.is_done() {
+        take_next(alloc, view, &mut reader, finder, invert, &mut taken)?;
     }
     Ok(taken)
 }
@@ -93,7 +120,7 @@ pub(crate) fn taken_lines<S: LineStore>(
     ensures within { IfOk result (λ taken. All (λ line. line < (S.shows view.old).present.lines) taken.items) }
     ensures few { IfOk result (λ taken. length taken.items ≤ (S.shows view.old).present.lines) }
     ensures kept { OnlyReads S.LineStore view.old view.new }
-    ensures cause { HasCause (S.shows view.old).faults (S.shows view.new).faults (IsErrOf result StoreErr.Failed) }
+    ensures cause { StopsAtFault S.LineStore (IsErrOf result StoreErr.Failed) view.old view.new }
 {
     let literal = literal(alloc, pattern)?;
     let finder = Finder::new(literal.as_slice());

@@ -1,7 +1,6 @@
 // Lines that are moved with their marks, by two small splices: they go, and come.
 ghost use Rattle.std.specs.Prelude.{◌≡◌, ◌<◌, ◌≤◌, ◌+◌, ◌^◌, ℕ, List, None, Some, false, IfNone, IfSome, IsErrOf, OnOk};
-ghost use Rattle.vs_faults.specs.Faults.{HasCause};
-ghost use Rattle.vs_edit.specs.Calls.{Continues};
+ghost use Rattle.vs_edit.specs.Calls.{Continues, StopsAtFault};
 ghost use Rattle.vs_excmd.specs.Change.{Change, moved, spliced};
 ghost use Rattle.vs_excmd.specs.Place.{IsPlaceIn, is_into_itself};
 ghost use Rattle.vs_marks.specs.Marks.{IsSound, lines_of};
@@ -97,7 +96,7 @@ pub(crate) fn move_lines<S: LineStore>(
         → (S.shows view.new).present.Is (spliced text change)) }
     ensures lines { OnOk result ((S.shows view.new).present.lines ≡ (S.shows view.old).present.lines) }
     ensures kept { Continues S.LineStore view.old view.new }
-    ensures cause { HasCause (S.shows view.old).faults (S.shows view.new).faults (IsErrOf result StoreErr.Failed) }
+    ensures cause { StopsAtFault S.LineStore (IsErrOf result StoreErr.Failed) view.old view.new }
 {
     let top = place.lines.before();
     let size = place.lines.size();

@@ -1,7 +1,6 @@
 // The lines at which a global command is carried out.
 ghost use Rattle.std.specs.Prelude.{◌<◌, ◌≤◌, ℕ, List, All, IfErr, IfOk, IsErrOf, IsTrue, length};
-ghost use Rattle.vs_faults.specs.Faults.{HasCause};
-ghost use Rattle.vs_edit.specs.Calls.{OnlyReads};
+ghost use Rattle.vs_edit.specs.Calls.{OnlyReads, StopsAtFault};
 ghost use Rattle.vs_exparse.specs.Pieces.{is_pattern};
 ghost use Rattle.vs_marks.specs.Marks.{Ascends};
 ghost use Rattle.vs_global.specs.Carry.{AreMarked, IsRefused};
@@ -42,7 +41,7 @@ pub fn marked_lines<S: LineStore>(
     ensures few { IfOk result (λ taken. length taken.items ≤ (S.shows view.old).present.lines) }
     ensures some { IfOk result (λ taken. 0 < length taken.items) }
     ensures kept { OnlyReads S.LineStore view.old view.new }
-    ensures cause { HasCause (S.shows view.old).faults (S.shows view.new).faults (IsErrOf result PlanErr.Failed) }
+    ensures cause { StopsAtFault S.LineStore (IsErrOf result PlanErr.Failed) view.old view.new }
 {
     let span = searched(search.range, view.len(), cursor)?;
     let taken = taken_lines(alloc, view, span, search.pattern, search.invert)?;

@@ -1,7 +1,6 @@
 // The one splice that leads from the first text to the last.
 ghost use Rattle.std.specs.Prelude.{◌≡◌, ◌≤◌, ℕ, List, IfOk, IsErrOf, length};
-ghost use Rattle.vs_faults.specs.Faults.{HasCause};
-ghost use Rattle.vs_edit.specs.Calls.{Continues};
+ghost use Rattle.vs_edit.specs.Calls.{Continues, StopsAtFault};
 ghost use Rattle.vs_excmd.specs.Answer.{effect_of};
 ghost use Rattle.vs_text.specs.declared.TheConstants.{MAX_LINES};
 ghost use Rattle.vs_global.specs.Carry.{AllowsFrom, Covers, StaysWithin};
@@ -29,7 +28,7 @@ pub(crate) fn whole_plan<S: LineGiver>(
         → effect_of plan ≡ whole_by start now run.cursor run.made) }
     ensures allowed { IfOk result (AllowsFrom S.LineStore view.old lines run.made) }
     ensures kept { Continues S.LineStore view.old view.new }
-    ensures cause { HasCause (S.shows view.old).faults (S.shows view.new).faults (IsErrOf result StoreErr.Failed) }
+    ensures cause { StopsAtFault S.LineStore (IsErrOf result StoreErr.Failed) view.old view.new }
 {
     let Some(made) = run.made else {
         return Ok(Plan::NoChange);

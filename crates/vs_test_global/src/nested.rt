@@ -10,7 +10,7 @@ use vs_excmd::{Plan, PlanErr, changes_text};
 use vs_exparse::{Command, ExErr, Parsed, parse};
 use vs_global::{Search, global};
 use vs_pages::MemPages;
-use vs_text::{read_text, write_text};
+use vs_text::{Format, read_text, write_text};
 use vs_tree::{LineTree, TreeStore};
 
 /// The cursor after a change, or no change, or why the command was refused.
@@ -91,7 +91,7 @@ fn check_row<S: LineStore>(
     requires { S.valid store.old }
     ensures { S.valid store.new }
 {
-    let Ok(text) = read_text(alloc, row.file) else {
+    let Ok((text, _)) = read_text(alloc, row.file) else {
         return Err(StoreErr::NoMemory);
     };
     let lines = text.lines();
@@ -109,7 +109,7 @@ fn check_row<S: LineStore>(
         row.search
     );
     let text = text_of(alloc, store)?;
-    let file = write_text(alloc, &text)?;
+    let file = write_text(alloc, &text, Format::Unix)?;
     assert!(rt;
         file.as_slice() == row.after,
         "{:?} at {:?}",

@@ -18,18 +18,11 @@ take_away-requires c =
       length-append c.args.before.now.items c.args.after.now.items,
     )
 
-pub returns-in-Err-clause-err : goal.returns-in-Err-clause-err
-returns-in-Err-clause-err c =
-    let moved = c.move_gap.new in
-    ap (λ (xs : List (List ℕ)). xs ++ moved.after.items)
-    (c.truncate.ensures.items ∙ ap (λ (n : ℕ). take n c.push_copies.new.before.items) (sym c.in_ok-move_gap.ensures.place) ∙ c.in-Err.ensures.err)
-    ∙ c.in_ok-move_gap.ensures.lines
-
 pub returns-clause-lines : goal.returns-clause-lines
 returns-clause-lines c =
     let moved = c.move_gap.new in
-    let new = c.args.new.now in
-    ap (λ (xs : List (List ℕ)). xs ++ c.take_away.new.lines.items) c.in_default.ensures.ok
+    let new = c.args.new.items in
+    ap (λ (xs : List (List ℕ)). xs ++ c.take_away.new.lines.items) (c.in_ok-append.ensures.items ∙ ap (λ (xs : List (List ℕ)). moved.before.items ++ xs) c.from.ensures.0)
     ∙ ap (λ (xs : List (List ℕ)). (moved.before.items ++ new) ++ xs) c.take_away.ensures.rest
     ∙ exchanged moved.before.items moved.after.items new c.args.at c.args.old c.in_ok-move_gap.ensures.place
     ∙ ap (λ (xs : List (List ℕ)). splice xs c.args.at c.args.old new) c.in_ok-move_gap.ensures.lines

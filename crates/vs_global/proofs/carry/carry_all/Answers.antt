@@ -56,5 +56,5 @@ loop-preserved g c =
         stays = law.stays_on c.args.view.now c.loop.view c.carry-carried.new.view before.kept.stays done.kept.stays;
         committed = SameText-trans before.kept.committed done.kept.committed;
       };
-      faults = omega (arith, before.faults, done.cause.later);
+      faults = done.cause.none (λ failed. absurd (cc)) ∙ before.faults;
     }

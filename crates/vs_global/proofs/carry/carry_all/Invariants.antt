@@ -1,5 +1,5 @@
 -- What is left to do from here gives what the whole gives from the start.
-use Rattle.std.proofs.Common.{◌≤◌, ◌+◌, ◌-◌, ◌*◌, ◌^◌}
+use Rattle.std.proofs.Common.{◌≡◌, ◌≤◌, ◌+◌, ◌-◌, ◌*◌, ◌^◌}
 use Rattle.vs_edit.specs.Calls.{Continues}
 use Rattle.vs_exparse.specs.Command.{command_of}
 use Rattle.vs_global.specs.Global.{Marked}
@@ -15,5 +15,5 @@ invariant-loop g l = record {
       → Reaches g.S.LineStore (command_of l.nested) l.count (l.count - l.counter) start l.view l.marks l.run;
   within : KeepsEnds l.fn.run.made (g.S.LineStore.shows l.fn.view).present.lines l.run.made (g.S.LineStore.shows l.view).present.lines;
   kept : Continues g.S.LineStore l.fn.view l.view;
-  faults : (g.S.LineStore.shows l.fn.view).faults ≤ (g.S.LineStore.shows l.view).faults;
+  faults : (g.S.LineStore.shows l.view).faults ≡ (g.S.LineStore.shows l.fn.view).faults;
 }

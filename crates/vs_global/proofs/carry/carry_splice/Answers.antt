@@ -32,30 +32,29 @@ returns-in-Ok-NoChange-clause-carried g c = λ at here.
       covers = λ start same. same;
     }
 
-pub returns-in_ok-splice-in-Ok-Splice-2-clause-carried : goal.returns-in_ok-splice-in-Ok-Splice-2-clause-carried
-returns-in_ok-splice-in-Ok-Splice-2-clause-carried g c = λ at here.
+pub returns-in_ok-splice-in-Ok-Splice-clause-carried : goal.returns-in_ok-splice-in-Ok-Splice-clause-carried
+returns-in_ok-splice-in-Ok-Splice-clause-carried g c = λ at here.
     let law = g.met.S.LineStore in
     let from : Marked = record at { cursor = c.args.line + 1 } in
     let command = command_of c.args.nested.now in
     let found = c.in-Ok-Splice in
     let meant = found.ensures.finds at.text here.text in
-    let put = c.deref.result.now in
+    let put = found.new.items in
     let change : Change = record { top = found.top; old = found.old; new = put; cursor = found.cursor } in
-    let is_change : effect_of found.field-0 ≡ Some change = ap effect_of found.field-0-is
-    ∙ ap (λ (new : List (List ℕ)). Some (record { top = found.top; old = found.old; new = new; cursor = found.cursor })) (sym c.deref.ensures.value) in
+    let is_change : effect_of found.field-0 ≡ Some change = ap effect_of found.field-0-is in
     let read = found.ensures.kept.present.text at.text here.text in
     let lines = law.has_lines c.find.new.view at.text read in
     let allowed = subst (Allows (g.S.LineStore.shows c.find.new.view).present) found.field-0-is found.ensures.allowed in
     let within : found.top + found.old ≤ length at.text = omega (arith, lines, allowed.within) in
-    let count : c.len.result ≡ length put = c.len.ensures ∙ sym c.deref.ensures.len in
-    let spliced = c.in_ok-splice-in-Ok-Splice.ensures.ok.text at.text read in
-    let moved = c.in_ok-splice-in-Ok-Splice-2.ensures.lines in
+    let count = ap (λ (l : List (List ℕ)). length l) c.as_slice.ensures.value in
+    let spliced = c.in_ok-take_splice-in-Ok-Splice.ensures.ok.text at.text read in
+    let moved = c.in_ok-splice-in-Ok-Splice.ensures.lines in
     record {
       after = changed_by command from meant.0 (Some change);
       is = changed command from meant.0 found.field-0 change is_change meant.1;
       at = record {
         text = spliced;
-        marked = marks-carried command at.marks meant.0 change (lines_of c.args.marks.now) (lines_of c.splice-in-Ok-Splice.new.self) c.requires.single
+        marked = marks-carried command at.marks meant.0 change (lines_of c.args.marks.now) (lines_of c.splice.new.self) c.requires.single
             (omega (arith, within, here.size)) here.marked (moved ∙ ap (λ (n : ℕ). marks_after found.top found.old n (lines_of c.args.marks.now)) count);
         size = size-carried command at.marks at.text meant.0 change c.requires.single within here.size;
         made = c.touched-run.ensures change refl refl ∙ ap (λ (n : ℕ). untouched_by change n c.args.run.now.made) (c.len-lines.ensures ∙ sym lines) ∙ ap (untouched_by change (length at.text)) here.made;
@@ -64,14 +63,14 @@ returns-in_ok-splice-in-Ok-Splice-2-clause-carried g c = λ at here.
       covers = λ start same. covers-more at.made start at.text change within same;
     }
 
-pub returns-in_ok-splice-in-Ok-Splice-2-clause-within : goal.returns-in_ok-splice-in-Ok-Splice-2-clause-within
-returns-in_ok-splice-in-Ok-Splice-2-clause-within g c = λ start was.
+pub returns-in_ok-splice-in-Ok-Splice-clause-within : goal.returns-in_ok-splice-in-Ok-Splice-clause-within
+returns-in_ok-splice-in-Ok-Splice-clause-within g c = λ start was.
     let found = c.in-Ok-Splice in
-    let put = c.deref.result.now in
+    let put = found.new.items in
     let change : Change = record { top = found.top; old = found.old; new = put; cursor = found.cursor } in
     let lines = (g.S.LineStore.shows c.args.view.now).present.lines in
     let read = found.ensures.kept.present.lines in
     let allowed = subst (Allows (g.S.LineStore.shows c.find.new.view).present) found.field-0-is found.ensures.allowed in
     let within : found.top + found.old ≤ lines = omega (arith, read, allowed.within) in
     let made = c.touched-run.ensures change refl refl ∙ ap (λ (n : ℕ). untouched_by change n c.args.run.now.made) (c.len-lines.ensures ∙ read) in
-    stays-as _ c.args.run.now.made change start lines _ (length put) made within (c.in_ok-splice-in-Ok-Splice.ensures.ok.lines ∙ ap (λ (n : ℕ). n + length put) read) was
+    stays-as _ c.args.run.now.made change start lines _ (length put) made within (c.in_ok-take_splice-in-Ok-Splice.ensures.ok.lines ∙ ap (λ (n : ℕ). n + length put) read) was

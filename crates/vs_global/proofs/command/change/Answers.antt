@@ -2,7 +2,7 @@
 use Rattle.std.proofs.Common.{sym}
 use Rattle.std.proofs.lemmas.Result.{IfOk-weaker}
 use Rattle.vs_gap.specs.Held.{shown}
-use Rattle.vs_global.proofs.GlobalLemmas.{allows-same, lent-back, lent-cause}
+use Rattle.vs_global.proofs.GlobalLemmas.{allows-same, lent-back}
 use Rattle.vs_global.proofs.command.change.Goals as goal
 
 pub returns-clause-answers : goal.returns-clause-answers
@@ -20,7 +20,3 @@ returns-clause-kept g c =
     let kept = c.change_all.ensures.kept in
     let now = c.change_all.new.view.below.now in
     lent-back g.S.LineStore c.args.view.now now _ (c.view-1.given.1 (sym kept.stays.0)) kept.valid.0 kept.stays.1 kept.stays.3
-
-pub returns-clause-cause : goal.returns-clause-cause
-returns-clause-cause g c =
-    lent-cause g.S.LineStore c.args.view.now c.change_all.new.view.below.now _ (c.view-1.given.1 (sym c.change_all.ensures.kept.stays.0)) c.change_all.ensures.cause

@@ -10,7 +10,7 @@ pub returns-then-is_at_first-clause-lines : goal.returns-then-is_at_first-clause
 returns-then-is_at_first-clause-lines c =
     let was = c.self.inside in
     let front = was.before.items ++ was.between.items in
-    let new = c.args.new.now in
+    let new = c.args.new.items in
     let within : c.args.at + c.args.old ≤ length front = omega (arith, c.is_at_first.ensures c.if-is_at_first.true, length-append was.before.items was.between.items) in
     on_ok_weaker c.exchange.result
     (λ lines. ap (λ (xs : List (List ℕ)). xs ++ was.after.items) lines ∙ splice-first front was.after.items new c.args.at c.args.old within
@@ -44,7 +44,7 @@ returns-clause-lines c =
     let lowered = c.lower.new in
     let front = lowered.before.items in
     let rest = lowered.after.items ++ was.after.items in
-    let new = c.args.new.now in
+    let new = c.args.new.items in
     let past = c.args.at - c.len-3.result in
     let place : c.args.at ≡ length front + past = omega (arith, c.in_ok-lower.ensures.left, c.len-3.ensures) in
     let within : past + c.args.old ≤ length rest =

@@ -6,7 +6,7 @@ use Rattle.vs_gap.specs.declared.held.Held.{Held}
 use Rattle.vs_gap.specs.Held.{HoldsMore, IsHeld, committed_of, shown}
 use Rattle.vs_gap.proofs.GapLemmas.{on_err}
 use Rattle.vs_gap.proofs.HeldLemmas.{allows-more, held-exchanged, held-more, held-same, shown-exchanged, shown-more, shown-same, spliced-same, told-before}
-use Rattle.vs_gap.proofs.store.GapStoreLineStore.splice.Goals as goal
+use Rattle.vs_gap.proofs.store.GapStoreLineGiver.take_splice.Goals as goal
 
 -- the lines that were committed are kept, while the store below is read
 module _ (below later : TextState) (same : SameText below later) (now kept : Held) (committed : Option Held) (is : committed ≡ Some kept) where
@@ -113,10 +113,10 @@ returns-clause-ok g c =
     let later = (g.S.LineStore.shows c.hold.new.below).present in
     let held = c.hold.new.held in
     let more = subst (λ (h : Held). HoldsMore below h held) c.in_ok-keep_committed.ensures.present c.in_ok-hold.ensures.more in
-    let allowed = allows-more below was.overlay.now.present held c.args.top c.args.old c.args.new.now c.requires.valid.1 more c.requires.allowed in
+    let allowed = allows-more below was.overlay.now.present held c.args.top c.args.old c.args.new.items c.requires.valid.1 more c.requires.allowed in
     spliced-same
     (IsSpliced-after (shown-more below was.overlay.now.present held c.requires.valid.1 more)
-    (shown-exchanged below held c.exchange.new.self c.args.top c.args.old c.args.new.now c.in_ok-hold.ensures.from c.in_ok-hold.ensures.to c.in_ok-exchange.ensures.ok
+    (shown-exchanged below held c.exchange.new.self c.args.top c.args.old c.args.new.items c.in_ok-hold.ensures.from c.in_ok-hold.ensures.to c.in_ok-exchange.ensures.ok
     (held-more below was.overlay.now.present held c.requires.valid.1 more) allowed))
     (shown-same below later c.exchange.new.self c.in_ok-hold.ensures.kept.present)
 
@@ -130,9 +130,9 @@ returns-clause-kept g c =
     let reads = c.in_ok-hold.ensures.kept in
     let more = subst (λ (h : Held). HoldsMore below h held) c.in_ok-keep_committed.ensures.present c.in_ok-hold.ensures.more in
     let back = told-before below.Is later.Is (law.tells_one was.below.now c.requires.valid.0) (law.has_told c.hold.new.below) (law.has_one c.hold.new.below) reads.present.text in
-    let allowed = allows-more below was.overlay.now.present held c.args.top c.args.old c.args.new.now c.requires.valid.1 more c.requires.allowed in
+    let allowed = allows-more below was.overlay.now.present held c.args.top c.args.old c.args.new.items c.requires.valid.1 more c.requires.allowed in
     let present =
-    held-exchanged below held c.exchange.new.self c.args.top c.args.old c.args.new.now c.in_ok-hold.ensures.from c.in_ok-hold.ensures.to c.in_ok-exchange.ensures.ok
+    held-exchanged below held c.exchange.new.self c.args.top c.args.old c.args.new.items c.in_ok-hold.ensures.from c.in_ok-hold.ensures.to c.in_ok-exchange.ensures.ok
     (held-more below was.overlay.now.present held c.requires.valid.1 more) allowed in
     let kept = committed_of was.overlay.now.present was.overlay.now.committed in
     record {
