@@ -35,6 +35,8 @@ impl Pages for CountingPages {
 
     ghost stays = { λ _ _. Unit {0} };
 
+    ghost earlier = { λ _. 0 };
+
     ghost present_pages = { λ store _ _. are_present store.pages };
 
     ghost committed_pages = { λ store _ _. are_committed store.pages };

@@ -46,7 +46,7 @@ fn parts_make_up<P: Pages>(
 fn lines_come_out_whole_and_in_parts(rt: HostRuntime) -> Result<(), Fail> {
     let alloc = rt.alloc();
     let file = mixed_file(alloc)?;
-    let text = read_text(alloc, &file)?;
+    let (text, _) = read_text(alloc, &file)?;
     let mut pages = MemPages::new(alloc)?;
     let mut tree = LineTree::new(alloc, &mut pages)?;
     tree.splice(alloc, &mut pages, 0, 0, text.lines())?;

@@ -3,7 +3,7 @@ ghost use Rattle.std.specs.Prelude.{◌<◌, ◌≤◌};
 
 use std::alloc::{AllocError, Global};
 use vs_edit::{LineStore, StoreErr, allows_splice, text_of};
-use vs_text::{Line, from_stored, write_text};
+use vs_text::{Format, Line, from_stored, write_text};
 
 #[derive(Drop)]
 pub struct Numbers(pub u64);
@@ -97,5 +97,5 @@ pub(crate) fn file_of<S: LineStore>(alloc: Global, store: &mut S) -> Result<Vec<
     ensures { S.valid store.new }
 {
     let text = text_of(alloc, store)?;
-    Ok(write_text(alloc, &text)?)
+    Ok(write_text(alloc, &text, Format::Unix)?)
 }

@@ -1,7 +1,6 @@
 // Stores of pages beside a plain map, and what each of them promises.
 ghost use Rattle.std.specs.Prelude.{◌≡◌, ◌*◌, ◌^◌, ◌≤◌, IfOk, OnOk, IsErrOf, IsSome, IsTrue, length};
-ghost use Rattle.vs_faults.specs.Faults.{HasCause};
-ghost use Rattle.vs_pages.specs.Calls.{Continues};
+ghost use Rattle.vs_pages.specs.Calls.{Continues, StopsAtFault};
 ghost use Rattle.vs_pages.specs.Maps.{pages_at, put_pages};
 
 use std::alloc::{AllocError, Global};
@@ -248,7 +247,7 @@ fn write_and_load<P: Pages>(
     requires size { length bytes.now ≡ 4096 * pages }
     ensures same { OnOk result (IsTrue P.tells → into.new.items ≡ bytes.now) }
     ensures kept { Continues P.Pages store.old store.new }
-    ensures cause { HasCause (P.shows store.old).faults (P.shows store.new).faults (IsErrOf result PageErr.Failed) }
+    ensures cause { StopsAtFault P.Pages (IsErrOf result PageErr.Failed) store.old store.new }
 {
     store.touch(alloc, at, pages, bytes)?;
     store.load(alloc, at, pages, into)
@@ -270,7 +269,7 @@ fn rehearse<P: Pages>(
     ensures same { OnOk result (IsTrue P.tells → into.new.items ≡ bytes.now) }
     ensures present { IsTrue P.tells → (P.shows store.new).present ≡ (P.shows store.old).committed }
     ensures valid { P.valid store.new }
-    ensures cause { HasCause (P.shows store.old).faults (P.shows store.new).faults (IsErrOf result PageErr.Failed) }
+    ensures cause { StopsAtFault P.Pages (IsErrOf result PageErr.Failed) store.old store.new }
 {
     let outcome = write_and_load(store, alloc, at, pages, bytes, into);
     store.rollback();

@@ -3,6 +3,7 @@ use Rattle.std.specs.Prelude.{◌≡◌, ◌<◌, ◌≤◌, ℕ, List, ◌++◌
 use Rattle.vs_pages.specs.declared.pages.Pages.{Ghosts}
 use Rattle.vs_text.specs.Text.{lines_of, stored_line}
 use Rattle.vs_tree_blocks.specs.Cuts.{all_lines}
+use Rattle.vs_tree_blocks.specs.Fills.{AllFull}
 use Rattle.vs_tree.specs.Calls.{OfText, TurnsTree}
 use Rattle.vs_tree.specs.Texts.{HasText}
 use Rattle.vs_tree.specs.declared.texts.Extent.{Extent}
@@ -20,6 +21,7 @@ pub record IsFilled (bytes : List ℕ) (run : List (List ℕ)) (rest : List ℕ)
 pub record IsFilledBy (bytes : List ℕ) (runs : List (List (List ℕ))) (rest : List ℕ) : Type 0 where
   pub filled : IsFilled bytes (all_lines runs) rest
   pub few : length runs ≤ 126
+  pub full : AllFull runs
 
 -- The tree with this root then has these lines, in their stored form, after those that it had.
 abbrev pub AppendsTree : {P : Type 0} → Ghosts P → P → P → Root → Root → List (List ℕ) → Type 0

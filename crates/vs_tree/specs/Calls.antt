@@ -64,6 +64,10 @@ Splices g old new before after top count inserted =
 abbrev pub WorksWhere : {P : Type 0} → Ghosts P → P → P → Root → ℕ → (List (List ℕ) → Type 0) → Type 0
 WorksWhere g old new root count Holds = OfTree g old root (λ lines. Holds lines → WorksBy g old new count)
 
+-- Where this holds of the lines of the tree, at most so many different pages were worked.
+abbrev pub WorksAtMost : {P : Type 0} → Ghosts P → P → P → Root → ℕ → (List (List ℕ) → Type 0) → Type 0
+WorksAtMost g old new root count Holds = OfTree g old root (λ lines. Holds lines → Works (g.shows old).worked (g.shows new).worked count)
+
 -- as many pages as a small splice of a text with these numbers may work
 abbrev pub WorksLittle : {P : Type 0} → Ghosts P → P → P → Extent → Type 0
 WorksLittle g old new extent = WorksBy g old new (3 * extent.height + 6)
@@ -72,6 +76,11 @@ WorksLittle g old new extent = WorksBy g old new (3 * extent.height + 6)
 abbrev pub SplicesLittle : {P : Type 0} → Ghosts P → P → P → Extent → ℕ → ℕ → List (List ℕ) → Type 0
 SplicesLittle g old new extent top count inserted =
     OfText g old extent (λ text. IsSmallSplice text top count inserted → WorksLittle g old new extent)
+
+-- Such a splice works at most so many different pages beside page 0.
+abbrev pub SplicesBy : {P : Type 0} → Ghosts P → P → P → Extent → ℕ → ℕ → List (List ℕ) → ℕ → Type 0
+SplicesBy g old new extent top count inserted most =
+    OfText g old extent (λ text. IsSmallSplice text top count inserted → WorksBy g old new most)
 
 -- Such a splice works at most so many different pages.
 abbrev pub SplicesAtMost : {P : Type 0} → Ghosts P → P → P → Extent → ℕ → ℕ → List (List ℕ) → ℕ → Type 0

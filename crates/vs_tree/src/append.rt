@@ -1,7 +1,6 @@
 // Lines that are put after the last one, from the bytes of their file form.
 ghost use Rattle.std.specs.Prelude.{◌≡◌, ◌<◌, ◌≤◌, ◌+◌, ◌^◌, ◌++◌, ◌∷◌, All, IsErrOf, IsTrue, IfOk, OnErr, OnOk, length, take};
-ghost use Rattle.vs_faults.specs.Faults.{HasCause};
-ghost use Rattle.vs_pages.specs.Calls.{Continues};
+ghost use Rattle.vs_pages.specs.Calls.{Continues, StopsAtFault};
 ghost use Rattle.vs_pages.specs.State.{history_of};
 ghost use Rattle.vs_text.specs.Text.{IsLine, bytes_of, lines_of, stored_line};
 ghost use Rattle.vs_text.specs.Limits.{IsShort};
@@ -9,6 +8,7 @@ ghost use Rattle.vs_text.specs.declared.TheConstants.{MAX_LINES, MAX_TEXT_BYTES}
 ghost use Rattle.vs_tree_blocks.specs.Edits.{IsStored};
 ghost use Rattle.vs_tree.specs.Appends.{Appends, AppendsTree, IsFilled, IsFilledBy};
 ghost use Rattle.vs_tree.specs.Calls.{StandsTree};
+ghost use Rattle.vs_tree.specs.Fills.{FillsRoot, FillsText, StaysFilled};
 ghost use Rattle.vs_tree.specs.Texts.{Fits};
 
 use crate::copy::exchange_into;
@@ -16,8 +16,8 @@ use crate::runs::{put_run, put_runs};
 use crate::{Extent, LineTree, Root, splice_within};
 use std::alloc::{AllocError, Global};
 use vs_pages::{PAGE_SIZE, PageErr, Pages};
-use vs_pieces::{EndedLines, ended_line};
-use vs_text::{Line, to_stored};
+use vs_pieces::EndedLines;
+use vs_text::{Line, ended_line, to_stored};
 use vs_tree_blocks::{MOST_RUNS, Run};
 
 // The first line of some bytes, and the bytes after it. A rest without a line end is a line as well.
@@ -138,8 +138,9 @@ fn append_runs<P: Pages>(
     requires there { StandsTree P.Pages pages.old root }
     ensures put { IfOk result (λ now. AppendsTree P.Pages pages.old pages.new root now (lines_of bytes.now)) }
     ensures lines { IfOk result (λ now. now.lines ≡ root.lines + length (lines_of bytes.now)) }
+    ensures filled { IfOk result (λ now. StaysFilled P.Pages pages.old pages.new root now) }
     ensures kept { Continues P.Pages pages.old pages.new }
-    ensures cause { HasCause (P.shows pages.old).faults (P.shows pages.new).faults (IsErrOf result PageErr.Failed) }
+    ensures cause { StopsAtFault P.Pages (IsErrOf result PageErr.Failed) pages.old pages.new }
 {
     let mut now = root;
     let mut rest = bytes;
@@ -170,8 +171,9 @@ fn append_lines<P: Pages>(
     requires there { StandsTree P.Pages pages.old root }
     ensures put { IfOk result (λ now. AppendsTree P.Pages pages.old pages.new root now (lines_of bytes.now)) }
     ensures lines { IfOk result (λ now. now.lines ≡ root.lines + length (lines_of bytes.now)) }
+    ensures filled { IfOk result (λ now. StaysFilled P.Pages pages.old pages.new root now) }
     ensures kept { Continues P.Pages pages.old pages.new }
-    ensures cause { HasCause (P.shows pages.old).faults (P.shows pages.new).faults (IsErrOf result PageErr.Failed) }
+    ensures cause { StopsAtFault P.Pages (IsErrOf result PageErr.Failed) pages.old pages.new }
 {
     if bytes.is_empty() {
         return Ok(root);
@@ -202,8 +204,9 @@ fn append_text<P: Pages>(
     ensures text { IfOk result (λ extent. Appends P.Pages pages.old pages.new now extent (lines_of bytes.now)) }
     ensures lines { IfOk result (λ extent. extent.lines ≡ now.lines + length (lines_of bytes.now)) }
     ensures bytes { IfOk result (λ extent. extent.bytes ≡ now.bytes + size) }
+    ensures filled { IfOk result (λ extent. FillsRoot P.Pages pages.old pages.new 32 now.height 32 extent.height) }
     ensures kept { Continues P.Pages pages.old pages.new }
-    ensures cause { HasCause (P.shows pages.old).faults (P.shows pages.new).faults (IsErrOf result PageErr.Failed) }
+    ensures cause { StopsAtFault P.Pages (IsErrOf result PageErr.Failed) pages.old pages.new }
 {
     let mut page = [0; PAGE_SIZE];
     let tree = append_lines(alloc, pages, now.root(), bytes, &mut page)?;
@@ -233,8 +236,9 @@ fn begin_text<P: Pages>(
     ensures text { IfOk result (λ extent. Appends P.Pages pages.old pages.new now extent (lines_of bytes.now)) }
     ensures lines { IfOk result (λ extent. extent.lines ≡ now.lines + length (lines_of bytes.now)) }
     ensures few { IfOk result (λ extent. extent.bytes ≤ MAX_TEXT_BYTES) }
+    ensures filled { IfOk result (λ extent. FillsRoot P.Pages pages.old pages.new 32 now.height 32 extent.height) }
     ensures kept { Continues P.Pages pages.old pages.new }
-    ensures cause { HasCause (P.shows pages.old).faults (P.shows pages.new).faults (IsErrOf result PageErr.Failed) }
+    ensures cause { StopsAtFault P.Pages (IsErrOf result PageErr.Failed) pages.old pages.new }
 {
     let (line, rest) = first_line(bytes);
     let first = Line::raw(alloc, line)?;
@@ -259,8 +263,9 @@ fn append_within<P: Pages>(
     ensures text { IfOk result (λ extent. Appends P.Pages pages.old pages.new now extent lines.now) }
     ensures lines { IfOk result (λ extent. extent.lines ≡ now.lines + length lines.now) }
     ensures few { IfOk result (λ extent. extent.bytes ≤ MAX_TEXT_BYTES) }
+    ensures filled { IfOk result (λ extent. FillsRoot P.Pages pages.old pages.new 32 now.height 32 extent.height) }
     ensures kept { Continues P.Pages pages.old pages.new }
-    ensures cause { HasCause (P.shows pages.old).faults (P.shows pages.new).faults (IsErrOf result PageErr.Failed) }
+    ensures cause { StopsAtFault P.Pages (IsErrOf result PageErr.Failed) pages.old pages.new }
 {
     let bytes = lines.bytes();
     let size = bytes.len() as u64;
@@ -291,11 +296,12 @@ impl LineTree {
         ensures text { OnOk result (Appends P.Pages pages.old pages.new self.old.present self.new.present lines.now) }
         ensures fits { Fits P.tells (P.shows pages.new).present self.new.present }
         ensures lines { OnOk result (self.new.present.lines ≡ self.old.present.lines + length lines.now) }
+        ensures filled { OnOk result (FillsText P.Pages pages.old pages.new self.old.present self.new.present) }
         ensures before { self.new.committed ≡ self.old.committed }
         ensures same { OnErr result (self.new ≡ self.old) }
         ensures back { OnErr result (IsTrue P.tells → history_of (P.shows pages.new) ≡ history_of (P.shows pages.old)) }
         ensures kept { Continues P.Pages pages.old pages.new }
-        ensures cause { HasCause (P.shows pages.old).faults (P.shows pages.new).faults (IsErrOf result PageErr.Failed) }
+        ensures cause { StopsAtFault P.Pages (IsErrOf result PageErr.Failed) pages.old pages.new }
     {
         let mark = pages.mark();
         match append_within(alloc, pages, self.present, lines) {

@@ -1,13 +1,14 @@
 // A change at one line of the tree.
-ghost use Rattle.std.specs.Prelude.{◌≡◌, ◌≤◌, ◌<◌, ◌+◌, ◌*◌, ◌^◌, [], IsErrOf, IfOk, OnOk, IsTrue, length};
+ghost use Rattle.std.specs.Prelude.{◌≡◌, ◌≤◌, ◌<◌, ◌+◌, ◌*◌, ◌^◌, [], IsErrOf, IfOk, OnOk, IsTrue, get_or, length};
 ghost use Rattle.std.specs.List.{AllByRecursion};
-ghost use Rattle.vs_faults.specs.Faults.{HasCause};
-ghost use Rattle.vs_pages.specs.Calls.{Continues};
+ghost use Rattle.vs_pages.specs.Calls.{Continues, StopsAtFault};
 ghost use Rattle.vs_tree_shape.specs.Places.{lines_below};
 ghost use Rattle.vs_tree_shape.specs.Changes.{HasLineBelow};
 ghost use Rattle.vs_tree_blocks.specs.Blocks.{tree_format, FitsFields};
-ghost use Rattle.vs_tree_blocks.specs.Edits.{added_by, EditsBelow, EditsFew, IsEdit, MayTake, most_entries, most_worked};
-ghost use Rattle.vs_tree.specs.Calls.{EditsTree, EditsTreeFew, StandsTree};
+ghost use Rattle.vs_tree_blocks.specs.Edits.{added_by, EditsBelow, EditsFew, IsEdit, IsOnePageEdit, MayTake, RemovesFew, most_entries, most_worked};
+ghost use Rattle.vs_tree_blocks.specs.Fills.{FillsBelow, TakesLine, ThinsBelow};
+ghost use Rattle.vs_tree.specs.Calls.{EditsTree, EditsTreeFew, StandsTree, WorksAtMost};
+ghost use Rattle.vs_tree.specs.Fills.{FillsTree, ThinsRoot};
 
 use crate::Root;
 use std::alloc::Global;
@@ -38,9 +39,12 @@ fn edit_below<P: Pages>(
     ensures few { IfOk result (λ after. length after.entries.items ≤ 128) }
     ensures single { IfOk result (λ after. length after.entries.items ≤ most_entries edit.entry) }
     ensures lines { IfOk result (λ after. lines_below after.entries.items + after.removed.lines ≡ top.lines + added_by edit.entry) }
+    ensures filled { IfOk result (λ after. FillsBelow P.Pages pages.old pages.new top depth edit.entry after.entries.items) }
+    ensures thins { IfOk result (ThinsBelow P.Pages pages.old pages.new top depth at edit.entry) }
     ensures works { OnOk result (EditsFew P.Pages pages.old pages.new top depth at edit.entry (most_worked edit.entry depth)) }
+    ensures only { OnOk result (RemovesFew P.Pages pages.old pages.new top depth at edit.entry) }
     ensures kept { Continues P.Pages pages.old pages.new }
-    ensures cause { HasCause (P.shows pages.old).faults (P.shows pages.new).faults (IsErrOf result PageErr.Failed) }
+    ensures cause { StopsAtFault P.Pages (IsErrOf result PageErr.Failed) pages.old pages.new }
 {
     if depth == 0 {
         return edit_data(alloc, pages, top, at, edit);
@@ -80,9 +84,14 @@ pub fn edit_tree<P: Pages>(
     ensures may_take { IfOk result (λ after. MayTake edit.entry after.removed.lines) }
     ensures higher { IfOk result (λ after. after.root.height ≤ root.height + 1) }
     ensures level { IfOk result (λ after. most_entries edit.entry ≤ 1 → after.root.height ≡ root.height) }
+    ensures filled { IfOk result (λ after. FillsTree P.Pages pages.old pages.new root edit.entry after.root) }
+    ensures thins { IfOk result (λ after. TakesLine edit.entry after.removed.lines →
+        ThinsRoot P.Pages pages.old pages.new root.height root.lines at after.root.height) }
     ensures works { OnOk result (EditsTreeFew P.Pages pages.old pages.new root at edit.entry) }
+    ensures only { OnOk result (most_entries edit.entry ≤ 1 →
+        WorksAtMost P.Pages pages.old pages.new root (root.height + 1) (λ lines. IsOnePageEdit edit.entry (get_or lines at []))) }
     ensures kept { Continues P.Pages pages.old pages.new }
-    ensures cause { HasCause (P.shows pages.old).faults (P.shows pages.new).faults (IsErrOf result PageErr.Failed) }
+    ensures cause { StopsAtFault P.Pages (IsErrOf result PageErr.Failed) pages.old pages.new }
 {
     if pages.count() <= root.height {
         pages.damaged();

@@ -1,7 +1,6 @@
 // Runs of lines that are put into the tree or taken out, a data block at a time.
 ghost use Rattle.std.specs.Prelude.{◌≡◌, ◌≤◌, ◌<◌, ◌+◌, ◌*◌, ◌^◌, ◌⊎◌, ◌↔◌, IsTrue, [], All, IsErrOf, IfOk, OnOk, get_or, length, map, take};
-ghost use Rattle.vs_faults.specs.Faults.{HasCause};
-ghost use Rattle.vs_pages.specs.Calls.{Continues};
+ghost use Rattle.vs_pages.specs.Calls.{Continues, StopsAtFault};
 ghost use Rattle.vs_text.specs.Text.{bytes_of, stored_line};
 ghost use Rattle.vs_text.specs.Limits.{IsShort};
 ghost use Rattle.vs_text.specs.declared.TheConstants.{MAX_LINES};
@@ -9,7 +8,9 @@ ghost use Rattle.vs_tree_shape.specs.Changes.{splice};
 ghost use Rattle.vs_tree_blocks.specs.Cuts.{all_lines};
 ghost use Rattle.vs_tree_blocks.specs.Edits.{FitsPage, IsStored};
 ghost use Rattle.vs_data.specs.Blocks.{space_of};
-ghost use Rattle.vs_tree.specs.Calls.{CountsRun, IsUntouched, OfTree, StandsTree, TurnsTree, WorksWhere};
+ghost use Rattle.vs_tree.specs.Calls.{CountsRun, IsUntouched, OfTree, StandsTree, TurnsTree, WorksAtMost, WorksWhere};
+ghost use Rattle.vs_tree_blocks.specs.Fills.{AllFull};
+ghost use Rattle.vs_tree.specs.Fills.{FillsRoot, IsMild, LosesEntry, StaysFilled, ThinsRoot};
 ghost use Rattle.vs_tree.specs.Runs.{ExchangesLine, exchanged_lines, with_lines, without_lines, run_of};
 
 use crate::{Root, edit_tree};
@@ -68,9 +69,10 @@ pub fn put_run<P: Pages>(
     ensures put { IfOk result (λ now. TurnsTree P.Pages pages.old pages.new root now (λ lines. splice lines at 0 run.now)) }
     ensures lines { IfOk result (λ now. now.lines ≡ root.lines + length run.now) }
     ensures higher { IfOk result (λ now. now.height ≤ root.height + 1) }
+    ensures filled { IfOk result (λ now. 1 ≤ length run.now → StaysFilled P.Pages pages.old pages.new root now) }
     ensures works { OnOk result (WorksWhere P.Pages pages.old pages.new root (2 * root.height + 4) (λ lines. space_of run.now ≤ 4072)) }
     ensures kept { Continues P.Pages pages.old pages.new }
-    ensures cause { HasCause (P.shows pages.old).faults (P.shows pages.new).faults (IsErrOf result PageErr.Failed) }
+    ensures cause { StopsAtFault P.Pages (IsErrOf result PageErr.Failed) pages.old pages.new }
 {
     if at == 0 {
         let before = edit_tree(alloc, pages, root, 0, Edit::Before(run))?;
@@ -93,6 +95,7 @@ fn fill_runs(alloc: Global, lines: &[Line]) -> Result<Filled, AllocError>
     requires short { All IsShort lines.now }
     ensures runs { IfOk result (λ filled. all_lines filled.runs.items ≡ map stored_line (take filled.lines lines.now)) }
     ensures few { IfOk result (λ filled. length filled.runs.items ≤ 126) }
+    ensures full { IfOk result (λ filled. AllFull filled.runs.items) }
     ensures some { IfOk result (λ filled. 0 < filled.lines) }
     ensures within { IfOk result (λ filled. filled.lines ≤ length lines.now) }
 {
@@ -128,8 +131,9 @@ pub fn put_runs<P: Pages>(
     ensures put { IfOk result (λ now. TurnsTree P.Pages pages.old pages.new root now (λ lines. splice lines at 0 (all_lines runs.now))) }
     ensures lines { IfOk result (λ now. now.lines ≡ root.lines + length (all_lines runs.now)) }
     ensures higher { IfOk result (λ now. now.height ≤ root.height + 1) }
+    ensures filled { IfOk result (λ now. AllFull runs.now → StaysFilled P.Pages pages.old pages.new root now) }
     ensures kept { Continues P.Pages pages.old pages.new }
-    ensures cause { HasCause (P.shows pages.old).faults (P.shows pages.new).faults (IsErrOf result PageErr.Failed) }
+    ensures cause { StopsAtFault P.Pages (IsErrOf result PageErr.Failed) pages.old pages.new }
 {
     let after = edit_tree(alloc, pages, root, at - 1, Edit::Behind(runs))?;
     Ok(after.root)
@@ -155,9 +159,11 @@ pub fn put_lines<P: Pages>(
     ensures put { IfOk result (λ now. TurnsTree P.Pages pages.old pages.new root now (λ lines. with_lines lines at new.now)) }
     ensures lines { IfOk result (λ now. now.lines ≡ root.lines + length new.now) }
     ensures higher { IfOk result (λ now. now.height ≤ root.height + length new.now) }
+    ensures filled { IfOk result (λ now. StaysFilled P.Pages pages.old pages.new root now) }
+    ensures none { IfOk result (λ now. length new.now ≡ 0 → (now ≡ root) × IsUntouched P.Pages pages.old pages.new) }
     ensures works { OnOk result (WorksWhere P.Pages pages.old pages.new root (2 * root.height + 4) (λ lines. (length new.now ≤ 1) × All FitsPage new.now)) }
     ensures kept { Continues P.Pages pages.old pages.new }
-    ensures cause { HasCause (P.shows pages.old).faults (P.shows pages.new).faults (IsErrOf result PageErr.Failed) }
+    ensures cause { StopsAtFault P.Pages (IsErrOf result PageErr.Failed) pages.old pages.new }
 {
     if new.is_empty() {
         return Ok(root);
@@ -200,10 +206,13 @@ pub fn take_lines<P: Pages>(
     ensures lines { IfOk result (λ taken. taken.root.lines + count ≡ root.lines) }
     ensures none { IfOk result (λ taken. count ≡ 0 → (taken.root ≡ root) × IsUntouched P.Pages pages.old pages.new) }
     ensures level { IfOk result (λ taken. taken.root.height ≡ root.height) }
-    ensures works { OnOk result (WorksWhere P.Pages pages.old pages.new root (root.height + 1) (λ lines. (count ≤ 1) ×
+    ensures filled { IfOk result (λ taken. count ≡ 1 → 1 ≤ taken.root.lines → LosesEntry P.Pages pages.old pages.new root taken.root) }
+    ensures thins { IfOk result (λ taken. count ≡ 1 →
+        ThinsRoot P.Pages pages.old pages.new root.height root.lines at taken.root.height) }
+    ensures works { OnOk result (WorksAtMost P.Pages pages.old pages.new root (root.height + 1) (λ lines. (count ≤ 1) ×
         All FitsPage (run_of lines at count))) }
     ensures kept { Continues P.Pages pages.old pages.new }
-    ensures cause { HasCause (P.shows pages.old).faults (P.shows pages.new).faults (IsErrOf result PageErr.Failed) }
+    ensures cause { StopsAtFault P.Pages (IsErrOf result PageErr.Failed) pages.old pages.new }
 {
     let mut now = root;
     let mut bytes: u64 = 0;
@@ -239,9 +248,10 @@ fn replace_all<P: Pages>(
     requires there { StandsTree P.Pages pages.old root }
     ensures exchanged { IfOk result (λ taken. TurnsTree P.Pages pages.old pages.new root taken.root (λ lines. exchanged_lines lines 0 root.lines new.now)) }
     ensures bytes { IfOk result (λ taken. CountsRun P.Pages pages.old root (bytes_of new.now) 0 root.lines taken.bytes) }
+    ensures filled { IfOk result (λ taken. root.lines ≡ 1 → FillsRoot P.Pages pages.old pages.new 32 root.height 32 taken.root.height) }
     ensures works { OnOk result (WorksWhere P.Pages pages.old pages.new root (3 * root.height + 6) (λ lines. ExchangesLine lines 0 root.lines new.now)) }
     ensures kept { Continues P.Pages pages.old pages.new }
-    ensures cause { HasCause (P.shows pages.old).faults (P.shows pages.new).faults (IsErrOf result PageErr.Failed) }
+    ensures cause { StopsAtFault P.Pages (IsErrOf result PageErr.Failed) pages.old pages.new }
 {
     let most = take_lines(alloc, pages, root, 0, root.lines - 1)?;
     let now = put_lines(alloc, pages, most.root, 0, new)?;
@@ -272,9 +282,17 @@ pub fn exchange_lines<P: Pages>(
     requires there { StandsTree P.Pages pages.old root }
     ensures exchanged { IfOk result (λ taken. TurnsTree P.Pages pages.old pages.new root taken.root (λ lines. exchanged_lines lines top old new.now)) }
     ensures bytes { IfOk result (λ taken. CountsRun P.Pages pages.old root (bytes_of new.now) top old taken.bytes) }
+    ensures filled { IfOk result (λ taken. IsMild root.lines old → FillsRoot P.Pages pages.old pages.new 32 root.height 32 taken.root.height) }
+    ensures thins { IfOk result (λ taken. old ≡ 1 → length new.now ≡ 0 →
+        ThinsRoot P.Pages pages.old pages.new root.height root.lines top taken.root.height) }
+    ensures level { IfOk result (λ taken. length new.now ≡ 0 → taken.root.height ≡ root.height) }
     ensures works { OnOk result (WorksWhere P.Pages pages.old pages.new root (3 * root.height + 6) (λ lines. ExchangesLine lines top old new.now)) }
+    ensures out { OnOk result (length new.now ≡ 0 →
+        WorksAtMost P.Pages pages.old pages.new root (root.height + 1) (λ lines. ExchangesLine lines top old new.now)) }
+    ensures come { OnOk result (old ≡ 0 →
+        WorksWhere P.Pages pages.old pages.new root (2 * root.height + 4) (λ lines. ExchangesLine lines top old new.now)) }
     ensures kept { Continues P.Pages pages.old pages.new }
-    ensures cause { HasCause (P.shows pages.old).faults (P.shows pages.new).faults (IsErrOf result PageErr.Failed) }
+    ensures cause { StopsAtFault P.Pages (IsErrOf result PageErr.Failed) pages.old pages.new }
 {
     if all_go(root, old) {
         return replace_all(alloc, pages, root, new);

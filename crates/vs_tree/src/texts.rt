@@ -1,13 +1,13 @@
 // The text of the tree, spliced.
-ghost use Rattle.std.specs.Prelude.{◌≡◌, ◌≤◌, ◌<◌, ◌+◌, ◌-◌, ◌^◌, [], All, IsErrOf, IfOk, OnOk, IsTrue, length};
-ghost use Rattle.vs_faults.specs.Faults.{HasCause};
-ghost use Rattle.vs_pages.specs.Calls.{Continues};
+ghost use Rattle.std.specs.Prelude.{◌≡◌, ◌≤◌, ◌<◌, ◌+◌, ◌-◌, ◌*◌, ◌^◌, [], All, IsErrOf, IfOk, OnOk, IsTrue, length};
+ghost use Rattle.vs_pages.specs.Calls.{Continues, StopsAtFault};
 ghost use Rattle.vs_text.specs.Text.{IsText, bytes_of};
 ghost use Rattle.vs_text.specs.Limits.{IsShort};
 ghost use Rattle.vs_text.specs.declared.TheConstants.{MAX_LINES, MAX_TEXT_BYTES};
 ghost use Rattle.vs_edit.specs.Splices.{splice};
 ghost use Rattle.vs_tree_blocks.specs.Edits.{FitsPage};
-ghost use Rattle.vs_tree.specs.Calls.{OfText, Splices, SplicesLittle, WorksLittle};
+ghost use Rattle.vs_tree.specs.Calls.{OfText, Splices, SplicesAtMost, SplicesBy, SplicesLittle, WorksLittle};
+ghost use Rattle.vs_tree.specs.Fills.{FillsRoot, IsMild, ThinsRoot};
 ghost use Rattle.vs_tree.specs.Texts.{HasText, Fits};
 
 use crate::{Root, exchange_lines};
@@ -68,9 +68,10 @@ fn fill_text<P: Pages>(
     requires few_bytes { IsTrue P.tells → bytes_of new.now ≤ MAX_TEXT_BYTES }
     ensures text { IfOk result (λ extent. IsTrue P.tells → HasText (P.shows pages.new).present extent new.now) }
     ensures lines { IfOk result (λ extent. extent.lines ≡ length new.now) }
+    ensures filled { IfOk result (λ extent. FillsRoot P.Pages pages.old pages.new 32 now.height 32 extent.height) }
     ensures works { OnOk result (IsTrue P.tells → length new.now ≤ 1 → All FitsPage new.now → WorksLittle P.Pages pages.old pages.new now) }
     ensures kept { Continues P.Pages pages.old pages.new }
-    ensures cause { HasCause (P.shows pages.old).faults (P.shows pages.new).faults (IsErrOf result PageErr.Failed) }
+    ensures cause { StopsAtFault P.Pages (IsErrOf result PageErr.Failed) pages.old pages.new }
 {
     if new.is_empty() {
         return Ok(now);
@@ -90,10 +91,11 @@ fn clear_text<P: Pages>(alloc: Global, pages: &mut P, now: Extent) -> Result<Ext
     requires full { 0 < now.lines }
     ensures text { IfOk result (λ extent. IsTrue P.tells → HasText (P.shows pages.new).present extent []) }
     ensures lines { IfOk result (λ extent. extent.lines ≡ 0) }
+    ensures filled { IfOk result (λ extent. now.lines ≤ 1 → FillsRoot P.Pages pages.old pages.new 32 now.height 32 extent.height) }
     ensures works { OnOk result (OfText P.Pages pages.old now (λ text. now.lines ≤ 1 → All FitsPage text →
         WorksLittle P.Pages pages.old pages.new now)) }
     ensures kept { Continues P.Pages pages.old pages.new }
-    ensures cause { HasCause (P.shows pages.old).faults (P.shows pages.new).faults (IsErrOf result PageErr.Failed) }
+    ensures cause { StopsAtFault P.Pages (IsErrOf result PageErr.Failed) pages.old pages.new }
 {
     let empty = [Line::from_vec(Vec::new(alloc))];
     let taken = exchange_lines(alloc, pages, now.root(), 0, now.lines, &empty)?;
@@ -123,9 +125,15 @@ fn replace_lines<P: Pages>(
     requires few_bytes { OfText P.Pages pages.old now (λ text. bytes_of (splice text top old new.now) ≤ MAX_TEXT_BYTES) }
     ensures text { IfOk result (λ extent. Splices P.Pages pages.old pages.new now extent top old new.now) }
     ensures lines { IfOk result (λ extent. extent.lines + old ≡ now.lines + length new.now) }
+    ensures filled { IfOk result (λ extent. IsMild now.lines old → FillsRoot P.Pages pages.old pages.new 32 now.height 32 extent.height) }
+    ensures thins { IfOk result (λ extent. old ≡ 1 → length new.now ≡ 0 →
+        ThinsRoot P.Pages pages.old pages.new now.height now.lines top extent.height) }
+    ensures level { IfOk result (λ extent. length new.now ≡ 0 → extent.height ≡ now.height) }
     ensures works { OnOk result (SplicesLittle P.Pages pages.old pages.new now top old new.now) }
+    ensures out { OnOk result (length new.now ≡ 0 → SplicesAtMost P.Pages pages.old pages.new now top old new.now (now.height + 1)) }
+    ensures come { OnOk result (old ≡ 0 → SplicesBy P.Pages pages.old pages.new now top old new.now (2 * now.height + 4)) }
     ensures kept { Continues P.Pages pages.old pages.new }
-    ensures cause { HasCause (P.shows pages.old).faults (P.shows pages.new).faults (IsErrOf result PageErr.Failed) }
+    ensures cause { StopsAtFault P.Pages (IsErrOf result PageErr.Failed) pages.old pages.new }
 {
     let taken = exchange_lines(alloc, pages, now.root(), top, old, new)?;
     let sum = now.bytes + count_bytes(new);
@@ -157,9 +165,15 @@ fn splice_text<P: Pages>(
     requires few_bytes { OfText P.Pages pages.old now (λ text. bytes_of (splice text top old new.now) ≤ MAX_TEXT_BYTES) }
     ensures text { IfOk result (λ extent. Splices P.Pages pages.old pages.new now extent top old new.now) }
     ensures lines { IfOk result (λ extent. extent.lines + old ≡ now.lines + length new.now) }
+    ensures filled { IfOk result (λ extent. IsMild now.lines old → FillsRoot P.Pages pages.old pages.new 32 now.height 32 extent.height) }
+    ensures thins { IfOk result (λ extent. old ≡ 1 → length new.now ≡ 0 →
+        ThinsRoot P.Pages pages.old pages.new now.height now.lines top extent.height) }
+    ensures level { IfOk result (λ extent. old < now.lines → length new.now ≡ 0 → extent.height ≡ now.height) }
     ensures works { OnOk result (SplicesLittle P.Pages pages.old pages.new now top old new.now) }
+    ensures out { OnOk result (old < now.lines → length new.now ≡ 0 → SplicesAtMost P.Pages pages.old pages.new now top old new.now (now.height + 1)) }
+    ensures come { OnOk result (0 < now.lines → old ≡ 0 → SplicesBy P.Pages pages.old pages.new now top old new.now (2 * now.height + 4)) }
     ensures kept { Continues P.Pages pages.old pages.new }
-    ensures cause { HasCause (P.shows pages.old).faults (P.shows pages.new).faults (IsErrOf result PageErr.Failed) }
+    ensures cause { StopsAtFault P.Pages (IsErrOf result PageErr.Failed) pages.old pages.new }
 {
     if now.lines == 0 {
         return fill_text(alloc, pages, now, new);
@@ -188,9 +202,15 @@ pub fn splice_within<P: Pages>(
     ensures text { IfOk result (λ extent. Splices P.Pages pages.old pages.new now extent top old new.now) }
     ensures lines { IfOk result (λ extent. extent.lines + old ≡ now.lines + length new.now) }
     ensures bytes { IfOk result (λ extent. extent.bytes ≤ MAX_TEXT_BYTES) }
+    ensures filled { IfOk result (λ extent. IsMild now.lines old → FillsRoot P.Pages pages.old pages.new 32 now.height 32 extent.height) }
+    ensures thins { IfOk result (λ extent. old ≡ 1 → length new.now ≡ 0 →
+        ThinsRoot P.Pages pages.old pages.new now.height now.lines top extent.height) }
+    ensures level { IfOk result (λ extent. old < now.lines → length new.now ≡ 0 → extent.height ≡ now.height) }
     ensures works { OnOk result (SplicesLittle P.Pages pages.old pages.new now top old new.now) }
+    ensures out { OnOk result (old < now.lines → length new.now ≡ 0 → SplicesAtMost P.Pages pages.old pages.new now top old new.now (now.height + 1)) }
+    ensures come { OnOk result (0 < now.lines → old ≡ 0 → SplicesBy P.Pages pages.old pages.new now top old new.now (2 * now.height + 4)) }
     ensures kept { Continues P.Pages pages.old pages.new }
-    ensures cause { HasCause (P.shows pages.old).faults (P.shows pages.new).faults (IsErrOf result PageErr.Failed) }
+    ensures cause { StopsAtFault P.Pages (IsErrOf result PageErr.Failed) pages.old pages.new }
 {
     let present = splice_text(alloc, pages, now, top, old, new)?;
     if MAX_TEXT_BYTES < present.bytes {

@@ -1,14 +1,14 @@
 // The tree of a text, and the store that it makes with pages.
 ghost use Rattle.std.specs.Prelude.{◌≡◌, ◌≤◌, ◌<◌, ◌+◌, ◌*◌, ◌++◌, [], All, IsErrOf, IfOk, OnErr, OnOk, IsTrue, get_or, length, refl};
 ghost use Rattle.std.proofs.Common.{◌∙◌};
-ghost use Rattle.vs_faults.specs.Faults.{HasCause};
-ghost use Rattle.vs_pages.specs.Calls.{Continues, OnlyReads};
+ghost use Rattle.vs_pages.specs.Calls.{Continues, OnlyReads, StopsAtFault};
 ghost use Rattle.vs_pages.specs.State.{history_of};
 ghost use Rattle.vs_text.specs.Text.{IsLine, bytes_of, file_of};
 ghost use Rattle.vs_text.specs.Limits.{IsShort};
 ghost use Rattle.vs_text.specs.declared.TheConstants.{MAX_LINES, MAX_TEXT_BYTES};
 ghost use Rattle.vs_edit.specs.Splices.{cut_out, splice};
-ghost use Rattle.vs_tree_blocks.specs.Blocks.{IsFresh};
+ghost use Rattle.vs_tree_shape.specs.Filled.{HasFilled};
+ghost use Rattle.vs_tree_blocks.specs.Blocks.{IsFresh, tree_format};
 ghost use Rattle.vs_tree.specs.Reads.{AddsLines};
 
 use crate::{Extent, copy_stored, load_stored, splice_within, store_err};
@@ -31,6 +31,7 @@ pub struct LineTree {
 
 impl LineTree {
     ghost use Rattle.vs_tree.specs.Calls.{OfText, Splices, SplicesAtMost, SplicesLittle};
+    ghost use Rattle.vs_tree.specs.Fills.{FillsText, IsMild, ThinsText};
     ghost use Rattle.vs_tree.specs.Texts.{HasText, Fits};
 
     /// Writes the tree of the text without lines into the pages 1 and 2, and commits the pages.
@@ -39,12 +40,13 @@ impl LineTree {
         requires there { IsTrue P.tells → IsFresh (P.shows pages.old).present }
         ensures fits { IfOk result (λ tree. Fits P.tells (P.shows pages.new).present tree.present ×
             Fits P.tells (P.shows pages.new).committed tree.committed) }
+        ensures filled { IfOk result (λ tree. IsTrue P.tells → HasFilled tree_format (P.shows pages.new).present tree.present.height) }
         ensures text { IfOk result (λ tree. IsTrue P.tells → HasText (P.shows pages.new).present tree.present []) }
         ensures empty { IfOk result (λ tree. (tree.present.lines ≡ 0) × (tree.present.bytes ≡ 0)) }
         ensures committed { IfOk result (λ tree. tree.committed ≡ tree.present) }
         ensures valid { P.valid pages.new }
         ensures stays { P.stays pages.old pages.new }
-        ensures cause { HasCause (P.shows pages.old).faults (P.shows pages.new).faults (IsErrOf result PageErr.Failed) }
+        ensures cause { StopsAtFault P.Pages (IsErrOf result PageErr.Failed) pages.old pages.new }
     {
         write_first(alloc, pages)?;
         pages.commit();
@@ -89,7 +91,7 @@ impl LineTree {
         ensures is_short { OnOk result (IsShort into.new.items) }
         ensures tree { self.new ≡ self.old }
         ensures kept { OnlyReads P.Pages pages.old pages.new }
-        ensures cause { HasCause (P.shows pages.old).faults (P.shows pages.new).faults (IsErrOf result PageErr.Failed) }
+        ensures cause { StopsAtFault P.Pages (IsErrOf result PageErr.Failed) pages.old pages.new }
     {
         load_stored(alloc, pages, self.present.root(), at, into)?;
         from_stored(into);
@@ -120,7 +122,7 @@ impl LineTree {
         ensures adds { OnOk result (AddsLines into.old.items into.new.items count) }
         ensures tree { self.new ≡ self.old }
         ensures kept { OnlyReads P.Pages pages.old pages.new }
-        ensures cause { HasCause (P.shows pages.old).faults (P.shows pages.new).faults (IsErrOf result PageErr.Failed) }
+        ensures cause { StopsAtFault P.Pages (IsErrOf result PageErr.Failed) pages.old pages.new }
     {
         copy_stored(alloc, pages, self.present.root(), at, count, into)
     }
@@ -144,13 +146,21 @@ impl LineTree {
         ensures text { OnOk result (Splices P.Pages pages.old pages.new self.old.present self.new.present top old new.now) }
         ensures fits { Fits P.tells (P.shows pages.new).present self.new.present }
         ensures lines { OnOk result (self.new.present.lines + old ≡ self.old.present.lines + length new.now) }
+        ensures filled { OnOk result (IsMild self.old.present.lines old → FillsText P.Pages pages.old pages.new self.old.present self.new.present) }
+        ensures thins { OnOk result (old ≡ 1 → length new.now ≡ 0 →
+            ThinsText P.Pages pages.old pages.new self.old.present top self.new.present) }
+        ensures level { OnOk result (old < self.old.present.lines → length new.now ≡ 0 → self.new.present.height ≡ self.old.present.height) }
         ensures works { OnOk result (SplicesLittle P.Pages pages.old pages.new self.old.present top old new.now) }
         ensures bound { OnOk result (SplicesAtMost P.Pages pages.old pages.new self.old.present top old new.now (5 * self.old.present.height + 12)) }
+        ensures out { OnOk result (old < self.old.present.lines → length new.now ≡ 0 →
+            SplicesAtMost P.Pages pages.old pages.new self.old.present top old new.now (self.old.present.height + 1)) }
+        ensures come { OnOk result (0 < self.old.present.lines → old ≡ 0 →
+            SplicesAtMost P.Pages pages.old pages.new self.old.present top old new.now (2 * self.old.present.height + 6)) }
         ensures before { self.new.committed ≡ self.old.committed }
         ensures same { OnErr result (self.new ≡ self.old) }
         ensures back { OnErr result (IsTrue P.tells → history_of (P.shows pages.new) ≡ history_of (P.shows pages.old)) }
         ensures kept { Continues P.Pages pages.old pages.new }
-        ensures cause { HasCause (P.shows pages.old).faults (P.shows pages.new).faults (IsErrOf result PageErr.Failed) }
+        ensures cause { StopsAtFault P.Pages (IsErrOf result PageErr.Failed) pages.old pages.new }
     {
         let mark = pages.mark();
         match splice_within(alloc, pages, self.present, top, old, new) {
@@ -199,6 +209,8 @@ impl<'t, P: Pages + Drop> LineStore for TreeStore<'t, P> {
         × Fits P.tells (P.shows s.pages).committed s.tree.now.committed };
 
     ghost stays = { λ a b. (b.tree.ghost_name ≡ a.tree.ghost_name) × P.stays a.pages b.pages };
+
+    ghost earlier = { λ s. P.earlier s.pages };
 
     ghost tells_one = { λ s v told. let r = v.1.one told in (r.0, record { told = told; has = r.1 }) };
 

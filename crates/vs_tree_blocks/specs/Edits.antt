@@ -6,7 +6,7 @@ use Rattle.vs_pages.specs.declared.pages.Pages.{Ghosts}
 use Rattle.vs_tree_shape.specs.declared.entries.Entry.{Entry}
 use Rattle.vs_tree_shape.specs.Trees.{lines_of}
 use Rattle.vs_tree_shape.specs.Changes.{Change, ChangesBelow, HasLineBelow, Takes, edited, splice}
-use Rattle.vs_tree_shape.specs.Works.{WorksBesideZero}
+use Rattle.vs_tree_shape.specs.Works.{Works, WorksBesideZero}
 use Rattle.vs_tree_blocks.specs.Blocks.{tree_format}
 use Rattle.vs_tree_blocks.specs.Cuts.{all_lines, blocks_with, part, parted, room_in, spread}
 use Rattle.vs_tree_blocks.specs.Runs.{lines_within}
@@ -84,6 +84,12 @@ WorksBelow m old new top depth at edit count =
 -- The same over a store, where it tells its pages.
 abbrev pub EditsFew : {P : Type 0} → Ghosts P → P → P → Entry → ℕ → ℕ → Edit → ℕ → Type 0
 EditsFew g old new top depth at edit count = IsTrue g.tells → WorksBelow (g.shows old).present (g.shows old).worked (g.shows new).worked top depth at edit count
+
+-- An edit that takes lines out, at a line for which a page has room, works the blocks on the way alone.
+abbrev pub RemovesFew : {P : Type 0} → Ghosts P → P → P → Entry → ℕ → ℕ → Edit → Type 0
+RemovesFew g old new top depth at edit =
+    IsTrue g.tells → most_entries edit ≤ 1 → (a : HasLineBelow tree_format (g.shows old).present top depth at)
+    → IsOnePageEdit edit (get_or (lines_of depth a.tree) at []) → Works (g.shows old).worked (g.shows new).worked (depth + 1)
 
 -- The edit was made at a line below the block, and took out what the answer says.
 abbrev pub EditsBelow : {P : Type 0} → Ghosts P → P → P → Entry → ℕ → ℕ → Edit → Edited → Type 0

@@ -1,14 +1,14 @@
 -- What calls leave of the pages of a store: blocks in place of a block, and how many pages were worked.
 use Rattle.std.specs.Prelude.{◌≡◌, ℕ, ◌+◌, ◌≤◌, IsTrue, List, [], ◌∷◌, length, map, Some, IsSome}
 use Rattle.std.specs.List.{AllByRecursion, flat_map}
-use Rattle.vs_pages.specs.Maps.{Map, one, span, total, pages_at}
+use Rattle.vs_pages.specs.Maps.{Map, lacks, one, span, total, pages_at}
 use Rattle.vs_pages.specs.declared.pages.Pages.{Ghosts}
 use Rattle.vs_data.specs.Blocks.{lines_in}
 use Rattle.vs_tree_shape.specs.declared.entries.Entry.{Entry}
 use Rattle.vs_tree_shape.specs.Places.{lines_below}
 use Rattle.vs_tree_shape.specs.Trees.{Leaf, Tree, entry_of, leaf, lines_of, uses}
 use Rattle.vs_tree_shape.specs.Changes.{Below, Replaces, ReplacedBy}
-use Rattle.vs_tree_shape.specs.Works.{WorksBesideZero}
+use Rattle.vs_tree_shape.specs.Works.{Works, WorksBesideZero}
 use Rattle.vs_tree_blocks.specs.Blocks.{tree_format, lines_at, FitsFields}
 
 -- Data blocks with these lines stand in place of what used these pages, and the entries lead to them.
@@ -36,6 +36,15 @@ WorksBy g old new count = WorksBesideZero (g.shows old).worked (g.shows new).wor
 -- the same where the store tells its pages
 abbrev pub Touches : {P : Type 0} → Ghosts P → P → P → ℕ → Type 0
 Touches g old new count = IsTrue g.tells → WorksBy g old new count
+
+-- At most so many different pages were worked, where the store tells its pages.
+abbrev pub TouchesOnly : {P : Type 0} → Ghosts P → P → P → ℕ → Type 0
+TouchesOnly g old new count = IsTrue g.tells → Works (g.shows old).worked (g.shows new).worked count
+
+-- All pages that were there but that of the block are as they were.
+abbrev pub Spares : {P : Type 0} → Ghosts P → P → P → ℕ → Type 0
+Spares g old new block =
+    IsTrue g.tells → (k : ℕ) → one block k ≡ 0 → lacks ((g.shows old).present k) ≡ 0 → (g.shows new).present k ≡ (g.shows old).present k
 
 -- a block of one page has these bytes
 abbrev pub HasPage : {P : Type 0} → Ghosts P → P → ℕ → List ℕ → Type 0

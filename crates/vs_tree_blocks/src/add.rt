@@ -1,7 +1,6 @@
 // New blocks in pages.
 ghost use Rattle.std.specs.Prelude.{◌≡◌, ◌≤◌, ◌<◌, ◌*◌, ◌^◌, ◌∷◌, [], IsErrOf, IfOk, OnOk, IsTrue, length};
-ghost use Rattle.vs_faults.specs.Faults.{HasCause};
-ghost use Rattle.vs_pages.specs.Calls.{Continues};
+ghost use Rattle.vs_pages.specs.Calls.{Continues, StopsAtFault};
 ghost use Rattle.vs_tree_shape.specs.Works.{WorksBesideZero, WorksOnly};
 ghost use Rattle.vs_tree_shape.specs.Changes.{Grown, Added};
 
@@ -16,7 +15,7 @@ fn grow_block<P: Pages>(alloc: Global, pages: &mut P, count: u32) -> Result<u64,
     ensures bound { IfOk result (λ at. at < 2 ^ 40) }
     ensures only { IfOk result (λ at. IsTrue P.tells → count ≡ 1 → WorksOnly (P.shows pages.old).worked (P.shows pages.new).worked (0 ∷ at ∷ [])) }
     ensures kept { Continues P.Pages pages.old pages.new }
-    ensures cause { HasCause (P.shows pages.old).faults (P.shows pages.new).faults (IsErrOf result PageErr.Failed) }
+    ensures cause { StopsAtFault P.Pages (IsErrOf result PageErr.Failed) pages.old pages.new }
 {
     let at = pages.grow(alloc, count)?;
     if at == 0 {
@@ -40,7 +39,7 @@ pub fn add_block<P: Pages>(
     ensures bound { IfOk result (λ at. at < 2 ^ 40) }
     ensures works { OnOk result (IsTrue P.tells → count ≡ 1 → WorksBesideZero (P.shows pages.old).worked (P.shows pages.new).worked 1) }
     ensures kept { Continues P.Pages pages.old pages.new }
-    ensures cause { HasCause (P.shows pages.old).faults (P.shows pages.new).faults (IsErrOf result PageErr.Failed) }
+    ensures cause { StopsAtFault P.Pages (IsErrOf result PageErr.Failed) pages.old pages.new }
 {
     let at = grow_block(alloc, pages, count)?;
     pages.touch(alloc, at, count, bytes)?;

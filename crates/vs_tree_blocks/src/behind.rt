@@ -1,8 +1,7 @@
 // Several runs of lines, put into data blocks of their own after a line.
 ghost use Rattle.std.specs.Prelude.{◌≡◌, ◌≤◌, ◌<◌, ◌+◌, ◌^◌, IsErrOf, IfOk, IsTrue, length};
 ghost use Rattle.std.specs.List.{AllByRecursion};
-ghost use Rattle.vs_faults.specs.Faults.{HasCause};
-ghost use Rattle.vs_pages.specs.Calls.{Continues};
+ghost use Rattle.vs_pages.specs.Calls.{Continues, StopsAtFault};
 ghost use Rattle.vs_tree_shape.specs.Places.{lines_below};
 ghost use Rattle.vs_tree_blocks.specs.Blocks.{FitsFields, LeadsToData};
 ghost use Rattle.vs_tree_blocks.specs.Cuts.{all_lines, spread};
@@ -23,7 +22,7 @@ fn add_runs<P: Pages>(alloc: Global, pages: &mut P, runs: &[Run]) -> Result<Vec<
     ensures many { IfOk result (λ entries. length entries.items ≡ length runs.now) }
     ensures lines { IfOk result (λ entries. lines_below entries.items ≡ length (all_lines runs.now)) }
     ensures kept { Continues P.Pages pages.old pages.new }
-    ensures cause { HasCause (P.shows pages.old).faults (P.shows pages.new).faults (IsErrOf result PageErr.Failed) }
+    ensures cause { StopsAtFault P.Pages (IsErrOf result PageErr.Failed) pages.old pages.new }
 {
     let mut entries = Vec::with_capacity(alloc, runs.len())?;
     'runs: for run in runs {
@@ -49,7 +48,7 @@ pub fn put_behind<P: Pages>(
     ensures few { IfOk result (λ entries. length entries.items ≤ 128) }
     ensures lines { IfOk result (λ entries. lines_below entries.items ≡ entry.lines + length (all_lines runs.now)) }
     ensures kept { Continues P.Pages pages.old pages.new }
-    ensures cause { HasCause (P.shows pages.old).faults (P.shows pages.new).faults (IsErrOf result PageErr.Failed) }
+    ensures cause { StopsAtFault P.Pages (IsErrOf result PageErr.Failed) pages.old pages.new }
 {
     let new = add_runs(alloc, pages, runs)?;
     let mut entries = vec![in alloc; entry]?;
@@ -76,7 +75,7 @@ fn put_among<P: Pages>(
     ensures few { IfOk result (λ entries. length entries.items ≤ 128) }
     ensures lines { IfOk result (λ entries. lines_below entries.items ≡ length (all_lines (runs_around parts.now runs.now))) }
     ensures kept { Continues P.Pages pages.old pages.new }
-    ensures cause { HasCause (P.shows pages.old).faults (P.shows pages.new).faults (IsErrOf result PageErr.Failed) }
+    ensures cause { StopsAtFault P.Pages (IsErrOf result PageErr.Failed) pages.old pages.new }
 {
     pages.touch(alloc, block, 1, &parts.first.bytes)?;
     let new = add_runs(alloc, pages, runs)?;
@@ -112,7 +111,7 @@ pub fn put_runs<P: Pages>(
     ensures few { IfOk result (λ entries. length entries.items ≤ 128) }
     ensures lines { IfOk result (λ entries. lines_below entries.items ≡ entry.lines + length (all_lines runs.now)) }
     ensures kept { Continues P.Pages pages.old pages.new }
-    ensures cause { HasCause (P.shows pages.old).faults (P.shows pages.new).faults (IsErrOf result PageErr.Failed) }
+    ensures cause { StopsAtFault P.Pages (IsErrOf result PageErr.Failed) pages.old pages.new }
 {
     if at == page.view.count {
         return put_behind(alloc, pages, entry, runs);

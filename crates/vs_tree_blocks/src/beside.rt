@@ -1,7 +1,6 @@
 // Runs of lines, put into blocks of their own beside or between others.
 ghost use Rattle.std.specs.Prelude.{◌≡◌, ◌≤◌, ◌<◌, ◌^◌, ◌∷◌, ◌⊎◌, [], Ok, IsErrOf, IfOk, OnOk};
-ghost use Rattle.vs_faults.specs.Faults.{HasCause};
-ghost use Rattle.vs_pages.specs.Calls.{Continues};
+ghost use Rattle.vs_pages.specs.Calls.{Continues, StopsAtFault};
 ghost use Rattle.vs_data.specs.Blocks.{space_of};
 ghost use Rattle.vs_tree_blocks.specs.Cuts.{parted};
 ghost use Rattle.vs_tree_blocks.specs.Parts.{IsBlock, lines_around, page_lines};
@@ -29,7 +28,7 @@ fn write_between<P: Pages>(
     ensures wrote { IfOk result (λ entries. Writes P.Pages pages.old pages.new block (lines_around parts.now run.now) entries.items) }
     ensures works { OnOk result (space_of run.now ≤ 4072 → Touches P.Pages pages.old pages.new 3) }
     ensures kept { Continues P.Pages pages.old pages.new }
-    ensures cause { HasCause (P.shows pages.old).faults (P.shows pages.new).faults (IsErrOf result PageErr.Failed) }
+    ensures cause { StopsAtFault P.Pages (IsErrOf result PageErr.Failed) pages.old pages.new }
 {
     pages.touch(alloc, block, 1, &parts.first.bytes)?;
     let new = run.add(alloc, pages)?;
@@ -57,7 +56,7 @@ pub fn put_between<P: Pages>(
     ensures wrote { IfOk result (λ entries. Writes P.Pages pages.old pages.new block (parted (page_lines page) at run.now) entries.items) }
     ensures works { OnOk result (space_of run.now ≤ 4072 → Touches P.Pages pages.old pages.new 3) }
     ensures kept { Continues P.Pages pages.old pages.new }
-    ensures cause { HasCause (P.shows pages.old).faults (P.shows pages.new).faults (IsErrOf result PageErr.Failed) }
+    ensures cause { StopsAtFault P.Pages (IsErrOf result PageErr.Failed) pages.old pages.new }
 {
     if at == 0 || at == page.view.count {
         return put_beside(alloc, pages, block, &page, at, run);
@@ -84,7 +83,7 @@ fn put_beside<P: Pages>(
     ensures wrote { IfOk result (λ entries. Writes P.Pages pages.old pages.new block (parted (page_lines page.now) at run.now) entries.items) }
     ensures works { OnOk result (space_of run.now ≤ 4072 → Touches P.Pages pages.old pages.new 1) }
     ensures kept { Continues P.Pages pages.old pages.new }
-    ensures cause { HasCause (P.shows pages.old).faults (P.shows pages.new).faults (IsErrOf result PageErr.Failed) }
+    ensures cause { StopsAtFault P.Pages (IsErrOf result PageErr.Failed) pages.old pages.new }
 {
     let kept = page.entry(block);
     let new = run.add(alloc, pages)?;

@@ -1,13 +1,12 @@
 // One entry of a pointer block, exchanged for others.
 ghost use Rattle.std.specs.Prelude.{◌≡◌, ◌≤◌, ◌<◌, ◌+◌, ◌-◌, ◌^◌, IsErrOf, IfOk, OnOk, IsTrue, length};
 ghost use Rattle.std.specs.List.{AllByRecursion};
-ghost use Rattle.vs_faults.specs.Faults.{HasCause};
-ghost use Rattle.vs_pages.specs.Calls.{Continues, OnlyReads};
+ghost use Rattle.vs_pages.specs.Calls.{Continues, OnlyReads, StopsAtFault};
 ghost use Rattle.vs_tree_shape.specs.Places.{lines_below, replaced};
 ghost use Rattle.vs_tree_shape.specs.Changes.{pointer_entry};
 ghost use Rattle.vs_tree_blocks.specs.Blocks.{FitsFields};
 ghost use Rattle.vs_tree_blocks.specs.Pointers.{HasEntry, HasRoot, OfReplaced, PutsEntry, StandsAsRoot, levels_more, OfEntries, ReplacesEntry, HalvesReplaced};
-ghost use Rattle.vs_tree_blocks.specs.Writes.{Touches};
+ghost use Rattle.vs_tree_blocks.specs.Writes.{Spares, Touches, TouchesOnly};
 
 use crate::bytes::to_ptr;
 use crate::load_entries;
@@ -36,9 +35,9 @@ fn put_entry<P: Pages>(
     ensures entry { IfOk result (λ now. now ≡ pointer_entry top.block (top.lines - place.entry.lines + new.lines)) }
     ensures fields { IfOk result FitsFields }
     ensures put { OnOk result (PutsEntry P.Pages pages.old pages.new top.block place.index new) }
-    ensures works { OnOk result (Touches P.Pages pages.old pages.new 1) }
+    ensures works { OnOk result (TouchesOnly P.Pages pages.old pages.new 1) }
     ensures kept { Continues P.Pages pages.old pages.new }
-    ensures cause { HasCause (P.shows pages.old).faults (P.shows pages.new).faults (IsErrOf result PageErr.Failed) }
+    ensures cause { StopsAtFault P.Pages (IsErrOf result PageErr.Failed) pages.old pages.new }
 {
     let from = entry_place(place.index as u16);
     pages.patch(alloc, top.block, from, &to_ptr(&new).to_bytes())?;
@@ -67,7 +66,7 @@ fn load_replaced<P: Pages>(
     ensures few { IfOk result (λ all. length all.items ≤ 126 + length by.now) }
     ensures lines { IfOk result (λ all. lines_below all.items + place.entry.lines ≡ top.lines + lines_below by.now) }
     ensures kept { OnlyReads P.Pages pages.old pages.new }
-    ensures cause { HasCause (P.shows pages.old).faults (P.shows pages.new).faults (IsErrOf result PageErr.Failed) }
+    ensures cause { StopsAtFault P.Pages (IsErrOf result PageErr.Failed) pages.old pages.new }
 {
     let old = load_entries(alloc, pages, top)?;
     if place.index >= old.len() || old[place.index] != place.entry {
@@ -100,11 +99,12 @@ pub fn exchange_entry<P: Pages>(
     ensures fields { IfOk result (λ above. AllByRecursion FitsFields above.items) }
     ensures few { IfOk result (λ above. length above.items ≤ 3) }
     ensures lines { IfOk result (λ above. lines_below above.items + place.entry.lines ≡ top.lines + lines_below by.now) }
+    ensures others { OnOk result (Spares P.Pages pages.old pages.new top.block) }
     ensures works { OnOk result (Touches P.Pages pages.old pages.new 2) }
-    ensures one { OnOk result (length by.now ≤ 1 → Touches P.Pages pages.old pages.new 1) }
+    ensures one { OnOk result (length by.now ≤ 1 → TouchesOnly P.Pages pages.old pages.new 1) }
     ensures single { IfOk result (λ above. length by.now ≤ 1 → length above.items ≤ 1) }
     ensures kept { Continues P.Pages pages.old pages.new }
-    ensures cause { HasCause (P.shows pages.old).faults (P.shows pages.new).faults (IsErrOf result PageErr.Failed) }
+    ensures cause { StopsAtFault P.Pages (IsErrOf result PageErr.Failed) pages.old pages.new }
 {
     if by.len() == 1 {
         let above = put_entry(alloc, pages, top, place, by[0])?;
@@ -138,10 +138,11 @@ pub fn exchange_in_root<P: Pages>(
     ensures level { IfOk result (λ more. length by.now ≤ 1 → more ≡ 0) }
     ensures deeper { IfOk result (λ more. OfEntries P.Pages pages.old 1 (λ entries. more ≡ levels_more (replaced entries place.index by.now))) }
     ensures blocks { IfOk result (λ more. OfReplaced P.Pages pages.old 1 place.index by.now (λ entries. HasRoot (P.shows pages.new).present entries more)) }
+    ensures others { OnOk result (Spares P.Pages pages.old pages.new 1) }
     ensures works { OnOk result (Touches P.Pages pages.old pages.new 3) }
-    ensures one { OnOk result (length by.now ≤ 1 → Touches P.Pages pages.old pages.new 1) }
+    ensures one { OnOk result (length by.now ≤ 1 → TouchesOnly P.Pages pages.old pages.new 1) }
     ensures kept { Continues P.Pages pages.old pages.new }
-    ensures cause { HasCause (P.shows pages.old).faults (P.shows pages.new).faults (IsErrOf result PageErr.Failed) }
+    ensures cause { StopsAtFault P.Pages (IsErrOf result PageErr.Failed) pages.old pages.new }
 {
     if by.len() == 1 {
         put_entry(alloc, pages, top, place, by[0])?;

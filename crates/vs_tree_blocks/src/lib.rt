@@ -20,12 +20,14 @@ mod run;
 mod split;
 
 pub use add::add_block;
+pub use bytes::pointer_bytes;
 pub use data::edit_data;
-pub use depths::has_one_list;
+pub use depths::{filled_is_low, has_one_list};
 pub use edit::{Edit, Edited, MOST_RUNS, Removed};
 pub use entries::load_entries;
 pub use exchange::{exchange_entry, exchange_in_root};
 pub use find::find_below;
 pub use first::write_first;
 pub use load::{load_data, load_line};
+pub use pointers::{MOST_ENTRIES, entry_above, halve};
 pub use run::{FirstRun, Run};

@@ -1,9 +1,8 @@
 // Data blocks of several pages, each with one line.
 ghost use Rattle.std.specs.Prelude.{◌≡◌, ◌≤◌, ◌<◌, ◌+◌, [], IsErrOf, IfOk, OnOk, IsTrue, length};
 ghost use Rattle.std.specs.List.{AllByRecursion};
-ghost use Rattle.vs_faults.specs.Faults.{HasCause};
 ghost use Rattle.vs_text.specs.Text.{bytes_of};
-ghost use Rattle.vs_pages.specs.Calls.{Continues};
+ghost use Rattle.vs_pages.specs.Calls.{Continues, StopsAtFault};
 ghost use Rattle.vs_tree_shape.specs.Places.{lines_below};
 ghost use Rattle.vs_tree_blocks.specs.Blocks.{FitsFields, LeadsToData};
 ghost use Rattle.vs_tree_blocks.specs.Edits.{added_by, CutsBlock, EditsLong, IsEdit, MayTake, most_entries, WorksLong};
@@ -26,7 +25,7 @@ fn remove_long<P: Pages>(alloc: Global, pages: &mut P, entry: Entry) -> Result<E
     ensures bytes { IfOk result (λ after. OfLines P.Pages pages.old entry (λ lines. after.removed.bytes ≡ bytes_of lines)) }
     ensures none { IfOk result (λ after. after.entries.items ≡ []) }
     ensures kept { Continues P.Pages pages.old pages.new }
-    ensures cause { HasCause (P.shows pages.old).faults (P.shows pages.new).faults (IsErrOf result PageErr.Failed) }
+    ensures cause { StopsAtFault P.Pages (IsErrOf result PageErr.Failed) pages.old pages.new }
 {
     let mut bytes = Vec::new(alloc);
     let view = load_data(alloc, pages, entry, &mut bytes)?;
@@ -61,7 +60,7 @@ pub fn edit_long<P: Pages>(
     ensures single { IfOk result (λ after. length after.entries.items ≤ most_entries edit.entry) }
     ensures works { OnOk result (WorksLong P.Pages pages.old pages.new entry edit.entry 1) }
     ensures kept { Continues P.Pages pages.old pages.new }
-    ensures cause { HasCause (P.shows pages.old).faults (P.shows pages.new).faults (IsErrOf result PageErr.Failed) }
+    ensures cause { StopsAtFault P.Pages (IsErrOf result PageErr.Failed) pages.old pages.new }
 {
     match edit {
         Edit::Before(lines) => {

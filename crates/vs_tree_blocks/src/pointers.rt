@@ -1,14 +1,13 @@
 // Pointer blocks, written to pages.
 ghost use Rattle.std.specs.Prelude.{◌≡◌, ◌≤◌, ◌<◌, ◌+◌, ◌^◌, ◌∷◌, [], suc, IsErrOf, IfOk, OnOk, IsTrue, length, take, drop};
 ghost use Rattle.std.specs.List.{AllByRecursion};
-ghost use Rattle.vs_faults.specs.Faults.{HasCause};
-ghost use Rattle.vs_pages.specs.Calls.{Continues};
+ghost use Rattle.vs_pages.specs.Calls.{Continues, StopsAtFault};
 ghost use Rattle.vs_tree_shape.specs.Places.{lines_below};
 ghost use Rattle.vs_tree_shape.specs.Changes.{pointer_entry};
 ghost use Rattle.vs_tree_blocks.specs.Blocks.{FitsFields};
 ghost use Rattle.vs_tree_blocks.specs.Cuts.{half_of};
 ghost use Rattle.vs_tree_blocks.specs.Pointers.{HasRoot, IsHalvedBelow, Leads, StandsAsRoot, halves_of, levels_more, pointer_blocks};
-ghost use Rattle.vs_tree_blocks.specs.Writes.{IsThere, StandsOver, Touches};
+ghost use Rattle.vs_tree_blocks.specs.Writes.{IsThere, Spares, StandsOver, Touches, TouchesOnly};
 
 use crate::add_block;
 use crate::bytes::pointer_bytes;
@@ -17,10 +16,10 @@ use vs_pages::{PageErr, Pages};
 use vs_tree_shape::Entry;
 
 /// The greatest number of entries of a pointer block of one page. docs/FORMATS.md, "Pointer blocks".
-const MOST_ENTRIES: usize = 127;
+pub const MOST_ENTRIES: usize = 127;
 
-// The entry of a pointer block with these entries.
-fn entry_above(block: u64, entries: &[Entry]) -> Entry
+/// The entry of a pointer block with these entries.
+pub fn entry_above(block: u64, entries: &[Entry]) -> Entry
     requires block { block < 2 ^ 63 }
     requires small { lines_below entries.now < 2 ^ 63 }
     ensures entry { result ≡ pointer_entry block (lines_below entries.now) }
@@ -55,10 +54,11 @@ fn write_one<P: Pages>(
     ensures fields { IfOk result (λ above. AllByRecursion FitsFields above.items) }
     ensures few { IfOk result (λ above. length above.items ≤ 3) }
     ensures lines { IfOk result (λ above. lines_below above.items ≡ lines_below entries.now) }
-    ensures works { OnOk result (Touches P.Pages pages.old pages.new 1) }
+    ensures others { OnOk result (Spares P.Pages pages.old pages.new block) }
+    ensures works { OnOk result (TouchesOnly P.Pages pages.old pages.new 1) }
     ensures single { IfOk result (λ above. length above.items ≤ 1) }
     ensures kept { Continues P.Pages pages.old pages.new }
-    ensures cause { HasCause (P.shows pages.old).faults (P.shows pages.new).faults (IsErrOf result PageErr.Failed) }
+    ensures cause { StopsAtFault P.Pages (IsErrOf result PageErr.Failed) pages.old pages.new }
 {
     let above = vec![in alloc; entry_above(block, entries)]?;
     let bytes = pointer_bytes(alloc, entries)?;
@@ -66,8 +66,8 @@ fn write_one<P: Pages>(
     Ok(above)
 }
 
-// The first half of entries, rounded up, and the others.
-fn halve(entries: &[Entry]) -> (&[Entry], &[Entry])
+/// The first half of entries, rounded up, and the others.
+pub fn halve(entries: &[Entry]) -> (&[Entry], &[Entry])
     ensures first { result.0.now ≡ take (half_of (length entries.now)) entries.now }
     ensures second { result.1.now ≡ drop (half_of (length entries.now)) entries.now }
 {
@@ -92,9 +92,10 @@ fn write_two<P: Pages>(
     ensures fields { IfOk result (λ above. AllByRecursion FitsFields above.items) }
     ensures few { IfOk result (λ above. length above.items ≤ 3) }
     ensures lines { IfOk result (λ above. lines_below above.items ≡ lines_below entries.now) }
+    ensures others { OnOk result (Spares P.Pages pages.old pages.new block) }
     ensures works { OnOk result (Touches P.Pages pages.old pages.new 2) }
     ensures kept { Continues P.Pages pages.old pages.new }
-    ensures cause { HasCause (P.shows pages.old).faults (P.shows pages.new).faults (IsErrOf result PageErr.Failed) }
+    ensures cause { StopsAtFault P.Pages (IsErrOf result PageErr.Failed) pages.old pages.new }
 {
     let (first, second) = halve(entries);
     let bytes = pointer_bytes(alloc, first)?;
@@ -125,11 +126,12 @@ pub fn write_pointers<P: Pages>(
     ensures fields { IfOk result (λ above. AllByRecursion FitsFields above.items) }
     ensures few { IfOk result (λ above. length above.items ≤ 3) }
     ensures lines { IfOk result (λ above. lines_below above.items ≡ lines_below entries.items) }
+    ensures others { OnOk result (Spares P.Pages pages.old pages.new block) }
     ensures works { OnOk result (Touches P.Pages pages.old pages.new 2) }
-    ensures one { OnOk result (length entries.items ≤ 127 → Touches P.Pages pages.old pages.new 1) }
+    ensures one { OnOk result (length entries.items ≤ 127 → TouchesOnly P.Pages pages.old pages.new 1) }
     ensures single { IfOk result (λ above. length entries.items ≤ 127 → length above.items ≤ 1) }
     ensures kept { Continues P.Pages pages.old pages.new }
-    ensures cause { HasCause (P.shows pages.old).faults (P.shows pages.new).faults (IsErrOf result PageErr.Failed) }
+    ensures cause { StopsAtFault P.Pages (IsErrOf result PageErr.Failed) pages.old pages.new }
 {
     if entries.is_empty() {
         pages.free(alloc, block, 1)?;
@@ -150,9 +152,10 @@ fn lift_root<P: Pages>(alloc: Global, pages: &mut P, entries: &[Entry]) -> Resul
     requires few { length entries.now ≤ 254 }
     ensures wrote { OnOk result (StandsOver P.Pages pages.old pages.new 1 (λ d. suc (suc d)) entries.now (pointer_entry 1 (lines_below entries.now) ∷ [])) }
     ensures blocks { OnOk result (IsTrue P.tells → IsHalvedBelow (P.shows pages.new).present entries.now) }
+    ensures others { OnOk result (Spares P.Pages pages.old pages.new 1) }
     ensures works { OnOk result (Touches P.Pages pages.old pages.new 3) }
     ensures kept { Continues P.Pages pages.old pages.new }
-    ensures cause { HasCause (P.shows pages.old).faults (P.shows pages.new).faults (IsErrOf result PageErr.Failed) }
+    ensures cause { StopsAtFault P.Pages (IsErrOf result PageErr.Failed) pages.old pages.new }
 {
     let (first, second) = halve(entries);
     let bytes = pointer_bytes(alloc, first)?;
@@ -181,10 +184,11 @@ pub fn write_root<P: Pages>(
     ensures more { IfOk result (λ more. more ≤ 1) }
     ensures deeper { IfOk result (λ more. more ≡ levels_more entries.items) }
     ensures blocks { IfOk result (λ more. IsTrue P.tells → HasRoot (P.shows pages.new).present entries.items more) }
+    ensures others { OnOk result (Spares P.Pages pages.old pages.new 1) }
     ensures works { OnOk result (Touches P.Pages pages.old pages.new 3) }
-    ensures one { OnOk result (length entries.items ≤ 127 → Touches P.Pages pages.old pages.new 1) }
+    ensures one { OnOk result (length entries.items ≤ 127 → TouchesOnly P.Pages pages.old pages.new 1) }
     ensures kept { Continues P.Pages pages.old pages.new }
-    ensures cause { HasCause (P.shows pages.old).faults (P.shows pages.new).faults (IsErrOf result PageErr.Failed) }
+    ensures cause { StopsAtFault P.Pages (IsErrOf result PageErr.Failed) pages.old pages.new }
 {
     if entries.len() > MOST_ENTRIES {
         lift_root(alloc, pages, &entries)?;

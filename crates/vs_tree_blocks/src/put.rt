@@ -1,11 +1,10 @@
 // Runs of lines, put into a data block of one page or into the halves of one.
 ghost use Rattle.std.specs.Prelude.{◌≤◌, ◌<◌, ◌-◌, ◌^◌, ◌∷◌, [], Ok, IsErrOf, IfOk, OnOk, length};
-ghost use Rattle.vs_faults.specs.Faults.{HasCause};
-ghost use Rattle.vs_pages.specs.Calls.{Continues};
+ghost use Rattle.vs_pages.specs.Calls.{Continues, StopsAtFault};
 ghost use Rattle.vs_data.specs.Blocks.{free_space, space_of};
 ghost use Rattle.vs_tree_blocks.specs.Cuts.{blocks_with, split_with};
 ghost use Rattle.vs_tree_blocks.specs.Parts.{IsBlock, page_lines};
-ghost use Rattle.vs_tree_blocks.specs.Writes.{HasPage, IsThere, Touches, Writes};
+ghost use Rattle.vs_tree_blocks.specs.Writes.{HasPage, IsThere, Touches, TouchesOnly, Writes};
 
 use crate::beside::put_between;
 use crate::split::{Page, Parts, choose_half, first_half, split_around};
@@ -29,7 +28,7 @@ fn write_parts<P: Pages>(
     ensures wrote { IfOk result (λ by. Writes P.Pages pages.old pages.new block (page_lines parts.now.first ∷ page_lines parts.now.second ∷ []) by.items) }
     ensures works { OnOk result (Touches P.Pages pages.old pages.new 2) }
     ensures kept { Continues P.Pages pages.old pages.new }
-    ensures cause { HasCause (P.shows pages.old).faults (P.shows pages.new).faults (IsErrOf result PageErr.Failed) }
+    ensures cause { StopsAtFault P.Pages (IsErrOf result PageErr.Failed) pages.old pages.new }
 {
     pages.touch(alloc, block, 1, &parts.first.bytes)?;
     let other = add_block(alloc, pages, 1, &parts.second.bytes)?;
@@ -50,10 +49,10 @@ pub fn write_whole<P: Pages>(
     requires block { block < 2 ^ 63 }
     requires page { IsBlock page }
     ensures wrote { IfOk result (λ entries. Writes P.Pages pages.old pages.new block (page_lines page ∷ []) entries.items) }
-    ensures works { OnOk result (Touches P.Pages pages.old pages.new 1) }
+    ensures works { OnOk result (TouchesOnly P.Pages pages.old pages.new 1) }
     ensures single { IfOk result (λ entries. length entries.items ≤ 1) }
     ensures kept { Continues P.Pages pages.old pages.new }
-    ensures cause { HasCause (P.shows pages.old).faults (P.shows pages.new).faults (IsErrOf result PageErr.Failed) }
+    ensures cause { StopsAtFault P.Pages (IsErrOf result PageErr.Failed) pages.old pages.new }
 {
     let whole = page.entry(block);
     pages.put(alloc, block, page.bytes)?;
@@ -80,7 +79,7 @@ fn put_split<P: Pages>(
     ensures wrote { IfOk result (λ by. Writes P.Pages pages.old pages.new block (split_with (page.view.text_end - 24) (page_lines page) at run.now) by.items) }
     ensures works { OnOk result (space_of run.now ≤ 4072 → Touches P.Pages pages.old pages.new 3) }
     ensures kept { Continues P.Pages pages.old pages.new }
-    ensures cause { HasCause (P.shows pages.old).faults (P.shows pages.new).faults (IsErrOf result PageErr.Failed) }
+    ensures cause { StopsAtFault P.Pages (IsErrOf result PageErr.Failed) pages.old pages.new }
 {
     let half = first_half(page.view.count);
     let Some(side) = choose_half(&page, half, at, run) else {
@@ -109,7 +108,7 @@ pub fn put_run<P: Pages>(
         (λ by. Writes P.Pages pages.old pages.new block (blocks_with (page.view.text_end - 24) (page_lines page) at run.now) by.items) }
     ensures works { OnOk result (space_of run.now ≤ 4072 → Touches P.Pages pages.old pages.new 3) }
     ensures kept { Continues P.Pages pages.old pages.new }
-    ensures cause { HasCause (P.shows pages.old).faults (P.shows pages.new).faults (IsErrOf result PageErr.Failed) }
+    ensures cause { StopsAtFault P.Pages (IsErrOf result PageErr.Failed) pages.old pages.new }
 {
     if !run.fits(page.view) {
         return put_split(alloc, pages, block, page, at, run);

@@ -1,8 +1,7 @@
 // Lines that are put in together.
 ghost use Rattle.std.specs.Prelude.{◌≡◌, ◌≤◌, ◌<◌, ◌+◌, ◌*◌, ◌/◌, ◌^◌, ◌↔◌, ◌++◌, ◌∷◌, [], Some, Ok, IsErrOf, IfOk, OnOk};
 ghost use Rattle.std.specs.Prelude.{ℕ, List, IsTrue, length, false};
-ghost use Rattle.vs_faults.specs.Faults.{HasCause};
-ghost use Rattle.vs_pages.specs.Calls.{Continues};
+ghost use Rattle.vs_pages.specs.Calls.{Continues, StopsAtFault};
 ghost use Rattle.vs_data.specs.Blocks.{lines_in, free_space, space_of};
 ghost use Rattle.vs_tree_shape.specs.Changes.{splice};
 ghost use Rattle.vs_tree_blocks.specs.Blocks.{FitsFields};
@@ -153,7 +152,7 @@ impl Run {
         ensures fields { IfOk result FitsFields }
         ensures works { OnOk result (space_of self.now ≤ 4072 → Touches P.Pages pages.old pages.new 1) }
         ensures kept { Continues P.Pages pages.old pages.new }
-        ensures cause { HasCause (P.shows pages.old).faults (P.shows pages.new).faults (IsErrOf result PageErr.Failed) }
+        ensures cause { StopsAtFault P.Pages (IsErrOf result PageErr.Failed) pages.old pages.new }
     {
         let block = add_block(alloc, pages, self.pages, &self.bytes)?;
         Ok(Entry {

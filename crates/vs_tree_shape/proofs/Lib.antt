@@ -1,8 +1,14 @@
+pub mod Downs
+pub mod Fills
+pub mod Joins
+pub mod Lowers
 pub mod Roots
 pub mod Shapes
 pub mod Splices
 pub mod Steps
 pub mod Sums
+pub mod Thins
+pub mod Towards
 pub mod Walks
 pub mod Working
 pub mod Writes

@@ -72,3 +72,38 @@ works_from a a' b x count le same w = works_then a a' b 0 x count (omega arith) 
 -- with page 0 one page more
 pub works_zero : (a b : List ℕ) (x count : ℕ) → x < count → WorksBesideZero a b x → Works a b count
 works_zero a b x count lt w = record { names = 0 ∷ w.names; few = omega (arith, w.few, lt); only = w.only }
+
+-- the same where no page is new
+
+pub works_only : (a b : List ℕ) (at : ℕ) → b ≡ numbers at 1 ++ a → Works a b 1
+works_only a b at is = record {
+  names = at ∷ [];
+  few = omega arith;
+  only = record { added = numbers at 1; is = is; covers = λ k out. total_numbers at 1 k ∙ omega (arith, out) };
+}
+
+pub works_idle : (a b : List ℕ) (count : ℕ) → b ≡ a → Works a b count
+works_idle a b count same = record { names = []; few = omega arith; only = record { added = []; is = same; covers = λ k out. refl } }
+
+pub works_both : (a b c : List ℕ) (x y count : ℕ) → x + y ≤ count → Works a b x → Works b c y → Works a c count
+works_both a b c x y count sum first second = record {
+  names = first.names ++ second.names;
+  few = omega (arith, sum, first.few, second.few, length-append first.names second.names);
+  only = record {
+    added = second.only.added ++ first.only.added;
+    is = second.only.is ∙ ap (λ xs. second.only.added ++ xs) first.only.is ∙ sym (append_assoc second.only.added first.only.added a);
+    covers = λ k out.
+        let parts = total-append (λ at. one at k) first.names second.names in
+        total-append (λ at. one at k) second.only.added first.only.added ∙ omega (arith, first.only.covers k (omega (arith, out, parts)), second.only.covers k (omega (arith, out, parts)));
+  };
+}
+
+pub works_still : (a a' b : List ℕ) (x count : ℕ) → x ≤ count → a' ≡ a → Works a' b x → Works a b count
+works_still a a' b x count le same w = works_both a a' b 0 x count (omega (arith, le)) (works_idle a a' 0 same) w
+
+pub works_beside : (a b : List ℕ) (count : ℕ) → Works a b count → WorksBesideZero a b count
+works_beside a b count w = record {
+  names = w.names;
+  few = w.few;
+  only = record { added = w.only.added; is = w.only.is; covers = λ k out. w.only.covers k (omega (arith, out)) };
+}

@@ -1,5 +1,7 @@
 pub mod Changes
 pub mod Depths
+pub mod Filled
+pub mod Keeps
 pub mod Paths
 pub mod Places
 pub mod Reads

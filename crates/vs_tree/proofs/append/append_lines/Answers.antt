@@ -58,3 +58,13 @@ returns-clause-lines g c = IfOk-weaker c.append_runs.result _ _
 
 pub returns-clause-kept : goal.returns-clause-kept
 returns-clause-kept g c = Continues-trans g.met.P.Pages.stays_on c.in_ok-now.ensures.kept c.append_runs.ensures.kept
+
+pub returns-then-is_empty-clause-filled : goal.returns-then-is_empty-clause-filled
+returns-then-is_empty-clause-filled g c = λ least one half told f. f
+
+pub returns-clause-filled : goal.returns-clause-filled
+returns-clause-filled g c = IfOk-weaker c.append_runs.result _ _
+    (λ (now : Root) stays least one half told f.
+    let filled = c.in-Ok.ensures in
+    stays least one half told (c.in_ok-now.ensures.filled (omega (arith, filled.some, ap length filled.stored, length-map filled.put stored_line)) least one half told f))
+    c.append_runs.ensures.filled

@@ -4,6 +4,7 @@ use Rattle.std.proofs.lemmas.List.{length-map}
 use Rattle.vs_text.specs.Text.{lines_of, stored_line}
 use Rattle.vs_pages.proofs.Steps.{Continues-none, Continues-trans}
 use Rattle.vs_tree_blocks.specs.Cuts.{all_lines}
+use Rattle.vs_tree_blocks.specs.Fills.{AllFull}
 use Rattle.vs_tree.specs.Runs.{HasTree}
 use Rattle.vs_tree.proofs.AppendLemmas.{all_put, cut_more, end_more, short_after}
 use Rattle.vs_tree.proofs.append.append_runs.Goals as goal
@@ -14,8 +15,9 @@ runs-init g c = record {
   cut = refl;
   tree = λ told lines has. subst (λ (xs : List (List ℕ)). HasTree (g.P.Pages.shows c.args.pages.now).present c.args.root xs) (sym (append-nil lines)) has;
   lines = omega arith;
+  filled = λ least one half told f. f;
   kept = Continues-none g.met.P.Pages.stays_itself c.requires.valid;
-  faults = omega arith;
+  faults = refl;
 }
 
 pub fill_runs-requires-clause-short : goal.fill_runs-requires-clause-short
@@ -46,8 +48,9 @@ runs-preserved g c =
           subst (λ (xs : List (List ℕ)). HasTree (g.P.Pages.shows c.put_runs.new.pages).present c.in_ok-now.now xs) (end_more lines inv.put filled.put (all_lines c.deref.result.now) c.runs.now.lines (sym before.count) (run_is ∙ filled.stored))
           (c.in_ok-now.ensures.put told (lines ++ map stored_line inv.put) before);
       lines = omega (arith, c.in_ok-now.ensures.lines, inv.lines, ap length run_is, ap length filled.stored, length-map filled.put stored_line, length-append inv.put filled.put);
+      filled = λ least one half told f. c.in_ok-now.ensures.filled (subst (λ (bs : List (List (List ℕ))). AllFull bs) (sym c.deref.ensures.value) c.in-Ok.ensures.full) least one half told (inv.filled least one half told f);
       kept = Continues-trans g.met.P.Pages.stays_on inv.kept c.put_runs.ensures.kept;
-      faults = omega (arith, c.put_runs.ensures.cause.later, inv.faults);
+      faults = c.in_ok-now.ensures.cause.none (λ failed. absurd (cc)) ∙ inv.faults;
     }
 
 pub returns-clause-put : goal.returns-clause-put
@@ -67,3 +70,6 @@ returns-in_err-now-clause-kept g c = Continues-trans g.met.P.Pages.stays_on c.ru
 
 pub put_runs-requires-clause-few : goal.put_runs-requires-clause-few
 put_runs-requires-clause-few g c = omega (arith, ap length c.deref.ensures.value, c.in-Ok.ensures.few)
+
+pub returns-clause-filled : goal.returns-clause-filled
+returns-clause-filled g c = c.runs.invariant.filled

@@ -1,7 +1,8 @@
 -- The lines that are put so far are the first ones, and those of the rest come after them.
-use Rattle.std.proofs.Common.{◌≡◌, ◌≤◌, ◌+◌, ◌++◌, ℕ, List, IsTrue, length, map}
+use Rattle.std.proofs.Common.{◌≡◌, ◌+◌, ◌++◌, ℕ, List, IsTrue, length, map}
 use Rattle.vs_pages.specs.Calls.{Continues}
 use Rattle.vs_text.specs.Text.{lines_of, stored_line}
+use Rattle.vs_tree.specs.Fills.{StaysFilled}
 use Rattle.vs_tree.specs.Runs.{HasTree}
 use Rattle.vs_tree.proofs.append.append_runs.Given as goal
 
@@ -11,8 +12,9 @@ invariant-runs g l = record {
   cut : lines_of l.bytes ≡ put ++ lines_of l.rest;
   tree : IsTrue g.P.Pages.tells → (lines : List (List ℕ)) → HasTree (g.P.Pages.shows l.fn.pages).present l.fn.root lines → HasTree (g.P.Pages.shows l.pages).present l.now (lines ++ map stored_line put);
   lines : l.now.lines ≡ l.fn.root.lines + length put;
+  filled : StaysFilled g.P.Pages l.fn.pages l.pages l.fn.root l.now;
   kept : Continues g.P.Pages l.fn.pages l.pages;
-  faults : (g.P.Pages.shows l.fn.pages).faults ≤ (g.P.Pages.shows l.pages).faults;
+  faults : (g.P.Pages.shows l.pages).faults ≡ (g.P.Pages.shows l.fn.pages).faults;
 }
 
 abbrev pub decreases-runs : goal.decreases-runs

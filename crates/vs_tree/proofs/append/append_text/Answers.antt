@@ -1,5 +1,6 @@
-use Rattle.std.proofs.Common.{◌≡◌, ℕ, ◌<◌, List, length, ap, subst, ◌∙◌, arith, length-append}
+use Rattle.std.proofs.Common.{◌≡◌, ℕ, ◌<◌, List, length, sym, ap, subst, ◌∙◌, arith, length-append}
 use Rattle.vs_text.specs.Text.{lines_of, stored}
+use Rattle.vs_tree_shape.specs.Filled.{HasFilledRoot}
 use Rattle.vs_tree_shape.specs.Trees.{HasLines}
 use Rattle.vs_tree_blocks.specs.Blocks.{tree_format}
 use Rattle.vs_tree.specs.declared.walk.Root.{Root}
@@ -40,3 +41,8 @@ pub returns-clause-lines : goal.returns-clause-lines
 returns-clause-lines g c =
     let root : c.root.result.lines ≡ c.args.now.lines = ap (λ (r : Root). r.lines) c.root.ensures ∙ tree_lines_some c.args.now.lines c.requires.full in
     omega (arith, root, c.in_ok-tree.ensures.lines)
+
+pub returns-clause-filled : goal.returns-clause-filled
+returns-clause-filled g c = λ told f.
+    let height : c.root.result.height ≡ c.args.now.height = ap (λ (r : Root). r.height) c.root.ensures in
+    c.in_ok-tree.ensures.filled 32 (omega arith) (omega arith) told (subst (λ (h : ℕ). HasFilledRoot tree_format (g.P.Pages.shows c.args.pages.now).present 32 h) (sym height) f)

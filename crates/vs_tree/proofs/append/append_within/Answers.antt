@@ -68,3 +68,6 @@ returns-clause-lines g c = IfOk-weaker c.append_text.result _ _
 pub returns-clause-few : goal.returns-clause-few
 returns-clause-few g c = IfOk-weaker c.append_text.result _ _
     (λ (extent : Extent) bytes. omega (arith, bytes, sized c.args.lines.now c.bytes-bytes.result.now c.bytes-bytes.ensures.bytes, c.requires.few_bytes)) c.append_text.ensures.bytes
+
+pub returns-then-is_empty-clause-filled : goal.returns-then-is_empty-clause-filled
+returns-then-is_empty-clause-filled g c = λ told f. f

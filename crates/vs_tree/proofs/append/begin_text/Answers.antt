@@ -1,5 +1,5 @@
 -- The first line comes in place of the empty one, and the others come after it.
-use Rattle.std.proofs.Common.{ℕ, List, [], ◌∷◌, length, ap, subst, arith}
+use Rattle.std.proofs.Common.{ℕ, inr, List, [], ◌∷◌, length, ap, subst, arith}
 use Rattle.std.proofs.lemmas.Result.{IfOk-weaker}
 use Rattle.vs_text.specs.Text.{bytes_of}
 use Rattle.vs_pages.proofs.Steps.{Continues-trans}
@@ -52,3 +52,7 @@ returns-clause-few g c = IfOk-weaker c.append_text.result _ _
 
 pub returns-clause-kept : goal.returns-clause-kept
 returns-clause-kept g c = Continues-trans g.met.P.Pages.stays_on c.splice_within.ensures.kept c.append_text.ensures.kept
+
+pub returns-clause-filled : goal.returns-clause-filled
+returns-clause-filled g c = IfOk-weaker c.append_text.result _ _
+    (λ (extent : Extent) fills told f. fills told (c.in_ok-put.ensures.filled (inr (omega (arith, c.requires.empty))) told f)) c.append_text.ensures.filled

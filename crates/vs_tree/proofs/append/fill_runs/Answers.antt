@@ -1,6 +1,10 @@
 -- The runs have the first lines of the bytes, and those of the rest come after them.
-use Rattle.std.proofs.Common.{◌≡◌, ℕ, List, [], ◌∷◌, ◌++◌, length, sym, ap, subst, ◌∙◌, arith, append-nil, length-append}
+use Rattle.std.proofs.Common.{◌≡◌, ℕ, ◌≤◌, List, [], ◌∷◌, ◌++◌, length, sym, ap, subst, ◌∙◌, arith, append-nil, length-append}
+use Rattle.std.proofs.lemmas.List.{length-map}
+use Rattle.vs_text.specs.Text.{stored_line}
+use Rattle.vs_tree_shape.proofs.Shapes.{each-append}
 use Rattle.vs_tree_blocks.specs.Cuts.{all_lines}
+use Rattle.vs_tree_blocks.specs.Fills.{AllFull}
 use Rattle.vs_tree_blocks.proofs.CutsLemmas.{all_both}
 use Rattle.vs_tree.specs.Appends.{IsFilled}
 use Rattle.vs_tree.proofs.AppendLemmas.{filled_both, short_after}
@@ -13,6 +17,7 @@ runs-init c =
     record {
       filled = subst (λ (run : List (List ℕ)). IsFilled c.args.bytes.now run first.rest.now) (sym is) c.in-Ok.ensures;
       few = omega (arith, ap length c.in_ok-runs.ensures.items);
+      full = subst (λ (bs : List (List (List ℕ))). AllFull bs) (sym c.in_ok-runs.ensures.items) (omega (arith, c.in-Ok.ensures.some, ap length c.in-Ok.ensures.stored, length-map c.in-Ok.ensures.put stored_line), tt);
       short = short_after c.args.bytes.now first.rest.now c.in-Ok.ensures.put c.in-Ok.ensures.lines c.requires.short;
     }
 
@@ -26,5 +31,7 @@ runs-preserved c =
     record {
       filled = filled_both c.args.bytes.now c.runs.rest.now filled.rest.now (all_lines before) filled.run (all_lines c.push.new.self.items) inv.filled c.in-Ok-fill_from.ensures is;
       few = omega (arith, ap length items, length-append before (filled.run ∷ []));
+      full = subst (λ (bs : List (List (List ℕ))). AllFull bs) (sym items) (each-append (λ (ls : List (List ℕ)). 1 ≤ length ls) before (filled.run ∷ []) inv.full
+          (omega (arith, c.in-Ok-fill_from.ensures.some, ap length c.in-Ok-fill_from.ensures.stored, length-map c.in-Ok-fill_from.ensures.put stored_line), tt));
       short = short_after c.runs.rest.now filled.rest.now c.in-Ok-fill_from.ensures.put c.in-Ok-fill_from.ensures.lines inv.short;
     }

@@ -2,6 +2,7 @@ use Rattle.std.proofs.Common.{◌≤◌, All, length}
 use Rattle.vs_text.specs.Text.{lines_of}
 use Rattle.vs_text.specs.Limits.{IsShort}
 use Rattle.vs_tree_blocks.specs.Cuts.{all_lines}
+use Rattle.vs_tree_blocks.specs.Fills.{AllFull}
 use Rattle.vs_tree.specs.Appends.{IsFilled}
 use Rattle.vs_tree.proofs.append.fill_runs.Given as goal
 
@@ -9,6 +10,7 @@ abbrev pub invariant-runs : goal.invariant-runs
 invariant-runs l = record {
   filled : IsFilled l.bytes (all_lines l.runs.items) l.rest;
   few : length l.runs.items ≤ 126;
+  full : AllFull l.runs.items;
   short : All IsShort (lines_of l.rest);
 }
 

@@ -1,18 +1,27 @@
 use Rattle.vs_tree.proofs.change.edit_tree.Goals as goal
-use Rattle.std.proofs.Common.{◌≡◌, ℕ, ◌-◌, List, refl, arith, rules, sym, ap, subst, ◌∙◌, length}
-use Rattle.vs_faults.proofs.Causes.{risen_after}
+use Rattle.std.proofs.Common.{◌≡◌, ℕ, ◌+◌, ◌-◌, ◌≤◌, List, Some, refl, arith, sym, ap, subst, ◌∙◌, length}
 use Rattle.vs_pages.specs.Maps.{Map}
 use Rattle.vs_pages.proofs.Steps.{Continues-trans, OnlyReads-continues}
 use Rattle.vs_tree_shape.specs.declared.entries.Entry.{Entry}
 use Rattle.vs_tree_shape.specs.Changes.{HasLineBelow, pointer_entry}
 use Rattle.vs_tree_shape.specs.Places.{lines_below, replaced}
 use Rattle.vs_tree_shape.proofs.Roots.{first_above, depth_short, not_flat, lines_edited}
-use Rattle.vs_tree_shape.proofs.Steps.{above_down, above_entries, pointers_there}
+use Rattle.vs_tree_shape.specs.Filled.{HasFilledBelow, AllFilledBelow}
+use Rattle.vs_tree_shape.proofs.Fills.{filled_at, filled_less, place_within}
+use Rattle.vs_tree_shape.proofs.Steps.{above_down, above_entries, filled_inside, pointers_there}
+use Rattle.vs_tree_blocks.proofs.ExchangeLemmas.{replaced_below}
+use Rattle.vs_tree_blocks.proofs.FillLemmas.{root_filled}
+use Rattle.vs_tree_shape.specs.Filled.{HasFilledRootBut, steps_back}
+use Rattle.vs_tree_shape.specs.Paths.{IsWalk}
+use Rattle.vs_tree_blocks.specs.Fills.{KeepsFilled, IsThinned}
+use Rattle.vs_tree_blocks.specs.Pointers.{HasRoot}
+use Rattle.vs_tree.proofs.ThinEdits.{IsThinAbove, lost_added, lost_full, lost_single, thin_step}
+use Rattle.vs_tree.proofs.EditFills.{root_enough}
 use Rattle.vs_tree_blocks.specs.Blocks.{tree_format, entries_at, LeadsToPointers}
 use Rattle.vs_tree_blocks.specs.Edits.{change_of, most_in_tree}
 use Rattle.vs_tree_blocks.specs.Pointers.{HasEntry}
-use Rattle.vs_tree.proofs.Bounds.{few_below, few_lines, root_work}
-use Rattle.vs_tree.proofs.ChangeLemmas.{entries_kept, has_entry, promised, few_added}
+use Rattle.vs_tree.proofs.Bounds.{few_below, few_lines, go_below, go_lines, root_work}
+use Rattle.vs_tree.proofs.ChangeLemmas.{entries_kept, has_entry, place_got, promised, few_added}
 
 pub damaged-requires-clause-silent : goal.damaged-requires-clause-silent
 damaged-requires-clause-silent g c = λ told. let r = c.requires.there told in
@@ -102,26 +111,99 @@ returns-in_err-more-clause-kept g c = Continues-trans g.met.P.Pages.stays_on (Co
 pub returns-in_err-place-clause-kept : goal.returns-in_err-place-clause-kept
 returns-in_err-place-clause-kept g c = OnlyReads-continues c.find_below.ensures.kept
 
-pub returns-in_err-place-clause-cause : goal.returns-in_err-place-clause-cause
-returns-in_err-place-clause-cause g c = record {
-  later = c.find_below.ensures.cause.later;
-  risen = λ failed. c.find_below.ensures.cause.risen (search rules);
-}
+pub returns-clause-filled : goal.returns-clause-filled
+returns-clause-filled g c = λ most least keeps left told filled.
+    let r = c.requires.there told in
+    let has = r.1 in
+    let m : Map = (g.P.Pages.shows c.args.pages.now).present in
+    let n : Map = (g.P.Pages.shows c.exchange_in_root.new.pages).present in
+    let height : ℕ = c.args.root.height in
+    let of = c.in_ok-place.ensures.place told in
+    let place = c.in_ok-place.place in
+    let top : Entry = pointer_entry 1 c.args.root.lines in
+    let all : List Entry = replaced of.entries place.index c.deref.result.now in
+    let mid = ap (λ by. replaced of.entries place.index by) c.deref.ensures.value in
+    let change = change_of c.args.edit c.in_ok-below.below.removed.lines in
+    let reads = sym (ap (λ (e : Entry). entries_at m e.block) c.entry-top.ensures) ∙ of.reads in
+    let promise = promised _ _ _ _ _ _ _ _ _ _ (c.find_below.ensures.kept.present told) c.saturating_sub.ensures (c.in_ok-below.ensures.wrote told) in
+    let flat = not_flat _ _ _ _ has.lines_are in
+    let above = first_above _ _ _ c.args.at _ _ has.lines_are has.count c.requires.within c.requires.small in
+    let same = pointers_there _ _ (g.P.Pages.shows c.edit_below.new.pages).present top height _ c.in_ok-below.below.removed.bytes change of.entries c.in_ok-below.below.entries.items all place flat reads of.is mid promise above in
+    let now = entries_kept m (g.P.Pages.shows c.edit_below.new.pages).present 1 of.entries same reads in
+    let both : Some filled.0 ≡ Some of.entries = sym filled.1 ∙ reads in
+    let one : filled.0 ≡ of.entries = cc in
+    let old : AllFilledBelow tree_format m most (height - 1) of.entries = subst (λ (es : List Entry). AllFilledBelow tree_format m most (height - 1) es) one filled.3 in
+    let child = filled_at tree_format m most (height - 1) of.entries c.args.at place of.is old in
+    let below = c.in_ok-below.ensures.filled told most least keeps (subst (λ (d : ℕ). HasFilledBelow tree_format (g.P.Pages.shows c.find_below.new.pages).present most d place.entry) (sym c.saturating_sub.ensures)
+    (subst (λ (f : Map). HasFilledBelow tree_format f most (height - 1) place.entry) (sym (c.find_below.ensures.kept.present told)) child)) in
+    let new : AllFilledBelow tree_format (g.P.Pages.shows c.edit_below.new.pages).present least (height - 1) c.in_ok-below.below.entries.items =
+    subst (λ (d : ℕ). AllFilledBelow tree_format (g.P.Pages.shows c.edit_below.new.pages).present least d c.in_ok-below.below.entries.items) c.saturating_sub.ensures below.0 in
+    let inside = filled_inside tree_format m _ n top height least c.args.at c.in_ok-below.below.removed.bytes change of.entries c.in_ok-below.below.entries.items all place flat reads of.is mid promise above
+    (c.in_ok-more.ensures.others told) (filled_less tree_format m most least (height - 1) of.entries (omega (arith, keeps.sum)) old) new in
+    let e = above_entries _ _ top height _ flat above in
+    let listed : Some e.0 ≡ Some of.entries = sym e.1 ∙ reads in
+    let those : e.0 ≡ of.entries = cc in
+    let sum : lines_below of.entries ≡ c.args.root.lines = ap lines_below (sym those) ∙ e.2 in
+    let some : 1 ≤ lines_below all = omega (arith, left, sum, replaced_below of.entries c.deref.result.now place.index place.entry (place_got of.entries c.args.at place of.is), ap lines_below c.deref.ensures.value, c.in_ok-below.ensures.lines, c.in_ok-place.ensures.inside, ap (λ (x : Entry). x.lines) c.entry-top.ensures, c.added.ensures) in
+    let enough = root_enough c.args.edit height c.in_ok-below.below.removed.lines place.entry.lines place.index of.entries c.deref.result.now c.in_ok-below.ensures.may_take (place_within of.entries c.args.at place of.is) (omega (arith, filled.2, ap length one))
+    (omega (arith, ap lines_below c.deref.ensures.value, c.in_ok-below.ensures.lines)) (omega (arith, c.in_ok-place.ensures.within)) some (λ deep. omega (arith, ap length c.deref.ensures.value, below.1 (omega (arith, deep, c.saturating_sub.ensures)))) in
+    root_filled n least height c.in_ok-more.more all (omega (arith, has.lines_are.deep)) keeps.half enough (c.in_ok-more.ensures.deeper told of.entries now) (c.in_ok-more.ensures.blocks told of.entries now) inside
 
-pub returns-in_err-below-clause-cause : goal.returns-in_err-below-clause-cause
-returns-in_err-below-clause-cause g c = record {
-  later = omega (arith, c.find_below.ensures.cause.later, c.edit_below.ensures.cause.later);
-  risen = λ failed. risen_after c.find_below.ensures.cause.later (c.edit_below.ensures.cause.risen (search rules));
-}
+pub returns-clause-thins : goal.returns-clause-thins
+returns-clause-thins g c = λ takes told filled two entry rest walk.
+    let r = c.requires.there told in
+    let has = r.1 in
+    let m : Map = (g.P.Pages.shows c.args.pages.now).present in
+    let m1 : Map = (g.P.Pages.shows c.find_below.new.pages).present in
+    let n1 : Map = (g.P.Pages.shows c.edit_below.new.pages).present in
+    let n : Map = (g.P.Pages.shows c.exchange_in_root.new.pages).present in
+    let height : ℕ = c.args.root.height in
+    let back : ℕ = steps_back entry rest in
+    let of = c.in_ok-place.ensures.place told in
+    let place = c.in_ok-place.place in
+    let top : Entry = pointer_entry 1 c.args.root.lines in
+    let new : List Entry = c.in_ok-below.below.entries.items in
+    let all : List Entry = replaced of.entries place.index c.deref.result.now in
+    let mid = ap (λ by. replaced of.entries place.index by) c.deref.ensures.value in
+    let change = change_of c.args.edit c.in_ok-below.below.removed.lines in
+    let reads = sym (ap (λ (e : Entry). entries_at m e.block) c.entry-top.ensures) ∙ of.reads in
+    let promise = promised _ _ _ _ _ _ _ _ _ _ (c.find_below.ensures.kept.present told) c.saturating_sub.ensures (c.in_ok-below.ensures.wrote told) in
+    let flat = not_flat _ _ _ _ has.lines_are in
+    let above = first_above _ _ _ c.args.at _ _ has.lines_are has.count c.requires.within c.requires.small in
+    let same = pointers_there _ _ n1 top height _ c.in_ok-below.below.removed.bytes change of.entries new all place flat reads of.is mid promise above in
+    let now = entries_kept m n1 1 of.entries same reads in
+    let both : Some filled.0 ≡ Some of.entries = sym filled.1 ∙ reads in
+    let one : filled.0 ≡ of.entries = cc in
+    let old : AllFilledBelow tree_format m 32 (height - 1) of.entries = subst (λ (es : List Entry). AllFilledBelow tree_format m 32 (height - 1) es) one filled.3 in
+    let e = above_entries _ _ top height _ flat above in
+    let listed : Some e.0 ≡ Some of.entries = sym e.1 ∙ reads in
+    let those : e.0 ≡ of.entries = cc in
+    let sum : lines_below of.entries ≡ c.args.root.lines = ap lines_below (sym those) ∙ e.2 in
+    let none = lost_added c.args.edit takes.0 in
+    let less : lines_below new + 1 ≡ place.entry.lines = omega (arith, c.in_ok-below.ensures.lines, takes.1, none) in
+    let left : lines_below all + 1 ≡ c.args.root.lines =
+    omega (arith, less, sum, ap lines_below c.deref.ensures.value, replaced_below of.entries c.deref.result.now place.index place.entry (place_got of.entries c.args.at place of.is)) in
+    let keeps : KeepsFilled c.args.edit 32 31 = record { full = lost_full c.args.edit takes.0; some = omega arith; half = omega arith; sum = omega (arith, takes.0) } in
+    let to_child : HasFilledBelow tree_format m 32 (height - 1) place.entry → HasFilledBelow tree_format m1 32 c.saturating_sub.result place.entry =
+    λ kid. subst (λ (d : ℕ). HasFilledBelow tree_format m1 32 d place.entry) (sym c.saturating_sub.ensures) (subst (λ (f : Map). HasFilledBelow tree_format f 32 (height - 1) place.entry) (sym (c.find_below.ensures.kept.present told)) kid) in
+    let child = filled_at tree_format m 32 (height - 1) of.entries c.args.at place of.is old in
+    let below = c.in_ok-below.ensures.filled told 32 31 keeps (to_child child) in
+    let spare : AllFilledBelow tree_format n1 31 (height - 1) new = subst (λ (d : ℕ). AllFilledBelow tree_format n1 31 d new) c.saturating_sub.ensures below.0 in
+    let thin : IsThinAbove n (height - 1) c.args.at back c.args.root.lines all =
+    thin_step m n1 n top height c.args.at c.in_ok-below.below.removed.bytes change of.entries new all place entry rest flat reads of.is mid promise above (c.in_ok-more.ensures.others told) old two less left walk spare
+    (λ kid higher some down. subst (λ (d : ℕ). IsThinned n1 d place.rest back new) c.saturating_sub.ensures
+    (c.in_ok-below.ensures.thins told takes (to_child kid) (omega (arith, higher, c.saturating_sub.ensures)) some entry rest
+    (subst (λ (d : ℕ). IsWalk tree_format m1 (d - 1) place.entry place.rest entry rest) (sym c.saturating_sub.ensures) (subst (λ (f : Map). IsWalk tree_format f (height - 1 - 1) place.entry place.rest entry rest) (sym (c.find_below.ensures.kept.present told)) down)))) in
+    let few : length c.deref.result.now ≤ 1 = omega (arith, ap length c.deref.ensures.value, c.in_ok-below.ensures.single, lost_single c.args.edit takes.0) in
+    let level : c.in_ok-more.more ≡ 0 = c.in_ok-more.ensures.level few in
+    let root : HasRoot n all 0 = subst (λ (k : ℕ). HasRoot n all k) level (c.in_ok-more.ensures.blocks told of.entries now) in
+    let there : HasFilledRootBut tree_format n 32 height (c.args.at - back) = (all, root, thin.filled) in
+    subst (λ (h : ℕ). HasFilledRootBut tree_format n 32 h (c.args.at - back)) (omega (arith, level)) there
 
-pub returns-in_err-more-clause-cause : goal.returns-in_err-more-clause-cause
-returns-in_err-more-clause-cause g c = record {
-  later = omega (arith, c.find_below.ensures.cause.later, c.edit_below.ensures.cause.later, c.exchange_in_root.ensures.cause.later);
-  risen = λ failed. risen_after (omega (arith, c.find_below.ensures.cause.later, c.edit_below.ensures.cause.later)) (c.exchange_in_root.ensures.cause.risen (search rules));
-}
-
-pub returns-clause-cause : goal.returns-clause-cause
-returns-clause-cause g c = record {
-  later = omega (arith, c.find_below.ensures.cause.later, c.edit_below.ensures.cause.later, c.exchange_in_root.ensures.cause.later);
-  risen = λ failed. absurd (search rules);
-}
+pub returns-clause-only : goal.returns-clause-only
+returns-clause-only g c = λ out told lines has slight.
+    let of = c.in_ok-place.ensures.place told in
+    let reads = sym (ap (λ (e : Entry). entries_at (g.P.Pages.shows c.args.pages.now).present e.block) c.entry-top.ensures) ∙ of.reads in
+    go_lines _ _ _ c.args.root c.args.at c.args.edit lines has c.requires.within c.requires.small slight
+    (go_below _ _ _ _ _ _ (pointer_entry 1 c.args.root.lines) _ c.args.root.height c.args.at c.args.edit of.entries c.in_ok-place.place (not_flat _ _ _ _ has.lines_are) reads of.is (c.find_below.ensures.kept.present told) (c.find_below.ensures.kept.still.worked told)
+    c.saturating_sub.ensures (c.in_ok-below.ensures.only told out) (c.in_ok-more.ensures.one (omega (arith, ap length c.deref.ensures.value, c.in_ok-below.ensures.single, out)) told))

@@ -1,7 +1,9 @@
 -- The runs have the first lines of those that are put, one run after the other.
-use Rattle.std.proofs.Common.{◌≡◌, ℕ, ◌-◌, List, [], ◌∷◌, ◌++◌, length, take, drop, map, sym, ap, ◌∙◌, arith, append-nil, length-append}
+use Rattle.std.proofs.Common.{◌≡◌, ℕ, ◌-◌, ◌≤◌, List, [], ◌∷◌, ◌++◌, length, take, drop, map, sym, subst, ap, ◌∙◌, arith, append-nil, length-append}
 use Rattle.vs_text.specs.Text.{stored_line}
+use Rattle.vs_tree_shape.proofs.Shapes.{each-append}
 use Rattle.vs_tree_blocks.specs.Cuts.{all_lines}
+use Rattle.vs_tree_blocks.specs.Fills.{AllFull}
 use Rattle.vs_tree_blocks.proofs.CutsLemmas.{all_both}
 use Rattle.vs_tree.proofs.Rounds.{rest_of, run_next}
 use Rattle.vs_tree.proofs.runs.fill_runs.Goals as goal
@@ -13,6 +15,7 @@ runs-init c =
     record {
       runs = ap all_lines c.in_ok-runs.ensures.items ∙ append-nil first ∙ c.in_ok-first.ensures.run ∙ ap (λ (n : ℕ). map stored_line (take n c.args.lines.now)) size;
       few = omega (arith, ap length c.in_ok-runs.ensures.items);
+      full = subst (λ (bs : List (List (List ℕ))). AllFull bs) (sym c.in_ok-runs.ensures.items) (omega (arith, c.in_ok-first.ensures.some), tt);
       some = omega (arith, size, c.in_ok-first.ensures.some);
       within = omega (arith, size, c.in_ok-first.ensures.within);
     }
@@ -32,6 +35,7 @@ runs-preserved c =
     record {
       runs = is ∙ run_next lines (all_lines before) run i c.len-in-runs.result inv.within inv.runs run_is;
       few = omega (arith, ap length items, length-append before (run ∷ []));
+      full = subst (λ (bs : List (List (List ℕ))). AllFull bs) (sym items) (each-append (λ (ls : List (List ℕ)). 1 ≤ length ls) before (run ∷ []) inv.full (omega (arith, c.in_ok-run.ensures.some), tt));
       some = omega (arith, inv.some);
       within = omega (arith, c.in_ok-run.ensures.within, size, inv.within, ap length all);
     }

@@ -1,5 +1,5 @@
 -- The first run is put by the edit of a line, and the others go behind it, so a line alone is put by the first.
-use Rattle.std.proofs.Common.{◌≡◌, ◌==◌, ℕ, Bool, true, ◌+◌, ◌-◌, ◌*◌, ◌≤◌, List, [], length, take, drop, map, refl, sym, ap, subst, ◌∙◌, arith, length-take}
+use Rattle.std.proofs.Common.{◌≡◌, ◌==◌, ℕ, Bool, true, ◌+◌, ◌-◌, ◌≤◌, List, [], length, take, drop, map, refl, sym, ap, subst, ◌∙◌, arith, length-take}
 use Rattle.std.proofs.lemmas.Bool.Decides.{nat_tests}
 use Rattle.std.proofs.lemmas.Grind.{common_steps}
 use Rattle.std.proofs.lemmas.List.{length-map}
@@ -8,6 +8,7 @@ use Rattle.vs_pages.proofs.Steps.{Continues-trans}
 use Rattle.vs_tree_shape.proofs.Working.{works_none}
 use Rattle.vs_tree_shape.specs.Changes.{splice}
 use Rattle.vs_tree_blocks.specs.Cuts.{all_lines}
+use Rattle.vs_tree_blocks.specs.Fills.{AllFull}
 use Rattle.vs_tree.specs.Runs.{HasTree, with_lines}
 use Rattle.vs_tree.proofs.Rounds.{put_next, rest_of, with_none}
 use Rattle.vs_tree_blocks.proofs.EntriesLemmas.{take_all}
@@ -43,9 +44,11 @@ runs-init g c =
       put = λ told lines has. subst (λ (xs : List (List ℕ)). HasTree (g.P.Pages.shows c.put_run.new.pages).present c.in_ok-first.first xs) (ap (λ r. splice lines c.args.at 0 r) run_is) (c.in_ok-first.ensures.put told lines has);
       lines = omega (arith, c.in_ok-first.ensures.lines, size);
       higher = omega (arith, c.in_ok-first.ensures.higher, c.in_ok-run.ensures.some, size);
+      more = omega (arith, c.in_ok-run.ensures.some, c.in_ok-run.ensures.within);
+      filled = c.in_ok-first.ensures.filled (omega (arith, c.in_ok-run.ensures.some));
       works = λ told lines has small. c.in_ok-first.ensures.works told lines has (slight_run new run c.len-put.result 0 (run_is ∙ ap (λ xs. map stored_line (take c.len-put.result xs)) (from_first new)) refl small.0 small.1);
       kept = c.put_run.ensures.kept;
-      faults = c.put_run.ensures.cause.later;
+      faults = c.in_ok-first.ensures.cause.none (λ failed. absurd (cc));
     }
 
 pub put_runs-requires-clause-there : goal.put_runs-requires-clause-there
@@ -82,9 +85,11 @@ runs-preserved g c =
           (c.in_ok-now.ensures.put told (with_lines lines c.args.at (take i new)) (inv.put told lines has));
       lines = omega (arith, c.in_ok-now.ensures.lines, inv.lines, size);
       higher = omega (arith, inv.higher, c.in_ok-now.ensures.higher, c.in_ok-filled.ensures.some);
+      more = inv.more;
+      filled = λ least one half told f. c.in_ok-now.ensures.filled (subst (λ (bs : List (List (List ℕ))). AllFull bs) (sym c.deref.ensures.value) c.in_ok-filled.ensures.full) least one half told (inv.filled least one half told f);
       works = λ told lines has small. absurd (omega (arith, small.0, inv.some, c.runs-test.true));
       kept = Continues-trans g.met.P.Pages.stays_on inv.kept c.put_runs.ensures.kept;
-      faults = omega (arith, c.put_runs.ensures.cause.later, inv.faults);
+      faults = c.in_ok-now.ensures.cause.none (λ failed. absurd (cc)) ∙ inv.faults;
     }
 
 pub returns-clause-put : goal.returns-clause-put
@@ -94,3 +99,15 @@ returns-clause-put g c = λ told lines has.
 
 pub returns-in_err-now-clause-kept : goal.returns-in_err-now-clause-kept
 returns-in_err-now-clause-kept g c = Continues-trans g.met.P.Pages.stays_on c.runs.invariant.kept c.put_runs.ensures.kept
+
+pub returns-then-is_empty-clause-filled : goal.returns-then-is_empty-clause-filled
+returns-then-is_empty-clause-filled g c = λ least one half told f. f
+
+pub returns-clause-filled : goal.returns-clause-filled
+returns-clause-filled g c = c.runs.invariant.filled
+
+pub returns-then-is_empty-clause-none : goal.returns-then-is_empty-clause-none
+returns-then-is_empty-clause-none g c = λ none. (refl, λ told. (refl, refl))
+
+pub returns-clause-none : goal.returns-clause-none
+returns-clause-none g c = λ none. absurd (omega (arith, none, c.runs.invariant.more))

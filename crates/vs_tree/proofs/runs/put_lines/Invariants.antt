@@ -2,6 +2,7 @@ use Rattle.std.proofs.Common.{◌≡◌, ℕ, ◌+◌, ◌-◌, ◌*◌, ◌<◌
 use Rattle.vs_pages.specs.Calls.{Continues}
 use Rattle.vs_tree_shape.specs.Works.{WorksBesideZero}
 use Rattle.vs_tree_blocks.specs.Edits.{FitsPage}
+use Rattle.vs_tree.specs.Fills.{StaysFilled}
 use Rattle.vs_tree.specs.Runs.{HasTree, with_lines}
 use Rattle.vs_tree.proofs.runs.put_lines.Given as goal
 
@@ -12,10 +13,12 @@ invariant-runs g l = record {
   put : IsTrue g.P.Pages.tells → (lines : List (List ℕ)) → HasTree (g.P.Pages.shows l.fn.pages).present l.fn.root lines → HasTree (g.P.Pages.shows l.pages).present l.now (with_lines lines l.at (take l.put l.new));
   lines : l.now.lines ≡ l.fn.root.lines + l.put;
   higher : l.now.height ≤ l.fn.root.height + l.put;
+  more : 0 < length l.new;
+  filled : StaysFilled g.P.Pages l.fn.pages l.pages l.fn.root l.now;
   works : IsTrue g.P.Pages.tells → (lines : List (List ℕ)) → HasTree (g.P.Pages.shows l.fn.pages).present l.fn.root lines → (length l.new ≤ 1) × All FitsPage l.new
       → WorksBesideZero (g.P.Pages.shows l.fn.pages).worked (g.P.Pages.shows l.pages).worked (2 * l.fn.root.height + 4);
   kept : Continues g.P.Pages l.fn.pages l.pages;
-  faults : (g.P.Pages.shows l.fn.pages).faults ≤ (g.P.Pages.shows l.pages).faults;
+  faults : (g.P.Pages.shows l.pages).faults ≡ (g.P.Pages.shows l.fn.pages).faults;
 }
 
 abbrev pub decreases-runs : goal.decreases-runs

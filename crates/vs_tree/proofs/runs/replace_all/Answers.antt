@@ -1,6 +1,10 @@
-use Rattle.std.proofs.Common.{◌≡◌, ℕ, ◌+◌, ◌-◌, ◌*◌, List, ap, subst, inl, arith, All}
+use Rattle.std.proofs.Common.{◌≡◌, ℕ, suc, ◌+◌, ◌-◌, ◌*◌, ◌≤◌, List, refl, sym, ap, subst, inl, arith, All}
 use Rattle.vs_pages.proofs.Steps.{Continues-trans}
-use Rattle.vs_tree_shape.proofs.Working.{works_then, works_from}
+use Rattle.vs_tree_shape.proofs.Working.{works_beside, works_then, works_from}
+use Rattle.vs_pages.specs.Maps.{Map}
+use Rattle.vs_tree_shape.specs.Filled.{HasFilledRoot}
+use Rattle.vs_tree_shape.proofs.Fills.{any_root, filled_flat, has_filled}
+use Rattle.vs_tree_blocks.specs.Blocks.{tree_format}
 use Rattle.vs_tree_blocks.specs.Edits.{FitsPage}
 use Rattle.vs_tree.specs.declared.walk.Root.{Root}
 use Rattle.vs_tree.specs.Runs.{HasTree, with_lines, without_lines}
@@ -55,8 +59,22 @@ returns-clause-works g c = λ told lines has small.
     works_from _ (g.P.Pages.shows c.take_lines.new.pages).worked _ (3 * c.in_ok-most.most.root.height + 6) (3 * c.args.root.height + 6) (omega (arith, height)) (same.1 told).1
     (works_then _ _ _ (2 * c.in_ok-most.most.root.height + 4) (c.in_ok-now.now.height + 1) (3 * c.in_ok-most.most.root.height + 6) (omega (arith, c.in_ok-now.ensures.higher, small.few_in))
     (c.in_ok-now.ensures.works told kept (c.in_ok-most.ensures.taken told lines has) (small.few_in, small.brief_in))
-    (c.in_ok-last.ensures.works told (with_lines kept 0 c.args.new.now) put
-    (omega arith, subst (λ (xs : List (List ℕ)). All FitsPage xs) (last_out lines c.args.new.now c.args.root.lines nothing c.requires.some) small.brief_out)))
+    (works_beside _ _ (c.in_ok-now.now.height + 1) (c.in_ok-last.ensures.works told (with_lines kept 0 c.args.new.now) put
+    (omega arith, subst (λ (xs : List (List ℕ)). All FitsPage xs) (last_out lines c.args.new.now c.args.root.lines nothing c.requires.some) small.brief_out))))
 
 pub returns-in_err-now-clause-kept : goal.returns-in_err-now-clause-kept
 returns-in_err-now-clause-kept g c = Continues-trans g.met.P.Pages.stays_on c.take_lines.ensures.kept c.put_lines.ensures.kept
+
+pub returns-clause-filled : goal.returns-clause-filled
+returns-clause-filled g c = λ single told f.
+    let r = c.requires.there told in
+    let m : Map = (g.P.Pages.shows c.args.pages.now).present in
+    let n : Map = (g.P.Pages.shows c.take_lines.new.pages).present in
+    let height : ℕ = c.args.root.height in
+    let same = c.in_ok-most.ensures.none (omega (arith, single)) in
+    let flat : height ≡ 1 = filled_flat tree_format m height r.0 (has_filled tree_format m height r.0 r.1.lines_are f) r.1.lines_are (omega (arith, r.1.count, single)) in
+    let more : HasFilledRoot tree_format m (suc 32) height = any_root tree_format m 32 (suc 32) height flat f in
+    let here : HasFilledRoot tree_format n (suc 32) c.in_ok-most.most.root.height =
+    subst (λ (h : ℕ). HasFilledRoot tree_format n (suc 32) h) (sym c.in_ok-most.ensures.level) (subst (λ (k : Map). HasFilledRoot tree_format k (suc 32) height) (sym (same.1 told).0) more) in
+    let left : 1 ≤ c.in_ok-last.last.root.lines = omega (arith, c.in_ok-last.ensures.lines, c.in_ok-now.ensures.lines, c.in_ok-most.ensures.lines, c.requires.come, c.requires.some) in
+    c.in_ok-last.ensures.filled refl left 32 (omega arith) (omega arith) told (c.in_ok-now.ensures.filled (suc 32) (omega arith) (omega arith) told here)

@@ -1,7 +1,12 @@
-use Rattle.std.proofs.Common.{◌≡◌, ℕ, ◌+◌, ◌≤◌, List, [], length, get_or, refl, sym, ap, subst, ◌∙◌, arith}
+use Rattle.std.proofs.Common.{◌≡◌, ℕ, suc, ◌+◌, ◌≤◌, List, [], length, get_or, refl, sym, ap, subst, ◌∙◌, arith, ◌-◌}
 use Rattle.vs_text.specs.Text.{bytes_of}
 use Rattle.vs_pages.proofs.Steps.{Continues-none, Continues-trans}
-use Rattle.vs_tree_shape.proofs.Working.{works_none, works_from}
+use Rattle.vs_tree_shape.proofs.Working.{works_idle, works_still}
+use Rattle.vs_pages.specs.Maps.{Map}
+use Rattle.vs_tree_shape.specs.Filled.{HasFilledRoot}
+use Rattle.vs_tree_shape.specs.Changes.{pointer_entry}
+use Rattle.vs_tree_shape.specs.Paths.{IsWalk}
+use Rattle.vs_tree.specs.declared.walk.Root.{Root}
 use Rattle.vs_tree_shape.specs.Trees.{HasLines}
 use Rattle.vs_tree_blocks.specs.Blocks.{tree_format}
 use Rattle.vs_tree_blocks.specs.Edits.{FitsPage}
@@ -18,9 +23,11 @@ rounds-init g c = record {
   lines = omega arith;
   level = refl;
   start = λ none. (refl, λ told. (refl, refl));
-  works = λ told lines has small. works_none _ _ _ refl;
+  filled = λ one some left. absurd (omega (arith, some));
+  thins = λ one some. absurd (omega (arith, some));
+  works = λ told lines has small. works_idle _ _ _ refl;
   kept = Continues-none g.met.P.Pages.stays_itself c.requires.valid;
-  faults = omega arith;
+  faults = refl;
 }
 
 pub edit_tree-requires-clause-there : goal.edit_tree-requires-clause-there
@@ -49,15 +56,32 @@ rounds-preserved g c =
       lines = omega (arith, c.in_ok-after.ensures.lines, inv.lines);
       level = c.in_ok-after.ensures.level (omega arith) ∙ inv.level;
       start = λ none. absurd (omega (arith, none, took.0));
+      filled = λ one some left least low half told f.
+          let none : c.rounds.removed ≡ 0 = omega (arith, one, c.rounds-test.true) in
+          let here : HasFilledRoot tree_format (g.P.Pages.shows c.rounds.pages).present (suc least) c.rounds.now.height =
+          subst (λ (h : ℕ). HasFilledRoot tree_format (g.P.Pages.shows c.rounds.pages).present (suc least) h) (sym inv.level)
+          (subst (λ (m : Map). HasFilledRoot tree_format m (suc least) c.args.root.height) (sym ((inv.start none).1 told).0) f) in
+          c.in_ok-after.ensures.filled (suc least) least (record { full = tt; some = low; half = half; sum = omega arith }) left told here;
+      thins = λ one some told f two entry rest walk.
+          let none : c.rounds.removed ≡ 0 = omega (arith, one, c.rounds-test.true) in
+          let m : Map = (g.P.Pages.shows c.rounds.pages).present in
+          let same = (inv.start none).1 told in
+          let root = (inv.start none).0 in
+          let all : HasFilledRoot tree_format m 32 c.rounds.now.height =
+          subst (λ (r : Root). HasFilledRoot tree_format m 32 r.height) (sym root) (subst (λ (k : Map). HasFilledRoot tree_format k 32 c.args.root.height) (sym same.0) f) in
+          let way : IsWalk tree_format m (c.rounds.now.height - 1) (pointer_entry 1 c.rounds.now.lines) c.args.at entry rest =
+          subst (λ (r : Root). IsWalk tree_format m (r.height - 1) (pointer_entry 1 r.lines) c.args.at entry rest) (sym root)
+          (subst (λ (k : Map). IsWalk tree_format k (c.args.root.height - 1) (pointer_entry 1 c.args.root.lines) c.args.at entry rest) (sym same.0) walk) in
+          c.in_ok-after.ensures.thins (refl, omega (arith, one, none, took.0, took.1)) told all (omega (arith, two, inv.lines, none)) entry rest way;
       works = λ told lines has small.
           let none : c.rounds.removed ≡ 0 = omega (arith, small.0, c.rounds-test.true) in
           let same = inv.start none in
           let all : without_lines lines c.args.at c.rounds.removed ≡ lines = ap (λ (k : ℕ). without_lines lines c.args.at k) none ∙ without_none lines c.args.at in
           let line = slight_at lines c.args.at c.args.count (omega (arith, c.rounds-test.true)) (omega (arith, has.count, c.requires.within, c.rounds-test.true)) small.1 in
-          works_from _ (g.P.Pages.shows c.rounds.pages).worked _ (c.rounds.now.height + 1) (c.args.root.height + 1) (omega (arith, inv.level)) (same.1 told).1
-          (c.in_ok-after.ensures.works told (without_lines lines c.args.at c.rounds.removed) (inv.taken told lines has) (subst (λ (xs : List (List ℕ)). FitsPage (get_or xs c.args.at [])) (sym all) line));
+          works_still _ (g.P.Pages.shows c.rounds.pages).worked _ (c.rounds.now.height + 1) (c.args.root.height + 1) (omega (arith, inv.level)) (same.1 told).1
+          (c.in_ok-after.ensures.only (omega arith) told (without_lines lines c.args.at c.rounds.removed) (inv.taken told lines has) (subst (λ (xs : List (List ℕ)). FitsPage (get_or xs c.args.at [])) (sym all) line));
       kept = Continues-trans g.met.P.Pages.stays_on inv.kept c.edit_tree.ensures.kept;
-      faults = omega (arith, c.edit_tree.ensures.cause.later, inv.faults);
+      faults = c.in_ok-after.ensures.cause.none (λ failed. absurd (cc)) ∙ inv.faults;
     }
 
 pub returns-clause-bytes : goal.returns-clause-bytes
@@ -75,3 +99,9 @@ returns-clause-taken g c = λ told lines has.
 
 pub returns-in_err-after-clause-kept : goal.returns-in_err-after-clause-kept
 returns-in_err-after-clause-kept g c = Continues-trans g.met.P.Pages.stays_on c.rounds.invariant.kept c.edit_tree.ensures.kept
+
+pub returns-clause-filled : goal.returns-clause-filled
+returns-clause-filled g c = λ one left. c.rounds.invariant.filled one (omega (arith, one, c.rounds-test.false)) left
+
+pub returns-clause-thins : goal.returns-clause-thins
+returns-clause-thins g c = λ one. c.rounds.invariant.thins one (omega (arith, one, c.rounds-test.false))

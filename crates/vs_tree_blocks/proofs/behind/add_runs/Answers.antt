@@ -39,5 +39,5 @@ runs-preserved g c =
       many = omega (arith, ap length items, length-append before (new ∷ []), inv.many);
       lines = omega (arith, ap lines_below items, below_both before (new ∷ []), inv.lines, c.in_ok-new.ensures.lines, count_more runs i run (omega arith) item);
       kept = Continues-trans g.met.P.Pages.stays_on inv.kept c.in_ok-new.ensures.kept;
-      faults = omega (arith, inv.faults, c.in_ok-new.ensures.cause.later);
+      faults = c.in_ok-new.ensures.cause.none (λ failed. absurd (cc)) ∙ inv.faults;
     }

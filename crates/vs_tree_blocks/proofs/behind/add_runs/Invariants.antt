@@ -1,5 +1,5 @@
 -- The runs that were added so far stand in blocks of their own, to which the entries lead.
-use Rattle.std.proofs.Common.{◌≡◌, ◌≤◌, length, take}
+use Rattle.std.proofs.Common.{◌≡◌, length, take}
 use Rattle.std.specs.List.{AllByRecursion}
 use Rattle.vs_pages.specs.Calls.{Continues}
 use Rattle.vs_tree_shape.specs.Places.{lines_below}
@@ -15,5 +15,5 @@ invariant-runs g l = record {
   many : length l.entries.items ≡ l.run-index;
   lines : lines_below l.entries.items ≡ length (all_lines (take l.run-index l.runs));
   kept : Continues g.P.Pages l.fn.pages l.pages;
-  faults : (g.P.Pages.shows l.fn.pages).faults ≤ (g.P.Pages.shows l.pages).faults;
+  faults : (g.P.Pages.shows l.pages).faults ≡ (g.P.Pages.shows l.fn.pages).faults;
 }

@@ -1,7 +1,6 @@
 -- The clauses on the store are those of the calls before.
 use Rattle.vs_tree_blocks.proofs.beside.write_between.Goals as goal
-use Rattle.std.proofs.Common.{◌≡◌, ℕ, [], ◌∷◌, length, refl, ap, sym, ◌∙◌, arith, rules}
-use Rattle.vs_faults.proofs.Causes.{risen_after}
+use Rattle.std.proofs.Common.{◌≡◌, ℕ, [], ◌∷◌, length, refl, ap, sym, ◌∙◌, arith}
 use Rattle.vs_pages.proofs.Steps.{Continues-trans}
 use Rattle.vs_tree_shape.specs.declared.entries.Entry.{Entry}
 use Rattle.vs_tree_blocks.specs.Parts.{page_lines}
@@ -42,33 +41,3 @@ returns-clause-kept g c = Continues-trans g.met.P.Pages.stays_on (Continues-tran
 
 pub returns-in_err-touch-clause-kept : goal.returns-in_err-touch-clause-kept
 returns-in_err-touch-clause-kept g c = c.touch.ensures.kept
-
-pub returns-in_err-touch-clause-cause : goal.returns-in_err-touch-clause-cause
-returns-in_err-touch-clause-cause g c = record {
-  later = c.touch.ensures.cause.later;
-  risen = λ failed. c.touch.ensures.cause.risen (search rules);
-}
-
-pub returns-in_err-new-clause-cause : goal.returns-in_err-new-clause-cause
-returns-in_err-new-clause-cause g c = record {
-  later = omega (arith, c.in_ok-touch.ensures.cause.later, c.add.ensures.cause.later);
-  risen = λ failed. risen_after (c.in_ok-touch.ensures.cause.later) (c.add.ensures.cause.risen (search rules));
-}
-
-pub returns-in_err-other-clause-cause : goal.returns-in_err-other-clause-cause
-returns-in_err-other-clause-cause g c = record {
-  later = omega (arith, c.in_ok-touch.ensures.cause.later, c.in_ok-new.ensures.cause.later, c.add_block.ensures.cause.later);
-  risen = λ failed. risen_after (omega (arith, c.in_ok-touch.ensures.cause.later, c.in_ok-new.ensures.cause.later)) (c.add_block.ensures.cause.risen (search rules));
-}
-
-pub returns-in_err-vec-clause-cause : goal.returns-in_err-vec-clause-cause
-returns-in_err-vec-clause-cause g c = record {
-  later = omega (arith, c.in_ok-touch.ensures.cause.later, c.in_ok-new.ensures.cause.later, c.in_ok-other.ensures.cause.later);
-  risen = λ failed. absurd (search rules);
-}
-
-pub returns-clause-cause : goal.returns-clause-cause
-returns-clause-cause g c = record {
-  later = omega (arith, c.in_ok-touch.ensures.cause.later, c.in_ok-new.ensures.cause.later, c.in_ok-other.ensures.cause.later);
-  risen = λ failed. absurd (search rules);
-}

@@ -1,6 +1,5 @@
 use Rattle.vs_tree_blocks.proofs.data.edit_data.Goals as goal
-use Rattle.std.proofs.Common.{◌≡◌, ◌≤◌, ◌-◌, ℕ, ◌+◌, List, [], length, take, drop, sym, ap, subst, ◌∙◌, arith, rules, get_or}
-use Rattle.vs_faults.proofs.Causes.{risen_after}
+use Rattle.std.proofs.Common.{◌≡◌, ◌≤◌, ◌-◌, ℕ, ◌+◌, List, [], length, take, drop, sym, ap, subst, ◌∙◌, arith, get_or, refl}
 use Rattle.vs_pages.proofs.Steps.{Continues-trans, OnlyReads-continues}
 use Rattle.vs_tree_shape.specs.Changes.{ReplacedBy, edited, splice}
 use Rattle.vs_tree_blocks.specs.declared.edit.Edit.{Edit}
@@ -17,14 +16,15 @@ use Rattle.vs_tree_blocks.proofs.BehindLemmas.{spread_put}
 use Rattle.vs_tree_blocks.proofs.RunsLemmas.{told as header, within_is}
 use Rattle.vs_tree_blocks.specs.Blocks.{tree_format}
 use Rattle.vs_tree_blocks.proofs.Outcomes.{if_ok_weaker, if_ok_both}
-use Rattle.vs_tree_blocks.proofs.EditedLemmas.{none_taken, takes_some, removed}
+use Rattle.vs_tree_blocks.proofs.EditedLemmas.{none_taken, takes_some, removed, too_long}
 use Rattle.vs_text.specs.Text.{bytes_of}
 use Rattle.vs_pages.specs.Maps.{span}
 use Rattle.vs_tree_blocks.proofs.DataLemmas.{count_is, at_alone, promise_page, promise_long}
 use Rattle.vs_tree_shape.proofs.Walks.{above_lines}
 use Rattle.vs_tree_blocks.proofs.LoadLemmas.{alone_pages}
-use Rattle.vs_tree_shape.proofs.Working.{works_most, works_from}
+use Rattle.vs_tree_shape.proofs.Working.{works_beside, works_most, works_from, works_still}
 use Rattle.std.proofs.lemmas.Result.{on_ok_weaker}
+use Rattle.vs_tree_blocks.proofs.Outcomes.{on_ok_always}
 
 pub edit_long-requires-clause-there : goal.edit_long-requires-clause-there
 edit_long-requires-clause-there g c = λ told. let a = c.requires.there told in record { lines = a.tree.lines; reads = (above_lines tree_format _ c.args.entry c.args.at a).0; count = a.lines }
@@ -96,7 +96,7 @@ returns-then-entry-ne1-clause-works g c = on_ok_weaker c.edit_long.result
 
 pub returns-in-Remove-clause-works : goal.returns-in-Remove-clause-works
 returns-in-Remove-clause-works g c = on_ok_weaker c.remove_lines.result
-    (λ few told a slight. works_from _ (g.P.Pages.shows c.load_data.new.pages).worked _ 1 (most_worked c.args.edit 0) (omega (arith, ap (λ (e : Edit). most_worked e 0) c.in-Remove.is)) (c.load_data.ensures.kept.still.worked told) (few told))
+    (λ few told a slight. works_from _ (g.P.Pages.shows c.load_data.new.pages).worked _ 1 (most_worked c.args.edit 0) (omega (arith, ap (λ (e : Edit). most_worked e 0) c.in-Remove.is)) (c.load_data.ensures.kept.still.worked told) (works_beside _ _ 1 (few told)))
     c.remove_lines.ensures.works
 
 pub returns-in_ok-entries-in-Before-clause-blocks : goal.returns-in_ok-entries-in-Before-clause-blocks
@@ -189,62 +189,23 @@ returns-in-Remove-clause-single g c = if_ok_weaker c.remove_lines.result _ _ (λ
 pub returns-then-entry-ne1-clause-kept : goal.returns-then-entry-ne1-clause-kept
 returns-then-entry-ne1-clause-kept g c = c.edit_long.ensures.kept
 
-pub returns-then-entry-ne1-clause-cause : goal.returns-then-entry-ne1-clause-cause
-returns-then-entry-ne1-clause-cause g c = c.edit_long.ensures.cause
-
 pub returns-in_err-view-clause-kept : goal.returns-in_err-view-clause-kept
 returns-in_err-view-clause-kept g c = OnlyReads-continues c.load_data.ensures.kept
-
-pub returns-in_err-view-clause-cause : goal.returns-in_err-view-clause-cause
-returns-in_err-view-clause-cause g c = record {
-  later = c.load_data.ensures.cause.later;
-  risen = λ failed. c.load_data.ensures.cause.risen (search rules);
-}
 
 pub returns-in_err-entries-in-Before-clause-kept : goal.returns-in_err-entries-in-Before-clause-kept
 returns-in_err-entries-in-Before-clause-kept g c = Continues-trans g.met.P.Pages.stays_on (OnlyReads-continues c.load_data.ensures.kept) c.put_run.ensures.kept
 
-pub returns-in_err-entries-in-Before-clause-cause : goal.returns-in_err-entries-in-Before-clause-cause
-returns-in_err-entries-in-Before-clause-cause g c = record {
-  later = omega (arith, c.load_data.ensures.cause.later, c.put_run.ensures.cause.later);
-  risen = λ failed. risen_after c.load_data.ensures.cause.later (c.put_run.ensures.cause.risen (search rules));
-}
-
 pub returns-in_ok-entries-in-Before-clause-kept : goal.returns-in_ok-entries-in-Before-clause-kept
 returns-in_ok-entries-in-Before-clause-kept g c = Continues-trans g.met.P.Pages.stays_on (OnlyReads-continues c.load_data.ensures.kept) c.put_run.ensures.kept
-
-pub returns-in_ok-entries-in-Before-clause-cause : goal.returns-in_ok-entries-in-Before-clause-cause
-returns-in_ok-entries-in-Before-clause-cause g c = record {
-  later = omega (arith, c.load_data.ensures.cause.later, c.put_run.ensures.cause.later);
-  risen = λ failed. absurd (search rules);
-}
 
 pub returns-in_err-entries-in-After-clause-kept : goal.returns-in_err-entries-in-After-clause-kept
 returns-in_err-entries-in-After-clause-kept g c = Continues-trans g.met.P.Pages.stays_on (OnlyReads-continues c.load_data.ensures.kept) c.put_run-in-After.ensures.kept
 
-pub returns-in_err-entries-in-After-clause-cause : goal.returns-in_err-entries-in-After-clause-cause
-returns-in_err-entries-in-After-clause-cause g c = record {
-  later = omega (arith, c.load_data.ensures.cause.later, c.put_run-in-After.ensures.cause.later);
-  risen = λ failed. risen_after c.load_data.ensures.cause.later (c.put_run-in-After.ensures.cause.risen (search rules));
-}
-
 pub returns-in_ok-entries-in-After-clause-kept : goal.returns-in_ok-entries-in-After-clause-kept
 returns-in_ok-entries-in-After-clause-kept g c = Continues-trans g.met.P.Pages.stays_on (OnlyReads-continues c.load_data.ensures.kept) c.put_run-in-After.ensures.kept
 
-pub returns-in_ok-entries-in-After-clause-cause : goal.returns-in_ok-entries-in-After-clause-cause
-returns-in_ok-entries-in-After-clause-cause g c = record {
-  later = omega (arith, c.load_data.ensures.cause.later, c.put_run-in-After.ensures.cause.later);
-  risen = λ failed. absurd (search rules);
-}
-
 pub returns-in-Remove-clause-kept : goal.returns-in-Remove-clause-kept
 returns-in-Remove-clause-kept g c = Continues-trans g.met.P.Pages.stays_on (OnlyReads-continues c.load_data.ensures.kept) c.remove_lines.ensures.kept
-
-pub returns-in-Remove-clause-cause : goal.returns-in-Remove-clause-cause
-returns-in-Remove-clause-cause g c = record {
-  later = omega (arith, c.load_data.ensures.cause.later, c.remove_lines.ensures.cause.later);
-  risen = λ failed. risen_after c.load_data.ensures.cause.later (c.remove_lines.ensures.cause.risen failed);
-}
 
 pub put_runs-requires-clause-few : goal.put_runs-requires-clause-few
 put_runs-requires-clause-few g c = (subst IsEdit c.in-Behind.is c.requires.edit).0
@@ -287,17 +248,36 @@ returns-in_ok-entries-in-Behind-clause-single g c = omega (arith, with_most c.in
 pub returns-in_err-entries-in-Behind-clause-kept : goal.returns-in_err-entries-in-Behind-clause-kept
 returns-in_err-entries-in-Behind-clause-kept g c = Continues-trans g.met.P.Pages.stays_on (OnlyReads-continues c.load_data.ensures.kept) c.put_runs.ensures.kept
 
-pub returns-in_err-entries-in-Behind-clause-cause : goal.returns-in_err-entries-in-Behind-clause-cause
-returns-in_err-entries-in-Behind-clause-cause g c = record {
-  later = omega (arith, c.load_data.ensures.cause.later, c.put_runs.ensures.cause.later);
-  risen = λ failed. risen_after c.load_data.ensures.cause.later (c.put_runs.ensures.cause.risen (search rules));
-}
-
 pub returns-in_ok-entries-in-Behind-clause-kept : goal.returns-in_ok-entries-in-Behind-clause-kept
 returns-in_ok-entries-in-Behind-clause-kept g c = Continues-trans g.met.P.Pages.stays_on (OnlyReads-continues c.load_data.ensures.kept) c.put_runs.ensures.kept
 
-pub returns-in_ok-entries-in-Behind-clause-cause : goal.returns-in_ok-entries-in-Behind-clause-cause
-returns-in_ok-entries-in-Behind-clause-cause g c = record {
-  later = omega (arith, c.load_data.ensures.cause.later, c.put_runs.ensures.cause.later);
-  risen = λ failed. absurd (search rules);
-}
+-- an edit after which no more entries stand than before takes lines out
+is_remove : (edit : Edit) → most_entries edit ≤ 1 → (most : ℕ) × (edit ≡ Remove most)
+is_remove (Before run) few = absurd (omega (arith, few))
+is_remove (After run) few = absurd (omega (arith, few))
+is_remove (Behind runs) few = absurd (omega (arith, few))
+is_remove (Remove most) few = (most, refl)
+
+pub returns-then-entry-ne1-clause-only : goal.returns-then-entry-ne1-clause-only
+returns-then-entry-ne1-clause-only g c = on_ok_always c.edit_long.result _
+    (λ told out a slight.
+    let l = above_lines tree_format _ c.args.entry c.args.at a in
+    let many = alone_pages c.args.entry c.requires.fields c.if-entry-ne1.true in
+    let one = at_alone _ c.args.entry.block c.args.entry.pages a.tree.lines many l.0 in
+    let first : c.args.at ≡ 0 = omega (arith, one, a.within) in
+    let r = is_remove c.args.edit out in
+    absurd (too_long _ c.args.entry.block c.args.entry.pages r.0 c.args.edit a.tree.lines many l.0 r.1 (subst (λ (k : ℕ). IsOnePageEdit c.args.edit (get_or a.tree.lines k [])) first slight)))
+
+pub returns-in-Remove-clause-only : goal.returns-in-Remove-clause-only
+returns-in-Remove-clause-only g c = on_ok_weaker c.remove_lines.result
+    (λ few told out a slight. works_still _ (g.P.Pages.shows c.load_data.new.pages).worked _ 1 (0 + 1) (omega arith) (c.load_data.ensures.kept.still.worked told) (few told))
+    c.remove_lines.ensures.works
+
+pub returns-in_ok-entries-in-Before-clause-only : goal.returns-in_ok-entries-in-Before-clause-only
+returns-in_ok-entries-in-Before-clause-only g c = λ told out. absurd (omega (arith, out, ap most_entries c.in-Before.is))
+
+pub returns-in_ok-entries-in-After-clause-only : goal.returns-in_ok-entries-in-After-clause-only
+returns-in_ok-entries-in-After-clause-only g c = λ told out. absurd (omega (arith, out, ap most_entries c.in-After.is))
+
+pub returns-in_ok-entries-in-Behind-clause-only : goal.returns-in_ok-entries-in-Behind-clause-only
+returns-in_ok-entries-in-Behind-clause-only g c = λ told out. absurd (omega (arith, out, ap most_entries c.in-Behind.is))

@@ -1,12 +1,11 @@
 -- Each half is written into a new block, and the clauses on the store are those of the calls before.
 use Rattle.vs_tree_blocks.proofs.pointers.lift_root.Goals as goal
-use Rattle.std.proofs.Common.{◌≡◌, refl, arith, rules}
-use Rattle.vs_faults.proofs.Causes.{cause_none, risen_after}
+use Rattle.std.proofs.Common.{◌≡◌, refl, arith}
 use Rattle.vs_pages.proofs.Steps.{Continues-none, Continues-trans}
 use Rattle.std.proofs.lemmas.Result.{on_ok_weaker}
 use Rattle.vs_pages.specs.Maps.{Map, lacks}
 use Rattle.vs_pages.proofs.MapsLemmas.{pages_at-there, span-first}
-use Rattle.vs_tree_blocks.proofs.PointersLemmas.{stored_as, added_as, parts_below, root_leads, root_lifted}
+use Rattle.vs_tree_blocks.proofs.PointersLemmas.{stored_as, added_as, parts_below, root_leads, root_lifted, spares_root}
 use Rattle.vs_tree_shape.proofs.Working.{works_one, works_then}
 
 pub entry_above-one-requires-clause-small : goal.entry_above-one-requires-clause-small
@@ -56,41 +55,16 @@ returns-clause-kept g c = Continues-trans g.met.P.Pages.stays_on (Continues-tran
 pub returns-in_err-bytes-clause-kept : goal.returns-in_err-bytes-clause-kept
 returns-in_err-bytes-clause-kept g c = Continues-none g.met.P.Pages.stays_itself c.requires.valid
 
-pub returns-in_err-bytes-clause-cause : goal.returns-in_err-bytes-clause-cause
-returns-in_err-bytes-clause-cause g c = cause_none (λ failed. absurd (search rules))
-
 pub returns-in_err-moved-clause-kept : goal.returns-in_err-moved-clause-kept
 returns-in_err-moved-clause-kept g c = c.add_block.ensures.kept
-
-pub returns-in_err-moved-clause-cause : goal.returns-in_err-moved-clause-cause
-returns-in_err-moved-clause-cause g c = record {
-  later = c.add_block.ensures.cause.later;
-  risen = λ failed. c.add_block.ensures.cause.risen (search rules);
-}
 
 pub returns-in_err-more-clause-kept : goal.returns-in_err-more-clause-kept
 returns-in_err-more-clause-kept g c = c.in_ok-moved.ensures.kept
 
-pub returns-in_err-more-clause-cause : goal.returns-in_err-more-clause-cause
-returns-in_err-more-clause-cause g c = record {
-  later = c.in_ok-moved.ensures.cause.later;
-  risen = λ failed. absurd (search rules);
-}
-
-pub returns-in_err-other-clause-cause : goal.returns-in_err-other-clause-cause
-returns-in_err-other-clause-cause g c = record {
-  later = omega (arith, c.in_ok-moved.ensures.cause.later, c.add_block-2.ensures.cause.later);
-  risen = λ failed. risen_after (c.in_ok-moved.ensures.cause.later) (c.add_block-2.ensures.cause.risen (search rules));
-}
-
-pub returns-in_err-top-clause-cause : goal.returns-in_err-top-clause-cause
-returns-in_err-top-clause-cause g c = record {
-  later = omega (arith, c.in_ok-moved.ensures.cause.later, c.in_ok-other.ensures.cause.later);
-  risen = λ failed. absurd (search rules);
-}
-
-pub returns-clause-cause : goal.returns-clause-cause
-returns-clause-cause g c = record {
-  later = omega (arith, c.in_ok-moved.ensures.cause.later, c.in_ok-other.ensures.cause.later, c.touch.ensures.cause.later);
-  risen = λ failed. risen_after (omega (arith, c.in_ok-moved.ensures.cause.later, c.in_ok-other.ensures.cause.later)) (c.touch.ensures.cause.risen failed);
-}
+pub returns-clause-others : goal.returns-clause-others
+returns-clause-others g c = on_ok_weaker c.touch.result
+    (λ touched told.
+    spares_root _ _ _ _ c.in_ok-moved.moved c.in_ok-other.other c.in_ok-bytes.bytes.items c.in_ok-more.more.items c.in_ok-top.top.items
+    (added_as _ _ _ _ _ _ (c.in_ok-moved.ensures.added told) c.deref.ensures.value) (added_as _ _ _ _ _ _ (c.in_ok-other.ensures.added told) c.deref-2.ensures.value)
+    (stored_as _ _ _ _ _ (touched told) c.deref-3.ensures.value c.in_ok-top.ensures.size))
+    c.touch.ensures.ok

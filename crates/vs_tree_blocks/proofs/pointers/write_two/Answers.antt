@@ -1,11 +1,10 @@
 -- Each half is written, and the clauses on the store are those of the calls before.
 use Rattle.vs_tree_blocks.proofs.pointers.write_two.Goals as goal
-use Rattle.std.proofs.Common.{ℕ, refl, ap, arith, rules}
-use Rattle.vs_faults.proofs.Causes.{cause_none, risen_after}
+use Rattle.std.proofs.Common.{ℕ, refl, ap, arith}
 use Rattle.vs_pages.proofs.Steps.{Continues-none, Continues-trans}
 use Rattle.vs_tree_shape.specs.declared.entries.Entry.{Entry}
 use Rattle.vs_tree_shape.specs.Places.{lines_below}
-use Rattle.vs_tree_blocks.proofs.PointersLemmas.{stored_as, added_as, parts_below, two_leads, two_written}
+use Rattle.vs_tree_blocks.proofs.PointersLemmas.{stored_as, added_as, parts_below, spares_two, two_leads, two_written}
 use Rattle.vs_tree_shape.proofs.Working.{works_one, works_then}
 
 pub entry_above-one-requires-clause-small : goal.entry_above-one-requires-clause-small
@@ -48,38 +47,14 @@ returns-clause-kept g c = Continues-trans g.met.P.Pages.stays_on c.in_ok-touch.e
 pub returns-in_err-bytes-clause-kept : goal.returns-in_err-bytes-clause-kept
 returns-in_err-bytes-clause-kept g c = Continues-none g.met.P.Pages.stays_itself c.requires.valid
 
-pub returns-in_err-bytes-clause-cause : goal.returns-in_err-bytes-clause-cause
-returns-in_err-bytes-clause-cause g c = cause_none (λ failed. absurd (search rules))
-
 pub returns-in_err-more-clause-kept : goal.returns-in_err-more-clause-kept
 returns-in_err-more-clause-kept g c = Continues-none g.met.P.Pages.stays_itself c.requires.valid
-
-pub returns-in_err-more-clause-cause : goal.returns-in_err-more-clause-cause
-returns-in_err-more-clause-cause g c = cause_none (λ failed. absurd (search rules))
 
 pub returns-in_err-touch-clause-kept : goal.returns-in_err-touch-clause-kept
 returns-in_err-touch-clause-kept g c = c.touch.ensures.kept
 
-pub returns-in_err-touch-clause-cause : goal.returns-in_err-touch-clause-cause
-returns-in_err-touch-clause-cause g c = record {
-  later = c.touch.ensures.cause.later;
-  risen = λ failed. c.touch.ensures.cause.risen (search rules);
-}
-
-pub returns-in_err-other-clause-cause : goal.returns-in_err-other-clause-cause
-returns-in_err-other-clause-cause g c = record {
-  later = omega (arith, c.in_ok-touch.ensures.cause.later, c.add_block.ensures.cause.later);
-  risen = λ failed. risen_after c.in_ok-touch.ensures.cause.later (c.add_block.ensures.cause.risen (search rules));
-}
-
-pub returns-in_err-vec-clause-cause : goal.returns-in_err-vec-clause-cause
-returns-in_err-vec-clause-cause g c = record {
-  later = omega (arith, c.in_ok-touch.ensures.cause.later, c.in_ok-other.ensures.cause.later);
-  risen = λ failed. absurd (search rules);
-}
-
-pub returns-clause-cause : goal.returns-clause-cause
-returns-clause-cause g c = record {
-  later = omega (arith, c.in_ok-touch.ensures.cause.later, c.in_ok-other.ensures.cause.later);
-  risen = λ failed. absurd (search rules);
-}
+pub returns-clause-others : goal.returns-clause-others
+returns-clause-others g c = λ told.
+    spares_two _ _ _ c.args.block c.in_ok-other.other c.in_ok-bytes.bytes.items c.in_ok-more.more.items
+    (stored_as _ _ _ _ _ (c.in_ok-touch.ensures.ok told) c.deref.ensures.value c.in_ok-bytes.ensures.size)
+    (added_as _ _ _ _ _ _ (c.in_ok-other.ensures.added told) c.deref-2.ensures.value)

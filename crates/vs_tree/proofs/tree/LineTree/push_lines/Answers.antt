@@ -1,5 +1,7 @@
 use Rattle.std.proofs.Common.{◌++◌, refl, arith}
 use Rattle.vs_pages.proofs.Steps.{history_present}
+use Rattle.vs_tree_shape.proofs.Fills.{filled_root, has_filled}
+use Rattle.vs_tree_blocks.specs.Blocks.{tree_format}
 use Rattle.vs_tree.proofs.Going.{Continues-back, history_back}
 use Rattle.vs_tree.proofs.Kept.{fits_kept}
 use Rattle.vs_tree.proofs.tree.LineTree.push_lines.Goals as goal
@@ -24,3 +26,7 @@ returns-in-Err-clause-kept g c = Continues-back _ c.mark-mark.result g.met.P.Pag
 
 pub back-requires-clause-within : goal.back-requires-clause-within
 back-requires-clause-within g c = omega (arith, c.mark-mark.ensures, c.append_within.ensures.kept.longer)
+
+pub returns-in-Ok-clause-filled : goal.returns-in-Ok-clause-filled
+returns-in-Ok-clause-filled g c = λ told f. let r = c.requires.fits.one told in
+    has_filled tree_format _ _ _ (c.in-Ok.ensures.text told r.0 r.1).tree (c.in-Ok.ensures.filled told (filled_root tree_format _ _ f))

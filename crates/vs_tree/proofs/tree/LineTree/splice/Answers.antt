@@ -1,6 +1,9 @@
 use Rattle.std.proofs.Common.{◌+◌, ◌*◌, refl, arith}
 use Rattle.vs_pages.proofs.Steps.{history_present}
 use Rattle.vs_tree_shape.proofs.Working.{works_zero}
+use Rattle.vs_tree_shape.proofs.Fills.{filled_root, has_filled}
+use Rattle.vs_tree_shape.proofs.Thins.{has_filled_but}
+use Rattle.vs_tree_blocks.specs.Blocks.{tree_format}
 use Rattle.vs_edit.specs.Splices.{splice}
 use Rattle.vs_tree.proofs.Going.{Continues-back, history_back}
 use Rattle.vs_tree.proofs.Kept.{fits_kept}
@@ -30,3 +33,15 @@ returns-in-Err-clause-kept g c = Continues-back _ c.mark-mark.result g.met.P.Pag
 
 pub back-requires-clause-within : goal.back-requires-clause-within
 back-requires-clause-within g c = omega (arith, c.mark-mark.ensures, c.splice_within.ensures.kept.longer)
+
+pub returns-in-Ok-clause-filled : goal.returns-in-Ok-clause-filled
+returns-in-Ok-clause-filled g c = λ mild told f. let r = c.requires.fits.one told in
+    has_filled tree_format _ _ _ (c.in-Ok.ensures.text told r.0 r.1).tree (c.in-Ok.ensures.filled mild told (filled_root tree_format _ _ f))
+
+pub returns-in-Ok-clause-thins : goal.returns-in-Ok-clause-thins
+returns-in-Ok-clause-thins g c = λ one none told f two entry rest walk. let r = c.requires.fits.one told in
+    has_filled_but tree_format _ _ _ _ (c.in-Ok.ensures.text told r.0 r.1).tree (c.in-Ok.ensures.thins one none told (filled_root tree_format _ _ f) two entry rest walk)
+
+pub returns-in-Ok-clause-come : goal.returns-in-Ok-clause-come
+returns-in-Ok-clause-come g c = λ some none told text has small.
+    works_zero _ _ (2 * c.args.self.now.present.height + 4) _ (omega arith) (c.in-Ok.ensures.come some none told text has small)

@@ -1,10 +1,10 @@
 -- The block that the lines were put into is a run of one page, and its free space has no room for the next line.
-use Rattle.std.proofs.Common.{◌≡◌, ◌≢◌, All, ℕ, ◌+◌, ◌<◌, ◌≤◌, List, [], ◌∷◌, ◌++◌, Some, Ok, length, drop, replicate, sym, ap, subst, ◌∙◌, arith}
+use Rattle.std.proofs.Common.{◌≡◌, ◌≢◌, All, ℕ, List, [], ◌++◌, Some, length, drop, replicate, sym, ap, subst, ◌∙◌, arith}
 use Rattle.std.specs.Option.{option_map}
 use Rattle.std.specs.Vec.{with_items}
 use Rattle.std.proofs.lemmas.List.{length-replicate, with_items_is}
 use Rattle.vs_data.specs.declared.DataView.{DataView}
-use Rattle.vs_data.specs.Blocks.{PutsLast, HasNoRoom, ended_of, lines_in, space_of, view_in}
+use Rattle.vs_data.specs.Blocks.{PutsLast, HasNoRoom, ended_of, lines_in}
 use Rattle.vs_tree_blocks.specs.Runs.{IsFirstRun, IsRun, lines_within}
 use Rattle.vs_tree_blocks.proofs.RunsLemmas.{longer, told, within_is}
 use Rattle.vs_tree_blocks.proofs.run.Run.of_first.Goals as goal
