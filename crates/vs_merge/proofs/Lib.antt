@@ -1,0 +1,10 @@
+pub mod Evening
+pub mod Forests
+pub mod Levels
+pub mod Lowering
+pub mod Pairs
+pub mod Parts
+pub mod Settles
+pub mod Taking
+pub mod Tidying
+pub mod Working

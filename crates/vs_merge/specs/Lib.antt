@@ -1,0 +1,5 @@
+pub mod Evens
+pub mod Forests
+pub mod Roots
+pub mod Texts
+pub mod Tidies
