@@ -3,7 +3,7 @@ use std::process::Abort;
 use std::test::Fail;
 use vs_edit::{LineStore, StoreErr, VecStore, allows_splice};
 use vs_reads::{bytes_in, push_lines, run_lines};
-use vs_text::{Line, Text, write_text};
+use vs_text::{Format, Line, Text, write_text};
 
 // Lines of up to six bytes, and from line 500 on some that are longer than a run.
 fn lines_of_all_lengths(alloc: Global) -> Result<Vec<Line>, AllocError> {
@@ -32,7 +32,7 @@ fn assert_reads<S: LineStore>(
     store.copy_lines(alloc, top, count, &mut copied)?;
     let mut lines = Vec::new(alloc);
     push_lines(alloc, store, top, count, &mut lines)?;
-    let read = write_text(alloc, &Text::of(lines))?;
+    let read = write_text(alloc, &Text::of(lines), Format::Unix)?;
     assert!(rt; read.as_slice() == copied.as_slice());
     assert!(rt; bytes_in(alloc, store, top, count)? == copied.len() as u64);
     Ok(())

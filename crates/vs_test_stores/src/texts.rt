@@ -1,11 +1,11 @@
-ghost use Rattle.std.specs.Prelude.{◌≤◌, length};
+ghost use Rattle.std.specs.Prelude.{◌<◌, ◌≤◌, length};
 
-use crate::pieces::{read_in_pieces, take_in_pieces};
+use crate::pieces::{lines_in_pieces, read_in_pieces};
 use std::alloc::{AllocError, Global};
 use std::test::Fail;
 use vs_text::{
-    Line, MAX_LINE_BYTES, MAX_LINES, MAX_TEXT_BYTES, Text, TextErr, TextReader, from_stored,
-    read_text, to_stored, write_text,
+    Format, Line, MAX_LINE_BYTES, MAX_LINES, MAX_TEXT_BYTES, Text, TextErr, TextReader,
+    from_stored, read_text, to_stored, write_text,
 };
 
 // The bytes of a piece of a file.
@@ -22,13 +22,12 @@ fn line_of(alloc: Global, bytes: &[u8]) -> Result<Line, TextErr> {
     Line::of(alloc, &bytes)
 }
 
-// How many lines a file has, which is read whole, in pieces, and in pieces after which the lines are taken.
+// How many lines a file has, which is read whole and in pieces.
 fn lines_read(alloc: Global, file: &[u8]) -> Result<usize, TextErr> {
-    let whole = read_text(alloc, file).map(|text| text.len());
-    let pieces = read_in_pieces(alloc, file, PIECE).map(|text| text.len());
-    let taken = take_in_pieces(alloc, file, PIECE).map(|text| text.len());
-    if pieces == whole && taken == whole {
-        whole
+    let whole = read_text(alloc, file).map(|read| (read.0.len(), read.1));
+    let pieces = read_in_pieces(alloc, file, PIECE).map(|read| (read.0.len(), read.1));
+    if pieces == whole {
+        whole.map(|read| read.0)
     } else {
         Ok(usize::MAX)
     }
@@ -38,8 +37,14 @@ fn are_lines(lines: &[Line], want: &[&[u8]]) -> bool {
     lines.len() == want.len() && lines.iter().zip(want).all(|(line, it)| line.bytes() == *it)
 }
 
-// The answer for a file that is cut at two places.
-fn read_in_three(alloc: Global, file: &[u8], start: usize, end: usize) -> Result<Text, TextErr>
+// Whether a file that is cut at two places has this text and this format.
+fn reads_in_three(
+    alloc: Global,
+    file: &[u8],
+    start: usize,
+    end: usize,
+    want: &(Text, Format),
+) -> Result<bool, TextErr>
     requires order { start ≤ end }
     requires within { end ≤ length file.now }
 {
@@ -47,30 +52,72 @@ fn read_in_three(alloc: Global, file: &[u8], start: usize, end: usize) -> Result
     reader.feed(alloc, &file[..start])?;
     reader.feed(alloc, &file[start..end])?;
     reader.feed(alloc, &file[end..])?;
-    reader.end()
+    let (text, format) = reader.end()?;
+    let bytes = write_text(alloc, &text, Format::Unix)?;
+    let wanted = write_text(alloc, &want.0, Format::Unix)?;
+    Ok(format == want.1 && bytes.as_slice() == wanted.as_slice())
+}
+
+// Whether a file of a known format that is read in pieces of at most `size` bytes has this text.
+fn reads_in_pieces(
+    alloc: Global,
+    file: &[u8],
+    size: usize,
+    want: &(Text, Format),
+) -> Result<bool, TextErr>
+    requires { 0 < size }
+{
+    let bytes = lines_in_pieces(alloc, file, want.1, size)?;
+    let wanted = write_text(alloc, &want.0, Format::Unix)?;
+    Ok(bytes.as_slice() == wanted.as_slice())
 }
 
 #[test]
 fn reads_and_writes_files(rt: HostRuntime) -> Result<(), Fail> {
     let alloc = rt.alloc();
-    let cases: [(&[u8], &[&[u8]], &[u8]); 8] = [
-        (b"", &[], b""),
-        (b"\n", &[b""], b"\n"),
-        (b"\n\n", &[b"", b""], b"\n\n"),
-        (b"ab\n", &[b"ab"], b"ab\n"),
-        (b"ab", &[b"ab"], b"ab\n"),
-        (b"a\n\nb\n", &[b"a", b"", b"b"], b"a\n\nb\n"),
-        (b"a\r\n\nb", &[b"a\r", b"", b"b"], b"a\r\n\nb\n"),
+    let cases: [(&[u8], &[&[u8]], Format, &[u8]); 16] = [
+        (b"", &[], Format::Unix, b""),
+        (b"\n", &[b""], Format::Unix, b"\n"),
+        (b"\n\n", &[b"", b""], Format::Unix, b"\n\n"),
+        (b"ab\n", &[b"ab"], Format::Unix, b"ab\n"),
+        (b"ab", &[b"ab"], Format::Unix, b"ab\n"),
+        (b"a\n\nb\n", &[b"a", b"", b"b"], Format::Unix, b"a\n\nb\n"),
         (
             b"\x00\xff\n\xff",
             &[b"\x00\xff", b"\xff"],
+            Format::Unix,
             b"\x00\xff\n\xff\n",
         ),
+        (b"\r", &[b"\r"], Format::Unix, b"\r\n"),
+        (b"a\r\nb\n", &[b"a\r", b"b"], Format::Unix, b"a\r\nb\n"),
+        (
+            b"a\r\n\nb",
+            &[b"a\r", b"", b"b"],
+            Format::Unix,
+            b"a\r\n\nb\n",
+        ),
+        (b"\n\r\n", &[b"", b"\r"], Format::Unix, b"\n\r\n"),
+        (b"\r\n", &[b""], Format::Dos, b"\r\n"),
+        (b"a\r\nb", &[b"a", b"b"], Format::Dos, b"a\r\nb\r\n"),
+        (b"a\r\nb\r", &[b"a", b"b\r"], Format::Dos, b"a\r\nb\r\r\n"),
+        (
+            b"\ra\r\r\n\r\n",
+            &[b"\ra\r", b""],
+            Format::Dos,
+            b"\ra\r\r\n\r\n",
+        ),
+        (
+            b"a\r\n\x1a",
+            &[b"a", b"\x1a"],
+            Format::Dos,
+            b"a\r\n\x1a\r\n",
+        ),
     ];
-    for (file, lines, written) in cases {
-        let text = read_text(alloc, file)?;
+    for (file, lines, format, written) in cases {
+        let (text, found) = read_text(alloc, file)?;
+        assert!(rt; found == format, "in {file:?}");
         assert!(rt; are_lines(text.lines(), lines), "in {file:?}");
-        let bytes = write_text(alloc, &text)?;
+        let bytes = write_text(alloc, &text, format)?;
         assert!(rt; bytes.as_slice() == written, "in {file:?}");
     }
     Ok(())
@@ -79,74 +126,34 @@ fn reads_and_writes_files(rt: HostRuntime) -> Result<(), Fail> {
 #[test]
 fn cuts_do_not_matter(rt: HostRuntime) -> Result<(), Fail> {
     let alloc = rt.alloc();
-    let files: [&[u8]; 6] = [
+    let files: [&[u8]; 9] = [
         b"a\nb\nc",
         b"a\nb\nc\n",
         b"\n\n",
         b"\n",
         b"ab",
         b"\x00\n\r\n\xff",
+        b"\r\n\r\r\n",
+        b"a\r\nb\r\n\n\rc\r",
+        b"\ra\r\n\r\nb\r",
     ];
     for file in files {
-        let want = write_text(alloc, &read_text(alloc, file)?)?;
+        let want = read_text(alloc, file)?;
         for end in 0..=file.len() {
             for start in 0..=end {
-                let text = read_in_three(alloc, file, start, end)?;
-                let bytes = write_text(alloc, &text)?;
                 assert!(rt;
-                    bytes.as_slice() == want.as_slice(),
+                    reads_in_three(alloc, file, start, end, &want)?,
                     "{file:?} cut at {start} and {end}"
                 );
             }
         }
         for size in 1..=file.len() {
-            let text = take_in_pieces(alloc, file, size)?;
-            let bytes = write_text(alloc, &text)?;
             assert!(rt;
-                bytes.as_slice() == want.as_slice(),
+                reads_in_pieces(alloc, file, size, &want)?,
                 "{file:?} in pieces of {size}"
             );
         }
     }
-    Ok(())
-}
-
-#[test]
-fn three_lines_in_two_pieces(rt: HostRuntime) -> Result<(), Fail> {
-    let alloc = rt.alloc();
-    let lines: [&[u8]; 3] = [b"a", b"b", b"c"];
-    for cut in 0..=5 {
-        let text = read_in_three(alloc, b"a\nb\nc", cut, cut)?;
-        assert!(rt; are_lines(text.lines(), &lines), "cut at {cut}");
-    }
-    Ok(())
-}
-
-#[test]
-fn hands_over_the_lines_that_have_ended(rt: HostRuntime) -> Result<(), Fail> {
-    let alloc = rt.alloc();
-    let mut reader = TextReader::new(alloc)?;
-    reader.feed(alloc, b"ab\nc")?;
-    assert!(rt; are_lines(&reader.take_lines(), &[b"ab"]));
-    assert!(rt; reader.take_lines().is_empty());
-    reader.feed(alloc, b"d\n\ne")?;
-    assert!(rt; are_lines(&reader.take_lines(), &[b"cd", b""]));
-    assert!(rt; are_lines(reader.end()?.lines(), &[b"e"]));
-    Ok(())
-}
-
-#[test]
-fn answers_an_error_again(rt: HostRuntime) -> Result<(), Fail> {
-    let alloc = rt.alloc();
-    let long = filled(alloc, b'a', MAX_LINE_BYTES)?;
-    let mut reader = TextReader::new(alloc)?;
-    reader.feed(alloc, &long)?;
-    reader.feed(alloc, b"ab")?;
-    let error = Err(TextErr::LineTooLong(1_048_578));
-    assert!(rt; reader.feed(alloc, b"\n") == error);
-    assert!(rt; reader.feed(alloc, b"a\n") == error);
-    assert!(rt; reader.take_lines().is_empty());
-    assert!(rt; reader.end().err() == error.err());
     Ok(())
 }
 
@@ -162,6 +169,17 @@ fn limits_the_length_of_a_line(rt: HostRuntime) -> Result<(), Fail> {
     bytes.extend_from_slice(b"\n\n")?;
     let longer = filled(alloc, b'b', MAX_LINE_BYTES + 2)?;
     bytes.extend_from_slice(&longer)?;
+    assert!(rt; lines_read(alloc, &bytes) == Err(TextErr::LineTooLong(1_048_577)));
+    Ok(())
+}
+
+#[test]
+fn limits_a_dos_file_by_its_text(rt: HostRuntime) -> Result<(), Fail> {
+    let alloc = rt.alloc();
+    let mut bytes = filled(alloc, b'a', MAX_LINE_BYTES)?;
+    bytes.extend_from_slice(b"\r\n")?;
+    assert!(rt; lines_read(alloc, &bytes) == Ok(1));
+    bytes.push(b'\n')?;
     assert!(rt; lines_read(alloc, &bytes) == Err(TextErr::LineTooLong(1_048_577)));
     Ok(())
 }
@@ -208,7 +226,7 @@ fn keeps_lines(rt: HostRuntime) -> Result<(), Fail> {
     text.push(line_of(alloc, b"d")?)?;
     assert!(rt; text.len() == 2);
     let whole = Text::of(text.into_lines());
-    assert!(rt; write_text(alloc, &whole)?.as_slice() == b"\x00\xff\nd\n".as_slice());
+    assert!(rt; write_text(alloc, &whole, Format::Unix)?.as_slice() == b"\x00\xff\nd\n".as_slice());
     Ok(())
 }
 

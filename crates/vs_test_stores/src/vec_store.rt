@@ -6,7 +6,7 @@ use std::process::Abort;
 use std::test::Fail;
 use vs_edit::failing::FailingStore;
 use vs_edit::{LineStore, StoreErr, VecStore, allows_splice, text_of};
-use vs_text::{Line, Text, from_stored, write_text};
+use vs_text::{Format, Line, Text, from_stored, write_text};
 
 // Splices where all that a splice asks for holds.
 fn splice_if_allowed<S: LineStore>(
@@ -77,9 +77,9 @@ fn assert_has<S: LineStore>(
     ensures { S.valid store.new }
 {
     let want = Text::of(lines_of(alloc, bytes)?);
-    let file = write_text(alloc, &want)?;
+    let file = write_text(alloc, &want, Format::Unix)?;
     let found = text_of(alloc, store)?;
-    assert!(rt; write_text(alloc, &found)?.as_slice() == file.as_slice());
+    assert!(rt; write_text(alloc, &found, Format::Unix)?.as_slice() == file.as_slice());
     let count = store.len();
     assert!(rt; count == bytes.len() as u64);
     let mut copied = Vec::new(alloc);

@@ -1,6 +1,9 @@
 pub mod FileForm
+pub mod Formats
 pub mod LineEnds
 pub mod PutLines
 pub mod Reading
+pub mod RoundTrips
+pub mod Scans
 pub mod StoredForm
 pub mod TextLimits

@@ -1,11 +1,13 @@
 -- A text that is refused has one reason, and a text within the limits has none.
-use Rattle.std.proofs.Common.{◌≡◌, ℕ, ◌≤◌, ◌⊎◌, List, [], ◌∷◌, length, refl, sym, ap, ◌∙◌, arith, inl, inr, All, Some, None}
+use Rattle.std.proofs.Common.{◌≡◌, ℕ, ◌<◌, ◌≤◌, ◌⊎◌, List, [], ◌∷◌, ◌++◌, length, refl, sym, ap, ◌∙◌, arith, inl, inr, All, Some, None}
 use Rattle.std.proofs.lemmas.Bool.Decides.{nat_tests}
-use Rattle.std.proofs.lemmas.List.Elements.{All-head, All-tail}
+use Rattle.std.specs.List.{AllByRecursion}
+use Rattle.std.proofs.lemmas.List.Elements.{All-head, All-tail, recursion_from_All}
 use Rattle.std.proofs.lemmas.Option.{none-some}
 use Rattle.vs_text.specs.declared.TheConstants.{MAX_LINE_BYTES}
 use Rattle.vs_text.specs.declared.error.TextErr.{TextErr}
 use Rattle.vs_text.specs.declared.error.TextErr.TheVariants.{TextFull, LineTooLong, NoMemory}
+use Rattle.vs_text.specs.Text.{bytes_of}
 use Rattle.vs_text.specs.Limits.{first_long, IsShort, IsRefusal, IsTooMany, IsWithinLimits}
 
 -- no line of short ones is too long
@@ -15,6 +17,19 @@ first_long_none (line ∷ text) h =
     let short : length line ≤ MAX_LINE_BYTES = All-head IsShort line text h in
     let rest = first_long_none text (All-tail IsShort line text h) in
     grind (arith, nat_tests)
+
+long_first : (text : List (List ℕ)) (line : List ℕ) (rest : List (List ℕ)) → AllByRecursion IsShort text → MAX_LINE_BYTES < length line
+    → first_long (text ++ line ∷ rest) ≡ Some (length line)
+long_first [] line rest h long = grind (arith, nat_tests)
+long_first (first ∷ text) line rest h long =
+    let short : length first ≤ MAX_LINE_BYTES = h.0 in
+    let later = long_first text line rest h.1 long in
+    grind (arith, nat_tests)
+
+-- the first line that is too long
+pub first_long_after : (text : List (List ℕ)) (line : List ℕ) (rest : List (List ℕ)) → All IsShort text → MAX_LINE_BYTES < length line
+    → first_long (text ++ line ∷ rest) ≡ Some (length line)
+first_long_after text line rest h long = long_first text line rest (recursion_from_All IsShort text h) long
 
 -- a text within the limits is refused for want of memory alone
 pub within_not_refused : (text : List (List ℕ)) (error : TextErr) → IsWithinLimits text → IsRefusal text error → error ≡ NoMemory
@@ -40,3 +55,8 @@ refused_once text (TextFull m) (LineTooLong n) a b = absurd (none-some n (sym (f
 refused_once text (TextFull m) (TextFull n) a b = inl (ap TextFull (too_many_once text m n a.1 b.1))
 refused_once text NoMemory b p q = inr (inl refl)
 refused_once text a NoMemory p q = inr (inr refl)
+
+-- a text has no more lines than bytes
+pub length-bytes_of : (text : List (List ℕ)) → length text ≤ bytes_of text
+length-bytes_of [] = omega arith
+length-bytes_of (line ∷ text) = omega (arith, length-bytes_of text)

@@ -1,3 +1,5 @@
+pub mod Documents
+pub mod Fed
 pub mod Limits
-pub mod Reader
+pub mod Scan
 pub mod Text

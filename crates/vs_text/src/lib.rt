@@ -2,17 +2,25 @@
 #![tactic(auto)]
 
 mod error;
+mod format;
+mod laws;
 mod line;
+mod line_ends;
 mod read;
 mod reader;
+mod scan;
 mod stored;
 mod text;
 mod write;
 
 pub use error::TextErr;
+pub use format::Format;
+pub use laws::{ended_lines, reads_what_was_written, writes_what_was_read};
 pub use line::Line;
+pub use line_ends::{ended_line, without_return};
 pub use read::read_text;
 pub use reader::TextReader;
+pub use scan::FormatScan;
 pub use stored::{from_stored, to_stored};
 pub use text::Text;
 pub use write::{append_lines, write_text};

@@ -20,7 +20,6 @@ use Rattle.vs_zero.proofs.Contents.{AllFit, AllFit-append, all_apart, and_left, 
 -- what is asked of the values that are written
 pub record IsWritable (zero : Zero) (pair : Pair) (name : List ℕ) : Type 0 where
   pub sized : zero.page_size ≡ 4096
-  pub known : (zero.format ≡ 1) ⊎ (zero.format ≡ 2)
   pub short : length name ≤ 200
   pub paired : zero.pair ≡ Some pair
   pub counted : pair.generation < 2 ^ 64
@@ -166,10 +165,11 @@ pair_written zero pair name good =
     flag_fits true = lit< tt
     flag_fits false = lit< tt
 
--- what was written is read, once the identifier is that of an open file
-pub opened_reads : (zero : Zero) (pair : Pair) (name : List ℕ) → IsWritable zero pair name → reading_of (opened (closed_page zero pair name)) ≡ Ok zero
+-- what was written is read, once the identifier is that of an open file; of the format as many bits as are read
+pub opened_says : (zero : Zero) (pair : Pair) (name : List ℕ) → IsWritable zero pair name
+    → reading_of (opened (closed_page zero pair name)) ≡ Ok record zero { format = (4 + zero.format) % 4 }
 unfolding fields_of
-opened_reads zero pair name good =
+opened_says zero pair name good =
     let page : List ℕ = opened (closed_page zero pair name) in
     let whole : length page ≡ 4096 =
     ap length (opened_is zero pair name)
@@ -179,14 +179,19 @@ opened_reads zero pair name good =
     open_number zero pair name good 1 page_size_field zero.page_size (lit< tt) refl (rw good.sized (lit< tt)) in
     let long_enough : is_short page ≡ false = rw whole refl in
     let in_range : is_page_size (number_in page_size_field page) ≡ true = rw (size, good.sized) refl in
-    let format : byte_in flags_field page % 4 ≡ zero.format =
-    ap (λ (flags : ℕ). flags % 4) (open_byte zero pair name good 3 flags_field (4 + zero.format) (lit< tt) refl) ∙ format_of zero.format good.known in
+    let format : byte_in flags_field page % 4 ≡ (4 + zero.format) % 4 =
+    ap (λ (flags : ℕ). flags % 4) (open_byte zero pair name good 3 flags_field (4 + zero.format) (lit< tt) refl) in
     let dirty : (byte_in dirty_field page == 0x55) ≡ zero.dirty =
     ap (λ (mark : ℕ). mark == 0x55) (open_byte zero pair name good 4 dirty_field (if zero.dirty then 0x55 else 0) (lit< tt) refl) ∙ dirty_of zero.dirty in
     let paired : pair_of page ≡ zero.pair = pair_written zero pair name good ∙ sym good.paired in
-    reads_ok page zero
+    reads_ok page (record zero { format = (4 + zero.format) % 4 })
     (not_refused page long_enough (not_encrypted page identifier) (open_is_open page identifier) (magic_written zero pair name good) in_range)
     (rw (size, format, dirty, paired) refl)
+
+-- a format that is written is read as it is
+pub opened_reads : (zero : Zero) (pair : Pair) (name : List ℕ) → IsWritable zero pair name → (zero.format ≡ 1) ⊎ (zero.format ≡ 2)
+    → reading_of (opened (closed_page zero pair name)) ≡ Ok zero
+opened_reads zero pair name good known = opened_says zero pair name good ∙ ap (λ (n : ℕ). Ok record zero { format = n }) (format_of zero.format known)
 
 -- what was written has two zero bytes for an identifier, and so is refused as closed
 pub closed_refused : (zero : Zero) (pair : Pair) (name : List ℕ) → IsWritable zero pair name → reading_of (closed_page zero pair name) ≡ Err Closed

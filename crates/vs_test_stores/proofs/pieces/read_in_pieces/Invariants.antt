@@ -1,9 +1,11 @@
-use Rattle.std.proofs.Common.{◌≡◌, ◌++◌, [], List, ℕ, length}
-use Rattle.vs_text.specs.Reader.{HasRead}
+use Rattle.std.proofs.Common.{◌≡◌, ◌++◌, false, List, ℕ, length}
 use Rattle.vs_test_stores.proofs.pieces.read_in_pieces.Given as goal
 
 abbrev pub invariant-pieces : goal.invariant-pieces
-invariant-pieces l = (seen : List ℕ) × (l.file ≡ seen ++ l.rest) × HasRead l.reader [] seen
+invariant-pieces l = record {
+  fed : l.file ≡ l.reader.bytes ++ l.rest;
+  on : l.reader.failed ≡ false;
+}
 
 abbrev pub decreases-pieces : goal.decreases-pieces
 decreases-pieces l = length l.rest

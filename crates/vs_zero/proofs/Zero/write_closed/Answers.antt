@@ -13,7 +13,6 @@ returns-in-Some c =
     let pair = c.in-Some.pair in
     let good : IsWritable zero pair name = record {
       sized = c.requires.sized;
-      known = c.requires.known;
       short = grind (arith, c.requires.allowed);
       paired = c.in-Some.is;
       counted = omega arith;
@@ -30,6 +29,6 @@ returns-in-Some c =
     record {
       page = rw c.in-Some.is whole;
       closed = ap reading_of whole ∙ closed_refused zero pair name good;
-      reads = ap (λ (page : List ℕ). reading_of (opened page)) whole ∙ opened_reads zero pair name good;
+      reads = ap (λ (page : List ℕ). reading_of (opened page)) whole ∙ opened_reads zero pair name good c.requires.known;
       named = ap (λ (page : List ℕ). name_of (opened page)) whole ∙ opened_name zero pair name good c.requires.allowed;
     }

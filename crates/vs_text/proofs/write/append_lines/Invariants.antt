@@ -1,9 +1,0 @@
-use Rattle.std.proofs.Common.{◌≡◌, ◌++◌, take}
-use Rattle.vs_text.specs.Text.{file_of, IsText}
-use Rattle.vs_text.proofs.write.append_lines.Given as goal
-
-abbrev pub invariant-loop-line : goal.invariant-loop-line
-invariant-loop-line l = record {
-  bytes : l.into.items ≡ l.initial.into.items ++ file_of (take l.line-index l.lines);
-  text : IsText (take l.line-index l.lines);
-}
