@@ -1,2 +1,4 @@
 pub mod Ended
+pub mod Files
 pub mod ReadLines
+pub mod Reading

@@ -7,11 +7,11 @@ use Rattle.std.proofs.lemmas.Grind.{flat_map-append}
 use Rattle.std.specs.List.{AllByRecursion}
 use Rattle.vs_text.specs.Text.{lines_of, file_of, bytes_of, IsLine}
 use Rattle.vs_text.specs.Limits.{IsShort, IsWithinLimits}
-use Rattle.vs_text.specs.Reader.{Reading, ReadsOn}
+use Rattle.vs_pieces.specs.Reader.{Reading, ReadsOn}
 use Rattle.vs_text.specs.declared.TheConstants.{MAX_LINES, MAX_LINE_BYTES, MAX_TEXT_BYTES}
 use Rattle.vs_text.proofs.FileForm.{bytes_of-append, length-file_of}
 use Rattle.vs_text.proofs.LineEnds.{IsText-lines_of}
-use Rattle.vs_text.proofs.Reading.{IsWithinLimits-first}
+use Rattle.vs_pieces.proofs.Reading.{IsWithinLimits-first}
 
 each_short : (lines : List (List ℕ)) (most : ℕ) → bytes_of lines ≤ most → most ≤ MAX_LINE_BYTES → AllByRecursion IsShort lines
 each_short [] most few small = tt

@@ -1,8 +1,11 @@
 //! A text that is read in pieces, with no value of its own for each of its lines.
 #![tactic(auto)]
 
+mod file;
 mod lines;
+mod plain;
 mod reader;
 
-pub use lines::{EndedLines, WholeLines, ended_line, whole_lines};
+pub use file::FileReader;
+pub use lines::{EndedLines, WholeLines, whole_lines};
 pub use reader::PieceReader;

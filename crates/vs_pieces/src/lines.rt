@@ -3,7 +3,7 @@ ghost use Rattle.std.specs.Prelude.{◌≡◌, ◌<◌, ◌≤◌, ◌++◌, ◌
 ghost use Rattle.vs_pieces.specs.Whole.{AreWhole, is_end};
 ghost use Rattle.vs_text.specs.Text.{IsLine, file_of, lines_of};
 
-use memchr::{memchr, memrchr};
+use memchr::memrchr;
 use std::alloc::{AllocError, Global};
 use std::marker::Model;
 
@@ -24,15 +24,6 @@ impl Model for EndedLines {
     ghost Value = { List (List ℕ) };
 
     ghost view = { λ lines. lines_of lines.bytes.items };
-}
-
-/// The bytes before the first line end, and those after it; `None` where no line ends.
-pub fn ended_line(bytes: &[u8]) -> Option<(&[u8], &[u8])>
-    ensures { MatchOption result (IsLine bytes.now) (λ (line, rest). IsLine line.now × (bytes.now ≡ line.now ++ 10 ∷ rest.now) ×
-        (length rest.now < length bytes.now)) }
-{
-    let end = memchr(b'\n', bytes)?;
-    Some((&bytes[..end], &bytes[end + 1..]))
 }
 
 /// The lines that end in some bytes with their ends, how many they are, and the bytes after the last line end.

@@ -2,22 +2,22 @@
 ghost use Rattle.std.specs.Prelude.{◌≡◌, ◌+◌, ◌<◌, ◌≤◌, ◌^◌, ◌++◌, ◌∷◌, [], List, ℕ, length, None, Some, IfOk, IfErr, OnOk, OnErr, MatchOption};
 ghost use Rattle.vs_text.specs.Text.{IsLine, file_of, lines_of};
 ghost use Rattle.vs_text.specs.Limits.{IsWithinLimits};
-ghost use Rattle.vs_text.specs.Reader.{HasRead, IsAnswer, IsCertain, IsReading, Reads, ReadsOn, Refuses, size_read};
+ghost use Rattle.vs_pieces.specs.Reader.{HasRead, IsAnswer, IsCertain, IsReading, Reads, ReadsOn, Refuses, size_read};
 
-use crate::{EndedLines, WholeLines, ended_line, whole_lines};
+use crate::{EndedLines, WholeLines, whole_lines};
 use std::alloc::Global;
 use std::marker::Model;
 use std::mem;
-use vs_text::{MAX_LINE_BYTES, MAX_LINES, MAX_TEXT_BYTES, TextErr};
+use vs_text::{MAX_LINE_BYTES, MAX_LINES, MAX_TEXT_BYTES, TextErr, ended_line};
 
 /// The greatest number of bytes that are read together: of the lines that end in them, only the first can be too long.
 const PART: usize = MAX_LINE_BYTES as usize;
 
-/// Reads a text in pieces (docs/FORMATS.md, "The file form of a text"), as [`TextReader`](vs_text::TextReader) does, and keeps the lines
-/// that have ended in one piece of memory.
+/// Reads a text in pieces, by the lines of a unix file (docs/FORMATS.md, "The file form of a text"), and keeps the lines that have ended in
+/// one piece of memory. [`FileReader`](crate::FileReader) reads a file of either format.
 ///
-/// The pieces may be cut anywhere. The answer of [`PieceReader::end`] is that of [`read_text`](vs_text::read_text) on the whole.
-/// The reader holds no more than a text within the limits and one last line: what is certain to be refused is counted only.
+/// The pieces may be cut anywhere: the answer of [`PieceReader::end`] is that for the whole. The reader holds no more than a text within the
+/// limits and one last line: what is certain to be refused is counted only.
 #[derive(Drop)]
 pub struct PieceReader {
     lines: EndedLines,
@@ -30,7 +30,7 @@ pub struct PieceReader {
 
 impl Model for PieceReader {
     ghost use Rattle.std.specs.Prelude.{◌+◌, ◌*◌, ◌^◌, ◌<◌, ◌≤◌};
-    ghost use Rattle.vs_text.specs.Reader.{Reading};
+    ghost use Rattle.vs_pieces.specs.Reader.{Reading};
     ghost use Rattle.vs_text.specs.Text.{IsLine};
     ghost use Rattle.vs_text.specs.declared.TheConstants.{MAX_LINE_BYTES};
 

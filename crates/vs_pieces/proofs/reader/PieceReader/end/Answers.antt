@@ -1,8 +1,8 @@
 use Rattle.std.proofs.Common.{◌≡◌, ◌<◌, ◌≤◌, ◌∙◌, ◌++◌, ◌∷◌, [], Err, ap, sym, subst, arith}
-use Rattle.vs_text.specs.Reader.{Reading, IsAnswer, ReadsOn, Refuses}
+use Rattle.vs_pieces.specs.Reader.{Reading, IsAnswer, ReadsOn, Refuses}
 use Rattle.vs_text.specs.declared.TheConstants.{MAX_LINES, MAX_LINE_BYTES}
 use Rattle.std.proofs.lemmas.Result.{err_from_is_err_and}
-use Rattle.vs_text.proofs.Reading.{HasRead-reading, HasRead-refusing, IsAnswer-certain, IsAnswer-long_line, IsAnswer-one_more, IsAnswer-same_lines, none_from_not_some, lines_of-with_end}
+use Rattle.vs_pieces.proofs.Reading.{HasRead-reading, HasRead-refusing, IsAnswer-certain, IsAnswer-long_line, IsAnswer-one_more, IsAnswer-same_lines, none_from_not_some, lines_of-with_end}
 use Rattle.vs_pieces.proofs.reader.PieceReader.end.Goals as goal
 
 pub returns-in-Some-clause-answer : goal.returns-in-Some-clause-answer

@@ -1,8 +1,8 @@
 use Rattle.std.proofs.Common.{◌≡◌, ◌+◌, [], ◌∷◌, refl, ap, subst, ◌∙◌, arith}
-use Rattle.vs_text.specs.Reader.{Reading, ReadsOn, Refuses}
+use Rattle.vs_pieces.specs.Reader.{Reading, ReadsOn, Refuses}
 use Rattle.vs_text.specs.declared.error.TextErr.TheVariants.{LineTooLong}
 use Rattle.vs_pieces.specs.contracts.reader.PieceReader.{the_view}
-use Rattle.vs_text.proofs.Reading.{ReadsOn-end, Refuses-long_line}
+use Rattle.vs_pieces.proofs.Reading.{ReadsOn-end, Refuses-long_line}
 use Rattle.vs_pieces.proofs.reader.PieceReader.end_line.Goals as goal
 
 pub returns-then-self-gt-MAX_LINE_BYTES-clause-refused :

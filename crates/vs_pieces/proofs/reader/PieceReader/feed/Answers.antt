@@ -1,7 +1,7 @@
 use Rattle.std.proofs.Common.{◌≡◌, ◌≤◌, ◌+◌, ◌∙◌, Some, refl, ap, sym, length}
-use Rattle.vs_text.specs.Reader.{Reading, size_read}
+use Rattle.vs_pieces.specs.Reader.{Reading, size_read}
 use Rattle.vs_pieces.specs.contracts.reader.PieceReader.{the_view}
-use Rattle.vs_text.proofs.Reading.{Reads-refused, Reads-again, none_from_not_some, HasRead-reading, HasRead-refusing, IsCertain-more}
+use Rattle.vs_pieces.proofs.Reading.{Reads-refused, Reads-again, none_from_not_some, HasRead-reading, HasRead-refusing, IsCertain-more}
 use Rattle.vs_pieces.proofs.reader.PieceReader.feed.Goals as goal
 
 pub returns-in-Some-clause-reads : goal.returns-in-Some-clause-reads

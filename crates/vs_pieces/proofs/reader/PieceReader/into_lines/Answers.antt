@@ -1,6 +1,6 @@
 use Rattle.std.proofs.Common.{◌≡◌, ap}
-use Rattle.vs_text.specs.Reader.{Reading}
-use Rattle.vs_text.proofs.Reading.{IsAnswer-text, IsAnswer-lines, IsAnswer-bytes}
+use Rattle.vs_pieces.specs.Reader.{Reading}
+use Rattle.vs_pieces.proofs.Reading.{IsAnswer-text, IsAnswer-lines, IsAnswer-bytes}
 use Rattle.vs_pieces.proofs.reader.PieceReader.into_lines.Goals as goal
 
 pub returns-then-self-gt-MAX_LINES : goal.returns-then-self-gt-MAX_LINES

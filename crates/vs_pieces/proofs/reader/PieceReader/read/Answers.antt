@@ -1,8 +1,8 @@
 use Rattle.std.proofs.Common.{◌≡◌, ◌∙◌, ◌++◌, List, ℕ, ap, sym, subst, arith, append_assoc, append-nil, length, length-append}
 use Rattle.std.proofs.lemmas.List.{nil_from_length}
 use Rattle.std.proofs.lemmas.Result.{err_from_is_err_and}
-use Rattle.vs_text.specs.Reader.{IsReading, Refuses}
-use Rattle.vs_text.proofs.Reading.{ReadsOn-then, Refuses-then, Refuses-more}
+use Rattle.vs_pieces.specs.Reader.{IsReading, Refuses}
+use Rattle.vs_pieces.proofs.Reading.{ReadsOn-then, Refuses-then, Refuses-more}
 use Rattle.vs_pieces.proofs.ReadLines.{split_whole}
 use Rattle.vs_pieces.proofs.reader.PieceReader.read.Goals as goal
 

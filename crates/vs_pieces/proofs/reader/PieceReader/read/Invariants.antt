@@ -1,6 +1,6 @@
 -- The parts that were read are the first bytes, and the rest comes after them.
 use Rattle.std.proofs.Common.{◌≡◌, ◌≤◌, ◌+◌, ◌++◌, ℕ, List, length}
-use Rattle.vs_text.specs.Reader.{ReadsOn, size_read}
+use Rattle.vs_pieces.specs.Reader.{ReadsOn, size_read}
 use Rattle.vs_pieces.proofs.reader.PieceReader.read.Given as goal
 
 abbrev pub invariant-parts : goal.invariant-parts

@@ -1,7 +1,7 @@
 use Rattle.std.proofs.Common.{◌+◌, length, refl, subst, arith}
-use Rattle.vs_text.specs.Reader.{Reading, ReadsOn}
+use Rattle.vs_pieces.specs.Reader.{Reading, ReadsOn}
 use Rattle.vs_pieces.specs.contracts.reader.PieceReader.{the_view}
-use Rattle.vs_text.proofs.Reading.{ReadsOn-bytes}
+use Rattle.vs_pieces.proofs.Reading.{ReadsOn-bytes}
 use Rattle.vs_pieces.proofs.reader.PieceReader.read_bytes.Goals as goal
 
 pub returns-in_ok-extend_from_slice-clause-reads :

@@ -1,6 +1,6 @@
 use Rattle.std.proofs.Common.{◌≡◌, ◌+◌, List, ℕ, length, ap, subst, ◌∙◌, arith}
 use Rattle.vs_text.specs.Text.{lines_of}
-use Rattle.vs_text.specs.Reader.{Reading, ReadsOn, size_read}
+use Rattle.vs_pieces.specs.Reader.{Reading, ReadsOn, size_read}
 use Rattle.vs_pieces.specs.contracts.reader.PieceReader.{the_view}
 use Rattle.vs_pieces.proofs.Ended.{lines_few, lines_most}
 use Rattle.vs_pieces.proofs.ReadLines.{ReadsOn-lines, on_ok_three}

@@ -1,7 +1,7 @@
 use Rattle.std.proofs.Common.{◌≡◌, ◌∙◌, ◌++◌, ◌∷◌, [], List, ℕ, ap, sym, subst, append_assoc}
 use Rattle.std.proofs.lemmas.Result.{err_from_is_err_and, on_ok_weaker}
-use Rattle.vs_text.specs.Reader.{ReadsOn, Refuses}
-use Rattle.vs_text.proofs.Reading.{ReadsOn-then, Refuses-then, Refuses-more}
+use Rattle.vs_pieces.specs.Reader.{ReadsOn, Refuses}
+use Rattle.vs_pieces.proofs.Reading.{ReadsOn-then, Refuses-then, Refuses-more}
 use Rattle.vs_pieces.proofs.reader.PieceReader.read_part.Goals as goal
 
 -- a line with its end, and what follows
