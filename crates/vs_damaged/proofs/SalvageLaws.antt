@@ -10,7 +10,7 @@ use Rattle.vs_damaged.specs.Salvage.{Damaged, Ends, FromBelow, FromBlock, FromOr
 
 -- what a target to the original file gives
 abbrev given : Damaged → Target → List Item
-given d (target.Original before count) = original_items d.ends d.original before count
+given d (target.Original before count) = original_items d.format d.original before count
 given d t = []
 
 -- the pages of a target to a block
@@ -44,7 +44,7 @@ same_found d e a b x y same first second = sym first ∙ (ap (λ (p : Pages). fo
 pub gives_once : (d : Damaged) (taken : List Pages) (es : List PtrEntry) (xs ys : List Item) → Gives d taken es xs → Gives d taken es ys → xs ≡ ys
 gives_once d taken es xs ys (Ends t) (Ends u) = refl
 gives_once d taken es xs ys (FromOriginal t e rest items before count is after) (FromOriginal u f more others first number so then) =
-    ap (λ (is : List Item). original_items d.ends d.original before count ++ is) (gives_once d _ _ items others after then)
+    ap (λ (is : List Item). original_items d.format d.original before count ++ is) (gives_once d _ _ items others after then)
     ∙ ap (λ (v : Target). given d v ++ others) (sym is ∙ so)
 gives_once d taken es xs ys (FromOriginal t e rest items before count is after) (NoBlock u f more others nowhere then) = absurd (nowhere_original d u (target_of e) before count is nowhere)
 gives_once d taken es xs ys (FromOriginal t e rest items before count is after) (FromBelow u f more below others pages so free found then) = absurd (cc)

@@ -2,6 +2,7 @@
 use Rattle.std.specs.Prelude.{◌≡◌, ℕ, suc, ℤ, pos, negsuc, ◌==◌, ◌&&◌, nat_le, nat_lt, if◌then◌else◌, List, [], ◌∷◌, ◌++◌, length, map, take, drop}
 use Rattle.std.specs.Prelude.{slice_range, Option, Some, None, Result, Ok, Err}
 use Rattle.std.specs.List.{before_first, range_with_len}
+use Rattle.vs_text.specs.declared.format.Format.{Format}
 use Rattle.vs_text.specs.Text.{lines_of, plain_line}
 use Rattle.vs_data.specs.declared.DataView.{DataView}
 use Rattle.vs_data.specs.declared.DataErr.{DataErr}
@@ -16,16 +17,7 @@ use Rattle.vs_damaged.specs.declared.finds.Target.{Target}
 use Rattle.vs_damaged.specs.declared.finds.Target.TheVariants as target
 use Rattle.vs_damaged.specs.declared.shown.Marker.TheVariants as marker
 use Rattle.vs_damaged.specs.declared.shown.Shown.{Shown}
-use Rattle.vs_damaged.specs.Items.{AddsAll, Item, TheMarker, line_item}
-
--- How the lines of a file end: what follows each line that is written out, and which line these bytes of the original file are.
-pub record LineEnds : Type 0 where
-  pub end : List ℕ
-  pub line_of : List ℕ → List ℕ
-
--- lines that end in byte 10 alone
-abbrev pub unix : LineEnds
-unix = record { end = 10 ∷ []; line_of = λ bytes. bytes }
+use Rattle.vs_damaged.specs.Items.{AddsAll, Item, TheMarker, line_item, original_item}
 
 -- ---- an entry
 
@@ -57,10 +49,10 @@ if_fewer there count = if nat_lt there count then TheMarker marker.LinesMissing 
 
 -- The lines that are there from a line on, before which so many stand, and the marker where that is not all: there are fewer, the
 -- file is not there, or no line has such a number.
-abbrev pub original_items : LineEnds → Option (List ℕ) → Option ℕ → ℕ → List Item
-original_items ends (Some file) (Some before) count =
-    map (λ bytes. line_item (ends.line_of bytes)) (take count (drop before (lines_of file))) ++ if_fewer (length (drop before (lines_of file))) count
-original_items ends file before count = TheMarker marker.LinesMissing ∷ []
+abbrev pub original_items : Format → Option (List ℕ) → Option ℕ → ℕ → List Item
+original_items format (Some file) (Some before) count =
+    map (original_item format) (take count (drop before (lines_of file))) ++ if_fewer (length (drop before (lines_of file))) count
+original_items format file before count = TheMarker marker.LinesMissing ∷ []
 
 -- ---- a block
 

@@ -1,23 +1,25 @@
 -- What is salvaged of a swap file whose pages may have any size and any bytes: what the entries of its pointer blocks give, in order.
 use Rattle.std.specs.Prelude.{◌≡◌, ◌⊎◌, ⊤, ℕ, ◌+◌, ◌*◌, ◌/◌, ◌<◌, ◌≤◌, List, [], ◌∷◌, ◌++◌, length, take, drop, Option, Ok}
 use Rattle.vs_pages.specs.Maps.{total, span}
+use Rattle.vs_text.specs.declared.format.Format.{Format}
 use Rattle.vs_ptr.specs.declared.PtrEntry.{PtrEntry}
 use Rattle.vs_ptr.specs.declared.PtrView.{PtrView}
 use Rattle.vs_ptr.specs.Blocks.{entries_of, view_in}
 use Rattle.vs_zero.specs.declared.Zero.{Zero}
 use Rattle.vs_zero.specs.Zero.{reading_of}
+use Rattle.vs_swap.specs.Files.{format_by}
 use Rattle.vs_damaged.specs.declared.finds.Target.{Target}
 use Rattle.vs_damaged.specs.declared.finds.Target.TheVariants as target
 use Rattle.vs_damaged.specs.declared.shown.Marker.TheVariants as marker
-use Rattle.vs_damaged.specs.Finds.{Entries, Items, LineEnds, found_in, original_items, target_of}
+use Rattle.vs_damaged.specs.Finds.{Entries, Items, found_in, original_items, target_of}
 use Rattle.vs_damaged.specs.Items.{Item, TheMarker, bounded, bytes_of_items, markers_in}
 
--- A swap file with pages of this size, the original file where it is there, and how lines end.
+-- A swap file with pages of this size and this format, and the original file where it is there.
 pub record Damaged : Type 0 where
   pub file : List ℕ
   pub size : ℕ
   pub original : Option (List ℕ)
-  pub ends : LineEnds
+  pub format : Format
 
 -- neighbouring pages
 pub record Pages : Type 0 where
@@ -57,7 +59,7 @@ pub data Gives (d : Damaged) : List Pages → List PtrEntry → List Item → Ty
   Ends : (taken : List Pages) → Gives d taken [] []
   FromOriginal : (taken : List Pages) (e : PtrEntry) (es : List PtrEntry) (items : List Item) (before : Option ℕ) (count : ℕ)
       → target_of e ≡ target.Original before count
-      → Gives d taken es items → Gives d taken (e ∷ es) (original_items d.ends d.original before count ++ items)
+      → Gives d taken es items → Gives d taken (e ∷ es) (original_items d.format d.original before count ++ items)
   NoBlock : (taken : List Pages) (e : PtrEntry) (es : List PtrEntry) (items : List Item) → LeadsNowhere d taken (target_of e)
       → Gives d taken es items → Gives d taken (e ∷ es) (TheMarker marker.BlockMissing ∷ items)
   FromBelow : (taken : List Pages) (e : PtrEntry) (es below : List PtrEntry) (items : List Item) (pages : Pages)
@@ -77,16 +79,17 @@ root_pages = record { first = 1; count = 1 }
 abbrev pub first_pages : Pages
 first_pages = record { first = 0; count = 2 }
 
--- These bytes, with so many markers, are salvaged of a swap file: page 0 reads and says the size of a page, block 1 is a pointer block,
--- and what its entries give is shown up to the limits of a text. Pages 0 and 1 are taken before.
+-- These bytes, with so many markers, are salvaged of a swap file: page 0 reads and says the size of a page and the format, block 1 is a
+-- pointer block, and what its entries give is shown up to the limits of a text. Pages 0 and 1 are taken before.
 pub record Salvages (d : Damaged) (bytes : List ℕ) (markers : ℕ) : Type 0 where
   pub zero : Zero
   pub reads : reading_of (take 4096 d.file) ≡ Ok zero
   pub size : zero.page_size ≡ d.size
+  pub format_is : format_by zero.format ≡ d.format
   pub whole : 2 * d.size ≤ length d.file
   pub view : PtrView
   pub root : view_in (bytes_at d root_pages) ≡ Ok view
   pub items : List Item
   pub gives : Gives d (first_pages ∷ []) (entries_of (bytes_at d root_pages)) items
-  pub bytes_are : bytes ≡ bytes_of_items d.ends.end (bounded items)
+  pub bytes_are : bytes ≡ bytes_of_items d.format (bounded items)
   pub markers_are : markers ≡ markers_in (bounded items)

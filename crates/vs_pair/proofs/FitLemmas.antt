@@ -14,6 +14,7 @@ use Rattle.vs_disk.proofs.Others.{file_outside}
 use Rattle.vs_disk.proofs.Parts.{read_name}
 use Rattle.vs_pages.specs.Memory.{commits_of, committed_of}
 use Rattle.vs_swap.specs.Recovery.{StandsIn}
+use Rattle.vs_text.specs.Documents.{Document}
 use Rattle.vs_swap.specs.Files.{StandsFor}
 use Rattle.vs_pair.specs.declared.gate.Gate.{Gate}
 use Rattle.vs_pair.specs.declared.gate.Gate.TheVariants.{Open, Closed, Unknown}
@@ -21,7 +22,7 @@ use Rattle.vs_pair.specs.declared.side.Side.{Side}
 use Rattle.vs_pair.specs.declared.side.Side.TheVariants.{Swp, Swo}
 use Rattle.vs_pair.specs.Swap.{Synced, Body, body_of, page_zero, IsOpen, HasBody, Holds, Fits, SyncStep, FailedSync}
 use Rattle.vs_pair.specs.Swap.FailedSync.{InClosing, InWriting, InOpening}
-use Rattle.vs_pair.specs.Pair.{Image, Known, name_of, other_side, is_swap, is_apart, HasEarlier, HasLater, Recovers, IsFit, IsOrdered, Syncing, Unmoved, IsTextOf, IsAbove, RisesAt, Rises}
+use Rattle.vs_pair.specs.Pair.{Image, Known, name_of, other_side, is_swap, is_apart, HasEarlier, HasLater, Recovers, IsFit, IsOrdered, Syncing, Unmoved, IsDocumentOf, IsAbove, RisesAt, Rises}
 use Rattle.vs_pair.specs.Stale.{nothing}
 use Rattle.vs_pair.proofs.FreshPages.{keeps_nothing, keeps_all}
 use Rattle.vs_pair.proofs.Gates.{body_stays, fits_body, has_at, zeros_not_open}
@@ -86,47 +87,47 @@ module _ (files : Known) (newest : Synced) (begun past : List Synced) (disk : Di
   }
 
   -- the generation of each that stands was used
-  used_newer : (image : Image) → IsImage disk image → (g : ℕ) (text : List (List ℕ)) → StandsIn (image (name_of files.names files.newer)) g text → g ≡ newest.generation
-  used_newer image whole g text stands =
+  used_newer : (image : Image) → IsImage disk image → (g : ℕ) (document : Document) → StandsIn (image (name_of files.names files.newer)) g document → g ≡ newest.generation
+  used_newer image whole g document stands =
       let at = image_at disk (name_of files.names files.newer) fit.newer_number (Holds (body_of files.names.file newest)) fit.newer image whole in
-      stands_generation files.names.file newest fit.named.allowed (omega (arith, fit.newer_used, fit.bound)) at.0 at.2.whole g text (subst (λ (o : Option (List ℕ)). StandsIn o g text) at.1 stands)
+      stands_generation files.names.file newest fit.named.allowed (omega (arith, fit.newer_used, fit.bound)) at.0 at.2.whole g document (subst (λ (o : Option (List ℕ)). StandsIn o g document) at.1 stands)
 
-  older_image : (gate : Gate) → Fits gate (body_of files.names.file fit.older_sync) (disk.files fit.older_number) → (c : List ℕ) → IsFileImage (disk.files fit.older_number) c → (g : ℕ) (text : List (List ℕ)) → StandsFor c g text
+  older_image : (gate : Gate) → Fits gate (body_of files.names.file fit.older_sync) (disk.files fit.older_number) → (c : List ℕ) → IsFileImage (disk.files fit.older_number) c → (g : ℕ) (document : Document) → StandsFor c g document
       → g ≡ fit.older_sync.generation
-  older_image Closed fits c image g text stands = absurd (zeros_not_open c (fits c image) (stands_open c g text stands))
-  older_image Open fits c image g text stands = stands_generation files.names.file fit.older_sync fit.named.allowed (omega (arith, fit.older_used, fit.bound)) c (fits c image).whole g text stands
-  older_image Unknown fits c image g text stands = stands_generation files.names.file fit.older_sync fit.named.allowed (omega (arith, fit.older_used, fit.bound)) c (fits c image) g text stands
+  older_image Closed fits c image g document stands = absurd (zeros_not_open c (fits c image) (stands_open c g document stands))
+  older_image Open fits c image g document stands = stands_generation files.names.file fit.older_sync fit.named.allowed (omega (arith, fit.older_used, fit.bound)) c (fits c image).whole g document stands
+  older_image Unknown fits c image g document stands = stands_generation files.names.file fit.older_sync fit.named.allowed (omega (arith, fit.older_used, fit.bound)) c (fits c image) g document stands
 
-  used_older : (image : Image) → IsImage disk image → (g : ℕ) (text : List (List ℕ)) → StandsIn (image (name_of files.names (other_side files.newer))) g text → g ≤ files.generation
-  used_older image whole g text stands =
+  used_older : (image : Image) → IsImage disk image → (g : ℕ) (document : Document) → StandsIn (image (name_of files.names (other_side files.newer))) g document → g ≤ files.generation
+  used_older image whole g document stands =
       let name = name_of files.names (other_side files.newer) in
       let here = subst (λ (o : Option ℕ). IsImageOf disk o (image name)) (fit.older.leads whole.0) (whole.1 name) in
-      omega (arith, fit.older_used, older_image files.gate fit.older.has here.0 here.2 g text (subst (λ (o : Option (List ℕ)). StandsIn o g text) here.1 stands))
+      omega (arith, fit.older_used, older_image files.gate fit.older.has here.0 here.2 g document (subst (λ (o : Option (List ℕ)). StandsIn o g document) here.1 stands))
 
-  used : (image : Image) → IsImage disk image → (side : Side) (g : ℕ) (text : List (List ℕ)) → StandsIn (image (name_of files.names side)) g text → g ≤ files.generation
-  used image whole side g text stands = elim (two_sides side files.newer) [
-    | inl is ↦ omega (arith, fit.newer_used, used_newer image whole g text (subst (λ (s : Side). StandsIn (image (name_of files.names s)) g text) is stands))
-    | inr is ↦ used_older image whole g text (subst (λ (s : Side). StandsIn (image (name_of files.names s)) g text) is stands)
+  used : (image : Image) → IsImage disk image → (side : Side) (g : ℕ) (document : Document) → StandsIn (image (name_of files.names side)) g document → g ≤ files.generation
+  used image whole side g document stands = elim (two_sides side files.newer) [
+    | inl is ↦ omega (arith, fit.newer_used, used_newer image whole g document (subst (λ (s : Side). StandsIn (image (name_of files.names s)) g document) is stands))
+    | inr is ↦ used_older image whole g document (subst (λ (s : Side). StandsIn (image (name_of files.names s)) g document) is stands)
   ]
 
   -- a generation that was not used is above all
   pub all_used : (generation : ℕ) → files.generation < generation → IsAbove files.names disk generation
-  all_used generation lt image g text whole (inl stands) = omega (arith, lt, used image whole Swp g text stands)
-  all_used generation lt image g text whole (inr stands) = omega (arith, lt, used image whole Swo g text stands)
+  all_used generation lt image g document whole (inl stands) = omega (arith, lt, used image whole Swp g document stands)
+  all_used generation lt image g document whole (inr stands) = omega (arith, lt, used image whole Swo g document stands)
 
   -- what is above all is above the newest, which stands
-  pub above_newest : (text : List (List ℕ)) → IsTextOf newest text → (generation : ℕ) → IsAbove files.names disk generation → newest.generation < generation
-  above_newest text is generation above =
+  pub above_newest : (document : Document) → IsDocumentOf newest document → (generation : ℕ) → IsAbove files.names disk generation → newest.generation < generation
+  above_newest document is generation above =
       let image : Image = λ name. option_map (λ (number : ℕ). (disk.files number).bytes) (names_of disk name) in
       let whole : IsImage disk image = (0, λ name. read_name disk (names_of disk name)) in
       let at = image_at disk (name_of files.names files.newer) fit.newer_number (Holds (body_of files.names.file newest)) fit.newer image whole in
-      let stands : StandsIn (image (name_of files.names files.newer)) newest.generation text =
-      subst (λ (o : Option (List ℕ)). StandsIn o newest.generation text) (sym at.1) (holds_stands files.names fit.named.allowed [] newest text is (omega (arith, fit.newer_used, fit.bound)) at.0 at.2) in
+      let stands : StandsIn (image (name_of files.names files.newer)) newest.generation document =
+      subst (λ (o : Option (List ℕ)). StandsIn o newest.generation document) (sym at.1) (holds_stands files.names fit.named.allowed [] newest document is (omega (arith, fit.newer_used, fit.bound)) at.0 at.2) in
       by_side files.newer image whole stands
     where
-      by_side : (side : Side) (image : Image) → IsImage disk image → StandsIn (image (name_of files.names side)) newest.generation text → newest.generation < generation
-      by_side Swp image whole stands = above image newest.generation text whole (inl stands)
-      by_side Swo image whole stands = above image newest.generation text whole (inr stands)
+      by_side : (side : Side) (image : Image) → IsImage disk image → StandsIn (image (name_of files.names side)) newest.generation document → newest.generation < generation
+      by_side Swp image whole stands = above image newest.generation document whole (inl stands)
+      by_side Swo image whole stands = above image newest.generation document whole (inr stands)
 
   -- ---- nothing rose
 
@@ -154,17 +155,17 @@ module _ (files : Known) (newest : Synced) (begun past : List Synced) (disk : Di
 
   -- the older file may be left so that it does not stand with more
   no_more : (gate : Gate) → Fits gate (body_of files.names.file fit.older_sync) (disk.files fit.older_number) → IsOrdered gate newest fit.older_sync begun past (disk.files fit.older_number)
-      → (c : List ℕ) × IsFileImage (disk.files fit.older_number) c × ((g : ℕ) (text : List (List ℕ)) → StandsFor c g text → g < newest.generation)
+      → (c : List ℕ) × IsFileImage (disk.files fit.older_number) c × ((g : ℕ) (document : Document) → StandsFor c g document → g < newest.generation)
   no_more Closed fits ordered =
       let file : File = disk.files fit.older_number in
-      (file.bytes, read_image file, λ g text stands. absurd (zeros_not_open file.bytes (fits file.bytes (read_image file)) (stands_open file.bytes g text stands)))
+      (file.bytes, read_image file, λ g document stands. absurd (zeros_not_open file.bytes (fits file.bytes (read_image file)) (stands_open file.bytes g document stands)))
   no_more Open fits ordered =
       let file : File = disk.files fit.older_number in
-      (file.bytes, read_image file, λ g text stands. omega (arith, ordered.less, older_image Open fits file.bytes (read_image file) g text stands))
+      (file.bytes, read_image file, λ g document stands. omega (arith, ordered.less, older_image Open fits file.bytes (read_image file) g document stands))
   no_more Unknown fits (inl earlier) =
       let file : File = disk.files fit.older_number in
-      (file.bytes, read_image file, λ g text stands. omega (arith, earlier.less, older_image Unknown fits file.bytes (read_image file) g text stands))
-  no_more Unknown fits (inr later) = (later.may.image, later.may.is, λ g text stands. absurd (later.may.not_open (stands_open later.may.image g text stands)))
+      (file.bytes, read_image file, λ g document stands. omega (arith, earlier.less, older_image Unknown fits file.bytes (read_image file) g document stands))
+  no_more Unknown fits (inr later) = (later.may.image, later.may.is, λ g document stands. absurd (later.may.not_open (stands_open later.may.image g document stands)))
 
   pub none_rises : (old : Disk) → ((generation : ℕ) → IsAbove files.names old generation → newest.generation < generation) → Rises files.names old disk → ⊥
   none_rises old above rises = elim (two_sides rises.0 files.newer) [
@@ -355,14 +356,14 @@ module _ (files : Known) (newest : Synced) (begun past : List Synced) (old : Dis
           bound = omega (arith, room);
         }
 
-    pub rises : (text : List (List ℕ)) → IsTextOf sync text → Rises files.names old new
-    rises text is = (
+    pub rises : (document : Document) → IsDocumentOf sync document → Rises files.names old new
+    rises document is = (
       other_side files.newer,
       λ image whole.
           let at = image_at new older fit.older_number (Holds (body_of file sync)) now_newer image whole in (
             sync.generation,
-            text,
-            subst (λ (o : Option (List ℕ)). StandsIn o sync.generation text) (sym at.1) (holds_stands files.names fit.named.allowed [] sync text is (omega (arith, next, room)) at.0 at.2),
+            document,
+            subst (λ (o : Option (List ℕ)). StandsIn o sync.generation document) (sym at.1) (holds_stands files.names fit.named.allowed [] sync document is (omega (arith, next, room)) at.0 at.2),
             all_used files newest begun past old fit sync.generation (omega (arith, next)),
           ),
     )

@@ -3,6 +3,7 @@ use Rattle.std.proofs.Common.{◌≡◌, ℕ, inl, inr, IsTrue, refl, sym, ◌�
 use Rattle.vs_faults.specs.Faults.{HasCause, HasRisen}
 use Rattle.vs_host.specs.Disk.{Disk}
 use Rattle.vs_host.specs.World.{Tells, Scene, CountsFault}
+use Rattle.vs_disk.proofs.Faults.{never_none}
 use Rattle.vs_disk.proofs.Runs.{starts}
 use Rattle.vs_pages.specs.Memory.{KeepsSince}
 use Rattle.vs_pages.specs.MemoryLaws.{keeps_none}
@@ -26,6 +27,7 @@ keeps_damaged tells pair old new silent counts = record {
   since = keeps_none pair.pages;
   frame = counts ∙ (λ i. record old { folder_faults = new.folder_faults; trace = sym (ap (λ (s : Scene). s.trace) counts) i });
   looks = λ told. absurd (silent told);
+  counts = λ told. absurd (silent told);
   still = λ told. absurd (silent told);
 }
 
@@ -41,5 +43,6 @@ keeps_with tells pair pages scene since = record {
   since = since;
   frame = refl;
   looks = λ told. starts (λ a b. b ≡ a) scene refl;
+  counts = λ told. never_none scene;
   still = λ told. refl;
 }

@@ -1,6 +1,7 @@
 -- The files of a pair go on being as they were known, from call to call.
 use Rattle.std.proofs.Common.{◌≡◌, refl, ◌∙◌, ap}
 use Rattle.vs_host.specs.World.{Tells, Scene, ReadsFolder}
+use Rattle.vs_disk.proofs.Faults.{never_none, never_then}
 use Rattle.vs_disk.proofs.Runs.{starts, looks_on, reads_change}
 use Rattle.vs_pages.specs.MemoryLaws as pages
 use Rattle.vs_pair.specs.declared.pair.SwapPair.{SwapPair}
@@ -12,6 +13,7 @@ keeps_none tells pair scene = record {
   since = pages.keeps_none pair.pages;
   frame = refl;
   looks = λ told. starts (λ a b. b ≡ a) scene refl;
+  counts = λ told. never_none scene;
   still = λ told. refl;
 }
 
@@ -25,5 +27,6 @@ keeps_then tells a b c old mid new first second = record {
   since = pages.keeps_then a.pages b.pages c.pages first.since second.since;
   frame = reads_then old mid new first.frame second.frame;
   looks = λ told. looks_on old mid new (reads_change old mid first.frame) (first.looks told) (second.looks told);
+  counts = λ told. never_then old mid new first.frame (first.counts told) (second.counts told);
   still = λ told. second.still told ∙ first.still told;
 }

@@ -10,8 +10,10 @@ use Rattle.vs_disk.specs.Names.{SameAt}
 use Rattle.vs_pages.specs.Memory.{commits_of, committed_of}
 use Rattle.vs_pages.specs.declared.memory.MemPages.{MemPages}
 use Rattle.vs_text.specs.Text.{IsText, stored}
+use Rattle.vs_text.specs.Documents.{Document}
 use Rattle.vs_tree_shape.specs.Trees.{HasLines}
 use Rattle.vs_tree_blocks.specs.Blocks.{tree_format}
+use Rattle.vs_swap.specs.Files.{format_number}
 use Rattle.vs_swap.specs.Recovery.{StandsIn}
 use Rattle.vs_pair.specs.declared.head.Head.{Head}
 use Rattle.vs_pair.specs.declared.gate.Gate.{Gate}
@@ -106,7 +108,7 @@ Recovers names syncs older disk = (image : Image) → IsImage disk image → (sy
 abbrev pub NoneThere : Names → Image → Type 0
 NoneThere names image = (image names.swp ≡ None) × (image names.swo ≡ None)
 
--- A stop leaves what recovery turns into the text of one of these syncs, or neither swap file.
+-- A stop leaves what recovery turns into the document of one of these syncs, or neither swap file.
 abbrev pub RecoversOrNone : Names → List Synced → List Synced → Disk → Type 0
 RecoversOrNone names syncs older disk = (image : Image) → IsImage disk image
     → NoneThere names image ⊎ ((sync : Synced) × IsIn sync syncs × Offers names older image sync)
@@ -208,24 +210,26 @@ pub record IsBetween (names : Names) (newest : Synced) (begun past : List Synced
   pub newest_there : (image : Image) → IsImage disk image → IsThere names.file newest (image (name_of names side))
   pub beside : (image : Image) → IsImage disk image → IsBeside names.file newest begun past (image (name_of names (other_side side)))
 
--- ---- texts
+-- ---- documents
 
--- The pages and the head of the sync are those of this text.
-pub record IsTextOf (sync : Synced) (text : List (List ℕ)) : Type 0 where
-  pub is_text : IsText text
+-- The pages and the head of the sync are those of this document.
+pub record IsDocumentOf (sync : Synced) (document : Document) : Type 0 where
+  pub is_text : IsText document.text
   pub depth : ℕ
-  pub lines : HasLines tree_format sync.pages depth (stored text)
-  pub empty : sync.head.empty ≡ (length text == 0)
+  pub lines : HasLines tree_format sync.pages depth (stored document.text)
+  pub empty : sync.head.empty ≡ (length document.text == 0)
+  pub format : sync.head.format ≡ format_number document.format
 
 -- The generation is above each that stands in some image.
 abbrev pub IsAbove : Names → Disk → ℕ → Type 0
 IsAbove names disk generation =
-    (image : Image) (g : ℕ) (text : List (List ℕ)) → IsImage disk image → StandsIn (image names.swp) g text ⊎ StandsIn (image names.swo) g text → g < generation
+    (image : Image) (g : ℕ) (document : Document) → IsImage disk image
+    → StandsIn (image names.swp) g document ⊎ StandsIn (image names.swo) g document → g < generation
 
 -- the file stands in each image of the new folder, with a generation above each that stood in some image of the old one
 abbrev pub RisesAt : Names → Side → Disk → Disk → Type 0
 RisesAt names side old new = (image : Image) → IsImage new image
-    → (g : ℕ) × (text : List (List ℕ)) × StandsIn (image (name_of names side)) g text × IsAbove names old g
+    → (g : ℕ) × (document : Document) × StandsIn (image (name_of names side)) g document × IsAbove names old g
 
 -- One of the two swap files is written anew.
 abbrev pub Rises : Names → Disk → Disk → Type 0

@@ -5,9 +5,10 @@ ghost use Rattle.vs_host.specs.Names.{AreNames, is_allowed};
 ghost use Rattle.vs_host.specs.declared.names.Names.{Names};
 ghost use Rattle.vs_disk.specs.Names.{SameAt};
 ghost use Rattle.vs_zero.specs.Zero.{reading_of};
+ghost use Rattle.vs_text.specs.Documents.{Document};
 ghost use Rattle.vs_swap.specs.Recovery.{Recovered};
-ghost use Rattle.vs_pair.specs.Swap.{Synced, Holds, body_of, zero_of};
-ghost use Rattle.vs_pair.specs.Pair.{Image, Known, is_swap, IsFit, IsBetween, IsTextOf, Offers, Recovers, Rises, known_of};
+ghost use Rattle.vs_pair.specs.Swap.{Synced, Holds, IsFormatNumber, body_of, zero_of};
+ghost use Rattle.vs_pair.specs.Pair.{Image, Known, is_swap, IsFit, IsBetween, IsDocumentOf, Offers, Recovers, Rises, known_of};
 ghost use Rattle.vs_pages.specs.Memory.{KeepsSince};
 ghost use Rattle.vs_pair.specs.declared.pair.SwapPair.{SwapPair};
 ghost use Rattle.vs_pair.specs.Steps.{IsFresh};
@@ -21,13 +22,13 @@ pub fn fitting()
         → Recovers files.names (newest ∷ begun) (newest ∷ past) disk }
 {}
 
-/// From two files that offer a sync of a text, that text is recovered.
+/// From two files that offer a sync of a document, that document is recovered.
 pub fn recovering()
-    ensures text { (names : Names) (older : List Synced) (image : Image) (sync : Synced) (text : List (List ℕ))
-        → IsTrue (is_allowed names.file) → IsTextOf sync text
-        → Offers names older image sync → Recovered (image names.swp) (image names.swo) text }
-    ensures head { (names : Names) (sync : Synced) (c : List ℕ) → IsTrue (is_allowed names.file) → sync.generation < 2 ^ 64 →
-        Holds (body_of names.file sync) c
+    ensures document { (names : Names) (older : List Synced) (image : Image) (sync : Synced) (document : Document)
+        → IsTrue (is_allowed names.file) → IsDocumentOf sync document
+        → Offers names older image sync → Recovered (image names.swp) (image names.swo) document }
+    ensures head { (names : Names) (sync : Synced) (c : List ℕ) → IsTrue (is_allowed names.file) → sync.generation < 2 ^ 64
+        → IsFormatNumber sync.head.format → Holds (body_of names.file sync) c
         → reading_of (take 4096 c) ≡ Ok (zero_of sync.generation sync.head) }
 {}
 

@@ -1,5 +1,6 @@
 // The pages of a pair as a store of pages.
 ghost use Rattle.std.specs.Prelude.{◌≡◌, IfSome, IsTrue, length, option_map};
+ghost use Rattle.vs_disk.specs.Faults.{earlier_faults};
 ghost use Rattle.vs_pages.specs.Memory.{present_of, state_of};
 ghost use Rattle.vs_pages.specs.MemoryLaws.{are_present, are_committed};
 ghost use Rattle.vs_pair.specs.Lent.{IsReady, KeepsFiles};
@@ -32,6 +33,8 @@ impl<'p, 'h, F: Folder> Pages for PairPages<'p, 'h, F> {
 
     ghost stays = { λ old new. (new.pair.ghost_name ≡ old.pair.ghost_name) × (new.host.ghost_name ≡ old.host.ghost_name)
         × KeepsFiles F.tells old.pair.now new.pair.now (F.scene old.host.now) (F.scene new.host.now) };
+
+    ghost earlier = { λ store. earlier_faults F.tells (F.scene store.host.now) };
 
     ghost present_pages = { λ store valid told. are_present store.pair.now.pages };
 

@@ -7,8 +7,9 @@ ghost use Rattle.vs_pages.specs.Maps.{first_pages};
 ghost use Rattle.vs_pages.specs.Memory.{commits_of, committed_of, present_of};
 ghost use Rattle.vs_disk.specs.Runs.{CallsAtMost, NoneFails};
 ghost use Rattle.vs_pair.specs.Acts.{Acts};
-ghost use Rattle.vs_pair.specs.Swap.{Lengthens, Synced, page_zero};
-ghost use Rattle.vs_pair.specs.Pair.{IsFit, HasFit, Syncing, IsTextOf, Rises, name_of, other_side};
+ghost use Rattle.vs_text.specs.Documents.{Document};
+ghost use Rattle.vs_pair.specs.Swap.{IsFormatNumber, Lengthens, Synced, page_zero};
+ghost use Rattle.vs_pair.specs.Pair.{IsFit, HasFit, Syncing, IsDocumentOf, Rises, name_of, other_side};
 ghost use Rattle.vs_pair.specs.Stale.{IsEnd, stale_below};
 
 use crate::head::page_zero;
@@ -70,6 +71,7 @@ impl SwapPair {
     pub fn sync<F: Folder>(&mut self, host: &mut F, head: &Head) -> Result<(), Failed>
         requires started { 2 ≤ self.old.files.generation }
         requires room { self.old.files.generation < 2 ^ 63 }
+        requires known { IsFormatNumber head.now.format }
         requires fits { IsTrue F.tells.folder → HasFit (known_of self.old) (F.scene host.old).folder }
 
         ensures acts { Acts F.tells (Syncing (known_of self.old) (sync_of self.old head.now)) (F.scene host.old) (F.scene host.new) }
@@ -85,11 +87,12 @@ impl SwapPair {
             (Lengthens (committed_of self.old.pages)) (F.scene host.old).folder (F.scene host.new).folder) }
 
         // Some file stands in every image with a generation above all before, exactly where the sync is acknowledged.
-        ensures rises { OnOk result (IsTrue F.tells.folder → (text : List (List ℕ)) → IsTextOf (sync_of self.old head.now) text
+        ensures rises { OnOk result (IsTrue F.tells.folder → (document : Document) → IsDocumentOf (sync_of self.old head.now) document
             → Rises self.old.files.names (F.scene host.old).folder (F.scene host.new).folder) }
         ensures stays { OnErr result (IsTrue F.tells.folder → (newest : Synced) (begun past : List Synced)
             → IsFit (known_of self.old) (F.scene host.old).folder newest begun past
-            → (text : List (List ℕ)) → IsTextOf newest text → Rises self.old.files.names (F.scene host.old).folder (F.scene host.new).folder → ⊥) }
+            → (document : Document) → IsDocumentOf newest document
+            → Rises self.old.files.names (F.scene host.old).folder (F.scene host.new).folder → ⊥) }
         ensures pages { self.new.pages ≡ self.old.pages }
         ensures names { self.new.files.names ≡ self.old.files.names }
         ensures generation { self.new.files.generation ≡ self.old.files.generation + 1 }

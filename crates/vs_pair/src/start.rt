@@ -5,7 +5,7 @@ ghost use Rattle.vs_disk.specs.Runs.{NoneFails};
 ghost use Rattle.vs_pair.specs.Acts.{Acts};
 ghost use Rattle.vs_pair.specs.Pair.{IsFit, known_of, name_of, temporary_of, sync_with};
 ghost use Rattle.vs_pair.specs.Steps.{BothEnd, BothMoved, IsAbsent, IsFresh, Makes, Starting};
-ghost use Rattle.vs_pair.specs.Swap.{IsMade, body_of};
+ghost use Rattle.vs_pair.specs.Swap.{IsFormatNumber, IsMade, body_of};
 ghost use Rattle.vs_pages.specs.Memory.{committed_of};
 ghost use Rattle.vs_host.specs.Disk.{names_of};
 ghost use Rattle.vs_host.specs.File.{Leaves};
@@ -27,6 +27,7 @@ impl SwapPair {
         generation: u64,
         head: &Head,
     ) -> Result<(), Failed>
+        requires known { IsFormatNumber head.now.format }
         requires absent { IsTrue F.tells.folder → IsAbsent (name_of self.now.files.names side) (F.scene host.old).folder }
         ensures acts { Acts F.tells (Makes (temporary_of self.now.files.names side) (name_of self.now.files.names side)
             (body_of self.now.files.names.file (sync_with self.now generation head.now)))
@@ -52,6 +53,7 @@ impl SwapPair {
     /// as before, and is of no more use.
     pub fn start<F: Folder>(&mut self, host: &mut F, head: &Head) -> Result<(), Failed>
         requires new { self.old.files.generation ≡ 0 }
+        requires known { IsFormatNumber head.now.format }
         requires fresh { IsTrue F.tells.folder → IsFresh self.old.files.names (F.scene host.old).folder }
         ensures acts { Acts F.tells (Starting self.old.files.names (sync_with self.old 1 head.now) (sync_with self.old 2 head.now))
             (F.scene host.old) (F.scene host.new) }

@@ -2,6 +2,7 @@
 use Rattle.std.proofs.Common.{◌≡◌, ℕ, ◌<◌, ◌≤◌, List, take, Option, Some, None, Result, Ok, Err, Bool, true, false, is_some, sym, refl, ap, subst, ◌∙◌, inl, inr, arith}
 use Rattle.std.specs.Prelude.{IsSomeAnd, if◌then◌else◌, length, nat_eq, nat_lt}
 use Rattle.std.proofs.lemmas.Bool.Decides.{nat_tests}
+use Rattle.vs_text.specs.Documents.{Document}
 use Rattle.vs_zero.specs.declared.Zero.{Zero}
 use Rattle.vs_zero.specs.declared.ZeroErr.{ZeroErr}
 use Rattle.vs_recover.specs.declared.roots.Root.TheVariants as root
@@ -59,21 +60,21 @@ newer_le : (a b : Option ℕ) (g h : ℕ) → a ≡ Some g → b ≡ Some h → 
 newer_le a b g h first second not = let e : nat_lt g h ≡ false = ap (λ o. is_newer o (Some h)) (sym first) ∙ (ap (λ o. is_newer a o) (sym second) ∙ not) in grind (arith, nat_tests, e)
 
 -- the text of the second file was read first, whose generation is greater
-pub second_recovers : (swp swo : Option (List ℕ)) (a b : Option ℕ) (text : Option (List (List ℕ))) → IsGeneration swp a → IsGeneration swo b → is_newer a b ≡ true → StandsInTurn swo swp text → Recovers swp swo text
+pub second_recovers : (swp swo : Option (List ℕ)) (a b : Option ℕ) (text : Option Document) → IsGeneration swp a → IsGeneration swo b → is_newer a b ≡ true → StandsInTurn swo swp text → Recovers swp swo text
 second_recovers swp swo a b None says tells newer none = (none.1, none.0)
 second_recovers swp swo a b (Some text) says tells newer (inl is) = inr (record { generation = is.0; stands = is.1; older = λ h others s. newer_lt a b h is.0 (says h others s) (tells is.0 text is.1) newer })
 second_recovers swp swo a b (Some text) says tells newer (inr is) = inl (record { generation = is.1.0; stands = is.1.1; no_newer = λ h others s. absurd (is.0 h others s) })
 
 -- the text of the first file was read first, whose generation is no lesser one
-pub first_recovers : (swp swo : Option (List ℕ)) (a b : Option ℕ) (text : Option (List (List ℕ))) → IsGeneration swp a → IsGeneration swo b → is_newer a b ≡ false → StandsInTurn swp swo text → Recovers swp swo text
+pub first_recovers : (swp swo : Option (List ℕ)) (a b : Option ℕ) (text : Option Document) → IsGeneration swp a → IsGeneration swo b → is_newer a b ≡ false → StandsInTurn swp swo text → Recovers swp swo text
 first_recovers swp swo a b None says tells not none = none
 first_recovers swp swo a b (Some text) says tells not (inl is) = inl (record { generation = is.0; stands = is.1; no_newer = λ h others s. newer_le a b is.0 h (says is.0 text is.1) (tells h others s) not })
 first_recovers swp swo a b (Some text) says tells not (inr is) = inr (record { generation = is.1.0; stands = is.1.1; older = λ h others s. absurd (is.0 h others s) })
 
-pub in_turn_first : (first second : Option (List ℕ)) (found : Option (List (List ℕ))) (text : List (List ℕ)) → found ≡ Some text → IsStanding first found → StandsInTurn first second (Some text)
+pub in_turn_first : (first second : Option (List ℕ)) (found : Option Document) (text : Document) → found ≡ Some text → IsStanding first found → StandsInTurn first second (Some text)
 in_turn_first first second found text some is = inl (subst (λ f. IsStanding first f) some is)
 
-pub in_turn_second : (first second : Option (List ℕ)) (absent found : Option (List (List ℕ))) → absent ≡ None → IsStanding first absent → IsStanding second found → StandsInTurn first second found
+pub in_turn_second : (first second : Option (List ℕ)) (absent found : Option Document) → absent ≡ None → IsStanding first absent → IsStanding second found → StandsInTurn first second found
 in_turn_second first second absent None none nowhere is = (subst (λ f. IsStanding first f) none nowhere, is)
 in_turn_second first second absent (Some text) none nowhere is = inr (subst (λ f. IsStanding first f) none nowhere, is)
 

@@ -1,6 +1,7 @@
 -- A file that is read forwards: what was taken of its last line, and what follows, are its lines from one on.
 use Rattle.std.proofs.Common.{◌≡◌, ◌≢◌, ◌≤◌, ◌<◌, ◌==◌, ◌+◌, ◌-◌, ℕ, zero, suc, List, [], ◌∷◌, ◌++◌, length, take, drop, get_or, Bool, true, false, refl, sym, ap, ◌∙◌, subst, arith, append_assoc, length-take, length-drop, inl, inr, Some, None}
 use Rattle.std.specs.Prelude.{min, is_ok, if◌then◌else◌, Result, Ok, Err, OnOk}
+use Rattle.std.specs.Io.BufRead.{ends_with_byte}
 use Rattle.std.proofs.lemmas.Bool.{cases_lt}
 use Rattle.std.proofs.lemmas.Bool.Decides.{nat_tests}
 use Rattle.std.proofs.lemmas.Grind.{common_steps}
@@ -8,10 +9,12 @@ use Rattle.std.proofs.lemmas.List.{append-nil, drop_all, get_or-take, get_or_def
 use Rattle.std.proofs.lemmas.List.Elements.{All-append, All-nil}
 use Rattle.std.proofs.Math.Seq.{drop-length, drop-nil, split_at, take-append-add, take-append_seam, take-length, take-nil}
 use Rattle.memchr.specs.Find.{IsFirstByte, Nowhere, Passes, is_byte}
+use Rattle.vs_text.specs.declared.format.Format.{Format}
+use Rattle.vs_text.specs.declared.format.Format.TheVariants.{Unix, Dos}
 use Rattle.vs_text.specs.Text.{IsLine, lines_of}
 use Rattle.vs_text.proofs.LineEnds.{length-lines_of, lines_of-line, lines_of_last}
 use Rattle.vs_damaged.specs.declared.shown.Marker.TheVariants.{LineMissing}
-use Rattle.vs_damaged.specs.Items.{TheMarker, line_item}
+use Rattle.vs_damaged.specs.Items.{TheMarker, line_item, original_item}
 use Rattle.vs_recover.specs.declared.original.Original.{Original}
 use Rattle.vs_recover.specs.Original.{Follows, IsNext, Keeps, TakesPiece, ahead}
 
@@ -23,19 +26,25 @@ take_again (suc n) [] b = refl
 take_again (suc n) (x ∷ a) b = ap (λ ys. x ∷ ys) (take_again n a b)
 
 -- what is kept of a line whose first part was kept
-pub kept_on : (head taken old new : List ℕ) → old ≡ take 1048577 head → Keeps old taken new → new ≡ take 1048577 (head ++ taken)
-kept_on head taken old new old_is keeps = keeps ∙ (ap (λ bs. take 1048577 (bs ++ taken)) old_is ∙ take_again 1048577 head taken)
+pub kept_on : (head taken old new : List ℕ) → old ≡ take 1048578 head → Keeps old taken new → new ≡ take 1048578 (head ++ taken)
+kept_on head taken old new old_is keeps = keeps ∙ (ap (λ bs. take 1048578 (bs ++ taken)) old_is ∙ take_again 1048578 head taken)
 
-too_long : (bytes : List ℕ) → 1048576 < length bytes → line_item bytes ≡ TheMarker LineMissing
-too_long bytes long = grind (arith, nat_tests)
+missing : (ends : Bool) (bytes : List ℕ) → 1048577 < length bytes → line_item (if ends then take (length bytes - 1) bytes else bytes) ≡ TheMarker LineMissing
+missing true bytes long = let n : length (take (length bytes - 1) bytes) ≡ length bytes - 1 = length-take (length bytes - 1) bytes ∙ omega arith in grind (arith, nat_tests, n, long)
+missing false bytes long = grind (arith, nat_tests)
+
+-- a line of which all that is kept is kept is too long
+too_long : (format : Format) (bytes : List ℕ) → 1048577 < length bytes → original_item format bytes ≡ TheMarker LineMissing
+too_long Unix bytes long = grind (arith, nat_tests)
+too_long Dos bytes long = missing (ends_with_byte 13 bytes) bytes long
 
 -- what is kept of a line gives the same item
-pub kept_item : (line whole : List ℕ) → line ≡ take 1048577 whole → line_item line ≡ line_item whole
-kept_item line whole is = elim (cases_lt (length whole) 1048577) [
-  | inl few ↦ ap line_item (is ∙ take_all 1048577 whole (omega arith))
+pub kept_item : (format : Format) (line whole : List ℕ) → line ≡ take 1048578 whole → original_item format line ≡ original_item format whole
+kept_item format line whole is = elim (cases_lt (length whole) 1048578) [
+  | inl few ↦ ap (original_item format) (is ∙ take_all 1048578 whole (omega arith))
   | inr many ↦ (
-      let long : length line ≡ 1048577 = ap length is ∙ (length-take 1048577 whole ∙ omega arith) in
-      too_long line (omega (arith, long)) ∙ sym (too_long whole (omega (arith, many)))
+      let long : length line ≡ 1048578 = ap length is ∙ (length-take 1048578 whole ∙ omega arith) in
+      too_long format line (omega (arith, long)) ∙ sym (too_long format whole (omega (arith, many)))
       )
 ]
 
@@ -51,14 +60,14 @@ kept_room n size old bytes room is =
     ap (λ k. old ++ take k bytes) is ∙ (ap (λ bs. old ++ bs) (take_min (n - length old) bytes)
     ∙ (sym (take-append-add old bytes (n - length old)) ∙ ap (λ k. take k (old ++ bytes)) (omega arith)))
 
-pub keeps_ok : {T E : Type 0} (r : Result T E) (old new bytes : List ℕ) (size : ℕ) → new ≡ (if is_ok r then old ++ take size bytes else old) → length old ≤ 1048577 → size ≡ min (1048577 - length old) (length bytes) → OnOk r (Keeps old bytes new)
-keeps_ok (Ok x) old new bytes size is room size_is = is ∙ kept_room 1048577 size old bytes room size_is
+pub keeps_ok : {T E : Type 0} (r : Result T E) (old new bytes : List ℕ) (size : ℕ) → new ≡ (if is_ok r then old ++ take size bytes else old) → length old ≤ 1048578 → size ≡ min (1048578 - length old) (length bytes) → OnOk r (Keeps old bytes new)
+keeps_ok (Ok x) old new bytes size is room size_is = is ∙ kept_room 1048578 size old bytes room size_is
 keeps_ok (Err e) old new bytes size is room size_is = tt
 
-pub keeps_most : (old taken new : List ℕ) → Keeps old taken new → length new ≤ 1048577
-keeps_most old taken new keeps = omega (arith, ap length keeps, length-take 1048577 (old ++ taken))
+pub keeps_most : (old taken new : List ℕ) → Keeps old taken new → length new ≤ 1048578
+keeps_most old taken new keeps = omega (arith, ap length keeps, length-take 1048578 (old ++ taken))
 
-pub takes_most : (before rest old new : List ℕ) (ended : Bool) → TakesPiece before rest old new ended → length new ≤ 1048577
+pub takes_most : (before rest old new : List ℕ) (ended : Bool) → TakesPiece before rest old new ended → length new ≤ 1048578
 takes_most before rest old new true takes = keeps_most old takes.0 new takes.3
 takes_most before rest old new false takes = keeps_most old before new takes.2
 
@@ -116,11 +125,11 @@ pub record IsBegun (o : Original) (file into : List ℕ) : Type 0 where
   pub len : o.len ≡ length file
   pub head : List ℕ
   pub line : IsLine head
-  pub kept : into ≡ take 1048577 head
+  pub kept : into ≡ take 1048578 head
   pub follows : lines_of (head ++ (ahead o ++ drop o.at file)) ≡ drop o.line (lines_of file)
 
 pub line_begins : (o : Original) (file into : List ℕ) → into ≡ [] → Follows o file → IsBegun o file into
-line_begins o file into is follows = record { len = follows.len; head = []; line = All-nil (λ byte. byte ≢ 10); kept = is ∙ sym (take-nil 1048577); follows = follows.lines }
+line_begins o file into is follows = record { len = follows.len; head = []; line = All-nil (λ byte. byte ≢ 10); kept = is ∙ sym (take-nil 1048578); follows = follows.lines }
 
 pub line_goes_on : (o now : Original) (file old new : List ℕ) → now.len ≡ o.len → now.at ≡ o.at → now.line ≡ o.line → TakesPiece (ahead o) (ahead now) old new false → IsBegun o file old → IsBegun now file new
 line_goes_on o now file old new len at line takes begun = record {
@@ -187,12 +196,12 @@ nothing_ahead o file empty at len = ap (λ bs. lines_of (bs ++ drop o.at file)) 
 
 pub over_next : (o : Original) (file into : List ℕ) → ahead o ≡ [] → o.at ≡ o.len → length into ≡ 0 → IsBegun o file into → drop o.line (lines_of file) ≡ []
 over_next o file into empty at none begun =
-    let head : begun.head ≡ [] = nil_from_length begun.head (omega (arith, ap length begun.kept, length-take 1048577 begun.head, none)) in
+    let head : begun.head ≡ [] = nil_from_length begun.head (omega (arith, ap length begun.kept, length-take 1048578 begun.head, none)) in
     sym (all_taken o file into empty at begun) ∙ ap (λ bs. lines_of bs) head
 
 last_is : (o : Original) (file into : List ℕ) → ahead o ≡ [] → o.at ≡ o.len → 0 < length into → (begun : IsBegun o file into) → drop o.line (lines_of file) ≡ begun.head ∷ []
 last_is o file into empty at some begun =
-    sym (all_taken o file into empty at begun) ∙ lines_of_last begun.head (omega (arith, ap length begun.kept, length-take 1048577 begun.head, some)) begun.line
+    sym (all_taken o file into empty at begun) ∙ lines_of_last begun.head (omega (arith, ap length begun.kept, length-take 1048578 begun.head, some)) begun.line
 
 pub last_short : (o : Original) (file into : List ℕ) → ahead o ≡ [] → o.at ≡ o.len → 0 < length into → IsBegun o file into → o.line + 1 ≤ o.len
 last_short o file into empty at some begun = omega (arith, drop_short o.line (lines_of file) _ _ (last_is o file into empty at some begun), length-lines_of file, begun.len)

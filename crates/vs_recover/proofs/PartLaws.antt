@@ -5,11 +5,12 @@ use Rattle.std.specs.declared.alloc.Global.{Global}
 use Rattle.std.proofs.lemmas.Bool.Decides.{nat_tests}
 use Rattle.std.proofs.lemmas.List.{append-nil, drop_all, map-append, take_all}
 use Rattle.std.proofs.Math.Seq.{drop-nil}
+use Rattle.vs_text.specs.declared.format.Format.{Format}
 use Rattle.vs_text.specs.Text.{lines_of}
 use Rattle.vs_damaged.specs.declared.shown.Marker.TheVariants.{LinesMissing}
 use Rattle.vs_damaged.specs.declared.shown.Shown.{Shown}
-use Rattle.vs_damaged.specs.Finds.{original_items, unix}
-use Rattle.vs_damaged.specs.Items.{Adds, Item, Shows, TheMarker, line_item}
+use Rattle.vs_damaged.specs.Finds.{original_items}
+use Rattle.vs_damaged.specs.Items.{Adds, Item, Shows, TheMarker, original_item}
 use Rattle.vs_damaged.proofs.ShownLaws.{shown_next}
 use Rattle.vs_recover.specs.declared.original.Original.{Original}
 use Rattle.vs_recover.specs.Original.{Follows, IsNext, IsOpened, ShowsPart}
@@ -59,60 +60,60 @@ next_false lines rest into true is next = absurd (cc)
 next_false lines rest into false is next = next.0
 
 -- the next line was shown
-pub shows_line : (shown : Shown) (items : List Item) (lines rest : List (List ℕ)) (line : List ℕ) (n : ℕ) → IsNext (drop n lines) rest line true → Shows shown ((items ++ map line_item (take n lines)) ++ line_item line ∷ [])
-    → Shows shown (items ++ map line_item (take (n + 1) lines))
-shows_line shown items lines rest line n next shows =
+pub shows_line : (format : Format) (shown : Shown) (items : List Item) (lines rest : List (List ℕ)) (line : List ℕ) (n : ℕ) → IsNext (drop n lines) rest line true → Shows format shown ((items ++ map (original_item format) (take n lines)) ++ original_item format line ∷ [])
+    → Shows format shown (items ++ map (original_item format) (take (n + 1) lines))
+shows_line format shown items lines rest line n next shows =
     let whole : List ℕ = next.0 in
-    let item : line_item line ≡ line_item whole = kept_item line whole next.2 in
-    let more : map line_item (take (n + 1) lines) ≡ map line_item (take n lines) ++ line_item line ∷ [] =
-    ap (λ ls. map line_item ls) (take_next n lines rest whole next.1) ∙ (map-append line_item (take n lines) (whole ∷ []) ∙ ap (λ i. map line_item (take n lines) ++ i ∷ []) (sym item)) in
-    shown_next shown items (map line_item (take n lines)) (map line_item (take (n + 1) lines)) (line_item line) more shows
+    let item : original_item format line ≡ original_item format whole = kept_item format line whole next.2 in
+    let more : map (original_item format) (take (n + 1) lines) ≡ map (original_item format) (take n lines) ++ original_item format line ∷ [] =
+    ap (λ ls. map (original_item format) ls) (take_next n lines rest whole next.1) ∙ (map-append (original_item format) (take n lines) (whole ∷ []) ∙ ap (λ i. map (original_item format) (take n lines) ++ i ∷ []) (sym item)) in
+    shown_next format shown items (map (original_item format) (take n lines)) (map (original_item format) (take (n + 1) lines)) (original_item format line) more shows
 
 -- there are no more lines
-pub shows_over : (shown : Shown) (items : List Item) (lines : List (List ℕ)) (n count : ℕ) → drop n lines ≡ [] → n ≤ count → Shows shown (items ++ map line_item (take n lines)) → Shows shown (items ++ map line_item (take count lines))
-shows_over shown items lines n count none le shows =
+pub shows_over : (format : Format) (shown : Shown) (items : List Item) (lines : List (List ℕ)) (n count : ℕ) → drop n lines ≡ [] → n ≤ count → Shows format shown (items ++ map (original_item format) (take n lines)) → Shows format shown (items ++ map (original_item format) (take count lines))
+shows_over format shown items lines n count none le shows =
     let few : length lines ≤ n = omega (arith, ap length none, length-drop n lines) in
-    subst (λ ls. Shows shown (items ++ map line_item ls)) (take_all n lines few ∙ sym (take_all count lines (omega (arith, few, le)))) shows
+    subst (λ ls. Shows format shown (items ++ map (original_item format) ls)) (take_all n lines few ∙ sym (take_all count lines (omega (arith, few, le)))) shows
 
 pub is_fewer : (lines : List (List ℕ)) (n count : ℕ) → drop n lines ≡ [] → n < count → n ≤ length lines → false ≡ not (nat_lt (length lines) count)
 is_fewer lines n count none lt le = let same : length lines ≡ n = omega (arith, ap length none, length-drop n lines, le) in rw same (grind (arith, nat_tests))
 
 -- ---- with the marker
 
-part_by : (shown : Shown) (items part : List Item) (fewer all : Bool) → all ≡ not fewer → Shows shown (items ++ part) → ShowsPart shown items (part ++ (if fewer then TheMarker LinesMissing ∷ [] else [])) all
-part_by shown items part true true is shows = absurd (cc)
-part_by shown items part true false is shows = (part, refl, shows)
-part_by shown items part false true is shows = subst (λ (is : List Item). Shows shown (items ++ is)) (sym (append-nil part)) shows
-part_by shown items part false false is shows = absurd (cc)
+part_by : (format : Format) (shown : Shown) (items part : List Item) (fewer all : Bool) → all ≡ not fewer → Shows format shown (items ++ part) → ShowsPart format shown items (part ++ (if fewer then TheMarker LinesMissing ∷ [] else [])) all
+part_by format shown items part true true is shows = absurd (cc)
+part_by format shown items part true false is shows = (part, refl, shows)
+part_by format shown items part false true is shows = subst (λ (is : List Item). Shows format shown (items ++ is)) (sym (append-nil part)) shows
+part_by format shown items part false false is shows = absurd (cc)
 
-pub part_shown : (shown : Shown) (items : List Item) (o : Option (List ℕ)) (file : List ℕ) (before : Option ℕ) (from line count : ℕ) (all : Bool) → o ≡ Some file → before ≡ Some from → drop line (lines_of file) ≡ drop from (lines_of file)
-    → all ≡ not (nat_lt (length (drop line (lines_of file))) count) → Shows shown (items ++ map line_item (take count (drop line (lines_of file)))) → ShowsPart shown items (original_items unix o before count) all
-part_shown shown items o file before from line count all there number same is shows =
+pub part_shown : (format : Format) (shown : Shown) (items : List Item) (o : Option (List ℕ)) (file : List ℕ) (before : Option ℕ) (from line count : ℕ) (all : Bool) → o ≡ Some file → before ≡ Some from → drop line (lines_of file) ≡ drop from (lines_of file)
+    → all ≡ not (nat_lt (length (drop line (lines_of file))) count) → Shows format shown (items ++ map (original_item format) (take count (drop line (lines_of file)))) → ShowsPart format shown items (original_items format o before count) all
+part_shown format shown items o file before from line count all there number same is shows =
     let lines : List (List ℕ) = drop from (lines_of file) in
-    let told : original_items unix o before count ≡ original_items unix (Some file) (Some from) count = ap (λ p. original_items unix p before count) there ∙ ap (λ p. original_items unix (Some file) p count) number in
-    subst (λ (more : List Item). ShowsPart shown items more all) (sym told)
-    (part_by shown items (map line_item (take count lines)) (nat_lt (length lines) count) all (is ∙ ap (λ (ls : List (List ℕ)). not (nat_lt (length ls) count)) same) (subst (λ ls. Shows shown (items ++ map line_item (take count ls))) same shows))
+    let told : original_items format o before count ≡ original_items format (Some file) (Some from) count = ap (λ p. original_items format p before count) there ∙ ap (λ p. original_items format (Some file) p count) number in
+    subst (λ (more : List Item). ShowsPart format shown items more all) (sym told)
+    (part_by format shown items (map (original_item format) (take count lines)) (nat_lt (length lines) count) all (is ∙ ap (λ (ls : List (List ℕ)). not (nat_lt (length ls) count)) same) (subst (λ ls. Shows format shown (items ++ map (original_item format) (take count ls))) same shows))
 
-nothing_there : (o : Option (List ℕ)) → IsOpened o None → (before : Option ℕ) (count : ℕ) → original_items unix o before count ≡ TheMarker LinesMissing ∷ []
-nothing_there None opened before count = refl
-nothing_there (Some file) opened before count = absurd opened
+nothing_there : (format : Format) (o : Option (List ℕ)) → IsOpened o None → (before : Option ℕ) (count : ℕ) → original_items format o before count ≡ TheMarker LinesMissing ∷ []
+nothing_there format None opened before count = refl
+nothing_there format (Some file) opened before count = absurd opened
 
-no_number : (o : Option (List ℕ)) (count : ℕ) → original_items unix o None count ≡ TheMarker LinesMissing ∷ []
-no_number None count = refl
-no_number (Some file) count = refl
+no_number : (format : Format) (o : Option (List ℕ)) (count : ℕ) → original_items format o None count ≡ TheMarker LinesMissing ∷ []
+no_number format None count = refl
+no_number format (Some file) count = refl
 
-part_none : (shown : Shown) (items more : List Item) → more ≡ TheMarker LinesMissing ∷ [] → Shows shown items → ShowsPart shown items more false
-part_none shown items more is shows = ([], is, subst (λ (is : List Item). Shows shown is) (sym (append-nil items)) shows)
+part_none : (format : Format) (shown : Shown) (items more : List Item) → more ≡ TheMarker LinesMissing ∷ [] → Shows format shown items → ShowsPart format shown items more false
+part_none format shown items more is shows = ([], is, subst (λ (is : List Item). Shows format shown is) (sym (append-nil items)) shows)
 
-pub part_absent : (shown : Shown) (items : List Item) (o : Option (List ℕ)) (opened : Option Original) (before : Option ℕ) (count : ℕ) → opened ≡ None → IsOpened o opened → Shows shown items → ShowsPart shown items (original_items unix o before count) false
-part_absent shown items o opened before count none is shows = part_none shown items _ (nothing_there o (subst (λ (p : Option Original). IsOpened o p) none is) before count) shows
+pub part_absent : (format : Format) (shown : Shown) (items : List Item) (o : Option (List ℕ)) (opened : Option Original) (before : Option ℕ) (count : ℕ) → opened ≡ None → IsOpened o opened → Shows format shown items → ShowsPart format shown items (original_items format o before count) false
+part_absent format shown items o opened before count none is shows = part_none format shown items _ (nothing_there format o (subst (λ (p : Option Original). IsOpened o p) none is) before count) shows
 
-pub part_unnumbered : (shown : Shown) (items : List Item) (o : Option (List ℕ)) (before : Option ℕ) (count : ℕ) → before ≡ None → Shows shown items → ShowsPart shown items (original_items unix o before count) false
-part_unnumbered shown items o before count none shows = part_none shown items _ (ap (λ p. original_items unix o p count) none ∙ no_number o count) shows
+pub part_unnumbered : (format : Format) (shown : Shown) (items : List Item) (o : Option (List ℕ)) (before : Option ℕ) (count : ℕ) → before ≡ None → Shows format shown items → ShowsPart format shown items (original_items format o before count) false
+part_unnumbered format shown items o before count none shows = part_none format shown items _ (ap (λ p. original_items format o p count) none ∙ no_number format o count) shows
 
-pub part_marked : (old new : Shown) (items more : List Item) (all : Bool) → all ≡ false → ShowsPart old items more all → Adds old new (TheMarker LinesMissing) → Shows new (items ++ more)
-part_marked old new items more true is part adds = absurd (cc)
-part_marked old new items more false is part adds = shown_next new items part.0 more (TheMarker LinesMissing) part.1 (adds (items ++ part.0) part.2)
+pub part_marked : (format : Format) (old new : Shown) (items more : List Item) (all : Bool) → all ≡ false → ShowsPart format old items more all → Adds old new (TheMarker LinesMissing) → Shows format new (items ++ more)
+part_marked format old new items more true is part adds = absurd (cc)
+part_marked format old new items more false is part adds = shown_next format new items part.0 more (TheMarker LinesMissing) part.1 (adds format (items ++ part.0) part.2)
 
 -- ---- the file that was opened
 

@@ -1,6 +1,7 @@
 -- How reading goes on: after a part in which no call failed, one part more.
 use Rattle.std.proofs.Common.{◌≡◌, ◌≤◌, ◌+◌, ◌-◌, ◌/◌, length, Err, Ok, ℕ, List, Option, Some, None, Result, IsTrue, IsSome, is_some, true, refl, sym, ◌∙◌, ap, subst, arith}
 use Rattle.std.specs.Prelude.{IsErr, IsErrAnd, IsErrOf, IsSomeAnd, IfSome}
+use Rattle.vs_text.specs.Documents.{Document}
 use Rattle.vs_faults.specs.Faults.{HasCause}
 use Rattle.vs_faults.proofs.Causes.{HasCause-then, HasCause-weaker, cause_none}
 use Rattle.vs_host.specs.Disk.{Name}
@@ -209,10 +210,10 @@ module _ {T E : Type 0} {result : Result T E} {failed : E} {tells : Tells} {old 
   pub opening_stays : (name : Name) (found : Option Opening) → (IsTrue tells.folder → IsOpening (content_of old name) found) → IsTrue tells.folder → IsOpening (content_of new name) found
   opening_stays name found opening told = subst (λ (o : Option (List ℕ)). IsOpening o found) (sym (still name)) (opening told)
 
-  pub standing_was : (name : Name) (found : Option (List (List ℕ))) → IsStanding (content_of new name) found → IsStanding (content_of old name) found
+  pub standing_was : (name : Name) (found : Option Document) → IsStanding (content_of new name) found → IsStanding (content_of old name) found
   standing_was name found is = subst (λ (o : Option (List ℕ)). IsStanding o found) (still name) is
 
-  pub recovers_was : (swp swo : Name) (found : Option (List (List ℕ))) → Recovers (content_of new swp) (content_of new swo) found → Recovers (content_of old swp) (content_of old swo) found
+  pub recovers_was : (swp swo : Name) (found : Option Document) → Recovers (content_of new swp) (content_of new swo) found → Recovers (content_of old swp) (content_of old swo) found
   recovers_was swp swo found is = subst (λ (s : Scene). Recovers (content_of s swp) (content_of s swo) found) reads.frame is
 
   pub root_was : (name : Name) → root_of (content_of new name) ≡ root_of (content_of old name)

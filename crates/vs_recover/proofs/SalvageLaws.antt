@@ -5,9 +5,11 @@ use Rattle.std.proofs.lemmas.Bool.{cases_lt}
 use Rattle.std.proofs.lemmas.Bool.Decides.{nat_tests}
 use Rattle.std.proofs.lemmas.List.{append-nil}
 use Rattle.std.proofs.lemmas.Nat.{mul-le}
+use Rattle.vs_text.specs.declared.format.Format.{Format}
 use Rattle.vs_zero.specs.declared.Zero.{Zero}
 use Rattle.vs_zero.specs.declared.ZeroErr.{ZeroErr}
 use Rattle.vs_zero.specs.Zero.{reading_of}
+use Rattle.vs_swap.specs.Files.{format_by}
 use Rattle.vs_ptr.specs.declared.PtrView.{PtrView}
 use Rattle.vs_ptr.specs.declared.PtrErr.{PtrErr}
 use Rattle.vs_ptr.specs.Blocks.{entries_of, view_in}
@@ -29,9 +31,9 @@ kept_none : (full : Bool) (lines bytes : ℕ) → kept_after full lines bytes []
 kept_none true lines bytes = refl
 kept_none false lines bytes = refl
 
-shown_whole : (shown : Shown) (items : List Item) (shows : Shows shown items) → shows.kept ≡ bounded items
-shown_whole shown items shows =
-    sym (ap (λ is. bounded is) (sym (append-nil items)) ∙ (shows.goes_on [] ∙ (ap (λ is. shows.kept ++ is) (kept_none shown.full shown.lines (length shown.bytes.items)) ∙ append-nil shows.kept)))
+shown_whole : (format : Format) (shown : Shown) (items : List Item) (shows : Shows format shown items) → shows.kept ≡ bounded items
+shown_whole format shown items shows =
+    sym (ap (λ is. bounded is) (sym (append-nil items)) ∙ (shows.goes_on [] ∙ (ap (λ is. shows.kept ++ is) (kept_none shown.full shown.lines shown.size) ∙ append-nil shows.kept)))
 
 has_view : (r : Result PtrView PtrErr) → is_ok r ≡ true → (view : PtrView) × (r ≡ Ok view)
 has_view (Ok view) is = (view, refl)
@@ -55,28 +57,30 @@ has_root file block size len view same whole is reads =
 pub root_entries : (block : List ℕ) (view : PtrView) (len : ℕ) → view_in block ≡ Ok view → len ≡ 0 + view.count → length block ≤ 50000 → len ≤ 1563
 root_entries block view len reads is most = omega (arith, (header_from_view block view reads).room, is, most)
 
-root_block : (file : List ℕ) (size : ℕ) (original : Option (List ℕ)) → bytes_at (damaged file size original) root_pages ≡ take size (drop size file)
-root_block file size original = let one : size * 1 ≡ size = omega arith in ap (λ n. take n (drop n file)) one
+root_block : (file : List ℕ) (size : ℕ) (format : Format) (original : Option (List ℕ)) → bytes_at (damaged file size format original) root_pages ≡ take size (drop size file)
+root_block file size format original = let one : size * 1 ≡ size = omega arith in ap (λ n. take n (drop n file)) one
 
-pub salvages_all : (file : List ℕ) (original : Option (List ℕ)) (zero : Zero) (size : ℕ) (shown : Shown) → reading_of (take 4096 file) ≡ Ok zero → zero.page_size ≡ size → root_reads file size ≡ true
-    → IsFoundOf (damaged file size original) (entries_of (take size (drop size file))) shown → SalvagesOf (Some file) original shown.bytes.items shown.markers
-salvages_all file original zero size shown reads sized root_is found =
-    let d : Damaged = damaged file size original in
+pub salvages_all : (file : List ℕ) (original : Option (List ℕ)) (zero : Zero) (size : ℕ) (format : Format) (shown : Shown) → reading_of (take 4096 file) ≡ Ok zero → zero.page_size ≡ size → format_by zero.format ≡ format
+    → root_reads file size ≡ true → IsFoundOf (damaged file size format original) (entries_of (take size (drop size file))) shown → SalvagesOf (Some file) original shown.bytes.items shown.markers
+salvages_all file original zero size format shown reads sized formatted root_is found =
+    let d : Damaged = damaged file size format original in
     let tests = both_hold (nat_le (2 * size) (length file)) (is_ok (view_in (take size (drop size file)))) root_is in
     let view = has_view (view_in (take size (drop size file))) tests.1 in
-    let block = root_block file size original in
-    let whole = shown_whole shown found.0 found.2 in (
+    let block = root_block file size format original in
+    let whole = shown_whole format shown found.0 found.2 in (
       size,
+      format,
       record {
         zero = zero;
         reads = reads;
         size = sized;
+        format_is = formatted;
         whole = within (2 * size) (length file) tests.0;
         view = view.0;
         root = ap (λ bs. view_in bs) block ∙ view.1;
         items = found.0;
         gives = subst (λ (bs : List ℕ). Gives d (first_pages ∷ []) (entries_of bs) found.0) (sym block) found.1;
-        bytes_are = found.2.bytes ∙ ap (λ is. bytes_of_items (10 ∷ []) is) whole;
+        bytes_are = found.2.bytes ∙ ap (λ is. bytes_of_items format is) whole;
         markers_are = found.2.markers ∙ ap (λ is. markers_in is) whole;
       },
     )
@@ -88,13 +92,13 @@ opened_root None opening r is opened = absurd opened
 opened_root (Some file) opening r is opened = (file, refl, sym is ∙ opened.1)
 
 -- what was shown of a swap file that is there
-pub salvaged : (o original : Option (List ℕ)) (found : Option Opening) (opening : Opening) (zero : Zero) (shown : Shown) → found ≡ Some opening → opening.zero ≡ Ok zero → IsOpening o found
-    → ((file : List ℕ) → o ≡ Some file → (root_reads file zero.page_size ≡ true) × IsFoundOf (damaged file zero.page_size original) (entries_of (take zero.page_size (drop zero.page_size file))) shown)
+pub salvaged : (o original : Option (List ℕ)) (found : Option Opening) (opening : Opening) (zero : Zero) (format : Format) (shown : Shown) → format_by zero.format ≡ format → found ≡ Some opening → opening.zero ≡ Ok zero → IsOpening o found
+    → ((file : List ℕ) → o ≡ Some file → (root_reads file zero.page_size ≡ true) × IsFoundOf (damaged file zero.page_size format original) (entries_of (take zero.page_size (drop zero.page_size file))) shown)
     → SalvagesOf o original shown.bytes.items shown.markers
-salvaged o original found opening zero shown some ok opened walked =
+salvaged o original found opening zero format shown formatted some ok opened walked =
     let at = opened_root o opening (Ok zero) ok (subst (λ (f : Option Opening). IsOpening o f) some opened) in
     let walk = walked at.0 at.1 in
-    subst (λ (p : Option (List ℕ)). SalvagesOf p original shown.bytes.items shown.markers) (sym at.1) (salvages_all at.0 original zero zero.page_size shown (sym at.2) refl walk.0 walk.1)
+    subst (λ (p : Option (List ℕ)). SalvagesOf p original shown.bytes.items shown.markers) (sym at.1) (salvages_all at.0 original zero zero.page_size format shown (sym at.2) refl formatted walk.0 walk.1)
 
 -- ---- the pages before the walk
 

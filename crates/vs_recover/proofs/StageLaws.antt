@@ -3,6 +3,7 @@ use Rattle.std.proofs.Common.{◌≡◌, ℕ, zero, suc, ◌+◌, ◌<◌, ◌�
 use Rattle.std.specs.List.{flat_map, AllByRecursion}
 use Rattle.std.proofs.lemmas.Bool.{cases_eq, cases_lt}
 use Rattle.std.proofs.lemmas.Bool.Decides.{nat_tests}
+use Rattle.vs_text.specs.Documents.{Document}
 use Rattle.vs_pages.specs.Maps.{Map, one, total, pages_at}
 use Rattle.vs_tree_shape.specs.declared.entries.Entry.{Entry}
 use Rattle.vs_tree_shape.specs.Trees.{Format, read_by, Tree, lines_of, uses, entry_of, IsTree}
@@ -160,15 +161,15 @@ no_level c m used entries lines (suc d) clash none level =
 pub stage_stops : (m : Map) (used : ℕ → ℕ) (entries : List Entry) → Clashes used (opened swap_format m entries) → gathered swap_format m entries ≡ None → Stage m used entries → Walked m None
 stage_stops m used entries clash none stage = λ lines reached. let level = stage.down lines reached in no_level swap_format m used entries lines level.0 clash none level.1
 
-lines_end : (m : Map) (used : ℕ → ℕ) (entries : List Entry) (o : Option (List (List ℕ))) (found : List (List ℕ)) → ((k : ℕ) → used k ≤ 1) → Stage m used entries → gathered swap_format m entries ≡ o → plain o ≡ Some found → Walked m (Some found)
+lines_end : (m : Map) (used : ℕ → ℕ) (entries : List Entry) (o : Option (List (List ℕ))) (found : Document) → ((k : ℕ) → used k ≤ 1) → Stage m used entries → gathered swap_format m entries ≡ o → plain o ≡ Some found.text → Walked m (Some found)
 lines_end m used entries None found once stage is gives = absurd (cc)
 lines_end m used entries (Some lines) found once stage is gives = (lines, stage.up lines (zero, is_gathered swap_format m used entries lines once is), cc)
 
 -- the lines of a level of data blocks are those of the tree
-pub stage_ends : (m : Map) (used : ℕ → ℕ) (entries : List Entry) (found : List (List ℕ)) → ((k : ℕ) → used k ≤ 1) → Stage m used entries → plain (gathered swap_format m entries) ≡ Some found → Walked m (Some found)
+pub stage_ends : (m : Map) (used : ℕ → ℕ) (entries : List Entry) (found : Document) → ((k : ℕ) → used k ≤ 1) → Stage m used entries → plain (gathered swap_format m entries) ≡ Some found.text → Walked m (Some found)
 stage_ends m used entries found once stage gives = lines_end m used entries (gathered swap_format m entries) found once stage refl gives
 
-pub stage_empty : (m : Map) (used : ℕ → ℕ) (entries : List Entry) (found : List (List ℕ)) → ((k : ℕ) → used k ≤ 1) → entries ≡ [] → found ≡ [] → Stage m used entries → Walked m (Some found)
+pub stage_empty : (m : Map) (used : ℕ → ℕ) (entries : List Entry) (found : Document) → ((k : ℕ) → used k ≤ 1) → entries ≡ [] → found.text ≡ [] → Stage m used entries → Walked m (Some found)
 stage_empty m used entries found once none is stage =
     ([], stage.up [] (zero, is_gathered swap_format m used entries [] once (ap (λ es. gathered swap_format m es) none)), is)
 

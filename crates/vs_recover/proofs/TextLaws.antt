@@ -1,11 +1,13 @@
 -- The text that a tree's lines stand for.
-use Rattle.std.proofs.Common.{◌≡◌, ◌≢◌, ◌==◌, ℕ, zero, suc, ◌<◌, List, [], ◌∷◌, length, get_or, take, map, Some, None, Result, Ok, Err, Bool, true, false, sym, refl, ap, subst, ◌∙◌, arith, All}
+use Rattle.std.proofs.Common.{◌≡◌, ◌≢◌, ◌==◌, ℕ, zero, suc, ◌<◌, List, [], ◌∷◌, length, get_or, take, map, Option, Some, None, Result, Ok, Err, Bool, true, false, sym, refl, ap, subst, ◌∙◌, arith, All}
 use Rattle.std.specs.List.{flat_map, AllByRecursion}
 use Rattle.std.proofs.lemmas.Bool.Decides.{nat_tests}
 use Rattle.std.proofs.lemmas.List.{get_or_default}
 use Rattle.std.proofs.lemmas.List.Elements.{recursion_from_All, All-from_recursion}
 use Rattle.vs_text.specs.Text.{stored_byte, plain_byte, stored_line, plain_line, stored, unstored, IsLine, IsText}
 use Rattle.vs_text.proofs.StoredForm.{unstored-stored, IsLine-plain_line}
+use Rattle.vs_text.specs.declared.format.Format.{Format}
+use Rattle.vs_text.specs.Documents.{Document}
 use Rattle.vs_pages.specs.Maps.{Map, pages_at}
 use Rattle.vs_tree_shape.specs.Trees.{Tree, lines_of, IsTree}
 use Rattle.vs_tree_shape.proofs.Shapes.{read_from, each-append}
@@ -18,10 +20,10 @@ use Rattle.vs_data.specs.declared.DataView.{DataView}
 use Rattle.vs_data.specs.Blocks.{lines_in, line_at, view_in}
 use Rattle.vs_data.proofs.Lines as rows
 use Rattle.vs_tree_blocks.proofs.DataLemmas as blocks
-use Rattle.vs_swap.specs.Files.{pages_in, swap_format, GivesLines, IsHead, StandsFor}
+use Rattle.vs_swap.specs.Files.{pages_in, swap_format, format_by, GivesLines, IsHead, StandsFor}
 use Rattle.vs_recover.specs.Files.{Walked}
 use Rattle.vs_recover.specs.Levels.{Reaches}
-use Rattle.vs_recover.specs.Images.{text_in, StandsNot}
+use Rattle.vs_recover.specs.Images.{text_in, with_format, StandsNot}
 use Rattle.vs_swap.proofs.Standing.{one_list}
 
 -- ---- the lines of a tree have no zero byte
@@ -97,18 +99,27 @@ text_found empty (line ∷ text) is some =
 abbrev pair_of : ℕ → List (List ℕ) → Pair
 pair_of g t = record { generation = g; empty = length t == 0 }
 
-pub walked_stands : (file : List ℕ) (fields : Zero) (pair : Pair) (lines : List (List ℕ)) (text : List (List ℕ)) → reading_of (take 4096 file) ≡ Ok fields → fields.page_size ≡ 4096 → fields.pair ≡ Some pair
-    → Walked (pages_in file) (Some lines) → text_in pair.empty lines ≡ Some text → StandsFor file pair.generation text
-walked_stands file fields pair lines text reads size paired walked is =
-    let known = text_stands pair.empty walked.0 text (clean_lines (pages_in file) walked.0 walked.1) (ap (λ ls. text_in pair.empty ls) (sym walked.2) ∙ is) in
+formatted : (format : Format) (o : Option (List (List ℕ))) (document : Document) → with_format format o ≡ Some document → (o ≡ Some document.text) × (format ≡ document.format)
+formatted format None document is = absurd (cc)
+formatted format (Some text) document is = let e : record { text = text; format = format } ≡ document = cc in (ap (λ (d : Document). Some d.text) e, ap (λ (d : Document). d.format) e)
+
+unformatted : (format : Format) (o : Option (List (List ℕ))) → with_format format o ≡ None → o ≡ None
+unformatted format None is = refl
+unformatted format (Some text) is = absurd (cc)
+
+pub walked_stands : (file : List ℕ) (fields : Zero) (pair : Pair) (lines document : Document) → reading_of (take 4096 file) ≡ Ok fields → fields.page_size ≡ 4096 → fields.pair ≡ Some pair
+    → lines.format ≡ format_by fields.format → Walked (pages_in file) (Some lines) → with_format lines.format (text_in pair.empty lines.text) ≡ Some document → StandsFor file pair.generation document
+walked_stands file fields pair lines document reads size paired format walked is =
+    let parts = formatted lines.format (text_in pair.empty lines.text) document is in
+    let known = text_stands pair.empty walked.0 document.text (clean_lines (pages_in file) walked.0 walked.1) (ap (λ ls. text_in pair.empty ls) (sym walked.2) ∙ parts.0) in
     record {
-      head = subst (λ b. IsHead file pair.generation b) known.2 (record { zero = fields; reads = reads; size = size; paired = paired });
+      head = subst (λ b. IsHead file pair.generation b document.format) known.2 (record { zero = fields; reads = reads; size = size; paired = paired; format_is = sym format ∙ parts.1 });
       depth = walked.1.0;
       tree = subst (λ ls. GivesLines (pages_in file) walked.1.0 ls) (sym known.0) walked.1.1;
       is_text = known.1;
     }
 
-same_zero : (file : List ℕ) (fields : Zero) (g : ℕ) (t : List (List ℕ)) → reading_of (take 4096 file) ≡ Ok fields → (s : StandsFor file g t) → s.head.zero ≡ fields
+same_zero : (file : List ℕ) (fields : Zero) (g : ℕ) (t : Document) → reading_of (take 4096 file) ≡ Ok fields → (s : StandsFor file g t) → s.head.zero ≡ fields
 same_zero file fields g t reads s = let e : Ok s.head.zero ≡ Ok fields = sym s.head.reads ∙ reads in cc
 
 pub not_sized : (file : List ℕ) (fields : Zero) → reading_of (take 4096 file) ≡ Ok fields → (fields.page_size ≡ 4096 → ⊥) → StandsNot file
@@ -116,18 +127,20 @@ not_sized file fields reads other = λ g t s. other (ap (λ (z : Zero). z.page_s
 
 pub not_paired : (file : List ℕ) (fields : Zero) → reading_of (take 4096 file) ≡ Ok fields → fields.pair ≡ None → StandsNot file
 not_paired file fields reads none = λ g t s.
-    let e : Some (pair_of g t) ≡ None = sym s.head.paired ∙ (ap (λ (z : Zero). z.pair) (same_zero file fields g t reads s) ∙ none) in absurd (cc)
+    let e : Some (pair_of g t.text) ≡ None = sym s.head.paired ∙ (ap (λ (z : Zero). z.pair) (same_zero file fields g t reads s) ∙ none) in absurd (cc)
 
 pub not_walked : (file : List ℕ) → Walked (pages_in file) None → StandsNot file
-not_walked file walked = λ g t s. walked (stored t) (s.depth, s.tree)
+not_walked file walked = λ g t s. walked (stored t.text) (s.depth, s.tree)
 
-pub not_text : (file : List ℕ) (fields : Zero) (pair : Pair) (lines : List (List ℕ)) → reading_of (take 4096 file) ≡ Ok fields → fields.pair ≡ Some pair → Walked (pages_in file) (Some lines) → text_in pair.empty lines ≡ None → StandsNot file
+pub not_text : (file : List ℕ) (fields : Zero) (pair : Pair) (lines : Document) → reading_of (take 4096 file) ≡ Ok fields → fields.pair ≡ Some pair → Walked (pages_in file) (Some lines)
+    → with_format lines.format (text_in pair.empty lines.text) ≡ None → StandsNot file
 not_text file fields pair lines reads paired walked none = λ g t s.
-    let pairs : Some (pair_of g t) ≡ Some pair = sym s.head.paired ∙ (ap (λ (z : Zero). z.pair) (same_zero file fields g t reads s) ∙ paired) in
-    let same : pair_of g t ≡ pair = cc in
-    let all : walked.0 ≡ stored t = one_list (pages_in file) walked.1.0 s.depth walked.0 (stored t) walked.1.1 s.tree in
-    let found : text_in pair.empty lines ≡ Some t =
-    ap (λ ls. text_in pair.empty ls) (walked.2 ∙ ap (λ ls. map plain_line ls) all) ∙ text_found pair.empty t s.is_text (ap (λ (p : Pair). p.empty) (sym same)) in
+    let pairs : Some (pair_of g t.text) ≡ Some pair = sym s.head.paired ∙ (ap (λ (z : Zero). z.pair) (same_zero file fields g t reads s) ∙ paired) in
+    let same : pair_of g t.text ≡ pair = cc in
+    let all : walked.0 ≡ stored t.text = one_list (pages_in file) walked.1.0 s.depth walked.0 (stored t.text) walked.1.1 s.tree in
+    let found : text_in pair.empty lines.text ≡ Some t.text =
+    ap (λ ls. text_in pair.empty ls) (walked.2 ∙ ap (λ ls. map plain_line ls) all) ∙ text_found pair.empty t.text s.is_text (ap (λ (p : Pair). p.empty) (sym same)) in
+    let gone = unformatted lines.format (text_in pair.empty lines.text) none in
     absurd (cc)
 
 -- ---- page 0

@@ -5,6 +5,7 @@ use Rattle.std.specs.declared.alloc.Global.{Global}
 use Rattle.std.proofs.lemmas.Bool.{cases_eq}
 use Rattle.std.proofs.lemmas.Bool.Decides.{nat_tests}
 use Rattle.vs_pages.specs.Maps.{Map, pages_at}
+use Rattle.vs_text.specs.Documents.{Document}
 use Rattle.vs_data.specs.Blocks.{lines_in}
 use Rattle.vs_tree_shape.specs.declared.entries.Entry.{Entry}
 use Rattle.vs_tree_shape.specs.Trees.{read_by}
@@ -73,7 +74,7 @@ plain_level : (m : Map) (first : Entry) (others : List Entry) (lines : List (Lis
 plain_level m first others lines is = plain_chained (lines_at swap_format m first) (gathered swap_format m others) ∙ ap (λ o. chained o (plain (gathered swap_format m others))) is
 
 -- its first block is a data block
-pub level_gathered : (m : Map) (used : ℕ → ℕ) (first : Entry) (others : List Entry) (lines : List (List ℕ)) (found : List (List ℕ)) → plain (lines_at swap_format m first) ≡ Some lines → chained (Some lines) (plain (gathered swap_format m others)) ≡ Some found
+pub level_gathered : (m : Map) (used : ℕ → ℕ) (first : Entry) (others : List Entry) (lines : List (List ℕ)) (found : Document) → plain (lines_at swap_format m first) ≡ Some lines → chained (Some lines) (plain (gathered swap_format m others)) ≡ Some found.text
     → FindsBelow m used (first ∷ others) (Some (Lines found))
 level_gathered m used first others lines found is gives = plain_level m first others lines is ∙ gives
 

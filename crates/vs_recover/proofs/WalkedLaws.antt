@@ -8,6 +8,7 @@ use Rattle.std.proofs.Math.Nat.{div-mul-le_self}
 use Rattle.std.proofs.Math.Seq.{take-append_seam}
 use Rattle.vs_damaged.proofs.FindLaws.{on_ok}
 use Rattle.vs_host.specs.World.{Tells, Scene}
+use Rattle.vs_text.specs.declared.format.Format.{Format}
 use Rattle.vs_pages.specs.Maps.{span}
 use Rattle.vs_pages.proofs.MapsLemmas.{span-above, span-inside, span-most}
 use Rattle.vs_ptr.specs.declared.PtrEntry.{PtrEntry}
@@ -18,7 +19,7 @@ use Rattle.vs_damaged.specs.declared.finds.Target.{Target}
 use Rattle.vs_damaged.specs.declared.finds.Target.TheVariants as target
 use Rattle.vs_damaged.specs.declared.shown.Marker.TheVariants as marker
 use Rattle.vs_damaged.specs.declared.shown.Shown.{Shown}
-use Rattle.vs_damaged.specs.Finds.{Entries, Found, Items, ShowsBlock, found_in, lines_before, lines_said, original_items, target_by, target_of, unix}
+use Rattle.vs_damaged.specs.Finds.{Entries, Found, Items, ShowsBlock, found_in, lines_before, lines_said, original_items, target_by, target_of}
 use Rattle.vs_damaged.specs.Items.{Adds, Item, Shows, TheMarker}
 use Rattle.vs_damaged.specs.Salvage.{Damaged, Ends, FromBelow, FromBlock, FromOriginal, Gives, IsBarred, IsFree, LeadsNowhere, NoBlock, Pages, bytes_at, first_pages}
 use Rattle.vs_recover.specs.declared.walk.Walk.{Walk}
@@ -58,8 +59,8 @@ block_inside len size first pages marks is le =
 
 -- ---- one entry
 
-shown_none : (now old : Shown) (items : List Item) → now ≡ old → Shows old items → Shows now (items ++ [])
-shown_none now old items same shows = subst (λ (is : List Item). Shows now is) (sym (append-nil items)) (subst (λ (s : Shown). Shows s items) (sym same) shows)
+shown_none : (format : Format) (now old : Shown) (items : List Item) → now ≡ old → Shows format old items → Shows format now (items ++ [])
+shown_none format now old items same shows = subst (λ (is : List Item). Shows format now is) (sym (append-nil items)) (subst (λ (s : Shown). Shows format s items) (sym same) shows)
 
 by_found : (d : Damaged) (old new : Walk) (e : PtrEntry) (taken : List Pages) (pages : Pages) (found : Found) → target_of e ≡ target.Block pages.first pages.count → IsFree d taken pages → HasTaken new (pages ∷ taken)
     → found_in e (bytes_at d pages) ≡ found → ShowsBlock old.shown new.shown (reverse old.left.items) (reverse new.left.items) found → Visits d old new e taken
@@ -67,14 +68,14 @@ by_found d old new e taken pages (Entries below) is free has found shows = recor
   after = pages ∷ taken;
   more = [];
   has_taken = has;
-  shows = λ items before. shown_none new.shown old.shown items shows.1 before;
+  shows = λ items before. shown_none d.format new.shown old.shown items shows.1 before;
   gives = λ rest gives. FromBelow taken e (reverse old.left.items) below rest pages is free found (subst (λ (es : List PtrEntry). Gives d (pages ∷ taken) es rest) shows.0 gives);
 }
 by_found d old new e taken pages (Items more) is free has found shows = record {
   after = pages ∷ taken;
   more = more;
   has_taken = has;
-  shows = shows.1;
+  shows = λ items before. shows.1 d.format items before;
   gives = λ rest gives. FromBlock taken e (reverse old.left.items) more rest pages is free found (subst (λ (es : List PtrEntry). Gives d (pages ∷ taken) es rest) shows.0 gives);
 }
 
@@ -89,20 +90,19 @@ visits_nothing d old new e taken nowhere left has adds = record {
   after = taken;
   more = TheMarker marker.BlockMissing ∷ [];
   has_taken = has;
-  shows = adds;
+  shows = λ items before. adds d.format items before;
   gives = λ rest gives. NoBlock taken e (reverse old.left.items) rest nowhere (subst (λ (w : _). Gives d taken (reverse w.items) rest) left gives);
 }
 
-pub visits_original : (d : Damaged) (old new : Walk) (e : PtrEntry) (taken : List Pages) (before : Option ℕ) (count : ℕ) (original : Option (List ℕ)) → target_of e ≡ target.Original before count → original ≡ d.original → d.ends ≡ unix
-    → new.left ≡ old.left → HasTaken new taken → ((items : List Item) → Shows old.shown items → Shows new.shown (items ++ original_items unix original before count)) → Visits d old new e taken
-visits_original d old new e taken before count original is there ends left has adds =
-    let same : original_items unix original before count ≡ original_items d.ends d.original before count =
-    ap (λ o. original_items unix o before count) there ∙ ap (λ ends. original_items ends d.original before count) (sym ends) in
+pub visits_original : (d : Damaged) (old new : Walk) (e : PtrEntry) (taken : List Pages) (before : Option ℕ) (count : ℕ) (original : Option (List ℕ)) → target_of e ≡ target.Original before count → original ≡ d.original
+    → new.left ≡ old.left → HasTaken new taken → ((format : Format) (items : List Item) → Shows format old.shown items → Shows format new.shown (items ++ original_items format original before count)) → Visits d old new e taken
+visits_original d old new e taken before count original is there left has adds =
+    let same : original_items d.format original before count ≡ original_items d.format d.original before count = ap (λ o. original_items d.format o before count) there in
     record {
       after = taken;
-      more = original_items d.ends d.original before count;
+      more = original_items d.format d.original before count;
       has_taken = has;
-      shows = λ items shows. subst (λ (is : List Item). Shows new.shown (items ++ is)) same (adds items shows);
+      shows = λ items shows. subst (λ (is : List Item). Shows d.format new.shown (items ++ is)) same (adds d.format items shows);
       gives = λ rest gives. FromOriginal taken e (reverse old.left.items) rest before count is (subst (λ (w : _). Gives d taken (reverse w.items) rest) left gives);
     }
 
@@ -165,7 +165,6 @@ damaged_stays {swap} {name} reads has = record {
   told = has.told;
   there = still reads swap ∙ has.there;
   original = still reads name ∙ has.original;
-  ends = has.ends;
   size_is = has.size_is;
 }
 
@@ -176,18 +175,18 @@ pub record IsOnWay (d : Damaged) (entries : List PtrEntry) (w : Walk) : Type 0 w
   pub taken : List Pages
   pub given : List Item
   pub has_taken : HasTaken w taken
-  pub shows : Shows w.shown given
+  pub shows : Shows d.format w.shown given
   pub gives : (rest : List Item) → Gives d taken (reverse w.left.items) rest → Gives d (first_pages ∷ []) entries (given ++ rest)
 
-pub way_begins : (d : Damaged) (w : Walk) → HasTaken w (first_pages ∷ []) → Shows w.shown [] → IsOnWay d (reverse w.left.items) w
+pub way_begins : (d : Damaged) (w : Walk) → HasTaken w (first_pages ∷ []) → Shows d.format w.shown [] → IsOnWay d (reverse w.left.items) w
 way_begins d w has shows = record { taken = first_pages ∷ []; given = []; has_taken = has; shows = shows; gives = λ rest gives. gives }
 
 -- the walk before its next entry was taken from those that are left
 pub way_taken : (d : Damaged) (entries : List PtrEntry) (w : Walk) (old : Walk) (e : PtrEntry) → old.marks ≡ w.marks → old.shown ≡ w.shown → reverse w.left.items ≡ e ∷ reverse old.left.items → (way : IsOnWay d entries w)
-    → HasTaken old way.taken × Shows old.shown way.given × ((rest : List Item) → Gives d way.taken (e ∷ reverse old.left.items) rest → Gives d (first_pages ∷ []) entries (way.given ++ rest))
+    → HasTaken old way.taken × Shows d.format old.shown way.given × ((rest : List Item) → Gives d way.taken (e ∷ reverse old.left.items) rest → Gives d (first_pages ∷ []) entries (way.given ++ rest))
 way_taken d entries w old e marks shown left way = (
   has_same w old way.taken marks way.has_taken,
-  subst (λ (s : Shown). Shows s way.given) (sym shown) way.shows,
+  subst (λ (s : Shown). Shows d.format s way.given) (sym shown) way.shows,
   λ rest gives. way.gives rest (subst (λ (es : List PtrEntry). Gives d way.taken es rest) (sym left) gives),
 )
 

@@ -1,6 +1,7 @@
 -- What is recovered of the two swap files, and which of them is salvaged where neither stands.
 use Rattle.std.specs.Prelude.{◌≡◌, ◌≤◌, ◌⊎◌, ◌*◌, ◌&&◌, ℕ, Bool, true, false, nat_eq, nat_lt, nat_le, is_ok, if◌then◌else◌, List, length, take, drop}
 use Rattle.std.specs.Prelude.{Option, Some, None, Result, Ok, Err}
+use Rattle.vs_text.specs.Documents.{Document}
 use Rattle.vs_zero.specs.declared.Pair.{Pair}
 use Rattle.vs_zero.specs.declared.Zero.{Zero}
 use Rattle.vs_zero.specs.declared.ZeroErr.{ZeroErr}
@@ -22,17 +23,17 @@ use Rattle.vs_recover.specs.declared.image.Image.{Image}
 use Rattle.vs_recover.specs.declared.image.Image.TheVariants.{Standing}
 use Rattle.vs_swap.specs.Recovery.{StandsIn, Recovered}
 
--- The file, where it is there, stands for no text.
+-- The file, where it is there, stands for no document.
 abbrev pub StandsNowhere : Option (List ℕ) → Type 0
-StandsNowhere file = (generation : ℕ) (text : List (List ℕ)) → StandsIn file generation text → ⊥
+StandsNowhere file = (generation : ℕ) (document : Document) → StandsIn file generation document → ⊥
 
 -- Neither file stands.
 abbrev pub NoneStands : Option (List ℕ) → Option (List ℕ) → Type 0
 NoneStands swp swo = StandsNowhere swp × StandsNowhere swo
 
--- The text that two files give, or that neither stands.
-abbrev pub Recovers : Option (List ℕ) → Option (List ℕ) → Option (List (List ℕ)) → Type 0
-Recovers swp swo (Some text) = Recovered swp swo text
+-- The document that two files give, or that neither stands.
+abbrev pub Recovers : Option (List ℕ) → Option (List ℕ) → Option Document → Type 0
+Recovers swp swo (Some document) = Recovered swp swo document
 Recovers swp swo None = NoneStands swp swo
 
 -- The length of a file that is there, and what its page 0 reads as.
@@ -73,7 +74,7 @@ generation_of (Some opening) = generation_at opening.zero
 
 -- This is the generation of a file if it stands; without one it does not stand.
 abbrev pub IsGeneration : Option (List ℕ) → Option ℕ → Type 0
-IsGeneration file found = (generation : ℕ) (text : List (List ℕ)) → StandsIn file generation text → found ≡ Some generation
+IsGeneration file found = (generation : ℕ) (document : Document) → StandsIn file generation document → found ≡ Some generation
 
 -- the second generation is the greater one
 abbrev pub is_newer : Option ℕ → Option ℕ → Bool
@@ -81,19 +82,19 @@ is_newer first None = false
 is_newer None (Some second) = true
 is_newer (Some first) (Some second) = nat_lt first second
 
--- the text of a file that stands
-abbrev pub text_of : Image → Option (List (List ℕ))
-text_of (Standing generation text) = Some text
+-- the document of a file that stands
+abbrev pub text_of : Image → Option Document
+text_of (Standing generation document) = Some document
 text_of image = None
 
--- The text that a file stands for, or that it does not stand.
-abbrev pub IsStanding : Option (List ℕ) → Option (List (List ℕ)) → Type 0
-IsStanding file (Some text) = (generation : ℕ) × StandsIn file generation text
+-- The document that a file stands for, or that it does not stand.
+abbrev pub IsStanding : Option (List ℕ) → Option Document → Type 0
+IsStanding file (Some document) = (generation : ℕ) × StandsIn file generation document
 IsStanding file None = StandsNowhere file
 
--- The text of the first file where it stands, and else that of the second one. Or neither stands.
-abbrev pub StandsInTurn : Option (List ℕ) → Option (List ℕ) → Option (List (List ℕ)) → Type 0
-StandsInTurn first second (Some text) = IsStanding first (Some text) ⊎ (StandsNowhere first × IsStanding second (Some text))
+-- The document of the first file where it stands, and else that of the second one. Or neither stands.
+abbrev pub StandsInTurn : Option (List ℕ) → Option (List ℕ) → Option Document → Type 0
+StandsInTurn first second (Some document) = IsStanding first (Some document) ⊎ (StandsNowhere first × IsStanding second (Some document))
 StandsInTurn first second None = NoneStands first second
 
 -- block 1 reads as a pointer block, where pages have this size
@@ -126,9 +127,9 @@ root_chosen root.NoTree second = Err error.NotTree
 root_chosen first root.NoTree = Err error.NotTree
 root_chosen first second = Err error.NotSwap
 
--- The text that two files give, or that neither stands and what page 0 and block 1 of both read as.
+-- The document that two files give, or that neither stands and what page 0 and block 1 of both read as.
 abbrev pub IsFound : Option (List ℕ) → Option (List ℕ) → Found → Type 0
-IsFound swp swo (found.Text text) = Recovered swp swo text
+IsFound swp swo (found.Text document) = Recovered swp swo document
 IsFound swp swo (found.Roots roots) = NoneStands swp swo × (roots.swp ≡ root_of swp) × (roots.swo ≡ root_of swo)
 
 -- Nothing is recovered, for this reason.
@@ -137,8 +138,8 @@ IsRefusal swp swo error.Failed = Unit {0}
 IsRefusal swp swo error.NoMemory = Unit {0}
 IsRefusal swp swo why = NoneStands swp swo × (root_chosen (root_of swp) (root_of swo) ≡ Err why)
 
--- What is chosen of two files: the text that they give; else, where neither stands, the file to salvage; or why there is none.
+-- What is chosen of two files: the document that they give; else, where neither stands, the file to salvage; or why there is none.
 abbrev pub IsChoice : Option (List ℕ) → Option (List ℕ) → Result Chosen RecErr → Type 0
-IsChoice swp swo (Ok (Text text)) = Recovered swp swo text
+IsChoice swp swo (Ok (Text document)) = Recovered swp swo document
 IsChoice swp swo (Ok (Salvage which)) = NoneStands swp swo × (root_chosen (root_of swp) (root_of swo) ≡ Ok which)
 IsChoice swp swo (Err why) = IsRefusal swp swo why

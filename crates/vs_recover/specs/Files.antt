@@ -3,6 +3,7 @@ use Rattle.std.specs.Prelude.{◌≡◌, ℕ, Bool, IsTrue, List, map, true, fal
 use Rattle.std.specs.declared.alloc.Global.{Global}
 use Rattle.vs_pages.specs.Maps.{Map}
 use Rattle.vs_text.specs.Text.{plain_line}
+use Rattle.vs_text.specs.Documents.{Document}
 use Rattle.vs_host.specs.World.{Tells, Scene, content_of}
 use Rattle.vs_recover.specs.Levels.{chained, Reaches}
 
@@ -26,7 +27,7 @@ abbrev pub Extends : {X : Type 0} → Option (List X) → List X → List X → 
 Extends others old new false = others ≡ None
 Extends others old new true = chained (Some old) others ≡ Some new
 
--- What a walk found is the plain form of the lines of the tree, or there is no tree.
-abbrev pub Walked : Map → Option (List (List ℕ)) → Type 0
+-- What a walk found has the plain form of the lines of the tree, or there is no tree.
+abbrev pub Walked : Map → Option Document → Type 0
 Walked pages None = (lines : List (List ℕ)) → Reaches pages lines → ⊥
-Walked pages (Some found) = (lines : List (List ℕ)) × Reaches pages lines × (found ≡ map plain_line lines)
+Walked pages (Some found) = (lines : List (List ℕ)) × Reaches pages lines × (found.text ≡ map plain_line lines)

@@ -1,5 +1,6 @@
 -- How a file is read forwards, line by line.
 use Rattle.std.specs.Prelude.{◌≡◌, ℕ, ◌+◌, ◌-◌, ◌/◌, ◌≤◌, ◌<◌, ◌^◌, ⊤, Bool, true, false, List, [], ◌∷◌, ◌++◌, length, take, drop, Option, Some, None}
+use Rattle.vs_text.specs.declared.format.Format.{Format}
 use Rattle.vs_text.specs.Text.{IsLine, lines_of}
 use Rattle.vs_damaged.specs.declared.shown.Shown.{Shown}
 use Rattle.vs_damaged.specs.declared.shown.Marker.TheVariants as marker
@@ -57,6 +58,6 @@ pieces_in None = 0
 pieces_in (Some o) = pieces_of o.len
 
 -- These lines and markers are shown, or all but the marker that stands last.
-abbrev pub ShowsPart : Shown → List Item → List Item → Bool → Type 0
-ShowsPart shown items more true = Shows shown (items ++ more)
-ShowsPart shown items more false = (part : List Item) × (more ≡ part ++ TheMarker marker.LinesMissing ∷ []) × Shows shown (items ++ part)
+abbrev pub ShowsPart : Format → Shown → List Item → List Item → Bool → Type 0
+ShowsPart format shown items more true = Shows format shown (items ++ more)
+ShowsPart format shown items more false = (part : List Item) × (more ≡ part ++ TheMarker marker.LinesMissing ∷ []) × Shows format shown (items ++ part)

@@ -1,8 +1,8 @@
 -- What `salvage` answers, by the swap file and the original file.
 use Rattle.std.specs.Prelude.{◌≢◌, ⊤, ℕ, List, Option, Some, None, Result, Ok, Err}
+use Rattle.vs_text.specs.declared.format.Format.{Format}
 use Rattle.vs_host.specs.declared.names.Names.{Names}
 use Rattle.vs_damaged.specs.declared.shown.Shown.{Shown}
-use Rattle.vs_damaged.specs.Finds.{unix}
 use Rattle.vs_damaged.specs.Salvage.{Damaged, Salvages}
 use Rattle.vs_recover.specs.declared.choices.Swap.{Swap}
 use Rattle.vs_recover.specs.declared.choices.Swap.TheVariants.{Swp, Swo}
@@ -12,14 +12,14 @@ use Rattle.vs_recover.specs.declared.roots.Root.TheVariants as root
 use Rattle.vs_recover.specs.declared.walk.Salvaged.{Salvaged}
 use Rattle.vs_recover.specs.Choices.{root_of}
 
--- A swap file with pages of this size and the original file, with lines that end in byte 10.
-abbrev pub damaged : List ℕ → ℕ → Option (List ℕ) → Damaged
-damaged file size original = record { file = file; size = size; original = original; ends = unix }
+-- A swap file with pages of this size and this format, and the original file.
+abbrev pub damaged : List ℕ → ℕ → Format → Option (List ℕ) → Damaged
+damaged file size format original = record { file = file; size = size; original = original; format = format }
 
 -- These bytes, with so many markers, are salvaged of a swap file that is there.
 abbrev pub SalvagesOf : Option (List ℕ) → Option (List ℕ) → List ℕ → ℕ → Type 0
 SalvagesOf None original bytes markers = ⊥
-SalvagesOf (Some file) original bytes markers = (size : ℕ) × Salvages (damaged file size original) bytes markers
+SalvagesOf (Some file) original bytes markers = (size : ℕ) × (format : Format) × Salvages (damaged file size format original) bytes markers
 
 -- What is shown is salvaged, or the swap file has no root.
 abbrev pub IsSalvageOf : Option (List ℕ) → Option (List ℕ) → Option Shown → Type 0

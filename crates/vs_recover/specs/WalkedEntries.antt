@@ -11,7 +11,6 @@ use Rattle.vs_damaged.specs.declared.shown.Shown.{Shown}
 use Rattle.vs_damaged.specs.Items.{Item, Shows}
 use Rattle.vs_recover.specs.Marks.{used_in}
 use Rattle.vs_recover.specs.Original.{IsPlace, pieces_of}
-use Rattle.vs_damaged.specs.Finds.{unix}
 use Rattle.vs_damaged.specs.Salvage.{Damaged, Gives, Pages, first_pages, times_taken}
 
 -- A folder that tells its files has these under the two names.
@@ -19,7 +18,6 @@ pub record HasDamaged (tells : Tells) (scene : Scene) (swap name : List ℕ) (si
   pub told : IsTrue tells.folder
   pub there : content_of scene swap ≡ Some d.file
   pub original : content_of scene name ≡ d.original
-  pub ends : d.ends ≡ unix
   pub size_is : d.size ≡ size
 
 -- The size of a page is one that is read, no page is too far, and the original file has the place.
@@ -39,12 +37,12 @@ pub record Visits (d : Damaged) (old new : Walk) (e : PtrEntry) (taken : List Pa
   pub after : List Pages
   pub more : List Item
   pub has_taken : HasTaken new after
-  pub shows : (items : List Item) → Shows old.shown items → Shows new.shown (items ++ more)
+  pub shows : (items : List Item) → Shows d.format old.shown items → Shows d.format new.shown (items ++ more)
   pub gives : (rest : List Item) → Gives d after (reverse new.left.items) rest → Gives d taken (e ∷ reverse old.left.items) (more ++ rest)
 
 -- What these entries give is shown.
 abbrev pub IsFoundOf : Damaged → List PtrEntry → Shown → Type 0
-IsFoundOf d entries shown = (items : List Item) × Gives d (first_pages ∷ []) entries items × Shows shown items
+IsFoundOf d entries shown = (items : List Item) × Gives d (first_pages ∷ []) entries items × Shows d.format shown items
 
 -- how many pages a swap file has
 abbrev pub pages_by : List ℕ → Result Zero ZeroErr → ℕ

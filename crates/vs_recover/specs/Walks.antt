@@ -1,6 +1,7 @@
 -- What a walk finds below a level of blocks.
 use Rattle.std.specs.Prelude.{◌≡◌, ℕ, ◌+◌, ◌≤◌, Bool, IsTrue, List, length, Option, Some, None}
 use Rattle.vs_pages.specs.Maps.{Map}
+use Rattle.vs_text.specs.declared.format.Format.{Format}
 use Rattle.vs_tree_shape.specs.declared.entries.Entry.{Entry}
 use Rattle.vs_swap.specs.Files.{swap_format}
 use Rattle.vs_recover.specs.declared.levels.Below.{Below}
@@ -25,5 +26,10 @@ MarksBelow old new None = Unit {0}
 -- next level would use a page twice.
 abbrev pub FindsBelow : Map → (ℕ → ℕ) → List Entry → Option Below → Type 0
 FindsBelow m used level (Some (Entries next)) = opened swap_format m level ≡ Some next.items
-FindsBelow m used level (Some (Lines lines)) = plain (gathered swap_format m level) ≡ Some lines
+FindsBelow m used level (Some (Lines lines)) = plain (gathered swap_format m level) ≡ Some lines.text
 FindsBelow m used level None = Clashes used (opened swap_format m level) × (gathered swap_format m level ≡ None)
+
+-- Lines were found in this format.
+abbrev pub IsIn : Format → Below → Type 0
+IsIn format (Entries next) = Unit {0}
+IsIn format (Lines lines) = lines.format ≡ format

@@ -170,7 +170,8 @@ pub fn load_points<F: Folder>(
 /// block that fits.
 pub fn read_lines(entry: &Entry, bytes: &[u8], lines: &mut FileText) -> Result<bool, AllocError>
     requires some { 1 ≤ entry.now.pages }
-    ensures value { IfOk result (λ done. Extends (plain (fitting_lines entry.now (lines_in bytes.now))) lines.old lines.new done) }
+    ensures value { IfOk result (λ done. Extends (plain (fitting_lines entry.now (lines_in bytes.now))) lines.old.text lines.new.text done) }
+    ensures format { lines.new.format ≡ lines.old.format }
 {
     let Ok(view) = DataView::read(bytes) else {
         return Ok(false);
@@ -195,7 +196,8 @@ pub fn load_lines<F: Folder>(
     requires bound { count < 2 ^ 52 }
     requires count { IsThere F.tells (F.scene host.old) name.now (λ file. count ≡ length file / 4096) }
     ensures value { IfOk result (λ done. (file : List ℕ) → IsFile F.tells (F.scene host.old) name.now file
-        → Extends (plain (lines_at swap_format (pages_in file) entry.now)) lines.old lines.new done) }
+        → Extends (plain (lines_at swap_format (pages_in file) entry.now)) lines.old.text lines.new.text done) }
+    ensures format { lines.new.format ≡ lines.old.format }
     ensures reading { ReadsAtMost F.tells result Fault.Failed (F.scene host.old) (F.scene host.new) 1 }
 {
     let Some(bytes) = load_pages(alloc, host, name, count, entry.block, entry.pages)? else {

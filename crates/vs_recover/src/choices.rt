@@ -38,7 +38,7 @@ fn choose_root(first: Root, second: Root) -> Result<Swap, RecErr>
 /// What a user gets: the text of a file that stands, or a file to salvage.
 #[derive(Debug, Drop)]
 pub enum Chosen {
-    /// A file stands: its text.
+    /// A file stands: its text, with the format.
     Text(FileText),
     /// None stands, and page 0 and block 1 of this one read.
     Salvage(Swap),

@@ -2,10 +2,11 @@
 ghost use Rattle.std.specs.Prelude.{◌≡◌, ◌+◌, ◌-◌, ◌/◌, ℕ, List, IfOk, IfErr, IsTrue, IsSome, Ok, length, take};
 ghost use Rattle.vs_host.specs.World.{content_of};
 ghost use Rattle.vs_zero.specs.Zero.{reading_of};
+ghost use Rattle.vs_swap.specs.Files.{format_by};
 ghost use Rattle.vs_recover.specs.Choices.{IsSized};
 ghost use Rattle.vs_recover.specs.Faults.{IsFault};
 ghost use Rattle.vs_recover.specs.Files.{IsFile};
-ghost use Rattle.vs_recover.specs.Images.{IsImage, refused_image, text_in};
+ghost use Rattle.vs_recover.specs.Images.{IsImage, refused_image, text_in, with_format};
 ghost use Rattle.vs_recover.specs.Reading.{IsThere, ReadsAtMost, blocks_at};
 
 use crate::calls::{file_len, read_part};
@@ -14,12 +15,13 @@ use crate::tree::read_tree;
 use crate::{Fault, FileText, RecErr};
 use std::alloc::Global;
 use vs_host::Folder;
+use vs_text::Format;
 use vs_zero::{Zero, ZeroErr};
 
 /// What a swap file is: docs/FORMATS.md, "What a swap file stands for".
 #[derive(Debug, Drop)]
 pub enum Image {
-    /// The file stands for a text.
+    /// The file stands for a text in a format.
     Standing { generation: u64, text: FileText },
     /// Page 0 reads, with pages of so many bytes, and the file does not stand.
     Open { page_size: u32 },
@@ -38,10 +40,20 @@ pub struct Opening {
     pub zero: Result<Zero, ZeroErr>,
 }
 
+// The format that a number in page 0 says.
+pub fn format_by(number: u8) -> Format
+    ensures { result ≡ format_by number }
+{
+    match number {
+        2 => Format::Dos,
+        _ => Format::Unix,
+    }
+}
+
 // The text of lines in their plain form; None where they are not those of the text without lines and should be, or the
 // other way round.
 fn text_of(alloc: Global, lines: FileText, empty: bool) -> Option<FileText>
-    ensures { result ≡ text_in empty lines }
+    ensures { result ≡ with_format lines.format (text_in empty lines.text) }
 {
     if !empty {
         if lines.is_empty() {
@@ -49,10 +61,10 @@ fn text_of(alloc: Global, lines: FileText, empty: bool) -> Option<FileText>
         }
         return Some(lines);
     }
-    if lines.bytes() != b"\n".as_slice() {
+    if lines.bytes() != lines.format().line_end() {
         return None;
     }
-    Some(FileText::new(alloc))
+    Some(FileText::new(alloc, lines.format()))
 }
 
 // The first page of the file, or all of it where it is shorter.
@@ -113,7 +125,7 @@ pub fn read_open<F: Folder>(
     let Some(pair) = zero.pair else {
         return Ok(Image::Open { page_size });
     };
-    let Some(lines) = read_tree(alloc, host, name, len / 4096)? else {
+    let Some(lines) = read_tree(alloc, host, name, len / 4096, format_by(zero.format))? else {
         return Ok(Image::Open { page_size });
     };
     let Some(text) = text_of(alloc, lines, pair.empty) else {

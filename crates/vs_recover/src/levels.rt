@@ -1,17 +1,19 @@
 // The levels of a tree, from block 1 on.
 ghost use Rattle.std.specs.Prelude.{◌≡◌, ◌<◌, ◌+◌, ◌/◌, ◌^◌, ◌∷◌, ℕ, List, IfOk, IfSome, IfNone, IsTrue, Some, length};
+ghost use Rattle.std.specs.Option.{option_map};
 ghost use Rattle.vs_swap.specs.Files.{pages_in, swap_format};
 ghost use Rattle.vs_recover.specs.Files.{IsFile, plain};
 ghost use Rattle.vs_recover.specs.Levels.{Clashes, are_wide, chained, opened, gathered};
 ghost use Rattle.vs_recover.specs.Marks.{used_in};
 ghost use Rattle.vs_recover.specs.Reading.{IsThere, ReadsAtMost};
-ghost use Rattle.vs_recover.specs.Walks.{FindsBelow, IsMarked, MarksBelow};
+ghost use Rattle.vs_recover.specs.Walks.{FindsBelow, IsIn, IsMarked, MarksBelow};
 
 use crate::blocks::{load_lines, load_pages, load_points, read_lines, read_points};
 use crate::marks::Marks;
 use crate::{Fault, FileText};
 use std::alloc::Global;
 use vs_host::Folder;
+use vs_text::Format;
 use vs_tree_shape::Entry;
 
 /// What lies below a level of blocks.
@@ -74,7 +76,8 @@ fn gather_level<F: Folder>(
     requires bound { count < 2 ^ 52 }
     requires count { IsThere F.tells (F.scene host.old) name.now (λ file. count ≡ length file / 4096) }
     ensures value { IfOk result (λ found. (file : List ℕ) → IsFile F.tells (F.scene host.old) name.now file
-        → chained (Some first) (plain (gathered swap_format (pages_in file) others.now)) ≡ found) }
+        → chained (Some first.text) (plain (gathered swap_format (pages_in file) others.now)) ≡ option_map (λ text. text.text) found) }
+    ensures format { IfOk result (λ found. IfSome found (λ text. text.format ≡ first.format)) }
     ensures reading { ReadsAtMost F.tells result Fault.Failed (F.scene host.old) (F.scene host.new) (length others.now) }
 {
     let mut lines = first;
@@ -95,6 +98,7 @@ pub fn read_level<F: Folder>(
     count: u64,
     first: &Entry,
     others: &[Entry],
+    format: Format,
     marks: &mut Marks,
 ) -> Result<Option<Below>, Fault>
     requires wide { IsTrue (are_wide (first.now ∷ others.now)) }
@@ -102,6 +106,7 @@ pub fn read_level<F: Folder>(
     requires count { IsThere F.tells (F.scene host.old) name.now (λ file. count ≡ length file / 4096) }
     ensures found { IfOk result (λ found. (file : List ℕ) → IsFile F.tells (F.scene host.old) name.now file
         → FindsBelow (pages_in file) (λ k. used_in marks.old k) (first.now ∷ others.now) found) }
+    ensures format { IfOk result (λ found. IfSome found (IsIn format)) }
     ensures marked { IfOk result (MarksBelow marks.old marks.new) }
     ensures reading { ReadsAtMost F.tells result Fault.Failed (F.scene host.old) (F.scene host.new) (1 + length others.now) }
 {
@@ -114,7 +119,7 @@ pub fn read_level<F: Folder>(
         };
         return Ok(Some(Below::Entries(next)));
     }
-    let mut lines = FileText::new(alloc);
+    let mut lines = FileText::new(alloc, format);
     if !read_lines(first, &bytes, &mut lines)? {
         return Ok(None);
     }

@@ -1,12 +1,13 @@
 // The lines of the file that was edited, which is read forwards in pieces.
 ghost use Rattle.std.specs.Prelude.{◌≡◌, ◌+◌, ◌-◌, ◌≤◌, ◌<◌, ◌++◌, List, ℕ, IfOk, IfSome, OnOk, IsTrue, drop, length, map, take, nat_lt, not};
 ghost use Rattle.vs_text.specs.Text.{lines_of};
+ghost use Rattle.vs_text.specs.declared.format.Format.{Format};
 ghost use Rattle.vs_host.specs.World.{content_of};
 ghost use Rattle.vs_recover.specs.Files.{IsFile};
-ghost use Rattle.vs_damaged.specs.Items.{Item, Shows, line_item};
+ghost use Rattle.vs_damaged.specs.Items.{Item, Shows, original_item};
 ghost use Rattle.vs_recover.specs.Original.{Follows, IsNext, IsOpened, IsPlace, Keeps, ShowsPart, TakesPiece, ahead, pieces_in, pieces_left, pieces_of};
 ghost use Rattle.vs_recover.specs.Reading.{IsThere, ReadsAtMost};
-ghost use Rattle.vs_damaged.specs.Finds.{original_items, unix};
+ghost use Rattle.vs_damaged.specs.Finds.{original_items};
 
 use crate::Fault;
 use crate::calls::{file_len, has_file, read_part};
@@ -19,8 +20,8 @@ use vs_text::MAX_LINE_BYTES;
 // The number of bytes of a piece.
 const PIECE: u64 = 65_536;
 
-// The number of bytes that are kept of a line: of a line that is too long, one more than a line may have.
-const KEPT: usize = MAX_LINE_BYTES as usize + 1;
+// The number of bytes that are kept of a line: of a line that is too long, one more than a line may have and a byte 13.
+const KEPT: usize = MAX_LINE_BYTES as usize + 2;
 
 /// A place in a file between two of its lines.
 #[derive(Drop)]
@@ -200,9 +201,9 @@ impl Original {
         requires follows { IsThere F.tells (F.scene host.old) name.now (λ file. Follows self.old file) }
         ensures place { OnOk result (IsPlace self.new) }
         ensures follows { OnOk result (IsThere F.tells (F.scene host.old) name.now (λ file. Follows self.new file)) }
-        ensures shows { IfOk result (λ all. (file : List ℕ) → IsFile F.tells (F.scene host.old) name.now file → (items : List Item) →
-            Shows shown.old items
-            → Shows shown.new (items ++ map line_item (take count (drop self.old.line (lines_of file))))) }
+        ensures shows { IfOk result (λ all. (file : List ℕ) → IsFile F.tells (F.scene host.old) name.now file → (format : Format) (items : List Item)
+            → Shows format shown.old items
+            → Shows format shown.new (items ++ map (original_item format) (take count (drop self.old.line (lines_of file))))) }
         ensures all { IfOk result (λ all. (file : List ℕ) → IsFile F.tells (F.scene host.old) name.now file
             → all ≡ not (nat_lt (length (drop self.old.line (lines_of file))) count)) }
         ensures len { OnOk result (self.new.len ≡ self.old.len) }
@@ -213,7 +214,7 @@ impl Original {
             if !self.next_line(alloc, host, name, &mut line)? {
                 return Ok(false);
             }
-            shown.push_line(&line)?;
+            shown.push_original(&line)?;
         }
         Ok(true)
     }
@@ -251,8 +252,8 @@ fn show_part<F: Folder>(
     ensures place { OnOk result (IfSome original.new IsPlace) }
     ensures opened { OnOk result (IsTrue F.tells.folder → IsOpened (content_of (F.scene host.old) name.now) original.new) }
     ensures pieces { OnOk result (pieces_in original.new ≡ pieces_in original.old) }
-    ensures shows { IfOk result (λ all. IsTrue F.tells.folder → (items : List Item) → Shows shown.old items
-        → ShowsPart shown.new items (original_items unix (content_of (F.scene host.old) name.now) before count) all) }
+    ensures shows { IfOk result (λ all. IsTrue F.tells.folder → (format : Format) (items : List Item) → Shows format shown.old items
+        → ShowsPart format shown.new items (original_items format (content_of (F.scene host.old) name.now) before count) all) }
     ensures reading { ReadsAtMost F.tells result Fault.Failed (F.scene host.old) (F.scene host.new) (pieces_in original.old) }
 {
     let Some(original) = original else {
@@ -281,8 +282,8 @@ pub fn show_original<F: Folder>(
     ensures place { OnOk result (IfSome original.new IsPlace) }
     ensures opened { OnOk result (IsTrue F.tells.folder → IsOpened (content_of (F.scene host.old) name.now) original.new) }
     ensures pieces { OnOk result (pieces_in original.new ≡ pieces_in original.old) }
-    ensures shows { OnOk result (IsTrue F.tells.folder → (items : List Item) → Shows shown.old items
-        → Shows shown.new (items ++ original_items unix (content_of (F.scene host.old) name.now) before count)) }
+    ensures shows { OnOk result (IsTrue F.tells.folder → (format : Format) (items : List Item) → Shows format shown.old items
+        → Shows format shown.new (items ++ original_items format (content_of (F.scene host.old) name.now) before count)) }
     ensures reading { ReadsAtMost F.tells result Fault.Failed (F.scene host.old) (F.scene host.new) (pieces_in original.old) }
 {
     if !show_part(alloc, host, name, original, before, count, shown)? {

@@ -17,6 +17,7 @@ ghost use Rattle.vs_recover.specs.WalkedEntries.{HasDamaged, HasTaken, IsFoundOf
 use crate::calls::read_part;
 use crate::choices::Swap;
 use crate::error::error_of;
+use crate::image::format_by;
 use crate::marks::Marks;
 use crate::newest::find_opening;
 use crate::original::{Original, open_original, show_original};
@@ -25,6 +26,7 @@ use std::alloc::{AllocError, Global};
 use vs_damaged::{Marker, Shown, Target, push_entries, show_data, target_of};
 use vs_host::{Folder, Names};
 use vs_ptr::{PtrEntry, PtrErr, PtrView};
+use vs_text::Format;
 
 /// The lines and markers of a damaged swap file in their file form, and the number of markers: docs/FORMATS.md, "Salvage".
 #[derive(Debug, Drop)]
@@ -151,7 +153,7 @@ impl Walk {
         requires count { IsThere F.tells (F.scene host.old) swap.now (λ file. length self.marks ≡ length file / self.size) }
         requires opened { IsTrue F.tells.folder → IsOpened (content_of (F.scene host.old) name.now) self.original }
         ensures shown { IfOk result (λ shown. (d : Damaged) → HasDamaged F.tells (F.scene host.old) swap.now name.now self.size d
-            → HasTaken self (first_pages ∷ []) → Shows self.shown []
+            → HasTaken self (first_pages ∷ []) → Shows d.format self.shown []
             → IsFoundOf d (reverse self.left.items) shown) }
         ensures reading { ReadsAtMost F.tells result Fault.Failed (F.scene host.old) (F.scene host.new)
             (free_in self.marks + (length self.left.items + 1563 * free_in self.marks) * pieces_in self.original) }
@@ -163,7 +165,7 @@ impl Walk {
     }
 }
 
-// A walk that begins at block 1 of a swap file with pages of this size; None where that is no pointer block.
+// A walk that begins at block 1 of a swap file with pages of this size and this format; None where that is no pointer block.
 fn begin<F: Folder>(
     alloc: Global,
     host: &mut F,
@@ -171,6 +173,7 @@ fn begin<F: Folder>(
     name: &str,
     len: u64,
     size: u32,
+    format: Format,
 ) -> Result<Option<Walk>, Fault>
     requires len { IsThere F.tells (F.scene host.old) swap.now (λ file. len ≡ length file) }
     requires least { 1048 ≤ size }
@@ -183,7 +186,7 @@ fn begin<F: Folder>(
     ensures pages { IfOk result (λ found. IfSome found (λ walk. (walk.size ≡ size) × (length walk.marks ≡ len / size)
         × (free_in walk.marks + 2 ≡ len / size) × (length walk.left.items ≤ 1563))) }
     ensures taken { IfOk result (λ found. IfSome found (λ walk. (k : ℕ) → used_in walk.marks k ≡ first_used (len / size) k)) }
-    ensures shown { IfOk result (λ found. IfSome found (λ walk. Shows walk.shown [])) }
+    ensures shown { IfOk result (λ found. IfSome found (λ walk. Shows format walk.shown [])) }
     ensures opened { IfOk result (λ found. IfSome found (λ walk. IsTrue F.tells.folder → IsOpened (content_of (F.scene host.old) name.now) walk.original)) }
     ensures reading { ReadsAtMost F.tells result Fault.Failed (F.scene host.old) (F.scene host.new) 3 }
 {
@@ -204,7 +207,7 @@ fn begin<F: Folder>(
         size,
         left,
         marks,
-        shown: Shown::new(alloc),
+        shown: Shown::new(alloc, format),
         original,
     }))
 }
@@ -227,7 +230,8 @@ fn salvage_of<F: Folder>(
     let Ok(zero) = opening.zero else {
         return Ok(None);
     };
-    let Some(walk) = begin(alloc, host, swap, name, opening.len, zero.page_size)? else {
+    let format = format_by(zero.format);
+    let Some(walk) = begin(alloc, host, swap, name, opening.len, zero.page_size, format)? else {
         return Ok(None);
     };
     let shown = walk.run(alloc, host, swap, name)?;

@@ -2,10 +2,11 @@
 use Rattle.std.proofs.Common.{◌≡◌, ℕ, zero, suc, ◌≤◌, ◌==◌, List, [], ◌∷◌, length, map, Bool, Option, Some, None, Result, Ok, Err, sym, refl, ap, ◌∙◌, inl, inr, arith}
 use Rattle.std.specs.List.{AllByRecursion}
 use Rattle.vs_pages.specs.Maps.{Map, pages_at, lacks}
+use Rattle.vs_text.specs.declared.format.Format.{Format}
 use Rattle.vs_text.specs.Text.{IsText, stored}
+use Rattle.vs_text.specs.Documents.{Document}
 use Rattle.vs_text.proofs.StoredForm.{same_from_stored}
 use Rattle.vs_zero.specs.declared.Pair.{Pair}
-use Rattle.vs_zero.specs.declared.Zero.{Zero}
 use Rattle.vs_data.specs.declared.DataErr.{DataErr}
 use Rattle.vs_data.specs.declared.DataView.{DataView}
 use Rattle.vs_data.specs.Blocks as lines
@@ -22,7 +23,7 @@ use Rattle.vs_tree_shape.proofs.Shapes.{kept, unused}
 use Rattle.vs_tree_blocks.specs.Blocks.{tree_format, data_lines, points_in}
 use Rattle.vs_tree_blocks.proofs.DataLemmas.{only_same}
 use Rattle.vs_swap.specs.Entries.{swap_points}
-use Rattle.vs_swap.specs.Files.{pages_in, HoldsPages, swap_format, GivesLines, IsHead, StandsFor}
+use Rattle.vs_swap.specs.Files.{pages_in, HoldsPages, swap_format, format_by, GivesLines, IsHead, StandsFor}
 use Rattle.vs_swap.specs.Recovery.{StandsIn, Recovered}
 use Rattle.vs_swap.proofs.Pointers.{points_refused, wider_points}
 
@@ -45,27 +46,31 @@ pub one_list : (m : Map) (d e : ℕ) (a b : List (List ℕ)) → GivesLines m d 
 one_list m d e a b x y =
     sym x.lines_are ∙ same_at_depths swap_format apart d e m x.tree y.tree x.stands.tree y.stands.tree (x.stands.root ∙ sym y.stands.root) (x.stands.page_count ∙ sym y.stands.page_count) ∙ y.lines_are
 
--- ---- one text
+-- ---- one document
 
 -- page 0 says one thing
-pub one_head : (file : List ℕ) (g h : ℕ) (a b : Bool) → IsHead file g a → IsHead file h b → (g ≡ h) × (a ≡ b)
-one_head file g h a b x y =
-    let both : Ok x.zero ≡ Ok y.zero = sym x.reads ∙ y.reads in
-    let zero : x.zero ≡ y.zero = cc in
-    let pairs : Some (record { generation = g; empty = a }) ≡ Some (record { generation = h; empty = b }) = sym x.paired ∙ ap (λ (z : Zero). z.pair) zero ∙ y.paired in
-    let pair : record { generation = g; empty = a } ≡ record { generation = h; empty = b } = cc in
-    (ap (λ (p : Pair). p.generation) pair, ap (λ (p : Pair). p.empty) pair)
+pub one_head : (file : List ℕ) (g h : ℕ) (a b : Bool) (x y : Format) → IsHead file g a x → IsHead file h b y → (g ≡ h) × (a ≡ b) × (x ≡ y)
+one_head file g h a b x y p q =
+    let both : Ok p.zero ≡ Ok q.zero = sym p.reads ∙ q.reads in
+    let zero : p.zero ≡ q.zero = cc in
+    let pairs : ◌≡◌ {A = Option Pair} (Some (record { generation = g; empty = a })) (Some (record { generation = h; empty = b })) = sym p.paired ∙ (λ i. (zero i).pair) ∙ q.paired in
+    let pair : ◌≡◌ {A = Pair} (record { generation = g; empty = a }) (record { generation = h; empty = b }) = cc in
+    ((λ i. (pair i).generation), (λ i. (pair i).empty), sym p.format_is ∙ (λ i. format_by (zero i).format) ∙ q.format_is)
 
-pub once : (file : List ℕ) (g h : ℕ) (a b : List (List ℕ)) → StandsFor file g a → StandsFor file h b → (g ≡ h) × (a ≡ b)
+same_document : (a b : Document) → a.text ≡ b.text → a.format ≡ b.format → a ≡ b
+same_document a b text format = ap (λ t. record a { text = t }) text ∙ ap (λ f. record b { format = f }) format
+
+pub once : (file : List ℕ) (g h : ℕ) (a b : Document) → StandsFor file g a → StandsFor file h b → (g ≡ h) × (a ≡ b)
 once file g h a b x y =
-    let head = one_head file g h (length a == 0) (length b == 0) x.head y.head in
-    (head.0, same_from_stored a b x.is_text y.is_text head.1 (one_list (pages_in file) x.depth y.depth (stored a) (stored b) x.tree y.tree))
+    let head = one_head file g h (length a.text == 0) (length b.text == 0) a.format b.format x.head y.head in
+    let lines = one_list (pages_in file) x.depth y.depth (stored a.text) (stored b.text) x.tree y.tree in
+    (head.0, same_document a b (same_from_stored a.text b.text x.is_text y.is_text head.1 lines) head.2)
 
-pub in_once : (file : Option (List ℕ)) (g h : ℕ) (a b : List (List ℕ)) → StandsIn file g a → StandsIn file h b → (g ≡ h) × (a ≡ b)
+pub in_once : (file : Option (List ℕ)) (g h : ℕ) (a b : Document) → StandsIn file g a → StandsIn file h b → (g ≡ h) × (a ≡ b)
 in_once None g h a b x y = absurd x
 in_once (Some file) g h a b x y = once file g h a b x y
 
-pub one_recovered : (swp swo : Option (List ℕ)) (a b : List (List ℕ)) → Recovered swp swo a → Recovered swp swo b → a ≡ b
+pub one_recovered : (swp swo : Option (List ℕ)) (a b : Document) → Recovered swp swo a → Recovered swp swo b → a ≡ b
 one_recovered swp swo a b (inl p) (inl q) = (in_once swp p.generation q.generation a b p.stands q.stands).1
 one_recovered swp swo a b (inl p) (inr q) = absurd (omega (arith, p.no_newer q.generation b q.stands, q.older p.generation a p.stands))
 one_recovered swp swo a b (inr p) (inl q) = absurd (omega (arith, q.no_newer p.generation a p.stands, p.older q.generation b q.stands))
@@ -114,6 +119,7 @@ written_lines file m depth found has holds = record {
   lines_are = has.lines_are;
 }
 
-pub written_stands : (file : List ℕ) (m : Map) (depth generation : ℕ) (text : List (List ℕ)) → IsText text → HasLines tree_format m depth (stored text) → HoldsPages m file
-    → IsHead file generation (length text == 0) → StandsFor file generation text
-written_stands file m depth generation text is has holds head = record { head = head; depth = depth; tree = written_lines file m depth (stored text) has holds; is_text = is }
+pub written_stands : (file : List ℕ) (m : Map) (depth generation : ℕ) (document : Document) → IsText document.text → HasLines tree_format m depth (stored document.text) → HoldsPages m file
+    → IsHead file generation (length document.text == 0) document.format → StandsFor file generation document
+written_stands file m depth generation document is has holds head =
+    record { head = head; depth = depth; tree = written_lines file m depth (stored document.text) has holds; is_text = is }

@@ -1,11 +1,15 @@
--- A swap file as the bytes that it has, and the text that it stands for.
+-- A swap file as the bytes that it has, and the document that it stands for.
 use Rattle.std.specs.Prelude.{◌≡◌, ℕ, ◌+◌, ◌*◌, ◌==◌, ◌≤◌, Bool, nat_le, if◌then◌else◌, List, length, take, drop, Option, Some, None, Ok}
 use Rattle.vs_pages.specs.Maps.{Map}
+use Rattle.vs_text.specs.declared.format.Format.{Format}
+use Rattle.vs_text.specs.declared.format.Format.TheVariants.{Unix, Dos}
 use Rattle.vs_text.specs.Text.{IsText, stored}
+use Rattle.vs_text.specs.Documents.{Document}
 use Rattle.vs_zero.specs.declared.Zero.{Zero}
 use Rattle.vs_zero.specs.Zero.{reading_of}
 use Rattle.vs_data.specs.Blocks.{lines_in}
-use Rattle.vs_tree_shape.specs.Trees.{Format, Tree, Stands, uses, lines_of}
+use Rattle.vs_tree_shape.specs.Trees as trees
+use Rattle.vs_tree_shape.specs.Trees.{Tree, Stands, uses, lines_of}
 use Rattle.vs_swap.specs.Entries.{swap_points}
 
 -- the page at a number, where it lies in the file as a whole
@@ -22,7 +26,7 @@ HoldsPages pages file = (k : ℕ) (page : List ℕ) → 1 ≤ k → pages k ≡ 
 
 -- How the blocks of any swap file are read: a data block of any number of pages may have any lines, and an entry any numbers that are
 -- not negative.
-abbrev pub swap_format : Format
+abbrev pub swap_format : trees.Format
 swap_format = record { lines = λ pages bytes. lines_in bytes; entries = swap_points }
 
 -- These are the lines of a tree of blocks from block 1 on, in pages that may also have others. Block 1 is a pointer block, all
@@ -34,16 +38,26 @@ pub record GivesLines (pages : Map) (depth : ℕ) (lines : List (List ℕ)) : Ty
   pub zero_free : uses depth tree 0 ≡ 0
   pub lines_are : lines_of depth tree ≡ lines
 
+-- the number that page 0 has for a format
+abbrev pub format_number : Format → ℕ
+format_number Unix = 1
+format_number Dos = 2
+
+-- the format of a number in page 0: dos of 2, and unix of all others
+abbrev pub format_by : ℕ → Format
+format_by number = if number == 2 then Dos else Unix
+
 -- Page 0 reads as that of an open file of a pair, with pages of 4,096 bytes, and says this.
-pub record IsHead (file : List ℕ) (generation : ℕ) (empty : Bool) : Type 0 where
+pub record IsHead (file : List ℕ) (generation : ℕ) (empty : Bool) (format : Format) : Type 0 where
   pub zero : Zero
   pub reads : reading_of (take 4096 file) ≡ Ok zero
   pub size : zero.page_size ≡ 4096
   pub paired : zero.pair ≡ Some record { generation = generation; empty = empty }
+  pub format_is : format_by zero.format ≡ format
 
--- The bytes of a swap file stand for this text, with this generation.
-pub record StandsFor (file : List ℕ) (generation : ℕ) (text : List (List ℕ)) : Type 0 where
-  pub head : IsHead file generation (length text == 0)
+-- The bytes of a swap file stand for this document, with this generation.
+pub record StandsFor (file : List ℕ) (generation : ℕ) (document : Document) : Type 0 where
+  pub head : IsHead file generation (length document.text == 0) document.format
   pub depth : ℕ
-  pub tree : GivesLines (pages_in file) depth (stored text)
-  pub is_text : IsText text
+  pub tree : GivesLines (pages_in file) depth (stored document.text)
+  pub is_text : IsText document.text

@@ -1,5 +1,5 @@
 // Swap files of all kinds, hostile ones among them, and what each of them is.
-use crate::pages::Block::{Blank, Bytes, Head, HeadOfNone, Lines, Marked, Pointers};
+use crate::pages::Block::{Blank, Bytes, Flagged, Head, HeadOfNone, Lines, Marked, Pointers};
 use crate::pages::{Block, Entry, said_of};
 use std::alloc::Global;
 use std::process::Abort;
@@ -46,10 +46,31 @@ const SHAPES: [Case; 3] = [
 ];
 
 #[test]
-fn trees_of_all_shapes_stand(rt: HostRuntime) -> Result<(), Fail> {
+fn trees_of_all_shapes_stand_in_their_format(rt: HostRuntime) -> Result<(), Fail> {
     assert!(rt; are_said(rt.alloc(), &SHAPES)?);
+    assert!(rt; are_said(rt.alloc(), &FORMATS)?);
     Ok(())
 }
+
+// Bits 0 and 1 of the flags byte say the format.
+const FORMATS: [Case; 4] = [
+    (
+        &[Flagged(1, 6), Pointers(&[(2, 1, 2)]), Lines(1, b"a\r")],
+        "stands 1 dos a~.~~.",
+    ),
+    (
+        &[Flagged(1, 0xf2), Pointers(&[(2, 1, 1)]), Lines(1, b"a")],
+        "stands 1 dos a~.",
+    ),
+    (
+        &[Flagged(1, 7), Pointers(&[(2, 1, 1)]), Lines(1, b"a")],
+        "stands 1 a.",
+    ),
+    (
+        &[Flagged(1, 4), Pointers(&[(2, 1, 2)]), Lines(1, b"a\r")],
+        "stands 1 a.~.",
+    ),
+];
 
 const WIDE: [Case; 3] = [
     (

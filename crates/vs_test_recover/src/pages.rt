@@ -3,6 +3,7 @@ use std::alloc::Global;
 use std::test::Fail;
 use vs_memory::MemHost;
 use vs_recover::{Image, read_image};
+use vs_text::Format;
 
 /// An entry of a pointer block: a block, its pages, and the lines below it.
 pub type Entry = (i64, i32, i64);
@@ -14,6 +15,8 @@ pub enum Block<'a> {
     Head(u8),
     /// Page 0 of a file of a pair whose text has no lines.
     HeadOfNone(u8),
+    /// Page 0 of a file of a pair, with this generation and this flags byte.
+    Flagged(u8, u8),
     /// Page 0 with this identifier.
     Marked(&'a [u8]),
     /// A pointer block.
@@ -37,17 +40,23 @@ fn add_parts(bytes: &mut Vec<u8>, parts: &[(usize, &[u8])]) -> Result<(), Fail> 
     Ok(())
 }
 
-fn add_head(bytes: &mut Vec<u8>, mark: &[u8], generation: u8, flags: u8) -> Result<(), Fail> {
+fn add_head(
+    bytes: &mut Vec<u8>,
+    mark: &[u8],
+    generation: u8,
+    flags: u8,
+    pair_flags: u8,
+) -> Result<(), Fail> {
     let parts: [(usize, &[u8]); 9] = [
         (0, mark),
         (12, &[0, 16, 0, 0]),
-        (1006, &[5]),
+        (1006, &[flags]),
         (1008, &[0x33, 0x32, 0x31, 0x30]),
         (1016, &[0x23, 0x22, 0x21, 0x20]),
         (1020, &[0x13, 0x12, 0x55]),
         (1024, b"VSWPAIR1"),
         (1032, &[generation]),
-        (1040, &[flags]),
+        (1040, &[pair_flags]),
     ];
     add_parts(bytes, &parts)
 }
@@ -115,9 +124,10 @@ fn add_lines(bytes: &mut Vec<u8>, pages: u32, lines: &[u8]) -> Result<(), Fail> 
 
 fn add_block(bytes: &mut Vec<u8>, block: &Block<'_>) -> Result<(), Fail> {
     match block {
-        Block::Head(generation) => add_head(bytes, b"b0", *generation, 0),
-        Block::HeadOfNone(generation) => add_head(bytes, b"b0", *generation, 1),
-        Block::Marked(mark) => add_head(bytes, mark, 1, 0),
+        Block::Head(generation) => add_head(bytes, b"b0", *generation, 5, 0),
+        Block::HeadOfNone(generation) => add_head(bytes, b"b0", *generation, 5, 1),
+        Block::Flagged(generation, flags) => add_head(bytes, b"b0", *generation, *flags, 0),
+        Block::Marked(mark) => add_head(bytes, mark, 1, 5, 0),
         Block::Pointers(entries) => add_pointers(bytes, entries),
         Block::Lines(pages, lines) => add_lines(bytes, *pages, lines),
         Block::Bytes(first) => add_parts(bytes, &[(0, first)]),
@@ -147,16 +157,21 @@ pub(crate) fn folder_of(alloc: Global, swp: Vec<u8>, swo: Vec<u8>) -> Result<Mem
     Ok(host)
 }
 
-/// What is said of an image: the generation and the first bytes of the lines of a file that stands, or a word.
+/// What is said of an image: generation, format and bytes of a file that stands, with `.` and `~` for bytes 10 and 13, or a word.
 pub(crate) fn said(alloc: Global, image: &Image) -> Result<String, Fail> {
     match image {
         Image::Standing { generation, text } => {
-            let mut words = format!(in alloc; "stands {generation} ")?;
+            let format = if text.format() == Format::Dos {
+                " dos"
+            } else {
+                ""
+            };
+            let mut words = format!(in alloc; "stands {generation}{format} ")?;
             for byte in text.bytes() {
-                words.push(if *byte == b'\n' {
-                    '.'
-                } else {
-                    char::from(*byte)
+                words.push(match *byte {
+                    b'\n' => '.',
+                    b'\r' => '~',
+                    other => char::from(other),
                 })?;
             }
             Ok(words)

@@ -4,6 +4,7 @@ use std::process::Abort;
 use std::test::Fail;
 use vs_damaged::{Shown, show_data};
 use vs_ptr::PtrEntry;
+use vs_text::Format;
 
 // A number of four bytes at a place.
 type Patch = (usize, u32);
@@ -99,7 +100,7 @@ fn what_blocks_give(rt: HostRuntime) -> Result<(), Fail> {
             old: 1,
             pages: 1,
         };
-        let mut shown = Shown::new(rt.alloc());
+        let mut shown = Shown::new(rt.alloc(), Format::Unix);
         show_data(rt.alloc(), &entry, &block, &mut shown)?;
         assert!(rt; shown.bytes.as_slice() == *bytes && shown.markers == *markers);
     }

@@ -22,10 +22,11 @@ pub enum Block<'a> {
     Blank,
 }
 
-/// A swap file: the size of its pages, and its blocks from block 1 on.
+/// A swap file: the size of its pages, its flags byte, and its blocks from block 1 on.
 #[derive(Clone, Copy)]
 pub struct File<'a> {
     pub size: usize,
+    pub flags: u8,
     pub blocks: &'a [Block<'a>],
     pub original: Option<&'a [u8]>,
 }
@@ -110,9 +111,10 @@ fn put_block(bytes: &mut Vec<u8>, at: usize, size: usize, block: &Block) {
 }
 
 // Page 0 as Vim writes it, without the tag of a pair.
-fn put_head(bytes: &mut Vec<u8>, size: usize) {
+fn put_head(bytes: &mut Vec<u8>, size: usize, flags: u8) {
     put(bytes, 0, b"b0VIM 9.0");
     put(bytes, 12, &low_u32(size).to_le_bytes());
+    put(bytes, 1006, &[flags]);
     put(bytes, 1008, &[0x33, 0x32, 0x31, 0x30, 0, 0, 0, 0]);
     put(bytes, 1016, &[0x23, 0x22, 0x21, 0x20, 0x13, 0x12, 0x55]);
 }
@@ -124,7 +126,7 @@ pub fn bytes_of(alloc: Global, file: &File) -> Result<Vec<u8>, Fail> {
         pages = pages.saturating_add(pages_of(block));
     }
     let mut bytes = zeros(alloc, pages.saturating_mul(file.size).min(1 << 24))?;
-    put_head(&mut bytes, file.size);
+    put_head(&mut bytes, file.size, file.flags);
     let mut at = file.size;
     for block in file.blocks {
         put_block(&mut bytes, at, file.size, block);

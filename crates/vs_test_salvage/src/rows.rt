@@ -31,7 +31,7 @@ fn salvaged(alloc: Global, file: &File) -> Result<Result<(Vec<u8>, u64), RecErr>
 
 const X: Block<'static> = Data(&[b"x"]);
 
-const ROWS: [Row; 17] = [
+const ROWS: [Row; 18] = [
     // A file that Vim has only begun to write.
     (&[Pointers(&[(-1, 2, 1, 1)])], Some(b"a\nb\n"), b"a\nb\n", 0),
     (
@@ -138,20 +138,61 @@ const ROWS: [Row; 17] = [
         b"???LINES MISSING\n",
         1,
     ),
+    // A byte 13 is one of its line.
+    (
+        &[Pointers(&[(-1, 1, 1, 1), (2, 1, 1, 1)]), X],
+        Some(b"a\r\n"),
+        b"a\r\nx\n",
+        0,
+    ),
 ];
 
-#[test]
-fn lines_and_markers(rt: HostRuntime) -> Result<(), Fail> {
-    for (blocks, original, bytes, markers) in &ROWS {
+// The same, where the flags byte of page 0 says dos.
+const DOS_ROWS: [Row; 4] = [
+    (&[Pointers(&[(2, 1, 1, 1)]), X], None, b"x\r\n", 0),
+    (
+        &[Pointers(&[(2, 5, 1, 1), (2, 1, 1, 1)]), Data(&[b"a\r"])],
+        None,
+        b"a\r\r\n???LINE COUNT WRONG\r\n???BLOCK MISSING\r\n",
+        2,
+    ),
+    // Each line of the original file loses one last byte 13.
+    (
+        &[Pointers(&[(-1, 2, 1, 1)])],
+        Some(b"a\r\nb\r\n"),
+        b"a\r\nb\r\n",
+        0,
+    ),
+    (
+        &[Pointers(&[(-1, 4, 1, 1)])],
+        Some(b"a\r\r\nb\n\r\nc\r"),
+        b"a\r\r\nb\r\n\r\nc\r\n",
+        0,
+    ),
+];
+
+// Whether this is salvaged of files with this flags byte.
+fn are_salvaged(alloc: Global, flags: u8, rows: &[Row]) -> Result<bool, Fail> {
+    for (blocks, original, bytes, markers) in rows {
         let file = File {
             size: 4096,
+            flags,
             blocks,
             original: *original,
         };
-        match salvaged(rt.alloc(), &file)? {
-            Ok((found, count)) => assert!(rt; found.as_slice() == *bytes && count == *markers),
-            Err(_) => return Err(Fail::new("nothing was salvaged")),
+        let Ok((found, count)) = salvaged(alloc, &file)? else {
+            return Ok(false);
+        };
+        if found.as_slice() != *bytes || count != *markers {
+            return Ok(false);
         }
     }
+    Ok(true)
+}
+
+#[test]
+fn lines_and_markers(rt: HostRuntime) -> Result<(), Fail> {
+    assert!(rt; are_salvaged(rt.alloc(), 5, &ROWS)?);
+    assert!(rt; are_salvaged(rt.alloc(), 6, &DOS_ROWS)?);
     Ok(())
 }

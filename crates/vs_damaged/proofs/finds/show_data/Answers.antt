@@ -20,5 +20,5 @@ returns-then-from-entry c =
     let all_is : all ≡ lines ++ TheMarker LineCountWrong ∷ [] =
     ap (λ (r : Result DataView DataErr). data_items c.args.entry.now block r) (sym c.bounds.ensures ∙ c.in-Ok.is) ∙ ap (λ (ys : List Item). lines ++ ys) (count_other c.args.entry.now.lines c.in-Ok.view.count other) in
     on_ok c.push_marker-then-from-entry.result
-    (λ pushed items shows. shown_next c.push_marker-then-from-entry.new.self items lines all (TheMarker LineCountWrong) all_is (pushed (items ++ lines) (c.in_ok-show_lines.ensures items shows)))
+    (λ pushed format items shows. shown_next format c.push_marker-then-from-entry.new.self items lines all (TheMarker LineCountWrong) all_is (pushed format (items ++ lines) (c.in_ok-show_lines.ensures format items shows)))
     c.push_marker-then-from-entry.ensures

@@ -12,5 +12,5 @@ returns-in_default-clause-value g c = λ file is. plain_none _ (lines_gone (page
 pub returns-clause-value : goal.returns-clause-value
 returns-clause-value g c = λ file is.
     let read = gives_list _ _ c.in-Some.bytes c.in-Some.is (c.in_ok-bytes.ensures.value file is) in
-    subst (λ (o : Option (List (List ℕ))). Extends (plain o) c.args.lines.now c.read_lines.new.lines c.in_ok-done.done)
+    subst (λ (o : Option (List (List ℕ))). Extends (plain o) c.args.lines.now.text c.read_lines.new.lines.text c.in_ok-done.done)
     (sym (lines_of (pages_in file) c.args.entry.now c.deref.result.now (read ∙ ap (λ (bs : List ℕ). Some bs) (sym c.deref.ensures.value)))) c.in_ok-done.ensures.value

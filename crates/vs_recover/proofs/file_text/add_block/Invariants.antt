@@ -5,6 +5,6 @@ use Rattle.vs_recover.proofs.file_text.add_block.Given as goal
 
 abbrev pub invariant-loop-at : goal.invariant-loop-at
 invariant-loop-at l = record {
-  added : (found : List (List ℕ)) → lines_in l.block ≡ Some found → Appended l.fn.bytes.items l.bytes.items (take l.at found);
+  added : (found : List (List ℕ)) → lines_in l.block ≡ Some found → Appended l.format l.fn.bytes.items l.bytes.items (take l.at found);
   kept : take (length l.fn.bytes.items) l.bytes.items ≡ l.fn.bytes.items;
 }

@@ -2,6 +2,7 @@ use Rattle.std.proofs.Common.{◌≡◌, ◌/◌, length, arith, ap, sym, subst,
 use Rattle.vs_swap.specs.Files.{pages_in}
 use Rattle.vs_recover.specs.Files.{Walked}
 use Rattle.vs_recover.proofs.TextLaws.{not_sized, not_paired, not_walked, not_text, walked_stands}
+use Rattle.vs_recover.proofs.PageLaws.{if_some}
 use Rattle.vs_recover.proofs.ReadingLaws.{reads_none, there_as}
 use Rattle.vs_recover.proofs.image.read_open.Goals as goal
 
@@ -26,7 +27,8 @@ returns-in_default-text_of-clause-image g c = λ file is.
 
 pub returns-clause-image : goal.returns-clause-image
 returns-clause-image g c = λ file is.
-    walked_stands file c.args.zero.now c.in-Some.pair c.in-Some-2.lines c.in-Some-text_of.text (c.requires.zero file is) c.if-page_size-ne4096.false c.in-Some.is (subst (λ found. Walked (pages_in file) found) c.in-Some-2.is (c.in_ok-lines.ensures.value file is)) (sym c.text_of.ensures ∙ c.in-Some-text_of.is)
+    let format = if_some _ c.in-Some-2.lines _ c.in-Some-2.is c.in_ok-lines.ensures.format ∙ c.format_by.ensures in
+    walked_stands file c.args.zero.now c.in-Some.pair c.in-Some-2.lines c.in-Some-text_of.text (c.requires.zero file is) c.if-page_size-ne4096.false c.in-Some.is format (subst (λ found. Walked (pages_in file) found) c.in-Some-2.is (c.in_ok-lines.ensures.value file is)) (sym c.text_of.ensures ∙ c.in-Some-text_of.is)
 
 pub returns-then-page_size-ne4096-clause-reading : goal.returns-then-page_size-ne4096-clause-reading
 returns-then-page_size-ne4096-clause-reading g c = reads_none g.F.World.tells (λ is. cc)

@@ -14,8 +14,8 @@ returns-then-not-branch-clause-value g c = λ file is.
     let d : Entry = record { block = 0; pages = 0; lines = 0 } in
     let f : Entry → Option (List (List ℕ)) = λ e. plain (lines_at swap_format (pages_in file) e) in
     let none = extends_none _ _ _ _ c.if-not-branch.true (c.in_ok-load_lines.ensures.value file (file_stays c.loop-entry.invariant.reading is)) in
-    ap (λ o. chained (Some c.args.first) o) (sym (plain_chain (λ (e : Entry). lines_at swap_format (pages_in file) e) c.args.others.now))
-    ∙ chain_stops f c.args.first c.args.others.now c.loop-entry.entry-index d c.loop-entry.lines (omega arith) none (c.loop-entry.invariant.so file is)
+    ap (λ o. chained (Some c.args.first.text) o) (sym (plain_chain (λ (e : Entry). lines_at swap_format (pages_in file) e) c.args.others.now))
+    ∙ chain_stops f c.args.first.text c.args.others.now c.loop-entry.entry-index d c.loop-entry.lines.text (omega arith) none (c.loop-entry.invariant.so file is)
 
 pub loop-entry-preserved : goal.loop-entry-preserved
 loop-entry-preserved g c = record {
@@ -23,19 +23,21 @@ loop-entry-preserved g c = record {
       let d : Entry = record { block = 0; pages = 0; lines = 0 } in
       let f : Entry → Option (List (List ℕ)) = λ e. plain (lines_at swap_format (pages_in file) e) in
       let some = extends_some _ _ _ _ c.if-not-branch.false (c.in_ok-load_lines.ensures.value file (file_stays c.loop-entry.invariant.reading is)) in
-      chain_add f c.args.first c.args.others.now c.loop-entry.entry-index d c.loop-entry.lines c.load_lines.new.lines (omega arith) some (c.loop-entry.invariant.so file is);
+      chain_add f c.args.first.text c.args.others.now c.loop-entry.entry-index d c.loop-entry.lines.text c.load_lines.new.lines.text (omega arith) some (c.loop-entry.invariant.so file is);
+  format = c.load_lines.ensures.format ∙ c.loop-entry.invariant.format;
   reading = reads_ok (omega arith) (reads_then c.loop-entry.invariant.reading c.in_ok-load_lines.ensures.reading);
 }
 
 pub returns-clause-value : goal.returns-clause-value
 returns-clause-value g c = λ file is.
     let f : Entry → Option (List (List ℕ)) = λ e. plain (lines_at swap_format (pages_in file) e) in
-    ap (λ o. chained (Some c.args.first) o) (sym (plain_chain (λ (e : Entry). lines_at swap_format (pages_in file) e) c.args.others.now))
-    ∙ chain_ends f c.args.first c.args.others.now c.loop-entry.entry-index c.loop-entry.lines (omega arith) (c.loop-entry.invariant.so file is)
+    ap (λ o. chained (Some c.args.first.text) o) (sym (plain_chain (λ (e : Entry). lines_at swap_format (pages_in file) e) c.args.others.now))
+    ∙ chain_ends f c.args.first.text c.args.others.now c.loop-entry.entry-index c.loop-entry.lines.text (omega arith) (c.loop-entry.invariant.so file is)
 
 pub loop-entry-init : goal.loop-entry-init
 loop-entry-init g c = record {
   so = λ file is. refl;
+  format = refl;
   reading = reads_none g.F.World.tells (λ is. cc);
 }
 

@@ -1,4 +1,6 @@
-use Rattle.std.proofs.Common.{◌≡◌, ◌/◌, [], ◌∷◌, List, ℕ, Some, None, length, arith, ap, sym, ◌∙◌}
+use Rattle.std.proofs.Common.{◌≡◌, ◌/◌, [], ◌∷◌, List, ℕ, Option, Some, None, length, arith, ap, sym, ◌∙◌}
+use Rattle.std.specs.Option.{option_map}
+use Rattle.vs_text.specs.Documents.{Document}
 use Rattle.vs_pages.specs.Maps.{Map, pages_at}
 use Rattle.vs_data.specs.Blocks.{lines_in}
 use Rattle.vs_swap.specs.Files.{pages_in, swap_format}
@@ -55,12 +57,12 @@ returns-in_default-4-clause-found g c = λ file is.
     let points : points_at swap_format m c.args.first.now ≡ None = points_of m c.args.first.now c.deref.result.now one ∙ gives_none _ _ c.in_default-2.is c.in_ok-points.ensures.value in
     let bytes : pages_at m c.args.first.now.block c.args.first.now.pages ≡ Some c.deref-2.result.now = gives_list _ _ c.in-Some.bytes c.in-Some.is (c.in_ok-bytes.ensures.value file is) ∙ ap (λ (bs : List ℕ). Some bs) (sym c.deref-2.ensures.value) in
     let same = lines_of m c.args.first.now c.deref-2.result.now bytes in
-    let none : c.new-lines.result ≡ [] = c.new-lines.ensures in
-    let read : chained (Some []) (plain (fitting_lines c.args.first.now (lines_in c.deref-2.result.now))) ≡ Some c.read_lines.new.lines =
+    let none : c.new-lines.result.text ≡ [] = ap (λ (d : Document). d.text) c.new-lines.ensures in
+    let read : chained (Some []) (plain (fitting_lines c.args.first.now (lines_in c.deref-2.result.now))) ≡ Some c.read_lines.new.lines.text =
     ap (λ xs. chained (Some xs) (plain (fitting_lines c.args.first.now (lines_in c.deref-2.result.now)))) (sym none) ∙ extends_some _ _ _ _ c.if-not-branch.false c.in_ok-read_lines.ensures.value in
-    let lines : plain (lines_at swap_format m c.args.first.now) ≡ Some c.read_lines.new.lines = ap (λ o. plain o) same ∙ (sym (chained_first (plain (fitting_lines c.args.first.now (lines_in c.deref-2.result.now)))) ∙ read) in
+    let lines : plain (lines_at swap_format m c.args.first.now) ≡ Some c.read_lines.new.lines.text = ap (λ o. plain o) same ∙ (sym (chained_first (plain (fitting_lines c.args.first.now (lines_in c.deref-2.result.now)))) ∙ read) in
     let here = file_stays c.load_pages.ensures.reading is in
-    level_stops (pages_in file) (λ k. used_in c.args.marks.now k) c.args.first.now c.args.others.now c.read_lines.new.lines points lines (c.in_ok-all.ensures.value file here ∙ c.in_default-4.is)
+    level_stops (pages_in file) (λ k. used_in c.args.marks.now k) c.args.first.now c.args.others.now c.read_lines.new.lines.text points lines (c.in_ok-all.ensures.value file here ∙ ap (λ (o : Option Document). option_map (λ d. d.text) o) c.in_default-4.is)
 
 pub returns-clause-found : goal.returns-clause-found
 returns-clause-found g c = λ file is.
@@ -69,12 +71,12 @@ returns-clause-found g c = λ file is.
     let points : points_at swap_format m c.args.first.now ≡ None = points_of m c.args.first.now c.deref.result.now one ∙ gives_none _ _ c.in_default-2.is c.in_ok-points.ensures.value in
     let bytes : pages_at m c.args.first.now.block c.args.first.now.pages ≡ Some c.deref-2.result.now = gives_list _ _ c.in-Some.bytes c.in-Some.is (c.in_ok-bytes.ensures.value file is) ∙ ap (λ (bs : List ℕ). Some bs) (sym c.deref-2.ensures.value) in
     let same = lines_of m c.args.first.now c.deref-2.result.now bytes in
-    let none : c.new-lines.result ≡ [] = c.new-lines.ensures in
-    let read : chained (Some []) (plain (fitting_lines c.args.first.now (lines_in c.deref-2.result.now))) ≡ Some c.read_lines.new.lines =
+    let none : c.new-lines.result.text ≡ [] = ap (λ (d : Document). d.text) c.new-lines.ensures in
+    let read : chained (Some []) (plain (fitting_lines c.args.first.now (lines_in c.deref-2.result.now))) ≡ Some c.read_lines.new.lines.text =
     ap (λ xs. chained (Some xs) (plain (fitting_lines c.args.first.now (lines_in c.deref-2.result.now)))) (sym none) ∙ extends_some _ _ _ _ c.if-not-branch.false c.in_ok-read_lines.ensures.value in
-    let lines : plain (lines_at swap_format m c.args.first.now) ≡ Some c.read_lines.new.lines = ap (λ o. plain o) same ∙ (sym (chained_first (plain (fitting_lines c.args.first.now (lines_in c.deref-2.result.now)))) ∙ read) in
+    let lines : plain (lines_at swap_format m c.args.first.now) ≡ Some c.read_lines.new.lines.text = ap (λ o. plain o) same ∙ (sym (chained_first (plain (fitting_lines c.args.first.now (lines_in c.deref-2.result.now)))) ∙ read) in
     let here = file_stays c.load_pages.ensures.reading is in
-    level_gathered (pages_in file) (λ k. used_in c.args.marks.now k) c.args.first.now c.args.others.now c.read_lines.new.lines c.in-Some-4.all lines (c.in_ok-all.ensures.value file here ∙ c.in-Some-4.is)
+    level_gathered (pages_in file) (λ k. used_in c.args.marks.now k) c.args.first.now c.args.others.now c.read_lines.new.lines.text c.in-Some-4.all lines (c.in_ok-all.ensures.value file here ∙ ap (λ (o : Option Document). option_map (λ d. d.text) o) c.in-Some-4.is)
 
 pub open_level-requires : goal.open_level-requires
 open_level-requires g c = record {

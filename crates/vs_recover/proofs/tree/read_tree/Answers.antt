@@ -1,5 +1,6 @@
 use Rattle.std.proofs.Common.{◌≡◌, ◌+◌, ◌/◌, ◌∷◌, Some, None, length, arith, ap, sym, subst, refl, ◌∙◌}
 use Rattle.std.proofs.lemmas.Option.{MatchOption-at_some}
+use Rattle.vs_text.specs.Documents.{Document}
 use Rattle.vs_tree_shape.specs.Trees.{read_by}
 use Rattle.vs_swap.specs.Entries.{swap_points}
 use Rattle.vs_swap.specs.Files.{pages_in, swap_format}
@@ -101,7 +102,7 @@ returns-in-None-clause-value g c = λ file is.
 pub returns-clause-value : goal.returns-clause-value
 returns-clause-value g c = λ file is.
     let none : length c.levels.level.items ≡ 0 = omega (arith, ap length (sym c.deref-in-levels.ensures.value), none_first _ _ c.in_default-split_first.is c.split_first.ensures.cases) in
-    stage_empty (pages_in file) (λ k. used_in c.levels.marks k) c.levels.level.items c.new-2.result (λ k. used_most c.levels.marks k) (no_items _ none) c.new-2.ensures (c.levels.invariant.stage file is)
+    stage_empty (pages_in file) (λ k. used_in c.levels.marks k) c.levels.level.items c.new-2.result (λ k. used_most c.levels.marks k) (no_items _ none) (ap (λ (d : Document). d.text) c.new-2.ensures) (c.levels.invariant.stage file is)
 
 pub returns-then-count-lt2-clause-reading : goal.returns-then-count-lt2-clause-reading
 returns-then-count-lt2-clause-reading g c = reads_none g.F.World.tells (λ is. cc)

@@ -1,5 +1,6 @@
-use Rattle.std.proofs.Common.{◌/◌, ◌∙◌, List, ℕ, Option, reverse, arith, refl, sym, subst}
+use Rattle.std.proofs.Common.{◌/◌, ◌∙◌, List, ℕ, Option, reverse, arith, sym, subst}
 use Rattle.vs_host.specs.World.{content_of}
+use Rattle.vs_text.specs.declared.format.Format.{Format}
 use Rattle.vs_ptr.specs.declared.PtrEntry.{PtrEntry}
 use Rattle.vs_damaged.specs.Salvage.{Damaged}
 use Rattle.vs_recover.specs.declared.walk.Walk.{Walk}
@@ -20,16 +21,16 @@ returns-clause-found g c = λ told.
     let name : List ℕ = c.args.name.now in
     let original : Option (List ℕ) = content_of (g.F.World.scene c.args.host.now) name in
     let pages = if_some _ w _ c.in-Some-2.is c.in_ok-walk.ensures.pages in
-    salvaged _ original _ c.in-Some.opening c.in-Ok.zero c.in_ok-shown.shown c.in-Some.is c.in-Ok.is (c.in_ok-opening.ensures.opening told) (λ file there.
+    salvaged _ original _ c.in-Some.opening c.in-Ok.zero c.format_by-format.result c.in_ok-shown.shown (sym c.format_by-format.ensures) c.in-Some.is c.in-Ok.is (c.in_ok-opening.ensures.opening told) (λ file there.
     let here : IsFile g.F.World.tells (g.F.World.scene c.args.host.now) c.args.swap.now file = found_file g.F.World.tells (g.F.World.scene c.args.host.now) c.args.swap.now file told there in
     let then = file_stays c.in_ok-opening.ensures.reading here in
     let root = if_some _ w _ c.in-Some-2.is c.in_ok-walk.ensures.root file then in
-    let d : Damaged = damaged file size original in
+    let format : Format = c.format_by-format.result in
+    let d : Damaged = damaged file size format original in
     let found : IsFoundOf d (reverse w.left.items) c.in_ok-shown.shown = c.in_ok-shown.ensures.shown d (record {
       told = told;
       there = (file_stays c.in_ok-walk.ensures.reading then).there;
       original = still c.in_ok-walk.ensures.reading name ∙ still c.in_ok-opening.ensures.reading name;
-      ends = refl;
       size_is = sym pages.0;
     }) (first_taken w (c.in-Some.opening.len / size) pages.1 (omega (arith, pages.2)) (if_some _ w _ c.in-Some-2.is c.in_ok-walk.ensures.taken)) (if_some _ w _ c.in-Some-2.is c.in_ok-walk.ensures.shown) in
     (root.0, subst (λ (es : List PtrEntry). IsFoundOf d es c.in_ok-shown.shown) root.1 found))

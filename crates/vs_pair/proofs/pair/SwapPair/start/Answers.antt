@@ -14,8 +14,9 @@ use Rattle.vs_pair.proofs.pair.SwapPair.start.Goals as goal
 pub returns-in_err-make-clause-acts : goal.returns-in_err-make-clause-acts
 returns-in_err-make-clause-acts g c = making_first g.F.World.tells c.args.self.now.files.names c.args.self.now.files.named (sync_with c.args.self.now 1 c.args.head.now) (sync_with c.args.self.now 2 c.args.head.now) refl refl (g.F.World.scene c.args.host.now) c.requires.fresh _ c.make.ensures.acts
 
-pub make-requires-2 : goal.make-requires-2
-make-requires-2 g c = record { absent = λ told. second_absent g.F.World.tells c.args.self.now.files.names c.args.self.now.files.named (sync_with c.args.self.now 1 c.args.head.now) (sync_with c.args.self.now 2 c.args.head.now) refl refl (g.F.World.scene c.args.host.now) c.requires.fresh (g.F.World.scene c.make.new.host) told (c.make.ensures.acts.runs told).now }
+pub make-requires-2-clause-absent : goal.make-requires-2-clause-absent
+make-requires-2-clause-absent g c told =
+    second_absent g.F.World.tells c.args.self.now.files.names c.args.self.now.files.named (sync_with c.args.self.now 1 c.args.head.now) (sync_with c.args.self.now 2 c.args.head.now) refl refl (g.F.World.scene c.args.host.now) c.requires.fresh (g.F.World.scene c.make.new.host) told (c.make.ensures.acts.runs told).now
 
 pub returns-in_err-make-2-clause-acts : goal.returns-in_err-make-2-clause-acts
 returns-in_err-make-2-clause-acts g c = making_second g.F.World.tells c.args.self.now.files.names c.args.self.now.files.named (sync_with c.args.self.now 1 c.args.head.now) (sync_with c.args.self.now 2 c.args.head.now) refl refl (g.F.World.scene c.args.host.now) c.requires.fresh _ _ c.in_ok-make.ensures.none c.make.ensures.acts c.make-2.ensures.acts

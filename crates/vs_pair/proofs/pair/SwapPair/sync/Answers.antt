@@ -55,11 +55,11 @@ returns-in_err-sync_file-clause-stays g c =
     let same : body ≡ body_of files.names.file (sync_of c.args.self.now c.args.head.now) =
     body_is files.names.file (sync_of c.args.self.now c.args.head.now) c.as_str.result.now c.page_zero-first.result c.as_str.ensures c.page_zero-first.ensures.page in
     on_err_from c.from_residual.result _
-    (λ told newest begun past fit text is.
+    (λ told newest begun past fit document is.
     none_rises _ newest (sync_of c.args.self.now c.args.head.now ∷ begun) past _
     (failed files newest begun past _ fit (sync_of c.args.self.now c.args.head.now) refl c.requires.room c.sync_file.new.gate _
     (moved c.swap_name-name.result.now (name_of files.names (other_side files.newer)) name body _ same (FailedSync files.gate c.sync_file.new.gate) _ _ (c.in_err-sync_file.ensures.failed told)))
-    (g.F.World.scene c.args.host.now).folder (above_newest files newest begun past _ fit text is))
+    (g.F.World.scene c.args.host.now).folder (above_newest files newest begun past _ fit document is))
 
 pub returns-clause-acts : goal.returns-clause-acts
 returns-clause-acts g c =
@@ -104,7 +104,7 @@ returns-clause-grown g c told =
     (c.swap_name-name.ensures ∙ ap (λ (s : Side). name_of c.args.self.now.files.names s) c.other-older.ensures) (c.in_ok-sync_file.ensures.grown told)
 
 pub returns-clause-rises : goal.returns-clause-rises
-returns-clause-rises g c told text is =
+returns-clause-rises g c told document is =
     let files : Known = known_of c.args.self.now in
     let fits = c.requires.fits told in
     let name = c.swap_name-name.ensures ∙ ap (λ (s : Side). name_of files.names s) c.other-older.ensures in
@@ -113,7 +113,7 @@ returns-clause-rises g c told text is =
     body_is files.names.file (sync_of c.args.self.now c.args.head.now) c.as_str.result.now c.page_zero-first.result c.as_str.ensures c.page_zero-first.ensures.page in
     rises files fits.0 fits.1 fits.2 _ fits.3 (sync_of c.args.self.now c.args.head.now) refl c.requires.room (SyncStep files.gate (body_of files.names.file (sync_of c.args.self.now c.args.head.now))) _
     (moved c.swap_name-name.result.now (name_of files.names (other_side files.newer)) name body _ same (SyncStep files.gate) _ _ (c.sync_file.ensures.acts.runs told).now)
-    (moved_has c.swap_name-name.result.now (name_of files.names (other_side files.newer)) name body _ same (λ b file. Leaves file (Holds b)) _ (c.in_ok-sync_file.ensures.stands told)) text is
+    (moved_has c.swap_name-name.result.now (name_of files.names (other_side files.newer)) name body _ same (λ b file. Leaves file (Holds b)) _ (c.in_ok-sync_file.ensures.stands told)) document is
 
 pub returns-in_err-sync_file-clause-calls : goal.returns-in_err-sync_file-clause-calls
 returns-in_err-sync_file-clause-calls g c = c.sync_file.ensures.calls

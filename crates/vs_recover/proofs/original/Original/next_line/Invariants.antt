@@ -12,7 +12,7 @@ invariant-pieces g l = record {
   place : IsPlace l.self;
   len : l.self.len ≡ l.fn.self.len;
   line : l.self.line ≡ l.fn.self.line;
-  kept : length l.into.items ≤ 1048577;
+  kept : length l.into.items ≤ 1048578;
   begun : (file : List ℕ) → IsFile g.F.World.tells (g.F.World.scene l.fn.host) l.name file → IsBegun l.self file l.into.items;
   left : pieces_left l.self ≤ pieces_left l.fn.self;
   reading : ReadsAtMost g.F.World.tells {E = Fault} (Ok l.into) Failed (g.F.World.scene l.fn.host) (g.F.World.scene l.host) (pieces_left l.fn.self - pieces_left l.self);

@@ -9,7 +9,7 @@ returns-in_ok-keep-in-Some-clause-taken c =
     let found : IsFirstByte (is_byte 10) (drop c.args.self.now.used c.args.self.now.piece.items) c.memchr.result = subst (λ (bs : List ℕ). IsFirstByte (is_byte 10) bs c.memchr.result) piece c.memchr.ensures in
     takes_end c.args.self.now.piece.items c.args.into.now.items c.keep.new.into.items c.args.self.now.used _ c.in-Some.end refl
     (subst (λ (o : Option ℕ). IsFirstByte (is_byte 10) (drop c.args.self.now.used c.args.self.now.piece.items) o) c.in-Some.is found)
-    (c.in_ok-keep-in-Some.ensures ∙ ap (λ bs. take 1048577 (c.args.into.now.items ++ take c.in-Some.end bs)) piece)
+    (c.in_ok-keep-in-Some.ensures ∙ ap (λ bs. take 1048578 (c.args.into.now.items ++ take c.in-Some.end bs)) piece)
 
 pub returns-in_ok-keep-in-None-clause-taken : goal.returns-in_ok-keep-in-None-clause-taken
 returns-in_ok-keep-in-None-clause-taken c =
@@ -17,4 +17,4 @@ returns-in_ok-keep-in-None-clause-taken c =
     let found : IsFirstByte (is_byte 10) (drop c.args.self.now.used c.args.self.now.piece.items) c.memchr.result = subst (λ (bs : List ℕ). IsFirstByte (is_byte 10) bs c.memchr.result) piece c.memchr.ensures in
     takes_all c.args.self.now.piece.items c.args.into.now.items c.keep-in-None.new.into.items c.args.self.now.used c.len-self.result (omega (arith, c.len-self.ensures))
     (subst (λ (o : Option ℕ). IsFirstByte (is_byte 10) (drop c.args.self.now.used c.args.self.now.piece.items) o) c.in-None.is found)
-    (c.in_ok-keep-in-None.ensures ∙ ap (λ bs. take 1048577 (c.args.into.now.items ++ bs)) piece)
+    (c.in_ok-keep-in-None.ensures ∙ ap (λ bs. take 1048578 (c.args.into.now.items ++ bs)) piece)

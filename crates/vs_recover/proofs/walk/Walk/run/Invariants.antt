@@ -18,7 +18,7 @@ invariant-entries g l = record {
   pages : length l.self.marks ≡ length l.fn.self.marks;
   pieces : pieces_in l.self.original ≡ pieces_in l.fn.self.original;
   opened : IsTrue g.F.World.tells.folder → IsOpened (content_of (g.F.World.scene l.fn.host) l.name) l.self.original;
-  way : (d : Damaged) → HasDamaged g.F.World.tells (g.F.World.scene l.fn.host) l.swap l.name l.fn.self.size d → HasTaken l.fn.self (first_pages ∷ []) → Shows l.fn.self.shown [] → IsOnWay d (reverse l.fn.self.left.items) l.self;
+  way : (d : Damaged) → HasDamaged g.F.World.tells (g.F.World.scene l.fn.host) l.swap l.name l.fn.self.size d → HasTaken l.fn.self (first_pages ∷ []) → Shows d.format l.fn.self.shown [] → IsOnWay d (reverse l.fn.self.left.items) l.self;
   few : calls_left l.self (pieces_in l.fn.self.original) ≤ calls_left l.fn.self (pieces_in l.fn.self.original);
   reading : ReadsAtMost g.F.World.tells {E = Fault} (Ok l.self) Failed (g.F.World.scene l.fn.host) (g.F.World.scene l.host) (calls_left l.fn.self (pieces_in l.fn.self.original) - calls_left l.self (pieces_in l.fn.self.original));
 }

@@ -41,7 +41,7 @@ pub returns-in-Original-clause-visits : goal.returns-in-Original-clause-visits
 returns-in-Original-clause-visits g c = on_ok c.show_original.result (λ shows d has taken before.
     let old : Walk = c.args.self.now in
     let new : Walk = record c.args.self.now { shown = c.show_original.new.shown; original = c.show_original.new.original } in
-    visits_original d old new c.args.entry.now taken c.in-Original.before c.in-Original.count (content_of (g.F.World.scene c.args.host.now) c.args.name.now) (sym c.target_of.ensures ∙ c.in-Original.is) has.original has.ends refl
+    visits_original d old new c.args.entry.now taken c.in-Original.before c.in-Original.count (content_of (g.F.World.scene c.args.host.now) c.args.name.now) (sym c.target_of.ensures ∙ c.in-Original.is) has.original refl
     (has_same old new taken refl before) (shows has.told)) c.show_original.ensures.shows
 
 pub returns-in_ok-push_marker-in-Block-clause-visits : goal.returns-in_ok-push_marker-in-Block-clause-visits
