@@ -10,6 +10,7 @@ use Rattle.vs_disk.proofs.Steps.{at_name, same_at, older_names}
 use Rattle.vs_disk.proofs.Runs.{one_call, runs_as}
 use Rattle.vs_disk.proofs.Contents.{leads_nowhere}
 use Rattle.vs_backup.specs.Works.{ChangesOne, IsAlone, Spares, SyncsAll, Unchanged, one_name}
+use Rattle.vs_text.specs.declared.format.Format.{Format}
 use Rattle.vs_backup.specs.Writing.{IsFilled, IsFilledFirm, IsGuarded, MakesAnew, MakesAnewFrom, MayBeAbsent, SettlesSynced}
 use Rattle.vs_backup.specs.declared.errors.Stop.{Stop}
 use Rattle.vs_backup.proofs.Calls.{runs_file, spares_on}
@@ -79,8 +80,8 @@ absent_not_synced told name s1 s2 absent none = record { leaves = λ is. subst (
 pub absent_err : (told : Bool) (name : Name) (s1 : Scene) (result : Result ℕ Stop) → MayBeAbsent told name s1 → OnErr result (MayBeAbsent told name s1)
 absent_err told name s1 result absent = err_is (MayBeAbsent told name s1) result absent
 
-pub filled_firm : (told : Bool) (name : Name) (has : List (List ℕ) → Type 0) (size : ℕ) (s1 s2 : Scene) → IsFilled told name has size s1 → SettlesSynced told s1 s2 → IsFilledFirm told name has size s2
-filled_firm told name has size s1 s2 filled settles = record {
+pub filled_firm : (told : Bool) (name : Name) (format : Format) (has : List (List ℕ) → Type 0) (size : ℕ) (s1 s2 : Scene) → IsFilled told name format has size s1 → SettlesSynced told s1 s2 → IsFilledFirm told name format has size s2
+filled_firm told name format has size s1 s2 filled settles = record {
   each = λ is text here. let done = filled.each is text here in (done.0, settles.settled is name _ done.1);
 }
 

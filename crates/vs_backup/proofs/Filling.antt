@@ -2,14 +2,13 @@
 use Rattle.std.proofs.Common.{◌≡◌, ℕ, ◌+◌, ◌*◌, ◌≤◌, List, [], ◌∷◌, ◌++◌, length, take, drop, Option, Some, None, OnOk, OnErr, Result, refl, sym, ◌∙◌, ap, subst, arith}
 use Rattle.std.specs.Prelude.{IsSomeAnd}
 use Rattle.std.specs.List.{AllByRecursion}
-use Rattle.std.proofs.lemmas.Grind.{flat_map-append}
 use Rattle.std.proofs.lemmas.List.Elements.{recursion_from_All}
 use Rattle.std.proofs.Math.Seq.{take-add}
-use Rattle.vs_text.specs.Text.{bytes_of, file_of}
+use Rattle.vs_text.specs.Text.{bytes_of}
 use Rattle.vs_text.specs.Limits.{IsShort}
 use Rattle.vs_text.specs.declared.TheConstants.{MAX_LINE_BYTES}
 use Rattle.vs_text.proofs.FileForm.{length-file_of}
-use Rattle.vs_edit.specs.Splices.{cut_out, HoldsLines}
+use Rattle.vs_edit.specs.Splices.{HoldsLines}
 use Rattle.vs_host.specs.File.{File, Cuts, Writes, WritesSome, Syncs, put}
 use Rattle.vs_host.specs.Disk.{Disk, Name, ChangesFile, content_in}
 use Rattle.vs_host.specs.Trace.{Synced}
@@ -101,11 +100,6 @@ pub written_end : (name : Name) (at : ℕ) (piece bytes : List ℕ) (old new : D
     → content_in new name ≡ Some (bytes ++ piece)
 written_end name at piece bytes old new changes is end =
     written_content name at piece bytes old new changes is ∙ ap (λ (b : List ℕ). Some b) (ap (λ (n : ℕ). put bytes n piece) end ∙ put_end bytes piece)
-
--- the file form of some lines more
-pub file_more : (text : List (List ℕ)) (at count : ℕ) → file_of (take (at + count) text) ≡ file_of (take at text) ++ file_of (cut_out text at count)
-file_more text at count =
-    ap file_of (take-add at count text) ∙ flat_map-append (λ (l : List ℕ). l ++ 10 ∷ []) (take at text) (cut_out text at count)
 
 -- lines within the limit of a line have few bytes
 few_bytes : (lines : List (List ℕ)) → AllByRecursion IsShort lines → bytes_of lines ≤ length lines * (MAX_LINE_BYTES + 1)

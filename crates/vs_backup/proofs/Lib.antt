@@ -4,6 +4,7 @@ pub mod Calls
 pub mod Choosing
 pub mod Copying
 pub mod Doing
+pub mod Ends
 pub mod Filling
 pub mod Following
 pub mod Frames
@@ -20,5 +21,6 @@ pub mod Returning
 pub mod Settling
 pub mod Starting
 pub mod Stops
+pub mod Counted
 pub mod Unbacked
 pub mod Whole

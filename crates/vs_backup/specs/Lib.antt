@@ -1,4 +1,5 @@
 pub mod Backups
 pub mod Desks
+pub mod Ends
 pub mod Works
 pub mod Writing

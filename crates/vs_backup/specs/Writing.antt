@@ -1,8 +1,10 @@
 -- What a write promises of the file and its backup.
-use Rattle.std.specs.Prelude.{◌≡◌, ◌⊎◌, ◌≤◌, ℕ, List, [], ◌∷◌, ◌++◌, length, Option, Some, None, IsSomeAnd, IfOk, OnOk, OnErr, IsErr, IsErrOf, IsTrue, Result, Ok, Err}
+use Rattle.std.specs.Prelude.{◌≡◌, ◌⊎◌, ◌≤◌, ℕ, List, [], ◌∷◌, ◌++◌, length, Option, Some, None, IsSomeAnd, IfOk, OnOk, OnErr, IsErr}
+use Rattle.std.specs.Prelude.{IsErrOf, IsTrue, Result, Ok, Err}
 use Rattle.std.specs.Prelude.{Bool, true, false}
 use Rattle.vs_faults.specs.Faults.{HasRisen}
-use Rattle.vs_text.specs.Text.{file_of}
+use Rattle.vs_text.specs.Documents.{file_in}
+use Rattle.vs_text.specs.declared.format.Format.{Format}
 use Rattle.vs_host.specs.Disk.{Disk, Name, IsImage, names_of, content_in}
 use Rattle.vs_host.specs.Names.{temporary}
 use Rattle.vs_host.specs.Trace.{Looked, Snapshot}
@@ -10,8 +12,8 @@ use Rattle.vs_host.specs.World.{HasNewest, Scene, content_of}
 use Rattle.vs_host.specs.declared.traits.Failed.{Failed}
 use Rattle.vs_disk.specs.Images.{HoldsBytes, IsSynced, MayLeave, Takes}
 use Rattle.vs_disk.specs.Runs.{FailsLast, Looks, Quiet, Runs}
-use Rattle.vs_backup.specs.Works.{HasSynced, IsGone, IsHeld, LeadsAway, LeadsTo, Narrowed, Renews, RenewsBut, Spares, SparesOthers, StandsUnder, Steps, one_name}
-use Rattle.vs_backup.specs.Works.{two_names, three_names}
+use Rattle.vs_backup.specs.Works.{HasSynced, IsGone, IsHeld, LeadsAway, LeadsTo, Narrowed, Renews, RenewsBut, Spares, SparesOthers}
+use Rattle.vs_backup.specs.Works.{StandsUnder, Steps, one_name, two_names, three_names}
 use Rattle.vs_backup.specs.Backups.{copies}
 use Rattle.vs_backup.specs.declared.options.WriteOptions.{WriteOptions}
 use Rattle.vs_backup.specs.declared.errors.Place.{Place}
@@ -219,13 +221,13 @@ pub record MakesAnewFrom (told : Bool) (name backup : Name) (before after : Scen
 pub record MayBeAbsent (told : Bool) (name : Name) (after : Scene) : Type 0 where
   pub leaves : IsTrue told → MayLeave after.folder name None
 
--- The file of this name has this text, in so many bytes, since its last sync.
-pub record IsFilled (told : Bool) (name : Name) (has : List (List ℕ) → Type 0) (size : ℕ) (after : Scene) : Type 0 where
-  pub each : IsTrue told → (text : List (List ℕ)) → has text → (size ≡ length (file_of text)) × IsSynced name (file_of text) after.folder
+-- The file of this name has this text in this format, in so many bytes, since its last sync.
+pub record IsFilled (told : Bool) (name : Name) (format : Format) (has : List (List ℕ) → Type 0) (size : ℕ) (after : Scene) : Type 0 where
+  pub each : IsTrue told → (text : List (List ℕ)) → has text → (size ≡ length (file_in format text)) × IsSynced name (file_in format text) after.folder
 
 -- and no name change is pending
-pub record IsFilledFirm (told : Bool) (name : Name) (has : List (List ℕ) → Type 0) (size : ℕ) (after : Scene) : Type 0 where
-  pub each : IsTrue told → (text : List (List ℕ)) → has text → (size ≡ length (file_of text)) × IsSettled name (file_of text) after.folder
+pub record IsFilledFirm (told : Bool) (name : Name) (format : Format) (has : List (List ℕ) → Type 0) (size : ℕ) (after : Scene) : Type 0 where
+  pub each : IsTrue told → (text : List (List ℕ)) → has text → (size ≡ length (file_in format text)) × IsSettled name (file_in format text) after.folder
 
 -- Up to the two syncs at the beginning, that of the file first, nothing changes, and a stop leaves at each moment only what it left at the
 -- one before. From them on, at each moment, in each image, the file or its backup is whole, an older backup is whole until the backup

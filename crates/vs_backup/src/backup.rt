@@ -1,6 +1,6 @@
 // Writing over a file that is there, with a backup.
 ghost use Rattle.std.specs.Prelude.{◌≡◌, ◌≢◌, true, false, ℕ, List, length, IfOk, IsErr, OnErr, OnOk, IsErrOf, IsTrue, Some, None, IsSome};
-ghost use Rattle.vs_text.specs.Text.{file_of};
+ghost use Rattle.vs_text.specs.Documents.{file_in};
 ghost use Rattle.vs_host.specs.World.{content_of};
 ghost use Rattle.vs_backup.specs.Desks.{AreApart, Continues, GoesOn};
 ghost use Rattle.vs_disk.specs.Images.{IsSynced};
@@ -14,6 +14,7 @@ use crate::files::{Readers, drop_name, empty_file, make_anew, settle, sync_direc
 use crate::fill::{PIECE, fill_copy, fill_text};
 use std::alloc::Global;
 use vs_host::Failed;
+use vs_text::Format;
 
 /// The bytes that are copied at a time when a file is put back.
 const BLOCK: usize = 4_096;
@@ -29,6 +30,8 @@ pub(crate) struct Backing<'a> {
     pub copies: bool,
     /// Whether the backup is kept.
     pub kept: bool,
+    /// How the lines of the file end.
+    pub format: Format,
 }
 
 /// Makes a copy of the file, and gives it the backup name when it is synced.
@@ -111,7 +114,7 @@ fn write_copying<D: Desk>(
     requires settled { IsTrue (D.tells).folder → (old : List ℕ) × IsSettled backing.name.now old (D.scene desk.old).folder }
     ensures over { IsTrue (D.tells).folder → (old : List ℕ) → IsSettled backing.entry.name.now old (D.scene desk.old).folder
         → (text : List (List ℕ)) → D.has_text desk.old text
-        → WritesOver true backing.entry.name.now backing.entry.temporary.now backing.entry.backup.now old (file_of text)
+        → WritesOver true backing.entry.name.now backing.entry.temporary.now backing.entry.backup.now old (file_in backing.entry.format text)
         (D.scene desk.old) (D.scene desk.new) result }
     ensures no_name { IsErrOf result WriteErr.NoBackupName → ⊥ }
     ensures quiet { OnOk result (IsTrue (D.tells).folder → Quiet (D.scene desk.old) (D.scene desk.new)) }
@@ -119,7 +122,7 @@ fn write_copying<D: Desk>(
     ensures kept { Continues D.scene D.valid D.stays (IsFailed result) desk.old desk.new }
 {
     match start_over(desk, backing.name, backing.backup, backing.temporary, piece) {
-        Ok(()) => match fill_text(alloc, desk, backing.name, None, piece) {
+        Ok(()) => match fill_text(alloc, desk, backing.name, None, piece, backing.format) {
             Ok(size) => Ok(size),
             Err(stop) => Err(stop.after(copy_back(desk, backing.backup, backing.name))),
         },
@@ -136,6 +139,7 @@ fn fill_anew<D: Desk>(
     name: &str,
     backup: &str,
     piece: &mut Vec<u8>,
+    format: Format,
 ) -> Result<u64, Stop>
     requires valid { D.valid desk.old }
     requires apart { D.reads desk.old name.now → ⊥ }
@@ -143,11 +147,11 @@ fn fill_anew<D: Desk>(
     requires free { IsTrue (D.tells).folder → content_of (D.scene desk.old) name.now ≡ None }
     ensures anew { MakesAnewFrom (D.tells).folder name.now backup.now (D.scene desk.old) (D.scene desk.new) }
     ensures absent { MayBeAbsent (D.tells).folder name.now (D.scene desk.new) }
-    ensures ok { IfOk result (λ size. IsFilled (D.tells).folder name.now (D.has_text desk.old) size (D.scene desk.new)) }
+    ensures ok { IfOk result (λ size. IsFilled (D.tells).folder name.now format (D.has_text desk.old) size (D.scene desk.new)) }
     ensures kept { GoesOn D.tells D.scene D.valid D.stays (IsErrOf result Stop.Failed) desk.old desk.new }
 {
     desk.create_private(name)?;
-    fill_text(alloc, desk, name, Some(backup), piece)
+    fill_text(alloc, desk, name, Some(backup), piece, format)
 }
 
 /// Makes the file with the text, and syncs it and the names. Gives the number of bytes.
@@ -158,17 +162,18 @@ fn write_anew<D: Desk>(
     name: &str,
     backup: &str,
     piece: &mut Vec<u8>,
+    format: Format,
 ) -> Result<u64, Stop>
     requires valid { D.valid desk.old }
     requires apart { D.reads desk.old name.now → ⊥ }
     requires apart_backup { D.reads desk.old backup.now → ⊥ }
     requires free { IsTrue (D.tells).folder → content_of (D.scene desk.old) name.now ≡ None }
     ensures anew { MakesAnewFrom (D.tells).folder name.now backup.now (D.scene desk.old) (D.scene desk.new) }
-    ensures ok { IfOk result (λ size. IsFilledFirm (D.tells).folder name.now (D.has_text desk.old) size (D.scene desk.new)) }
+    ensures ok { IfOk result (λ size. IsFilledFirm (D.tells).folder name.now format (D.has_text desk.old) size (D.scene desk.new)) }
     ensures err { OnErr result (MayBeAbsent (D.tells).folder name.now (D.scene desk.new)) }
     ensures kept { GoesOn D.tells D.scene D.valid D.stays (IsErrOf result Stop.Failed) desk.old desk.new }
 {
-    let size = fill_anew(alloc, desk, name, backup, piece)?;
+    let size = fill_anew(alloc, desk, name, backup, piece, format)?;
     sync_directory(desk)?;
     Ok(size)
 }
@@ -185,7 +190,7 @@ fn write_moving<D: Desk>(
     requires settled { IsTrue (D.tells).folder → (old : List ℕ) × IsSettled backing.name.now old (D.scene desk.old).folder }
     ensures over { IsTrue (D.tells).folder → (old : List ℕ) → IsSettled backing.entry.name.now old (D.scene desk.old).folder
         → (text : List (List ℕ)) → D.has_text desk.old text
-        → WritesOver false backing.entry.name.now backing.entry.temporary.now backing.entry.backup.now old (file_of text)
+        → WritesOver false backing.entry.name.now backing.entry.temporary.now backing.entry.backup.now old (file_in backing.entry.format text)
         (D.scene desk.old) (D.scene desk.new) result }
     ensures no_name { IsErrOf result WriteErr.NoBackupName → ⊥ }
     ensures quiet { OnOk result (IsTrue (D.tells).folder → Quiet (D.scene desk.old) (D.scene desk.new)) }
@@ -193,7 +198,14 @@ fn write_moving<D: Desk>(
     ensures kept { Continues D.scene D.valid D.stays (IsFailed result) desk.old desk.new }
 {
     match desk.rename(backing.name, backing.backup) {
-        Ok(()) => match write_anew(alloc, desk, backing.name, backing.backup, piece) {
+        Ok(()) => match write_anew(
+            alloc,
+            desk,
+            backing.name,
+            backing.backup,
+            piece,
+            backing.format,
+        ) {
             Ok(size) => Ok(size),
             Err(stop) => Err(stop.after(take_name(desk, backing.backup, backing.name))),
         },
@@ -216,7 +228,7 @@ fn write_over<D: Desk>(
     requires settled { IsTrue (D.tells).folder → (old : List ℕ) × IsSettled backing.name.now old (D.scene desk.old).folder }
     ensures over { IsTrue (D.tells).folder → (old : List ℕ) → IsSettled backing.entry.name.now old (D.scene desk.old).folder
         → (text : List (List ℕ)) → D.has_text desk.old text
-        → WritesOver backing.entry.copies backing.entry.name.now backing.entry.temporary.now backing.entry.backup.now old (file_of text)
+        → WritesOver backing.entry.copies backing.entry.name.now backing.entry.temporary.now backing.entry.backup.now old (file_in backing.entry.format text)
         (D.scene desk.old) (D.scene desk.new) result }
     ensures no_name { IsErrOf result WriteErr.NoBackupName → ⊥ }
     ensures quiet { OnOk result (IsTrue (D.tells).folder → Quiet (D.scene desk.old) (D.scene desk.new)) }
@@ -244,11 +256,11 @@ fn write_backed<D: Desk>(
     requires free { backing.kept ≡ false → IsTrue (D.tells).folder → content_of (D.scene desk.old) backing.backup.now ≡ None }
     ensures backed { IsTrue (D.tells).folder → (old : List ℕ) → IsSettled backing.entry.name.now old (D.scene desk.old).folder
         → (text : List (List ℕ)) → D.has_text desk.old text
-        → WritesBacked backing.entry.copies backing.entry.kept backing.entry.name.now backing.entry.temporary.now backing.entry.backup.now old (file_of text)
-        (D.scene desk.old) (D.scene desk.new) result }
+        → WritesBacked backing.entry.copies backing.entry.kept backing.entry.name.now backing.entry.temporary.now backing.entry.backup.now old
+        (file_in backing.entry.format text) (D.scene desk.old) (D.scene desk.new) result }
     ensures no_name { IsErrOf result WriteErr.NoBackupName → ⊥ }
     ensures calls { IsTrue (D.tells).folder → (text : List (List ℕ)) → D.has_text desk.old text
-        → FailsNoEarlier backing.entry.name.now (file_of text) (D.scene desk.old) (D.scene desk.new) result }
+        → FailsNoEarlier backing.entry.name.now (file_in backing.entry.format text) (D.scene desk.old) (D.scene desk.new) result }
     ensures kept { Continues D.scene D.valid D.stays (IsFailed result) desk.old desk.new }
 {
     let size = write_over(alloc, desk, backing, piece)?;
@@ -274,11 +286,11 @@ pub(crate) fn write_with_backup<D: Desk>(
     requires free { backing.kept ≡ false → IsTrue (D.tells).folder → content_of (D.scene desk.old) backing.backup.now ≡ None }
     ensures backed { IsTrue (D.tells).folder → (old : List ℕ) → content_of (D.scene desk.old) backing.entry.name.now ≡ Some old
         → (text : List (List ℕ)) → D.has_text desk.old text
-        → WritesBacked backing.entry.copies backing.entry.kept backing.entry.name.now backing.entry.temporary.now backing.entry.backup.now old (file_of text)
-        (D.scene desk.old) (D.scene desk.new) result }
+        → WritesBacked backing.entry.copies backing.entry.kept backing.entry.name.now backing.entry.temporary.now backing.entry.backup.now old
+        (file_in backing.entry.format text) (D.scene desk.old) (D.scene desk.new) result }
     ensures no_name { IsErrOf result WriteErr.NoBackupName → ⊥ }
     ensures calls { IsTrue (D.tells).folder → (text : List (List ℕ)) → D.has_text desk.old text
-        → FailsNoEarlier backing.entry.name.now (file_of text) (D.scene desk.old) (D.scene desk.new) result }
+        → FailsNoEarlier backing.entry.name.now (file_in backing.entry.format text) (D.scene desk.old) (D.scene desk.new) result }
     ensures kept { Continues D.scene D.valid D.stays (IsFailed result) desk.old desk.new }
 {
     match settle(desk, backing.name) {

@@ -1,7 +1,7 @@
 // A folder and a text in one object.
 ghost use Rattle.std.specs.Prelude.{◌≡◌, ◌≢◌, ◌<◌, ◌≤◌, ◌+◌, ◌∷◌, [], ℕ, List, length, take, drop, IfSome, IfOk, OnOk, OnErr, IsErr, IsErrOf, IsTrue, is_some, IsSome, IsSomeAnd, None};
 ghost use Rattle.vs_faults.specs.Faults.{HasRisen};
-ghost use Rattle.vs_text.specs.Text.{file_of};
+ghost use Rattle.vs_text.specs.Text.{IsText, file_of};
 ghost use Rattle.vs_text.specs.declared.TheConstants.{MAX_LINES};
 ghost use Rattle.vs_host.specs.File.{Writes, WritesSome, Cuts, Syncs};
 ghost use Rattle.vs_host.specs.Disk.{Name, ChangesFile, ChangesNames, CreatesFile, SyncsNames, Renames, Removes};
@@ -198,6 +198,8 @@ pub trait Desk: World {
     ghost tells_one: { (desk : Self) → valid desk → IsTrue (Self.tells).folder → (text : List (List ℕ)) × has_text desk text };
     /// A desk has one text at most.
     ghost has_one: { (desk : Self) (a b : List (List ℕ)) → has_text desk a → has_text desk b → a ≡ b };
+    /// No line of the text has byte 10.
+    ghost is_text: { (desk : Self) (text : List (List ℕ)) → valid desk → has_text desk text → IsText text };
     /// The text has as many lines as the desk says.
     ghost has_lines: { (desk : Self) (text : List (List ℕ)) → has_text desk text → length text ≡ lines desk };
     /// The number of lines is within its limit, also where the text is not told.

@@ -1,18 +1,21 @@
 // Filling a file, with the text or with the bytes of another file, in pieces.
 ghost use Rattle.std.specs.Prelude.{◌≡◌, ◌≢◌, ◌≤◌, ◌<◌, ◌+◌, ◌*◌, ◌^◌, ◌++◌, [], ℕ, List, length, take, IfOk, IfSome, OnOk, OnErr, IsErr, IsErrOf, IsTrue, Some, IsSome, IsSomeAnd};
-ghost use Rattle.vs_text.specs.Text.{file_of};
+ghost use Rattle.vs_text.specs.Documents.{file_in};
 ghost use Rattle.vs_host.specs.World.{content_of};
 ghost use Rattle.vs_disk.specs.Images.{IsSynced};
 ghost use Rattle.vs_disk.specs.Runs.{Runs};
 ghost use Rattle.vs_backup.specs.Desks.{GoesOn};
+ghost use Rattle.vs_backup.specs.Ends.{dos_ends, ends_in};
 ghost use Rattle.vs_backup.specs.Works.{ChangesOne, Fills, IsAlone};
 
 use crate::Desk;
 use crate::errors::Stop;
 use crate::files::sync_like;
+use memchr::memchr;
 use std::alloc::Global;
 use vs_host::Failed;
 use vs_reads::run_lines;
+use vs_text::Format;
 
 /// The greatest number of bytes that are read or written in one call.
 pub(crate) const PIECE: usize = 65_536;
@@ -87,19 +90,80 @@ fn put_bytes<D: Desk>(
     Ok(now)
 }
 
-/// Writes the text into an empty file. Gives the number of bytes.
+/// Adds lines to the piece as [`put_bytes`] does, with a byte 13 before each byte 10.
+fn put_dos_lines<D: Desk>(
+    desk: &mut D,
+    name: &str,
+    size: u64,
+    piece: &mut Vec<u8>,
+    lines: &[u8],
+) -> Result<u64, Stop>
+    requires valid { D.valid desk.old }
+    requires apart { D.reads desk.old name.now → ⊥ }
+    requires few { length piece.old.items ≤ PIECE }
+    requires small { size + length piece.old.items + length (dos_ends lines.now) < 2 ^ 64 }
+    requires there { IsTrue (D.tells).folder → IsSomeAnd (content_of (D.scene desk.old) name.now) (λ before. size ≡ length before) }
+    ensures runs { IsTrue (D.tells).folder → Runs (Fills name.now) (D.scene desk.old) (D.scene desk.new) }
+    ensures ok { IfOk result (λ now. IsTrue (D.tells).folder → (before : List ℕ) → content_of (D.scene desk.old) name.now ≡ Some before
+        → (after : List ℕ) × (content_of (D.scene desk.new) name.now ≡ Some after) × (now ≡ length after)
+        × (after ++ piece.new.items ≡ before ++ piece.old.items ++ dos_ends lines.now)) }
+    ensures size { IfOk result (λ now. now + length piece.new.items ≡ size + length piece.old.items + length (dos_ends lines.now)) }
+    ensures few { OnOk result (length piece.new.items ≤ PIECE) }
+    ensures kept { GoesOn D.tells D.scene D.valid D.stays (IsErrOf result Stop.Failed) desk.old desk.new }
+{
+    let mut now = size;
+    let mut rest = lines;
+    'lines: while let Some(end) = memchr(b'\n', rest) {
+        let (line, after) = rest.split_at(end);
+        now = put_bytes(desk, name, now, piece, line)?;
+        now = put_bytes(desk, name, now, piece, b"\r\n")?;
+        rest = &after[1..];
+    }
+    put_bytes(desk, name, now, piece, rest)
+}
+
+/// Adds lines, each of which ends in byte 10, to the piece as [`put_bytes`] does, with the line ends of the format.
+fn put_lines<D: Desk>(
+    desk: &mut D,
+    name: &str,
+    size: u64,
+    piece: &mut Vec<u8>,
+    lines: &[u8],
+    format: Format,
+) -> Result<u64, Stop>
+    requires valid { D.valid desk.old }
+    requires apart { D.reads desk.old name.now → ⊥ }
+    requires few { length piece.old.items ≤ PIECE }
+    requires small { size + length piece.old.items + length (ends_in format lines.now) < 2 ^ 64 }
+    requires there { IsTrue (D.tells).folder → IsSomeAnd (content_of (D.scene desk.old) name.now) (λ before. size ≡ length before) }
+    ensures runs { IsTrue (D.tells).folder → Runs (Fills name.now) (D.scene desk.old) (D.scene desk.new) }
+    ensures ok { IfOk result (λ now. IsTrue (D.tells).folder → (before : List ℕ) → content_of (D.scene desk.old) name.now ≡ Some before
+        → (after : List ℕ) × (content_of (D.scene desk.new) name.now ≡ Some after) × (now ≡ length after)
+        × (after ++ piece.new.items ≡ before ++ piece.old.items ++ ends_in format lines.now)) }
+    ensures size { IfOk result (λ now. now + length piece.new.items ≡ size + length piece.old.items + length (ends_in format lines.now)) }
+    ensures few { OnOk result (length piece.new.items ≤ PIECE) }
+    ensures kept { GoesOn D.tells D.scene D.valid D.stays (IsErrOf result Stop.Failed) desk.old desk.new }
+{
+    match format {
+        Format::Unix => put_bytes(desk, name, size, piece, lines),
+        Format::Dos => put_dos_lines(desk, name, size, piece, lines),
+    }
+}
+
+/// Writes the text into an empty file, in a format. Gives the number of bytes.
 fn write_text<D: Desk>(
     alloc: Global,
     desk: &mut D,
     name: &str,
     piece: &mut Vec<u8>,
+    format: Format,
 ) -> Result<u64, Stop>
     requires valid { D.valid desk.old }
     requires apart { D.reads desk.old name.now → ⊥ }
     requires empty { IsTrue (D.tells).folder → content_of (D.scene desk.old) name.now ≡ Some [] }
     ensures runs { IsTrue (D.tells).folder → Runs (Fills name.now) (D.scene desk.old) (D.scene desk.new) }
     ensures ok { IfOk result (λ size. IsTrue (D.tells).folder → (text : List (List ℕ)) → D.has_text desk.old text
-        → (size ≡ length (file_of text)) × (content_of (D.scene desk.new) name.now ≡ Some (file_of text))) }
+        → (size ≡ length (file_in format text)) × (content_of (D.scene desk.new) name.now ≡ Some (file_in format text))) }
     ensures kept { GoesOn D.tells D.scene D.valid D.stays (IsErrOf result Stop.Failed) desk.old desk.new }
 {
     piece.clear();
@@ -110,21 +174,22 @@ fn write_text<D: Desk>(
     'runs: while at < end {
         let count = run_lines(at, size + piece.len() as u64).min(end - at);
         desk.text_lines(alloc, at, count, &mut lines)?;
-        size = put_bytes(desk, name, size, piece, &lines)?;
+        size = put_lines(desk, name, size, piece, &lines, format)?;
         at += count;
     }
     let size = flush(desk, name, size, piece)?;
     Ok(size)
 }
 
-/// Writes the text into an empty file, gives it the mode bits of the model, if there is one, and syncs it. Gives the number of
-/// bytes.
+/// Writes the text into an empty file in a format, gives it the mode bits of the model, if there is one, and syncs it. Gives the
+/// number of bytes.
 pub(crate) fn fill_text<D: Desk>(
     alloc: Global,
     desk: &mut D,
     name: &str,
     model: Option<&str>,
     piece: &mut Vec<u8>,
+    format: Format,
 ) -> Result<u64, Stop>
     requires valid { D.valid desk.old }
     requires apart { D.reads desk.old name.now → ⊥ }
@@ -132,11 +197,11 @@ pub(crate) fn fill_text<D: Desk>(
     requires empty { IsTrue (D.tells).folder → content_of (D.scene desk.old) name.now ≡ Some [] }
     ensures runs { IsTrue (D.tells).folder → Runs (ChangesOne name.now) (D.scene desk.old) (D.scene desk.new) }
     ensures ok { IfOk result (λ size. IsTrue (D.tells).folder → (text : List (List ℕ)) → D.has_text desk.old text
-        → (size ≡ length (file_of text)) × IsSynced name.now (file_of text) (D.scene desk.new).folder) }
+        → (size ≡ length (file_in format text)) × IsSynced name.now (file_in format text) (D.scene desk.new).folder) }
     ensures err { OnErr result (IsTrue (D.tells).folder → Fills name.now (D.scene desk.old).folder (D.scene desk.new).folder) }
     ensures kept { GoesOn D.tells D.scene D.valid D.stays (IsErrOf result Stop.Failed) desk.old desk.new }
 {
-    let size = write_text(alloc, desk, name, piece)?;
+    let size = write_text(alloc, desk, name, piece, format)?;
     sync_like(desk, model, name)?;
     Ok(size)
 }

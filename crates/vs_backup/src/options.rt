@@ -1,3 +1,5 @@
+use vs_text::Format;
+
 /// How a file that is there is written over, where a backup of it is made.
 #[derive(Clone, Copy, Debug, PartialEq, Eq)]
 pub enum CopyMode {
@@ -17,4 +19,6 @@ pub struct WriteOptions {
     /// A backup is made while the file is written, and removed afterwards unless it is kept.
     pub writebackup: bool,
     pub copy: CopyMode,
+    /// How the lines of the file end (`:help 'fileformat'`).
+    pub format: Format,
 }

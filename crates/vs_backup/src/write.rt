@@ -1,6 +1,6 @@
 // The whole of a write, by its options.
 ghost use Rattle.std.specs.Prelude.{◌≡◌, ◌≢◌, ◌⊎◌, true, false, ℕ, List, [], ◌∷◌, length, IfOk, IfSome, MatchOption, IsErrOf, IsTrue, Some, None, IsSome, string_bytes};
-ghost use Rattle.vs_text.specs.Text.{file_of};
+ghost use Rattle.vs_text.specs.Documents.{file_in};
 ghost use Rattle.vs_host.specs.Disk.{Name};
 ghost use Rattle.vs_host.specs.Names.{AreNames, is_allowed, temporary};
 ghost use Rattle.vs_host.specs.Trace.{Looked};
@@ -19,6 +19,7 @@ use crate::plain::{write_fresh, write_plain};
 use crate::{CopyMode, Desk, WriteOptions};
 use std::alloc::{AllocError, Global};
 use vs_host::Names;
+use vs_text::Format;
 
 /// Whether the file is copied to its backup, and not renamed.
 fn copies(copy: CopyMode) -> bool
@@ -72,10 +73,10 @@ fn write_named<D: Desk>(
     requires free { options.now.backup ≡ false → IsTrue (D.tells).folder → content_of (D.scene desk.old) backup.now ≡ None }
     ensures backed { IsTrue (D.tells).folder → (old : List ℕ) → content_of (D.scene desk.old) name.now ≡ Some old
         → (text : List (List ℕ)) → D.has_text desk.old text
-        → WritesWith options.now name.now backup.now old (file_of text) (D.scene desk.old) (D.scene desk.new) result }
+        → WritesWith options.now name.now backup.now old (file_in options.now.format text) (D.scene desk.old) (D.scene desk.new) result }
     ensures no_name { IsErrOf result WriteErr.NoBackupName → ⊥ }
     ensures calls { IsTrue (D.tells).folder → (text : List (List ℕ)) → D.has_text desk.old text
-        → FailsNoEarlier name.now (file_of text) (D.scene desk.old) (D.scene desk.new) result }
+        → FailsNoEarlier name.now (file_in options.now.format text) (D.scene desk.old) (D.scene desk.new) result }
     ensures kept { Continues D.scene D.valid D.stays (IsFailed result) desk.old desk.new }
 {
     let Ok(temporary) = temporary_of(alloc, backup) else {
@@ -94,6 +95,7 @@ fn write_named<D: Desk>(
         temporary: &temporary,
         copies: copies(options.copy),
         kept: options.backup,
+        format: options.format,
     };
     write_with_backup(alloc, desk, backing, &mut piece)
 }
@@ -123,31 +125,42 @@ fn choose<D: Desk>(
 }
 
 /// Writes over a file that is there, without a backup.
-fn write_unbacked<D: Desk>(alloc: Global, desk: &mut D, name: &str) -> Result<u64, Stop>
+fn write_unbacked<D: Desk>(
+    alloc: Global,
+    desk: &mut D,
+    name: &str,
+    format: Format,
+) -> Result<u64, Stop>
     requires valid { D.valid desk.old }
     requires apart { D.reads desk.old name.now → ⊥ }
     requires there { IsTrue (D.tells).folder → IsSome (content_of (D.scene desk.old) name.now) }
     ensures plain { IsTrue (D.tells).folder → (old : List ℕ) → content_of (D.scene desk.old) name.now ≡ Some old
         → (text : List (List ℕ)) → D.has_text desk.old text
-        → WritesPlain name.now old (file_of text) (D.scene desk.old) (D.scene desk.new) result }
+        → WritesPlain name.now old (file_in format text) (D.scene desk.old) (D.scene desk.new) result }
     ensures kept { GoesOn D.tells D.scene D.valid D.stays (IsErrOf result Stop.Failed) desk.old desk.new }
 {
     let mut piece = buffer(alloc)?;
-    write_plain(alloc, desk, name, &mut piece)
+    write_plain(alloc, desk, name, &mut piece, format)
 }
 
 /// Writes a file that is not there.
-fn write_new<D: Desk>(alloc: Global, desk: &mut D, name: &str, temporary: &str) -> Result<u64, Stop>
+fn write_new<D: Desk>(
+    alloc: Global,
+    desk: &mut D,
+    name: &str,
+    temporary: &str,
+    format: Format,
+) -> Result<u64, Stop>
     requires valid { D.valid desk.old }
     requires apart { D.reads desk.old name.now → ⊥ }
     requires apart_temporary { D.reads desk.old temporary.now → ⊥ }
     requires differ { name.now ≢ temporary.now }
     ensures fresh { IsTrue (D.tells).folder → content_of (D.scene desk.old) name.now ≡ None → (text : List (List ℕ)) → D.has_text desk.old text
-        → WritesFresh (two_names temporary.now name.now) name.now (file_of text) (D.scene desk.old) (D.scene desk.new) result }
+        → WritesFresh (two_names temporary.now name.now) name.now (file_in format text) (D.scene desk.old) (D.scene desk.new) result }
     ensures kept { GoesOn D.tells D.scene D.valid D.stays (IsErrOf result Stop.Failed) desk.old desk.new }
 {
     let mut piece = buffer(alloc)?;
-    write_fresh(alloc, desk, name, temporary, &mut piece)
+    write_fresh(alloc, desk, name, temporary, &mut piece, format)
 }
 
 /// Writes over a file that is there, with the backup that the options ask for.
@@ -166,13 +179,13 @@ fn write_chosen<D: Desk>(
     requires there { IsTrue (D.tells).folder → IsSome (content_of (D.scene desk.old) name.now) }
     ensures backed { IsTrue (D.tells).folder → (old : List ℕ) → content_of (D.scene desk.old) name.now ≡ Some old
         → (backup : Name) → backup_of options.now name.now (D.scene desk.old).folder ≡ Some backup → (text : List (List ℕ)) → D.has_text desk.old text
-        → WritesWith options.now name.now backup old (file_of text) (D.scene desk.old) (D.scene desk.new) result }
+        → WritesWith options.now name.now backup old (file_in options.now.format text) (D.scene desk.old) (D.scene desk.new) result }
     ensures all_taken { IsTrue (D.tells).folder → backup_of options.now name.now (D.scene desk.old).folder ≡ None
         → FindsNoName (D.scene desk.old) (D.scene desk.new) result }
     ensures no_name { IsErrOf result WriteErr.NoBackupName
         → (options.now.backup ≡ false) × (IsTrue (D.tells).folder → backup_of options.now name.now (D.scene desk.old).folder ≡ None) }
     ensures calls { IsTrue (D.tells).folder → (text : List (List ℕ)) → D.has_text desk.old text
-        → FailsNoEarlier name.now (file_of text) (D.scene desk.old) (D.scene desk.new) result }
+        → FailsNoEarlier name.now (file_in options.now.format text) (D.scene desk.old) (D.scene desk.new) result }
     ensures kept { Continues D.scene D.valid D.stays (IsFailed result) desk.old desk.new }
 {
     match choose(alloc, desk, name, options) {
@@ -197,7 +210,7 @@ fn write_there<D: Desk>(
     requires there { IsTrue (D.tells).folder → IsSome (content_of (D.scene desk.old) name.now) }
     ensures backed { IsTrue (D.tells).folder → (old : List ℕ) → content_of (D.scene desk.old) name.now ≡ Some old
         → (backup : Name) → backup_of options.now name.now (D.scene desk.old).folder ≡ Some backup → (text : List (List ℕ)) → D.has_text desk.old text
-        → WritesWith options.now name.now backup old (file_of text) (D.scene desk.old) (D.scene desk.new) result }
+        → WritesWith options.now name.now backup old (file_in options.now.format text) (D.scene desk.old) (D.scene desk.new) result }
     ensures all_taken { IsTrue (D.tells).folder → backs_up options.now ≡ true → backup_of options.now name.now (D.scene desk.old).folder ≡ None
         → FindsNoName (D.scene desk.old) (D.scene desk.new) result }
     ensures no_name { IsErrOf result WriteErr.NoBackupName → (backs_up options.now ≡ true) × (options.now.backup ≡ false)
@@ -205,16 +218,16 @@ fn write_there<D: Desk>(
     ensures somewhere { IsTrue (D.tells).folder → backs_up options.now ≡ true → OldIn Place.Nowhere result → ⊥ }
     ensures plain { IsTrue (D.tells).folder → (old : List ℕ) → content_of (D.scene desk.old) name.now ≡ Some old
         → backs_up options.now ≡ false → (text : List (List ℕ)) → D.has_text desk.old text
-        → WritesInPlace name.now old (file_of text) (D.scene desk.old) (D.scene desk.new) result }
+        → WritesInPlace name.now old (file_in options.now.format text) (D.scene desk.old) (D.scene desk.new) result }
     ensures others { IsTrue (D.tells).folder → SparesOthers (WorksOn options.now name.now (D.scene desk.old).folder) (D.scene desk.old) (D.scene desk.new) }
     ensures calls { IsTrue (D.tells).folder → (text : List (List ℕ)) → D.has_text desk.old text
-        → FailsNoEarlier name.now (file_of text) (D.scene desk.old) (D.scene desk.new) result }
+        → FailsNoEarlier name.now (file_in options.now.format text) (D.scene desk.old) (D.scene desk.new) result }
     ensures kept { Continues D.scene D.valid D.stays (IsFailed result) desk.old desk.new }
 {
     if backs_up(options) {
         return write_chosen(alloc, desk, name, options);
     }
-    without_backup(write_unbacked(alloc, desk, name))
+    without_backup(write_unbacked(alloc, desk, name, options.format))
 }
 
 /// Writes the text of the desk into the file of these names, by these options (docs/FORMATS.md, "Writing a file"). Gives the number of
@@ -240,7 +253,7 @@ pub fn write_out<D: Desk>(
     ensures backed { IsTrue (D.tells).folder → (old : List ℕ) → content_of (D.scene desk.old) names.now.file ≡ Some old
         → (backup : Name) → backup_of options.now names.now.file (D.scene desk.old).folder ≡ Some backup → (text : List (List ℕ)) → D.has_text desk.old text
         → IsUnseen (D.scene desk.old) (D.scene desk.new) result
-        ⊎ WritesWith options.now names.now.file backup old (file_of text) (D.scene desk.old) (D.scene desk.new) result }
+        ⊎ WritesWith options.now names.now.file backup old (file_in options.now.format text) (D.scene desk.old) (D.scene desk.new) result }
 
     // A file that is there, where every backup name is taken.
     ensures all_taken { IsTrue (D.tells).folder → IsSome (content_of (D.scene desk.old) names.now.file)
@@ -257,12 +270,13 @@ pub fn write_out<D: Desk>(
     // A file that is there, without a backup.
     ensures plain { IsTrue (D.tells).folder → (old : List ℕ) → content_of (D.scene desk.old) names.now.file ≡ Some old
         → backs_up options.now ≡ false → (text : List (List ℕ)) → D.has_text desk.old text
-        → IsUnseen (D.scene desk.old) (D.scene desk.new) result ⊎ WritesInPlace names.now.file old (file_of text) (D.scene desk.old) (D.scene desk.new) result }
+        → IsUnseen (D.scene desk.old) (D.scene desk.new) result
+        ⊎ WritesInPlace names.now.file old (file_in options.now.format text) (D.scene desk.old) (D.scene desk.new) result }
 
     // A file that is not there.
     ensures fresh { IsTrue (D.tells).folder → content_of (D.scene desk.old) names.now.file ≡ None → (text : List (List ℕ)) → D.has_text desk.old text
         → IsUnseen (D.scene desk.old) (D.scene desk.new) result
-        ⊎ WritesNew names.now.file_new names.now.file (file_of text) (D.scene desk.old) (D.scene desk.new) result }
+        ⊎ WritesNew names.now.file_new names.now.file (file_in options.now.format text) (D.scene desk.old) (D.scene desk.new) result }
 
     // The other names, whatever is there.
     ensures others { IsTrue (D.tells).folder
@@ -270,13 +284,19 @@ pub fn write_out<D: Desk>(
 
     // The calls that failed.
     ensures calls { IsTrue (D.tells).folder → (text : List (List ℕ)) → D.has_text desk.old text
-        → FailsNoEarlier names.now.file (file_of text) (D.scene desk.old) (D.scene desk.new) result }
+        → FailsNoEarlier names.now.file (file_in options.now.format text) (D.scene desk.old) (D.scene desk.new) result }
     ensures kept { Continues D.scene D.valid D.stays (IsFailed result) desk.old desk.new }
 {
     let name = names.file.as_str();
     match desk.has(name) {
         Ok(true) => write_there(alloc, desk, name, options),
-        Ok(false) => without_backup(write_new(alloc, desk, name, names.file_new.as_str())),
+        Ok(false) => without_backup(write_new(
+            alloc,
+            desk,
+            name,
+            names.file_new.as_str(),
+            options.format,
+        )),
         Err(_) => Err(WriteErr::Failed {
             old_in: Place::Nowhere,
         }),

@@ -2,6 +2,7 @@
 use Rattle.std.proofs.Common.{◌≡◌, ◌≤◌, ℕ, Bool, List, refl, ◌∙◌, sym, ap, subst, arith}
 use Rattle.vs_host.specs.Trace.{Snapshot}
 use Rattle.vs_host.specs.World.{Tells, Scene, ReadsFolder}
+use Rattle.vs_disk.proofs.Faults.{never_none, never_then}
 use Rattle.vs_disk.proofs.Runs.{goes_none, goes_then, goes_weaker, starts, looks_on, reads_change}
 use Rattle.vs_pages.specs.Maps.{Map}
 use Rattle.vs_pages.specs.Memory.{present_of}
@@ -13,7 +14,7 @@ use Rattle.vs_desk.specs.Counts.{NoneAbove}
 use Rattle.vs_desk.specs.Pages.{OnlyLooks, SamePages}
 
 pub looks_none : (tells : Tells) (scene : Scene) → OnlyLooks tells scene scene
-looks_none tells scene = record { frame = refl; looks = λ told. starts (λ a b. b ≡ a) scene refl; still = λ told. refl }
+looks_none tells scene = record { frame = refl; looks = λ told. starts (λ a b. b ≡ a) scene refl; counts = λ told. never_none scene }
 
 reads_then : (old mid new : Scene) → ReadsFolder old mid → ReadsFolder mid new → ReadsFolder old new
 reads_then old mid new first second = second ∙ ap (λ (s : Scene). record s { folder_faults = new.folder_faults; trace = new.trace }) first
@@ -22,11 +23,12 @@ pub looks_then : (tells : Tells) (old mid new : Scene) → OnlyLooks tells old m
 looks_then tells old mid new first second = record {
   frame = reads_then old mid new first.frame second.frame;
   looks = λ told. looks_on old mid new (reads_change old mid first.frame) (first.looks told) (second.looks told);
-  still = λ told. second.still told ∙ first.still told;
+  counts = λ told. never_then old mid new first.frame (first.counts told) (second.counts told);
 }
 
 pub same_none : (told : Bool) (pages : MemPages) (tree : LineTree) → SamePages told pages pages tree tree
-same_none told pages tree = record { tree = refl; present = λ is. refl; committed = λ is. refl; work = λ is. refl; commits = λ is. refl; since = keeps_none pages }
+same_none told pages tree =
+    record { tree = refl; present = λ is. refl; committed = λ is. refl; work = λ is. refl; commits = λ is. refl; since = keeps_none pages }
 
 pub same_then : (told : Bool) (p q r : MemPages) (t u v : LineTree) → SamePages told p q t u → SamePages told q r u v → SamePages told p r t v
 same_then told p q r t u v first second = record {

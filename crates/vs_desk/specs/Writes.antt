@@ -3,13 +3,14 @@ use Rattle.std.specs.Prelude.{◌≡◌, ◌⊎◌, ℕ, List, Some, None, IsSom
 use Rattle.vs_host.specs.Disk.{Disk, Name}
 use Rattle.vs_host.specs.World.{Scene, content_of}
 use Rattle.vs_host.specs.declared.names.Names.{Names}
+use Rattle.vs_text.specs.Documents.{Document}
 use Rattle.vs_backup.specs.Backups.{backs_up, backup_of}
 use Rattle.vs_backup.specs.Writing.{FindsNoName, IsUnseen, WritesInPlace, WritesNew, WritesWith}
 use Rattle.vs_backup.specs.declared.errors.WriteErr.{WriteErr}
 use Rattle.vs_backup.specs.declared.options.WriteOptions.{WriteOptions}
 use Rattle.vs_disk.specs.Names.{SameAt}
 use Rattle.vs_pair.specs.Pair.{is_swap}
-use Rattle.vs_safety.specs.Texts.{Text, Recovers}
+use Rattle.vs_safety.specs.Texts.{Recovers}
 
 -- A write of these bytes into the file of these names, by what is there. It may end before that is found out.
 pub record WritesFile (options : WriteOptions) (names : Names) (new : List ℕ) (before after : Scene) (result : Result ℕ WriteErr) : Type 0 where
@@ -25,7 +26,7 @@ pub record WritesFile (options : WriteOptions) (names : Names) (new : List ℕ) 
   -- no file
   pub fresh : content_of before names.file ≡ None → IsUnseen before after result ⊎ WritesNew names.file_new names.file new before after result
 
--- The two swap files are as they were, and whatever a stop leaves, one of these texts is recovered.
-pub record KeepsSwap (names : Names) (texts : List Text) (old new : Disk) : Type 0 where
+-- The two swap files are as they were, and whatever a stop leaves, one of these documents is recovered.
+pub record KeepsSwap (names : Names) (documents : List Document) (old new : Disk) : Type 0 where
   pub same : SameAt (is_swap names) old new
-  pub recovers : Recovers names texts new
+  pub recovers : Recovers names documents new

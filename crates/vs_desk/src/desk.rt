@@ -55,6 +55,8 @@ impl<'t, 'p, 'h, F: Folder> Desk for PagedDesk<'t, 'p, 'h, F> {
 
     ghost has_one = { λ desk a b is_a is_b. one_text (present_of desk.pages.pages.now) desk.tree.now.present a b is_a.has is_b.has };
 
+    ghost is_text = { λ desk text valid is. is.has.is_text };
+
     ghost has_lines = { λ desk text is. is.has.lines };
 
     ghost few_lines = { λ desk valid. valid.few };
@@ -132,7 +134,7 @@ impl<'t, 'p, 'h, F: Folder> Desk for PagedDesk<'t, 'p, 'h, F> {
         self.tree.len()
     }
 
-    #[tactic(auto, using(vs_backup::proofs::Stops::stops_still))]
+    #[tactic(auto, using(vs_backup::proofs::Counted::stops_counted, crate::proofs::Above::above_counted))]
     fn text_lines(
         &mut self,
         alloc: Global,

@@ -1,5 +1,6 @@
 // Pages in memory beside the folder that counts their faults.
 ghost use Rattle.std.specs.Prelude.{◌≡◌, IfSome, IsTrue, length, option_map};
+ghost use Rattle.vs_disk.specs.Faults.{earlier_faults};
 ghost use Rattle.vs_pages.specs.Memory.{present_of, state_of, KeepsSince};
 ghost use Rattle.vs_pages.specs.MemoryLaws.{are_present, are_committed, keeps_none, keeps_then};
 ghost use Rattle.vs_desk.specs.Pages.{OnlyLooks};
@@ -28,6 +29,8 @@ impl<'p, 'h, F: Folder> Pages for FolderPages<'p, 'h, F> {
 
     ghost stays = { λ old new. (new.pages.ghost_name ≡ old.pages.ghost_name) × (new.host.ghost_name ≡ old.host.ghost_name)
         × OnlyLooks F.tells (F.scene old.host.now) (F.scene new.host.now) × KeepsSince old.pages.now new.pages.now };
+
+    ghost earlier = { λ store. earlier_faults F.tells (F.scene store.host.now) };
 
     ghost present_pages = { λ store valid told. are_present store.pages.now };
 

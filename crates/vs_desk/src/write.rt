@@ -7,7 +7,7 @@ ghost use Rattle.vs_host.specs.World.{ChangesFolder, IsTold, content_of};
 ghost use Rattle.vs_disk.specs.Runs.{Runs};
 ghost use Rattle.vs_pages.specs.Memory.{state_of};
 ghost use Rattle.vs_pages.specs.declared.memory.MemPages.{MemPages};
-ghost use Rattle.vs_text.specs.Text.{file_of};
+ghost use Rattle.vs_text.specs.Documents.{file_in};
 ghost use Rattle.vs_tree.specs.Texts.{worked_by};
 ghost use Rattle.vs_backup.specs.Backups.{IsNoName, WorksOn, backs_up};
 ghost use Rattle.vs_backup.specs.Works.{SparesOthers};
@@ -43,10 +43,10 @@ fn write_in<F: Folder>(
     requires names { AreNames names.now }
     requires paged { IsTrue F.tells.folder → (text : Text) × IsPaged pages.old tree.old text }
     ensures written { IsTrue F.tells.folder → (text : Text) → IsPaged pages.old tree.old text
-        → WritesFile options.now names.now (file_of text) (F.scene host.old) (F.scene host.new) result }
+        → WritesFile options.now names.now (file_in options.now.format text) (F.scene host.old) (F.scene host.new) result }
     ensures no_name { IsErrOf result WriteErr.NoBackupName → IsNoName options.now names.now.file F.tells.folder (F.scene host.old).folder }
     ensures calls { IsTrue F.tells.folder → (text : Text) → IsPaged pages.old tree.old text
-        → FailsNoEarlier names.now.file (file_of text) (F.scene host.old) (F.scene host.new) result }
+        → FailsNoEarlier names.now.file (file_in options.now.format text) (F.scene host.old) (F.scene host.new) result }
     ensures unseen { IsTrue F.tells.folder → IsSome (content_of (F.scene host.old) names.now.file) → backs_up options.now ≡ true → OldIn Nowhere result
         → IsTold Looked (names.now.file ∷ []) result (F.scene host.old) (F.scene host.new) }
     ensures others { IsTrue F.tells.folder →
@@ -78,7 +78,7 @@ pub fn write_text<F: Folder>(
 
     // The file and its backup.
     ensures written { IsTrue F.tells.folder → (lines : Text) (syncs : List Sync) → Fits text.old (F.scene host.old).folder lines syncs
-        → WritesFile options.now (names_of text.old) (file_of lines) (F.scene host.old) (F.scene host.new) result }
+        → WritesFile options.now (names_of text.old) (file_in options.now.format lines) (F.scene host.old) (F.scene host.new) result }
     ensures no_name { IsErrOf result WriteErr.NoBackupName → IsNoName options.now (names_of text.old).file F.tells.folder (F.scene host.old).folder }
     ensures unseen { IsTrue F.tells.folder → IsSome (content_of (F.scene host.old) (names_of text.old).file) → backs_up options.now ≡ true
         → OldIn Nowhere result
@@ -102,7 +102,7 @@ pub fn write_text<F: Folder>(
 
     // The calls that failed, and the faults of the folder.
     ensures calls { IsTrue F.tells.folder → (lines : Text) (syncs : List Sync) → Fits text.old (F.scene host.old).folder lines syncs
-        → FailsNoEarlier (names_of text.old).file (file_of lines) (F.scene host.old) (F.scene host.new) result }
+        → FailsNoEarlier (names_of text.old).file (file_in options.now.format lines) (F.scene host.old) (F.scene host.new) result }
     ensures above { IsTrue F.tells.folder → NoneAbove (F.scene host.old) (F.scene host.new) }
     ensures cause { HasCause (F.scene host.old).folder_faults (F.scene host.new).folder_faults (IsFailed result) }
     ensures frame { ChangesFolder (F.scene host.old) (F.scene host.new) }

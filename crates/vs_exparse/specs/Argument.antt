@@ -115,6 +115,8 @@ values =
     row (codes "backupcopy=yes") (codes "bkc=yes") set.CopyYes
     ∷ row (codes "backupcopy=no") (codes "bkc=no") set.CopyNo
     ∷ row (codes "backupcopy=auto") (codes "bkc=auto") set.CopyAuto
+    ∷ row (codes "fileformat=unix") (codes "ff=unix") set.Unix
+    ∷ row (codes "fileformat=dos") (codes "ff=dos") set.Dos
     ∷ []
 
 -- the greatest number of changes that are kept
@@ -147,6 +149,7 @@ setting_of argument = option_or (option_or (setting_in switches argument) (setti
 abbrev pub is_option : List ℕ → Bool
 is_option name =
     is_some (setting_in switches name) || is_either name (codes "backupcopy") (codes "bkc") || is_either name (codes "undolevels") (codes "ul")
+    || is_either name (codes "fileformat") (codes "ff")
 
 abbrev pub set_errors : List ℕ → List (ExErr × Bool)
 set_errors argument =

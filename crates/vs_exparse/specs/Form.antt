@@ -17,6 +17,8 @@ HasSettingForm (set.UndoFile on) = ⊤
 HasSettingForm set.CopyYes = ⊤
 HasSettingForm set.CopyNo = ⊤
 HasSettingForm set.CopyAuto = ⊤
+HasSettingForm set.Unix = ⊤
+HasSettingForm set.Dos = ⊤
 HasSettingForm (set.UndoLevels levels) = (1 ≤ levels) × (levels ≤ max_levels)
 
 -- what holds of the arguments of each command that was read

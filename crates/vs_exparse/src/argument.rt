@@ -178,6 +178,12 @@ fn value(text: &[u8]) -> Option<Setting>
     if is_either(text, b"backupcopy=auto", b"bkc=auto") {
         return Some(Setting::CopyAuto);
     }
+    if is_either(text, b"fileformat=unix", b"ff=unix") {
+        return Some(Setting::Unix);
+    }
+    if is_either(text, b"fileformat=dos", b"ff=dos") {
+        return Some(Setting::Dos);
+    }
     None
 }
 
@@ -214,6 +220,7 @@ fn is_option(name: &[u8]) -> bool
     switch(name).is_some()
         || is_either(name, b"backupcopy", b"bkc")
         || is_either(name, b"undolevels", b"ul")
+        || is_either(name, b"fileformat", b"ff")
 }
 
 pub(crate) fn read_setting(argument: &[u8]) -> Result<Setting, ExErr>

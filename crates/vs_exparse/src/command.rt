@@ -53,6 +53,10 @@ pub enum Setting {
     CopyAuto,
     /// The number of changes that are kept, from 1 to 1,000,000 (`:help 'undolevels'`).
     UndoLevels(u32),
+    /// `fileformat=unix` (`:help 'fileformat'`).
+    Unix,
+    /// `fileformat=dos`.
+    Dos,
 }
 
 /// Why a command line, or a command of the text, is refused. Those named by a number are Vim's errors.

@@ -10,7 +10,7 @@ use Rattle.vs_exparse.specs.Argument.{is_levels, levels_in, max_levels, setting_
 use Rattle.vs_exparse.specs.Bytes.{is_digit, number_of, value_of}
 use Rattle.vs_exparse.specs.Form.{HasSettingForm}
 use Rattle.vs_exparse.specs.declared.command.Setting.{Setting}
-use Rattle.vs_exparse.specs.declared.command.Setting.TheVariants.{Backup, WriteBackup, UndoFile, CopyYes, CopyNo, CopyAuto, UndoLevels}
+use Rattle.vs_exparse.specs.declared.command.Setting.TheVariants.{Backup, WriteBackup, UndoFile, CopyYes, CopyNo, CopyAuto, UndoLevels, Unix, Dos}
 use Rattle.vs_options.specs.Options.{full_text, words}
 
 tells : IsDigitsTest (λ ds. list_all is_digit ds ≡ true)
@@ -48,3 +48,5 @@ full-read CopyYes form = refl
 full-read CopyNo form = refl
 full-read CopyAuto form = refl
 full-read (UndoLevels levels) form = levels-read levels form.0 form.1
+full-read Unix form = refl
+full-read Dos form = refl

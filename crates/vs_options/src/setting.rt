@@ -8,6 +8,7 @@ use arrayvec::ArrayVec;
 use itoa::Buffer;
 use vs_backup::{CopyMode, WriteOptions};
 use vs_exparse::Setting;
+use vs_text::Format;
 
 /// The options of a session.
 #[derive(Clone, Copy, Debug, PartialEq, Eq)]
@@ -20,16 +21,17 @@ pub struct Options {
     pub undo_levels: u32,
 }
 
-/// The options with which a file is opened: `nobackup`, `writebackup`, `backupcopy=auto`, `noundofile` and
+/// The options with which a file of this format is opened: `nobackup`, `writebackup`, `backupcopy=auto`, `noundofile` and
 /// `undolevels=1000`.
-pub fn first_options() -> Options
-    ensures { result ≡ first_options }
+pub fn first_options(format: Format) -> Options
+    ensures { result ≡ first_options format }
 {
     Options {
         write: WriteOptions {
             backup: false,
             writebackup: true,
             copy: CopyMode::Auto,
+            format,
         },
         undofile: false,
         undo_levels: 1000,
@@ -49,6 +51,8 @@ pub fn set(options: &Options, setting: Setting) -> Options
         Setting::CopyAuto => options.write.copy = CopyMode::Auto,
         Setting::UndoFile(on) => options.undofile = on,
         Setting::UndoLevels(levels) => options.undo_levels = levels,
+        Setting::Unix => options.write.format = Format::Unix,
+        Setting::Dos => options.write.format = Format::Dos,
     }
     options
 }
@@ -79,6 +83,8 @@ fn words(setting: Setting) -> &'static [u8]
         Setting::CopyNo => b"backupcopy=no",
         Setting::CopyAuto => b"backupcopy=auto",
         Setting::UndoLevels(_) => b"undolevels=",
+        Setting::Unix => b"fileformat=unix",
+        Setting::Dos => b"fileformat=dos",
     }
 }
 
@@ -92,7 +98,9 @@ fn number(setting: Setting) -> Option<u32>
         | Setting::UndoFile(_)
         | Setting::CopyYes
         | Setting::CopyNo
-        | Setting::CopyAuto => None,
+        | Setting::CopyAuto
+        | Setting::Unix
+        | Setting::Dos => None,
     }
 }
 

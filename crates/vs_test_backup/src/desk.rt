@@ -20,7 +20,7 @@ pub struct TextDesk<F> {
 pub(crate) fn store_of(alloc: Global, bytes: &[u8]) -> Result<VecStore, Fail>
     ensures { IfOk result AreSound }
 {
-    let text = read_text(alloc, bytes).ok().ok_or("it is a text")?;
+    let (text, _) = read_text(alloc, bytes).ok().ok_or("it is a text")?;
     let mut store = VecStore::new(alloc)?;
     if !allows_splice(&store, 0, 0, text.lines()) {
         return Err(Fail::new("there is no room for the text"));
@@ -45,7 +45,8 @@ impl<F: Folder> World for TextDesk<F> {
 
 impl<F: Folder> Desk for TextDesk<F> {
     ghost use Rattle.std.specs.Prelude.{refl};
-    ghost use Rattle.std.proofs.Common.{◌∙◌, ap, sym};
+    ghost use Rattle.std.proofs.Common.{◌∙◌, ap, subst, sym};
+    ghost use Rattle.vs_text.specs.Text.{IsText};
     ghost use Rattle.vs_edit.specs.Texts.{AreSound};
 
     ghost has_text = { λ desk text. desk.text.present ≡ text };
@@ -61,6 +62,8 @@ impl<F: Folder> Desk for TextDesk<F> {
     ghost tells_one = { λ desk valid told. (desk.text.present, refl) };
 
     ghost has_one = { λ desk a b is_a is_b. sym is_a ∙ is_b };
+
+    ghost is_text = { λ desk text valid is. subst IsText is valid.present.is_text };
 
     ghost has_lines = { λ desk text is. ap length (sym is) };
 

@@ -9,6 +9,7 @@ use std::test::Fail;
 use vs_backup::{CopyMode, WriteErr, WriteOptions, write_out};
 use vs_host::{Folder, Names};
 use vs_memory::{Choice, Keep, MemHost};
+use vs_text::Format;
 
 /// What the file has before a write, and what is written.
 pub const OLD: &[u8] = b"a\n";
@@ -21,12 +22,13 @@ pub const KEEPS: [Keep; 3] = [Keep::Read, Keep::Synced, Keep::Byte(b'?')];
 /// As many name changes as are pending at once in a write, and none.
 pub const PREFIXES: [u32; 5] = [0, 1, 2, 3, 4];
 
-/// Options by whether a backup is kept, whether one is made, and how.
+/// Options by whether a backup is kept, whether one is made, and how. The format is unix.
 pub(crate) fn options(backup: bool, writebackup: bool, copy: CopyMode) -> WriteOptions {
     WriteOptions {
         backup,
         writebackup,
         copy,
+        format: Format::Unix,
     }
 }
 

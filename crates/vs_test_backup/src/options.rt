@@ -5,6 +5,7 @@ use std::test::Fail;
 use vs_backup::{CopyMode, WriteOptions};
 use vs_exparse::{Command, ExErr, Parsed, parse};
 use vs_options::{Options, first_options, full_text, set};
+use vs_text::Format;
 
 // What a line answers. It changes the options unless it is refused.
 fn answer(options: &mut Options, line: &[u8]) -> Result<ArrayVec<u8, 32>, ExErr> {
@@ -34,13 +35,14 @@ macro_rules! answers {
 
 #[test]
 fn options_are_set_and_told_in_full(rt: HostRuntime) -> Result<(), Fail> {
-    let mut options = first_options();
+    let mut options = first_options(Format::Unix);
     answers! { rt, options;
         b"set bk" => Ok(b"backup"),
         b"set nowb" => Ok(b"nowritebackup"),
         b"set bkc=yes" => Ok(b"backupcopy=yes"),
         b"set udf" => Ok(b"undofile"),
         b"set ul=002" => Ok(b"undolevels=2"),
+        b"set ff=dos" => Ok(b"fileformat=dos"),
         b"set bkc=maybe" => Err(ExErr::E474),
         b"set tw=3" => Err(ExErr::E518),
     }
@@ -49,6 +51,7 @@ fn options_are_set_and_told_in_full(rt: HostRuntime) -> Result<(), Fail> {
             backup: true,
             writebackup: false,
             copy: CopyMode::Yes,
+            format: Format::Dos,
         },
         undofile: true,
         undo_levels: 2,
@@ -59,7 +62,7 @@ fn options_are_set_and_told_in_full(rt: HostRuntime) -> Result<(), Fail> {
 
 #[test]
 fn each_name_sets_its_option(rt: HostRuntime) -> Result<(), Fail> {
-    let mut options = first_options();
+    let mut options = first_options(Format::Unix);
     answers! { rt, options;
         b"set backup" => Ok(b"backup"),
         b"set nobk" => Ok(b"nobackup"),
@@ -78,14 +81,17 @@ fn each_name_sets_its_option(rt: HostRuntime) -> Result<(), Fail> {
         b"set backupcopy=auto" => Ok(b"backupcopy=auto"),
         b"set undolevels=1000000" => Ok(b"undolevels=1000000"),
         b"set ul=1000" => Ok(b"undolevels=1000"),
+        b"set fileformat=dos" => Ok(b"fileformat=dos"),
+        b"set fileformat=unix" => Ok(b"fileformat=unix"),
+        b"set ff=unix" => Ok(b"fileformat=unix"),
     }
-    assert!(rt; options == first_options());
+    assert!(rt; options == first_options(Format::Unix));
     Ok(())
 }
 
 #[test]
 fn what_is_refused_leaves_the_options(rt: HostRuntime) -> Result<(), Fail> {
-    let mut options = first_options();
+    let mut options = first_options(Format::Unix);
     answers! { rt, options;
         b"set" => Err(ExErr::E471),
         b"set backupcopy" => Err(ExErr::E474),
@@ -93,7 +99,10 @@ fn what_is_refused_leaves_the_options(rt: HostRuntime) -> Result<(), Fail> {
         b"set backup=yes" => Err(ExErr::E474),
         b"set backup?" => Err(ExErr::E474),
         b"set undofile=yes" => Err(ExErr::E474),
+        b"set ff=mac" => Err(ExErr::E474),
+        b"set ff" => Err(ExErr::E474),
+        b"set noff" => Err(ExErr::E518),
     }
-    assert!(rt; options == first_options());
+    assert!(rt; options == first_options(Format::Unix));
     Ok(())
 }

@@ -4,6 +4,7 @@ use std::alloc::Global;
 use std::process::Abort;
 use std::test::Fail;
 use vs_backup::{CopyMode, WriteOptions};
+use vs_text::Format;
 
 // The three ways to write over a file that is there.
 const MODES: [CopyMode; 3] = [CopyMode::Yes, CopyMode::No, CopyMode::Auto];
@@ -16,6 +17,14 @@ const KEPT: [(bool, bool, &[u8]); 4] = [
     (true, true, OLD),
 ];
 
+// What is written in this format.
+fn bytes_in(format: Format) -> &'static [u8] {
+    match format {
+        Format::Unix => NEW,
+        Format::Dos => b"a\r\nx\r\n",
+    }
+}
+
 // Whether a write in which this call fails succeeds, and the backup name then has these bytes.
 fn is_written(
     alloc: Global,
@@ -26,8 +35,9 @@ fn is_written(
     let mut desk = desk_with(alloc, &[("f", OLD)])?;
     desk.folder.fail_call(alloc, failing)?;
     let answer = write_to(alloc, &mut desk, "f", options)?;
-    let stand = are_always(alloc, &desk.folder, &[("f", NEW), ("f~", kept)])?;
-    Ok(answer == Ok(4) && stand)
+    let new = bytes_in(options.format);
+    let stand = are_always(alloc, &desk.folder, &[("f", new), ("f~", kept)])?;
+    Ok(answer == Ok(new.len() as u64) && stand)
 }
 
 #[test]
@@ -35,8 +45,13 @@ fn a_file_gets_the_text_and_keeps_a_backup_where_one_is_asked(rt: HostRuntime) -
     let alloc = rt.alloc();
     for copy in MODES {
         for (backup, writebackup, kept) in KEPT {
-            let options = options(backup, writebackup, copy);
-            assert!(rt; is_written(alloc, &options, 0, kept)?);
+            for format in [Format::Unix, Format::Dos] {
+                let options = WriteOptions {
+                    format,
+                    ..options(backup, writebackup, copy)
+                };
+                assert!(rt; is_written(alloc, &options, 0, kept)?);
+            }
         }
     }
     Ok(())
@@ -46,16 +61,23 @@ fn a_file_gets_the_text_and_keeps_a_backup_where_one_is_asked(rt: HostRuntime) -
 fn is_made(alloc: Global, options: &WriteOptions) -> Result<bool, Fail> {
     let mut desk = desk_with(alloc, &[("f.vsnew", b"left")])?;
     let answer = write_to(alloc, &mut desk, "f", options)?;
-    let stands = always(alloc, &desk.folder, "f", &[NEW])?;
+    let new = bytes_in(options.format);
+    let stands = always(alloc, &desk.folder, "f", &[new])?;
     let alone = desk.folder.file("f~").is_none() && desk.folder.file("f.vsnew").is_none();
-    Ok(answer == Ok(4) && stands && alone)
+    Ok(answer == Ok(new.len() as u64) && stands && alone)
 }
 
 #[test]
 fn a_new_file_gets_no_backup(rt: HostRuntime) -> Result<(), Fail> {
     let alloc = rt.alloc();
     for (backup, writebackup, _) in KEPT {
-        assert!(rt; is_made(alloc, &options(backup, writebackup, CopyMode::Yes))?);
+        for format in [Format::Unix, Format::Dos] {
+            let options = WriteOptions {
+                format,
+                ..options(backup, writebackup, CopyMode::Yes)
+            };
+            assert!(rt; is_made(alloc, &options)?);
+        }
     }
     Ok(())
 }

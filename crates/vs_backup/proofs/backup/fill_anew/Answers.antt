@@ -1,5 +1,5 @@
 use Rattle.std.proofs.Common.{◌≡◌, ℕ, List, IsTrue, length}
-use Rattle.vs_text.specs.Text.{file_of}
+use Rattle.vs_text.specs.Documents.{file_in}
 use Rattle.vs_host.specs.World.{Scene}
 use Rattle.vs_disk.specs.Images.{IsSynced}
 use Rattle.vs_backup.specs.Writing.{IsFilled}
@@ -37,8 +37,8 @@ pub returns-clause-ok : goal.returns-clause-ok
 returns-clause-ok g c =
     let s2 : Scene = g.D.World.scene c.fill_text.new.desk in
     ok_with c.fill_text.result
-    (λ size. IsTrue g.D.World.tells.folder → (t : List (List ℕ)) → g.D.Desk.has_text c.create_private.new.self t → (size ≡ length (file_of t)) × IsSynced c.args.name.now (file_of t) s2.folder)
-    (λ size. IsFilled g.D.World.tells.folder c.args.name.now (g.D.Desk.has_text c.args.desk.now) size s2)
+    (λ size. IsTrue g.D.World.tells.folder → (t : List (List ℕ)) → g.D.Desk.has_text c.create_private.new.self t → (size ≡ length (file_in c.args.format t)) × IsSynced c.args.name.now (file_in c.args.format t) s2.folder)
+    (λ size. IsFilled g.D.World.tells.folder c.args.name.now c.args.format (g.D.Desk.has_text c.args.desk.now) size s2)
     (λ size filled. record { each = λ told text has. filled told text (g.met.D.Desk.stays_text c.args.desk.now c.create_private.new.self text c.create_private.ensures.kept.stays has) })
     c.fill_text.ensures.ok
 

@@ -1,5 +1,5 @@
 use Rattle.std.proofs.Common.{◌≡◌, ℕ, IsTrue, List, [], Some, true, Err, refl, sym, subst}
-use Rattle.vs_text.specs.Text.{file_of}
+use Rattle.vs_text.specs.Documents.{file_in}
 use Rattle.vs_faults.specs.Faults.{HasCause}
 use Rattle.vs_faults.proofs.Causes.{HasCause-trans}
 use Rattle.vs_host.specs.World.{Scene, content_of}
@@ -23,7 +23,7 @@ returns-in-Ok-fill_text-clause-over g c told old is text has =
     let s2 : Scene = g.D.World.scene c.fill_text.new.desk in
     let kept = g.met.D.Desk.stays_text c.args.desk.now c.start_over.new.desk text c.start_over.ensures.kept.stays has in
     let done = c.in-Ok-fill_text.ensures.ok told text kept in
-    copying_done c.args.backing.name.now c.args.backing.backup.now c.args.backing.temporary.now old (file_of text) s0 s1 s2 c.start_over.ensures.kept.frame (λ e. c.requires.names.differ_name (sym e)) (g.D.World.is_folder c.start_over.new.desk told)
+    copying_done c.args.backing.name.now c.args.backing.backup.now c.args.backing.temporary.now old (file_in c.args.backing.format text) s0 s1 s2 c.start_over.ensures.kept.frame (λ e. c.requires.names.differ_name (sym e)) (g.D.World.is_folder c.start_over.new.desk told)
     (c.start_over.ensures.over.each told old is) (c.in-Ok.ensures.ok.each told old is) (c.fill_text.ensures.runs told) c.in-Ok-fill_text.size done.0 done.1 (c.in-Ok.ensures.aside.gone told)
 
 pub returns-in-Err-fill_text-clause-over : goal.returns-in-Err-fill_text-clause-over
@@ -43,8 +43,8 @@ returns-in-Err-fill_text-clause-over g c told old is text has =
     (λ copied. copied told old (synced_bytes backup old s2.folder backed.synced)) c.copy_back.ensures.ok in
     let fills = err_leads (IsTrue g.D.World.tells.folder → Fills name s2.folder s3.folder) (Fills name s1.folder s3.folder) c.copy_back.result
     (λ copies. fills_then name s1.folder s2.folder s3.folder (c.in-Err-fill_text.ensures.err told) (copies told)) c.copy_back.ensures.err in
-    subst (λ (error : WriteErr). WritesOver true name c.args.backing.temporary.now backup old (file_of text) s0 s3 (Err error)) (sym c.after.ensures)
-    (copying_stopped name backup c.args.backing.temporary.now old (file_of text) s0 s1 s3 c.start_over.ensures.kept.frame apart folder
+    subst (λ (error : WriteErr). WritesOver true name c.args.backing.temporary.now backup old (file_in c.args.backing.format text) s0 s3 (Err error)) (sym c.after.ensures)
+    (copying_stopped name backup c.args.backing.temporary.now old (file_in c.args.backing.format text) s0 s1 s3 c.start_over.ensures.kept.frame apart folder
     (c.start_over.ensures.over.each told old is) started runs c.in-Err-fill_text.stop c.copy_back.result synced fills (c.in-Ok.ensures.aside.gone told))
 
 pub returns-in-Err-clause-over : goal.returns-in-Err-clause-over
@@ -52,7 +52,7 @@ returns-in-Err-clause-over g c told old is text has =
     let s0 : Scene = g.D.World.scene c.args.desk.now in
     let s1 : Scene = g.D.World.scene c.start_over.new.desk in
     let over = c.start_over.ensures.over.each told old is in
-    over_not_begun true c.args.backing.name.now c.args.backing.temporary.now c.args.backing.backup.now old (file_of text) s0 s1 over.spares over.kept over.replaced over.in_place (λ copies. over.anew) (c.in-Err.ensures.err.each told old is)
+    over_not_begun true c.args.backing.name.now c.args.backing.temporary.now c.args.backing.backup.now old (file_in c.args.backing.format text) s0 s1 over.spares over.kept over.replaced over.in_place (λ copies. over.anew) (c.in-Err.ensures.err.each told old is)
 
 pub fill_text-requires-clause-empty : goal.fill_text-requires-clause-empty
 fill_text-requires-clause-empty g c told =

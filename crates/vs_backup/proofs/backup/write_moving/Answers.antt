@@ -2,7 +2,7 @@ use Rattle.std.proofs.Common.{[], ◌∷◌, ℕ, List, IsTrue, false, Err, refl
 use Rattle.std.proofs.lemmas.Bool.{true≢false}
 use Rattle.vs_faults.specs.Faults.{HasCause}
 use Rattle.vs_faults.proofs.Causes.{HasCause-trans}
-use Rattle.vs_text.specs.Text.{file_of}
+use Rattle.vs_text.specs.Documents.{file_in}
 use Rattle.vs_host.specs.Disk.{Disk}
 use Rattle.vs_host.specs.Trace.{Renamed}
 use Rattle.vs_host.specs.World.{Scene}
@@ -34,9 +34,9 @@ returns-in-Ok-write_anew-clause-over g c told old is text has =
     let renames = c.in-Ok.ensures.ok told in
     let kept = g.met.D.Desk.stays_text c.args.desk.now c.rename.new.self text c.rename.ensures.kept.stays has in
     let done = c.in-Ok-write_anew.ensures.ok.each told text kept in
-    moving_done name backup old (file_of text) s0 s1 s2 is c.rename.ensures.kept.frame c.rename.result (c.rename.ensures.told told) renames c.in-Ok-write_anew.size
+    moving_done name backup old (file_in c.args.backing.format text) s0 s1 s2 is c.rename.ensures.kept.frame c.rename.result (c.rename.ensures.told told) renames c.in-Ok-write_anew.size
     c.args.backing.temporary.now c.requires.names.differ_name (g.D.World.is_folder c.write_anew.new.desk told)
-    (anew_done name backup is.synced.number c.in-Ok-write_anew.size old (file_of text) s1 s2
+    (anew_done name backup is.synced.number c.in-Ok-write_anew.size old (file_in c.args.backing.format text) s1 s2
     (c.write_anew.ensures.anew.each told is.synced.number old (λ e. c.requires.names.differ_name (sym e)) (guard_moved name backup old s0.folder s1.folder is renames)) done.0 done.1)
 
 pub returns-in-Err-write_anew-clause-over : goal.returns-in-Err-write_anew-clause-over
@@ -48,14 +48,14 @@ returns-in-Err-write_anew-clause-over g c told old is text has =
     let s2 : Scene = g.D.World.scene c.write_anew.new.desk in
     let s3 : Scene = g.D.World.scene c.take_name.new.desk in
     let renames = c.in-Ok.ensures.ok told in
-    let anew = anew_stopped name backup is.synced.number c.in-Err-write_anew.stop old (file_of text) s1 s2
+    let anew = anew_stopped name backup is.synced.number c.in-Err-write_anew.stop old (file_in c.args.backing.format text) s1 s2
     (c.write_anew.ensures.anew.each told is.synced.number old (λ e. c.requires.names.differ_name (sym e)) (guard_moved name backup old s0.folder s1.folder is renames)) (c.in-Err-write_anew.ensures.err.leaves told) in
     let guard = anew.guarded.now in
     let back = ok_both c.take_name.result (IsTrue g.D.World.tells.folder → (bytes : List ℕ) → IsSynced backup bytes s2.folder → IsSettled name bytes s3.folder) (IsTrue g.D.World.tells.folder → IsGone backup s3.folder)
     (IsSettled name old s3.folder × IsGone backup s3.folder) (λ takes gone. (takes told old (record { number = is.synced.number; leads = guard.now; has = guard.held.has }), gone told)) c.take_name.ensures.ok c.take_name.ensures.gone in
     let widens = err_leads (IsTrue g.D.World.tells.folder → Widens name s2.folder s3.folder) (Widens name s2.folder s3.folder) c.take_name.result (λ widens. widens told) c.take_name.ensures.err in
-    subst (λ (error : WriteErr). WritesOver false name c.args.backing.temporary.now backup old (file_of text) s0 s3 (Err error)) (sym c.after.ensures)
-    (moving_stopped name backup old (file_of text) s0 s1 s2 is c.rename.ensures.kept.frame c.rename.result (c.rename.ensures.told told) renames c.in-Err-write_anew.stop s3 c.requires.names.differ_name anew
+    subst (λ (error : WriteErr). WritesOver false name c.args.backing.temporary.now backup old (file_in c.args.backing.format text) s0 s3 (Err error)) (sym c.after.ensures)
+    (moving_stopped name backup old (file_in c.args.backing.format text) s0 s1 s2 is c.rename.ensures.kept.frame c.rename.result (c.rename.ensures.told told) renames c.in-Err-write_anew.stop s3 c.requires.names.differ_name anew
     c.write_anew.ensures.kept.frame (c.take_name.ensures.spares told) (c.take_name.ensures.held told is.synced.number old guard.held guard.now) (c.take_name.ensures.hands told) c.args.backing.temporary.now c.take_name.result back widens)
 
 pub returns-in-Err-clause-over : goal.returns-in-Err-clause-over
@@ -67,7 +67,7 @@ returns-in-Err-clause-over g c told old is text has =
     let s1 : Scene = g.D.World.scene c.rename.new.self in
     let holds = settled_holds name old s0.folder is in
     let still = subst (λ (d : Disk). HoldsBytes name old d) (sym c.in-Err.ensures.err) holds in
-    over_not_begun false name c.args.backing.temporary.now backup old (file_of text) s0 s1
+    over_not_begun false name c.args.backing.temporary.now backup old (file_in c.args.backing.format text) s0 s1
     (one_call (Spares on) Renamed (name ∷ backup ∷ []) c.rename.result s0 s1 c.rename.ensures.kept.frame (c.rename.ensures.told told) (spares_same on s0.folder s1.folder c.in-Err.ensures.err))
     (one_call (λ a b. IsKept name backup old b) Renamed (name ∷ backup ∷ []) c.rename.result s0 s1 c.rename.ensures.kept.frame (c.rename.ensures.told told) (kept_by_name name backup old s1.folder still))
     (one_call (Replaces false name backup old) Renamed (name ∷ backup ∷ []) c.rename.result s0 s1 c.rename.ensures.kept.frame (c.rename.ensures.told told) (replaces_takes false name backup old s0.folder s1.folder (takes_same backup old s0.folder s1.folder c.in-Err.ensures.err)))

@@ -1,5 +1,5 @@
 use Rattle.std.proofs.Common.{◌∙◌, refl}
-use Rattle.vs_text.specs.Text.{file_of}
+use Rattle.vs_text.specs.Documents.{file_in}
 use Rattle.vs_host.specs.World.{Scene}
 use Rattle.vs_disk.proofs.Contents.{some_content}
 use Rattle.vs_backup.specs.Writing.{backed_names}
@@ -19,7 +19,7 @@ returns-in-Ok-clause-backed g c told old content text has =
     let s1 : Scene = g.D.World.scene c.settle.new.desk in
     let s2 : Scene = g.D.World.scene c.write_backed.new.desk in
     let kept = g.met.D.Desk.stays_text c.args.desk.now c.settle.new.desk text c.settle.ensures.kept.stays has in
-    backed_after c.args.backing.copies c.args.backing.kept c.args.backing.name.now c.args.backing.temporary.now c.args.backing.backup.now old (file_of text) s0 s1 content (c.settle.ensures.settles.narrowed told)
+    backed_after c.args.backing.copies c.args.backing.kept c.args.backing.name.now c.args.backing.temporary.now c.args.backing.backup.now old (file_in c.args.backing.format text) s0 s1 content (c.settle.ensures.settles.narrowed told)
     (others_settled on c.args.backing.name.now s0 s1 (file_named c.args.backing.copies c.args.backing.name.now c.args.backing.temporary.now c.args.backing.backup.now) (c.settle.ensures.settles.same told)) c.write_backed.result s2 c.settle.ensures.kept.frame c.settle.ensures.kept.cause.later
     (c.write_backed.ensures.backed told old (c.in-Ok.ensures.ok.settled told old content) text kept)
 
@@ -28,7 +28,7 @@ returns-in-Err-clause-backed g c told old content text has =
     let on = backed_names c.args.backing.copies c.args.backing.name.now c.args.backing.temporary.now c.args.backing.backup.now in
     let s0 : Scene = g.D.World.scene c.args.desk.now in
     let s1 : Scene = g.D.World.scene c.settle.new.desk in
-    backed_not_begun c.args.backing.copies c.args.backing.kept c.args.backing.name.now c.args.backing.temporary.now c.args.backing.backup.now old (file_of text) s0 s1 content (c.settle.ensures.settles.narrowed told)
+    backed_not_begun c.args.backing.copies c.args.backing.kept c.args.backing.name.now c.args.backing.temporary.now c.args.backing.backup.now old (file_in c.args.backing.format text) s0 s1 content (c.settle.ensures.settles.narrowed told)
     (others_settled on c.args.backing.name.now s0 s1 (file_named c.args.backing.copies c.args.backing.name.now c.args.backing.temporary.now c.args.backing.backup.now) (c.settle.ensures.settles.same told)) (error.Failed place.File)
     (λ refused. only_file place.Nowhere (λ e. cc) refused) (λ refused. only_file place.Backup (λ e. cc) refused) (λ e. cc)
 
@@ -44,7 +44,7 @@ write_backed-requires-clause-free g c off told =
     narrowed_content c.args.backing.backup.now s0.folder s1.folder (narrowed_now s0 s1 (c.settle.ensures.settles.narrowed told)) ∙ c.requires.free off told
 
 pub returns-in-Ok-clause-calls : goal.returns-in-Ok-clause-calls
-returns-in-Ok-clause-calls g c = λ told text has. doing.fails_then c.args.backing.name.now (file_of text) c.write_backed.result (g.D.World.scene c.args.desk.now) (g.D.World.scene c.settle.new.desk) (g.D.World.scene c.write_backed.new.desk) (c.in-Ok.ensures.kept.stops.none told (λ is. absurd (cc))) (c.write_backed.ensures.calls told text (g.met.D.Desk.stays_text c.args.desk.now c.settle.new.desk text c.settle.ensures.kept.stays has))
+returns-in-Ok-clause-calls g c = λ told text has. doing.fails_then c.args.backing.name.now (file_in c.args.backing.format text) c.write_backed.result (g.D.World.scene c.args.desk.now) (g.D.World.scene c.settle.new.desk) (g.D.World.scene c.write_backed.new.desk) (c.in-Ok.ensures.kept.stops.none told (λ is. absurd (cc))) (c.write_backed.ensures.calls told text (g.met.D.Desk.stays_text c.args.desk.now c.settle.new.desk text c.settle.ensures.kept.stays has))
 
 pub write_backed-requires-clause-order : goal.write_backed-requires-clause-order
 write_backed-requires-clause-order g c = c.in-Ok.ensures.order.order

@@ -1,5 +1,5 @@
 use Rattle.std.proofs.Common.{IsTrue, sym, subst, refl}
-use Rattle.vs_text.specs.Text.{file_of}
+use Rattle.vs_text.specs.Documents.{file_in}
 use Rattle.vs_host.specs.Disk.{Disk}
 use Rattle.vs_host.specs.World.{Scene}
 use Rattle.vs_disk.proofs.Contents.{synced_content}
@@ -44,7 +44,7 @@ returns-clause-ok g c told text has =
     let s1 : Scene = g.D.World.scene c.write_text.new.desk in
     let s2 : Scene = g.D.World.scene c.sync_like.new.desk in
     let done = c.in_ok-size.ensures.ok told text has in
-    (done.0, synced_content c.args.name.now (file_of text) s1.folder s2.folder (c.in_ok-sync_like.ensures.ok told) done.1)
+    (done.0, synced_content c.args.name.now (file_in c.args.format text) s1.folder s2.folder (c.in_ok-sync_like.ensures.ok told) done.1)
 
 pub returns-in_err-sync_like-clause-kept : goal.returns-in_err-sync_like-clause-kept
 returns-in_err-sync_like-clause-kept g c = going.GoesOn-failed c.from_residual-in_err-sync_like.result _ c.from_residual-in_err-sync_like.ensures.1 refl (going.GoesOn-then g.met.D.Desk.stays_on (λ is. absurd (cc)) c.in_ok-size.ensures.kept c.in_err-sync_like.ensures.kept)

@@ -1,10 +1,13 @@
 use Rattle.std.proofs.Common.{◌≡◌, ◌∙◌, ◌+◌, ◌*◌, ◌≤◌, ◌++◌, ℕ, List, Some, length, take, sym, ap, arith, refl, rules}
 use Rattle.vs_text.specs.Text.{file_of}
+use Rattle.vs_text.specs.Documents.{file_in}
+use Rattle.vs_backup.specs.Ends.{ends_in}
 use Rattle.vs_text.specs.declared.TheConstants.{MAX_LINE_BYTES}
 use Rattle.vs_edit.specs.Splices.{cut_out}
 use Rattle.vs_host.specs.World.{Scene, content_of}
 use Rattle.vs_backup.specs.Works.{Fills}
-use Rattle.vs_backup.proofs.Filling.{fills_on, then_looks, few_held, file_more}
+use Rattle.vs_backup.proofs.Filling.{fills_on, then_looks, few_held}
+use Rattle.vs_backup.proofs.Ends.{few_ends, file_more}
 use Rattle.vs_backup.proofs.Going.{GoesOn-none, GoesOn-reads, GoesOn-then}
 use Rattle.vs_backup.proofs.Going as going
 use Rattle.vs_backup.proofs.fill.write_text.Goals as goal
@@ -16,27 +19,27 @@ returns-in_err-text_lines-clause-runs g c told =
     let s2 : Scene = g.D.World.scene c.text_lines.new.self in
     then_looks (Fills c.args.name.now) s0 s1 s2 c.runs.invariant.kept.frame (c.runs.invariant.runs told) (c.text_lines.ensures.looks told)
 
-pub put_bytes-requires-clause-small : goal.put_bytes-requires-clause-small
-put_bytes-requires-clause-small g c =
+pub put_lines-requires-clause-small : goal.put_lines-requires-clause-small
+put_lines-requires-clause-small g c =
     let few : length c.text_lines.new.into.items ≤ c.min-count.result * (MAX_LINE_BYTES + 1) = few_held c.min-count.result c.text_lines.new.into.items c.in_ok-text_lines.ensures.are_lines in
-    omega (arith, few, c.runs.invariant.bound, c.text_len-end.ensures, g.met.D.Desk.few_lines c.args.desk.now c.requires.valid)
+    omega (arith, few, few_ends c.args.format c.deref.result.now, ap length c.deref.ensures.value, c.runs.invariant.bound, c.text_len-end.ensures, g.met.D.Desk.few_lines c.args.desk.now c.requires.valid)
 
 pub returns-in_err-size-clause-runs : goal.returns-in_err-size-clause-runs
 returns-in_err-size-clause-runs g c told =
     let s0 : Scene = g.D.World.scene c.args.desk.now in
     let s1 : Scene = g.D.World.scene c.runs.desk in
     let s2 : Scene = g.D.World.scene c.text_lines.new.self in
-    let s3 : Scene = g.D.World.scene c.put_bytes.new.desk in
+    let s3 : Scene = g.D.World.scene c.put_lines.new.desk in
     let looked = GoesOn-then g.met.D.Desk.stays_on (λ is. is) c.runs.invariant.kept (GoesOn-reads c.in_ok-text_lines.ensures.kept) in
     fills_on c.args.name.now s0 s2 s3 looked.frame
-    (then_looks (Fills c.args.name.now) s0 s1 s2 c.runs.invariant.kept.frame (c.runs.invariant.runs told) (c.text_lines.ensures.looks told)) (c.put_bytes.ensures.runs told)
+    (then_looks (Fills c.args.name.now) s0 s1 s2 c.runs.invariant.kept.frame (c.runs.invariant.runs told) (c.text_lines.ensures.looks told)) (c.put_lines.ensures.runs told)
 
 pub runs-preserved : goal.runs-preserved
 runs-preserved g c =
     let s0 : Scene = g.D.World.scene c.args.desk.now in
     let s1 : Scene = g.D.World.scene c.runs.desk in
     let s2 : Scene = g.D.World.scene c.text_lines.new.self in
-    let s3 : Scene = g.D.World.scene c.put_bytes.new.desk in
+    let s3 : Scene = g.D.World.scene c.put_lines.new.desk in
     let count = c.min-count.result in
     let lines = c.text_lines.new.into.items in
     let bytes = c.deref.result.now in
@@ -46,9 +49,9 @@ runs-preserved g c =
       kept = GoesOn-none (λ is. absurd (cc)) (GoesOn-then g.met.D.Desk.stays_on (λ is. absurd (cc)) looked c.in_ok-size.ensures.kept);
       few = c.in_ok-size.ensures.few;
       within = omega arith;
-      bound = omega (arith, few, c.runs.invariant.bound, c.in_ok-size.ensures.size);
+      bound = omega (arith, few, few_ends c.args.format bytes, ap length c.deref.ensures.value, c.runs.invariant.bound, c.in_ok-size.ensures.size);
       runs = λ told. fills_on c.args.name.now s0 s2 s3 looked.frame
-          (then_looks (Fills c.args.name.now) s0 s1 s2 c.runs.invariant.kept.frame (c.runs.invariant.runs told) (c.text_lines.ensures.looks told)) (c.put_bytes.ensures.runs told);
+          (then_looks (Fills c.args.name.now) s0 s1 s2 c.runs.invariant.kept.frame (c.runs.invariant.runs told) (c.text_lines.ensures.looks told)) (c.put_lines.ensures.runs told);
       there = λ told.
           let had = c.runs.invariant.there told in
           let before : content_of s2 c.args.name.now ≡ Some had.0 = ap (λ (s : Scene). content_of s c.args.name.now) c.text_lines.ensures.kept.frame ∙ had.1 in
@@ -60,9 +63,9 @@ runs-preserved g c =
                 let kept = g.met.D.Desk.stays_text c.args.desk.now c.runs.desk text c.runs.invariant.kept.stays has in
                 let these : lines ≡ file_of (cut_out text c.runs.at count) = c.in_ok-text_lines.ensures.lines text kept in
                 now.3
-                ∙ ap (λ (b : List ℕ). b ++ bytes) (had.3 text has)
-                ∙ ap (λ (b : List ℕ). file_of (take c.runs.at text) ++ b) (c.deref.ensures.value ∙ these)
-                ∙ sym (file_more text c.runs.at count),
+                ∙ ap (λ (b : List ℕ). b ++ ends_in c.args.format bytes) (had.3 text has)
+                ∙ ap (λ (b : List ℕ). file_in c.args.format (take c.runs.at text) ++ ends_in c.args.format b) (c.deref.ensures.value ∙ these)
+                ∙ sym (file_more c.args.format text c.runs.at count (g.met.D.Desk.is_text c.args.desk.now text c.requires.valid has)),
           );
     }
 

@@ -1,5 +1,5 @@
 use Rattle.std.proofs.Common.{◌≡◌, ◌+◌, ◌*◌, ◌-◌, ◌≤◌, ◌++◌, ℕ, List, Some, IsTrue, length, take}
-use Rattle.vs_text.specs.Text.{file_of}
+use Rattle.vs_text.specs.Documents.{file_in}
 use Rattle.vs_text.specs.declared.TheConstants.{MAX_LINE_BYTES}
 use Rattle.vs_backup.specs.declared.fill.TheConstants.{PIECE}
 use Rattle.vs_host.specs.World.{content_of}
@@ -13,10 +13,10 @@ invariant-runs g l = record {
   kept : GoesOn g.D.World.tells g.D.World.scene g.D.Desk.valid g.D.Desk.stays ⊥ l.fn.desk l.desk;
   few : length l.piece.items ≤ PIECE;
   within : l.at ≤ l.end;
-  bound : l.size + length l.piece.items ≤ l.at * (MAX_LINE_BYTES + 1);
+  bound : l.size + length l.piece.items ≤ l.at * (2 * (MAX_LINE_BYTES + 1));
   runs : IsTrue g.D.World.tells.folder → Runs (Fills l.name) (g.D.World.scene l.fn.desk) (g.D.World.scene l.desk);
   there : IsTrue g.D.World.tells.folder → (bytes : List ℕ) × (content_of (g.D.World.scene l.desk) l.name ≡ Some bytes) × (l.size ≡ length bytes)
-      × ((text : List (List ℕ)) → g.D.Desk.has_text l.fn.desk text → bytes ++ l.piece.items ≡ file_of (take l.at text));
+      × ((text : List (List ℕ)) → g.D.Desk.has_text l.fn.desk text → bytes ++ l.piece.items ≡ file_in l.format (take l.at text));
 }
 
 abbrev pub decreases-runs : goal.decreases-runs

@@ -1,7 +1,7 @@
 use Rattle.std.proofs.Common.{◌≡◌, ◌≤◌, ℕ, List, Option, IsTrue, length, refl, sym, subst, arith}
 use Rattle.std.specs.Prelude.{IsSomeAnd}
 use Rattle.std.proofs.lemmas.Result.{err_from_is_err_and}
-use Rattle.vs_text.specs.Text.{file_of}
+use Rattle.vs_text.specs.Documents.{file_in}
 use Rattle.vs_host.specs.World.{Scene}
 use Rattle.vs_disk.specs.Images.{IsSynced}
 use Rattle.vs_disk.proofs.Contents.{some_content}
@@ -19,7 +19,7 @@ returns-in_err-settle-clause-plain g c told old content text has =
     let s0 : Scene = g.D.World.scene c.args.desk.now in
     let s1 : Scene = g.D.World.scene c.settle.new.desk in
     let p = err_from_is_err_and c.from_residual.result c.from_residual.ensures.1 in
-    plain_not_begun c.args.name.now old (file_of text) s0 s1 content (c.settle.ensures.settles.narrowed told) (others_settled (one_name c.args.name.now) c.args.name.now s0 s1 refl (c.settle.ensures.settles.same told)) c.from_residual.result (rw p.1 tt)
+    plain_not_begun c.args.name.now old (file_in c.args.format text) s0 s1 content (c.settle.ensures.settles.narrowed told) (others_settled (one_name c.args.name.now) c.args.name.now s0 s1 refl (c.settle.ensures.settles.same told)) c.from_residual.result (rw p.1 tt)
 
 pub returns-in_err-cut-clause-plain : goal.returns-in_err-cut-clause-plain
 returns-in_err-cut-clause-plain g c told old content text has =
@@ -27,7 +27,7 @@ returns-in_err-cut-clause-plain g c told old content text has =
     let s1 : Scene = g.D.World.scene c.settle.new.desk in
     let s2 : Scene = g.D.World.scene c.cut.new.self in
     let p = err_from_is_err_and c.from_residual-in_err-cut.result c.from_residual-in_err-cut.ensures.1 in
-    plain_not_cut c.args.name.now old (file_of text) s0 s1 content (c.settle.ensures.settles.narrowed told) (others_settled (one_name c.args.name.now) c.args.name.now s0 s1 refl (c.settle.ensures.settles.same told))
+    plain_not_cut c.args.name.now old (file_in c.args.format text) s0 s1 content (c.settle.ensures.settles.narrowed told) (others_settled (one_name c.args.name.now) c.args.name.now s0 s1 refl (c.settle.ensures.settles.same told))
     c.settle.ensures.kept.frame (c.in_ok-settle.ensures.order.order told) (c.in_ok-settle.ensures.ok.settled told old content) (g.D.World.is_folder c.settle.new.desk told)
     s2 c.cut.ensures.kept.frame c.cut.result (c.cut.ensures.told told) c.from_residual-in_err-cut.result (rw p.1 tt) c.in_err-cut.ensures.err
 
@@ -39,11 +39,11 @@ returns-clause-plain g c told old content text has =
     let s3 : Scene = g.D.World.scene c.fill_text.new.desk in
     let stays = g.met.D.Desk.stays_on c.args.desk.now c.settle.new.desk c.cut.new.self c.settle.ensures.kept.stays c.cut.ensures.kept.stays in
     let kept = g.met.D.Desk.stays_text c.args.desk.now c.cut.new.self text stays has in
-    plain_filled c.args.name.now old (file_of text) s0 s1 content (c.settle.ensures.settles.narrowed told) (others_settled (one_name c.args.name.now) c.args.name.now s0 s1 refl (c.settle.ensures.settles.same told))
+    plain_filled c.args.name.now old (file_in c.args.format text) s0 s1 content (c.settle.ensures.settles.narrowed told) (others_settled (one_name c.args.name.now) c.args.name.now s0 s1 refl (c.settle.ensures.settles.same told))
     c.settle.ensures.kept.frame (c.in_ok-settle.ensures.order.order told) (c.in_ok-settle.ensures.ok.settled told old content) (g.D.World.is_folder c.settle.new.desk told)
     s2 c.cut.ensures.kept.frame c.cut.result (c.cut.ensures.told told) (c.in_ok-cut.ensures.ok told) s3 (c.fill_text.ensures.runs told) c.fill_text.result
-    (ok_with c.fill_text.result (λ size. IsTrue g.D.World.tells.folder → (t : List (List ℕ)) → g.D.Desk.has_text c.cut.new.self t → (size ≡ length (file_of t)) × IsSynced c.args.name.now (file_of t) s3.folder)
-    (λ size. (size ≡ length (file_of text)) × IsSynced c.args.name.now (file_of text) s3.folder) (λ size f. f told text kept) c.fill_text.ensures.ok)
+    (ok_with c.fill_text.result (λ size. IsTrue g.D.World.tells.folder → (t : List (List ℕ)) → g.D.Desk.has_text c.cut.new.self t → (size ≡ length (file_in c.args.format t)) × IsSynced c.args.name.now (file_in c.args.format t) s3.folder)
+    (λ size. (size ≡ length (file_in c.args.format text)) × IsSynced c.args.name.now (file_in c.args.format text) s3.folder) (λ size f. f told text kept) c.fill_text.ensures.ok)
     (err_with c.fill_text.result (IsTrue g.D.World.tells.folder → Fills c.args.name.now s2.folder s3.folder) (Fills c.args.name.now s2.folder s3.folder) (λ f. f told) c.fill_text.ensures.err)
 
 pub cut-requires-clause-there : goal.cut-requires-clause-there

@@ -1,6 +1,6 @@
 use Rattle.std.proofs.Common.{◌≡◌, ◌∙◌, inl, inr, Some, None, Err, refl, sym, ap, subst}
 use Rattle.std.specs.String.{string_bytes}
-use Rattle.vs_text.specs.Text.{file_of}
+use Rattle.vs_text.specs.Documents.{file_in}
 use Rattle.vs_host.specs.Disk.{Disk, Name, content_in}
 use Rattle.vs_host.specs.Names.{temporary}
 use Rattle.vs_host.specs.World.{Scene, content_of}
@@ -34,9 +34,9 @@ returns-in-Ok-Some-clause-backed g c told old content backup chosen text has =
     let bytes : c.deref.result.now ≡ backup = c.deref.ensures ∙ some_name (string_bytes c.in-Ok-Some.backup) backup (sym found ∙ chosen) in
     let there : content_of s1 name ≡ Some old = ap (λ (d : Disk). content_in d name) looks.now ∙ content in
     let kept = g.met.D.Desk.stays_text c.args.desk.now c.choose.new.desk text c.choose.ensures.kept.stays has in
-    let written = subst (λ (b : Name). WritesBacked mode keep name (temporary b) b old (file_of text) s1 s2 c.write_named.result) bytes
+    let written = subst (λ (b : Name). WritesBacked mode keep name (temporary b) b old (file_in c.args.options.now.format text) s1 s2 c.write_named.result) bytes
     (c.write_named.ensures.backed told old there text kept) in
-    backed_after mode keep name (temporary backup) backup old (file_of text) s0 s1 content (looks_narrowed s0 s1 looks)
+    backed_after mode keep name (temporary backup) backup old (file_in c.args.options.now.format text) s0 s1 content (looks_narrowed s0 s1 looks)
     (others_looks (backed_names mode name (temporary backup) backup) s0 s1 looks) c.write_named.result s2
     (reads_change s0 s1 c.choose.ensures.kept.frame) c.choose.ensures.kept.cause.later written
 
@@ -47,8 +47,8 @@ returns-in-Err-clause-backed g c told old content backup chosen text has =
     let mode = copies c.args.options.now.copy in
     let s0 : Scene = g.D.World.scene c.args.desk.now in
     let s1 : Scene = g.D.World.scene c.choose.new.desk in
-    subst (λ (why : WriteErr). WritesBacked mode keep name (temporary backup) backup old (file_of text) s0 s1 (Err why)) (sym c.with.ensures)
-    (backed_stopped mode keep name (temporary backup) backup old (file_of text) s0 s1 content (c.choose.ensures.looks told) c.in-Err.stop)
+    subst (λ (why : WriteErr). WritesBacked mode keep name (temporary backup) backup old (file_in c.args.options.now.format text) s0 s1 (Err why)) (sym c.with.ensures)
+    (backed_stopped mode keep name (temporary backup) backup old (file_in c.args.options.now.format text) s0 s1 content (c.choose.ensures.looks told) c.in-Err.stop)
 
 pub write_named-requires-clause-free : goal.write_named-requires-clause-free
 write_named-requires-clause-free g c off told =
@@ -59,7 +59,7 @@ write_named-requires-clause-free g c off told =
     subst (λ (n : Name). content_in (g.D.World.scene c.choose.new.desk).folder n ≡ None) (sym c.deref.ensures) (ap (λ (d : Disk). content_in d (string_bytes c.in-Ok-Some.backup)) looks.now ∙ free)
 
 pub returns-in-Ok-Some-clause-calls : goal.returns-in-Ok-Some-clause-calls
-returns-in-Ok-Some-clause-calls g c = λ told text has. doing.fails_then c.args.name.now (file_of text) c.write_named.result (g.D.World.scene c.args.desk.now) (g.D.World.scene c.choose.new.desk) (g.D.World.scene c.write_named.new.desk) (c.in-Ok-Some.ensures.kept.stops.none told (λ is. absurd (cc))) (c.write_named.ensures.calls told text (g.met.D.Desk.stays_text c.args.desk.now c.choose.new.desk text c.choose.ensures.kept.stays has))
+returns-in-Ok-Some-clause-calls g c = λ told text has. doing.fails_then c.args.name.now (file_in c.args.options.now.format text) c.write_named.result (g.D.World.scene c.args.desk.now) (g.D.World.scene c.choose.new.desk) (g.D.World.scene c.write_named.new.desk) (c.in-Ok-Some.ensures.kept.stops.none told (λ is. absurd (cc))) (c.write_named.ensures.calls told text (g.met.D.Desk.stays_text c.args.desk.now c.choose.new.desk text c.choose.ensures.kept.stays has))
 
 pub returns-in-Ok-None-clause-calls : goal.returns-in-Ok-None-clause-calls
 returns-in-Ok-None-clause-calls g c told text has =
@@ -72,7 +72,7 @@ pub returns-in-Err-clause-calls : goal.returns-in-Err-clause-calls
 returns-in-Err-clause-calls g c told text has =
     let s0 : Scene = g.D.World.scene c.args.desk.now in
     let s1 : Scene = g.D.World.scene c.choose.new.desk in
-    subst (λ (why : WriteErr). FailsNoEarlier c.args.name.now (file_of text) s0 s1 (Err why)) (sym c.with.ensures)
+    subst (λ (why : WriteErr). FailsNoEarlier c.args.name.now (file_in c.args.options.now.format text) s0 s1 (Err why)) (sym c.with.ensures)
     (record { done = tt; refused = doing.refused_stop g.D.World.tells c.in-Err.stop place.File (λ e. cc) s0 s1 told c.in-Err.ensures.kept.stops c.in-Err.ensures.kept.cause })
 
 pub returns-in-Ok-None-clause-all_taken : goal.returns-in-Ok-None-clause-all_taken

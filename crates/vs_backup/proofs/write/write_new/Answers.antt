@@ -1,6 +1,6 @@
 use Rattle.std.proofs.Common.{refl}
 use Rattle.std.proofs.lemmas.Result.{err_from_is_err_and}
-use Rattle.vs_text.specs.Text.{file_of}
+use Rattle.vs_text.specs.Documents.{file_in}
 use Rattle.vs_host.specs.World.{Scene}
 use Rattle.vs_disk.proofs.Runs.{starts}
 use Rattle.vs_backup.specs.Works.{Renews, Spares, one_name}
@@ -15,7 +15,7 @@ returns-in_err-piece-clause-fresh g c told free text has =
     let s0 : Scene = g.D.World.scene c.args.desk.now in
     let on = one_name c.args.temporary.now in
     let p = err_from_is_err_and c.from_residual.result c.from_residual.ensures.1 in
-    fresh_not_taken c.args.name.now c.args.temporary.now (file_of text) s0 s0 c.requires.differ free (starts (Spares on) s0 (spares_none on s0.folder))
+    fresh_not_taken c.args.name.now c.args.temporary.now (file_in c.args.format text) s0 s0 c.requires.differ free (starts (Spares on) s0 (spares_none on s0.folder))
     (starts (Renews c.args.temporary.now) s0 (renews_same c.args.temporary.now s0.folder s0.folder refl)) c.from_residual.result (rw p.1 tt)
 
 pub returns-in_err-piece-clause-kept : goal.returns-in_err-piece-clause-kept

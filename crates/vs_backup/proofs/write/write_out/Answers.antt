@@ -1,7 +1,7 @@
 use Rattle.std.proofs.Common.{◌≡◌, ◌∙◌, [], ◌∷◌, inl, inr, ℕ, List, true, false, Option, Some, None, Err, refl, ap, sym, subst, Result}
 use Rattle.std.specs.Prelude.{is_some}
 use Rattle.std.proofs.lemmas.Bool.{true≢false}
-use Rattle.vs_text.specs.Text.{file_of}
+use Rattle.vs_text.specs.Documents.{file_in}
 use Rattle.vs_host.specs.Disk.{Disk, Name, content_in}
 use Rattle.vs_host.specs.Names.{temporary}
 use Rattle.vs_host.specs.Trace.{Looked}
@@ -59,8 +59,8 @@ returns-in-Ok-true-clause-backed g c told old content backup chosen text has =
     let same = looks.now in
     let kept = g.met.D.Desk.stays_text c.args.desk.now c.has.new.self text c.has.ensures.kept.stays has in
     let writes = subst (λ (n : Name). (x : List ℕ) → content_of s1 n ≡ Some x → (b : Name) → backup_of options n s1.folder ≡ Some b → (t : List (List ℕ)) → g.D.Desk.has_text c.has.new.self t
-    → WritesWith options n b x (file_of t) s1 s2 c.write_there.result) c.as_str-name.ensures (c.write_there.ensures.backed told) in
-    inr (backed_after (copies options.copy) options.backup name (temporary backup) backup old (file_of text) s0 s1 content (looks_narrowed s0 s1 looks)
+    → WritesWith options n b x (file_in c.args.options.now.format t) s1 s2 c.write_there.result) c.as_str-name.ensures (c.write_there.ensures.backed told) in
+    inr (backed_after (copies options.copy) options.backup name (temporary backup) backup old (file_in c.args.options.now.format text) s0 s1 content (looks_narrowed s0 s1 looks)
     (others_looks (backed_names (copies options.copy) name (temporary backup) backup) s0 s1 looks) c.write_there.result s2
     (reads_change s0 s1 c.has.ensures.kept.frame) c.has.ensures.kept.cause.later
     (writes old (ap (λ (d : Disk). content_in d name) same ∙ content) backup (ap (λ (d : Disk). backup_of options name d) same ∙ chosen) text kept))
@@ -86,8 +86,8 @@ returns-in-Ok-true-clause-plain g c told old content off text has =
     let looks = one_look Looked (c.as_str-name.result.now ∷ []) c.has.result s0 s1 c.has.ensures.kept.frame (c.has.ensures.told told) in
     let kept = g.met.D.Desk.stays_text c.args.desk.now c.has.new.self text c.has.ensures.kept.stays has in
     let writes = subst (λ (n : Name). (x : List ℕ) → content_of s1 n ≡ Some x → backs_up options ≡ false → (t : List (List ℕ)) → g.D.Desk.has_text c.has.new.self t
-    → WritesInPlace n x (file_of t) s1 s2 c.write_there.result) c.as_str-name.ensures (c.write_there.ensures.plain told) in
-    inr (plain_after s0 s1 s2 c.has.ensures.kept.frame looks c.write_there.result name old (file_of text) (writes old (ap (λ (d : Disk). content_in d name) looks.now ∙ content) off text kept))
+    → WritesInPlace n x (file_in c.args.options.now.format t) s1 s2 c.write_there.result) c.as_str-name.ensures (c.write_there.ensures.plain told) in
+    inr (plain_after s0 s1 s2 c.has.ensures.kept.frame looks c.write_there.result name old (file_in c.args.options.now.format text) (writes old (ap (λ (d : Disk). content_in d name) looks.now ∙ content) off text kept))
 
 pub returns-in-Ok-false-clause-fresh : goal.returns-in-Ok-false-clause-fresh
 returns-in-Ok-false-clause-fresh g c told free text has =
@@ -97,13 +97,13 @@ returns-in-Ok-false-clause-fresh g c told free text has =
     let s2 : Scene = g.D.World.scene c.write_new.new.desk in
     let looks = one_look Looked (c.as_str-name.result.now ∷ []) c.has.result s0 s1 c.has.ensures.kept.frame (c.has.ensures.told told) in
     let kept = g.met.D.Desk.stays_text c.args.desk.now c.has.new.self text c.has.ensures.kept.stays has in
-    let named = subst (λ (n : Name). content_of s1 n ≡ None → (t : List (List ℕ)) → g.D.Desk.has_text c.has.new.self t → WritesFresh (two_names c.as_str.result.now n) n (file_of t) s1 s2 c.write_new.result)
+    let named = subst (λ (n : Name). content_of s1 n ≡ None → (t : List (List ℕ)) → g.D.Desk.has_text c.has.new.self t → WritesFresh (two_names c.as_str.result.now n) n (file_in c.args.options.now.format t) s1 s2 c.write_new.result)
     c.as_str-name.ensures (c.write_new.ensures.fresh told) in
-    let fresh = subst (λ (m : Name). WritesFresh (two_names m name) name (file_of text) s1 s2 c.write_new.result) c.as_str.ensures (named (ap (λ (d : Disk). content_in d name) looks.now ∙ free) text kept) in
+    let fresh = subst (λ (m : Name). WritesFresh (two_names m name) name (file_in c.args.options.now.format text) s1 s2 c.write_new.result) c.as_str.ensures (named (ap (λ (d : Disk). content_in d name) looks.now ∙ free) text kept) in
     inr (record {
       answer = c.write_new.result;
       is = c.without_backup.ensures;
-      fresh = fresh_after s0 s1 s2 c.has.ensures.kept.frame looks c.without_backup.result c.args.names.now.file_new name (file_of text) c.write_new.result fresh;
+      fresh = fresh_after s0 s1 s2 c.has.ensures.kept.frame looks c.without_backup.result c.args.names.now.file_new name (file_in c.args.options.now.format text) c.write_new.result fresh;
     })
 
 pub returns-in-Err-clause-backed : goal.returns-in-Err-clause-backed
@@ -152,11 +152,11 @@ returns-in-Ok-false-clause-others g c told =
     let text = g.met.D.Desk.tells_one c.args.desk.now c.requires.valid told in
     let kept = g.met.D.Desk.stays_text c.args.desk.now c.has.new.self text.0 c.has.ensures.kept.stays text.1 in
     let none = subst (λ (n : Name). content_in s0.folder n ≡ None) c.as_str-name.ensures (not_there_now c.as_str-name.result.now s0.folder (sym c.in-Ok-false.field-0-test ∙ c.in-Ok-false.ensures.value told)) in
-    let named = subst (λ (n : Name). content_of s1 n ≡ None → (t : List (List ℕ)) → g.D.Desk.has_text c.has.new.self t → WritesFresh (two_names c.as_str.result.now n) n (file_of t) s1 s2 c.write_new.result)
+    let named = subst (λ (n : Name). content_of s1 n ≡ None → (t : List (List ℕ)) → g.D.Desk.has_text c.has.new.self t → WritesFresh (two_names c.as_str.result.now n) n (file_in c.args.options.now.format t) s1 s2 c.write_new.result)
     c.as_str-name.ensures (c.write_new.ensures.fresh told) in
     let free : content_of s1 name ≡ None = ap (λ (d : Disk). content_in d name) looks.now ∙ none in
-    let fresh = subst (λ (m : Name). WritesFresh (two_names m name) name (file_of text.0) s1 s2 c.write_new.result) c.as_str.ensures (named free text.0 kept) in
-    others_after options name s0 s1 s2 c.has.ensures.kept.frame looks (fresh_others options name s1 s2 made (file_of text.0) c.write_new.result free (new_name c.args.names.now c.requires.names) fresh)
+    let fresh = subst (λ (m : Name). WritesFresh (two_names m name) name (file_in c.args.options.now.format text.0) s1 s2 c.write_new.result) c.as_str.ensures (named free text.0 kept) in
+    others_after options name s0 s1 s2 c.has.ensures.kept.frame looks (fresh_others options name s1 s2 made (file_in c.args.options.now.format text.0) c.write_new.result free (new_name c.args.names.now c.requires.names) fresh)
 
 pub returns-in-Err-clause-others : goal.returns-in-Err-clause-others
 returns-in-Err-clause-others g c told =
@@ -187,8 +187,8 @@ returns-in-Ok-true-clause-calls g c = λ told text has.
     let s1 : Scene = g.D.World.scene c.has.new.self in
     let s2 : Scene = g.D.World.scene c.write_there.new.desk in
     let kept = g.met.D.Desk.stays_text c.args.desk.now c.has.new.self text c.has.ensures.kept.stays has in
-    doing.fails_then c.args.names.now.file (file_of text) c.write_there.result s0 s1 s2 (c.in-Ok-true.ensures.kept.stops.none told (λ is. absurd (cc)))
-    (subst (λ (n : Name). FailsNoEarlier n (file_of text) s1 s2 c.write_there.result) c.as_str-name.ensures (c.write_there.ensures.calls told text kept))
+    doing.fails_then c.args.names.now.file (file_in c.args.options.now.format text) c.write_there.result s0 s1 s2 (c.in-Ok-true.ensures.kept.stops.none told (λ is. absurd (cc)))
+    (subst (λ (n : Name). FailsNoEarlier n (file_in c.args.options.now.format text) s1 s2 c.write_there.result) c.as_str-name.ensures (c.write_there.ensures.calls told text kept))
 
 pub returns-in-Ok-false-clause-calls : goal.returns-in-Ok-false-clause-calls
 returns-in-Ok-false-clause-calls g c = λ told text has.
@@ -199,12 +199,12 @@ returns-in-Ok-false-clause-calls g c = λ told text has.
     let looks = one_look Looked (c.as_str-name.result.now ∷ []) c.has.result s0 s1 c.has.ensures.kept.frame (c.has.ensures.told told) in
     let kept = g.met.D.Desk.stays_text c.args.desk.now c.has.new.self text c.has.ensures.kept.stays has in
     let none = subst (λ (n : Name). content_in s0.folder n ≡ None) c.as_str-name.ensures (not_there_now c.as_str-name.result.now s0.folder (sym c.in-Ok-false.field-0-test ∙ c.in-Ok-false.ensures.value told)) in
-    let named = subst (λ (n : Name). content_of s1 n ≡ None → (t : List (List ℕ)) → g.D.Desk.has_text c.has.new.self t → WritesFresh (two_names c.as_str.result.now n) n (file_of t) s1 s2 c.write_new.result)
+    let named = subst (λ (n : Name). content_of s1 n ≡ None → (t : List (List ℕ)) → g.D.Desk.has_text c.has.new.self t → WritesFresh (two_names c.as_str.result.now n) n (file_in c.args.options.now.format t) s1 s2 c.write_new.result)
     c.as_str-name.ensures (c.write_new.ensures.fresh told) in
     let fresh = named (ap (λ (d : Disk). content_in d name) looks.now ∙ none) text kept in
-    doing.fails_then name (file_of text) c.without_backup.result s0 s1 s2 (c.in-Ok-false.ensures.kept.stops.none told (λ is. absurd (cc)))
-    (subst (λ (r : Result ℕ WriteErr). FailsNoEarlier name (file_of text) s1 s2 r) (sym c.without_backup.ensures)
-    (doing.fails_plain name (file_of text) g.D.World.tells c.write_new.result s1 s2 told (g.D.World.newest c.write_new.new.desk told) c.write_new.ensures.kept.stops c.write_new.ensures.kept.cause fresh.written))
+    doing.fails_then name (file_in c.args.options.now.format text) c.without_backup.result s0 s1 s2 (c.in-Ok-false.ensures.kept.stops.none told (λ is. absurd (cc)))
+    (subst (λ (r : Result ℕ WriteErr). FailsNoEarlier name (file_in c.args.options.now.format text) s1 s2 r) (sym c.without_backup.ensures)
+    (doing.fails_plain name (file_in c.args.options.now.format text) g.D.World.tells c.write_new.result s1 s2 told (g.D.World.newest c.write_new.new.desk told) c.write_new.ensures.kept.stops c.write_new.ensures.kept.cause fresh.written))
 
 pub returns-in-Err-clause-calls : goal.returns-in-Err-clause-calls
 returns-in-Err-clause-calls g c told text has =
@@ -220,7 +220,7 @@ returns-in-Ok-true-clause-looked g c told =
     let text = g.met.D.Desk.tells_one c.args.desk.now c.requires.valid told in
     let kept = g.met.D.Desk.stays_text c.args.desk.now c.has.new.self text.0 c.has.ensures.kept.stays text.1 in
     inr (subst (λ (n : Name). BeginsByLook n s0 s2) c.as_str-name.ensures
-    (doing.looks_write c.as_str-name.result.now true s0 s1 s2 (file_of text.0) c.write_there.result (c.in-Ok-true.ensures.told told) (c.write_there.ensures.calls told text.0 kept)))
+    (doing.looks_write c.as_str-name.result.now true s0 s1 s2 (file_in c.args.options.now.format text.0) c.write_there.result (c.in-Ok-true.ensures.told told) (c.write_there.ensures.calls told text.0 kept)))
 
 pub returns-in-Ok-false-clause-looked : goal.returns-in-Ok-false-clause-looked
 returns-in-Ok-false-clause-looked g c told =

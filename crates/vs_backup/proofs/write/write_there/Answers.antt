@@ -1,6 +1,6 @@
 use Rattle.std.proofs.Common.{◌≡◌, ◌∙◌, Some, None, sym, subst, Result, ℕ}
 use Rattle.std.proofs.lemmas.Bool.{true≢false}
-use Rattle.vs_text.specs.Text.{file_of}
+use Rattle.vs_text.specs.Documents.{file_in}
 use Rattle.vs_host.specs.World.{Scene}
 use Rattle.vs_disk.proofs.Contents.{some_content}
 use Rattle.vs_backup.proofs.NamesApart.{no_backup}
@@ -28,7 +28,7 @@ returns-then-backs_up-clause-others g c told =
     let s1 : Scene = g.D.World.scene c.write_chosen.new.desk in
     let had = some_content s0.folder c.args.name.now (c.requires.there told) in
     let text = g.met.D.Desk.tells_one c.args.desk.now c.requires.valid told in
-    chosen_others c.args.options.now c.args.name.now s0 s1 had.0 (file_of text.0) c.write_chosen.result (c.requires.there told)
+    chosen_others c.args.options.now c.args.name.now s0 s1 had.0 (file_in c.args.options.now.format text.0) c.write_chosen.result (c.requires.there told)
     (λ backup chosen. c.write_chosen.ensures.backed told had.0 had.1 backup chosen text.0 text.1) (λ none. c.write_chosen.ensures.all_taken told none)
 
 pub returns-clause-others : goal.returns-clause-others
@@ -37,7 +37,7 @@ returns-clause-others g c told =
     let s1 : Scene = g.D.World.scene c.write_unbacked.new.desk in
     let had = some_content s0.folder c.args.name.now (c.requires.there told) in
     let text = g.met.D.Desk.tells_one c.args.desk.now c.requires.valid told in
-    plain_others c.args.options.now c.args.name.now s0 s1 had.0 (file_of text.0) c.write_unbacked.result (c.write_unbacked.ensures.plain told had.0 had.1 text.0 text.1)
+    plain_others c.args.options.now c.args.name.now s0 s1 had.0 (file_in c.args.options.now.format text.0) c.write_unbacked.result (c.write_unbacked.ensures.plain told had.0 had.1 text.0 text.1)
 
 pub returns-then-backs_up-clause-somewhere : goal.returns-then-backs_up-clause-somewhere
 returns-then-backs_up-clause-somewhere g c told on refused =
@@ -45,11 +45,11 @@ returns-then-backs_up-clause-somewhere g c told on refused =
     let s1 : Scene = g.D.World.scene c.write_chosen.new.desk in
     let had = some_content s0.folder c.args.name.now (c.requires.there told) in
     let text = g.met.D.Desk.tells_one c.args.desk.now c.requires.valid told in
-    chosen_somewhere c.args.options.now c.args.name.now s0 s1 had.0 (file_of text.0) c.write_chosen.result
+    chosen_somewhere c.args.options.now c.args.name.now s0 s1 had.0 (file_in c.args.options.now.format text.0) c.write_chosen.result
     (λ backup chosen. c.write_chosen.ensures.backed told had.0 had.1 backup chosen text.0 text.1) (λ none. c.write_chosen.ensures.all_taken told none) refused
 
 pub returns-clause-somewhere : goal.returns-clause-somewhere
 returns-clause-somewhere g c told on refused = true≢false (sym on ∙ sym c.backs_up.ensures ∙ c.if-backs_up.false)
 
 pub returns-clause-calls : goal.returns-clause-calls
-returns-clause-calls g c = λ told text has. let had = some_content (g.D.World.scene c.args.desk.now).folder c.args.name.now (c.requires.there told) in subst (λ (r : Result ℕ WriteErr). FailsNoEarlier c.args.name.now (file_of text) (g.D.World.scene c.args.desk.now) (g.D.World.scene c.write_unbacked.new.desk) r) (sym c.without_backup.ensures) (doing.fails_plain c.args.name.now (file_of text) g.D.World.tells c.write_unbacked.result (g.D.World.scene c.args.desk.now) (g.D.World.scene c.write_unbacked.new.desk) told (g.D.World.newest c.write_unbacked.new.desk told) c.write_unbacked.ensures.kept.stops c.write_unbacked.ensures.kept.cause (c.write_unbacked.ensures.plain told had.0 had.1 text has).written)
+returns-clause-calls g c = λ told text has. let had = some_content (g.D.World.scene c.args.desk.now).folder c.args.name.now (c.requires.there told) in subst (λ (r : Result ℕ WriteErr). FailsNoEarlier c.args.name.now (file_in c.args.options.now.format text) (g.D.World.scene c.args.desk.now) (g.D.World.scene c.write_unbacked.new.desk) r) (sym c.without_backup.ensures) (doing.fails_plain c.args.name.now (file_in c.args.options.now.format text) g.D.World.tells c.write_unbacked.result (g.D.World.scene c.args.desk.now) (g.D.World.scene c.write_unbacked.new.desk) told (g.D.World.newest c.write_unbacked.new.desk told) c.write_unbacked.ensures.kept.stops c.write_unbacked.ensures.kept.cause (c.write_unbacked.ensures.plain told had.0 had.1 text has).written)

@@ -4,7 +4,7 @@ use Rattle.vs_pair.specs.Pair.{is_swap}
 use Rattle.vs_paged.specs.Fits.{names_of}
 use Rattle.vs_paged.proofs.SyncLemmas.{fits_changed, fits_kept}
 use Rattle.vs_disk.specs.Names.{SameAt}
-use Rattle.vs_text.specs.Text.{file_of}
+use Rattle.vs_text.specs.Documents.{file_in}
 use Rattle.vs_desk.proofs.Left.{keeps_left}
 use Rattle.vs_desk.proofs.Stillness.{still_apart, still_fits}
 use Rattle.vs_desk.proofs.Spared.{keeps_swap, paged_same, swap_outside}
@@ -40,7 +40,7 @@ returns-clause-left g c told lines syncs fits =
     let names = names_of paged in
     let s0 : Scene = g.F.World.scene c.args.host.now in
     let s1 : Scene = g.F.World.scene c.write_in.new.host in
-    keeps_left c.args.options.now names paged.pair.files.named (file_of lines) s0 s1 _ (c.write_in.ensures.written told lines fits.pages) (SameAt (is_swap names))
+    keeps_left c.args.options.now names paged.pair.files.named (file_in c.args.options.now.format lines) s0 s1 _ (c.write_in.ensures.written told lines fits.pages) (SameAt (is_swap names))
     (c.write_in.ensures.others told (is_swap names) (swap_outside names paged.pair.files.named c.args.options.now s0.folder)
     (still_apart (is_swap names) s0.folder (g.F.World.is_folder c.args.host.now told) (still_fits paged s0.folder lines syncs fits)))
 
