@@ -8,8 +8,9 @@ use Rattle.vs_disk.specs.Names.{IsApart}
 use Rattle.vs_disk.specs.Runs.{Inside}
 use Rattle.vs_disk.proofs.Others.{same_then}
 use Rattle.vs_disk.proofs.Runs.{goes_then, goes_weaker}
+use Rattle.vs_text.specs.Documents.{Document}
 use Rattle.vs_safety.specs.FileWork.{FileWork}
-use Rattle.vs_safety.specs.Texts.{Text, RecoversOrNone, IsBetween}
+use Rattle.vs_safety.specs.Texts.{RecoversOrNone, IsBetween}
 use Rattle.vs_safety.specs.Turns.{opened}
 use Rattle.vs_safety.specs.Safety.{SparesAmong, Works, WorksAmong}
 use Rattle.vs_safety.specs.History.{BeginsAmong, HasBegunAmong}
@@ -47,41 +48,41 @@ module _ (others : Name → Bool) (names : Names) (P : Disk → Type 0) (old mid
     spared = same_then others old.folder mid.folder new.folder first.spared second.spared;
   }
 
-module _ (party other : Party) (has : HasFamily party) (other_has : HasFamily other) (apart : ShareNone party other) (text : Text) (write : Option FileWork) (Q : Disk → Type 0) (start mid now : Scene) (frame : ChangesFolder mid now) where
+module _ (party other : Party) (has : HasFamily party) (other_has : HasFamily other) (apart : ShareNone party other) (document : Document) (write : Option FileWork) (Q : Disk → Type 0) (start mid now : Scene) (frame : ChangesFolder mid now) where
   -- the session opened its file, and then the other one works
-  module _ (begun : HasBegunAmong (others_of party) party.names text start mid) (alone : IsApart party.family mid.folder) (works : Works other.names write Q mid now) where
-    pub begins_first : BeginsAmong (others_of party) party.names text start now
+  module _ (begun : HasBegunAmong (others_of party) party.names document start mid) (alone : IsApart party.family mid.folder) (works : Works other.names write Q mid now) where
+    pub begins_first : BeginsAmong (others_of party) party.names document start now
     begins_first = record {
       settled = begun.begins.settled;
       at_start = begun.begins.at_start;
-      works = works_join (others_of party) party.names (RecoversOrNone party.names (text ∷ [])) start mid now frame begun.begins.works
-          (foreign_works party other has other_has apart write Q mid now alone (RecoversOrNone party.names (text ∷ []))
-          (λ d same. or_none_kept party has mid.folder d same (text ∷ []) (or_none party.names (text ∷ []) mid.folder (between_recovers party.names (opened text) mid.folder begun.between))) works);
+      works = works_join (others_of party) party.names (RecoversOrNone party.names (document ∷ [])) start mid now frame begun.begins.works
+          (foreign_works party other has other_has apart write Q mid now alone (RecoversOrNone party.names (document ∷ []))
+          (λ d same. or_none_kept party has mid.folder d same (document ∷ []) (or_none party.names (document ∷ []) mid.folder (between_recovers party.names (opened document) mid.folder begun.between))) works);
     }
 
-    pub begun_first : HasBegunAmong (others_of party) party.names text start now
+    pub begun_first : HasBegunAmong (others_of party) party.names document start now
     begun_first = record {
       begins = begins_first;
       foreign = begun.foreign;
-      between = between_kept party has mid.folder now.folder (works_leave party other has other_has apart write Q mid now alone now.folder works.spared) (opened text) begun.between;
+      between = between_kept party has mid.folder now.folder (works_leave party other has other_has apart write Q mid now alone now.folder works.spared) (opened document) begun.between;
     }
 
   -- the other one works, and then the session opens its file
-  pub begins_second : start.folder.pending ≡ [] → RecoversOrNone party.names (text ∷ []) start.folder → IsApart party.family start.folder → Works other.names write Q start mid
-      → Works party.names None (RecoversOrNone party.names (text ∷ [])) mid now → BeginsAmong (others_of party) party.names text start now
+  pub begins_second : start.folder.pending ≡ [] → RecoversOrNone party.names (document ∷ []) start.folder → IsApart party.family start.folder → Works other.names write Q start mid
+      → Works party.names None (RecoversOrNone party.names (document ∷ [])) mid now → BeginsAmong (others_of party) party.names document start now
   begins_second settled at_start alone works own = record {
     settled = settled;
     at_start = at_start;
-    works = works_join (others_of party) party.names (RecoversOrNone party.names (text ∷ [])) start mid now frame
-        (foreign_works party other has other_has apart write Q start mid alone (RecoversOrNone party.names (text ∷ [])) (λ d same. or_none_kept party has start.folder d same (text ∷ []) at_start) works)
-        (own_works party None (RecoversOrNone party.names (text ∷ [])) mid now own);
+    works = works_join (others_of party) party.names (RecoversOrNone party.names (document ∷ [])) start mid now frame
+        (foreign_works party other has other_has apart write Q start mid alone (RecoversOrNone party.names (document ∷ [])) (λ d same. or_none_kept party has start.folder d same (document ∷ []) at_start) works)
+        (own_works party None (RecoversOrNone party.names (document ∷ [])) mid now own);
   }
 
 -- the first one's own opening
-pub begins_own : (party : Party) (text : Text) (start now : Scene) → start.folder.pending ≡ [] → RecoversOrNone party.names (text ∷ []) start.folder → Works party.names None (RecoversOrNone party.names (text ∷ [])) start now
-    → BeginsAmong (others_of party) party.names text start now
-begins_own party text start now settled at_start works = record { settled = settled; at_start = at_start; works = own_works party None (RecoversOrNone party.names (text ∷ [])) start now works }
+pub begins_own : (party : Party) (document : Document) (start now : Scene) → start.folder.pending ≡ [] → RecoversOrNone party.names (document ∷ []) start.folder → Works party.names None (RecoversOrNone party.names (document ∷ [])) start now
+    → BeginsAmong (others_of party) party.names document start now
+begins_own party document start now settled at_start works = record { settled = settled; at_start = at_start; works = own_works party None (RecoversOrNone party.names (document ∷ [])) start now works }
 
-pub has_begun : (party : Party) (text : Text) (start now : Scene) → HasFamily party → BeginsAmong (others_of party) party.names text start now → IsBetween party.names (opened text) now.folder
-    → HasBegunAmong (others_of party) party.names text start now
-has_begun party text start now has begins between = record { begins = begins; foreign = has.undo; between = between }
+pub has_begun : (party : Party) (document : Document) (start now : Scene) → HasFamily party → BeginsAmong (others_of party) party.names document start now → IsBetween party.names (opened document) now.folder
+    → HasBegunAmong (others_of party) party.names document start now
+has_begun party document start now has begins between = record { begins = begins; foreign = has.undo; between = between }

@@ -3,8 +3,9 @@ use Rattle.std.proofs.Common.{◌⊎◌, ℕ, ◌<◌, List, ◌++◌, length, l
 use Rattle.vs_host.specs.Disk.{Disk}
 use Rattle.vs_host.specs.World.{Scene, LeavesTrace}
 use Rattle.vs_disk.specs.Names.{IsApart}
+use Rattle.vs_text.specs.Documents.{Document}
 use Rattle.vs_safety.specs.FileWork.{FileWork}
-use Rattle.vs_safety.specs.Texts.{Text, IsBetween, NoneLeft, RecoversOrNone, recoverable}
+use Rattle.vs_safety.specs.Texts.{IsBetween, NoneLeft, RecoversOrNone, recoverable}
 use Rattle.vs_safety.specs.Turns.{Turn, Quits, with_begun}
 use Rattle.vs_safety.specs.Safety.{IsCrashSafeAmong, IsFirstPart, IsUnderWay, Looks, Stepped, SteppedAmong, Works, Wrote}
 use Rattle.vs_safety.specs.History.{History, Open, After, HasBegunAmong, Replied, WaitsAmong, ran_of, syncs_of}
@@ -149,8 +150,8 @@ part_front written reply more part = (part.0 ++ more, ap (λ (l : List ℕ). l +
 part_behind : (reply written other : List ℕ) → IsFirstPart written other → IsFirstPart (reply ++ written) (reply ++ other)
 part_behind reply written other part = (part.0, ap (λ (l : List ℕ). reply ++ l) part.1 ∙ sym (append_assoc reply written part.0))
 
-module _ (one two : Party) (start now : Scene) (text other_text : Text) (reply other_reply : List ℕ) (first : HasBegunAmong (others_of one) one.names text start now)
-    (second : HasBegunAmong (others_of two) two.names other_text start now) where
+module _ (one two : Party) (start now : Scene) (document other_document : Document) (reply other_reply : List ℕ) (first : HasBegunAmong (others_of one) one.names document start now)
+    (second : HasBegunAmong (others_of two) two.names other_document start now) where
   both_replies : (mid new : Scene) → Replied reply now mid → Replied other_reply mid new → Replied (reply ++ other_reply) now new
   both_replies mid new replied other_replied = record { some = some_both replied.some; wrote = wrote_then reply other_reply now mid new replied.wrote other_replied.wrote }
     where
@@ -158,25 +159,25 @@ module _ (one two : Party) (start now : Scene) (text other_text : Text) (reply o
       some_both some = omega (arith, some, length-append reply other_reply)
 
   pub both_opened : (mid new : Scene) → AreSetApart one two now.folder → Replied reply now mid → Replied other_reply mid new
-      → BothGo one two start (Running (After (Open text reply) (of_others other_reply))) (Running (Open other_text (reply ++ other_reply))) new
+      → BothGo one two start (Running (After (Open document reply) (of_others other_reply))) (Running (Open other_document (reply ++ other_reply))) new
   both_opened mid new apart replied other_replied = record {
-    first_at = at_replied one start (Running (Open text reply)) other_reply mid new (waits_first (others_of one) one.names start text reply now mid first replied) other_replied;
-    second_at = waits_first (others_of two) two.names start other_text (reply ++ other_reply) now new second (both_replies mid new replied other_replied);
+    first_at = at_replied one start (Running (Open document reply)) other_reply mid new (waits_first (others_of one) one.names start document reply now mid first replied) other_replied;
+    second_at = waits_first (others_of two) two.names start other_document (reply ++ other_reply) now new second (both_replies mid new replied other_replied);
     apart = subst (λ (d : Disk). AreSetApart one two d) (sym (other_replied.wrote.folder ∙ replied.wrote.folder)) apart;
   }
 
   -- the first one is cut short
-  pub both_first_cut : (written : List ℕ) (new : Scene) → 0 < length reply → Wrote written now new → IsFirstPart written reply → BothKept one two start (Running (Open text reply)) (Running (Open other_text (reply ++ other_reply))) new
+  pub both_first_cut : (written : List ℕ) (new : Scene) → 0 < length reply → Wrote written now new → IsFirstPart written reply → BothKept one two start (Running (Open document reply)) (Running (Open other_document (reply ++ other_reply))) new
   both_first_cut written new some wrote part = record {
-    first_kept = opening_cut (others_of one) one.names one.line text reply start now first new written some wrote part;
-    second_kept = opening_cut (others_of two) two.names two.line other_text (reply ++ other_reply) start now second new written (omega (arith, some, length-append reply other_reply)) wrote (part_front written reply other_reply part);
+    first_kept = opening_cut (others_of one) one.names one.line document reply start now first new written some wrote part;
+    second_kept = opening_cut (others_of two) two.names two.line other_document (reply ++ other_reply) start now second new written (omega (arith, some, length-append reply other_reply)) wrote (part_front written reply other_reply part);
   }
 
   -- or the second one
   pub both_second_cut : (mid : Scene) (written : List ℕ) (new : Scene) → Replied reply now mid → 0 < length other_reply → Wrote written mid new → IsFirstPart written other_reply
-      → BothKept one two start (Running (After (Open text reply) (of_others other_reply))) (Running (Open other_text (reply ++ other_reply))) new
+      → BothKept one two start (Running (After (Open document reply) (of_others other_reply))) (Running (Open other_document (reply ++ other_reply))) new
   both_second_cut mid written new replied some wrote part = record {
-    first_kept = at_reply_cut one start (Running (Open text reply)) other_reply written mid new (waits_first (others_of one) one.names start text reply now mid first replied) some wrote part;
-    second_kept = opening_cut (others_of two) two.names two.line other_text (reply ++ other_reply) start now second new (reply ++ written) (omega (arith, some, length-append reply other_reply))
+    first_kept = at_reply_cut one start (Running (Open document reply)) other_reply written mid new (waits_first (others_of one) one.names start document reply now mid first replied) some wrote part;
+    second_kept = opening_cut (others_of two) two.names two.line other_document (reply ++ other_reply) start now second new (reply ++ written) (omega (arith, some, length-append reply other_reply))
         (wrote_then reply written now mid new replied.wrote wrote) (part_behind reply written other_reply part);
   }

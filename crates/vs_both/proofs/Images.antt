@@ -5,11 +5,12 @@ use Rattle.vs_host.specs.Disk.{Disk, Name, IsImage}
 use Rattle.vs_disk.specs.Names.{IsImageAt, SameAt}
 use Rattle.vs_disk.proofs.Others.{image_before}
 use Rattle.vs_disk.proofs.Parts.{with_rest, image_with_rest}
+use Rattle.vs_text.specs.Documents.{Document}
 use Rattle.vs_swap.specs.Recovery.{Recovered}
 use Rattle.vs_pair.specs.declared.side.Side.{Side}
 use Rattle.vs_pair.specs.declared.side.Side.TheVariants.{Swp, Swo}
 use Rattle.vs_pair.specs.Pair.{Image, name_of, other_side}
-use Rattle.vs_safety.specs.Texts.{Text, Sync, GivesOneOf, Recovers, RecoversOrNone, NoneLeft, IsThereAs, IsBeside, IsBetween}
+use Rattle.vs_safety.specs.Texts.{Sync, GivesOneOf, Recovers, RecoversOrNone, NoneLeft, IsThereAs, IsBeside, IsBetween}
 use Rattle.vs_both.specs.Beside.{Party, HasFamily}
 use Rattle.vs_both.proofs.Names.{swp_in, swo_in}
 
@@ -27,16 +28,16 @@ module _ (party : Party) (has : HasFamily party) (old new : Disk) (same : SameAt
   side_in Swp = swp_in party has
   side_in Swo = swo_in party has
 
-  gives_kept : (texts : List Text) (was image : Image) → AgreesWith image was → GivesOneOf party.names texts was → GivesOneOf party.names texts image
-  gives_kept texts was image is gives = (
+  gives_kept : (documents : List Document) (was image : Image) → AgreesWith image was → GivesOneOf party.names documents was → GivesOneOf party.names documents image
+  gives_kept documents was image is gives = (
     gives.0,
     gives.1,
     subst (λ (o : Option (List ℕ)). Recovered o (image party.names.swo) gives.0) (is party.names.swp (swp_in party has))
         (subst (λ (o : Option (List ℕ)). Recovered (was party.names.swp) o gives.0) (is party.names.swo (swo_in party has)) gives.2),
   )
 
-  pub recovers_kept : (texts : List Text) → Recovers party.names texts old → Recovers party.names texts new
-  recovers_kept texts all image whole = let was = before image whole in gives_kept texts was.0 image was.2 (all was.0 was.1)
+  pub recovers_kept : (documents : List Document) → Recovers party.names documents old → Recovers party.names documents new
+  recovers_kept documents all image whole = let was = before image whole in gives_kept documents was.0 image was.2 (all was.0 was.1)
 
   pub none_kept : NoneLeft party.names old → NoneLeft party.names new
   none_kept none image whole =
@@ -44,12 +45,12 @@ module _ (party : Party) (has : HasFamily party) (old new : Disk) (same : SameAt
       let gone = none was.0 was.1 in
       (sym (was.2 party.names.swp (swp_in party has)) ∙ gone.0, sym (was.2 party.names.swo (swo_in party has)) ∙ gone.1)
 
-  pub or_none_kept : (texts : List Text) → RecoversOrNone party.names texts old → RecoversOrNone party.names texts new
-  or_none_kept texts all image whole =
+  pub or_none_kept : (documents : List Document) → RecoversOrNone party.names documents old → RecoversOrNone party.names documents new
+  or_none_kept documents all image whole =
       let was = before image whole in
       elim (all was.0 was.1) [
         | inl gone ↦ inl (sym (was.2 party.names.swp (swp_in party has)) ∙ gone.0, sym (was.2 party.names.swo (swo_in party has)) ∙ gone.1)
-        | inr gives ↦ inr (gives_kept texts was.0 image was.2 gives)
+        | inr gives ↦ inr (gives_kept documents was.0 image was.2 gives)
       ]
 
   pub between_kept : (syncs : List Sync) → IsBetween party.names syncs old → IsBetween party.names syncs new

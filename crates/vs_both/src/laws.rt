@@ -4,8 +4,9 @@ ghost use Rattle.vs_host.specs.Disk.{Disk, IsFolder, Name};
 ghost use Rattle.vs_host.specs.Names.{is_allowed};
 ghost use Rattle.vs_host.specs.World.{ChangesFolder, LeavesTrace, Scene};
 ghost use Rattle.vs_disk.specs.Names.{IsApart, SameAt};
+ghost use Rattle.vs_text.specs.Documents.{Document};
 ghost use Rattle.vs_family.specs.Family.{clash};
-ghost use Rattle.vs_safety.specs.Texts.{IsBetween, NoneLeft, Recovers, RecoversOrNone, Sync, Text, recoverable};
+ghost use Rattle.vs_safety.specs.Texts.{IsBetween, NoneLeft, Recovers, RecoversOrNone, Sync, recoverable};
 ghost use Rattle.vs_safety.specs.FileWork.{FileWork, Keeps};
 ghost use Rattle.vs_safety.specs.Turns.{Quits, Turn, opened};
 ghost use Rattle.vs_safety.specs.Safety.{IsCrashSafeAmong, IsFirstPart, Looks, Stepped, Works, Wrote};
@@ -16,8 +17,8 @@ ghost use Rattle.vs_both.specs.Both.{BothGo, BothKept, Gone, HasKept, Running, P
 
 /// What a stop may leave of a session's swap files goes on where the names of its family stay.
 pub fn standing()
-    ensures recovers { (party : Party) (old new : Disk) (texts : List Text) → HasFamily party → SameAt party.family old new
-        → Recovers party.names texts old → Recovers party.names texts new }
+    ensures recovers { (party : Party) (old new : Disk) (documents : List Document) → HasFamily party → SameAt party.family old new
+        → Recovers party.names documents old → Recovers party.names documents new }
     ensures none { (party : Party) (old new : Disk) → HasFamily party → SameAt party.family old new → NoneLeft party.names old
         → NoneLeft party.names new }
     ensures between { (party : Party) (old new : Disk) (syncs : List Sync) → HasFamily party → SameAt party.family old new
@@ -36,36 +37,38 @@ pub fn apartness()
 
 /// Each session's opening among the names of its family, where one opened its file and then the other did.
 pub fn beginning()
-    ensures own { (party : Party) (text : Text) (start now : Scene) → start.folder.pending ≡ [] → RecoversOrNone party.names (text ∷ []) start.folder
-        → Works party.names None (RecoversOrNone party.names (text ∷ [])) start now → BeginsAmong (others_of party) party.names text start now }
-    ensures opens { (party : Party) (text : Text) (start now : Scene) → HasFamily party → BeginsAmong (others_of party) party.names text start now
-        → IsBetween party.names (opened text) now.folder → HasBegunAmong (others_of party) party.names text start now }
-    ensures first { (party other : Party) (text other_text : Text) (start mid now : Scene) → HasFamily party
-        → HasFamily other → ShareNone party other → ChangesFolder mid now → HasBegunAmong (others_of party) party.names text start mid
-        → IsApart party.family mid.folder → Works other.names None (RecoversOrNone other.names (other_text ∷ [])) mid now
-        → HasBegunAmong (others_of party) party.names text start now }
-    ensures second { (party other : Party) (text other_text : Text) (start mid now : Scene) → HasFamily party
+    ensures own { (party : Party) (document : Document) (start now : Scene) → start.folder.pending ≡ []
+        → RecoversOrNone party.names (document ∷ []) start.folder
+        → Works party.names None (RecoversOrNone party.names (document ∷ [])) start now → BeginsAmong (others_of party) party.names document start now }
+    ensures opens { (party : Party) (document : Document) (start now : Scene) → HasFamily party
+        → BeginsAmong (others_of party) party.names document start now
+        → IsBetween party.names (opened document) now.folder → HasBegunAmong (others_of party) party.names document start now }
+    ensures first { (party other : Party) (document other_document : Document) (start mid now : Scene) → HasFamily party
+        → HasFamily other → ShareNone party other → ChangesFolder mid now → HasBegunAmong (others_of party) party.names document start mid
+        → IsApart party.family mid.folder → Works other.names None (RecoversOrNone other.names (other_document ∷ [])) mid now
+        → HasBegunAmong (others_of party) party.names document start now }
+    ensures second { (party other : Party) (document other_document : Document) (start mid now : Scene) → HasFamily party
         → HasFamily other → ShareNone party other → ChangesFolder mid now → start.folder.pending ≡ []
-        → RecoversOrNone party.names (text ∷ []) start.folder → IsApart party.family start.folder
-        → Works other.names None (RecoversOrNone other.names (other_text ∷ [])) start mid
-        → Works party.names None (RecoversOrNone party.names (text ∷ [])) mid now
-        → BeginsAmong (others_of party) party.names text start now }
+        → RecoversOrNone party.names (document ∷ []) start.folder → IsApart party.family start.folder
+        → Works other.names None (RecoversOrNone other.names (other_document ∷ [])) start mid
+        → Works party.names None (RecoversOrNone party.names (document ∷ [])) mid now
+        → BeginsAmong (others_of party) party.names document start now }
 {}
 
 /// Both opening replies: whole, or the first or the second cut short.
 pub fn opening()
-    ensures replies { (one two : Party) (start now mid new : Scene) (text other_text : Text) (reply other_reply : List ℕ)
-        → HasBegunAmong (others_of one) one.names text start now → HasBegunAmong (others_of two) two.names other_text start now
+    ensures replies { (one two : Party) (start now mid new : Scene) (document other_document : Document) (reply other_reply : List ℕ)
+        → HasBegunAmong (others_of one) one.names document start now → HasBegunAmong (others_of two) two.names other_document start now
         → AreSetApart one two now.folder → Replied reply now mid → Replied other_reply mid new
-        → BothGo one two start (Running (After (Open text reply) (of_others other_reply))) (Running (Open other_text (reply ++ other_reply))) new }
-    ensures first_cut { (one two : Party) (start now new : Scene) (text other_text : Text) (reply other_reply written : List ℕ)
-        → HasBegunAmong (others_of one) one.names text start now → HasBegunAmong (others_of two) two.names other_text start now → 0 < length reply
+        → BothGo one two start (Running (After (Open document reply) (of_others other_reply))) (Running (Open other_document (reply ++ other_reply))) new }
+    ensures first_cut { (one two : Party) (start now new : Scene) (document other_document : Document) (reply other_reply written : List ℕ)
+        → HasBegunAmong (others_of one) one.names document start now → HasBegunAmong (others_of two) two.names other_document start now → 0 < length reply
         → Wrote written now new → IsFirstPart written reply
-        → BothKept one two start (Running (Open text reply)) (Running (Open other_text (reply ++ other_reply))) new }
-    ensures second_cut { (one two : Party) (start now mid new : Scene) (text other_text : Text) (reply other_reply written : List ℕ)
-        → HasBegunAmong (others_of one) one.names text start now → HasBegunAmong (others_of two) two.names other_text start now → Replied reply now mid
+        → BothKept one two start (Running (Open document reply)) (Running (Open other_document (reply ++ other_reply))) new }
+    ensures second_cut { (one two : Party) (start now mid new : Scene) (document other_document : Document) (reply other_reply written : List ℕ)
+        → HasBegunAmong (others_of one) one.names document start now → HasBegunAmong (others_of two) two.names other_document start now → Replied reply now mid
         → 0 < length other_reply → Wrote written mid new → IsFirstPart written other_reply
-        → BothKept one two start (Running (After (Open text reply) (of_others other_reply))) (Running (Open other_text (reply ++ other_reply))) new }
+        → BothKept one two start (Running (After (Open document reply) (of_others other_reply))) (Running (Open other_document (reply ++ other_reply))) new }
 {}
 
 /// One turn of the run: it looks, the first session carries out a command and its reply is written, or a reply for which nobody works on

@@ -4,6 +4,9 @@ use Rattle.std.specs.declared.option.Option.{Option}
 use Rattle.std.specs.Prelude.{Some, None}
 use Rattle.vs_exparse.specs.declared.command.ExErr.{ExErr}
 use Rattle.vs_exparse.specs.declared.command.ExErr.TheVariants as ex
+use Rattle.vs_machine.specs.declared.info.FileInfo.{FileInfo}
+use Rattle.vs_text.specs.declared.format.Format.{Format}
+use Rattle.vs_text.specs.declared.format.Format.TheVariants.{Unix, Dos}
 use Rattle.vs_undo.specs.declared.error.UndoErr.{UndoErr}
 use Rattle.vs_undo.specs.declared.error.UndoErr.TheVariants as undo
 
@@ -81,13 +84,23 @@ quit = codes "quit"
 abbrev pub no_write : List ℕ
 no_write = codes "E37: No write since last change (add ! to override)"
 
--- what a write of the file of this name wrote: so many lines and bytes
-abbrev pub written_line : List ℕ → ℕ → ℕ → List ℕ
-written_line name lines bytes = codes "\"" ++ name ++ codes "\" " ++ decimal lines ++ codes "L, " ++ decimal bytes ++ codes "B written"
+-- what stands before the size of a file of this format
+abbrev pub format_note : Format → List ℕ
+format_note Unix = []
+format_note Dos = codes "[dos] "
+
+-- the file of this name, with its format and size
+abbrev pub file_line : List ℕ → FileInfo → List ℕ
+file_line name info =
+    codes "\"" ++ name ++ codes "\" " ++ format_note info.format ++ decimal info.lines ++ codes "L, " ++ decimal info.bytes ++ codes "B"
+
+-- what a write of the file of this name wrote
+abbrev pub written_line : List ℕ → FileInfo → List ℕ
+written_line name info = file_line name info ++ codes " written"
 
 -- what a write wrote of which the undo file was not stored
-abbrev pub unstored_line : List ℕ → ℕ → ℕ → List ℕ
-unstored_line name lines bytes = written_line name lines bytes ++ codes ", no undo file"
+abbrev pub unstored_line : List ℕ → FileInfo → List ℕ
+unstored_line name info = written_line name info ++ codes ", no undo file"
 
 -- the undo file was stored
 abbrev pub undo_file_written : List ℕ
@@ -138,7 +151,7 @@ undo_error_text undo.NumbersFull = codes "change numbers used up"
 undo_error_text undo.NoMemory = out_of_memory
 undo_error_text undo.Failed = device_fault
 
--- the first reply, of a name and the numbers of the file's lines and bytes where it was there
-abbrev pub opening_of : List ℕ → Option (ℕ × ℕ) → Answer
+-- the first reply, of a name and of the file where it was there
+abbrev pub opening_of : List ℕ → Option FileInfo → Answer
 opening_of name None = says (codes "\"" ++ name ++ codes "\" [New]")
-opening_of name (Some (lines, bytes)) = says (codes "\"" ++ name ++ codes "\" " ++ decimal lines ++ codes "L, " ++ decimal bytes ++ codes "B")
+opening_of name (Some info) = says (file_line name info)

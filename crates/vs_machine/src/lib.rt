@@ -5,6 +5,7 @@ mod answering;
 mod change;
 mod command;
 mod errors;
+mod info;
 mod listing;
 mod moves;
 mod reply;
@@ -15,6 +16,7 @@ mod shown;
 
 pub use answering::{Answered, answer};
 pub use command::{Mark, Outcome};
+pub use info::FileInfo;
 pub use reply::Reply;
 pub use saved::saved_after;
 pub use vs_excmd::{Block, Request};

@@ -1,12 +1,14 @@
 // Replies. All but printed lines stand in a fixed buffer, so they take no memory.
 ghost use Rattle.std.specs.Prelude.{◌≡◌, ◌<◌, ◌≤◌, ◌+◌, ◌++◌, ◌∷◌, [], length, decimal, false, true, None, Some};
-ghost use Rattle.vs_machine.specs.Replies.{says, refuses, prints, error_text, undo_error_text, with_lines, change_line, move_line, no_change, out_of_memory, device_fault, file_preserved, quit, no_write, opening_of, written_line, unstored_line, undo_file_written, undo_file_read, undo_file_corrupted, undo_file_misfit, no_backup_name};
+ghost use Rattle.vs_machine.specs.Replies.{says, refuses, prints, error_text, undo_error_text, with_lines, change_line, move_line, no_change, out_of_memory, device_fault, file_preserved, quit, no_write, opening_of, format_note, file_line, written_line, unstored_line, undo_file_written, undo_file_read, undo_file_corrupted, undo_file_misfit, no_backup_name};
 
+use crate::FileInfo;
 use crate::errors::error_text;
 use arrayvec::ArrayVec;
 use itoa::Buffer;
 use std::marker::Model;
 use vs_exparse::ExErr;
+use vs_text::Format;
 use vs_undo::UndoErr;
 
 #[derive(Drop)]
@@ -44,10 +46,21 @@ fn add(line: &mut ArrayVec<u8, 320>, bytes: &[u8])
     }
 }
 
-// What a write of the file of this name wrote.
-fn written_line(name: &str, lines: u64, bytes: u64) -> ArrayVec<u8, 320>
+// What stands before the size of a file of this format.
+fn format_note(format: Format) -> &'static [u8]
+    ensures note { result.now ≡ format_note format }
+    ensures few { length result.now ≤ 6 }
+{
+    match format {
+        Format::Unix => b"",
+        Format::Dos => b"[dos] ",
+    }
+}
+
+// The file of this name, with its format and size.
+fn file_line(name: &str, info: FileInfo) -> ArrayVec<u8, 320>
     requires { length name.now ≤ 200 }
-    ensures value { result.items ≡ written_line name.now lines bytes }
+    ensures value { result.items ≡ file_line name.now info }
     ensures few { length result.items ≤ 255 }
 {
     let mut text = ArrayVec::new();
@@ -55,10 +68,22 @@ fn written_line(name: &str, lines: u64, bytes: u64) -> ArrayVec<u8, 320>
     add(&mut text, b"\"");
     add(&mut text, name.as_bytes());
     add(&mut text, b"\" ");
-    add(&mut text, digits.format(lines).as_bytes());
+    add(&mut text, format_note(info.format));
+    add(&mut text, digits.format(info.lines).as_bytes());
     add(&mut text, b"L, ");
-    add(&mut text, digits.format(bytes).as_bytes());
-    add(&mut text, b"B written");
+    add(&mut text, digits.format(info.bytes).as_bytes());
+    add(&mut text, b"B");
+    text
+}
+
+// What a write of the file of this name wrote.
+fn written_line(name: &str, info: FileInfo) -> ArrayVec<u8, 320>
+    requires { length name.now ≤ 200 }
+    ensures value { result.items ≡ written_line name.now info }
+    ensures few { length result.items ≤ 263 }
+{
+    let mut text = file_line(name, info);
+    add(&mut text, b" written");
     text
 }
 
@@ -227,37 +252,28 @@ impl Reply {
         Reply::says(text.as_slice())
     }
 
-    /// The opening of a file, with its numbers of lines and bytes.
-    pub fn opened(name: &str, lines: u64, bytes: u64) -> Reply
+    /// The opening of a file that is there.
+    pub fn opened(name: &str, info: FileInfo) -> Reply
         requires { length name.now ≤ 200 }
-        ensures { result ≡ opening_of name.now (Some (lines, bytes)) }
+        ensures { result ≡ opening_of name.now (Some info) }
     {
-        let mut text = ArrayVec::new();
-        let mut digits = Buffer::new();
-        add(&mut text, b"\"");
-        add(&mut text, name.as_bytes());
-        add(&mut text, b"\" ");
-        add(&mut text, digits.format(lines).as_bytes());
-        add(&mut text, b"L, ");
-        add(&mut text, digits.format(bytes).as_bytes());
-        add(&mut text, b"B");
-        Reply::says(text.as_slice())
+        Reply::says(file_line(name, info).as_slice())
     }
 
-    /// A write of the file of this name, with the numbers of lines and bytes that were written.
-    pub fn written(name: &str, lines: u64, bytes: u64) -> Reply
+    /// A write of the file of this name, and what was written.
+    pub fn written(name: &str, info: FileInfo) -> Reply
         requires { length name.now ≤ 200 }
-        ensures { result ≡ says (written_line name.now lines bytes) }
+        ensures { result ≡ says (written_line name.now info) }
     {
-        Reply::says(written_line(name, lines, bytes).as_slice())
+        Reply::says(written_line(name, info).as_slice())
     }
 
-    /// A write of the file of this name, of which the undo file was not stored, with the numbers of lines and bytes that were written.
-    pub fn unstored(name: &str, lines: u64, bytes: u64) -> Reply
+    /// A write of the file of this name, of which the undo file was not stored, and what was written.
+    pub fn unstored(name: &str, info: FileInfo) -> Reply
         requires { length name.now ≤ 200 }
-        ensures { result ≡ says (unstored_line name.now lines bytes) }
+        ensures { result ≡ says (unstored_line name.now info) }
     {
-        let mut text = written_line(name, lines, bytes);
+        let mut text = written_line(name, info);
         add(&mut text, b", no undo file");
         Reply::says(text.as_slice())
     }

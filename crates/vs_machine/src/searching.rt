@@ -1,8 +1,7 @@
 // What commands show at each of the lines of a search.
 ghost use Rattle.std.specs.Prelude.{◌≡◌, ◌<◌, ◌+◌, ◌++◌, ℕ, List, All, Ok, IfErr, IfOk, IsErrOf, IsTrue, OnOk, length};
-ghost use Rattle.vs_faults.specs.Faults.{HasCause};
 ghost use Rattle.vs_text.specs.Text.{file_of};
-ghost use Rattle.vs_edit.specs.Calls.{OnlyReads};
+ghost use Rattle.vs_edit.specs.Calls.{OnlyReads, StopsAtFault};
 ghost use Rattle.vs_exparse.specs.Command.{HasCount};
 ghost use Rattle.vs_exparse.specs.Pieces.{is_pattern};
 ghost use Rattle.vs_global.specs.Carry.{IsRefused};
@@ -46,7 +45,7 @@ fn push_shown<S: LineStore>(
     ensures some { OnOk result (0 < length into.new.items) }
     ensures refused { IfErr result (IsRefused (shown_by showing (S.shows store.old).present.lines (line + 1))) }
     ensures kept { OnlyReads S.LineStore store.old store.new }
-    ensures cause { HasCause (S.shows store.old).faults (S.shows store.new).faults (IsErrOf result PlanErr.Failed) }
+    ensures cause { StopsAtFault S.LineStore (IsErrOf result PlanErr.Failed) store.old store.new }
 {
     let span = shown(showing.range, showing.count, store.len(), line + 1)?;
     let bytes = shown_lines(alloc, store, span, showing.numbers)?;
@@ -70,7 +69,7 @@ fn shown_at<S: LineStore>(
     ensures some { IfOk result (λ output. 0 < length output.bytes.items) }
     ensures refused { IfErr result (IsRefused (shown_at showing (S.shows store.old).present.lines taken.now)) }
     ensures kept { OnlyReads S.LineStore store.old store.new }
-    ensures cause { HasCause (S.shows store.old).faults (S.shows store.new).faults (IsErrOf result PlanErr.Failed) }
+    ensures cause { StopsAtFault S.LineStore (IsErrOf result PlanErr.Failed) store.old store.new }
 {
     let mut output = Output {
         bytes: Vec::new(alloc),
@@ -101,7 +100,7 @@ fn shown_in<S: LineStore>(
     ensures refused { IfErr result (λ e. (text : List (List ℕ)) → (S.shows store.old).present.Is text
         → IsRefused (shown_in showing text (marked_by search.now.range search.now.invert search.now.pattern.now text cursor)) e) }
     ensures kept { OnlyReads S.LineStore store.old store.new }
-    ensures cause { HasCause (S.shows store.old).faults (S.shows store.new).faults (IsErrOf result PlanErr.Failed) }
+    ensures cause { StopsAtFault S.LineStore (IsErrOf result PlanErr.Failed) store.old store.new }
 {
     let taken = marked_lines(alloc, store, search, cursor)?;
     shown_at(alloc, store, showing, &taken, cursor)
@@ -123,7 +122,7 @@ pub(crate) fn print_searched<S: LineStore>(
         (shown_in showing state.text (marked_by search.now.range search.now.invert search.now.pattern.now state.text state.cursor)))
         answered store.old store.new tree) }
     ensures kept { OnlyReads S.LineStore store.old store.new }
-    ensures cause { HasCause (S.shows store.old).faults (S.shows store.new).faults (IsErrOf result StoreErr.Failed) }
+    ensures cause { StopsAtFault S.LineStore (IsErrOf result StoreErr.Failed) store.old store.new }
 {
     match shown_in(alloc, store, cursor, search, showing) {
         Ok(output) => Ok(Answered {

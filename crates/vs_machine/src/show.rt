@@ -1,7 +1,6 @@
 // Answers that show something of a text.
 ghost use Rattle.std.specs.Prelude.{◌≡◌, false, true, IfErr, IfOk, IsErrOf, length};
-ghost use Rattle.vs_faults.specs.Faults.{HasCause};
-ghost use Rattle.vs_edit.specs.Calls.{OnlyReads};
+ghost use Rattle.vs_edit.specs.Calls.{OnlyReads, StopsAtFault};
 ghost use Rattle.vs_exparse.specs.Command.{HasCount, command_of};
 ghost use Rattle.vs_excmd.specs.Place.{number_shown};
 ghost use Rattle.vs_undo.specs.declared.keep.Keep.{Keep};
@@ -78,7 +77,7 @@ pub(crate) fn print<S: LineStore>(
         AnswersAs S.LineStore state keep
         (printing (shown_lines showing.numbers state.text) (shown_by showing (length state.text) state.cursor)) answered store.old store.new tree) }
     ensures kept { OnlyReads S.LineStore store.old store.new }
-    ensures cause { HasCause (S.shows store.old).faults (S.shows store.new).faults (IsErrOf result StoreErr.Failed) }
+    ensures cause { StopsAtFault S.LineStore (IsErrOf result StoreErr.Failed) store.old store.new }
 {
     let span = match shown(showing.range, showing.count, store.len(), cursor) {
         Ok(span) => span,

@@ -1,8 +1,7 @@
 // Lines as `:print` and `:number` show them, copied from the blocks of a store.
 ghost use Rattle.std.specs.Prelude.{◌≡◌, ◌<◌, ◌++◌, ◌∷◌, [], ℕ, List, IfOk, IsErrOf, OnOk, length};
-ghost use Rattle.vs_faults.specs.Faults.{HasCause};
 ghost use Rattle.vs_text.specs.Text.{file_of};
-ghost use Rattle.vs_edit.specs.Calls.{OnlyReads};
+ghost use Rattle.vs_edit.specs.Calls.{OnlyReads, StopsAtFault};
 ghost use Rattle.vs_excmd.specs.Change.{lines_in};
 ghost use Rattle.vs_excmd.specs.Place.{IsSpanIn};
 ghost use Rattle.vs_machine.specs.Shown.{numbered, shown_lines, with_number};
@@ -24,7 +23,7 @@ fn printed<S: LineStore>(alloc: Global, store: &mut S, span: Span) -> Result<Vec
     ensures bytes { IfOk result (λ bytes. (text : List (List ℕ)) → (S.shows store.old).present.Is text → bytes.items ≡ file_of (lines_in text span)) }
     ensures some { IfOk result (λ bytes. 0 < length bytes.items) }
     ensures kept { OnlyReads S.LineStore store.old store.new }
-    ensures cause { HasCause (S.shows store.old).faults (S.shows store.new).faults (IsErrOf result StoreErr.Failed) }
+    ensures cause { StopsAtFault S.LineStore (IsErrOf result StoreErr.Failed) store.old store.new }
 {
     let count = span.last - (span.first - 1);
     let mut bytes = if count == store.len() {
@@ -64,7 +63,7 @@ fn printed_with_numbers<S: LineStore>(
         → bytes.items ≡ file_of (numbered span.first (lines_in text span))) }
     ensures some { IfOk result (λ bytes. 0 < length bytes.items) }
     ensures kept { OnlyReads S.LineStore store.old store.new }
-    ensures cause { HasCause (S.shows store.old).faults (S.shows store.new).faults (IsErrOf result StoreErr.Failed) }
+    ensures cause { StopsAtFault S.LineStore (IsErrOf result StoreErr.Failed) store.old store.new }
 {
     let _ = store.len();
     let top = span.first - 1;
@@ -93,7 +92,7 @@ pub(crate) fn shown_lines<S: LineStore>(
         → bytes.items ≡ file_of (shown_lines numbers text span)) }
     ensures some { IfOk result (λ bytes. 0 < length bytes.items) }
     ensures kept { OnlyReads S.LineStore store.old store.new }
-    ensures cause { HasCause (S.shows store.old).faults (S.shows store.new).faults (IsErrOf result StoreErr.Failed) }
+    ensures cause { StopsAtFault S.LineStore (IsErrOf result StoreErr.Failed) store.old store.new }
 {
     if numbers {
         printed_with_numbers(alloc, store, span)

@@ -69,7 +69,7 @@ Commands, one on a line, with the range of lines before them:
   wundo                  stores the history as the undo file
   rundo                  takes the history of the undo file
   se[t] {option}         sets backup, writebackup, undofile, backupcopy=yes, no
-                         or auto, and undolevels={n}
+                         or auto, fileformat=unix or dos, and undolevels={n}
   q[uit][!]              removes the swap files and ends the run
   \" {text}               a comment
 

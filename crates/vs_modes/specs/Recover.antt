@@ -2,7 +2,7 @@
 use Rattle.std.specs.Prelude.{◌≡◌, ◌⊎◌, ◌≤◌, ◌+◌, ℕ, zero, suc, List, Option, None, Result, Ok, Err, ⊤}
 use Rattle.vs_host.specs.declared.names.Names.{Names}
 use Rattle.vs_host.specs.World.{Tells, Scene, content_of}
-use Rattle.vs_text.specs.Text.{file_of}
+use Rattle.vs_text.specs.Documents.{Document, file_in}
 use Rattle.vs_swap.specs.Recovery.{Recovered}
 use Rattle.vs_recover.specs.declared.choices.Swap.{Swap}
 use Rattle.vs_recover.specs.declared.choices.Swap.TheVariants.{Swp, Swo}
@@ -40,9 +40,9 @@ swap_in remains Swo = remains.swo
 abbrev pub salvaged_in : Remains → Result Swap RecErr
 salvaged_in remains = root_chosen (root_of remains.swp) (root_of remains.swo)
 
--- The bytes are the file form of the text that the two swap files give.
+-- The bytes are the file form of the document that the two swap files give.
 abbrev pub IsText : Remains → List ℕ → Type 0
-IsText remains bytes = (text : List (List ℕ)) × Recovered remains.swp remains.swo text × (bytes ≡ file_of text)
+IsText remains bytes = (document : Document) × Recovered remains.swp remains.swo document × (bytes ≡ file_in document.format document.text)
 
 -- Neither swap file stands, and the bytes, with so many markers, are salvaged of the one that is chosen for it.
 pub record IsSalvaged (remains : Remains) (bytes : List ℕ) (markers : ℕ) : Type 0 where
@@ -82,12 +82,12 @@ RunsRecover tells names old new result =
 
 -- This was found of a text.
 abbrev pub IsFound : Remains → Found → Type 0
-IsFound remains (found.Text text) = Recovered remains.swp remains.swo text
+IsFound remains (found.Text document) = Recovered remains.swp remains.swo document
 IsFound remains (found.Salvage salvaged) = IsSalvaged remains salvaged.bytes.items salvaged.markers
 
 -- the bytes to be written
 abbrev pub found_bytes : Found → List ℕ
-found_bytes (found.Text text) = file_of text
+found_bytes (found.Text document) = file_in document.format document.text
 found_bytes (found.Salvage salvaged) = salvaged.bytes.items
 
 -- what is said of a text with so many markers

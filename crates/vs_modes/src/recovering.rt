@@ -72,8 +72,8 @@ fn find<F: Folder>(alloc: Global, host: &mut F, names: &Names) -> Result<Found, 
     }
 }
 
-/// Writes the file form of the text that the swap files of a file stand for, or the lines and markers that are salvaged of one of them
-/// where neither stands: docs/COMMANDS.md, "Swap files". Of two that stand it is the text of the newer one.
+/// Writes the file form of the text that the swap files of a file stand for, in its format, or the lines and markers that are salvaged
+/// of one of them where neither stands: docs/COMMANDS.md, "Swap files". Of two that stand it is the text of the newer one.
 pub fn recover<H: Host>(alloc: Global, name: &str, host: &mut H) -> Result<Recovery, ModeErr>
     requires { IsTrue (is_allowed name.now) }
     ensures { RunsRecover H.tells (names_of_file name.now) (H.scene host.old) (H.scene host.new) result }

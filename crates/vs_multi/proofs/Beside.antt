@@ -55,6 +55,7 @@ fits_beside session old new same state syncs fits =
       name = fits.name;
       cursor = fits.cursor;
       saved = fits.saved;
+      saved_format = fits.saved_format;
       steps = fits.steps;
       options = fits.options;
       acknowledged = fits.acknowledged;

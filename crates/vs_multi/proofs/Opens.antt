@@ -17,8 +17,8 @@ use Rattle.vs_pair.specs.Acts.{Acts}
 use Rattle.vs_pair.specs.Pair.{is_foreign}
 use Rattle.vs_pair.proofs.Acts.{acts_as, acts_then}
 use Rattle.vs_pair.proofs.MadeFiles.{same_weaker}
+use Rattle.vs_text.specs.Documents.{document_of}
 use Rattle.vs_text.specs.Limits.{IsWithinLimits}
-use Rattle.vs_text.specs.Text.{lines_of}
 use Rattle.vs_backup.proofs.Frames.{content_spared}
 use Rattle.vs_family.specs.Family.{clash, is_of_family}
 use Rattle.vs_family.proofs.Families.{eight_in}
@@ -32,7 +32,7 @@ use Rattle.vs_both.proofs.Parties.{are_beside}
 use Rattle.vs_session.specs.Fits.{Fits, HasOpened, HasSwap, IsSettled, Opens, names_of}
 use Rattle.vs_session.specs.Made.{LeavesNoneMade}
 use Rattle.vs_session.specs.Open.{IsReading, IsTooLarge, OnlyLooks, PassesLimit}
-use Rattle.vs_session.specs.Opened.{opened, text_in}
+use Rattle.vs_session.specs.Opened.{document_of_file, opened}
 use Rattle.vs_session.specs.declared.open.OpenErr.{OpenErr}
 use Rattle.vs_session.specs.declared.open.OpenErr.TheVariants as opening
 use Rattle.vs_session.specs.declared.session.Session.{Session}
@@ -108,22 +108,22 @@ err_same : {T : Type 0} (r : Result T OpenErr) (e why : OpenErr) → IsErrAnd r 
 err_same r e why is of = err_is (handed_back {U = Unit {0}} r e why is of)
 
 -- a file that is over the limits is not opened
-all_over : (file : Option (List ℕ)) (X : Type 0) → X → IfSome file (λ bytes. ¬ IsWithinLimits (lines_of bytes) → X)
+all_over : (file : Option (List ℕ)) (X : Type 0) → X → IfSome file (λ bytes. ¬ IsWithinLimits ((document_of bytes).text) → X)
 all_over None X x = tt
 all_over (Some bytes) X x = λ over. x
 
-pub not_over : (file : Option (List ℕ)) → IfSome file (λ bytes. ¬ IsWithinLimits (lines_of bytes) → false ≡ true) → IfSome file (λ bytes. ¬ (¬ IsWithinLimits (lines_of bytes)))
+pub not_over : (file : Option (List ℕ)) → IfSome file (λ bytes. ¬ IsWithinLimits ((document_of bytes).text) → false ≡ true) → IfSome file (λ bytes. ¬ (¬ IsWithinLimits ((document_of bytes).text)))
 not_over None never = tt
 not_over (Some bytes) never = λ over. true≢false (sym (never over))
 
-pub over_same : (file same : Option (List ℕ)) → file ≡ same → IfSome file (λ bytes. ¬ IsWithinLimits (lines_of bytes) → false ≡ true) → IfSome same (λ bytes. ¬ IsWithinLimits (lines_of bytes) → false ≡ true)
-over_same file same is over = subst (λ (o : Option (List ℕ)). IfSome o (λ bytes. ¬ IsWithinLimits (lines_of bytes) → false ≡ true)) is over
+pub over_same : (file same : Option (List ℕ)) → file ≡ same → IfSome file (λ bytes. ¬ IsWithinLimits ((document_of bytes).text) → false ≡ true) → IfSome same (λ bytes. ¬ IsWithinLimits ((document_of bytes).text) → false ≡ true)
+over_same file same is over = subst (λ (o : Option (List ℕ)). IfSome o (λ bytes. ¬ IsWithinLimits ((document_of bytes).text) → false ≡ true)) is over
 
 -- a number that passes a limit of the same file
 too_large_same : (tells : Tells) (size : ℕ) (file same : Option (List ℕ)) → (IsTrue tells.folder → file ≡ same) → IsTooLarge tells size file → IsTooLarge tells size same
 too_large_same tells size file same is large = record {
   above = large.above;
-  passes = λ told. subst (λ (o : Option (List ℕ)). IsSomeAnd o (λ bytes. PassesLimit (lines_of bytes) size)) (is told) (large.passes told);
+  passes = λ told. subst (λ (o : Option (List ℕ)). IsSomeAnd o (λ bytes. PassesLimit ((document_of bytes).text) size)) (is told) (large.passes told);
 }
 
 -- a look is refused neither for a limit nor for a swap file
@@ -150,8 +150,8 @@ pub record IsRefusal {T : Type 0} (tells : Tells) (one two : Name) (r : Result T
   pub barred : IsTrue tells.folder → HasAnySwap one two old.folder → IsErrOf r opening.SwapFound ⊎ IsErrOf r opening.Failed ⊎ IsErrOf r opening.NoMemory
   pub barred_looks : IsTrue tells.folder → HasAnySwap one two old.folder → OnlyLooks tells old new
   pub limit : (size : ℕ) → IsErrOf r (opening.TextLimit size) → IsEitherTooLarge tells size (content_of old one) (content_of old two)
-  pub one_over : IsTrue tells.folder → IfSome (content_of old one) (λ bytes. ¬ IsWithinLimits (lines_of bytes) → IsErr r)
-  pub two_over : IsTrue tells.folder → IfSome (content_of old two) (λ bytes. ¬ IsWithinLimits (lines_of bytes) → IsErr r)
+  pub one_over : IsTrue tells.folder → IfSome (content_of old one) (λ bytes. ¬ IsWithinLimits ((document_of bytes).text) → IsErr r)
+  pub two_over : IsTrue tells.folder → IfSome (content_of old two) (λ bytes. ¬ IsWithinLimits ((document_of bytes).text) → IsErr r)
   pub acts : Acts tells (OpensBoth one two) old new
   pub cause : HasCause old.folder_faults new.folder_faults (IsErrOf r opening.Failed)
   pub quiet : IsQuiet old.folder_faults new.folder_faults (IsErrOf r opening.Failed)
@@ -178,7 +178,7 @@ module _ (tells : Tells) (one two : Name) (allowed_one : IsTrue (is_allowed one)
       spared = same_weaker (is_foreign (names_of_file one)) (is_of_neither one two) old.folder d (λ name. and_first (is_foreign (names_of_file one) name) (is_foreign (names_of_file two) name)) opens.spared;
       first = opens.safe;
       second = λ free.
-          or_none_kept (party_on two) are.second old.folder d (two_stays old.folder d opens.spared) (text_in (content_in old.folder two) ∷ []) ((still two (λ told. (settled told).second) told).safe free);
+          or_none_kept (party_on two) are.second old.folder d (two_stays old.folder d opens.spared) (document_of_file (content_in old.folder two) ∷ []) ((still two (λ told. (settled told).second) told).safe free);
     }
 
     -- while the second one is
@@ -187,10 +187,10 @@ module _ (tells : Tells) (one two : Name) (allowed_one : IsTrue (is_allowed one)
       spared = same_then (is_of_neither one two) old.folder mid d
           (same_weaker (is_foreign (names_of_file one)) (is_of_neither one two) old.folder mid (λ name. and_first (is_foreign (names_of_file one) name) (is_foreign (names_of_file two) name)) first.spared)
           (same_weaker (is_foreign (names_of_file two)) (is_of_neither one two) mid d (λ name. and_second (is_foreign (names_of_file one) name) (is_foreign (names_of_file two) name)) second.spared);
-      first = λ free. or_none_kept (party_on one) are.first mid d (one_stays mid d second.spared) (text_in (content_in old.folder one) ∷ []) (first.safe free);
+      first = λ free. or_none_kept (party_on one) are.first mid d (one_stays mid d second.spared) (document_of_file (content_in old.folder one) ∷ []) (first.safe free);
       second = λ free.
           let same = two_stays old.folder mid first.spared in
-          subst (λ (o : Option (List ℕ)). RecoversOrNone (names_of_file two) (text_in o ∷ []) d) (file_stays two old.folder mid same) (second.safe (λ there. free (swap_before (party_on two) are.second old.folder mid same there)));
+          subst (λ (o : Option (List ℕ)). RecoversOrNone (names_of_file two) (document_of_file o ∷ []) d) (file_stays two old.folder mid same) (second.safe (λ there. free (swap_before (party_on two) are.second old.folder mid same there)));
     }
 
     -- ---- calls
@@ -337,7 +337,7 @@ module _ (tells : Tells) (one two : Name) (allowed_one : IsTrue (is_allowed one)
 -- what a session says that opened its file in a folder with the same file
 pub stands_same : (tells : Tells) (name : Name) (old mid new : Scene) (session : Session) → (IsTrue tells.folder → content_of mid name ≡ content_of old name) → StandsOpen tells name mid new session → StandsOpen tells name old new session
 stands_same tells name old mid new session same stands = record {
-  fits = λ told. subst (λ (file : Option (List ℕ)). Fits session new.folder (opened name file).state (turns.opened (text_in file))) (same told) (stands.fits told);
+  fits = λ told. subst (λ (file : Option (List ℕ)). Fits session new.folder (opened name file).state (turns.opened (document_of_file file))) (same told) (stands.fits told);
   file = λ told. subst (λ (file : Option (List ℕ)). HasOpened (opened name file) session) (same told) (stands.file told);
   named = stands.named;
   names = stands.names;

@@ -6,13 +6,13 @@ use Rattle.vs_host.specs.World.{Tells, Scene, content_of}
 use Rattle.vs_disk.specs.Names.{SameAt}
 use Rattle.vs_pair.specs.Acts.{Acts}
 use Rattle.vs_pair.specs.Pair.{is_foreign}
+use Rattle.vs_text.specs.Documents.{document_of}
 use Rattle.vs_text.specs.Limits.{IsWithinLimits}
-use Rattle.vs_text.specs.Text.{lines_of}
 use Rattle.vs_safety.specs.Texts.{RecoversOrNone}
 use Rattle.vs_safety.specs.Turns as turns
 use Rattle.vs_session.specs.Fits.{Fits, FitsUndo, HasOpened, HasSwap, IsSettled, Opens, generation_of, names_of}
 use Rattle.vs_session.specs.Open.{IsTooLarge, OnlyLooks}
-use Rattle.vs_session.specs.Opened.{opened, text_in}
+use Rattle.vs_session.specs.Opened.{document_of_file, opened}
 use Rattle.vs_session.specs.declared.open.OpenErr.{OpenErr}
 use Rattle.vs_session.specs.declared.open.OpenErr.TheVariants as opening
 use Rattle.vs_session.specs.declared.session.Session.{Session}
@@ -33,7 +33,7 @@ HasAnySwap one two disk = HasSwap (names_of_file one) disk ⊎ HasSwap (names_of
 
 -- a file that is there is not over the limits of a text
 abbrev pub IsNotOver : Tells → Option (List ℕ) → Type 0
-IsNotOver tells file = IsTrue tells.folder → IfSome file (λ bytes. ¬ (¬ IsWithinLimits (lines_of bytes)))
+IsNotOver tells file = IsTrue tells.folder → IfSome file (λ bytes. ¬ (¬ IsWithinLimits ((document_of bytes).text)))
 
 -- The number is what passed a limit of the first file; or of the second one, where the first is not over the limits.
 abbrev pub IsEitherTooLarge : Tells → ℕ → Option (List ℕ) → Option (List ℕ) → Type 0
@@ -45,12 +45,13 @@ IsEitherTooLarge tells size one two = IsTooLarge tells size one ⊎ (IsNotOver t
 abbrev pub is_of_neither : Name → Name → Name → Bool
 is_of_neither one two name = is_foreign (names_of_file one) name && is_foreign (names_of_file two) name
 
--- where the file of this name had no swap file, a stop leaves none, or the text of the file is recovered
+-- where the file of this name had no swap file, a stop leaves none, or the document of the file is recovered
 abbrev pub RecoversOpened : Name → Disk → Disk → Type 0
 RecoversOpened name old new =
-    (HasSwap (names_of_file name) old → ⊥) → RecoversOrNone (names_of_file name) (text_in (content_in old name) ∷ []) new
+    (HasSwap (names_of_file name) old → ⊥) → RecoversOrNone (names_of_file name) (document_of_file (content_in old name) ∷ []) new
 
--- While two files are opened: all names but those of both pairs are spared, and each of both texts is recovered, whatever a stop leaves.
+-- While two files are opened: all names but those of both pairs are spared, and each of both documents is recovered, whatever a
+-- stop leaves.
 pub record OpensBoth (one two : Name) (old new : Disk) : Type 0 where
   pub spared : SameAt (is_of_neither one two) old new
   pub first : RecoversOpened one old new
@@ -60,7 +61,7 @@ pub record OpensBoth (one two : Name) (old new : Disk) : Type 0 where
 
 -- The session opened the file of this name as it was, and fits the folder.
 pub record StandsOpen (tells : Tells) (name : Name) (old new : Scene) (session : Session) : Type 0 where
-  pub fits : IsTrue tells.folder → let file = content_of old name in Fits session new.folder (opened name file).state (turns.opened (text_in file))
+  pub fits : IsTrue tells.folder → let file = content_of old name in Fits session new.folder (opened name file).state (turns.opened (document_of_file file))
   pub file : IsTrue tells.folder → HasOpened (opened name (content_of old name)) session
   pub named : string_bytes session.name ≡ name
   pub names : names_of session ≡ names_of_file name

@@ -5,8 +5,8 @@ use Rattle.vs_host.specs.World.{Tells, Scene}
 use Rattle.vs_exparse.specs.Command.{result_of}
 use Rattle.vs_excmd.specs.declared.request.Request.{Request}
 use Rattle.vs_session.specs.Calls.{AnswersRequest}
-use Rattle.vs_session.specs.Fits.{FitsUndo, IsFault, IsTimed, SameFile, StepsIn, generation_of}
-use Rattle.vs_session.specs.Session.{is_saved, quits}
+use Rattle.vs_session.specs.Fits.{FitsUndo, IsFault, IsTimed, SameFile, StepsIn, generation_of, is_clean_session}
+use Rattle.vs_session.specs.Session.{quits}
 use Rattle.vs_session.specs.declared.session.Session.{Session}
 use Rattle.vs_session.specs.declared.session.Step.{Step}
 use Rattle.vs_session.specs.declared.session.Step.TheVariants as steps
@@ -19,7 +19,7 @@ pub record TakesStep (tells : Tells) (request : Request) (answered : Step) (befo
   pub undo : FitsUndo after
   pub file : SameFile before after
   pub room : generation_of after ≤ generation_of before + 1
-  pub quit : answered ≡ steps.Quit → quits (result_of request.parsed) (is_saved before.saved before.history.current) ≡ true
+  pub quit : answered ≡ steps.Quit → quits (result_of request.parsed) (is_clean_session before) ≡ true
   pub clock : IsTrue tells.clock → IsTimed answered old new
   pub frame : StepsIn old new
   pub cause : HasCause old.folder_faults new.folder_faults (IsFault answered)

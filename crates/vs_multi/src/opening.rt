@@ -5,8 +5,8 @@ ghost use Rattle.vs_host.specs.Names.{is_allowed};
 ghost use Rattle.vs_host.specs.World.{content_of};
 ghost use Rattle.vs_disk.specs.Runs.{NoneFails};
 ghost use Rattle.vs_pair.specs.Acts.{Acts};
+ghost use Rattle.vs_text.specs.Documents.{document_of};
 ghost use Rattle.vs_text.specs.Limits.{IsWithinLimits};
-ghost use Rattle.vs_text.specs.Text.{lines_of};
 ghost use Rattle.vs_family.specs.Family.{clash};
 ghost use Rattle.vs_session.specs.Made.{LeavesNoneMade};
 ghost use Rattle.vs_session.specs.Open.{IsReading, OnlyLooks};
@@ -64,9 +64,9 @@ impl Multi {
         ensures limit { (size : ℕ) → IsErrOf result (OpenErr.TextLimit size)
             → IsEitherTooLarge H.tells size (content_of (H.scene host.old) one.now) (content_of (H.scene host.old) two.now) }
         ensures one_over { IsTrue (H.tells).folder →
-            IfSome (content_of (H.scene host.old) one.now) (λ bytes. ¬ IsWithinLimits (lines_of bytes) → IsErr result) }
+            IfSome (content_of (H.scene host.old) one.now) (λ bytes. ¬ IsWithinLimits ((document_of bytes).text) → IsErr result) }
         ensures two_over { IsTrue (H.tells).folder →
-            IfSome (content_of (H.scene host.old) two.now) (λ bytes. ¬ IsWithinLimits (lines_of bytes) → IsErr result) }
+            IfSome (content_of (H.scene host.old) two.now) (λ bytes. ¬ IsWithinLimits ((document_of bytes).text) → IsErr result) }
         ensures acts { Acts H.tells (OpensBoth one.now two.now) (H.scene host.old) (H.scene host.new) }
         ensures cause { HasCause (H.scene host.old).folder_faults (H.scene host.new).folder_faults (IsErrOf result OpenErr.Failed) }
         ensures quiet { IsQuiet (H.scene host.old).folder_faults (H.scene host.new).folder_faults (IsErrOf result OpenErr.Failed) }

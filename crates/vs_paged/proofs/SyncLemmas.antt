@@ -1,4 +1,4 @@
--- What the pair wrote of each sync is what the session asked, so what the files offer is a text that may be recovered.
+-- What the pair wrote of each sync is what the session asked, so what the files offer is a document that may be recovered.
 use Rattle.std.proofs.Common.{◌≡◌, inl, inr, ℕ, ◌<◌, ◌^◌, ◌+◌, Bool, false, ◌==◌, List, [], ◌∷◌, ◌++◌, length, Option, Some, None, Result, Ok, Err, OnOk, OnErr, IsTrue, refl, sym, ◌∙◌, ap, subst, arith}
 use Rattle.std.proofs.lemmas.Bool.{cond-false}
 use Rattle.vs_host.specs.Disk.{Disk}
@@ -7,9 +7,13 @@ use Rattle.vs_host.specs.Names.{is_allowed, names_of_file}
 use Rattle.vs_disk.specs.Names.{SameAt}
 use Rattle.vs_pages.specs.Memory.{present_of, KeepsSince}
 use Rattle.vs_pages.specs.declared.memory.MemPages.{MemPages}
-use Rattle.vs_pair.specs.Swap.{Synced, body_of, zero_of, Holds}
+use Rattle.vs_text.specs.declared.format.Format.{Format}
+use Rattle.vs_text.specs.declared.format.Format.TheVariants.{Unix, Dos}
+use Rattle.vs_text.specs.Documents.{Document}
+use Rattle.vs_swap.specs.Files.{format_number}
+use Rattle.vs_pair.specs.Swap.{Synced, IsFormatNumber, body_of, zero_of, Holds}
 use Rattle.vs_pair.specs.Pair as pair
-use Rattle.vs_pair.specs.Pair.{Image, IsIn, IsTextOf, IsFit, Known, known_of, sync_of, sync_with, is_swap, HasEarlier, HasLater, IsThere, NoneThere, name_of, other_side}
+use Rattle.vs_pair.specs.Pair.{Image, IsIn, IsDocumentOf, IsFit, Known, known_of, sync_of, sync_with, is_swap, HasEarlier, HasLater, IsThere, NoneThere, name_of, other_side}
 use Rattle.vs_pair.specs.Steps as steps
 use Rattle.vs_pair.specs.declared.head.Head.{Head}
 use Rattle.vs_pair.specs.declared.files.SwapFiles.{SwapFiles}
@@ -41,76 +45,76 @@ in_back : (sync : Sync) (front back : List Sync) → IsSyncIn sync back → IsSy
 in_back sync [] back here = here
 in_back sync (first ∷ front) back here = inr (in_back sync front back here)
 
--- the text of the last acknowledged sync, and of each that was begun since, may be recovered
-last_recoverable : (later : List Sync) (last : Sync) (earlier : List Sync) → NoneAcknowledged later → IsOneOf last.text (recoverable (later ++ last ∷ earlier))
+-- the document of the last acknowledged sync, and of each that was begun since, may be recovered
+last_recoverable : (later : List Sync) (last : Sync) (earlier : List Sync) → NoneAcknowledged later → IsOneOf last.document (recoverable (later ++ last ∷ earlier))
 last_recoverable [] last earlier none = inl refl
 last_recoverable (sync ∷ later) last earlier none =
-    inr (subst (λ (texts : List Text). IsOneOf last.text texts) (sym (cond-false sync.acknowledged [] (recoverable (later ++ last ∷ earlier)) none.0)) (last_recoverable later last earlier none.1))
+    inr (subst (λ (documents : List Document). IsOneOf last.document documents) (sym (cond-false sync.acknowledged [] (recoverable (later ++ last ∷ earlier)) none.0)) (last_recoverable later last earlier none.1))
 
-later_recoverable : (later : List Sync) (last : Sync) (earlier : List Sync) → NoneAcknowledged later → (sync : Sync) → IsSyncIn sync later → IsOneOf sync.text (recoverable (later ++ last ∷ earlier))
+later_recoverable : (later : List Sync) (last : Sync) (earlier : List Sync) → NoneAcknowledged later → (sync : Sync) → IsSyncIn sync later → IsOneOf sync.document (recoverable (later ++ last ∷ earlier))
 later_recoverable [] last earlier none sync here = absurd here
-later_recoverable (first ∷ later) last earlier none sync (inl is) = inl (ap (λ (s : Sync). s.text) is)
+later_recoverable (first ∷ later) last earlier none sync (inl is) = inl (ap (λ (s : Sync). s.document) is)
 later_recoverable (first ∷ later) last earlier none sync (inr here) =
-    inr (subst (λ (texts : List Text). IsOneOf sync.text texts) (sym (cond-false first.acknowledged [] (recoverable (later ++ last ∷ earlier)) none.0)) (later_recoverable later last earlier none.1 sync here))
+    inr (subst (λ (documents : List Document). IsOneOf sync.document documents) (sym (cond-false first.acknowledged [] (recoverable (later ++ last ∷ earlier)) none.0)) (later_recoverable later last earlier none.1 sync here))
 
 -- ---- what is recovered
 
--- each of these was a sync of one of these texts
-abbrev pub AreOf : List Synced → List Text → Type 0
-AreOf all texts = (synced : Synced) → IsIn synced all → (text : Text) × IsOneOf text texts × IsTextOf synced text
+-- each of these was a sync of one of these documents
+abbrev pub AreOf : List Synced → List Document → Type 0
+AreOf all documents = (synced : Synced) → IsIn synced all → (document : Document) × IsOneOf document documents × IsDocumentOf synced document
 
-pub gives_one : (names : Names) → IsTrue (is_allowed names.file) → (all older : List Synced) (texts : List Text) → AreOf all texts → (image : Image) → (synced : Synced) × IsIn synced all × pair.Offers names older image synced → GivesOneOf names texts image
-gives_one names allowed all older texts are image given =
+pub gives_one : (names : Names) → IsTrue (is_allowed names.file) → (all older : List Synced) (documents : List Document) → AreOf all documents → (image : Image) → (synced : Synced) × IsIn synced all × pair.Offers names older image synced → GivesOneOf names documents image
+gives_one names allowed all older documents are image given =
     let is = are given.0 given.1 in
     (is.0, is.1, offered_recovered names allowed older given.0 is.0 is.2 given.2.small image given.2)
 
-pub recovers_texts : (names : Names) → IsTrue (is_allowed names.file) → (all older : List Synced) (texts : List Text) → AreOf all texts → (disk : Disk) → pair.Recovers names all older disk → Recovers names texts disk
-recovers_texts names allowed all older texts are disk all_images image whole = gives_one names allowed all older texts are image (all_images image whole)
+pub recovers_documents : (names : Names) → IsTrue (is_allowed names.file) → (all older : List Synced) (documents : List Document) → AreOf all documents → (disk : Disk) → pair.Recovers names all older disk → Recovers names documents disk
+recovers_documents names allowed all older documents are disk all_images image whole = gives_one names allowed all older documents are image (all_images image whole)
 
-pub recovers_or_none : (names : Names) → IsTrue (is_allowed names.file) → (all older : List Synced) (texts : List Text) → AreOf all texts → (disk : Disk) → pair.RecoversOrNone names all older disk → RecoversOrNone names texts disk
-recovers_or_none names allowed all older texts are disk all_images image whole = elim (all_images image whole) [
+pub recovers_or_none : (names : Names) → IsTrue (is_allowed names.file) → (all older : List Synced) (documents : List Document) → AreOf all documents → (disk : Disk) → pair.RecoversOrNone names all older disk → RecoversOrNone names documents disk
+recovers_or_none names allowed all older documents are disk all_images image whole = elim (all_images image whole) [
   | inl none ↦ inl none
-  | inr given ↦ inr (gives_one names allowed all older texts are image given)
+  | inr given ↦ inr (gives_one names allowed all older documents are image given)
 ]
 
 -- what the newest sync and those begun since wrote
 pub are_recoverable : (newest : Synced) (later past : List Synced) (syncs : List Sync) → AreSyncs newest later past syncs → AreOf (newest ∷ later) (recoverable syncs)
 are_recoverable newest later past syncs are synced (inl is) = (
-  are.last.text,
-  subst (λ (l : List Sync). IsOneOf are.last.text (recoverable l)) (sym are.newest_of.syncs_are) (last_recoverable are.begun_since are.last are.earlier are.newest_of.none_later),
-  subst (λ (s : Synced). IsTextOf s are.last.text) (sym is) are.newest_is.text,
+  are.last.document,
+  subst (λ (l : List Sync). IsOneOf are.last.document (recoverable l)) (sym are.newest_of.syncs_are) (last_recoverable are.begun_since are.last are.earlier are.newest_of.none_later),
+  subst (λ (s : Synced). IsDocumentOf s are.last.document) (sym is) are.newest_is.document,
 )
 are_recoverable newest later past syncs are synced (inr here) =
     let sync = are.later_are synced here in (
-      sync.0.text,
-      subst (λ (l : List Sync). IsOneOf sync.0.text (recoverable l)) (sym are.newest_of.syncs_are) (later_recoverable are.begun_since are.last are.earlier are.newest_of.none_later sync.0 sync.1),
-      sync.2.text,
+      sync.0.document,
+      subst (λ (l : List Sync). IsOneOf sync.0.document (recoverable l)) (sym are.newest_of.syncs_are) (later_recoverable are.begun_since are.last are.earlier are.newest_of.none_later sync.0 sync.1),
+      sync.2.document,
     )
 
 -- while one more is written
-pub are_syncing : (newest sync : Synced) (later past : List Synced) (syncs : List Sync) (text : Text) → AreSyncs newest later past syncs → IsTextOf sync text → AreOf (newest ∷ sync ∷ later) (text ∷ recoverable syncs)
-are_syncing newest sync later past syncs text are is synced (inl one) = let given = are_recoverable newest later past syncs are synced (inl one) in (given.0, inr given.1, given.2)
-are_syncing newest sync later past syncs text are is synced (inr (inl one)) = (text, inl refl, subst (λ (s : Synced). IsTextOf s text) (sym one) is)
-are_syncing newest sync later past syncs text are is synced (inr (inr here)) = let given = are_recoverable newest later past syncs are synced (inr here) in (given.0, inr given.1, given.2)
+pub are_syncing : (newest sync : Synced) (later past : List Synced) (syncs : List Sync) (document : Document) → AreSyncs newest later past syncs → IsDocumentOf sync document → AreOf (newest ∷ sync ∷ later) (document ∷ recoverable syncs)
+are_syncing newest sync later past syncs document are is synced (inl one) = let given = are_recoverable newest later past syncs are synced (inl one) in (given.0, inr given.1, given.2)
+are_syncing newest sync later past syncs document are is synced (inr (inl one)) = (document, inl refl, subst (λ (s : Synced). IsDocumentOf s document) (sym one) is)
+are_syncing newest sync later past syncs document are is synced (inr (inr here)) = let given = are_recoverable newest later past syncs are synced (inr here) in (given.0, inr given.1, given.2)
 
 -- ---- one more sync
 
-pub first_syncs : (one two : Synced) (text : Text) (dirty : Bool) → Writes one (acknowledged_sync text dirty) → Writes two (acknowledged_sync text dirty) → AreSyncs two [] (one ∷ []) (acknowledged_sync text dirty ∷ [])
-first_syncs one two text dirty first second = record {
+pub first_syncs : (one two : Synced) (document : Document) (dirty : Bool) → Writes one (acknowledged_sync document dirty) → Writes two (acknowledged_sync document dirty) → AreSyncs two [] (one ∷ []) (acknowledged_sync document dirty ∷ [])
+first_syncs one two document dirty first second = record {
   begun_since = [];
-  last = acknowledged_sync text dirty;
+  last = acknowledged_sync document dirty;
   earlier = [];
   newest_of = record { syncs_are = refl; acknowledged = refl; none_later = tt };
   newest_is = second;
   later_are = λ synced here. absurd here;
-  past_are = λ synced here. elim here [ inl is ↦ (acknowledged_sync text dirty, inl refl, subst (λ (s : Synced). Writes s (acknowledged_sync text dirty)) (sym is) first) | inr none ↦ absurd none ];
+  past_are = λ synced here. elim here [ inl is ↦ (acknowledged_sync document dirty, inl refl, subst (λ (s : Synced). Writes s (acknowledged_sync document dirty)) (sym is) first) | inr none ↦ absurd none ];
 }
 
-pub more_syncs : (newest sync : Synced) (later past : List Synced) (syncs : List Sync) (text : Text) (dirty : Bool) → AreSyncs newest later past syncs → Writes sync (acknowledged_sync text dirty)
-    → AreSyncs sync [] (newest ∷ past) (acknowledged_sync text dirty ∷ syncs)
-more_syncs newest sync later past syncs text dirty are is = record {
+pub more_syncs : (newest sync : Synced) (later past : List Synced) (syncs : List Sync) (document : Document) (dirty : Bool) → AreSyncs newest later past syncs → Writes sync (acknowledged_sync document dirty)
+    → AreSyncs sync [] (newest ∷ past) (acknowledged_sync document dirty ∷ syncs)
+more_syncs newest sync later past syncs document dirty are is = record {
   begun_since = [];
-  last = acknowledged_sync text dirty;
+  last = acknowledged_sync document dirty;
   earlier = syncs;
   newest_of = record { syncs_are = refl; acknowledged = refl; none_later = tt };
   newest_is = is;
@@ -124,20 +128,20 @@ more_syncs newest sync later past syncs text dirty are is = record {
     among : (s : Sync) → IsSyncIn s (are.last ∷ are.earlier) → IsSyncIn s syncs
     among s here = subst (λ (l : List Sync). IsSyncIn s l) (sym are.newest_of.syncs_are) (in_back s are.begun_since (are.last ∷ are.earlier) here)
 
-pub failed_syncs : (newest sync : Synced) (later past : List Synced) (syncs : List Sync) (text : Text) (dirty : Bool) → AreSyncs newest later past syncs → Writes sync (begun text dirty)
-    → AreSyncs newest (sync ∷ later) past (begun text dirty ∷ syncs)
-failed_syncs newest sync later past syncs text dirty are is = record {
-  begun_since = begun text dirty ∷ are.begun_since;
+pub failed_syncs : (newest sync : Synced) (later past : List Synced) (syncs : List Sync) (document : Document) (dirty : Bool) → AreSyncs newest later past syncs → Writes sync (begun document dirty)
+    → AreSyncs newest (sync ∷ later) past (begun document dirty ∷ syncs)
+failed_syncs newest sync later past syncs document dirty are is = record {
+  begun_since = begun document dirty ∷ are.begun_since;
   last = are.last;
   earlier = are.earlier;
   newest_of = record {
-    syncs_are = ap (λ (l : List Sync). begun text dirty ∷ l) are.newest_of.syncs_are;
+    syncs_are = ap (λ (l : List Sync). begun document dirty ∷ l) are.newest_of.syncs_are;
     acknowledged = are.newest_of.acknowledged;
     none_later = (refl, are.newest_of.none_later);
   };
   newest_is = are.newest_is;
   later_are = λ synced here. elim here [
-    | inl one ↦ (begun text dirty, inl refl, subst (λ (s : Synced). Writes s (begun text dirty)) (sym one) is)
+    | inl one ↦ (begun document dirty, inl refl, subst (λ (s : Synced). Writes s (begun document dirty)) (sym one) is)
     | inr there ↦ let given = are.later_are synced there in (given.0, inr given.1, given.2)
   ];
   past_are = are.past_are;
@@ -145,12 +149,17 @@ failed_syncs newest sync later past syncs text dirty are is = record {
 
 -- ---- between two calls
 
+-- the number of a format is one that is written
+format_known : (format : Format) (number : ℕ) → number ≡ format_number format → IsFormatNumber number
+format_known Unix number is = inl is
+format_known Dos number is = inr is
+
 module _ (names : Names) (allowed : IsTrue (is_allowed names.file)) where
   stands_as : (synced : Synced) (sync : Sync) (c : List ℕ) → Writes synced sync → synced.generation < 2 ^ 64 → Holds (body_of names.file synced) c → StandsAs synced.generation sync c
   stands_as synced sync c writes small holds = record {
-    stands = holds_stands names allowed [] synced sync.text writes.text small c holds;
+    stands = holds_stands names allowed [] synced sync.document writes.document small c holds;
     zero = zero_of synced.generation synced.head;
-    reads = holds_reads names.file synced allowed small c holds;
+    reads = holds_reads names.file synced allowed small (format_known sync.document.format synced.head.format writes.document.format) c holds;
     dirty = writes.dirty;
   }
 
@@ -200,31 +209,36 @@ fits_between paged disk text syncs fits =
 
 pub fits_recovers : (paged : PagedText) (disk : Disk) (text : Text) (syncs : List Sync) → Fits paged disk text syncs → Recovers (names_of paged) (recoverable syncs) disk
 fits_recovers paged disk text syncs fits =
-    recovers_texts (names_of paged) fits.fit.named.allowed (fits.newest ∷ fits.later) (fits.newest ∷ fits.past) (recoverable syncs) (are_recoverable fits.newest fits.later fits.past syncs fits.syncs_are) disk
+    recovers_documents (names_of paged) fits.fit.named.allowed (fits.newest ∷ fits.later) (fits.newest ∷ fits.past) (recoverable syncs) (are_recoverable fits.newest fits.later fits.past syncs fits.syncs_are) disk
     (fit_recovers (known_of paged.pair) disk fits.newest fits.later fits.past fits.fit)
 
 -- ---- the calls of the pair
 
 -- the committed pages are those of the text
-committed_text : (source : SwapPair) (tree : LineTree) (generation : ℕ) (head : Head) (text : Text) → IsPaged source.pages tree text → head.empty ≡ (tree.committed.lines == 0) → IsTextOf (sync_with source generation head) text
-committed_text source tree generation head text is empty = record {
+committed_document : (source : SwapPair) (tree : LineTree) (generation : ℕ) (head : Head) (document : Document) → IsPaged source.pages tree document.text → head.empty ≡ (tree.committed.lines == 0)
+    → head.format ≡ format_number document.format → IsDocumentOf (sync_with source generation head) document
+committed_document source tree generation head document is empty format = record {
   is_text = is.committed.is_text;
   depth = tree.committed.height;
   lines = is.committed.tree;
   empty = empty ∙ ap (λ (n : ℕ). n == 0) (sym is.committed.lines);
+  format = format;
 }
 
-pub text_synced : (paged : PagedText) (generation : ℕ) (head : Head) (text : Text) → IsPaged paged.pair.pages paged.tree text → head.empty ≡ (paged.tree.committed.lines == 0) → IsTextOf (sync_with paged.pair generation head) text
-text_synced paged generation head text is empty = committed_text paged.pair paged.tree generation head text is empty
+pub document_synced : (paged : PagedText) (generation : ℕ) (head : Head) (document : Document) → IsPaged paged.pair.pages paged.tree document.text → head.empty ≡ (paged.tree.committed.lines == 0)
+    → head.format ≡ format_number document.format → IsDocumentOf (sync_with paged.pair generation head) document
+document_synced paged generation head document is empty format = committed_document paged.pair paged.tree generation head document is empty format
 
-pub syncing_texts : (paged : PagedText) (head : Head) (old new : Disk) → head.empty ≡ (paged.tree.committed.lines == 0) → pair.Syncing (known_of paged.pair) (sync_of paged.pair head) old new → Syncing paged old new
-syncing_texts paged head old new empty syncing = record {
+pub syncing_documents : (paged : PagedText) (head : Head) (format : Format) (old new : Disk) → head.empty ≡ (paged.tree.committed.lines == 0) → head.format ≡ format_number format
+    → pair.Syncing (known_of paged.pair) (sync_of paged.pair head) old new → Syncing paged format old new
+syncing_documents paged head format old new empty formatted syncing = record {
   spared = λ text syncs fits. syncing.spared fits.newest fits.later fits.past fits.fit;
   unmoved = λ text syncs fits. syncing.unmoved fits.newest fits.later fits.past fits.fit;
   safe = λ text syncs fits.
       let sync : Synced = sync_of paged.pair head in
-      recovers_texts (names_of paged) fits.fit.named.allowed (fits.newest ∷ sync ∷ fits.later) (fits.newest ∷ fits.past) (text ∷ recoverable syncs)
-      (are_syncing fits.newest sync fits.later fits.past syncs text fits.syncs_are (text_synced paged (paged.pair.files.generation + 1) head text fits.pages empty)) new
+      let document : Document = record { text = text; format = format } in
+      recovers_documents (names_of paged) fits.fit.named.allowed (fits.newest ∷ sync ∷ fits.later) (fits.newest ∷ fits.past) (document ∷ recoverable syncs)
+      (are_syncing fits.newest sync fits.later fits.past syncs document fits.syncs_are (document_synced paged (paged.pair.files.generation + 1) head document fits.pages empty formatted)) new
       (syncing.safe fits.newest fits.later fits.past fits.fit);
 }
 
@@ -235,32 +249,32 @@ same_pages old new text tree pages is =
     let Q : LineTree → Type 0 = λ t. IsPaged old.pair.pages t text in
     subst P (sym pages) (subst Q (sym tree) is)
 
-module _ (old new : PagedText) (head : Head) (dirty : Bool) (was now : Disk) (text : Text) (syncs : List Sync) (tree : new.tree ≡ old.tree) (pages : new.pair.pages ≡ old.pair.pages) (is_dirty : head.dirty ≡ dirty)
-    (empty : head.empty ≡ (old.tree.committed.lines == 0)) (fits : Fits old was text syncs) where
-  pub synced_fits : IsFit (known_of new.pair) now (sync_of old.pair head) [] (fits.newest ∷ fits.past) → Fits new now text (acknowledged_sync text dirty ∷ syncs)
+module _ (old new : PagedText) (head : Head) (dirty : Bool) (was now : Disk) (document : Document) (syncs : List Sync) (tree : new.tree ≡ old.tree) (pages : new.pair.pages ≡ old.pair.pages) (is_dirty : head.dirty ≡ dirty)
+    (empty : head.empty ≡ (old.tree.committed.lines == 0)) (format : head.format ≡ format_number document.format) (fits : Fits old was document.text syncs) where
+  pub synced_fits : IsFit (known_of new.pair) now (sync_of old.pair head) [] (fits.newest ∷ fits.past) → Fits new now document.text (acknowledged_sync document dirty ∷ syncs)
   synced_fits fit = record {
-    pages = same_pages old new text tree pages fits.pages;
+    pages = same_pages old new document.text tree pages fits.pages;
     newest = sync_of old.pair head;
     later = [];
     past = fits.newest ∷ fits.past;
     fit = fit;
-    syncs_are = more_syncs fits.newest (sync_of old.pair head) fits.later fits.past syncs text dirty fits.syncs_are
-        (record { text = text_synced old (old.pair.files.generation + 1) head text fits.pages empty; dirty = is_dirty });
+    syncs_are = more_syncs fits.newest (sync_of old.pair head) fits.later fits.past syncs document dirty fits.syncs_are
+        (record { document = document_synced old (old.pair.files.generation + 1) head document fits.pages empty format; dirty = is_dirty });
   }
 
-  pub failed_fits : IsFit (known_of new.pair) now fits.newest (sync_of old.pair head ∷ fits.later) fits.past → Fits new now text (begun text dirty ∷ syncs)
+  pub failed_fits : IsFit (known_of new.pair) now fits.newest (sync_of old.pair head ∷ fits.later) fits.past → Fits new now document.text (begun document dirty ∷ syncs)
   failed_fits fit = record {
-    pages = same_pages old new text tree pages fits.pages;
+    pages = same_pages old new document.text tree pages fits.pages;
     newest = fits.newest;
     later = sync_of old.pair head ∷ fits.later;
     past = fits.past;
     fit = fit;
-    syncs_are = failed_syncs fits.newest (sync_of old.pair head) fits.later fits.past syncs text dirty fits.syncs_are
-        (record { text = text_synced old (old.pair.files.generation + 1) head text fits.pages empty; dirty = is_dirty });
+    syncs_are = failed_syncs fits.newest (sync_of old.pair head) fits.later fits.past syncs document dirty fits.syncs_are
+        (record { document = document_synced old (old.pair.files.generation + 1) head document fits.pages empty format; dirty = is_dirty });
   }
 
-pub ending_texts : (paged : PagedText) (old new : Disk) → steps.Ending (known_of paged.pair) old new → Ending paged old new
-ending_texts paged old new ending = record {
+pub ending_documents : (paged : PagedText) (old new : Disk) → steps.Ending (known_of paged.pair) old new → Ending paged old new
+ending_documents paged old new ending = record {
   spared = λ text syncs fits. ending.spared;
   safe = λ text syncs fits.
       recovers_or_none (names_of paged) fits.fit.named.allowed (fits.newest ∷ fits.later) (fits.newest ∷ fits.past) (recoverable syncs) (are_recoverable fits.newest fits.later fits.past syncs fits.syncs_are) new
@@ -269,32 +283,32 @@ ending_texts paged old new ending = record {
 
 -- ---- the start
 
-module _ (source : SwapPair) (tree : LineTree) (head : Head) (text : Text) (is : IsPaged source.pages tree text) (empty : head.empty ≡ (tree.committed.lines == 0)) where
-  started_with : (generation : ℕ) → IsTextOf (sync_with source generation head) text
-  started_with generation = committed_text source tree generation head text is empty
+module _ (source : SwapPair) (tree : LineTree) (head : Head) (document : Document) (is : IsPaged source.pages tree document.text) (empty : head.empty ≡ (tree.committed.lines == 0)) (format : head.format ≡ format_number document.format) where
+  started_with : (generation : ℕ) → IsDocumentOf (sync_with source generation head) document
+  started_with generation = committed_document source tree generation head document is empty format
 
-  pub starting_text : (names : Names) → IsTrue (is_allowed names.file) → (old new : Disk) → steps.Starting names (sync_with source 1 head) (sync_with source 2 head) old new → Starting names text old new
-  starting_text names allowed old new starting = record {
+  pub starting_document : (names : Names) → IsTrue (is_allowed names.file) → (old new : Disk) → steps.Starting names (sync_with source 1 head) (sync_with source 2 head) old new → Starting names document old new
+  starting_document names allowed old new starting = record {
     spared = starting.spared;
-    safe = recovers_or_none names allowed (sync_with source 1 head ∷ sync_with source 2 head ∷ []) (sync_with source 1 head ∷ []) (text ∷ []) are new starting.safe;
+    safe = recovers_or_none names allowed (sync_with source 1 head ∷ sync_with source 2 head ∷ []) (sync_with source 1 head ∷ []) (document ∷ []) are new starting.safe;
   }
     where
-      are : AreOf (sync_with source 1 head ∷ sync_with source 2 head ∷ []) (text ∷ [])
-      are synced (inl one) = (text, inl refl, subst (λ (s : Synced). IsTextOf s text) (sym one) (started_with 1))
-      are synced (inr (inl two)) = (text, inl refl, subst (λ (s : Synced). IsTextOf s text) (sym two) (started_with 2))
+      are : AreOf (sync_with source 1 head ∷ sync_with source 2 head ∷ []) (document ∷ [])
+      are synced (inl one) = (document, inl refl, subst (λ (s : Synced). IsDocumentOf s document) (sym one) (started_with 1))
+      are synced (inr (inl two)) = (document, inl refl, subst (λ (s : Synced). IsDocumentOf s document) (sym two) (started_with 2))
       are synced (inr (inr none)) = absurd none
 
   pub started_fits : (paged : PagedText) (disk : Disk) → paged.pair.pages ≡ source.pages → paged.tree ≡ tree → head.dirty ≡ false
-      → IsFit (known_of paged.pair) disk (sync_with source 2 head) [] (sync_with source 1 head ∷ []) → Fits paged disk text (acknowledged_sync text false ∷ [])
+      → IsFit (known_of paged.pair) disk (sync_with source 2 head) [] (sync_with source 1 head ∷ []) → Fits paged disk document.text (acknowledged_sync document false ∷ [])
   started_fits paged disk pages same clean fit = record {
-    pages = let P : MemPages → Type 0 = λ m. IsPaged m paged.tree text in
-        let Q : LineTree → Type 0 = λ t. IsPaged source.pages t text in
+    pages = let P : MemPages → Type 0 = λ m. IsPaged m paged.tree document.text in
+        let Q : LineTree → Type 0 = λ t. IsPaged source.pages t document.text in
         subst P (sym pages) (subst Q (sym same) is);
     newest = sync_with source 2 head;
     later = [];
     past = sync_with source 1 head ∷ [];
     fit = fit;
-    syncs_are = first_syncs (sync_with source 1 head) (sync_with source 2 head) text false (record { text = started_with 1; dirty = clean }) (record { text = started_with 2; dirty = clean });
+    syncs_are = first_syncs (sync_with source 1 head) (sync_with source 2 head) document false (record { document = started_with 1; dirty = clean }) (record { document = started_with 2; dirty = clean });
   }
 
 -- ---- other names
@@ -333,20 +347,28 @@ fits_changed old new disk text after syncs known since pages fits = record {
 abbrev pub value_of : SwapPair → LineTree → Opening
 value_of source tree = record { name = source.files.names.file; text = text_in (present_of source.pages) tree.present }
 
-module _ (source : SwapPair) (tree : LineTree) (head : Head) (value : Opening) (is : IsCommitted source.pages tree) (empty : head.empty ≡ (tree.committed.lines == 0)) (same : value_of source tree ≡ value) where
+-- the document that is opened
+abbrev pub opened_in : Format → Opening → Document
+opened_in format value = record { text = value.text; format = format }
+
+module _ (source : SwapPair) (tree : LineTree) (value : Opening) (is : IsCommitted source.pages tree) (same : value_of source tree ≡ value) where
   pub names_opened : source.files.names ≡ names_of_file value.name
   names_opened = source.files.named.others ∙ ap (λ (o : Opening). names_of_file o.name) same
 
-  pub opened_starting : (old new : Disk) → steps.Starting source.files.names (sync_with source 1 head) (sync_with source 2 head) old new → Starting (names_of_file value.name) value.text old new
-  opened_starting old new starting =
-      let named : Starting source.files.names value.text old new =
-      subst (λ (o : Opening). Starting source.files.names o.text old new) same (starting_text source tree head (text_in (present_of source.pages) tree.present) (is_paged source.pages tree is) empty source.files.names source.files.named.allowed old new starting) in
-      subst (λ (n : Names). Starting n value.text old new) names_opened named
+  module _ (head : Head) (format : Format) (empty : head.empty ≡ (tree.committed.lines == 0)) (formatted : head.format ≡ format_number format) where
+    pub opened_starting : (old new : Disk) → steps.Starting source.files.names (sync_with source 1 head) (sync_with source 2 head) old new
+        → Starting (names_of_file value.name) (opened_in format value) old new
+    opened_starting old new starting =
+        let named : Starting source.files.names (opened_in format value) old new =
+        subst (λ (o : Opening). Starting source.files.names (opened_in format o) old new) same
+        (starting_document source tree head (opened_in format (value_of source tree)) (is_paged source.pages tree is) empty formatted source.files.names source.files.named.allowed old new starting) in
+        subst (λ (n : Names). Starting n (opened_in format value) old new) names_opened named
 
-  pub opened_fits : (paged : PagedText) (disk : Disk) → paged.pair.pages ≡ source.pages → paged.tree ≡ tree → head.dirty ≡ false
-      → IsFit (known_of paged.pair) disk (sync_with source 2 head) [] (sync_with source 1 head ∷ []) → Fits paged disk value.text (acknowledged_sync value.text false ∷ [])
-  opened_fits paged disk pages one clean fit =
-      subst (λ (o : Opening). Fits paged disk o.text (acknowledged_sync o.text false ∷ [])) same (started_fits source tree head (text_in (present_of source.pages) tree.present) (is_paged source.pages tree is) empty paged disk pages one clean fit)
+    pub opened_fits : (paged : PagedText) (disk : Disk) → paged.pair.pages ≡ source.pages → paged.tree ≡ tree → head.dirty ≡ false
+        → IsFit (known_of paged.pair) disk (sync_with source 2 head) [] (sync_with source 1 head ∷ []) → Fits paged disk value.text (acknowledged_sync (opened_in format value) false ∷ [])
+    opened_fits paged disk pages one clean fit =
+        subst (λ (o : Opening). Fits paged disk o.text (acknowledged_sync (opened_in format o) false ∷ [])) same
+        (started_fits source tree head (opened_in format (value_of source tree)) (is_paged source.pages tree is) empty formatted paged disk pages one clean fit)
 
   pub lines_opened : tree.present.lines ≡ length value.text
   lines_opened = sym (text_had (present_of source.pages) tree.present is.present_fits).lines ∙ ap (λ (o : Opening). length o.text) same

@@ -4,8 +4,10 @@ use Rattle.vs_host.specs.Disk.{Disk}
 use Rattle.vs_host.specs.World.{Tells}
 use Rattle.vs_host.specs.declared.names.Names.{Names}
 use Rattle.vs_disk.specs.Names.{SameAt}
+use Rattle.vs_text.specs.declared.format.Format.{Format}
+use Rattle.vs_text.specs.Documents.{Document}
 use Rattle.vs_pair.specs.Swap.{Synced}
-use Rattle.vs_pair.specs.Pair.{IsFit, IsIn, IsTextOf, Unmoved, is_apart, is_foreign, known_of}
+use Rattle.vs_pair.specs.Pair.{IsFit, IsIn, IsDocumentOf, Unmoved, is_apart, is_foreign, known_of}
 use Rattle.vs_safety.specs.Texts.{Text, Sync, IsNewestOf, IsSyncIn, Recovers, RecoversOrNone, recoverable}
 use Rattle.vs_paged.specs.Pages.{IsPaged}
 use Rattle.vs_paged.specs.declared.paged.PagedText.{PagedText}
@@ -14,9 +16,9 @@ use Rattle.vs_paged.specs.declared.paged.PagedText.{PagedText}
 abbrev pub names_of : PagedText → Names
 names_of paged = paged.pair.files.names
 
--- What the pair wrote is the text of this sync, and says whether it has changes.
+-- What the pair wrote is the document of this sync, and says whether it has changes.
 pub record Writes (synced : Synced) (sync : Sync) : Type 0 where
-  pub text : IsTextOf synced sync.text
+  pub document : IsDocumentOf synced sync.document
   pub dirty : synced.head.dirty ≡ sync.dirty
 
 -- What the pair wrote of the newest acknowledged sync, of those begun since, and of earlier ones is what these syncs are.
@@ -43,19 +45,20 @@ abbrev pub FitsFolder : Tells → PagedText → Disk → Type 0
 FitsFolder tells paged disk = IsTrue tells.folder → (text : Text) × (syncs : List Sync) × Fits paged disk text syncs
 
 -- a sync that succeeded
-abbrev pub acknowledged_sync : Text → Bool → Sync
-acknowledged_sync text dirty = record { text = text; dirty = dirty; acknowledged = true }
+abbrev pub acknowledged_sync : Document → Bool → Sync
+acknowledged_sync document dirty = record { document = document; dirty = dirty; acknowledged = true }
 
--- While both swap files are made: all other names are spared, and whatever a stop leaves, neither is there or the text is recovered.
-pub record Starting (names : Names) (text : Text) (old new : Disk) : Type 0 where
+-- While both swap files are made: all other names are spared, and whatever a stop leaves, neither is there or the document is recovered.
+pub record Starting (names : Names) (document : Document) (old new : Disk) : Type 0 where
   pub spared : SameAt (is_foreign names) old new
-  pub safe : RecoversOrNone names (text ∷ []) new
+  pub safe : RecoversOrNone names (document ∷ []) new
 
--- While the text is synced: all other names are spared and unmoved, and this text is one of those that may be recovered.
-pub record Syncing (paged : PagedText) (old new : Disk) : Type 0 where
+-- While the text is synced in this format: all other names are spared and unmoved, and this document is one of those that may be recovered.
+pub record Syncing (paged : PagedText) (format : Format) (old new : Disk) : Type 0 where
   pub spared : (text : Text) (syncs : List Sync) → Fits paged old text syncs → SameAt (is_apart (names_of paged)) old new
   pub unmoved : (text : Text) (syncs : List Sync) → Fits paged old text syncs → Unmoved (is_apart (names_of paged)) old new
-  pub safe : (text : Text) (syncs : List Sync) → Fits paged old text syncs → Recovers (names_of paged) (text ∷ recoverable syncs) new
+  pub safe : (text : Text) (syncs : List Sync) → Fits paged old text syncs
+      → Recovers (names_of paged) (record { text = text; format = format } ∷ recoverable syncs) new
 
 -- While both swap files are removed: all other names are spared, and neither file is there, or recovery goes on to give what it might.
 pub record Ending (paged : PagedText) (old new : Disk) : Type 0 where

@@ -7,8 +7,8 @@ ghost use Rattle.vs_safety.specs.Texts.{IsBetween, Recovers, Sync, Text, recover
 ghost use Rattle.vs_paged.specs.Fits.{Fits, names_of};
 ghost use Rattle.vs_paged.specs.declared.paged.PagedText.{PagedText};
 
-/// Between two calls the last acknowledged sync stands in every image, and what is recovered is its text or that of one that was
-/// begun since.
+/// Between two calls the last acknowledged sync stands in every image, and what is recovered is its document or that of one
+/// that was begun since.
 pub fn fitting()
     ensures between { (paged : PagedText) (disk : Disk) (text : Text) (syncs : List Sync) → Fits paged disk text syncs →
         IsBetween (names_of paged) syncs disk }

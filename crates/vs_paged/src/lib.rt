@@ -1,6 +1,7 @@
 //! A text in the pages of a pair of swap files: read in, started, synced, and ended.
 #![tactic(auto)]
 
+mod head;
 mod laws;
 mod opening;
 mod paged;

@@ -16,13 +16,15 @@ ghost use Rattle.vs_paged.specs.Fits.{Fits, Starting, acknowledged_sync, names_o
 ghost use Rattle.vs_paged.specs.Pages.{IsCommitted};
 
 use crate::PagedText;
+use crate::head::head_of;
 use std::alloc::{AllocError, Global};
 use std::marker::Model;
 use vs_edit::LineStore;
 use vs_host::{Failed, Folder};
 use vs_pages::{LentPages, MemPages, PageErr};
-use vs_pair::{Head, SwapPair};
+use vs_pair::SwapPair;
 use vs_pieces::EndedLines;
+use vs_text::Format;
 use vs_tree::{LineTree, TreeStore};
 
 /// A text that is read, piece by piece, into the pages of a pair, seen as the name of its file and the lines so far. It has made
@@ -139,12 +141,12 @@ impl OpeningText {
         push_in(alloc, &mut self.tree, &mut self.pair.pages, lines)
     }
 
-    /// Makes both swap files of the text, which has no changes. It takes no memory.
-    pub fn start<F: Folder>(self, host: &mut F) -> Result<PagedText, Failed>
+    /// Makes both swap files of the text in this format, which has no changes. It takes no memory.
+    pub fn start<F: Folder>(self, host: &mut F, format: Format) -> Result<PagedText, Failed>
         requires fresh { IsTrue F.tells.folder → IsFresh (names_of_file self.name) (F.scene host.old).folder }
-        ensures acts { Acts F.tells (Starting (names_of_file self.name) self.text) (F.scene host.old) (F.scene host.new) }
+        ensures acts { Acts F.tells (Starting (names_of_file self.name) (record { text = self.text; format = format })) (F.scene host.old) (F.scene host.new) }
         ensures fits { IfOk result (λ paged. IsTrue F.tells.folder →
-            Fits paged (F.scene host.new).folder self.text (acknowledged_sync self.text false ∷ [])) }
+            Fits paged (F.scene host.new).folder self.text (acknowledged_sync (record { text = self.text; format = format }) false ∷ [])) }
         ensures names { IfOk result (λ paged. names_of paged ≡ names_of_file self.name) }
         ensures ends { IfOk result (λ paged. IsTrue F.tells.folder
             → BothEnd (names_of_file self.name) (committed_of paged.pair.pages) (F.scene host.new).folder) }
@@ -156,11 +158,7 @@ impl OpeningText {
         ensures cause { HasCause (F.scene host.old).folder_faults (F.scene host.new).folder_faults (IsErr result) }
     {
         let OpeningText { tree, mut pair } = self;
-        let head = Head {
-            dirty: false,
-            empty: tree.committed.lines == 0,
-        };
-        pair.start(host, &head)?;
+        pair.start(host, &head_of(&tree, false, format))?;
         Ok(PagedText { tree, pair })
     }
 }

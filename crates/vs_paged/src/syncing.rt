@@ -9,8 +9,9 @@ ghost use Rattle.vs_safety.specs.Texts.{Text, Sync, begun};
 ghost use Rattle.vs_paged.specs.Fits.{Ending, Fits, FitsFolder, Syncing, acknowledged_sync, names_of};
 
 use crate::PagedText;
+use crate::head::head_of;
 use vs_host::{Failed, Folder};
-use vs_pair::Head;
+use vs_text::Format;
 
 impl PagedText {
     /// The number of lines.
@@ -20,16 +21,21 @@ impl PagedText {
         self.tree.len()
     }
 
-    /// Writes the committed text into the swap file that does not have the last acknowledged sync. `dirty` says whether the text
-    /// has changes that are not in the edited file. It takes no memory.
-    pub fn sync<F: Folder>(&mut self, host: &mut F, dirty: bool) -> Result<(), Failed>
+    /// Writes the committed text in this format into the swap file that does not have the last acknowledged sync. `dirty` says
+    /// whether it has changes that are not in the edited file. It takes no memory.
+    pub fn sync<F: Folder>(
+        &mut self,
+        host: &mut F,
+        dirty: bool,
+        format: Format,
+    ) -> Result<(), Failed>
         requires room { self.old.pair.files.generation < 2 ^ 63 }
         requires fits { FitsFolder F.tells self.old (F.scene host.old).folder }
-        ensures acts { Acts F.tells (Syncing self.old) (F.scene host.old) (F.scene host.new) }
+        ensures acts { Acts F.tells (Syncing self.old format) (F.scene host.old) (F.scene host.new) }
         ensures ok { OnOk result (IsTrue F.tells.folder → (text : Text) (syncs : List Sync) → Fits self.old (F.scene host.old).folder text syncs
-            → Fits self.new (F.scene host.new).folder text (acknowledged_sync text dirty ∷ syncs)) }
+            → Fits self.new (F.scene host.new).folder text (acknowledged_sync (record { text = text; format = format }) dirty ∷ syncs)) }
         ensures err { OnErr result (IsTrue F.tells.folder → (text : Text) (syncs : List Sync) → Fits self.old (F.scene host.old).folder text syncs
-            → Fits self.new (F.scene host.new).folder text (begun text dirty ∷ syncs)) }
+            → Fits self.new (F.scene host.new).folder text (begun (record { text = text; format = format }) dirty ∷ syncs)) }
 
         // Some file stands in every image with a generation above all before, exactly where the sync is acknowledged.
         ensures rises { OnOk result (IsTrue F.tells.folder → Rises (names_of self.old) (F.scene host.old).folder (F.scene host.new).folder) }
@@ -41,11 +47,7 @@ impl PagedText {
         ensures none { OnOk result (NoneFails F.tells (F.scene host.old) (F.scene host.new)) }
         ensures cause { HasCause (F.scene host.old).folder_faults (F.scene host.new).folder_faults (IsErr result) }
     {
-        let head = Head {
-            dirty,
-            empty: self.tree.committed.lines == 0,
-        };
-        self.pair.sync(host, &head)
+        self.pair.sync(host, &head_of(&self.tree, dirty, format))
     }
 
     /// Removes both swap files, that of the last acknowledged sync after the other one. After an error the files that are left

@@ -11,13 +11,14 @@ use Rattle.vs_disk.specs.Names.{SameAt}
 use Rattle.vs_disk.specs.Runs.{Inside}
 use Rattle.vs_disk.proofs.Runs.{Each-append, Each-weaker}
 use Rattle.vs_disk.proofs.Others.{same_then}
+use Rattle.vs_text.specs.Documents.{Document}
 use Rattle.vs_pair.proofs.MadeFiles.{same_weaker}
-use Rattle.vs_safety.specs.Texts.{Text, Sync, recoverable, RecoversOrNone, NoneLeft}
+use Rattle.vs_safety.specs.Texts.{Sync, recoverable, RecoversOrNone, NoneLeft}
 use Rattle.vs_safety.specs.Writes.{State, state_now}
 use Rattle.vs_safety.specs.Turns.{Turn, Closing, NotBegun, LastSync, Quits, with_begun, with_closing, opened, replies, behind, last_turn}
 use Rattle.vs_safety.specs.Stretches.{IsFirst, IsShorter, EachTurn, HasStretch}
 use Rattle.vs_safety.specs.Safety.{IsFirstPart, opened_at, IsKept, IsSafe, IsCrashSafeAmong, SparesAmong, WorksAmong, IsWriting, Wrote, SteppedAmong, IsUnderWay}
-use Rattle.vs_safety.specs.History.{History, Open, After, opened_text, opening_reply, syncs_of, written_by, turns_then, replied_at, ran_of, BeginsAmong, HasBegunAmong, Replied, WaitsAmong}
+use Rattle.vs_safety.specs.History.{History, Open, After, opened_document, opening_reply, syncs_of, written_by, turns_then, replied_at, ran_of, BeginsAmong, HasBegunAmong, Replied, WaitsAmong}
 use Rattle.vs_safety.proofs.Texts.{or_none, between_recovers}
 use Rattle.vs_safety.proofs.UndoFiles.{undo_spared}
 use Rattle.vs_safety.proofs.Moments.{part_of, part_then, part_long, first_in, opens_stays, each_both}
@@ -31,35 +32,35 @@ cut_part now new written tail is part = (part.0, ap (λ (l : List ℕ). now ++ l
 
 -- ---- the opening
 
-module _ (others : Name → Bool) (names : Names) (line : List ℕ) (text : Text) (opening : List ℕ) (start now : Scene) (opens : BeginsAmong others names text start now) where
+module _ (others : Name → Bool) (names : Names) (line : List ℕ) (document : Document) (opening : List ℕ) (start now : Scene) (opens : BeginsAmong others names document start now) where
   -- its reply is not whole
   opening_stops : (new : Scene) (newest : List Snapshot) (written : List ℕ) → new.trace ≡ newest ++ now.trace → new.output ≡ now.output ++ written → IsFirstPart written opening → length new.output < opened_at start opening
-      → 0 < length opening → Each (λ m. IsFirstPart m.output new.output × RecoversOrNone names (text ∷ []) m.folder × SameAt others start.folder m.folder) newest → IsCrashSafeAmong others names line start new (ran_of (Open text opening) NotBegun)
+      → 0 < length opening → Each (λ m. IsFirstPart m.output new.output × RecoversOrNone names (document ∷ []) m.folder × SameAt others start.folder m.folder) newest → IsCrashSafeAmong others names line start new (ran_of (Open document opening) NotBegun)
   opening_stops new newest written added output part lt some each =
       let all : List Snapshot = newest ++ opens.works.moments.added in
-      let Moment : Snapshot → Type 0 = IsSafe others names start new all (ran_of (Open text opening) NotBegun) in
+      let Moment : Snapshot → Type 0 = IsSafe others names start new all (ran_of (Open document opening) NotBegun) in
       record {
         moments = all;
         added = added ∙ ap (λ (ms : List Snapshot). newest ++ ms) opens.works.moments.is ∙ sym (append_assoc newest opens.works.moments.added start.trace);
         at_start = opens.at_start;
         opens = λ le. absurd (omega (arith, le, lt));
         safe = Each-append Moment newest opens.works.moments.added
-            (Each-weaker (λ m. IsFirstPart m.output new.output × RecoversOrNone names (text ∷ []) m.folder × SameAt others start.folder m.folder) Moment
+            (Each-weaker (λ m. IsFirstPart m.output new.output × RecoversOrNone names (document ∷ []) m.folder × SameAt others start.folder m.folder) Moment
             (λ m one. record {
               output = one.0;
-              kept = inl (kept_before others names text opening start now all [] m (omega (arith, lt, part_long m.output new.output one.0)) one.1 one.2);
+              kept = inl (kept_before others names document opening start now all [] m (omega (arith, lt, part_long m.output new.output one.0)) one.1 one.2);
               gone = λ quits. absurd (cc);
             })
             newest each)
-            (Each-weaker (λ m. IsFirstPart m.output new.output × IsKept others names start all text opening [] m) Moment (λ m one. record { output = one.0; kept = inl one.1; gone = λ quits. absurd (cc) }) opens.works.moments.added
-            (each_both (λ m. IsFirstPart m.output new.output) (IsKept others names start all text opening []) opens.works.moments.added
-            (opening_parts others names text opening start now opens new.output (written, output)) (kept_opening others names text opening start now opens all [] some)));
+            (Each-weaker (λ m. IsFirstPart m.output new.output × IsKept others names start all document opening [] m) Moment (λ m one. record { output = one.0; kept = inl one.1; gone = λ quits. absurd (cc) }) opens.works.moments.added
+            (each_both (λ m. IsFirstPart m.output new.output) (IsKept others names start all document opening []) opens.works.moments.added
+            (opening_parts others names document opening start now opens new.output (written, output)) (kept_opening others names document opening start now opens all [] some)));
         output = part_then new.output (now.output ++ opening) _ (cut_part now.output new.output written opening output part)
             ([], ap (λ (l : List ℕ). start.output ++ l) (append-nil (opening ++ []) ∙ append-nil opening) ∙ ap (λ (l : List ℕ). l ++ opening) (sym opens.works.output) ∙ sym (append-nil (now.output ++ opening)));
         stretches = tt;
       }
 
-  pub not_opened : 0 < length opening → IsCrashSafeAmong others names line start now (ran_of (Open text opening) NotBegun)
+  pub not_opened : 0 < length opening → IsCrashSafeAmong others names line start now (ran_of (Open document opening) NotBegun)
   not_opened some = opening_stops now [] [] refl (sym (append-nil now.output)) (opening, refl) (omega (arith, some, ap (λ (l : List ℕ). length l) opens.works.output)) some tt
 
 -- ---- after it
@@ -70,11 +71,11 @@ module _ (others : Name → Bool) (names : Names) (line : List ℕ) (start : Sce
   all = newest ++ so_far.moments
 
   abbrev Moment : Snapshot → Type 0
-  Moment = IsSafe others names start new all (record { text = opened_text past; opening = opening_reply past; turns = turns; closing = closing })
+  Moment = IsSafe others names start new all (record { document = opened_document past; opening = opening_reply past; turns = turns; closing = closing })
 
   ends_so : new.trace ≡ newest ++ now.trace → with_closing turns closing ≡ turns_then past rest → IsNext rest now.folder → (written tail : List ℕ) → replies rest ++ behind line closing ≡ tail → IsFirstPart written tail → new.output ≡ now.output ++ written
       → Each Moment newest → EachTurn (HasStretch others names all new) (replied_at start past) rest
-      → IsCrashSafeAmong others names line start new (record { text = opened_text past; opening = opening_reply past; turns = turns; closing = closing })
+      → IsCrashSafeAmong others names line start new (record { document = opened_document past; opening = opening_reply past; turns = turns; closing = closing })
   ends_so added are next written tail tail_is part output safe stretches = record {
     moments = all;
     added = added ∙ ap (λ (ms : List Snapshot). newest ++ ms) so_far.added ∙ sym (append_assoc newest so_far.moments start.trace);
@@ -97,12 +98,12 @@ module _ (others : Name → Bool) (names : Names) (line : List ℕ) (start : Sce
       no_later : closing ≡ Quits → replied_at start past ≤ opened_at start (opening_reply past) + length (replies turns)
       no_later quits = omega (arith, ap (λ (ts : List Turn). length (replies ts)) (sym (quit_turns turns closing quits) ∙ are), replied_is start past rest)
 
-      older : (moments : List Snapshot) → Each (λ m. IsFirstPart m.output now.output) moments → Each (IsKept others names start all (opened_text past) (opening_reply past) (turns_then past rest)) moments → Each Moment moments
+      older : (moments : List Snapshot) → Each (λ m. IsFirstPart m.output now.output) moments → Each (IsKept others names start all (opened_document past) (opening_reply past) (turns_then past rest)) moments → Each Moment moments
       older [] parts kept = tt
       older (m ∷ ms) parts kept = (
         record {
           output = part_then m.output now.output new.output parts.0 (written, output);
-          kept = inl (subst (λ (ts : List Turn). IsKept others names start all (opened_text past) (opening_reply past) ts m) (sym are) kept.0);
+          kept = inl (subst (λ (ts : List Turn). IsKept others names start all (opened_document past) (opening_reply past) ts m) (sym are) kept.0);
           gone = λ quits more. absurd (omega (arith, more, no_later quits, part_long m.output now.output parts.0, so_far.long));
         },
         older ms parts.1 kept.1,
@@ -110,7 +111,7 @@ module _ (others : Name → Bool) (names : Names) (line : List ℕ) (start : Sce
 
 -- between two commands
 pub stops_here : (others : Name → Bool) (names : Names) (line : List ℕ) (start : Scene) (past : History) (now : Scene) → SoFar others names start past now → (turns : List Turn) (closing : Closing) → with_closing turns closing ≡ turns_then past [] → ((l : List ℕ) → behind l closing ≡ [])
-    → IsCrashSafeAmong others names line start now (record { text = opened_text past; opening = opening_reply past; turns = turns; closing = closing })
+    → IsCrashSafeAmong others names line start now (record { document = opened_document past; opening = opening_reply past; turns = turns; closing = closing })
 stops_here others names line start past now so_far turns closing are none =
     ends_so others names line start past now now so_far [] [] turns closing refl are tt [] [] (none line) ([], refl) (sym (append-nil now.output)) tt tt
 
@@ -121,17 +122,17 @@ module _ (others : Name → Bool) (names : Names) (line : List ℕ) (start : Sce
   steps = stepped.works.moments.added
 
   abbrev Whole : Scene → Type 0
-  Whole new = IsCrashSafeAmong others names line start new (record { text = opened_text past; opening = opening_reply past; turns = turns; closing = closing })
+  Whole new = IsCrashSafeAmong others names line start new (record { document = opened_document past; opening = opening_reply past; turns = turns; closing = closing })
 
   long_ended : length ended.output ≡ replied_at start past
   long_ended = ap (λ (l : List ℕ). length l) stepped.works.output ∙ so_far.long
 
   -- a moment at which it is under way
-  begun : (all : List Snapshot) (new : Scene) (m : Snapshot) → IsFirstPart m.output new.output → IsKept others names start all (opened_text past) (opening_reply past) (turns_then past (turn ∷ [])) m
-      → IsSafe others names start new all (record { text = opened_text past; opening = opening_reply past; turns = turns; closing = closing }) m
+  begun : (all : List Snapshot) (new : Scene) (m : Snapshot) → IsFirstPart m.output new.output → IsKept others names start all (opened_document past) (opening_reply past) (turns_then past (turn ∷ [])) m
+      → IsSafe others names start new all (record { document = opened_document past; opening = opening_reply past; turns = turns; closing = closing }) m
   begun all new m first kept = record {
     output = first;
-    kept = inl (subst (λ (ts : List Turn). IsKept others names start all (opened_text past) (opening_reply past) ts m) (sym are) kept);
+    kept = inl (subst (λ (ts : List Turn). IsKept others names start all (opened_document past) (opening_reply past) ts m) (sym are) kept);
     gone = λ quits. absurd (let no : length (behind (0 ∷ []) closing) ≡ 1 = ap (λ (c : Closing). length (behind (0 ∷ []) c)) quits in omega (arith, no, ap (λ (l : List ℕ). length l) (none (0 ∷ []))));
   }
 
@@ -144,10 +145,10 @@ module _ (others : Name → Bool) (names : Names) (line : List ℕ) (start : Sce
     all_cut = (part_moments ++ steps) ++ so_far.moments
 
     abbrev CutMoment : Snapshot → Type 0
-    CutMoment = IsSafe others names start new all_cut (record { text = opened_text past; opening = opening_reply past; turns = turns; closing = closing })
+    CutMoment = IsSafe others names start new all_cut (record { document = opened_document past; opening = opening_reply past; turns = turns; closing = closing })
 
     abbrev CutKept : Snapshot → Type 0
-    CutKept = IsKept others names start all_cut (opened_text past) (opening_reply past) (turns_then past (turn ∷ []))
+    CutKept = IsKept others names start all_cut (opened_document past) (opening_reply past) (turns_then past (turn ∷ []))
 
     abbrev CutStepping : Snapshot → Type 0
     CutStepping = Inside ended (SparesAmong others names turn.write (IsUnderWay names (with_begun turn.sync (syncs_of past)) turn.write) now.folder)
@@ -187,22 +188,22 @@ module _ (others : Name → Bool) (names : Names) (line : List ℕ) (start : Sce
   ]
 
 -- in the opening reply
-module _ (others : Name → Bool) (names : Names) (line : List ℕ) (text : Text) (opening : List ℕ) (start now : Scene) (has : HasBegunAmong others names text start now) where
-  pub opening_cut : (new : Scene) (written : List ℕ) → 0 < length opening → Wrote written now new → IsFirstPart written opening → IsCrashSafeAmong others names line start new (ran_of (Open text opening) NotBegun)
+module _ (others : Name → Bool) (names : Names) (line : List ℕ) (document : Document) (opening : List ℕ) (start now : Scene) (has : HasBegunAmong others names document start now) where
+  pub opening_cut : (new : Scene) (written : List ℕ) → 0 < length opening → Wrote written now new → IsFirstPart written opening → IsCrashSafeAmong others names line start new (ran_of (Open document opening) NotBegun)
   opening_cut new written some wrote part = elim (cases_lt (length written) (length opening)) [
     | inl lt ↦
         let short : length new.output < opened_at start opening = omega (arith, lt, ap (λ (l : List ℕ). length l) has.begins.works.output, ap (λ (l : List ℕ). length l) wrote.output, length-append now.output written) in
-        opening_stops others names line text opening start now has.begins new wrote.moments.added written wrote.moments.is wrote.output part short some
-        (Each-weaker (IsWriting now new) (λ m. IsFirstPart m.output new.output × RecoversOrNone names (text ∷ []) m.folder × SameAt others start.folder m.folder)
+        opening_stops others names line document opening start now has.begins new wrote.moments.added written wrote.moments.is wrote.output part short some
+        (Each-weaker (IsWriting now new) (λ m. IsFirstPart m.output new.output × RecoversOrNone names (document ∷ []) m.folder × SameAt others start.folder m.folder)
         (λ m writing. let folder : now.folder ≡ m.folder = sym (ap (λ (s : State). s.folder) writing.state) in (
           writing.output,
-          subst (λ (d : Disk). RecoversOrNone names (text ∷ []) d) folder (or_none names (text ∷ []) now.folder (between_recovers names (opened text) now.folder has.between)),
+          subst (λ (d : Disk). RecoversOrNone names (document ∷ []) d) folder (or_none names (document ∷ []) now.folder (between_recovers names (opened document) now.folder has.between)),
           subst (λ (d : Disk). SameAt others start.folder d) folder has.begins.works.spared,
         ))
         wrote.moments.added wrote.moments.each)
     | inr le ↦
         let replied : Replied opening now new = record { some = some; wrote = subst (λ (l : List ℕ). Wrote l now new) (part_whole written opening part le) wrote } in
-        stops_here others names line start (Open text opening) new (so_far others names start (Open text opening) new (now, has, replied)) [] NotBegun refl (λ l. refl)
+        stops_here others names line start (Open document opening) new (so_far others names start (Open document opening) new (now, has, replied)) [] NotBegun refl (λ l. refl)
   ]
 
 -- ---- an accepted quit

@@ -10,14 +10,15 @@ use Rattle.vs_host.specs.declared.names.Names.{Names}
 use Rattle.vs_disk.specs.Names.{SameAt}
 use Rattle.vs_disk.specs.Runs.{Inside}
 use Rattle.vs_disk.proofs.Runs.{Each-append, Each-weaker, goes_then, goes_weaker}
+use Rattle.vs_text.specs.Documents.{Document}
 use Rattle.vs_pair.proofs.MadeFiles.{same_weaker}
-use Rattle.vs_safety.specs.Texts.{Text, Sync, recoverable, Recovers, RecoversOrNone, IsFlag, IsBetween}
+use Rattle.vs_safety.specs.Texts.{Sync, recoverable, Recovers, RecoversOrNone, IsFlag, IsBetween}
 use Rattle.vs_safety.specs.Writes.{State, state_in, state_now}
 use Rattle.vs_safety.specs.FileWork.{HasLeft, IsFoundIn, KeepsAmong}
 use Rattle.vs_safety.specs.Turns.{Turn, with_begun, with_sync, with_next, opened, replies, EndsAfter, KeepsUndo, SparesOthers, next_of, next_write, IsWholeNext}
 use Rattle.vs_safety.specs.Stretches.{IsFirst, IsShorter, IsEnd, EachTurn, HasStretch, KeepsSince, BeginsAsAtStart}
 use Rattle.vs_safety.specs.Safety.{IsFirstPart, opened_at, IsKept, IsWriting, Looks, SteppedAmong, SparesAmong, IsUnderWay}
-use Rattle.vs_safety.specs.History.{History, Open, After, opened_text, opening_reply, syncs_of, written_by, turns_then, replied_at, BeginsAmong, HasBegunAmong, Replied, CameTo, WaitsAmong}
+use Rattle.vs_safety.specs.History.{History, Open, After, opened_document, opening_reply, syncs_of, written_by, turns_then, replied_at, BeginsAmong, HasBegunAmong, Replied, CameTo, WaitsAmong}
 use Rattle.vs_safety.proofs.Texts.{begun_within, ended_within, between_recovers, or_none, recovers_more}
 use Rattle.vs_safety.proofs.UndoFiles.{undo_moment, undo_end, undo_under_way, undo_ended, undo_next, undo_none}
 use Rattle.vs_safety.proofs.Splits.{spared_front}
@@ -42,7 +43,7 @@ pub record Stands (others : Name → Bool) (names : Names) (start : Disk) (past 
 
 module _ (others : Name → Bool) (names : Names) (start : Scene) (past : History) (all : List Snapshot) (rest : List Turn) (m : Snapshot) (le : replied_at start past ≤ length m.output) where
   abbrev Kept : List Turn → Type 0
-  Kept turns = IsKept others names start all (opened_text past) (opening_reply past) turns m
+  Kept turns = IsKept others names start all (opened_document past) (opening_reply past) turns m
 
   kept_running : EndsAfter (length m.output) (replied_at start past) rest → Recovers names (recoverable (with_next (syncs_of past) rest)) m.folder
       → SparesOthers others names (turns_then past [] ++ next_of rest) start.folder m.folder → KeepsSince others names all (replied_at start past) (next_write rest) m.folder
@@ -66,7 +67,7 @@ module _ (others : Name → Bool) (names : Names) (start : Scene) (past : Histor
 
 -- nothing has changed since the last of them
 kept_still : (others : Name → Bool) (names : Names) (start : Scene) (past : History) (all : List Snapshot) (rest : List Turn) (m since : Snapshot) → length m.output ≡ replied_at start past → Stands others names start.folder past m.folder → IsNext rest m.folder
-    → IsFirst (replied_at start past) all since → since.folder ≡ m.folder → IsKept others names start all (opened_text past) (opening_reply past) (turns_then past rest) m
+    → IsFirst (replied_at start past) all since → since.folder ≡ m.folder → IsKept others names start all (opened_document past) (opening_reply past) (turns_then past rest) m
 kept_still others names start past all [] m since long stands next begins same =
     kept_running others names start past all [] m (omega (arith, long)) tt (between_recovers names (syncs_of past) m.folder stands.between)
     (spared_front others names (turns_then past []) [] start.folder m.folder stands.spared)
@@ -82,7 +83,7 @@ kept_still others names start past all (turn ∷ rest) m since long stands next 
 pub kept_part : (others : Name → Bool) (names : Names) (start : Scene) (past : History) (all : List Snapshot) (turn : Turn) (rest : List Turn) (m since : Snapshot) → replied_at start past ≤ length m.output → length m.output < replied_at start past + length turn.reply
     → Stands others names start.folder past since.folder → IfSome turn.write (λ work. IsFoundIn work since.folder) → IsFirst (replied_at start past) all since
     → SparesAmong others names turn.write (IsUnderWay names (with_begun turn.sync (syncs_of past)) turn.write) since.folder m.folder
-    → IsKept others names start all (opened_text past) (opening_reply past) (turns_then past (turn ∷ rest)) m
+    → IsKept others names start all (opened_document past) (opening_reply past) (turns_then past (turn ∷ rest)) m
 kept_part others names start past all turn rest m since le lt stands found begins spares =
     kept_running others names start past all (turn ∷ rest) m le lt spares.folder.recovers
     (spared_step others names turn (turns_then past []) start.folder since.folder m.folder stands.settled stands.spared spares.spared)
@@ -119,12 +120,12 @@ pub record SoFar (others : Name → Bool) (names : Names) (start : Scene) (past 
   pub here : Snapshot
   pub begins : IsFirst (replied_at start past) moments here
   pub state : state_in here ≡ state_now now
-  pub at_start : RecoversOrNone names (opened_text past ∷ []) start.folder
+  pub at_start : RecoversOrNone names (opened_document past ∷ []) start.folder
   pub stands : Stands others names start.folder past now.folder
   pub opens : BeginsAsAtStart others start.folder moments (opened_at start (opening_reply past))
   -- whatever comes next, in a longer trace
   pub kept : (all newer : List Snapshot) (rest : List Turn) → all ≡ newer ++ moments → IsNext rest now.folder
-      → Each (IsKept others names start all (opened_text past) (opening_reply past) (turns_then past rest)) moments
+      → Each (IsKept others names start all (opened_document past) (opening_reply past) (turns_then past rest)) moments
   pub stretches : (all newer : List Snapshot) (new : Scene) (rest : List Turn) → all ≡ newer ++ moments → EachTurn (HasStretch others names all new) (replied_at start past) rest
       → EachTurn (HasStretch others names all new) (opened_at start (opening_reply past)) (turns_then past rest)
 
@@ -157,7 +158,7 @@ module _ (others : Name → Bool) (names : Names) (start : Scene) (past : Histor
         stands = subst (λ (d : Disk). Stands others names start.folder past d) (sym looks.folder) so_far.stands;
         opens = opens_stays others start.folder older newest _ so_far.opens;
         kept = λ all newer rest are next.
-            let Kept : Snapshot → Type 0 = IsKept others names start all (opened_text past) (opening_reply past) (turns_then past rest) in
+            let Kept : Snapshot → Type 0 = IsKept others names start all (opened_document past) (opening_reply past) (turns_then past rest) in
             let farther : all ≡ (newer ++ newest) ++ older = are ∙ sym (append_assoc newer newest older) in
             Each-append Kept newest older
             (Each-weaker Still Kept
@@ -188,7 +189,7 @@ module _ (others : Name → Bool) (names : Names) (start : Scene) (past : Histor
     -- a moment of it
     pub kept_step : (all newer : List Snapshot) (rest : List Turn) (m : Snapshot) → all ≡ newer ++ older → replied_at start past ≤ length m.output → length m.output < replied_at start past + length turn.reply
         → SparesAmong others names turn.write (IsUnderWay names (with_begun turn.sync (syncs_of past)) turn.write) now.folder m.folder
-        → IsKept others names start all (opened_text past) (opening_reply past) (turns_then past (turn ∷ rest)) m
+        → IsKept others names start all (opened_document past) (opening_reply past) (turns_then past (turn ∷ rest)) m
     kept_step all newer rest m are le lt spares =
         kept_part others names start past all turn rest m so_far.here le lt (subst (λ (d : Disk). Stands others names start.folder past d) (sym here_folder) so_far.stands)
         (subst (λ (d : Disk). IfSome turn.write (λ work. IsFoundIn work d)) (sym here_folder) found_now)
@@ -196,9 +197,9 @@ module _ (others : Name → Bool) (names : Names) (start : Scene) (past : Histor
         (subst (λ (d : Disk). SparesAmong others names turn.write (IsUnderWay names (with_begun turn.sync (syncs_of past)) turn.write) d m.folder) (sym here_folder) spares)
 
     -- its own moments
-    pub kept_steps : (all newer : List Snapshot) (rest : List Turn) → all ≡ newer ++ older → 0 < length turn.reply → Each (IsKept others names start all (opened_text past) (opening_reply past) (turns_then past (turn ∷ rest))) steps
+    pub kept_steps : (all newer : List Snapshot) (rest : List Turn) → all ≡ newer ++ older → 0 < length turn.reply → Each (IsKept others names start all (opened_document past) (opening_reply past) (turns_then past (turn ∷ rest))) steps
     kept_steps all newer rest are some =
-        Each-weaker (Inside ended (SparesAmong others names turn.write (IsUnderWay names (with_begun turn.sync (syncs_of past)) turn.write) now.folder)) (IsKept others names start all (opened_text past) (opening_reply past) (turns_then past (turn ∷ rest)))
+        Each-weaker (Inside ended (SparesAmong others names turn.write (IsUnderWay names (with_begun turn.sync (syncs_of past)) turn.write) now.folder)) (IsKept others names start all (opened_document past) (opening_reply past) (turns_then past (turn ∷ rest)))
         (λ m inside. let long : length m.output ≡ replied_at start past = ap (λ (l : List ℕ). length l) inside.output ∙ long_ended in
         kept_step all newer rest m are (omega (arith, long)) (omega (arith, long, some)) inside.folder)
         steps stepped.works.moments.each
@@ -246,7 +247,7 @@ module _ (others : Name → Bool) (names : Names) (start : Scene) (past : Histor
 
     -- a moment of its reply, before it is whole
     pub kept_reply : (all newer : List Snapshot) (rest : List Turn) (new : Scene) (m : Snapshot) → all ≡ newer ++ older → IsWriting ended new m → length m.output < replied_at start past + length turn.reply
-        → IsKept others names start all (opened_text past) (opening_reply past) (turns_then past (turn ∷ rest)) m
+        → IsKept others names start all (opened_document past) (opening_reply past) (turns_then past (turn ∷ rest)) m
     kept_reply all newer rest new m are writing lt =
         kept_step all newer rest m are (omega (arith, long_ended, part_long ended.output m.output writing.begun)) lt (left m.folder (ap (λ (s : State). s.folder) writing.state))
 
@@ -280,7 +281,7 @@ module _ (others : Name → Bool) (names : Names) (start : Scene) (past : Histor
 
       -- a moment of its reply
       kept_replied : (all newer : List Snapshot) (rest : List Turn) → all ≡ newer ++ (newest ++ (steps ++ older)) → IsNext rest new.folder → (m : Snapshot) → IsWriting ended new m
-          → IsKept others names start all (opened_text past) (opening_reply past) (turns_then past (turn ∷ rest)) m
+          → IsKept others names start all (opened_document past) (opening_reply past) (turns_then past (turn ∷ rest)) m
       kept_replied all newer rest are next m writing =
           let folder : m.folder ≡ ended.folder = ap (λ (s : State). s.folder) writing.state in
           elim (cases_lt (length m.output) place) [
@@ -307,7 +308,7 @@ module _ (others : Name → Bool) (names : Names) (start : Scene) (past : Histor
         opens = subst (λ (ms : List Snapshot). BeginsAsAtStart others start.folder ms (opened_at start (opening_reply past))) (append_assoc newest steps older)
             (opens_stays others start.folder older (newest ++ steps) _ so_far.opens);
         kept = λ all newer rest are next.
-            let Kept : Snapshot → Type 0 = IsKept others names start all (opened_text past) (opening_reply past) (turns_then past (turn ∷ rest)) in
+            let Kept : Snapshot → Type 0 = IsKept others names start all (opened_document past) (opening_reply past) (turns_then past (turn ∷ rest)) in
             Each-append Kept newest (steps ++ older)
             (Each-weaker (IsWriting ended new) Kept (kept_replied all newer rest are next) newest replied.wrote.moments.each)
             (Each-append Kept steps older (kept_steps all (newer ++ (newest ++ steps)) rest (farther all newer are) replied.some)
@@ -319,41 +320,41 @@ module _ (others : Name → Bool) (names : Names) (start : Scene) (past : Histor
 
 -- ---- the opening
 
-module _ (others : Name → Bool) (names : Names) (text : Text) (opening : List ℕ) (start now : Scene) where
+module _ (others : Name → Bool) (names : Names) (document : Document) (opening : List ℕ) (start now : Scene) where
   -- a moment before the opening reply is whole
-  pub kept_before : (all : List Snapshot) (turns : List Turn) (m : Snapshot) → length m.output < opened_at start opening → RecoversOrNone names (text ∷ []) m.folder → SameAt others start.folder m.folder
-      → IsKept others names start all text opening turns m
+  pub kept_before : (all : List Snapshot) (turns : List Turn) (m : Snapshot) → length m.output < opened_at start opening → RecoversOrNone names (document ∷ []) m.folder → SameAt others start.folder m.folder
+      → IsKept others names start all document opening turns m
   kept_before all turns m lt recovers spared = record { before = λ below. recovers; spared = λ below. spared; running = λ le. absurd (omega (arith, lt, le)) }
 
-  module _ (opens : BeginsAmong others names text start now) where
+  module _ (opens : BeginsAmong others names document start now) where
     abbrev looked : List Snapshot
     looked = opens.works.moments.added
 
-    pub kept_opening : (all : List Snapshot) (turns : List Turn) → 0 < length opening → Each (IsKept others names start all text opening turns) looked
+    pub kept_opening : (all : List Snapshot) (turns : List Turn) → 0 < length opening → Each (IsKept others names start all document opening turns) looked
     kept_opening all turns some =
-        Each-weaker (Inside now (SparesAmong others names None (RecoversOrNone names (text ∷ [])) start.folder)) (IsKept others names start all text opening turns)
+        Each-weaker (Inside now (SparesAmong others names None (RecoversOrNone names (document ∷ [])) start.folder)) (IsKept others names start all document opening turns)
         (λ m inside. kept_before all turns m (omega (arith, some, ap (λ (l : List ℕ). length l) (inside.output ∙ opens.works.output))) inside.folder.folder inside.folder.spared)
         looked opens.works.moments.each
 
     pub opening_parts : (output : List ℕ) → IsFirstPart now.output output → Each (λ m. IsFirstPart m.output output) looked
     opening_parts output part =
-        Each-weaker (Inside now (SparesAmong others names None (RecoversOrNone names (text ∷ [])) start.folder)) (λ m. IsFirstPart m.output output)
+        Each-weaker (Inside now (SparesAmong others names None (RecoversOrNone names (document ∷ [])) start.folder)) (λ m. IsFirstPart m.output output)
         (λ m inside. part_then m.output now.output output (part_of m.output now.output (sym inside.output)) part) looked opens.works.moments.each
 
   spared_none : (new : Disk) → SameAt others start.folder new → SparesOthers others names [] start.folder new
   spared_none new same inside foreign all = same_weaker others inside start.folder new foreign same
 
   -- a moment of the opening reply, before it is whole
-  pub kept_begun : (all : List Snapshot) (turns : List Turn) (new : Scene) (m : Snapshot) → HasBegunAmong others names text start now → IsWriting now new m → length m.output < opened_at start opening
-      → IsKept others names start all text opening turns m
+  pub kept_begun : (all : List Snapshot) (turns : List Turn) (new : Scene) (m : Snapshot) → HasBegunAmong others names document start now → IsWriting now new m → length m.output < opened_at start opening
+      → IsKept others names start all document opening turns m
   kept_begun all turns new m has writing lt =
       let folder : now.folder ≡ m.folder = sym (ap (λ (s : State). s.folder) writing.state) in
       kept_before all turns m lt
-      (subst (λ (d : Disk). RecoversOrNone names (text ∷ []) d) folder (or_none names (text ∷ []) now.folder (between_recovers names (opened text) now.folder has.between)))
+      (subst (λ (d : Disk). RecoversOrNone names (document ∷ []) d) folder (or_none names (document ∷ []) now.folder (between_recovers names (opened document) now.folder has.between)))
       (subst (λ (d : Disk). SameAt others start.folder d) folder has.begins.works.spared)
 
   -- and where it is
-  module _ (new : Scene) (has : HasBegunAmong others names text start now) (replied : Replied opening now new) where
+  module _ (new : Scene) (has : HasBegunAmong others names document start now) (replied : Replied opening now new) where
     abbrev answer : List Snapshot
     answer = replied.wrote.moments.added
 
@@ -377,7 +378,7 @@ module _ (others : Name → Bool) (names : Names) (text : Text) (opening : List 
     open_state : state_in open_here ≡ state_now now
     open_state = (first_writing now new opening replied.wrote replied.some).state
 
-    open_stands : Stands others names start.folder (Open text opening) now.folder
+    open_stands : Stands others names start.folder (Open document opening) now.folder
     open_stands = record {
       settled = has.begins.settled;
       between = has.between;
@@ -386,17 +387,17 @@ module _ (others : Name → Bool) (names : Names) (text : Text) (opening : List 
       undo = undo_none others names start.folder now.folder has.foreign has.begins.works.spared;
     }
 
-    kept_opened : (all newer : List Snapshot) (rest : List Turn) → all ≡ newer ++ (answer ++ before) → IsNext rest new.folder → (m : Snapshot) → IsWriting now new m → IsKept others names start all text opening rest m
+    kept_opened : (all newer : List Snapshot) (rest : List Turn) → all ≡ newer ++ (answer ++ before) → IsNext rest new.folder → (m : Snapshot) → IsWriting now new m → IsKept others names start all document opening rest m
     kept_opened all newer rest are next m writing =
         let folder : m.folder ≡ now.folder = ap (λ (s : State). s.folder) writing.state in
         elim (cases_lt (length m.output) (opened_at start opening)) [
           | inl lt ↦ kept_begun all rest new m has writing lt
-          | inr ge ↦ kept_still others names start (Open text opening) all rest m open_here (omega (arith, ge, open_long, part_long m.output new.output writing.output))
-              (subst (λ (d : Disk). Stands others names start.folder (Open text opening) d) (sym folder) open_stands) (subst (λ (d : Disk). IsNext rest d) (replied.wrote.folder ∙ sym folder) next)
+          | inr ge ↦ kept_still others names start (Open document opening) all rest m open_here (omega (arith, ge, open_long, part_long m.output new.output writing.output))
+              (subst (λ (d : Disk). Stands others names start.folder (Open document opening) d) (sym folder) open_stands) (subst (λ (d : Disk). IsNext rest d) (replied.wrote.folder ∙ sym folder) next)
               (first_in (opened_at start opening) all newer (answer ++ before) open_here are open_begins) (ap (λ (s : State). s.folder) open_state ∙ sym folder)
         ]
 
-    opening_on : SoFar others names start (Open text opening) new
+    opening_on : SoFar others names start (Open document opening) new
     opening_on = record {
       moments = answer ++ before;
       added = replied.wrote.moments.is ∙ ap (λ (ms : List Snapshot). answer ++ ms) has.begins.works.moments.is ∙ sym (append_assoc answer before start.trace);
@@ -409,15 +410,15 @@ module _ (others : Name → Bool) (names : Names) (text : Text) (opening : List 
       begins = open_begins;
       state = open_state ∙ (λ i. record { folder = sym replied.wrote.folder i; faults = sym replied.wrote.faults i });
       at_start = has.begins.at_start;
-      stands = subst (λ (d : Disk). Stands others names start.folder (Open text opening) d) (sym replied.wrote.folder) open_stands;
+      stands = subst (λ (d : Disk). Stands others names start.folder (Open document opening) d) (sym replied.wrote.folder) open_stands;
       opens = record {
         first = open_here;
         begins = open_begins;
         same = subst (λ (d : Disk). SameAt others start.folder d) (sym (ap (λ (s : State). s.folder) open_state)) has.begins.works.spared;
       };
       kept = λ all newer rest are next.
-          Each-append (IsKept others names start all text opening rest) answer before
-          (Each-weaker (IsWriting now new) (IsKept others names start all text opening rest) (kept_opened all newer rest are next) answer replied.wrote.moments.each)
+          Each-append (IsKept others names start all document opening rest) answer before
+          (Each-weaker (IsWriting now new) (IsKept others names start all document opening rest) (kept_opened all newer rest are next) answer replied.wrote.moments.each)
           (kept_opening has.begins all rest replied.some);
       stretches = λ all newer last rest are each. each;
     }
@@ -425,7 +426,7 @@ module _ (others : Name → Bool) (names : Names) (text : Text) (opening : List 
 -- ---- all of it, by the history
 
 pub so_far : (others : Name → Bool) (names : Names) (start : Scene) (past : History) (now : Scene) → CameTo others names start past now → SoFar others names start past now
-so_far others names start (Open text opening) now came = opening_on others names text opening start came.0 now came.1 came.2
+so_far others names start (Open document opening) now came = opening_on others names document opening start came.0 now came.1 came.2
 so_far others names start (After past turn) now came =
     let last = came.2 in
     answers_on others names start past turn last.asked last.ended (looks_on others names start past came.0 last.asked (so_far others names start past came.0 came.1) last.looks) last.stepped now last.replied
@@ -455,8 +456,8 @@ waits_on others names start past now new waits looks =
     }
 
 -- it has opened its file
-pub waits_first : (others : Name → Bool) (names : Names) (start : Scene) (text : Text) (opening : List ℕ) (mid now : Scene) → HasBegunAmong others names text start mid → Replied opening mid now → WaitsAmong others names start (Open text opening) now
-waits_first others names start text opening mid now has replied = record { found = now; came = (mid, has, replied); looks = looks_none now }
+pub waits_first : (others : Name → Bool) (names : Names) (start : Scene) (document : Document) (opening : List ℕ) (mid now : Scene) → HasBegunAmong others names document start mid → Replied opening mid now → WaitsAmong others names start (Open document opening) now
+waits_first others names start document opening mid now has replied = record { found = now; came = (mid, has, replied); looks = looks_none now }
 
 -- it has answered a command
 pub waits_next : (others : Name → Bool) (names : Names) (start : Scene) (past : History) (turn : Turn) (now ended new : Scene) → WaitsAmong others names start past now → SteppedAmong others names (syncs_of past) turn now ended → Replied turn.reply ended new

@@ -8,8 +8,9 @@ use Rattle.vs_host.specs.World.{Scene, IsRecorded, LeavesTrace}
 use Rattle.vs_host.specs.declared.names.Names.{Names}
 use Rattle.vs_disk.specs.Names.{SameAt}
 use Rattle.vs_disk.specs.Runs.{Inside}
+use Rattle.vs_text.specs.Documents.{Document}
 use Rattle.vs_pair.specs.Pair.{is_foreign}
-use Rattle.vs_safety.specs.Texts.{Text, Sync, recoverable, Recovers, RecoversOrNone, NoneLeft, IsFlag, IsBetween}
+use Rattle.vs_safety.specs.Texts.{Sync, recoverable, Recovers, RecoversOrNone, NoneLeft, IsFlag, IsBetween}
 use Rattle.vs_safety.specs.Writes.{state_in, state_now}
 use Rattle.vs_safety.specs.FileWork.{FileWork, KeepsAmong, IsWholeAt, HasLeft}
 use Rattle.vs_safety.specs.Turns.{Turn, Ran, Quits, with_sync, with_begun, after_turns, with_next, opened, replies, IsSplit, all_turns, all_written, quit_line}
@@ -28,38 +29,38 @@ opened_at start opening = length start.output + length opening
 abbrev pub answered_at : Scene → Ran → ℕ
 answered_at start ran = opened_at start ran.opening + length (replies ran.turns)
 
--- The output has n bytes. Over the commands whose replies are whole in it, recovery gives the text of the last acknowledged
+-- The output has n bytes. Over the commands whose replies are whole in it, recovery gives the document of the last acknowledged
 -- sync or of one that was begun after it, or of the one that the next command begins. All other names are spared but those on which
 -- these commands or the next one write; and since the last of these replies was whole, all but those on which the next one writes, if
 -- there is one. The file that the next one writes is whole, or its backup. The undo file is
 -- that of the last command that stored one, or of one that began to after that.
-pub record IsAllowed (others : Name → Bool) (names : Names) (start : Disk) (moments : List Snapshot) (text : Text) (turns : List Turn) (from n : ℕ)
+pub record IsAllowed (others : Name → Bool) (names : Names) (start : Disk) (moments : List Snapshot) (document : Document) (turns : List Turn) (from n : ℕ)
     (folder : Disk) : Type 0 where
   pub first : List Turn
   pub rest : List Turn
   pub split : IsSplit from n turns first rest
-  pub recovers : Recovers names (recoverable (with_next (after_turns (opened text) first) rest)) folder
+  pub recovers : Recovers names (recoverable (with_next (after_turns (opened document) first) rest)) folder
   pub spared : SparesOthers others names (first ++ next_of rest) start folder
   pub keeps : KeepsSince others names moments (from + length (replies first)) (next_write rest) folder
   pub undo : KeepsUndo names start first rest folder
   pub whole : IsWholeNext names rest folder
 
 -- A moment of these before an accepted quit has begun.
-pub record IsKept (others : Name → Bool) (names : Names) (start : Scene) (moments : List Snapshot) (text : Text) (opening : List ℕ)
+pub record IsKept (others : Name → Bool) (names : Names) (start : Scene) (moments : List Snapshot) (document : Document) (opening : List ℕ)
     (turns : List Turn) (moment : Snapshot) : Type 0 where
-  -- before the opening reply is whole: neither swap file is there, or the text that was opened is recovered
-  pub before : length moment.output < opened_at start opening → RecoversOrNone names (text ∷ []) moment.folder
+  -- before the opening reply is whole: neither swap file is there, or the document that was opened is recovered
+  pub before : length moment.output < opened_at start opening → RecoversOrNone names (document ∷ []) moment.folder
   pub spared : length moment.output < opened_at start opening → SameAt others start.folder moment.folder
-  -- and from then on, an allowed text
+  -- and from then on, an allowed document
   pub running : opened_at start opening ≤ length moment.output →
-      IsAllowed others names start.folder moments text turns (opened_at start opening) (length moment.output) moment.folder
+      IsAllowed others names start.folder moments document turns (opened_at start opening) (length moment.output) moment.folder
 
 -- A moment of these after an accepted quit has begun: all replies are whole.
 pub record IsLeft (others : Name → Bool) (names : Names) (start : Scene) (moments : List Snapshot) (ran : Ran) (moment : Snapshot) : Type 0 where
   pub quits : ran.closing ≡ Quits
   pub whole : answered_at start ran ≤ length moment.output
-  -- neither swap file is there, or an allowed text is recovered
-  pub recovers : RecoversOrNone names (recoverable (after_turns (opened ran.text) ran.turns)) moment.folder
+  -- neither swap file is there, or an allowed document is recovered
+  pub recovers : RecoversOrNone names (recoverable (after_turns (opened ran.document) ran.turns)) moment.folder
   -- and all other names stay
   pub spared : SparesOthers others names ran.turns start.folder moment.folder
   pub keeps : KeepsSince others names moments (answered_at start ran) None moment.folder
@@ -70,14 +71,14 @@ pub record IsLeft (others : Name → Bool) (names : Names) (start : Scene) (mome
 -- and that after an accepted quit the swap files are gone before the last line begins.
 pub record IsSafe (others : Name → Bool) (names : Names) (start now : Scene) (moments : List Snapshot) (ran : Ran) (moment : Snapshot) : Type 0 where
   pub output : IsFirstPart moment.output now.output
-  pub kept : IsKept others names start moments ran.text ran.opening (all_turns ran) moment ⊎ IsLeft others names start moments ran moment
+  pub kept : IsKept others names start moments ran.document ran.opening (all_turns ran) moment ⊎ IsLeft others names start moments ran moment
   pub gone : ran.closing ≡ Quits → answered_at start ran < length moment.output → NoneLeft names moment.folder
 
 -- The promise, over a run from one scene to another: at each moment between them, and at both. An accepted quit writes this line.
 pub record IsCrashSafeAmong (others : Name → Bool) (names : Names) (line : List ℕ) (start now : Scene) (ran : Ran) : Type 0 where
   pub moments : List Snapshot
   pub added : now.trace ≡ moments ++ start.trace
-  pub at_start : RecoversOrNone names (ran.text ∷ []) start.folder
+  pub at_start : RecoversOrNone names (ran.document ∷ []) start.folder
   pub opens : opened_at start ran.opening ≤ length now.output → BeginsAsAtStart others start.folder moments (opened_at start ran.opening)
   pub safe : Each (IsSafe others names start now moments ran) moments
   pub output : IsFirstPart now.output (start.output ++ all_written line ran)
@@ -128,7 +129,7 @@ pub record WorksAmong (others : Name → Bool) (names : Names) (write : Option F
   pub output : new.output ≡ old.output
   pub spared : KeepsAmong others names write old.folder new.folder
 
--- A folder from which these texts may be recovered, at a moment of a write, where there is one.
+-- A folder from which what these syncs leave may be recovered, at a moment of a write, where there is one.
 pub record IsUnderWay (names : Names) (syncs : List Sync) (write : Option FileWork) (folder : Disk) : Type 0 where
   pub recovers : Recovers names (recoverable syncs) folder
   pub whole : IfSome write (λ work. IsWholeAt names work folder)
@@ -136,7 +137,7 @@ pub record IsUnderWay (names : Names) (syncs : List Sync) (write : Option FileWo
 -- One command, where these syncs were before it.
 pub record SteppedAmong (others : Name → Bool) (names : Names) (syncs : List Sync) (turn : Turn) (old new : Scene) : Type 0 where
   pub found : IfSome turn.found (λ found. found ≡ old.folder)
-  -- what was recoverable is recovered, or the text of the sync that the command begins
+  -- what was recoverable is recovered, or the document of the sync that the command begins
   pub works : WorksAmong others names turn.write (IsUnderWay names (with_begun turn.sync syncs) turn.write) old new
   pub wrote : IfSome turn.write (λ work. HasLeft names work turn.done turn.failed (state_now old) (state_now new))
   pub whole : IfSome turn.write (λ work. IsWholeAt names work new.folder)

@@ -1,9 +1,10 @@
--- The syncs of a session, and the texts that may be recovered after a stop.
+-- The syncs of a session, and the documents that may be recovered after a stop.
 use Rattle.std.specs.Prelude.{◌≡◌, ◌⊎◌, ℕ, ◌<◌, Bool, true, false, if◌then◌else◌, List, [], ◌∷◌, ◌++◌, take, Option, Some, None, Ok}
 use Rattle.vs_host.specs.Disk.{Disk, IsImage}
 use Rattle.vs_host.specs.declared.names.Names.{Names}
 use Rattle.vs_zero.specs.declared.Zero.{Zero}
 use Rattle.vs_zero.specs.Zero.{reading_of}
+use Rattle.vs_text.specs.Documents.{Document}
 use Rattle.vs_swap.specs.Files.{StandsFor}
 use Rattle.vs_swap.specs.Recovery.{Recovered}
 use Rattle.vs_pair.specs.declared.side.Side.{Side}
@@ -16,22 +17,22 @@ Text = List (List ℕ)
 
 -- ---- what a stop leaves
 
--- The text is one of these.
-abbrev pub IsOneOf : Text → List Text → Type 0
-IsOneOf text [] = ⊥
-IsOneOf text (first ∷ rest) = (text ≡ first) ⊎ IsOneOf text rest
+-- The document is one of these.
+abbrev pub IsOneOf : Document → List Document → Type 0
+IsOneOf document [] = ⊥
+IsOneOf document (first ∷ rest) = (document ≡ first) ⊎ IsOneOf document rest
 
--- recovery from the two swap files of this image gives one of these texts
-abbrev pub GivesOneOf : Names → List Text → Image → Type 0
-GivesOneOf names texts image = (text : Text) × IsOneOf text texts × Recovered (image names.swp) (image names.swo) text
+-- recovery from the two swap files of this image gives one of these documents
+abbrev pub GivesOneOf : Names → List Document → Image → Type 0
+GivesOneOf names documents image = (document : Document) × IsOneOf document documents × Recovered (image names.swp) (image names.swo) document
 
--- whatever a stop leaves, recovery gives one of these texts
-abbrev pub Recovers : Names → List Text → Disk → Type 0
-Recovers names texts disk = (image : Image) → IsImage disk image → GivesOneOf names texts image
+-- whatever a stop leaves, recovery gives one of these documents
+abbrev pub Recovers : Names → List Document → Disk → Type 0
+Recovers names documents disk = (image : Image) → IsImage disk image → GivesOneOf names documents image
 
--- whatever a stop leaves, neither swap file is there, or recovery gives one of these texts
-abbrev pub RecoversOrNone : Names → List Text → Disk → Type 0
-RecoversOrNone names texts disk = (image : Image) → IsImage disk image → NoneThere names image ⊎ GivesOneOf names texts image
+-- whatever a stop leaves, neither swap file is there, or recovery gives one of these documents
+abbrev pub RecoversOrNone : Names → List Document → Disk → Type 0
+RecoversOrNone names documents disk = (image : Image) → IsImage disk image → NoneThere names image ⊎ GivesOneOf names documents image
 
 -- whatever a stop leaves, neither swap file is there
 abbrev pub NoneLeft : Names → Disk → Type 0
@@ -39,21 +40,21 @@ NoneLeft names disk = (image : Image) → IsImage disk image → NoneThere names
 
 -- ---- the syncs of a session, the newest first
 
--- A sync of the swap files: the text that it writes, whether that text has changes that the edited file has not, and whether the
--- sync counts as acknowledged: then no text from before it is recovered any more.
+-- A sync of the swap files: the document that it writes, whether that has changes that the edited file has not, and whether the
+-- sync counts as acknowledged: then no document from before it is recovered any more.
 pub record Sync : Type 0 where
-  pub text : Text
+  pub document : Document
   pub dirty : Bool
   pub acknowledged : Bool
 
 -- a sync that has begun, and is not acknowledged
-abbrev pub begun : Text → Bool → Sync
-begun text dirty = record { text = text; dirty = dirty; acknowledged = false }
+abbrev pub begun : Document → Bool → Sync
+begun document dirty = record { document = document; dirty = dirty; acknowledged = false }
 
--- the text of the last sync that is acknowledged, and those of all that were begun after it
-abbrev pub recoverable : List Sync → List Text
+-- the document of the last sync that is acknowledged, and those of all that were begun after it
+abbrev pub recoverable : List Sync → List Document
 recoverable [] = []
-recoverable (sync ∷ syncs) = sync.text ∷ (if sync.acknowledged then [] else recoverable syncs)
+recoverable (sync ∷ syncs) = sync.document ∷ (if sync.acknowledged then [] else recoverable syncs)
 
 -- No sync is acknowledged.
 abbrev pub NoneAcknowledged : List Sync → Type 0
@@ -65,10 +66,10 @@ abbrev pub IsSyncIn : Sync → List Sync → Type 0
 IsSyncIn sync [] = ⊥
 IsSyncIn sync (first ∷ rest) = (sync ≡ first) ⊎ IsSyncIn sync rest
 
--- the text is that of one of these syncs
-abbrev pub IsTextOfOne : Text → List Sync → Type 0
-IsTextOfOne text [] = ⊥
-IsTextOfOne text (sync ∷ syncs) = (text ≡ sync.text) ⊎ IsTextOfOne text syncs
+-- the document is that of one of these syncs
+abbrev pub IsDocumentOfOne : Document → List Sync → Type 0
+IsDocumentOfOne document [] = ⊥
+IsDocumentOfOne document (sync ∷ syncs) = (document ≡ sync.document) ⊎ IsDocumentOfOne document syncs
 
 -- this sync is the last one that is acknowledged: these were begun after it, and those before
 pub record IsNewestOf (syncs later : List Sync) (newest : Sync) (past : List Sync) : Type 0 where
@@ -87,14 +88,14 @@ pub record IsFlag (names : Names) (done : Bool) (old new : Disk) (acknowledged :
 
 -- ---- between two commands
 
--- The bytes of a swap file stand for the text of this sync, with this generation, and page 0 says whether it has changes.
+-- The bytes of a swap file stand for the document of this sync, with this generation, and page 0 says whether it has changes.
 pub record StandsAs (generation : ℕ) (sync : Sync) (file : List ℕ) : Type 0 where
-  pub stands : StandsFor file generation sync.text
+  pub stands : StandsFor file generation sync.document
   pub zero : Zero
   pub reads : reading_of (take 4096 file) ≡ Ok zero
   pub dirty : zero.dirty ≡ sync.dirty
 
--- The swap file is there, and stands for the text of this sync.
+-- The swap file is there, and stands for the document of this sync.
 abbrev pub IsThereAs : ℕ → Sync → Option (List ℕ) → Type 0
 IsThereAs generation sync None = ⊥
 IsThereAs generation sync (Some file) = StandsAs generation sync file

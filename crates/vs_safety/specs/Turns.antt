@@ -5,7 +5,8 @@ use Rattle.vs_host.specs.Disk.{Disk, Name}
 use Rattle.vs_host.specs.declared.names.Names.{Names}
 use Rattle.vs_disk.specs.Images.{MayLeave}
 use Rattle.vs_disk.specs.Names.{SameAt}
-use Rattle.vs_safety.specs.Texts.{Text, Sync, begun}
+use Rattle.vs_text.specs.Documents.{Document}
+use Rattle.vs_safety.specs.Texts.{Sync, begun}
 use Rattle.vs_safety.specs.Writes.{AreIn}
 use Rattle.vs_safety.specs.Undo.{IsUndoOf}
 use Rattle.vs_safety.specs.FileWork.{FileWork, AvoidsFiles, IsWholeAt, undo_stored}
@@ -31,7 +32,7 @@ with_sync (Some sync) syncs = sync ∷ syncs
 -- the syncs while this one is under way
 abbrev pub with_begun : Option Sync → List Sync → List Sync
 with_begun None syncs = syncs
-with_begun (Some sync) syncs = begun sync.text sync.dirty ∷ syncs
+with_begun (Some sync) syncs = begun sync.document sync.dirty ∷ syncs
 
 -- the syncs after these commands
 abbrev pub after_turns : List Sync → List Turn → List Sync
@@ -43,9 +44,9 @@ abbrev pub with_next : List Sync → List Turn → List Sync
 with_next syncs [] = syncs
 with_next syncs (turn ∷ turns) = with_begun turn.sync syncs
 
--- the text that was opened counts as the first sync, and is acknowledged
-abbrev pub opened : Text → List Sync
-opened text = record { text = text; dirty = false; acknowledged = true } ∷ []
+-- the document that was opened counts as the first sync, and is acknowledged
+abbrev pub opened : Document → List Sync
+opened document = record { document = document; dirty = false; acknowledged = true } ∷ []
 
 -- ---- writes
 
@@ -144,9 +145,9 @@ quit_line = codes "quit" ++ 10 ∷ []
 abbrev pub last_turn : Sync → Turn
 last_turn sync = record { found = None; sync = Some sync; write = None; done = sync.acknowledged; failed = not sync.acknowledged; reply = preserved_line }
 
--- The text and the reply with which a run opened, the commands that it began, and how it closed.
+-- The document and the reply with which a run opened, the commands that it began, and how it closed.
 pub record Ran : Type 0 where
-  pub text : Text
+  pub document : Document
   pub opening : List ℕ
   pub turns : List Turn
   pub closing : Closing

@@ -7,7 +7,7 @@ use Rattle.vs_host.specs.Disk.{Disk, Name, names_of, names_at, content_in}
 use Rattle.vs_host.specs.Trace.{Snapshot}
 use Rattle.vs_host.specs.World.{Scene}
 use Rattle.vs_host.specs.declared.names.Names.{Names}
-use Rattle.vs_text.specs.Text.{file_of}
+use Rattle.vs_text.specs.Documents.{file_in}
 use Rattle.vs_disk.specs.Images.{HoldsBytes, MayLeave, Takes}
 use Rattle.vs_disk.specs.Names.{IsImageAt}
 use Rattle.vs_pair.specs.Pair.{Image, is_foreign}
@@ -31,9 +31,9 @@ backup_for names write = backup_of write.options names.file write.found
 abbrev pub old_bytes : Names → Write → Option (List ℕ)
 old_bytes names write = content_in write.found names.file
 
--- the bytes that the file gets
+-- the bytes that the file gets: the text in the format of the options
 abbrev pub new_bytes : Write → List ℕ
-new_bytes write = file_of write.text
+new_bytes write = file_in write.options.format write.text
 
 -- ---- other names
 

@@ -8,7 +8,8 @@ ghost use Rattle.vs_host.specs.declared.names.Names.{Names};
 ghost use Rattle.vs_disk.specs.Images.{HoldsBytes};
 ghost use Rattle.vs_disk.specs.Names.{IsApart};
 ghost use Rattle.vs_disk.specs.Runs.{FailsLast};
-ghost use Rattle.vs_safety.specs.Texts.{Text, Sync, IsOneOf, IsTextOfOne, IsNewestOf, IsBetween, NoneLeft, Recovers, RecoversOrNone, recoverable};
+ghost use Rattle.vs_text.specs.Documents.{Document};
+ghost use Rattle.vs_safety.specs.Texts.{Sync, IsOneOf, IsDocumentOfOne, IsNewestOf, IsBetween, NoneLeft, Recovers, RecoversOrNone, recoverable};
 ghost use Rattle.vs_safety.specs.Writes.{AreIn, outside};
 ghost use Rattle.vs_safety.specs.FileWork.{AvoidsFiles, FileWork, KeepsAmong};
 ghost use Rattle.vs_safety.specs.Turns.{Turn, IsSplit, NotBegun, LastSync, Quits, last_turn, preserved_line, replies};
@@ -17,12 +18,12 @@ ghost use Rattle.vs_safety.specs.Safety.{IsCrashSafeAmong, IsFirstPart, SteppedA
 ghost use Rattle.vs_safety.specs.History.{History, Open, After, BeginsAmong, HasBegunAmong, WaitsAmong, ran_of, syncs_of};
 ghost use Rattle.vs_safety.specs.Causes.{IsCounted, RoseLast, folder_count};
 
-/// Between two commands recovery gives the text of the last acknowledged sync, or of one that was begun since, and these are
-/// just the texts that count as recoverable.
+/// Between two commands recovery gives the document of the last acknowledged sync, or of one that was begun since, and these
+/// are just the documents that count as recoverable.
 pub fn standing()
     ensures recovers { (names : Names) (syncs : List Sync) (disk : Disk) → IsBetween names syncs disk → Recovers names (recoverable syncs) disk }
-    ensures texts { (syncs later past : List Sync) (newest : Sync) (text : Text) → IsNewestOf syncs later newest past
-        → IsOneOf text (recoverable syncs) ↔ ((text ≡ newest.text) ⊎ IsTextOfOne text later) }
+    ensures documents { (syncs later past : List Sync) (newest : Sync) (document : Document) → IsNewestOf syncs later newest past
+        → IsOneOf document (recoverable syncs) ↔ ((document ≡ newest.document) ⊎ IsDocumentOfOne document later) }
 {}
 
 /// Of the commands whose replies are whole in an output, a split has as many as there are.
@@ -33,11 +34,11 @@ pub fn splitting()
 
 /// A run that stopped before the reply to its opening was whole kept its promise. A reply may take several writes.
 pub fn opening()
-    ensures fails { (others : Name → Bool) (names : Names) (line : List ℕ) (start now : Scene) (text : Text) (reply : List ℕ) → 0 < length reply
-        → BeginsAmong others names text start now → IsCrashSafeAmong others names line start now (ran_of (Open text reply) NotBegun) }
-    ensures cut { (others : Name → Bool) (names : Names) (line : List ℕ) (start now new : Scene) (text : Text) (reply written : List ℕ)
-        → 0 < length reply → HasBegunAmong others names text start now → Wrote written now new → IsFirstPart written reply
-        → IsCrashSafeAmong others names line start new (ran_of (Open text reply) NotBegun) }
+    ensures fails { (others : Name → Bool) (names : Names) (line : List ℕ) (start now : Scene) (document : Document) (reply : List ℕ) → 0 < length reply
+        → BeginsAmong others names document start now → IsCrashSafeAmong others names line start now (ran_of (Open document reply) NotBegun) }
+    ensures cut { (others : Name → Bool) (names : Names) (line : List ℕ) (start now new : Scene) (document : Document) (reply written : List ℕ)
+        → 0 < length reply → HasBegunAmong others names document start now → Wrote written now new → IsFirstPart written reply
+        → IsCrashSafeAmong others names line start new (ran_of (Open document reply) NotBegun) }
 {}
 
 /// So did one that stopped between two commands, or in one of them or its reply.

@@ -10,11 +10,11 @@ use Rattle.vs_host.specs.Disk.{Disk, Name, IsFolder, IsImageOf}
 use Rattle.vs_host.specs.Names.{AreNames}
 use Rattle.vs_host.specs.World.{Scene, ChangesFolder, ReadsFolder}
 use Rattle.vs_host.specs.declared.names.Names.{Names}
-use Rattle.vs_text.specs.Text.{file_of}
 use Rattle.vs_disk.specs.Images.{HoldsBytes, MayLeave}
 use Rattle.vs_disk.specs.Names.{SameAt}
 use Rattle.vs_disk.specs.Runs.{Inside, Runs, FailsLast, Looks, Quiet}
 use Rattle.vs_disk.proofs.Others.{same_none, same_then}
+use Rattle.vs_disk.proofs.Quiet.{quiet_then}
 use Rattle.vs_disk.proofs.Runs.{fails_none, goes_weaker, quiet_none, frames, reads_change, runs_as, runs_then}
 use Rattle.vs_disk.proofs.Steps.{itself}
 use Rattle.vs_pair.specs.Pair.{Rises, is_swap}
@@ -41,11 +41,11 @@ use Rattle.vs_safety.specs.Safety.{IsUnderWay, Spares}
 use Rattle.vs_paged.specs.Fits as folder
 use Rattle.vs_paged.proofs.SyncLemmas.{fits_recovers}
 use Rattle.vs_desk.specs.Counts.{NoneAbove}
-use Rattle.vs_desk.specs.PageLaws.{above_none, above_then}
+use Rattle.vs_desk.specs.PageLaws.{above_then}
 use Rattle.vs_desk.specs.Still.{KeepsLeft}
 use Rattle.vs_desk.specs.Writes.{KeepsSwap}
 use Rattle.vs_session.specs.declared.session.Session.{Session}
-use Rattle.vs_session.specs.Session.{SessionState, after_sync, is_fault, is_write, line_by, reply_of, sync_in, undo_after, write_in, write_reply, written_state}
+use Rattle.vs_session.specs.Session.{SessionState, after_sync, info_written, is_fault, is_write, line_by, reply_of, sync_in, undo_after, write_in, write_reply, written_bytes, written_state}
 use Rattle.vs_session.specs.Failures.{FailsOnce}
 use Rattle.vs_session.specs.Wholeness.{StaysWhole}
 use Rattle.vs_session.specs.Stores.{StoresUndo}
@@ -54,7 +54,6 @@ use Rattle.vs_session.specs.Fits.{Answers, Fits, names_of}
 use Rattle.vs_session.specs.Made.{ClearsMade, LeavesNoneMade}
 use Rattle.vs_session.proofs.Cleared.{but_carried, but_stored, cleared_stored, cleared_then, moved_stored, moved_then}
 use Rattle.vs_session.proofs.Failing.{above_quiet, once_after}
-use Rattle.vs_session.proofs.SummaryLemmas.{fails_still}
 use Rattle.vs_session.proofs.Steps.{recovers_synced, risen_since, risen_until, works_runs}
 use Rattle.vs_session.proofs.FileWrites.{backup_named}
 use Rattle.vs_session.proofs.Wholeness.{whole_then}
@@ -65,25 +64,24 @@ use Rattle.vs_session.proofs.Written.{Moment, answers_free, are, bytes_left, cle
 -- ---- before the write
 
 -- the folder was looked at after the sync
-pub synced_looked : (state : SessionState) (syncs : List Sync) (before between next : Session) (old mid new : Scene) → HasSynced state syncs before between old mid → ReadsFolder mid new → Looks mid new → new ≡ mid
+pub synced_looked : (state : SessionState) (syncs : List Sync) (before between next : Session) (old mid new : Scene) → HasSynced state syncs before between old mid → ReadsFolder mid new → Looks mid new → Quiet mid new
     → names_of next ≡ names_of between → Fits next new.folder (after_sync state true) (sync_in state true ∷ syncs) → HasSynced state syncs before next old new
-synced_looked state syncs before between next old mid new s reads looks still names fits = record {
+synced_looked state syncs before between next old mid new s reads looks quiet names fits = record {
   fits = s.fits;
   frame = frames old mid new s.frame (reads_change mid new reads);
-  runs = runs_then (folder.Syncing before.text) (λ a b. b ≡ a) (folder.Syncing before.text) old mid new (λ d syncing. syncing)
-      (λ d is. subst (λ (e : Disk). folder.Syncing before.text old.folder e) (sym is) s.runs.now) s.frame s.runs looks;
-  quiet = subst (λ (scene : Scene). Quiet old scene) (sym still) s.quiet;
+  runs = runs_then (folder.Syncing before.text before.options.write.format) (λ a b. b ≡ a) (folder.Syncing before.text before.options.write.format) old mid new (λ d syncing. syncing)
+      (λ d is. subst (λ (e : Disk). folder.Syncing before.text before.options.write.format old.folder e) (sym is) s.runs.now) s.frame s.runs looks;
+  quiet = quiet_then old mid new s.quiet quiet;
   rises = subst (λ (d : Disk). Rises (names_of before) old.folder d) (sym looks.now) s.rises;
   names = names ∙ s.names;
   synced = fits;
 }
 
 -- nothing but that was done: as where a call failed before it was known whether there is a file
-pub wrote_nothing : (state : SessionState) (syncs : List Sync) (before after : Session) (old new : Scene) → IsFolder old.folder → Looks old new → new ≡ old → Fits before old.folder state syncs
+pub wrote_nothing : (state : SessionState) (syncs : List Sync) (before after : Session) (old new : Scene) → IsFolder old.folder → Looks old new → FailsLast old new → NoneAbove old new → Fits before old.folder state syncs
     → Fits after new.folder state syncs → Wrote state syncs before after (Err (error.Failed Nowhere)) old new
-wrote_nothing state syncs before after old new folder looks still fits now =
-    let unseen : IsUnseen old new (Err (error.Failed Nowhere)) = record { looks = looks; last = fails_still old new still; failed = refl } in
-    let above : NoneAbove old new = subst (λ (scene : Scene). NoneAbove old scene) (sym still) (above_none old) in
+wrote_nothing state syncs before after old new folder looks last above fits now =
+    let unseen : IsUnseen old new (Err (error.Failed Nowhere)) = record { looks = looks; last = last; failed = refl } in
     let elsewhere : OldIn {T = ℕ} Backup (Err (error.Failed Nowhere)) → ⊥ = λ is. elim is [ inl failed ↦ cc | inr memory ↦ cc ] in
     record {
       file = record { backed = λ was there backup made. inl unseen; all_taken = λ there on none. inl unseen; plain = λ was there off. inl unseen; fresh = λ none. inl unseen };
@@ -100,14 +98,14 @@ wrote_nothing state syncs before after old new folder looks still fits now =
         done = tt;
         refused = record {
           stopped = new;
-          last = fails_still old new still;
+          last = last;
           none = λ calm. absurd (calm (Nowhere, refl));
           later = above.later;
           failed = λ is failed. absurd (elsewhere is);
           back_last = fails_none new;
           back_none = λ _. quiet_none new;
           back_failed = λ is. absurd (elsewhere is);
-          alone = λ _. fails_still old new still;
+          alone = λ _. last;
         };
       };
       fits = now;
@@ -177,8 +175,8 @@ module _ (state : SessionState) (syncs : List Sync) (instruction : Instruction) 
   abbrev work : FileWork
   work = BothFiles write undo
 
-  becomes : BecomesWritten names.file (file_of text) mid made
-  becomes = subst (λ (n : Names). BecomesWritten n.file (file_of text) mid made) s.names wrote.calls.done
+  becomes : BecomesWritten names.file (written_bytes state) mid made
+  becomes = subst (λ (n : Names). BecomesWritten n.file (written_bytes state) mid made) s.names wrote.calls.done
 
   named : AreNames names
   named = are state syncs instruction is before between old mid s
@@ -195,14 +193,14 @@ module _ (state : SessionState) (syncs : List Sync) (instruction : Instruction) 
   frame : ChangesFolder old made
   frame = written_frame state syncs instruction is before between old mid s after (Ok size) made second wrote
 
-  bytes : (size ≡ length (file_of text)) × HoldsBytes names.file (file_of text) made.folder
+  bytes : (size ≡ length (written_bytes state)) × HoldsBytes names.file (written_bytes state) made.folder
   bytes = bytes_left state syncs instruction is before between old mid s after (Ok size) made second wrote
 
   wrote_made : HasWritten names write true false (state_now old) (state_now made)
   wrote_made = has_left state syncs instruction is before between old mid s after (Ok size) made second wrote false (λ e. absurd (true≢false (sym e)))
 
-  holds_on : (d : Disk) → SparesNames (two_names names.undo_new names.undo) made.folder d → HoldsBytes names.file (file_of text) d
-  holds_on d spares = holds_spared names made.folder d spares names.file (file_of text) (file_outside names named) bytes.1
+  holds_on : (d : Disk) → SparesNames (two_names names.undo_new names.undo) made.folder d → HoldsBytes names.file (written_bytes state) d
+  holds_on d spares = holds_spared names made.folder d spares names.file (written_bytes state) (file_outside names named) bytes.1
 
   fits_on : (d : Disk) → SparesNames (two_names names.undo_new names.undo) made.folder d → Fits after d (written_state (after_sync state true)) all
   fits_on d spares =
@@ -262,10 +260,10 @@ module _ (state : SessionState) (syncs : List Sync) (instruction : Instruction) 
   whole_on outcome took begins was backup there made_as =
       let stays = stays_whole state syncs instruction is before between old mid s after (Ok size) made second wrote outcome at (λ failed. absurd (true≢false (sym failed))) in
       elim (stays begins was backup there made_as) [
-        | inl becomes ↦ inl (whole_then names.file backup was (file_of text) old made new becomes
-            (goes_weaker (Inside made (StoresUndo names text (history_marked state.machine.history) made.folder)) (λ m. IsWhole names.file backup was (file_of text) m.folder)
-            (λ m inside. whole_new names.file backup was (file_of text) m.folder (holds_on m.folder inside.folder.spares)) made.trace new.trace stores.moments)
-            (whole_new names.file backup was (file_of text) new.folder (holds_on new.folder stores.now.spares)))
+        | inl becomes ↦ inl (whole_then names.file backup was (written_bytes state) old made new becomes
+            (goes_weaker (Inside made (StoresUndo names text (history_marked state.machine.history) made.folder)) (λ m. IsWhole names.file backup was (written_bytes state) m.folder)
+            (λ m inside. whole_new names.file backup was (written_bytes state) m.folder (holds_on m.folder inside.folder.spares)) made.trace new.trace stores.moments)
+            (whole_new names.file backup was (written_bytes state) new.folder (holds_on new.folder stores.now.spares)))
         | inr refused ↦ absurd (true≢false (sym took ∙ refused.0))
       ]
 
@@ -318,7 +316,7 @@ module _ (state : SessionState) (syncs : List Sync) (instruction : Instruction) 
   done_as outcome (inl done) calm = done
   done_as outcome (inr none) calm = absurd (true≢false (sym calm ∙ ap (λ (o : Outcome). true && not (is_fault o)) none))
 
-  pub answers_both : (outcome : Outcome) (reply : Answer) → (outcome ≡ Done) ⊎ (outcome ≡ NoUndo) → reply ≡ says (line_by outcome state.name (length text) size)
+  pub answers_both : (outcome : Outcome) (reply : Answer) → (outcome ≡ Done) ⊎ (outcome ≡ NoUndo) → reply ≡ says (line_by outcome state.name (info_written state size))
       → (outcome ≡ Done → HasUndo names text (history_marked state.machine.history) new.folder) → HasCause made.folder_faults new.folder_faults (is_fault outcome ≡ true)
       → StoresBy names.undo_new names.undo made new → FailsLast made new → (is_fault outcome ≡ false → Quiet made new) → Answers state syncs instruction before after (mark state syncs instruction is before between old mid s outcome at) reply old new
   answers_both outcome reply ended_as replied stored cause calls last quiet =

@@ -1,5 +1,5 @@
 -- Which calls of a command failed, over calls that follow one another.
-use Rattle.std.proofs.Common.{◌≡◌, ◌≤◌, ℕ, true, false, List, IsTrue, refl, sym, ◌∙◌, subst, arith}
+use Rattle.std.proofs.Common.{◌≡◌, ◌≤◌, ℕ, true, false, List, IsTrue, refl, sym, ◌∙◌, arith}
 use Rattle.std.proofs.lemmas.Bool.{true≢false}
 use Rattle.vs_host.specs.World.{Scene, Tells}
 use Rattle.vs_host.specs.Trace.{Snapshot}
@@ -22,11 +22,7 @@ above_quiet old new quiet = record {
   moments = goes_weaker (HasNoFault old) (λ m. m.folder_faults ≤ new.folder_faults) (λ (m : Snapshot) none. omega (arith, none.folder, quiet.folder)) old.trace new.trace quiet.moments;
 }
 
--- no call was made
-pub quiet_still : (old new : Scene) → new ≡ old → Quiet old new
-quiet_still old new is = subst (λ (s : Scene). Quiet old s) (sym is) (quiet_none old)
-
--- nor by the clock
+-- the clock was read
 pub quiet_clock : (old : Scene) (answers : List ℕ) → Quiet old (record old { answers = answers })
 quiet_clock old answers = record { moments = goes_none (HasNoFault old) old.trace; script = refl; out = refl; folder = refl }
 

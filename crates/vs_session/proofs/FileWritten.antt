@@ -1,9 +1,9 @@
 -- What a session makes of what the write of its text answered.
-use Rattle.std.proofs.Common.{◌≡◌, inl, inr, ℕ, true, false, ◌==◌, length, string_bytes, List, Result, Err, refl, sym, ◌∙◌, ap, subst}
+use Rattle.std.proofs.Common.{◌≡◌, inl, inr, ℕ, true, false, ◌==◌, string_bytes, List, Result, Err, refl, sym, ◌∙◌, ap, subst}
 use Rattle.std.proofs.lemmas.Bool.{cases_Bool, true≢false}
 use Rattle.vs_host.specs.Disk.{Disk, IsFolder}
 use Rattle.vs_host.specs.World.{Scene}
-use Rattle.vs_text.specs.Text.{file_of}
+use Rattle.vs_text.specs.Documents.{file_in}
 use Rattle.vs_disk.specs.Runs.{Runs}
 use Rattle.vs_options.specs.declared.setting.Options.{Options}
 use Rattle.vs_backup.specs.declared.errors.WriteErr.{WriteErr}
@@ -20,25 +20,25 @@ use Rattle.vs_desk.specs.Counts.{NoneAbove}
 use Rattle.vs_desk.specs.Still.{KeepsLeft}
 use Rattle.vs_desk.specs.Writes.{KeepsSwap, WritesFile}
 use Rattle.vs_session.specs.declared.session.Session.{Session}
-use Rattle.vs_session.specs.Session.{SessionState, is_fault, line_by}
-use Rattle.vs_session.specs.Writes.{Wrote, outcome_to, reply_to, state_to}
+use Rattle.vs_session.specs.Session.{SessionState, info_written, is_fault, line_by}
+use Rattle.vs_session.specs.Writes.{Wrote, info_of, outcome_to, reply_to, state_to}
 use Rattle.vs_session.specs.Fits.{Fits, names_of}
 use Rattle.vs_session.proofs.Written.{Refuses, err_of}
 
 -- with the options that the state has
 pub wrote : (state : SessionState) (syncs : List Sync) (before after : Session) (old new : Scene) (result : Result ℕ WriteErr) → Fits before old.folder state syncs
-    → WritesFile before.options.write (names_of before) (file_of state.machine.text) old new result → (result ≡ Err error.NoBackupName → IsNoName before.options.write (names_of before).file true old.folder)
+    → WritesFile before.options.write (names_of before) (file_in before.options.write.format state.machine.text) old new result → (result ≡ Err error.NoBackupName → IsNoName before.options.write (names_of before).file true old.folder)
     → Runs (KeepsSwap (names_of before) (recoverable syncs)) old new → IsFolder old.folder → SparesOthers (WorksOn before.options.write (names_of before).file old.folder) old new
-    → Runs (KeepsLeft (WorksOn before.options.write (names_of before).file old.folder)) old new → NoneAbove old new → FailsNoEarlier (names_of before).file (file_of state.machine.text) old new result → Fits after new.folder (state_to state result) syncs → Wrote state syncs before after result old new
+    → Runs (KeepsLeft (WorksOn before.options.write (names_of before).file old.folder)) old new → NoneAbove old new → FailsNoEarlier (names_of before).file (file_in before.options.write.format state.machine.text) old new result → Fits after new.folder (state_to state result) syncs → Wrote state syncs before after result old new
 wrote state syncs before after old new result fits file no_name swap folder others left above calls now = record {
-  file = subst (λ (o : Options). WritesFile o.write (names_of before) (file_of state.machine.text) old new result) fits.options file;
+  file = subst (λ (o : Options). WritesFile o.write (names_of before) (file_in o.write.format state.machine.text) old new result) fits.options file;
   no_name = λ is. subst (λ (o : Options). IsNoName o.write (names_of before).file true old.folder) fits.options (no_name is);
   swap = swap;
   folder = folder;
   others = subst (λ (o : Options). SparesOthers (WorksOn o.write (names_of before).file old.folder) old new) fits.options others;
   left = subst (λ (o : Options). Runs (KeepsLeft (WorksOn o.write (names_of before).file old.folder)) old new) fits.options left;
   above = above;
-  calls = calls;
+  calls = subst (λ (o : Options). FailsNoEarlier (names_of before).file (file_in o.write.format state.machine.text) old new result) fits.options calls;
   fits = now;
 }
 
@@ -75,8 +75,8 @@ calm_why (error.NoMemory place) outcome ended calm failed = let is = failed.1 in
 
 -- ---- what was written
 
--- the numbers in the reply are those of the state
-pub numbers : (session : Session) (disk : Disk) (state : SessionState) (syncs : List Sync) (outcome : Outcome) (name : List ℕ) (lines size : ℕ) → Fits session disk state syncs → name ≡ string_bytes session.name
-    → lines ≡ session.text.tree.present.lines → says (line_by outcome name lines size) ≡ says (line_by outcome state.name (length state.machine.text) size)
-numbers session disk state syncs outcome name lines size fits name_is lines_are =
-    λ i. says (line_by outcome ((name_is ∙ fits.name) i) ((lines_are ∙ sym fits.stands.text.pages.present.lines) i) size)
+-- what the session says of its file is said of that of the state
+pub numbers : (session : Session) (disk : Disk) (state : SessionState) (syncs : List Sync) (outcome : Outcome) (size : ℕ) → Fits session disk state syncs
+    → says (line_by outcome (string_bytes session.name) (info_of session size)) ≡ says (line_by outcome state.name (info_written state size))
+numbers session disk state syncs outcome size fits =
+    λ i. says (line_by outcome (fits.name i) (record { format = (fits.options i).write.format; lines = sym fits.stands.text.pages.present.lines i; bytes = size }))

@@ -15,15 +15,15 @@ use Rattle.vs_pair.specs.Steps.{IsAbsent, IsFresh}
 use Rattle.vs_pair.proofs.Calls.{look_acts, look_none}
 use Rattle.vs_disk.proofs.Quiet.{none_fails, none_then}
 use Rattle.vs_pair.proofs.Acts.{acts_none, acts_as, acts_on, acts_then}
-use Rattle.vs_text.specs.Text.{lines_of}
+use Rattle.vs_text.specs.Documents.{document_of}
 use Rattle.vs_text.specs.Limits.{IsWithinLimits}
-use Rattle.vs_safety.specs.Texts.{Text}
 use Rattle.vs_paged.specs.Fits.{Starting}
 use Rattle.vs_paged.proofs.SyncLemmas.{on_ok_as}
 use Rattle.vs_session.specs.Open.{IsLook, IsReading, IsTooLarge, KeepsToLimits, OnlyLooks}
 use Rattle.vs_session.specs.declared.open.OpenErr.{OpenErr}
 use Rattle.vs_session.specs.declared.open.OpenErr.TheVariants as opening
-use Rattle.vs_session.specs.Opened.{text_in}
+use Rattle.vs_text.specs.Documents.{Document}
+use Rattle.vs_session.specs.Opened.{document_of_file}
 use Rattle.vs_session.specs.Fits.{HasSwap, IsSettled, Opens}
 use Rattle.vs_session.proofs.OpenLemmas.{ReadsFolder-trans, err_is, handed_back, handed_on, never_other}
 
@@ -116,7 +116,7 @@ IsReading-handed {e} {old} tells result reads is =
 
 pub KeepsToLimits-refused : {T : Type 0} (tells : Tells) (result : Result T OpenErr) (file : Option (List ℕ)) (error : OpenErr) → IsErrAnd result (λ e. e ≡ error)
     → ((size : ℕ) → IsErrOf result (opening.TextLimit size) → IsTooLarge tells size file) → KeepsToLimits tells result file
-KeepsToLimits-refused tells result file error is limit = record { within = on_ok_never (IsTrue tells.folder → IfSome file (λ bytes. IsWithinLimits (lines_of bytes))) result error is; limit = limit }
+KeepsToLimits-refused tells result file error is limit = record { within = on_ok_never (IsTrue tells.folder → IfSome file (λ bytes. IsWithinLimits ((document_of bytes).text))) result error is; limit = limit }
 
 -- refused for something else
 pub KeepsToLimits-other : {T : Type 0} (tells : Tells) (result : Result T OpenErr) (file : Option (List ℕ)) (error : OpenErr) → IsErrAnd result (λ e. e ≡ error) → ((size : ℕ) → error ≡ opening.TextLimit size → ⊥) → KeepsToLimits tells result file
@@ -148,17 +148,17 @@ opens_same name disk d settled same = subst (λ (e : Disk). Opens name disk e) (
   safe = λ none image whole. inl (none_there (names_of_file name) disk (is_fresh (names_of_file name) disk settled none) image whole);
 })
 
-opens_start : (name : List ℕ) (disk mid d : Disk) (text : Text) → mid ≡ disk → text ≡ text_in (content_in disk name) → Starting (names_of_file name) text mid d → Opens name disk d
-opens_start name disk mid d text same is starting =
-    let now : Starting (names_of_file name) text disk d = subst (λ (e : Disk). Starting (names_of_file name) text e d) same starting in
-    let own : Starting (names_of_file name) (text_in (content_in disk name)) disk d = subst (λ (t : Text). Starting (names_of_file name) t disk d) is now in
+opens_start : (name : List ℕ) (disk mid d : Disk) (document : Document) → mid ≡ disk → document ≡ document_of_file (content_in disk name) → Starting (names_of_file name) document mid d → Opens name disk d
+opens_start name disk mid d document same is starting =
+    let now : Starting (names_of_file name) document disk d = subst (λ (e : Disk). Starting (names_of_file name) document e d) same starting in
+    let own : Starting (names_of_file name) (document_of_file (content_in disk name)) disk d = subst (λ (x : Document). Starting (names_of_file name) x disk d) is now in
     record { spared = own.spared; safe = λ none. own.safe }
 
 pub opens_looks : (tells : Tells) (name : List ℕ) (old new : Scene) → (IsTrue tells.folder → IsSettled (names_of_file name) old.folder) → OnlyLooks tells old new → Acts tells (Opens name) old new
 opens_looks tells name old new settled looks = acts_as tells (λ a b. b ≡ a) (Opens name) old new (λ told d same. opens_same name old.folder d (settled told) same) looks
 
-pub opens_then : (tells : Tells) (name : List ℕ) (text : Text) (old mid new : Scene) → (IsTrue tells.folder → IsSettled (names_of_file name) old.folder) → (IsTrue tells.folder → text ≡ text_in (content_in old.folder name)) → NoneFails tells old mid
-    → OnlyLooks tells old mid → Acts tells (Starting (names_of_file name) text) mid new → Acts tells (Opens name) old new
-opens_then tells name text old mid new settled is none looks starts =
-    acts_then tells (λ a b. b ≡ a) (Starting (names_of_file name) text) (Opens name) old mid new (λ told d same. opens_same name old.folder d (settled told) same)
-    (λ told same d starting. opens_start name old.folder mid.folder d text same (is told) starting) none looks starts
+pub opens_then : (tells : Tells) (name : List ℕ) (document : Document) (old mid new : Scene) → (IsTrue tells.folder → IsSettled (names_of_file name) old.folder) → (IsTrue tells.folder → document ≡ document_of_file (content_in old.folder name)) → NoneFails tells old mid
+    → OnlyLooks tells old mid → Acts tells (Starting (names_of_file name) document) mid new → Acts tells (Opens name) old new
+opens_then tells name document old mid new settled is none looks starts =
+    acts_then tells (λ a b. b ≡ a) (Starting (names_of_file name) document) (Opens name) old mid new (λ told d same. opens_same name old.folder d (settled told) same)
+    (λ told same d starting. opens_start name old.folder mid.folder d document same (is told) starting) none looks starts

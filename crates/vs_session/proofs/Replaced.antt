@@ -107,9 +107,9 @@ taken_by read parsed is = absurd (true≢false (sym is))
 
 -- the session has this history of its text in place of its own
 pub fits_replaced : (session after : Session) (undo : Parts) (disk : Disk) (state : SessionState) (syncs : List Sync) (history : History) → Fits session disk state syncs → IsHistory undo state.machine.text history
-    → after.text ≡ session.text → after.history ≡ undo → after.name ≡ session.name → after.cursor ≡ session.cursor → after.steps ≡ session.steps → after.options ≡ session.options → after.acknowledged ≡ session.acknowledged
+    → after.text ≡ session.text → after.history ≡ undo → after.name ≡ session.name → after.cursor ≡ session.cursor → after.saved_format ≡ session.saved_format → after.steps ≡ session.steps → after.options ≡ session.options → after.acknowledged ≡ session.acknowledged
     → after.saved ≡ cond (is_saved session.saved session.history.current) (Some undo.current) None → Fits after disk (with_history (Some history) state) syncs
-fits_replaced session after undo disk state syncs history fits is text own name cursor steps options acknowledged saved = record {
+fits_replaced session after undo disk state syncs history fits is text own name cursor saved_format steps options acknowledged saved = record {
   stands = record {
     text = subst (λ t. Rattle.vs_paged.specs.Fits.Fits t disk state.machine.text syncs) (sym text) fits.stands.text;
     history = subst (λ (p : Parts). IsHistory p state.machine.text history) (sym own) is;
@@ -117,6 +117,7 @@ fits_replaced session after undo disk state syncs history fits is text own name 
   name = ap (λ n. Rattle.std.specs.Prelude.string_bytes n) name ∙ fits.name;
   cursor = cursor ∙ fits.cursor;
   saved = saved ∙ ap (λ (b : Bool). cond b (Some undo.current) None) (saved_is session disk state syncs fits) ∙ ap (λ (n : ℕ). cond (is_saved state.saved (current_of state.machine)) (Some n) None) (ap (λ (p : Parts). p.current) is.links);
+  saved_format = saved_format ∙ fits.saved_format;
   steps = steps ∙ fits.steps;
   options = options ∙ fits.options;
   acknowledged = acknowledged ∙ fits.acknowledged;

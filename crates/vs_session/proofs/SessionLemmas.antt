@@ -1,5 +1,5 @@
 -- What a sync, and a command, make of a session that fits.
-use Rattle.std.proofs.Common.{◌≡◌, ◌≤◌, ℕ, Bool, true, ◌==◌, not, List, ◌∷◌, Option, Some, None, Result, Ok, refl, sym, ◌∙◌, ap, subst, arith}
+use Rattle.std.proofs.Common.{◌≡◌, ◌≤◌, ℕ, Bool, true, ◌==◌, ◌&&◌, not, List, ◌∷◌, Option, Some, None, Result, Ok, refl, sym, ◌∙◌, ap, subst, arith}
 use Rattle.std.specs.Prelude.{string_bytes}
 use Rattle.std.proofs.lemmas.Bool.Decides.{nat_tests}
 use Rattle.vs_host.specs.Disk.{Disk}
@@ -28,9 +28,9 @@ use Rattle.vs_safety.specs.Texts.{Sync}
 use Rattle.vs_paged.specs.Fits as folder
 use Rattle.vs_paged.specs.declared.paged.PagedText.{PagedText}
 use Rattle.vs_session.specs.declared.session.Session.{Session}
-use Rattle.vs_session.specs.Session.{SessionState, accepts_quit, answered, begins_after, begins_sync, carried, counted, is_saved, keep_of, options_after, options_set, own_reply, quits, sync_in}
+use Rattle.vs_session.specs.Session.{SessionState, accepts_quit, answered, begins_after, begins_sync, carried, counted, is_clean_in, is_same_format, is_saved, keep_of, options_after, options_set, own_reply, quits, sync_in}
 use Rattle.vs_session.specs.Standing.{FitsState}
-use Rattle.vs_session.specs.Fits.{Fits}
+use Rattle.vs_session.specs.Fits.{Fits, is_clean_session}
 
 -- the number of the current state
 pub current_is : (undo : Parts) (state : State) → IsHistory undo state.text state.history → undo.current ≡ current_of state
@@ -39,24 +39,29 @@ current_is undo state is = ap (λ (p : Parts). p.current) is.links
 pub saved_is : (session : Session) (disk : Disk) (state : SessionState) (syncs : List Sync) → Fits session disk state syncs → is_saved session.saved session.history.current ≡ is_saved state.saved (current_of state.machine)
 saved_is session disk state syncs fits = ap (λ (n : ℕ). is_saved session.saved n) (current_is session.history state.machine fits.stands.history) ∙ ap (λ (o : Option ℕ). is_saved o (current_of state.machine)) fits.saved
 
+pub clean_is : (session : Session) (disk : Disk) (state : SessionState) (syncs : List Sync) → Fits session disk state syncs → is_clean_session session ≡ is_clean_in state
+clean_is session disk state syncs fits = λ i. saved_is session disk state syncs fits i && is_same_format (fits.saved_format i) (fits.options i).write.format
+
 -- the session goes on where its text does, and nothing else of it changes
 pub fits_again : (old new : Session) (was now : Disk) (state : SessionState) (syncs : List Sync) → Fits old was state syncs → FitsState new.text new.history now state.machine syncs → new.name ≡ old.name → new.cursor ≡ old.cursor
-    → new.saved ≡ old.saved → new.steps ≡ old.steps → new.options ≡ old.options → new.acknowledged ≡ old.acknowledged → Fits new now state syncs
-fits_again old new was now state syncs fits stands name cursor saved steps options acknowledged = record {
+    → new.saved ≡ old.saved → new.saved_format ≡ old.saved_format → new.steps ≡ old.steps → new.options ≡ old.options → new.acknowledged ≡ old.acknowledged → Fits new now state syncs
+fits_again old new was now state syncs fits stands name cursor saved saved_format steps options acknowledged = record {
   stands = stands;
   name = ap string_bytes name ∙ fits.name;
   cursor = cursor ∙ fits.cursor;
   saved = saved ∙ fits.saved;
+  saved_format = saved_format ∙ fits.saved_format;
   steps = steps ∙ fits.steps;
   options = options ∙ fits.options;
   acknowledged = acknowledged ∙ fits.acknowledged;
 }
 
 -- one more sync of this state
-pub stands_synced : (old : Session) (paged : PagedText) (was now : Disk) (state : SessionState) (syncs : List Sync) (here : Bool) (flag : Bool) → Fits old was state syncs → here ≡ is_saved old.saved old.history.current
-    → folder.Fits paged now state.machine.text (record { text = state.machine.text; dirty = not here; acknowledged = flag } ∷ syncs) → FitsState paged old.history now state.machine (sync_in state flag ∷ syncs)
+pub stands_synced : (old : Session) (paged : PagedText) (was now : Disk) (state : SessionState) (syncs : List Sync) (here : Bool) (flag : Bool) → Fits old was state syncs → here ≡ is_clean_session old
+    → folder.Fits paged now state.machine.text (record { document = record { text = state.machine.text; format = old.options.write.format }; dirty = not here; acknowledged = flag } ∷ syncs) → FitsState paged old.history now state.machine (sync_in state flag ∷ syncs)
 stands_synced old paged was now state syncs here flag fits is text = record {
-  text = subst (λ (b : Bool). folder.Fits paged now state.machine.text (record { text = state.machine.text; dirty = not b; acknowledged = flag } ∷ syncs)) (is ∙ saved_is old was state syncs fits) text;
+  text = subst (λ (s : Sync). folder.Fits paged now state.machine.text (s ∷ syncs))
+      (λ i. record { document = record { text = state.machine.text; format = (fits.options i).write.format }; dirty = not ((is ∙ clean_is old was state syncs fits) i); acknowledged = flag }) text;
   history = fits.stands.history;
 }
 
@@ -95,6 +100,7 @@ carried_still state instruction mark error is = λ i. record {
   name = state.name;
   machine = stays i;
   saved = (ap (λ (meaning : Meaning). machine.saved_by mark.outcome state.machine (keep_of state mark) meaning state.saved) is ∙ refused_saved mark.outcome state.machine (keep_of state mark) error state.saved) i;
+  saved_format = state.saved_format;
   steps = (ap (λ (m : State). counted state.steps (current_of m == current_of state.machine)) stays ∙ counted_same state.steps (current_of state.machine)) i;
   options = options_after mark.outcome state.options instruction.parsed;
 }
@@ -120,6 +126,7 @@ own_carried session options parsed disk state syncs instruction reply at is own 
       name = fits.name;
       cursor = fits.cursor;
       saved = fits.saved;
+      saved_format = fits.saved_format;
       steps = fits.steps;
       options = set ∙ ap (λ p. options_set session.options p) is ∙ ap (λ (o : Options). options_set o instruction.parsed) fits.options;
       acknowledged = fits.acknowledged;
@@ -138,6 +145,8 @@ some_levels options setting.CopyYes form some = some
 some_levels options setting.CopyNo form some = some
 some_levels options setting.CopyAuto form some = some
 some_levels options (setting.UndoFile on) form some = some
+some_levels options setting.Unix form some = some
+some_levels options setting.Dos form some = some
 some_levels options (setting.UndoLevels levels) form some = form.0
 
 -- ---- a command that the machine answers
@@ -169,9 +178,9 @@ answered_none Fault reply = refl
 answered_none NoUndo reply = refl
 
 pub quits_is : (session : Session) (disk : Disk) (state : SessionState) (syncs : List Sync) (instruction : Instruction) (parsed : Result Command ExErr) (b : Bool) → Fits session disk state syncs → parsed ≡ instruction.parsed
-    → quits parsed (is_saved session.saved session.history.current) ≡ b → accepts_quit state instruction ≡ b
+    → quits parsed (is_clean_session session) ≡ b → accepts_quit state instruction ≡ b
 quits_is session disk state syncs instruction parsed b fits is same =
-    sym (ap (λ p. quits p (is_saved state.saved (current_of state.machine))) is) ∙ sym (ap (λ (x : Bool). quits parsed x) (saved_is session disk state syncs fits)) ∙ same
+    sym (ap (λ p. quits p (is_clean_in state)) is) ∙ sym (ap (λ (x : Bool). quits parsed x) (clean_is session disk state syncs fits)) ∙ same
 
 pub begins_is : (session : Session) (disk : Disk) (state : SessionState) (syncs : List Sync) (instruction : Instruction) (parsed : Result Command ExErr) (b : Bool) → Fits session disk state syncs → parsed ≡ instruction.parsed
     → begins_after session.steps parsed ≡ b → begins_sync state instruction ≡ b

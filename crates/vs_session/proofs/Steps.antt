@@ -21,11 +21,12 @@ use Rattle.vs_machine.specs.Machine.{is_done, took_effect, current_of}
 use Rattle.vs_machine.specs.Replies.{Answer, refuses, device_fault}
 use Rattle.vs_machine.specs.declared.command.Mark.{Mark}
 use Rattle.vs_machine.specs.declared.command.Outcome.{Outcome}
-use Rattle.vs_machine.specs.declared.command.Outcome.TheVariants.{Done, Fault, NoUndo}
+use Rattle.vs_machine.specs.declared.command.Outcome.TheVariants.{Fault, NoUndo}
 use Rattle.vs_safety.specs.Texts.{Sync, IsBetween, IsFlag, Recovers, RecoversOrNone, begun, recoverable}
 use Rattle.vs_safety.specs.Turns.{Turn, with_sync, last_turn}
 use Rattle.vs_safety.specs.FileWork.{FileWork}
 use Rattle.vs_safety.specs.Safety.{Spares, Works, IsUnderWay, Stepped}
+use Rattle.vs_options.specs.declared.setting.Options.{Options}
 use Rattle.vs_undo.specs.History.{History}
 use Rattle.vs_paged.specs.Fits as folder
 use Rattle.vs_paged.proofs.SyncLemmas.{fits_between, fits_recovers}
@@ -34,7 +35,7 @@ use Rattle.vs_session.specs.declared.session.Step.{Step}
 use Rattle.vs_session.specs.declared.session.Step.TheVariants as steps
 use Rattle.vs_session.specs.declared.taking.TakeErr.{TakeErr}
 use Rattle.vs_session.specs.declared.taking.TakeErr.TheVariants as take
-use Rattle.vs_session.specs.Session.{SessionState, Ended, HasFound, accepts_quit, after_sync, answered, begins_after, begins_sync, carried, history_by, history_taken, is_fault, is_rundo, is_write, is_wundo, lacks_name, own_reply, reply_of, session_reply, state_after, stores_both, sync_in, sync_of, undo_work, uses_files, with_history, work_of, write_work, writes_files, written_state, has_written}
+use Rattle.vs_session.specs.Session.{SessionState, Ended, HasFound, accepts_quit, after_sync, answered, begins_after, begins_sync, carried, history_by, history_taken, is_fault, is_rundo, is_write, is_wundo, lacks_name, own_reply, reply_of, session_reply, state_after, stores_both, sync_in, sync_of, undo_work, uses_files, with_history, work_of, write_work, writes_files, written_state, has_written, document_in}
 use Rattle.vs_session.specs.Fits.{Answers, Fits, HasSyncs, IsStep, Leaves, names_of}
 use Rattle.vs_session.specs.Made.{ClearsMade, LeavesNoneMade, StaysMoved}
 use Rattle.vs_session.specs.Failures.{FailsOnce}
@@ -119,18 +120,19 @@ recovers_synced names session disk state syncs is fits = subst (λ (n : Names). 
 pub no_write : (names : Names) (syncs : List Sync) (disk : Disk) → Recovers names (recoverable syncs) disk → IsUnderWay names syncs None disk
 no_write names syncs disk recovers = record { recovers = recovers; whole = tt }
 
--- the syncs while the text of this state is synced
+-- the syncs while the document of this state is synced
 abbrev pub under_sync : SessionState → List Sync → List Sync
-under_sync state syncs = begun state.machine.text (sync_in state false).dirty ∷ syncs
+under_sync state syncs = begun (document_in state) (sync_in state false).dirty ∷ syncs
 
 -- while the text is synced
 pub synced_works : (names : Names) (session : Session) (old new : Scene) (state : SessionState) (syncs : List Sync) → names_of session ≡ names → Fits session old.folder state syncs → ChangesFolder old new
-    → Runs (folder.Syncing session.text) old new → Works names None (IsUnderWay names (under_sync state syncs) None) old new
+    → Runs (folder.Syncing session.text session.options.write.format) old new → Works names None (IsUnderWay names (under_sync state syncs) None) old new
 synced_works names session old new state syncs is fits frame runs =
     subst (λ (n : Names). Works n None (IsUnderWay n (under_sync state syncs) None) old new) is
-    (works_runs (names_of session) None (IsUnderWay (names_of session) (under_sync state syncs) None) (folder.Syncing session.text) old new frame
+    (works_runs (names_of session) None (IsUnderWay (names_of session) (under_sync state syncs) None) (folder.Syncing session.text session.options.write.format) old new frame
     (λ d syncing. record {
-      folder = no_write (names_of session) (under_sync state syncs) d (syncing.safe state.machine.text syncs fits.stands.text);
+      folder = no_write (names_of session) (under_sync state syncs) d
+          (subst (λ (o : Options). Recovers (names_of session) (record { text = state.machine.text; format = o.write.format } ∷ recoverable syncs) d) fits.options (syncing.safe state.machine.text syncs fits.stands.text));
       spared = spares_apart (names_of session) old.folder d (syncing.spared state.machine.text syncs fits.stands.text);
     }) runs)
 
@@ -152,7 +154,7 @@ under_way before state syncs disk = IsUnderWay (names_of before) (under_sync sta
 -- a sync that was acknowledged, and calls after it that only look at the folder
 pub looked_synced : (before after : Session) (state : SessionState) (syncs : List Sync) (then : SessionState) (done failed : Bool) (reply : List ℕ) (old mid new : Scene) → Fits before old.folder state syncs
     → (between : Session) → names_of between ≡ names_of before → names_of after ≡ names_of before → ChangesFolder old mid
-    → Runs (folder.Syncing before.text) old mid → Rises (names_of before) old.folder mid.folder → Fits between mid.folder (after_sync state true) (sync_in state true ∷ syncs)
+    → Runs (folder.Syncing before.text before.options.write.format) old mid → Rises (names_of before) old.folder mid.folder → Fits between mid.folder (after_sync state true) (sync_in state true ∷ syncs)
     → new.folder ≡ mid.folder → ChangesFolder mid new → Looks mid new → (failed ≡ true → HasRisen old.folder_faults new.folder_faults) → Fits after new.folder then (sync_in state true ∷ syncs)
     → Stepped (names_of before) syncs (record { found = Some old.folder; sync = Some (sync_in state true); write = None; done = done; failed = failed; reply = reply }) old new
 looked_synced before after state syncs then done failed reply old mid new fits between same names frame runs rises synced stays second looks cause now = record {
@@ -283,8 +285,8 @@ module _ (state : SessionState) (syncs : List Sync) (instruction : Instruction) 
       assemble_read after mark acknowledged unread reply new sync write (record { read = λ reads. absurd (true≢false (sym reads ∙ none)); unstored = both }) calls whole cleared sync_is write_is replied now stepped
 
   -- a sync leaves no file under a name under which files are made
-  synced_clears : (new : Scene) → Runs (folder.Syncing before.text) old new → LeavesNoneMade old.folder new.folder × StaysMoved (names_of before) old new
-  synced_clears new runs = synced_none before old new state syncs fits (runs_as (folder.Syncing before.text) (SameAt (is_apart (names_of before))) old new (λ d inside. inside.spared state.machine.text syncs fits.stands.text) runs)
+  synced_clears : (new : Scene) → Runs (folder.Syncing before.text before.options.write.format) old new → LeavesNoneMade old.folder new.folder × StaysMoved (names_of before) old new
+  synced_clears new runs = synced_none before old new state syncs fits (runs_as (folder.Syncing before.text before.options.write.format) (SameAt (is_apart (names_of before))) old new (λ d inside. inside.spared state.machine.text syncs fits.stands.text) runs)
 
   sync_is : (b : Bool) (mark : Mark) (acknowledged : Bool) → begins ≡ b → sync_of state instruction (ended_with mark acknowledged) ≡ cond b (Some (sync_in state acknowledged)) None
   sync_is b mark acknowledged is = ap (λ (c : Bool). cond c (Some (sync_in state acknowledged)) None) is
@@ -336,7 +338,7 @@ module _ (state : SessionState) (syncs : List Sync) (instruction : Instruction) 
 
     -- a sync that was acknowledged, and the command after it
     pub answers_synced : (tells : Tells) → IsTrue tells.folder → (between after : Session) (mark : Mark) (reply : Answer) (mid new : Scene) → (mark.outcome ≡ NoUndo → ⊥) → begins ≡ true → names_of between ≡ names_of before → names_of after ≡ names_of before → ChangesFolder old mid
-        → Runs (folder.Syncing before.text) old mid → Quiet old mid → old.folder_faults ≤ mid.folder_faults → Rises (names_of before) old.folder mid.folder → Fits between mid.folder (after_sync state true) (sync_in state true ∷ syncs)
+        → Runs (folder.Syncing before.text before.options.write.format) old mid → Quiet old mid → old.folder_faults ≤ mid.folder_faults → Rises (names_of before) old.folder mid.folder → Fits between mid.folder (after_sync state true) (sync_in state true ∷ syncs)
         → ReadsFolder mid new → Looks mid new → StopsAtFault tells (is_fault mark.outcome ≡ true) mid new → HasCause mid.folder_faults new.folder_faults (is_fault mark.outcome ≡ true)
         → reply ≡ answered mark.outcome (own_reply instruction.parsed) (machine.reply_of state.machine instruction mark)
         → Fits after new.folder (carried (after_sync state true) instruction mark) (sync_in state true ∷ syncs) → Answers state syncs instruction before after mark reply old new
@@ -351,7 +353,7 @@ module _ (state : SessionState) (syncs : List Sync) (instruction : Instruction) 
         (ap (λ (s : Scene). s.folder) second) (reads_change mid new second) looks (λ failed. risen_since old.folder_faults mid.folder_faults new.folder_faults later (cause.risen failed)) now)
 
   -- a sync that failed
-  pub answers_failed : (after : Session) (at : ℕ) (reply : Answer) (new : Scene) → begins ≡ true → names_of after ≡ names_of before → ChangesFolder old new → Runs (folder.Syncing before.text) old new → FailsLast old new
+  pub answers_failed : (after : Session) (at : ℕ) (reply : Answer) (new : Scene) → begins ≡ true → names_of after ≡ names_of before → ChangesFolder old new → Runs (folder.Syncing before.text before.options.write.format) old new → FailsLast old new
       → HasRisen old.folder_faults new.folder_faults → reply ≡ refuses device_fault → (Rises (names_of before) old.folder new.folder → ⊥) → Fits after new.folder state (sync_in state false ∷ syncs)
       → Answers state syncs instruction before after (record { outcome = Fault; at = at }) reply old new
   answers_failed after at reply new begun names frame runs last risen replied none now =
@@ -379,6 +381,7 @@ module _ (state : SessionState) (syncs : List Sync) (instruction : Instruction) 
         name = now.name;
         cursor = now.cursor;
         saved = now.saved;
+        saved_format = now.saved_format;
         steps = now.steps ∙ sym (counted_same state.steps (current_of state.machine));
         options = now.options;
         acknowledged = now.acknowledged;
@@ -419,10 +422,10 @@ answers_from state syncs instruction before after mark reply old mid new clock i
 
 -- ---- the end of a session leaves no file under a name under which files are made
 
-pub last_clears : (session : Session) (old new : Scene) (fits : (state : SessionState) × (syncs : List Sync) × Fits session old.folder state syncs) → Runs (folder.Syncing session.text) old new
+pub last_clears : (session : Session) (old new : Scene) (fits : (state : SessionState) × (syncs : List Sync) × Fits session old.folder state syncs) → Runs (folder.Syncing session.text session.options.write.format) old new
     → LeavesNoneMade old.folder new.folder × StaysMoved (names_of session) old new
 last_clears session old new fits runs =
-    synced_none session old new fits.0 fits.1 fits.2 (runs_as (folder.Syncing session.text) (SameAt (is_apart (names_of session))) old new (λ d inside. inside.spared fits.0.machine.text fits.1 fits.2.stands.text) runs)
+    synced_none session old new fits.0 fits.1 fits.2 (runs_as (folder.Syncing session.text session.options.write.format) (SameAt (is_apart (names_of session))) old new (λ d inside. inside.spared fits.0.machine.text fits.1 fits.2.stands.text) runs)
 
 pub end_clears : (session : Session) (old new : Scene) (fits : (state : SessionState) × (syncs : List Sync) × Fits session old.folder state syncs) → Runs (folder.Ending session.text) old new
     → LeavesNoneMade old.folder new.folder × StaysMoved (names_of session) old new
@@ -450,7 +453,7 @@ not_ok (Err why) is = refl
 -- ---- the last sync
 
 module _ (names : Names) (session : Session) (state : SessionState) (syncs : List Sync) (old new : Scene) (is : names_of session ≡ names) (fits : Fits session old.folder state syncs) (frame : ChangesFolder old new)
-    (runs : Runs (folder.Syncing session.text) old new) where
+    (runs : Runs (folder.Syncing session.text session.options.write.format) old new) where
   last_works : Works names None (IsUnderWay names (under_sync state syncs) None) old new
   last_works = synced_works names session old new state syncs is fits frame runs
 
@@ -461,7 +464,7 @@ module _ (names : Names) (session : Session) (state : SessionState) (syncs : Lis
   last_failed risen none between = record { found = tt; works = last_works; wrote = tt; whole = tt; flag = flag_false names old.folder new.folder none; cause = λ _. risen; between = between }
 
 pub last_step : {T E : Type 0} (result : Result T E) (session after : Session) (state : SessionState) (syncs : List Sync) (old new : Scene) → names_of after ≡ names_of session → Fits session old.folder state syncs
-    → ChangesFolder old new → Runs (folder.Syncing session.text) old new → HasCause old.folder_faults new.folder_faults (IsErr result) → OnOk result (Rises (names_of session) old.folder new.folder)
+    → ChangesFolder old new → Runs (folder.Syncing session.text session.options.write.format) old new → HasCause old.folder_faults new.folder_faults (IsErr result) → OnOk result (Rises (names_of session) old.folder new.folder)
     → OnErr result (Rises (names_of session) old.folder new.folder → ⊥) → OnOk result (Fits after new.folder (after_sync state true) (sync_in state true ∷ syncs)) → OnErr result (Fits after new.folder state (sync_in state false ∷ syncs))
     → Stepped (names_of session) syncs (last_turn (sync_in state (is_ok result))) old new
 last_step (Ok x) session after state syncs old new same fits frame runs cause rises none ok err =

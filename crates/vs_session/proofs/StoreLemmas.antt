@@ -1,7 +1,8 @@
 -- A text in the pages of a pair is what a store over them has, so each clause of the store says what the text is.
-use Rattle.std.proofs.Common.{◌≡◌, ◌+◌, ◌*◌, inr, ℕ, Bool, true, false, IsTrue, refl, List, Result, Ok, Err, IfOk, sym, ap, ◌∙◌, subst, arith}
+use Rattle.std.proofs.Common.{◌≡◌, ◌+◌, ◌*◌, inr, ℕ, Bool, true, false, IsTrue, List, Result, Ok, Err, IfOk, sym, ap, ◌∙◌, subst, arith}
 use Rattle.std.proofs.lemmas.Bool.{false≢true}
-use Rattle.vs_faults.specs.Faults.{HasCause}
+use Rattle.vs_faults.specs.OneCause.{HasOneCause}
+use Rattle.vs_disk.specs.Faults.{earlier_faults}
 use Rattle.vs_pages.specs.Memory.{commits_of, committed_of, present_of, state_of}
 use Rattle.vs_pages.specs.declared.memory.MemPages.{MemPages}
 use Rattle.vs_edit.specs.State.{SameText}
@@ -111,8 +112,9 @@ keeps_back tells was now held old new left pair_is host_is is =
     let Q : Scene → Type 0 = λ s. KeepsFiles tells was held old s in
     subst P (sym pair_is) (subst Q (sym host_is) is)
 
-pub cause_back : {F : Type 0} (from : ℕ) (new left : Scene) → new ≡ left → HasCause from left.folder_faults F → HasCause from new.folder_faults F
-cause_back {F} from new left is cause = let P : Scene → Type 0 = λ s. HasCause from s.folder_faults F in subst P (sym is) cause
+pub cause_back : {F : Type 0} (tells : world.Tells) (from : ℕ) (new left : Scene) → new ≡ left → HasOneCause from left.folder_faults (earlier_faults tells left) F
+    → HasOneCause from new.folder_faults (earlier_faults tells new) F
+cause_back {F} tells from new left is cause = let P : Scene → Type 0 = λ s. HasOneCause from s.folder_faults (earlier_faults tells s) F in subst P (sym is) cause
 
 -- ---- the text in the folder
 

@@ -143,6 +143,7 @@ fits_stored session old new state syncs are spares fits = record {
   name = fits.name;
   cursor = fits.cursor;
   saved = fits.saved;
+  saved_format = fits.saved_format;
   steps = fits.steps;
   options = fits.options;
   acknowledged = fits.acknowledged;
@@ -225,6 +226,7 @@ module _ (state : SessionState) (syncs : List Sync) (instruction : Instruction) 
         name = left.name;
         cursor = left.cursor;
         saved = left.saved;
+        saved_format = left.saved_format;
         steps = left.steps;
         options = left.options ∙ sym (options_stay state.options outcome instruction.parsed is);
         acknowledged = left.acknowledged;

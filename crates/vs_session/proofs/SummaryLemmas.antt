@@ -1,8 +1,5 @@
 -- What reading a text leaves of its pages, and of a session.
 use Rattle.std.proofs.Common.{◌≡◌, Bool, IsTrue, sym, ◌∙◌, ap, subst, arith}
-use Rattle.vs_host.specs.World.{Scene}
-use Rattle.vs_disk.specs.Runs.{FailsLast}
-use Rattle.vs_disk.proofs.Runs.{fails_none}
 use Rattle.vs_pages.specs.Memory.{commits_of, committed_of, present_of, state_of}
 use Rattle.vs_pages.specs.declared.memory.MemPages.{MemPages}
 use Rattle.vs_edit.specs.State.{SameText}
@@ -46,7 +43,3 @@ paged_stays tells now held pages tree left was text pair_is tree_is present comm
 -- the number of the last change
 pub last_is : (undo : Parts) (state : State) → IsHistory undo state.text state.history → undo.last ≡ last_of state
 last_is undo state is = ap (λ (p : Parts). p.last) is.links
-
--- where nothing happened no call failed
-pub fails_still : (old new : Scene) → new ≡ old → FailsLast old new
-fails_still old new is = subst (λ (s : Scene). FailsLast old s) (sym is) (fails_none old)

@@ -61,6 +61,7 @@ carried_on session disk state syncs instruction mark is fits =
       name = fits.name;
       cursor = fits.cursor;
       saved = fits.saved;
+      saved_format = fits.saved_format;
       steps = fits.steps;
       options = fits.options ∙ sym (options_stay state.options mark.outcome instruction.parsed is);
       acknowledged = fits.acknowledged;

@@ -8,7 +8,7 @@ use Rattle.vs_host.specs.Names.{AreNames, temporary}
 use Rattle.vs_host.specs.Trace.{Snapshot, GoesOn}
 use Rattle.vs_host.specs.World.{Scene}
 use Rattle.vs_host.specs.declared.names.Names.{Names}
-use Rattle.vs_text.specs.Text.{file_of}
+use Rattle.vs_text.specs.Documents.{file_in}
 use Rattle.vs_disk.specs.Images.{HoldsBytes, MayLeave, Takes}
 use Rattle.vs_disk.specs.Names.{IsApart, SameAt}
 use Rattle.vs_disk.specs.Runs.{FailsLast, Inside, Looks, Quiet, Runs}
@@ -105,7 +105,7 @@ whole_synced names are options text old d same = record {
   backed = λ was backup is made. inl (untouched_old names are old d same backup (backup_named names are options old backup made));
   replaced = λ was backup is made. replaces_takes (copies options.copy) names.file backup was old d (takes_backup names are old d same backup (backup_named names are options old backup made) was);
   in_place = λ was backup is made copied. place_same names are old d same;
-  fresh = λ none. takes_old names are old d same (file_of text);
+  fresh = λ none. takes_old names are old d same (file_in options.format text);
 }
 
 pub keeps_synced : (names : Names) (write : Write) (old d : Disk) → SameAt (is_apart names) old d → Keeps names (Some (EditedFile write)) old d
@@ -135,7 +135,7 @@ module _ (names : Names) (are : AreNames names) (options : WriteOptions) (text :
   write = record { options = options; text = text; found = old }
 
   abbrev bytes : List ℕ
-  bytes = file_of text
+  bytes = file_in options.format text
 
   there_mid : content_in mid.folder names.file ≡ content_in old names.file
   there_mid = file_same names are old mid.folder same

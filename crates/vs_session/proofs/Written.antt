@@ -8,7 +8,7 @@ use Rattle.vs_host.specs.Names.{AreNames, temporary}
 use Rattle.vs_host.specs.Trace.{Snapshot, GoesOn}
 use Rattle.vs_host.specs.World.{Scene, ChangesFolder}
 use Rattle.vs_host.specs.declared.names.Names.{Names}
-use Rattle.vs_text.specs.Text.{file_of}
+use Rattle.vs_text.specs.Documents.{file_in}
 use Rattle.vs_disk.specs.Images.{HoldsBytes}
 use Rattle.vs_disk.specs.Names.{SameAt}
 use Rattle.vs_disk.specs.Runs.{Inside, Runs, Quiet}
@@ -18,6 +18,7 @@ use Rattle.vs_pair.specs.Pair.{Rises, Unmoved, is_apart, is_swap}
 use Rattle.vs_pair.proofs.Others.{rises_kept}
 use Rattle.vs_excmd.specs.Request.{Instruction}
 use Rattle.vs_backup.specs.declared.options.WriteOptions.{WriteOptions}
+use Rattle.vs_options.specs.declared.setting.Options.{Options}
 use Rattle.vs_backup.specs.declared.errors.WriteErr.{WriteErr}
 use Rattle.vs_backup.specs.declared.errors.WriteErr.TheVariants as error
 use Rattle.vs_backup.specs.Backups.{IsNoName, WorksOn, backup_of, is_backed}
@@ -42,7 +43,7 @@ use Rattle.vs_desk.specs.Writes.{KeepsSwap, WritesFile}
 use Rattle.vs_desk.proofs.Left.{goes_both}
 use Rattle.vs_desk.proofs.Stillness.{still_fits}
 use Rattle.vs_session.specs.declared.session.Session.{Session}
-use Rattle.vs_session.specs.Session.{SessionState, Ended, accepts_quit, after_sync, answered, begins_sync, carried, is_fault, is_write, lacks_name, line_by, reply_of, state_after, sync_in, undo_after, undo_work, with_history, write_in, write_reply, write_work, written_state}
+use Rattle.vs_session.specs.Session.{SessionState, Ended, accepts_quit, after_sync, answered, begins_sync, carried, is_fault, info_written, is_write, lacks_name, line_by, reply_of, state_after, sync_in, undo_after, undo_work, with_history, write_in, write_reply, write_work, written_state, document_in}
 use Rattle.vs_session.specs.Writes.{HasSynced, Wrote}
 use Rattle.vs_session.specs.Fits.{Answers, Fits, names_of}
 use Rattle.vs_session.specs.Made.{ClearsMade, LeavesNoneBut, LeavesNoneMade, StaysMoved, WritesUnder}
@@ -59,12 +60,12 @@ use Rattle.vs_session.proofs.WriteMoments.{IsAlone, IsIdle, alone_by, facts, has
 
 -- what a write did, for these names
 record Did (names : Names) (options : WriteOptions) (text : Text) (syncs : List Sync) (mid new : Scene) (result : Result ℕ WriteErr) : Type 0 where
-  pub file : WritesFile options names (file_of text) mid new result
+  pub file : WritesFile options names (file_in options.format text) mid new result
   pub no_name : result ≡ Err error.NoBackupName → IsNoName options names.file true mid.folder
   pub swap : Runs (KeepsSwap names (recoverable syncs)) mid new
   pub others : SparesOthers (WorksOn options names.file mid.folder) mid new
   pub left : Runs (KeepsLeft (WorksOn options names.file mid.folder)) mid new
-  pub calls : FailsNoEarlier names.file (file_of text) mid new result
+  pub calls : FailsNoEarlier names.file (file_in options.format text) mid new result
 
 -- A moment of the write, over a folder as the command found it.
 pub record Moment (names : Names) (write : Write) (syncs : List Sync) (old d : Disk) : Type 0 where
@@ -105,7 +106,7 @@ module _ (state : SessionState) (syncs : List Sync) (instruction : Instruction) 
   all = sync_in state true ∷ syncs
 
   abbrev pub under : List Sync
-  under = begun text (sync_in state false).dirty ∷ syncs
+  under = begun (document_in state) (sync_in state false).dirty ∷ syncs
 
   abbrev pub mark : Outcome → ℕ → Mark
   mark outcome at = record { outcome = outcome; at = at }
@@ -170,11 +171,11 @@ module _ (state : SessionState) (syncs : List Sync) (instruction : Instruction) 
   pub recovers_on : (d : Disk) → Recovers names (recoverable all) d → Recovers names (recoverable under) d
   recovers_on d recovers image whole = let given = recovers image whole in (given.0, elim given.1 [ inl here ↦ inl here | inr none ↦ absurd none ], given.2)
 
-  in_sync : (d : Disk) → folder.Syncing before.text old.folder d → Moment names write under old.folder d
+  in_sync : (d : Disk) → folder.Syncing before.text before.options.write.format old.folder d → Moment names write under old.folder d
   in_sync d syncing =
       let apart : SameAt (is_apart names) old.folder d = syncing.spared text syncs s.fits.stands.text in
       record {
-        recovers = syncing.safe text syncs s.fits.stands.text;
+        recovers = subst (λ (o : Options). Recovers names (record { text = text; format = o.write.format } ∷ recoverable syncs) d) s.fits.options (syncing.safe text syncs s.fits.stands.text);
         whole = whole_synced names are options text old.folder d apart;
         undo = undo_same names are old.folder d apart;
         keeps = keeps_synced names write old.folder d apart;
@@ -184,16 +185,16 @@ module _ (state : SessionState) (syncs : List Sync) (instruction : Instruction) 
   AtMoment a d = Moment names write under old.folder d
 
   sync_apart : GoesOn (λ m. SameAt (is_apart names) old.folder m.folder) old.trace mid.trace
-  sync_apart = goes_weaker (Inside old (folder.Syncing before.text old.folder)) (λ m. SameAt (is_apart names) old.folder m.folder) (λ m inside. inside.folder.spared text syncs s.fits.stands.text) old.trace mid.trace s.runs.moments
+  sync_apart = goes_weaker (Inside old (folder.Syncing before.text before.options.write.format old.folder)) (λ m. SameAt (is_apart names) old.folder m.folder) (λ m inside. inside.folder.spared text syncs s.fits.stands.text) old.trace mid.trace s.runs.moments
 
   sync_moved : StaysMoved names old mid
   sync_moved = moved_apart names are old mid sync_apart same
 
   sync_unmoved : GoesOn (λ m. Unmoved (is_apart names) old.folder m.folder) old.trace mid.trace
-  sync_unmoved = goes_weaker (Inside old (folder.Syncing before.text old.folder)) (λ m. Unmoved (is_apart names) old.folder m.folder) (λ m inside. inside.folder.unmoved text syncs s.fits.stands.text) old.trace mid.trace s.runs.moments
+  sync_unmoved = goes_weaker (Inside old (folder.Syncing before.text before.options.write.format old.folder)) (λ m. Unmoved (is_apart names) old.folder m.folder) (λ m inside. inside.folder.unmoved text syncs s.fits.stands.text) old.trace mid.trace s.runs.moments
 
   sync_runs : Runs AtMoment old mid
-  sync_runs = runs_as (folder.Syncing before.text) AtMoment old mid in_sync s.runs
+  sync_runs = runs_as (folder.Syncing before.text before.options.write.format) AtMoment old mid in_sync s.runs
 
   module _ (after : Session) (result : Result ℕ WriteErr) (new : Scene) (second : ChangesFolder mid new) (wrote : Wrote (after_sync state true) all between after result mid new) where
     did : Did names options text all mid new result
@@ -256,15 +257,15 @@ module _ (state : SessionState) (syncs : List Sync) (instruction : Instruction) 
     has_left failed fails = has_written names are options text old.folder mid new same result did.file old.folder_faults later failed (back_of result did.calls) fails
 
     became : (was : List ℕ) (backup : Name) → content_in old.folder names.file ≡ Some was → backup_of options names.file old.folder ≡ Some backup
-        → BecomesWhole names.file backup was (file_of text) old new ⊎ (IsErr result × StaysUntouched names.file backup old new)
-    became was backup there made = becomes names are options (file_of text) old mid new same unmoved sync_unmoved was backup there made result did.file
+        → BecomesWhole names.file backup was (file_in options.format text) old new ⊎ (IsErr result × StaysUntouched names.file backup old new)
+    became was backup there made = becomes names are options (file_in options.format text) old mid new same unmoved sync_unmoved was backup there made result did.file
 
     pub stays_whole : (outcome : Outcome) (at : ℕ) → (IsErr result → took_effect outcome ≡ false) → StaysWhole names state instruction (ended outcome at) old new
     stays_whole outcome at none is_begun was backup there made = elim (became was backup there made) [ inl whole ↦ inl whole | inr refused ↦ inr (none refused.0, refused.1) ]
 
     pub cleared_by : (size : ℕ) → result ≡ Ok size → LeavesNoneMade old.folder new.folder
     cleared_by size ok = cleared_then old.folder mid.folder new.folder (cleared_synced names are old.folder mid.folder same)
-        (cleared_written names are options (file_of text) size mid new (subst (λ (r : Result ℕ WriteErr). WritesFile options names (file_of text) mid new r) ok did.file) did.others)
+        (cleared_written names are options (file_in options.format text) size mid new (subst (λ (r : Result ℕ WriteErr). WritesFile options names (file_in options.format text) mid new r) ok did.file) did.others)
 
     -- and one that was not leaves one only where it works
     but_by : LeavesNoneBut (WritesUnder names state instruction old.folder) old.folder new.folder
@@ -276,7 +277,7 @@ module _ (state : SessionState) (syncs : List Sync) (instruction : Instruction) 
     pub moved_by : StaysMoved names old new
     moved_by = moved_then names are old mid new sync_moved (moved_write names are options mid new did.others)
 
-    pub bytes_left : IfOk result (λ size. (size ≡ length (file_of text)) × HoldsBytes names.file (file_of text) new.folder)
+    pub bytes_left : IfOk result (λ size. (size ≡ length (file_in options.format text)) × HoldsBytes names.file (file_in options.format text) new.folder)
     bytes_left = (facts names are options text old.folder mid new same result did.file old.folder_faults later).written
 
     -- where no backup name is free, nothing is done
@@ -433,7 +434,7 @@ module _ (state : SessionState) (syncs : List Sync) (instruction : Instruction) 
     refused_name : why ≡ error.NoBackupName → IsCalm Done → IsAnswer Done (refuses no_backup_name)
     refused_name unnamed calm = elim (cases_Bool lacks) [
       | inl taken ↦ refused_taken taken Done (refuses no_backup_name) (λ e. absurd (cc)) calm
-          (ap (λ (c : Bool). cond c (refuses no_backup_name) (says (written_line state.name (length text) (length (file_of text))))) (sym taken) ∙ replied_done at) (λ e. absurd (true≢false (sym e)))
+          (ap (λ (c : Bool). cond c (refuses no_backup_name) (says (written_line state.name (info_written state (length (file_in options.format text)))))) (sym taken) ∙ replied_done at) (λ e. absurd (true≢false (sym e)))
       | inr free ↦ absurd (never after (Err why) new second wrote free (ap err_of unnamed))
     ]
 
@@ -454,16 +455,16 @@ module _ (state : SessionState) (syncs : List Sync) (instruction : Instruction) 
   -- ---- a write that was carried out
 
   -- the reply to it
-  pub line_is : lacks ≡ false → (outcome : Outcome) (size : ℕ) → size ≡ length (file_of text) → says (line_by outcome state.name (length text) size) ≡ write_reply state outcome old.folder
+  pub line_is : lacks ≡ false → (outcome : Outcome) (size : ℕ) → size ≡ length (file_in options.format text) → says (line_by outcome state.name (info_written state size)) ≡ write_reply state outcome old.folder
   line_is free outcome size size_is =
-      ap (λ (n : ℕ). says (line_by outcome state.name (length text) n)) size_is
-      ∙ ap (λ (c : Bool). cond c (refuses no_backup_name) (says (line_by outcome state.name (length text) (length (file_of text))))) (sym free)
+      ap (λ (n : ℕ). says (line_by outcome state.name (info_written state n))) size_is
+      ∙ ap (λ (c : Bool). cond c (refuses no_backup_name) (says (line_by outcome state.name (info_written state (length (file_in options.format text)))))) (sym free)
 
   written : lacks ≡ false → (((is_write instruction.parsed && true) && not lacks) && true) ≡ true
   written free = λ i. ((is i && true) && not (free i)) && true
 
   module _ (size : ℕ) (at : ℕ) (after : Session) (reply : Answer) (new : Scene) (second : ChangesFolder mid new) (names_after : names_of after ≡ names) (wrote : Wrote (after_sync state true) all between after (Ok size) mid new)
-      (off : state.options.undofile ≡ false) (reply_to : reply ≡ says (written_line state.name (length text) size)) where
+      (off : state.options.undofile ≡ false) (reply_to : reply ≡ says (written_line state.name (info_written state size))) where
     pub answers_alone : Answers state syncs instruction before after (mark Done at) reply old new
     answers_alone =
         let free : lacks ≡ false = not_lacks after (Ok size) new second wrote size refl in

@@ -4,13 +4,12 @@ use Rattle.vs_faults.specs.Faults.{HasRisen}
 use Rattle.vs_host.specs.World.{Scene}
 use Rattle.vs_host.specs.declared.names.Names.{Names}
 use Rattle.vs_disk.specs.Runs.{FailsLast, Quiet}
-use Rattle.vs_text.specs.Text.{file_of}
 use Rattle.vs_backup.specs.Writing.{BecomesWritten}
 use Rattle.vs_ubind.specs.Storing.{StoresBy}
 use Rattle.vs_desk.specs.Counts.{NoneAbove}
 use Rattle.vs_excmd.specs.Request.{Instruction}
 use Rattle.vs_machine.specs.declared.command.Outcome.TheVariants.{NoUndo}
-use Rattle.vs_session.specs.Session.{SessionState, Ended, has_written, is_fault, puts_back}
+use Rattle.vs_session.specs.Session.{SessionState, Ended, has_written, is_fault, puts_back, written_bytes}
 
 -- Between two scenes the file of these names was written, and the calls after that are those of storing the undo file. No call failed
 -- until the file had these bytes in each image, and of the calls after that which take the backup away, none but the last one. Of those
@@ -37,7 +36,7 @@ pub record StopsWriting (failed : Bool) (old new : Scene) : Type 0 where
 -- a backup and did not, the one at which it stopped, and the one at which it could not put the file back; else none but the last one, and
 -- none at all unless that is answered.
 pub record FailsOnce (names : Names) (state : SessionState) (instruction : Instruction) (ended : Ended) (old new : Scene) : Type 0 where
-  pub writes : has_written state instruction ended ≡ true → WritesFirst names (file_of state.machine.text) (ended.mark.outcome ≡ NoUndo) old new
+  pub writes : has_written state instruction ended ≡ true → WritesFirst names (written_bytes state) (ended.mark.outcome ≡ NoUndo) old new
   pub refused : has_written state instruction ended ≡ false → puts_back state instruction ended ≡ true → StopsWriting (is_fault ended.mark.outcome) old new
   pub last : has_written state instruction ended ≡ false → puts_back state instruction ended ≡ false → FailsLast old new
   pub none : has_written state instruction ended ≡ false → puts_back state instruction ended ≡ false → is_fault ended.mark.outcome ≡ false → Quiet old new

@@ -1,5 +1,5 @@
 -- A session between two commands, and what opening it, one step and its end do to the folder.
-use Rattle.std.specs.Prelude.{◌≡◌, ◌⊎◌, ℕ, max, true, false, List, [], ◌∷◌, ◌++◌, IsSome, None, string_bytes}
+use Rattle.std.specs.Prelude.{◌≡◌, ◌⊎◌, ℕ, max, true, false, List, [], ◌∷◌, ◌++◌, Bool, IsSome, None, string_bytes}
 use Rattle.vs_host.specs.Disk.{Disk, content_in}
 use Rattle.vs_host.specs.Names.{names_of_file}
 use Rattle.vs_host.specs.World.{Scene}
@@ -17,13 +17,13 @@ use Rattle.vs_paged.specs.Fits as paged
 use Rattle.vs_session.specs.declared.session.Session.{Session}
 use Rattle.vs_session.specs.declared.session.Step.{Step}
 use Rattle.vs_session.specs.declared.session.Step.TheVariants as step
-use Rattle.vs_session.specs.Session.{SessionState, Ended, HasFound, accepts_quit, reply_of, state_after, syncs_after, is_fault, turn_of}
+use Rattle.vs_session.specs.Session.{SessionState, Ended, HasFound, accepts_quit, is_clean, reply_of, state_after, syncs_after, is_fault, turn_of}
 use Rattle.vs_session.specs.Failures.{FailsOnce}
 use Rattle.vs_session.specs.Wholeness.{StaysWhole}
 use Rattle.vs_session.specs.Standing.{FitsState}
 use Rattle.vs_session.specs.Summary.{acknowledged_in}
 use Rattle.vs_session.specs.Made.{ClearsMade}
-use Rattle.vs_session.specs.Opened.{Opened, text_in}
+use Rattle.vs_session.specs.Opened.{Opened, document_of_file}
 
 -- The session is in this state, and the folder has the swap files that these syncs, the newest first, made.
 pub record Fits (session : Session) (disk : Disk) (state : SessionState) (syncs : List Sync) : Type 0 where
@@ -31,6 +31,7 @@ pub record Fits (session : Session) (disk : Disk) (state : SessionState) (syncs 
   pub name : string_bytes session.name ≡ state.name
   pub cursor : session.cursor ≡ state.machine.cursor
   pub saved : session.saved ≡ state.saved
+  pub saved_format : session.saved_format ≡ state.saved_format
   pub steps : session.steps ≡ state.steps
   pub options : session.options ≡ state.options
   pub acknowledged : session.acknowledged ≡ acknowledged_in syncs
@@ -45,6 +46,10 @@ pub record HasSyncs (names : Names) (syncs : List Sync) (disk : Disk) : Type 0 w
   pub state : SessionState
   pub named : names_of session ≡ names
   pub fits : Fits session disk state syncs
+
+-- whether the document has no changes that are not in the edited file
+abbrev pub is_clean_session : Session → Bool
+is_clean_session session = is_clean session.saved session.saved_format session.history.current session.options.write.format
 
 -- the number of the newest sync
 abbrev pub generation_of : Session → ℕ
@@ -66,12 +71,12 @@ pub record IsSettled (names : Names) (disk : Disk) : Type 0 where
   pub swo : content_in disk names.swo ≡ None → IsAbsent names.swo disk
 
 -- While a file of this name is opened: all names but those of the pair are spared, and where no swap file was there, whatever a
--- stop leaves, there is none or the text of the file is recovered.
+-- stop leaves, there is none or the document of the file is recovered.
 pub record Opens (name : List ℕ) (old new : Disk) : Type 0 where
   pub spared : SameAt (is_foreign (names_of_file name)) old new
-  pub safe : (HasSwap (names_of_file name) old → ⊥) → RecoversOrNone (names_of_file name) (text_in (content_in old name) ∷ []) new
+  pub safe : (HasSwap (names_of_file name) old → ⊥) → RecoversOrNone (names_of_file name) (document_of_file (content_in old name) ∷ []) new
 
--- The session has this name, and the file had these numbers.
+-- The session has this name, and says this of its file.
 pub record HasOpened (file : Opened) (session : Session) : Type 0 where
   pub name : string_bytes session.name ≡ file.name
   pub found : session.found ≡ file.found

@@ -1,8 +1,9 @@
 -- A text in the pages of a pair, alone or with its undo tree: what a function asks that is lent it with the folder, and what it leaves.
 use Rattle.std.specs.Prelude.{◌≡◌, List, IsTrue, max}
-use Rattle.vs_faults.specs.Faults.{HasCause}
+use Rattle.vs_faults.specs.OneCause.{HasOneCause}
 use Rattle.vs_host.specs.Disk.{Disk}
 use Rattle.vs_host.specs.World.{Tells, Scene}
+use Rattle.vs_disk.specs.Faults.{earlier_faults}
 use Rattle.vs_tree.specs.declared.tree.LineTree.{LineTree}
 use Rattle.vs_pair.specs.Lent.{IsReady, KeepsFiles}
 use Rattle.vs_pair.specs.declared.pair.SwapPair.{SwapPair}
@@ -23,13 +24,14 @@ pub record IsLent (tells : Tells) (pair : SwapPair) (tree : LineTree) (disk : Di
   pub ready : IsTrue tells.folder → IsReady pair disk
   pub paged : IsTrue tells.folder → (text : Text) × IsPaged pair.pages tree text
 
--- The pages have the text that they had, and the folder was only looked at. Its faults have risen where a call failed.
+-- The pages have the text that they had, and the folder was only looked at. Its faults have risen where a call failed, the last
+-- one.
 pub record KeepsLent (tells : Tells) (Failed : Type 0) (pair_old pair_new : SwapPair) (tree_old tree_new : LineTree) (old new : Scene) : Type 0 where
   pub paged : IsTrue tells.folder → (text : Text) → IsPaged pair_old.pages tree_old text → IsPaged pair_new.pages tree_new text
   pub bounded : IsBounded tree_new
   pub lines : tree_new.present.lines ≡ tree_old.present.lines
   pub keeps : KeepsFiles tells pair_old pair_new old new
-  pub cause : HasCause old.folder_faults new.folder_faults Failed
+  pub cause : HasOneCause old.folder_faults new.folder_faults (earlier_faults tells new) Failed
 
 -- `IsLent` with an undo tree that fits the number of lines, and that is with the text in a state of the machine.
 pub record IsLentWithUndo (tells : Tells) (pair : SwapPair) (tree : LineTree) (undo : Parts) (disk : Disk) : Type 0 where
@@ -39,21 +41,22 @@ pub record IsLentWithUndo (tells : Tells) (pair : SwapPair) (tree : LineTree) (u
   pub stands : IsTrue tells.folder → (state : State) × Stands pair.pages tree undo state
 
 -- The numbers of the tree are within their bounds, the undo tree fits the number of lines, and the folder was only looked at. Its
--- faults have risen where a call failed.
+-- faults have risen where a call failed, the last one.
 pub record KeepsLentWithUndo (tells : Tells) (Failed : Type 0) (pair_old pair_new : SwapPair) (tree : LineTree) (undo : Parts) (old new : Scene) : Type 0 where
   pub bounded : IsBounded tree
   pub counts : FitsCount undo (max 1 tree.present.lines)
   pub keeps : KeepsFiles tells pair_old pair_new old new
-  pub cause : HasCause old.folder_faults new.folder_faults Failed
+  pub cause : HasOneCause old.folder_faults new.folder_faults (earlier_faults tells new) Failed
 
 -- ---- the text as a whole
 
--- The text fits the folder as it did, with as many lines, and the folder was only looked at. Its faults have risen where a call failed.
+-- The text fits the folder as it did, with as many lines, and the folder was only looked at. Its faults have risen where a call
+-- failed, the last one.
 pub record KeepsText (tells : Tells) (Failed : Type 0) (before after : PagedText) (old new : Scene) : Type 0 where
   pub fits : IsTrue tells.folder → (text : Text) (syncs : List Sync) → Fits before old.folder text syncs → Fits after new.folder text syncs
   pub lines : after.tree.present.lines ≡ before.tree.present.lines
   pub keeps : KeepsFiles tells before.pair after.pair old new
-  pub cause : HasCause old.folder_faults new.folder_faults Failed
+  pub cause : HasOneCause old.folder_faults new.folder_faults (earlier_faults tells new) Failed
 
 -- The undo tree fits the number of lines, and where the folder is told, the text fits it, and is with the undo tree in a state of the
 -- machine.
@@ -61,8 +64,9 @@ pub record FitsWithUndo (tells : Tells) (text : PagedText) (undo : Parts) (disk 
   pub counts : FitsCount undo (max 1 text.tree.present.lines)
   pub fits : IsTrue tells.folder → (state : State) × (syncs : List Sync) × FitsState text undo disk state syncs
 
--- The undo tree fits the number of lines, and the folder was only looked at. Its faults have risen where a call failed.
+-- The undo tree fits the number of lines, and the folder was only looked at. Its faults have risen where a call failed, the last
+-- one.
 pub record KeepsWithUndo (tells : Tells) (Failed : Type 0) (before after : PagedText) (undo : Parts) (old new : Scene) : Type 0 where
   pub counts : FitsCount undo (max 1 after.tree.present.lines)
   pub keeps : KeepsFiles tells before.pair after.pair old new
-  pub cause : HasCause old.folder_faults new.folder_faults Failed
+  pub cause : HasOneCause old.folder_faults new.folder_faults (earlier_faults tells new) Failed

@@ -2,6 +2,7 @@ pub mod Taken
 pub mod Session
 pub mod Opened
 pub mod Open
+pub mod Pieces
 pub mod Standing
 pub mod Summary
 pub mod Made

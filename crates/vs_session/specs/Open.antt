@@ -6,7 +6,7 @@ use Rattle.vs_faults.specs.Faults.{HasCause, IsQuiet}
 use Rattle.vs_host.specs.World.{Tells, Scene, ReadsFolder}
 use Rattle.vs_disk.specs.Runs.{NoneFails}
 use Rattle.vs_pair.specs.Acts.{Acts}
-use Rattle.vs_text.specs.Text.{lines_of}
+use Rattle.vs_text.specs.Documents.{document_of}
 use Rattle.vs_text.specs.Limits.{IsRefusal, IsWithinLimits}
 use Rattle.vs_text.specs.declared.TheConstants.{MAX_LINE_BYTES}
 use Rattle.vs_text.specs.declared.error.TextErr.{TextErr}
@@ -28,11 +28,11 @@ PassesLimit lines size = IsRefusal lines (text.LineTooLong size) ⊎ IsRefusal l
 -- The text of a file passes a limit, and this is the number that passed it. It is above the least of the limits.
 pub record IsTooLarge (tells : Tells) (size : ℕ) (file : Option (List ℕ)) : Type 0 where
   pub above : MAX_LINE_BYTES < size
-  pub passes : IsTrue tells.folder → IsSomeAnd file (λ bytes. PassesLimit (lines_of bytes) size)
+  pub passes : IsTrue tells.folder → IsSomeAnd file (λ bytes. PassesLimit ((document_of bytes).text) size)
 
 -- Where a file was read its text is within the limits, and where one was passed, this is the number that passed it.
 pub record KeepsToLimits {T : Type 0} (tells : Tells) (result : Result T OpenErr) (file : Option (List ℕ)) : Type 0 where
-  pub within : OnOk result (IsTrue tells.folder → IfSome file (λ bytes. IsWithinLimits (lines_of bytes)))
+  pub within : OnOk result (IsTrue tells.folder → IfSome file (λ bytes. IsWithinLimits ((document_of bytes).text)))
   pub limit : (size : ℕ) → IsErrOf result (opening.TextLimit size) → IsTooLarge tells size file
 
 -- the folder was only looked at

@@ -3,7 +3,9 @@ use Rattle.std.specs.Prelude.{ℕ, ◌+◌, length, is_some, is_none, Bool, true
 use Rattle.std.specs.Prelude.{not, min, if◌then◌else◌, List, Option, Some, None, Result, Ok, Err}
 use Rattle.vs_host.specs.Disk.{Disk, content_in}
 use Rattle.vs_host.specs.Names.{names_of_file}
-use Rattle.vs_text.specs.Text.{file_of}
+use Rattle.vs_text.specs.declared.format.Format.{Format}
+use Rattle.vs_text.specs.declared.format.Format.TheVariants.{Unix, Dos}
+use Rattle.vs_text.specs.Documents.{Document, file_in}
 use Rattle.vs_exparse.specs.Command.{Command}
 use Rattle.vs_exparse.specs.Command.Command.{Undo, Redo, Earlier, Later, Write, Preserve, Quit, Set, WriteUndo, ReadUndo}
 use Rattle.vs_exparse.specs.declared.command.ExErr.{ExErr}
@@ -18,10 +20,11 @@ use Rattle.vs_machine.specs.declared.command.Outcome.{Outcome}
 use Rattle.vs_machine.specs.declared.command.Outcome.TheVariants.{Done, NoMemory, Fault, NoUndo}
 use Rattle.vs_machine.specs.Machine as machine
 use Rattle.vs_machine.specs.Machine.{State, first_state, current_of, is_done, took_effect}
+use Rattle.vs_machine.specs.declared.info.FileInfo.{FileInfo}
 use Rattle.vs_machine.specs.Replies.{Answer, says, refuses, file_preserved, no_write, no_backup_name, undo_file_written, unstored_line, written_line}
 use Rattle.vs_undo.specs.History.{History, history_marked}
 use Rattle.vs_undo.specs.declared.keep.Keep.{Keep}
-use Rattle.vs_safety.specs.Texts.{Text, Sync}
+use Rattle.vs_safety.specs.Texts.{Sync}
 use Rattle.vs_safety.specs.Writes as writes
 use Rattle.vs_safety.specs.Undo.{UndoWrite}
 use Rattle.vs_safety.specs.FileWork.{BothFiles, EditedFile, FileWork, UndoFile}
@@ -29,23 +32,50 @@ use Rattle.vs_safety.specs.Turns.{Turn, with_sync}
 use Rattle.vs_session.specs.declared.taking.TakeErr.{TakeErr}
 use Rattle.vs_session.specs.Taken.{IsTaken, outcome_by, taken_reply}
 
--- The name of the file, the state of the machine, the number of its state that was opened or last written, where there is one, how
--- many steps since the last acknowledged sync made a change or moved to another state, counted up to 200, and the options.
+-- The name of the file, the state of the machine, the number of its state that was opened or last written, where there is one, the
+-- format that was, how many steps since the last acknowledged sync made a change or moved to another state, counted up to 200, and the
+-- options.
 pub record SessionState : Type 0 where
   pub name : List ℕ
   pub machine : State
   pub saved : Option ℕ
+  pub saved_format : Format
   pub steps : ℕ
   pub options : Options
 
--- the state in which the text of a file is opened
-abbrev pub opened_state : List ℕ → Text → SessionState
-opened_state name text = record { name = name; machine = first_state text; saved = Some (current_of (first_state text)); steps = 0; options = first_options }
+-- the state in which the document of a file is opened
+abbrev pub opened_state : List ℕ → Document → SessionState
+opened_state name document = record {
+  name = name;
+  machine = first_state document.text;
+  saved = Some (current_of (first_state document.text));
+  saved_format = document.format;
+  steps = 0;
+  options = first_options document.format;
+}
+
+-- the document as it is
+abbrev pub document_in : SessionState → Document
+document_in state = record { text = state.machine.text; format = state.options.write.format }
 
 -- whether a state is the one that was opened or last written
 abbrev pub is_saved : Option ℕ → ℕ → Bool
 is_saved None number = false
 is_saved (Some saved) number = number == saved
+
+-- whether two formats are the same
+abbrev pub is_same_format : Format → Format → Bool
+is_same_format Unix Unix = true
+is_same_format Dos Dos = true
+is_same_format one other = false
+
+-- whether a state and a format are those that were opened or last written
+abbrev pub is_clean : Option ℕ → Format → ℕ → Format → Bool
+is_clean saved saved_format number format = is_saved saved number && is_same_format saved_format format
+
+-- whether the document has no changes that are not in the edited file
+abbrev pub is_clean_in : SessionState → Bool
+is_clean_in state = is_clean state.saved state.saved_format (current_of state.machine) state.options.write.format
 
 -- How a command ended: its mark, whether the sync that it began is acknowledged, the folder when it began, and what `rundo` found
 -- there. No other command looks at that.
@@ -88,13 +118,9 @@ begins_after steps (Ok command) = nat_le steps_between_syncs steps && (is_text_c
 abbrev pub begins_sync : SessionState → Instruction → Bool
 begins_sync state instruction = begins_after state.steps instruction.parsed
 
--- whether the text has changes that are not in the edited file
-abbrev pub is_dirty : SessionState → Bool
-is_dirty state = not (is_saved state.saved (current_of state.machine))
-
 -- the sync that a command begins, which ended so
 abbrev pub sync_in : SessionState → Bool → Sync
-sync_in state acknowledged = record { text = state.machine.text; dirty = is_dirty state; acknowledged = acknowledged }
+sync_in state acknowledged = record { document = document_in state; dirty = not (is_clean_in state); acknowledged = acknowledged }
 
 -- the sync that a command begins, where it begins one
 abbrev pub sync_of : SessionState → Instruction → Ended → Option Sync
@@ -140,6 +166,10 @@ begins_write state instruction ended = (is_write instruction.parsed && ended.ack
 -- whether a command puts the file back where it does not succeed in writing it: where it began to write it with a backup
 abbrev pub puts_back : SessionState → Instruction → Ended → Bool
 puts_back state instruction ended = begins_write state instruction ended && is_backed state.options.write state.name ended.found
+
+-- the bytes that a write gives the file
+abbrev pub written_bytes : SessionState → List ℕ
+written_bytes state = file_in state.options.write.format state.machine.text
 
 -- the write of the file that `w` begins
 abbrev pub write_in : SessionState → Disk → writes.Write
@@ -216,16 +246,20 @@ own_reply (Ok (Quit bang)) = Some (refuses no_write)
 own_reply (Ok (Set setting)) = Some (says (full_text setting))
 own_reply parsed = None
 
--- how many lines and bytes were written, and whether the undo file was not stored
-abbrev pub line_by : Outcome → List ℕ → ℕ → ℕ → List ℕ
-line_by NoUndo name lines bytes = unstored_line name lines bytes
-line_by outcome name lines bytes = written_line name lines bytes
+-- what was written, and whether the undo file was not stored
+abbrev pub line_by : Outcome → List ℕ → FileInfo → List ℕ
+line_by NoUndo name info = unstored_line name info
+line_by outcome name info = written_line name info
+
+-- what is said of the file after a write of so many bytes
+abbrev pub info_written : SessionState → ℕ → FileInfo
+info_written state size = record { format = state.options.write.format; lines = length state.machine.text; bytes = size }
 
 -- the reply to a write that ended so: what was written, or that no backup name is free
 abbrev pub write_reply : SessionState → Outcome → Disk → Answer
 write_reply state outcome found =
     if lacks_name state.options.write state.name found then refuses no_backup_name
-    else says (line_by outcome state.name (length state.machine.text) (length (file_of state.machine.text)))
+    else says (line_by outcome state.name (info_written state (length (written_bytes state))))
 
 -- the session's reply to a command that had its effect, found the folder so, and there this undo file
 abbrev pub session_reply : SessionState → Outcome → Disk → Result History TakeErr → Result Command ExErr → Option Answer
@@ -246,14 +280,14 @@ reply_of state instruction ended =
     answered ended.mark.outcome (session_reply state ended.mark.outcome ended.found ended.read instruction.parsed)
     (machine.reply_of state.machine instruction ended.mark)
 
--- whether `q` or `q!` is accepted: `q!` always, and `q` where the current state is the one that was opened or last written
+-- whether `q` or `q!` is accepted: `q!` always, and `q` where the current state and the format are those that were opened or last written
 abbrev pub quits : Result Command ExErr → Bool → Bool
-quits (Ok (Quit bang)) is_saved = bang || is_saved
-quits parsed is_saved = false
+quits (Ok (Quit bang)) clean = bang || clean
+quits parsed clean = false
 
 -- whether a command is a `q` or `q!` that is accepted
 abbrev pub accepts_quit : SessionState → Instruction → Bool
-accepts_quit state instruction = quits instruction.parsed (is_saved state.saved (current_of state.machine))
+accepts_quit state instruction = quits instruction.parsed (is_clean_in state)
 
 -- ---- the state after a command
 
@@ -294,15 +328,17 @@ carried state instruction mark =
       name = state.name;
       machine = after;
       saved = saved_left state instruction mark;
+      saved_format = state.saved_format;
       steps = counted state.steps (current_of after == current_of state.machine);
       options = options_after mark.outcome state.options instruction.parsed;
     }
 
--- the state after a write: the current state of the history has its mark, and is the one that was last written
+-- the state after a write: the current state of the history has its mark, and it and the format are those that were last written
 abbrev pub written_state : SessionState → SessionState
 written_state state = record state {
   machine = record (state.machine) { history = history_marked state.machine.history };
   saved = Some (current_of state.machine);
+  saved_format = state.options.write.format;
 }
 
 -- the state after a command that ended so

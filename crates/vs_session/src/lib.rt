@@ -7,6 +7,7 @@ mod ending;
 mod looking;
 mod open;
 mod opening;
+mod pieces;
 mod reading;
 mod replacing;
 mod session;

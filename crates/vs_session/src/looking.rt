@@ -22,17 +22,19 @@ pub(crate) fn size_of_file<F: Folder>(host: &mut F, name: &str) -> Result<u64, F
     host.len(name)
 }
 
-/// Fills a piece with the bytes of a file from a place on.
+/// Fills the front of a buffer with so many bytes of a file, from a place on.
 pub(crate) fn read_bytes<F: Folder>(
     host: &mut F,
     name: &str,
     at: u64,
-    piece: &mut [u8],
+    count: usize,
+    buffer: &mut [u8],
 ) -> Result<(), Failed>
-    requires { IsTrue F.tells.folder → IsSomeAnd (content_of (F.scene host.old) name.now) (λ bytes. at + length piece.old ≤ length bytes) }
+    requires room { count ≤ length buffer.old }
+    requires there { IsTrue F.tells.folder → IsSomeAnd (content_of (F.scene host.old) name.now) (λ bytes. at + count ≤ length bytes) }
     ensures value { OnOk result (IsTrue F.tells.folder
-        → IfSome (content_of (F.scene host.old) name.now) (λ bytes. piece.new ≡ take (length piece.old) (drop at bytes))) }
+        → IfSome (content_of (F.scene host.old) name.now) (λ bytes. take count buffer.new ≡ take count (drop at bytes))) }
     ensures look { IsLook F.tells result (IsErr result) (F.scene host.old) (F.scene host.new) }
 {
-    host.read_at(name, at, piece)
+    host.read_at(name, at, &mut buffer[..count])
 }

@@ -1,5 +1,5 @@
 // The opening of a session.
-ghost use Rattle.std.specs.Prelude.{◌≡◌, ◌⊎◌, ◌∷◌, [], ℕ, true, false, IfErr, IfOk, IfSome, IsErr, IsErrOf, IsTrue, OnOk, string_bytes};
+ghost use Rattle.std.specs.Prelude.{◌≡◌, ◌⊎◌, ◌∷◌, [], ℕ, List, Option, true, false, IfErr, IfOk, IfSome, IsErr, IsErrOf, IsTrue, OnOk, string_bytes};
 ghost use Rattle.vs_faults.specs.Faults.{HasCause, IsQuiet};
 ghost use Rattle.vs_host.specs.Names.{is_allowed, names_of_file};
 ghost use Rattle.vs_host.specs.World.{content_of};
@@ -7,22 +7,23 @@ ghost use Rattle.vs_disk.specs.Runs.{NoneFails};
 ghost use Rattle.vs_pair.specs.Acts.{Acts};
 ghost use Rattle.vs_pair.specs.Steps.{BothMoved, IsFresh};
 ghost use Rattle.vs_text.specs.Limits.{IsWithinLimits};
-ghost use Rattle.vs_text.specs.Text.{lines_of};
+ghost use Rattle.vs_text.specs.Documents.{document_of};
 ghost use Rattle.vs_machine.specs.Replies.{opening_of};
 ghost use Rattle.vs_safety.specs.Turns as turns;
 ghost use Rattle.vs_session.specs.Fits.{Fits, FitsUndo, HasOpened, HasSwap, IsSettled, Opens, generation_of, names_of};
 ghost use Rattle.vs_session.specs.Made.{LeavesNoneMade};
 ghost use Rattle.vs_session.specs.Open.{IsLook, IsReading, IsTooLarge, KeepsToLimits, OnlyLooks};
-ghost use Rattle.vs_session.specs.Opened.{opened, sizes_of, text_in};
+ghost use Rattle.vs_session.specs.Opened.{document_of_file, format_in, opened, sizes_of, text_in};
 
 use crate::looking::has_file;
 use crate::reading::read_file;
 use crate::{OpenErr, Session};
 use std::alloc::{AllocError, Global};
 use vs_host::{Failed, Folder, Host, NameErr, Names};
-use vs_machine::{Reply, UndoTree};
+use vs_machine::{FileInfo, Reply, UndoTree};
 use vs_options::first_options;
 use vs_paged::OpeningText;
+use vs_text::Format;
 
 // The names that go with a file whose name is allowed.
 fn names_for(alloc: Global, name: &str) -> Result<Names, AllocError>
@@ -48,12 +49,12 @@ fn has_swap<F: Folder>(host: &mut F, names: &Names) -> Result<bool, Failed>
     has_file(host, names.swo.as_str())
 }
 
-// Reads a file that has no swap file, with the numbers of its lines and bytes where it is there.
+// Reads a file that has no swap file, and says what it is where it is there.
 fn read_text<H: Host>(
     alloc: Global,
     host: &mut H,
     name: &str,
-) -> Result<(OpeningText, Option<(u64, u64)>), OpenErr>
+) -> Result<(OpeningText, Option<FileInfo>), OpenErr>
     requires { IsTrue (is_allowed name.now) }
     ensures name { IfOk result (λ read. read.0.name ≡ name.now) }
     ensures text { IfOk result (λ read. IsTrue (H.tells).folder → read.0.text ≡ text_in (content_of (H.scene host.old) name.now)) }
@@ -72,6 +73,16 @@ fn read_text<H: Host>(
     }
     let found = read_file(alloc, host, name, &mut text)?;
     Ok((text, found))
+}
+
+// The format in which a file is opened: unix where it is not there.
+fn found_format(found: Option<FileInfo>) -> Format
+    ensures { (file : Option (List ℕ)) → found ≡ sizes_of file → result ≡ format_in file }
+{
+    match found {
+        Some(info) => info.format,
+        None => Format::Unix,
+    }
 }
 
 impl Session {
@@ -95,8 +106,8 @@ impl Session {
     pub fn open<H: Host>(alloc: Global, host: &mut H, name: &str) -> Result<Session, OpenErr>
         requires name { IsTrue (is_allowed name.now) }
         requires settled { IsTrue (H.tells).folder → IsSettled (names_of_file name.now) (H.scene host.old).folder }
-        ensures fits { IfOk result (λ session. IsTrue (H.tells).folder → let text = text_in (content_of (H.scene host.old) name.now) in
-            Fits session (H.scene host.new).folder (opened name.now (content_of (H.scene host.old) name.now)).state (turns.opened text)) }
+        ensures fits { IfOk result (λ session. IsTrue (H.tells).folder → let document = document_of_file (content_of (H.scene host.old) name.now) in
+            Fits session (H.scene host.new).folder (opened name.now (content_of (H.scene host.old) name.now)).state (turns.opened document)) }
         ensures file { IfOk result (λ session. IsTrue (H.tells).folder → HasOpened (opened name.now (content_of (H.scene host.old) name.now)) session) }
         ensures name { IfOk result (λ session. (string_bytes session.name ≡ name.now) × (names_of session ≡ names_of_file name.now)) }
         ensures generation { IfOk result (λ session. generation_of session ≡ 2) }
@@ -110,7 +121,7 @@ impl Session {
             → OnlyLooks H.tells (H.scene host.old) (H.scene host.new) }
         ensures limit { (size : ℕ) → IsErrOf result (OpenErr.TextLimit size) → IsTooLarge H.tells size (content_of (H.scene host.old) name.now) }
         ensures over { IsTrue (H.tells).folder →
-            IfSome (content_of (H.scene host.old) name.now) (λ bytes. ¬ (IsWithinLimits (lines_of bytes)) → IsErr result) }
+            IfSome (content_of (H.scene host.old) name.now) (λ bytes. ¬ (IsWithinLimits ((document_of bytes).text)) → IsErr result) }
         ensures acts { Acts H.tells (Opens name.now) (H.scene host.old) (H.scene host.new) }
         ensures looks { IsErr result → ¬ (IsErrOf result OpenErr.Failed) → OnlyLooks H.tells (H.scene host.old) (H.scene host.new) }
         ensures none { OnOk result (NoneFails H.tells (H.scene host.old) (H.scene host.new)) }
@@ -120,7 +131,8 @@ impl Session {
         let kept = String::from_str(alloc, name)?;
         let history = UndoTree::new(alloc)?;
         let (opening, found) = read_text(alloc, host, name)?;
-        let text = opening.start(host)?;
+        let format = found_format(found);
+        let text = opening.start(host, format)?;
         let cursor = text.len().min(1);
         Ok(Session {
             name: kept,
@@ -129,9 +141,10 @@ impl Session {
             cursor,
             history,
             saved: Some(0),
+            saved_format: format,
             steps: 0,
             acknowledged: 1,
-            options: first_options(),
+            options: first_options(format),
         })
     }
 
@@ -140,7 +153,7 @@ impl Session {
         ensures { result ≡ opening_of (string_bytes self.now.name) self.now.found }
     {
         match self.found {
-            Some((lines, bytes)) => Reply::opened(&self.name, lines, bytes),
+            Some(info) => Reply::opened(&self.name, info),
             None => Reply::opened_new(&self.name),
         }
     }

@@ -5,9 +5,10 @@ ghost use Rattle.vs_paged.specs.Fits.{names_of};
 
 use crate::ending::End;
 use vs_host::{Failed, Host};
-use vs_machine::{Mark, Reply, UndoTree};
+use vs_machine::{FileInfo, Mark, Reply, UndoTree};
 use vs_options::Options;
 use vs_paged::PagedText;
+use vs_text::Format;
 
 /// After so many steps that led to another state, a change or a move syncs the text first.
 pub(crate) const STEPS_BETWEEN_SYNCS: u64 = 200;
@@ -15,13 +16,15 @@ pub(crate) const STEPS_BETWEEN_SYNCS: u64 = 200;
 /// A file that was opened, with its swap files: the text, the line of the cursor, and the undo tree.
 pub struct Session {
     pub(crate) name: String,
-    // The numbers of lines and bytes of the file, where it was there.
-    pub(crate) found: Option<(u64, u64)>,
+    // What is said of the file, where it was there.
+    pub(crate) found: Option<FileInfo>,
     pub(crate) text: PagedText,
     pub(crate) cursor: u64,
     pub(crate) history: UndoTree,
     // The number of the state that was opened or last written, where there is one.
     pub(crate) saved: Option<u64>,
+    // The format that was opened or last written.
+    pub(crate) saved_format: Format,
     // The steps since the last acknowledged sync that led to another state, counted up to 200.
     pub(crate) steps: u64,
     // The syncs that were acknowledged, with that of the opening.
@@ -44,6 +47,7 @@ impl Drop for Session {
             cursor: _,
             history: _,
             saved: _,
+            saved_format: _,
             steps: _,
             acknowledged: _,
             options: _,
@@ -85,6 +89,7 @@ impl Session {
                     cursor: _,
                     history: _,
                     saved: _,
+                    saved_format: _,
                     steps: _,
                     acknowledged: _,
                     options: _,

@@ -11,7 +11,7 @@ ghost use Rattle.vs_machine.specs.declared.command.Mark.{Mark};
 ghost use Rattle.vs_safety.specs.Texts.{Sync};
 ghost use Rattle.vs_paged.specs.Fits.{Syncing};
 ghost use Rattle.vs_session.specs.Calls.{AnswersRequest, CarriesRequest, FitsFolder, GoesOnReading, GoesOnSyncing, IsUsable};
-ghost use Rattle.vs_session.specs.Fits.{Fits, FitsUndo, IsFault, IsMarkedAt, IsTimed, SameFile, StepsIn, generation_of, names_of};
+ghost use Rattle.vs_session.specs.Fits.{Fits, FitsUndo, IsFault, IsMarkedAt, IsTimed, SameFile, StepsIn, generation_of, is_clean_session, names_of};
 ghost use Rattle.vs_session.specs.Session.{SessionState, after_sync, answered, begins_after, carried, counted, is_fault, is_move, is_rundo, is_saved, is_write, is_wundo, options_set, own_reply, quits, sync_in, uses_files};
 ghost use Rattle.vs_session.specs.Work.{WorksIn, WorksRequest};
 
@@ -105,12 +105,19 @@ impl Session {
         }
     }
 
+    // Whether the current state and the format are those that were opened or last written.
+    fn is_clean(&self) -> bool
+        ensures { result ≡ is_clean_session self.now }
+    {
+        self.is_saved() && self.saved_format == self.options.write.format
+    }
+
     // Whether the command is a `q` or `q!` that is accepted.
     fn accepts_quit(&self, request: &Request) -> bool
-        ensures { result ≡ quits (result_of request.now.parsed) (is_saved self.now.saved self.now.history.current) }
+        ensures { result ≡ quits (result_of request.now.parsed) (is_clean_session self.now) }
     {
         match request.parsed {
-            Ok(Command::Quit { bang }) => bang || self.is_saved(),
+            Ok(Command::Quit { bang }) => bang || self.is_clean(),
             _ => false,
         }
     }
@@ -133,7 +140,7 @@ impl Session {
     pub(crate) fn sync<F: Folder>(&mut self, host: &mut F) -> Result<(), Failed>
         requires room { generation_of self.old < 2 ^ 63 }
         requires fits { FitsFolder F.tells self.old (F.scene host.old).folder }
-        ensures acts { Acts F.tells (Syncing self.old.text) (F.scene host.old) (F.scene host.new) }
+        ensures acts { Acts F.tells (Syncing self.old.text self.old.options.write.format) (F.scene host.old) (F.scene host.new) }
         ensures ok { OnOk result (IsTrue F.tells.folder → (state : SessionState) (syncs : List Sync) → Fits self.old (F.scene host.old).folder state syncs
             → Fits self.new (F.scene host.new).folder (after_sync state true) (sync_in state true ∷ syncs)) }
         ensures err { OnErr result (IsTrue F.tells.folder → (state : SessionState) (syncs : List Sync) → Fits self.old (F.scene host.old).folder state syncs
@@ -148,15 +155,14 @@ impl Session {
         ensures none { OnOk result (NoneFails F.tells (F.scene host.old) (F.scene host.new)) }
         ensures cause { HasCause (F.scene host.old).folder_faults (F.scene host.new).folder_faults (IsErr result) }
     {
-        let is_dirty = !self.is_saved();
-        self.text.sync(host, is_dirty)?;
+        let is_dirty = !self.is_clean();
+        self.text.sync(host, is_dirty, self.options.write.format)?;
         self.steps = 0;
         self.acknowledged += 1;
         Ok(())
     }
 
     // Has the machine carry a command out that the session does not answer itself.
-    #[tactic(auto, using(vs_backup::proofs::Stops::stops_still))]
     fn run_machine<F: Folder>(
         &mut self,
         alloc: Global,
@@ -244,7 +250,7 @@ impl Session {
         at: u64,
     ) -> Step
         requires form { IsFormed request.now }
-        requires goes_on { quits (result_of request.now.parsed) (is_saved self.old.saved self.old.history.current) ≡ false }
+        requires goes_on { quits (result_of request.now.parsed) (is_clean_session self.old) ≡ false }
         requires plain { uses_files (result_of request.now.parsed) ≡ false }
         requires begins { begins_after self.old.steps (result_of request.now.parsed) ≡ true }
         requires room { generation_of self.old < 2 ^ 63 }
@@ -275,7 +281,7 @@ impl Session {
     // Answers a command that is no accepted quit, with the sync that it begins before all else.
     fn answer<F: Folder>(&mut self, alloc: Global, host: &mut F, request: &Request, at: u64) -> Step
         requires form { IsFormed request.now }
-        requires goes_on { quits (result_of request.now.parsed) (is_saved self.old.saved self.old.history.current) ≡ false }
+        requires goes_on { quits (result_of request.now.parsed) (is_clean_session self.old) ≡ false }
         requires room { generation_of self.old < 2 ^ 63 }
         requires usable { IsUsable F.tells self.old (F.scene host.old).folder }
         ensures step { AnswersRequest F.tells request.now result self.old self.new (F.scene host.old) (F.scene host.new) }
@@ -315,7 +321,7 @@ impl Session {
         ensures undo { FitsUndo self.new }
         ensures file { SameFile self.old self.new }
         ensures room { generation_of self.new ≤ generation_of self.old + 1 }
-        ensures quit { result ≡ Step.Quit → quits (result_of request.now.parsed) (is_saved self.old.saved self.old.history.current) ≡ true }
+        ensures quit { result ≡ Step.Quit → quits (result_of request.now.parsed) (is_clean_session self.old) ≡ true }
         ensures works { WorksIn H.tells request.now result self.old self.new (H.scene host.old).folder }
         ensures clock { IsTrue (H.tells).clock → IsTimed result (H.scene host.old) (H.scene host.new) }
         ensures frame { StepsIn (H.scene host.old) (H.scene host.new) }

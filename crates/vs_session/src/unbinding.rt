@@ -1,5 +1,6 @@
 // The bytes of a session's undo file.
 ghost use Rattle.std.specs.Prelude.{◌≡◌, IfOk, IsErrOf, IsTrue, List};
+ghost use Rattle.vs_disk.specs.Faults.{NeverFalls};
 ghost use Rattle.vs_ufile.specs.Decode.{IsWellFormed};
 ghost use Rattle.vs_ufile.specs.Values.{history_of};
 ghost use Rattle.vs_ubind.specs.Bound.{IsDataOf, history_next};
@@ -80,7 +81,6 @@ fn unbind_text<F: Folder>(
 impl Session {
     /// The bytes of the undo file of the text with its history, as it is or as it will be after the next write. The folder is only
     /// looked at.
-    #[tactic(auto, using(vs_backup::proofs::Stops::stops_still))]
     pub(crate) fn undo_bytes<F: Folder>(
         &mut self,
         alloc: Global,
@@ -93,7 +93,7 @@ impl Session {
             → IsUndoOf state.machine.text (history_next save_next state.machine.history) bytes.items) }
         ensures fits { KeepsState F.tells self.old self.new (F.scene host.old).folder (F.scene host.new).folder }
         ensures kept { GoesOnReading F.tells (IsErrOf result StoreErr.Failed) self.old self.new (F.scene host.old) (F.scene host.new) }
-        ensures still { IsTrue F.tells.folder → F.scene host.new ≡ F.scene host.old }
+        ensures counts { IsTrue F.tells.folder → NeverFalls (F.scene host.old) (F.scene host.new) }
         ensures works { SameWork F.tells self.old.text.pair.pages self.new.text.pair.pages }
     {
         let contents = unbind_text(alloc, &mut self.text, host, &self.history, save_next)?;

@@ -11,7 +11,7 @@ ghost use Rattle.vs_session.specs.Calls.{GoesOn, GoesOnSyncing, IsUsable, Stores
 ghost use Rattle.vs_session.specs.Fits.{Answers, Fits, IsFault, IsMarkedAt, IsStep, generation_of, names_of};
 ghost use Rattle.vs_session.specs.Session.{SessionState, is_fault, is_write, line_by};
 ghost use Rattle.vs_session.specs.Work.{SameWork};
-ghost use Rattle.vs_session.specs.Writes.{HasSynced, Wrote, outcome_to, reply_to};
+ghost use Rattle.vs_session.specs.Writes.{HasSynced, Wrote, info_of, outcome_to, reply_to};
 
 use crate::{Session, Step};
 use std::alloc::Global;
@@ -19,7 +19,7 @@ use vs_backup::WriteErr;
 use vs_desk::write_text;
 use vs_edit::StoreErr;
 use vs_host::Folder;
-use vs_machine::{Mark, Outcome, Reply};
+use vs_machine::{FileInfo, Mark, Outcome, Reply};
 
 // How a write is answered that was refused.
 fn refused(why: WriteErr) -> (Outcome, Reply)
@@ -46,6 +46,7 @@ impl Session {
             Ok(bytes) => {
                 self.history.mark_write();
                 self.saved = Some(self.history.current());
+                self.saved_format = self.options.write.format;
                 Ok(bytes)
             }
             Err(why) => Err(why),
@@ -68,18 +69,29 @@ impl Session {
         }
     }
 
+    // What is said of the file after a write of so many bytes.
+    fn info(&self, bytes: u64) -> FileInfo
+        ensures { result ≡ info_of self.now bytes }
+    {
+        FileInfo {
+            format: self.options.write.format,
+            lines: self.text.len(),
+            bytes,
+        }
+    }
+
     // The reply to a write of so many bytes.
     fn written(&self, bytes: u64) -> Reply
-        ensures { result ≡ says (line_by Outcome.Done (string_bytes self.now.name) self.now.text.tree.present.lines bytes) }
+        ensures { result ≡ says (line_by Outcome.Done (string_bytes self.now.name) (info_of self.now bytes)) }
     {
-        Reply::written(&self.name, self.text.len(), bytes)
+        Reply::written(&self.name, self.info(bytes))
     }
 
     // The same where the undo file was not stored.
     fn unstored(&self, bytes: u64) -> Reply
-        ensures { result ≡ says (line_by Outcome.NoUndo (string_bytes self.now.name) self.now.text.tree.present.lines bytes) }
+        ensures { result ≡ says (line_by Outcome.NoUndo (string_bytes self.now.name) (info_of self.now bytes)) }
     {
-        Reply::unstored(&self.name, self.text.len(), bytes)
+        Reply::unstored(&self.name, self.info(bytes))
     }
 
     // Stores these bytes as the undo file of the text, after a write of so many bytes.
@@ -87,7 +99,7 @@ impl Session {
         ensures ended { (result.0 ≡ Outcome.Done) ⊎ (result.0 ≡ Outcome.NoUndo) }
         ensures stored { result.0 ≡ Outcome.Done → IsTrue F.tells.folder → (text : Text) (history : History) → IsUndoOf text history undo.now
             → HasUndo (names_of self.now) text history (F.scene host.new).folder }
-        ensures reply { result.1 ≡ says (line_by result.0 (string_bytes self.now.name) self.now.text.tree.present.lines bytes) }
+        ensures reply { result.1 ≡ says (line_by result.0 (string_bytes self.now.name) (info_of self.now bytes)) }
         ensures stores { StoresBytes F.tells (is_fault result.0 ≡ true) self.now undo.now (F.scene host.old) (F.scene host.new) }
     {
         match self.store_bytes(host, undo) {

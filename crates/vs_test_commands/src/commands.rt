@@ -7,7 +7,7 @@ use vs_edit::failing::FailingStore;
 use vs_edit::{LineStore, StoreErr, VecStore, text_of};
 use vs_exparse::ExErr;
 use vs_pages::MemPages;
-use vs_text::{read_text, write_text};
+use vs_text::{Format, read_text, write_text};
 use vs_tree::{LineTree, TreeStore};
 
 /// A file, the cursor, a command line with its block, what comes of it, and the file afterwards.
@@ -38,14 +38,14 @@ fn check_row<S: LineStore>(
     requires { S.valid store.old }
     ensures { S.valid store.new }
 {
-    let Ok(text) = read_text(alloc, row.file) else {
+    let Ok((text, _)) = read_text(alloc, row.file) else {
         return Err(StoreErr::NoMemory);
     };
     put(rt, alloc, store, text.lines())?;
     let outcome = run(rt, alloc, store, row.line, row.block, row.cursor)?;
     assert!(rt; outcome == row.outcome, "{:?} of {:?}", row.line, row.file);
     let text = text_of(alloc, store)?;
-    let file = write_text(alloc, &text)?;
+    let file = write_text(alloc, &text, Format::Unix)?;
     assert!(rt;
         file.as_slice() == row.after,
         "{:?} of {:?}",
@@ -219,7 +219,7 @@ fn a_read_that_fails_is_told(rt: HostRuntime) -> Result<(), Fail> {
     let lines: [&[u8]; 4] = [b"1m$", b"%t0", b"%j", b"%s/\\Va/b/"];
     for line in lines {
         let mut inner = VecStore::new(alloc)?;
-        let text = read_text(alloc, SIX)?;
+        let (text, _) = read_text(alloc, SIX)?;
         put(&rt, alloc, &mut inner, text.lines())?;
         let mut store = FailingStore::new(inner, 1);
         let answer = run(&rt, alloc, &mut store, line, b"", 1);

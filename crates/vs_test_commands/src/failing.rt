@@ -13,7 +13,7 @@ use vs_edit::failing::FailingStore;
 use vs_edit::{LineStore, StoreErr, VecStore, text_of};
 use vs_exparse::{Address, Base, Command, Range};
 use vs_machine::{Block, Reply, Request};
-use vs_text::{Line, write_text};
+use vs_text::{Format, Line, write_text};
 
 fn start(alloc: Global) -> Result<Editor<FailingStore<VecStore>>, AllocError>
     ensures { IfOk result (λ editor. IsReady ⟦<FailingStore<VecStore> as LineStore>⟧ editor.tree editor.text) }
@@ -95,7 +95,7 @@ fn fails_once(rt: &impl Abort, alloc: Global, call: u64) -> Result<bool, Fail> {
     assert!(rt; editor.tree.current() == 1);
     assert!(rt; editor.tree.leaves(alloc)?.as_slice() == leaves.as_slice());
     let text = text_of(alloc, &mut editor.text)?;
-    assert!(rt; write_text(alloc, &text)?.as_slice() == b"a\n".as_slice());
+    assert!(rt; write_text(alloc, &text, Format::Unix)?.as_slice() == b"a\n".as_slice());
     let reply = goes_to(alloc, &mut editor, 6)?;
     assert!(rt; reply.bytes() == b"at 6, 6 lines\n".as_slice());
     Ok(true)

@@ -94,7 +94,7 @@ fn saved_after_steps(
     requires { 1 ≤ levels }
 {
     let text = read_text(alloc, file);
-    let text = text.ok().ok_or("the file is within its limits")?;
+    let (text, _) = text.ok().ok_or("the file is within its limits")?;
     let mut store = VecStore::new(alloc)?;
     put(rt, alloc, &mut store, text.lines())?;
     let mut editor = open(alloc, store)?;

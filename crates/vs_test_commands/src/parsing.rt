@@ -369,6 +369,8 @@ fn settings(rt: HostRuntime) -> Result<(), Fail> {
         b"set backupcopy=yes" => command!(Set setting: Setting::CopyYes),
         b"set bkc=no" => command!(Set setting: Setting::CopyNo),
         b"set bkc=auto" => command!(Set setting: Setting::CopyAuto),
+        b"set fileformat=dos" => command!(Set setting: Setting::Dos),
+        b"set ff=unix" => command!(Set setting: Setting::Unix),
     }
     refused! { rt;
         b"set" => E471,
@@ -380,6 +382,7 @@ fn settings(rt: HostRuntime) -> Result<(), Fail> {
         b"set bkc" => E474,
         b"set bkc=" => E474,
         b"set bkc=never" => E474,
+        b"set ff=mac" => E474,
     }
     Ok(())
 }

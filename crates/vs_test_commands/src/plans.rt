@@ -22,7 +22,8 @@ pub(crate) fn block_of(alloc: Global, command: &Command, bytes: &[u8]) -> Result
     if !command.wants_block() {
         return Ok(Block::Absent);
     }
-    Ok(Block::Lines(read_text(alloc, bytes)?.into_lines()))
+    let (text, _) = read_text(alloc, bytes)?;
+    Ok(Block::Lines(text.into_lines()))
 }
 
 /// Plans a command, and carries the plan out. The store may be used after every answer.

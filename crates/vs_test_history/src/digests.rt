@@ -47,7 +47,7 @@ const DIGESTS: [(&[u8], [u8; 32]); 5] = [
 pub(crate) fn store_of(alloc: Global, bytes: &[u8]) -> Result<VecStore, Fail>
     ensures { IfOk result AreSound }
 {
-    let text = read_text(alloc, bytes).ok().ok_or("it is a text")?;
+    let (text, _) = read_text(alloc, bytes).ok().ok_or("it is a text")?;
     let mut store = VecStore::new(alloc)?;
     if !allows_splice(&store, 0, 0, text.lines()) {
         return Err(Fail::new("there is no room for the text"));

@@ -25,7 +25,7 @@ fn append<S: LineStore>(
     requires { IsReady S.LineStore editor.old.tree editor.old.text }
     ensures { IsReady S.LineStore editor.new.tree editor.new.text }
 {
-    let new = read_text(alloc, line).ok().ok_or("it is a line")?;
+    let (new, _) = read_text(alloc, line).ok().ok_or("it is a line")?;
     let top = editor.text.len();
     if !allows_splice(&editor.text, top, 0, new.lines()) {
         return Err(Fail::new("there is no room for the line"));

@@ -10,7 +10,7 @@ mod rows;
 use std::alloc::{AllocError, Global};
 use std::test::Fail;
 use vs_edit::{LineStore, StoreErr, allows_splice, text_of};
-use vs_text::{Line, from_stored, write_text};
+use vs_text::{Format, Line, from_stored, write_text};
 use vs_undo::{Keep, UndoErr, UndoTree, change};
 
 // One call on a tree and its text.
@@ -123,5 +123,5 @@ fn file_of<S: LineStore>(alloc: Global, editor: &mut Editor<S>) -> Result<Vec<u8
     ensures { IsReady S.LineStore editor.new.tree editor.new.text }
 {
     let text = text_of(alloc, &mut editor.text)?;
-    Ok(write_text(alloc, &text)?)
+    Ok(write_text(alloc, &text, Format::Unix)?)
 }

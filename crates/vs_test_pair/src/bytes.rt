@@ -5,7 +5,10 @@ use std::alloc::Global;
 use std::process::Abort;
 use std::test::Fail;
 
-// What stands at places of a file; all other bytes of its first page are zeros.
+// The number of each format, and the flags of page 0.
+const FORMATS: [(u8, &[u8]); 2] = [(1, &[5]), (2, &[6])];
+
+// What stands at places of a file in unix; all other bytes of its first page are zeros.
 const PAGE_0: [(usize, &[u8]); 11] = [
     (0, b"b0"),
     (2, b"VIM 9.0"),
@@ -63,13 +66,16 @@ fn swap_file(alloc: Global, page_0: &[(usize, &[u8])]) -> Result<Vec<u8>, Fail> 
 #[test]
 fn the_files_of_the_text_without_lines_have_these_bytes(rt: HostRuntime) -> Result<(), Fail> {
     let alloc = rt.alloc();
-    let mut host = empty_folder(alloc, 0, u64::MAX)?;
-    assert!(rt; start_empty(alloc, &mut host)?);
-    let first = swap_file(alloc, &PAGE_0)?;
-    assert!(rt; host.file(".f.swp") == Some(first.as_slice()));
-    let mut page_0 = PAGE_0;
-    page_0[9] = (1032, &[2]);
-    let second = swap_file(alloc, &page_0)?;
-    assert!(rt; host.file(".f.swo") == Some(second.as_slice()));
+    for (format, flags) in FORMATS {
+        let mut host = empty_folder(alloc, 0, u64::MAX)?;
+        assert!(rt; start_empty(alloc, &mut host, format)?);
+        let mut page_0 = PAGE_0;
+        page_0[4] = (1006, flags);
+        let first = swap_file(alloc, &page_0)?;
+        assert!(rt; host.file(".f.swp") == Some(first.as_slice()));
+        page_0[9] = (1032, &[2]);
+        let second = swap_file(alloc, &page_0)?;
+        assert!(rt; host.file(".f.swo") == Some(second.as_slice()));
+    }
     Ok(())
 }

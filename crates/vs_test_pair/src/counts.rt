@@ -33,6 +33,7 @@ pub(crate) fn start_pages<F: Folder>(alloc: Global, host: &mut F) -> Result<Opti
     let head = Head {
         dirty: false,
         empty: false,
+        format: 1,
     };
     match pair.start(host, &head) {
         Ok(()) => Ok(Some(pair)),

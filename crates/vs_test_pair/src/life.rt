@@ -3,7 +3,7 @@ ghost use Rattle.std.specs.Prelude.{◌≡◌, ◌+◌, ◌<◌, ◌≤◌, ◌^
 ghost use Rattle.vs_host.specs.Names.{names_of_file};
 ghost use Rattle.vs_pages.specs.Maps.{first_pages};
 ghost use Rattle.vs_pages.specs.Memory.{present_of, KeepsSince};
-ghost use Rattle.vs_pair.specs.Swap.{Synced};
+ghost use Rattle.vs_pair.specs.Swap.{IsFormatNumber, Synced};
 ghost use Rattle.vs_pair.specs.Pair.{IsFit, known_of};
 ghost use Rattle.vs_pair.specs.Steps.{IsFresh};
 ghost use Rattle.vs_pair.specs.Lent.{IsReady};
@@ -60,6 +60,7 @@ fn start_text<F: Folder>(alloc: Global, host: &mut F, text: u8) -> Result<Option
     let head = Head {
         dirty: false,
         empty: false,
+        format: 1,
     };
     match pair.start(host, &head) {
         Ok(()) => Ok(Some(pair)),
@@ -86,6 +87,7 @@ pub(crate) fn sync_text<F: Folder>(
     let head = Head {
         dirty: true,
         empty: false,
+        format: 1,
     };
     match pair.sync(host, &head) {
         Ok(()) => Ok(true),
@@ -126,8 +128,9 @@ fn put_tree<F: Folder>(alloc: Global, pair: &mut SwapPair, host: &mut F) -> Resu
     Ok(())
 }
 
-/// Starts a pair of the text without lines, and says whether that succeeded.
-pub(crate) fn start_empty<F: Folder>(alloc: Global, host: &mut F) -> Result<bool, Fail>
+/// Starts a pair of the text without lines in the format of this number, and says whether that succeeded.
+pub(crate) fn start_empty<F: Folder>(alloc: Global, host: &mut F, format: u8) -> Result<bool, Fail>
+    requires known { IsFormatNumber format }
     requires fresh { IsTrue F.tells.folder → IsFresh (names_of_file (codes "f")) (F.scene host.old).folder }
 {
     let mut pair = SwapPair::new(alloc, NAME)?;
@@ -135,6 +138,7 @@ pub(crate) fn start_empty<F: Folder>(alloc: Global, host: &mut F) -> Result<bool
     let head = Head {
         dirty: false,
         empty: true,
+        format,
     };
     Ok(pair.start(host, &head).is_ok())
 }

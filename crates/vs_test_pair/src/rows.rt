@@ -5,6 +5,7 @@ use std::process::Abort;
 use std::test::Fail;
 use vs_backup::{CopyMode, WriteOptions};
 use vs_memory::{Choice, Keep, MemHost};
+use vs_text::Format;
 
 // The calls with which both swap files are made.
 const START: u64 = 15;
@@ -74,6 +75,7 @@ fn a_write_leaves_the_text_its_backup_and_the_swap_files(rt: HostRuntime) -> Res
             backup,
             writebackup,
             copy,
+            format: Format::Unix,
         };
         for (again, kept) in [(false, first), (true, second)] {
             let mut host = folder_with_file(alloc, u64::MAX)?;
@@ -95,6 +97,7 @@ fn each_stop_leaves_the_swap_files_and_the_file_or_its_backup(rt: HostRuntime) -
             backup,
             writebackup,
             copy,
+            format: Format::Unix,
         };
         for calls in START..=START + CALLS {
             let mut host = folder_with_file(alloc, calls)?;

@@ -14,6 +14,7 @@ use vs_host::Folder;
 use vs_memory::MemHost;
 use vs_paged::{OpeningText, PagedText};
 use vs_pieces::PieceReader;
+use vs_text::Format;
 
 /// What the file has before a write, and what is written.
 pub const OLD: &[u8] = b"a\n";
@@ -45,7 +46,7 @@ pub(crate) fn start_new<F: Folder>(alloc: Global, host: &mut F) -> Result<PagedT
     };
     let mut opening = OpeningText::new(alloc, "f")?;
     opening.push_lines(alloc, &lines)?;
-    match opening.start(host) {
+    match opening.start(host, Format::Unix) {
         Ok(text) => Ok(text),
         Err(_) => Err(Fail::new("the swap files were not made")),
     }

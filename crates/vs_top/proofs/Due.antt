@@ -4,6 +4,7 @@ use Rattle.vs_host.specs.World.{Tells, Scene, content_of}
 use Rattle.vs_host.specs.Names.{names_of_file}
 use Rattle.vs_host.specs.declared.names.Names.{Names}
 use Rattle.vs_machine.specs.declared.command.Mark.{Mark}
+use Rattle.vs_text.specs.Documents.{Document}
 use Rattle.vs_swap.specs.Recovery.{StandsIn, Recovered}
 use Rattle.vs_recover.specs.declared.choices.Swap.{Swap}
 use Rattle.vs_recover.specs.declared.error.RecErr.{RecErr}
@@ -47,11 +48,11 @@ record EndsRefused (remains : Remains) (end : Ending) : Type 0 where
 -- A text is written; or neither swap file stands, and what is salvaged is written, or nothing.
 abbrev EndsRecover : Remains → Ending → Type 0
 EndsRecover remains end =
-    ((text : List (List ℕ)) × Recovered remains.swp remains.swo text × (end ≡ ending.Done))
+    ((document : Document) × Recovered remains.swp remains.swo document × (end ≡ ending.Done))
     ⊎ (NoneStands remains.swp remains.swo × (EndsSalvaged remains end ⊎ EndsRefused remains end))
 
 absent_stands : (file : Option (List ℕ)) → file ≡ None → StandsNowhere file
-absent_stands file is = λ generation text stands. subst (λ (o : Option (List ℕ)). StandsIn o generation text) is stands
+absent_stands file is = λ generation document stands. subst (λ (o : Option (List ℕ)). StandsIn o generation document) is stands
 
 no_roots : (remains : Remains) → remains.swp ≡ None → remains.swo ≡ None → salvaged_in remains ≡ Err error.NoSwap
 no_roots remains swp swo = ap (λ (o : Option (List ℕ)). root_chosen (root_of o) (root_of remains.swo)) swp ∙ ap (λ (o : Option (List ℕ)). root_chosen (root_of None) (root_of o)) swo
@@ -90,9 +91,9 @@ recover_ends remains ending.NoMemory due = absurd due
 recover_ends remains (ending.TextLimit size) due = absurd due
 recover_ends remains ending.ScriptTooLong due = absurd due
 
-none_recovered : (swp swo : Option (List ℕ)) (text : List (List ℕ)) → NoneStands swp swo → Recovered swp swo text → ⊥
-none_recovered swp swo text none (inl first) = none.0 first.generation text first.stands
-none_recovered swp swo text none (inr second) = none.1 second.generation text second.stands
+none_recovered : (swp swo : Option (List ℕ)) (document : Document) → NoneStands swp swo → Recovered swp swo document → ⊥
+none_recovered swp swo document none (inl first) = none.0 first.generation document first.stands
+none_recovered swp swo document none (inr second) = none.1 second.generation document second.stands
 
 salvaged_once : (remains : Remains) (a b : Ending) → EndsSalvaged remains a → EndsSalvaged remains b → a ≡ b
 salvaged_once remains a b first second =

@@ -16,7 +16,7 @@ use Rattle.vs_pair.specs.Steps.{BothMoved}
 use Rattle.vs_safety.specs.Stretches.{IsShorter}
 use Rattle.vs_pair.specs.Acts.{Acts}
 use Rattle.vs_pair.specs.Pair.{Image, NoneThere, is_foreign}
-use Rattle.vs_text.specs.Text.{lines_of}
+use Rattle.vs_text.specs.Documents.{document_of}
 use Rattle.vs_text.specs.Limits.{IsWithinLimits}
 use Rattle.vs_machine.specs.declared.command.Mark.{Mark}
 use Rattle.vs_machine.specs.declared.command.Outcome.{Outcome}
@@ -43,7 +43,7 @@ use Rattle.vs_top.specs.Ending.{open_ending}
 use Rattle.vs_top.specs.Promise.{HasRun, RunsEdit, row}
 use Rattle.vs_top.specs.Unhindered.{IsThrough, IsThroughMark, IsUnhindered}
 use Rattle.vs_top.specs.Run.{TellsRun, counts_of, FaultHasCause, FileFits, EndsBarred, IsBarred, opened_file}
-use Rattle.vs_top.specs.Turns.{text_at, opening_at, IsOpened}
+use Rattle.vs_top.specs.Turns.{document_at, opening_at, IsOpened}
 use Rattle.vs_top.specs.declared.ending.Ending.{Ending}
 use Rattle.vs_top.specs.declared.ending.Ending.TheVariants as ending
 use Rattle.vs_top.proofs.Limits.{within_or_not, passes_no_limit}
@@ -70,9 +70,9 @@ none_there names disk all free = fresh_image names disk (record {
 })
 
 -- a file whose text passes a limit is not opened
-pub file_fits : (file : Option (List ℕ)) → IfSome file (λ bytes. ¬ IsWithinLimits (lines_of bytes) → false ≡ true) → FileFits file
+pub file_fits : (file : Option (List ℕ)) → IfSome file (λ bytes. ¬ IsWithinLimits ((document_of bytes).text) → false ≡ true) → FileFits file
 file_fits None over = tt
-file_fits (Some bytes) over = elim (within_or_not (lines_of bytes)) [
+file_fits (Some bytes) over = elim (within_or_not ((document_of bytes).text)) [
   | inl within ↦ within
   | inr not_within ↦ absurd (true≢false (sym (over not_within)))
 ]
@@ -83,14 +83,14 @@ only_looked tells old new end marks ended none looks told =
     record { ended = ended; answered = record { none = none; output = ap (λ (s : Scene). s.output) looks.frame }; looks = looks.runs told }
 
 module _ (tells : Tells) (name : List ℕ) (old new : Scene) (pending : IsTrue tells.folder → old.folder.pending ≡ []) (acts : Acts tells (Opens name) old new) where
-  at_start : TellsRun tells → (HasSwap (names_of_file name) old.folder → ⊥) → RecoversOrNone (names_of_file name) (text_at old name ∷ []) old.folder
+  at_start : TellsRun tells → (HasSwap (names_of_file name) old.folder → ⊥) → RecoversOrNone (names_of_file name) (document_at old name ∷ []) old.folder
   at_start told free image whole = inl (none_there (names_of_file name) old.folder (settled (names_of_file name) old.folder (pending told.folder)) free image whole)
 
-  works : TellsRun tells → (HasSwap (names_of_file name) old.folder → ⊥) → Works (names_of_file name) None (RecoversOrNone (names_of_file name) (text_at old name ∷ [])) old new
-  works told free = works_from (is_foreign (names_of_file name)) (names_of_file name) (RecoversOrNone (names_of_file name) (text_at old name ∷ [])) (Opens name) old old new refl refl refl acts.frame (acts.runs told.folder)
+  works : TellsRun tells → (HasSwap (names_of_file name) old.folder → ⊥) → Works (names_of_file name) None (RecoversOrNone (names_of_file name) (document_at old name ∷ [])) old new
+  works told free = works_from (is_foreign (names_of_file name)) (names_of_file name) (RecoversOrNone (names_of_file name) (document_at old name ∷ [])) (Opens name) old old new refl refl refl acts.frame (acts.runs told.folder)
       (λ d opens. record { folder = opens.safe free; spared = opens.spared })
 
-  begins : TellsRun tells → (HasSwap (names_of_file name) old.folder → ⊥) → Begins (names_of_file name) (text_at old name) old new
+  begins : TellsRun tells → (HasSwap (names_of_file name) old.folder → ⊥) → Begins (names_of_file name) (document_at old name) old new
   begins told free = record { settled = pending told.folder; at_start = at_start told free; works = works told free }
 
   -- the file was not opened
@@ -101,7 +101,7 @@ module _ (tells : Tells) (name : List ℕ) (old new : Scene) (pending : IsTrue t
       did = did_none;
       kept = kept_none name old marks none;
       answered = answered;
-      safe = λ free. not_opened (is_foreign (names_of_file name)) (names_of_file name) quit_line (text_at old name) (opening_at old name) old new (begins told free) (opening_some name (opened_file old name).found);
+      safe = λ free. not_opened (is_foreign (names_of_file name)) (names_of_file name) quit_line (document_at old name) (opening_at old name) old new (begins told free) (opening_some name (opened_file old name).found);
       left = left;
       last = last;
       calls =
@@ -168,7 +168,7 @@ module _ (tells : Tells) (name : List ℕ) (old new : Scene) (pending : IsTrue t
 
   -- it was opened
   pub is_opened : (session : Session) → names_of session ≡ names_of_file name → (IsTrue tells.folder → HasSwap (names_of_file name) old.folder → ⊥) → (IsTrue tells.folder → FileFits (content_of old name))
-      → (IsTrue tells.folder → HasOpened (opened_file old name) session) → (IsTrue tells.folder → Fits session new.folder (opened_file old name).state (opened (text_at old name)))
+      → (IsTrue tells.folder → HasOpened (opened_file old name) session) → (IsTrue tells.folder → Fits session new.folder (opened_file old name).state (opened (document_at old name)))
       → new.folder_faults ≡ old.folder_faults → (IsTrue tells.folder → LeavesNoneMade old.folder new.folder) → (IsTrue tells.folder → BothMoved (names_of_file name) new.folder) → IsOpened tells name old new session
   is_opened session names free file has fits none cleared moved = record {
     told = λ told. record {
@@ -177,7 +177,7 @@ module _ (tells : Tells) (name : List ℕ) (old new : Scene) (pending : IsTrue t
       begun = record {
         begins = begins told (free told.folder);
         foreign = undo_foreign (names_of_file name) (subst AreNames names (fits told.folder).stands.text.fit.named);
-        between = subst (λ (n : Names). IsBetween n (opened (text_at old name)) new.folder) names (fits_between session.text new.folder _ _ (fits told.folder).stands.text);
+        between = subst (λ (n : Names). IsBetween n (opened (document_at old name)) new.folder) names (fits_between session.text new.folder _ _ (fits told.folder).stands.text);
       };
       counted = counted_works (names_of_file name) None _ old old new (ap (λ (s : Scene). s.out_faults) acts.frame) (works told (free told.folder)) (counted_none output_count old);
       clean = record { last = acts.last told.folder; none = none; cleared = cleared told.folder; moved = moved told.folder };

@@ -3,7 +3,8 @@ use Rattle.std.proofs.Common.{◌≡◌, ℕ, ◌⊎◌, List, [], ◌∷◌, le
 use Rattle.std.specs.declared.option.Option.{Option}
 use Rattle.std.proofs.lemmas.Bool.Decides.{leb_tells}
 use Rattle.std.proofs.lemmas.List.Elements.{All-nil, All-cons, All-head, All-tail}
-use Rattle.vs_text.specs.Text.{lines_of, bytes_of}
+use Rattle.vs_text.specs.Documents.{document_of}
+use Rattle.vs_text.specs.Text.{bytes_of}
 use Rattle.vs_text.specs.Limits.{IsShort, IsWithinLimits}
 use Rattle.vs_text.specs.declared.TheConstants.{MAX_LINE_BYTES, MAX_LINES, MAX_TEXT_BYTES}
 use Rattle.vs_text.specs.declared.error.TextErr.TheVariants.{TextFull, LineTooLong, NoMemory}
@@ -40,6 +41,6 @@ within_passes_none text size within = λ passes. elim passes [
   | inr full ↦ absurd (let no : TextFull size ≡ NoMemory = within_not_refused text (TextFull size) within full in cc)
 ]
 
-pub passes_no_limit : (file : Option (List ℕ)) (size : ℕ) → FileFits file → ¬ IsSomeAnd file (λ bytes. PassesLimit (lines_of bytes) size)
+pub passes_no_limit : (file : Option (List ℕ)) (size : ℕ) → FileFits file → ¬ IsSomeAnd file (λ bytes. PassesLimit ((document_of bytes).text) size)
 passes_no_limit None size fits = λ passes. passes
-passes_no_limit (Some bytes) size fits = within_passes_none (lines_of bytes) size fits
+passes_no_limit (Some bytes) size fits = within_passes_none ((document_of bytes).text) size fits

@@ -1,6 +1,6 @@
 -- The opening of a run and its first reply, and what the run answered where it stops there.
 use Rattle.std.proofs.Common.{◌≡◌, inl, inr, ℕ, ◌+◌, ◌≤◌, ◌<◌, true, List, [], ◌∷◌, ◌++◌, length, take, map, All, Option, Some, None, IsTrue, string_bytes, refl, sym, ap, subst, ◌∙◌, append-nil, arith}
-use Rattle.std.specs.Prelude.{codes, decimal}
+use Rattle.std.specs.Prelude.{codes}
 use Rattle.std.proofs.lemmas.List.{take_all, length-append}
 use Rattle.std.proofs.lemmas.List.Elements.{All-nil}
 use Rattle.vs_faults.specs.Faults.{HasRisen}
@@ -9,7 +9,8 @@ use Rattle.vs_host.specs.Names.{names_of_file}
 use Rattle.vs_host.specs.Trace.{WroteOutput}
 use Rattle.vs_host.specs.World.{Tells, Scene, ChangesOutput}
 use Rattle.vs_script.specs.Ahead.{Ahead}
-use Rattle.vs_machine.specs.Replies.{Answer, opening_of}
+use Rattle.vs_machine.specs.Replies.{Answer, file_line, opening_of}
+use Rattle.vs_machine.specs.declared.info.FileInfo.{FileInfo}
 use Rattle.vs_machine.specs.declared.command.Mark.{Mark}
 use Rattle.vs_pair.specs.Pair.{is_foreign}
 use Rattle.vs_safety.specs.Turns.{NotBegun, opened, quit_line}
@@ -23,7 +24,7 @@ use Rattle.vs_session.specs.declared.session.Session.{Session}
 use Rattle.vs_session.specs.Fits.{Fits}
 use Rattle.vs_top.specs.Promise.{RunsEdit}
 use Rattle.vs_top.specs.Run.{TellsRun, Did, KeepsMarks, Counts, counts_of, FaultHasCause, IsTimed, commands_within, opened_file}
-use Rattle.vs_top.specs.Turns.{text_at, opening_at, IsOpened}
+use Rattle.vs_top.specs.Turns.{document_at, opening_at, IsOpened}
 use Rattle.vs_top.specs.declared.ending.Ending.TheVariants as ending
 use Rattle.vs_top.proofs.Calls.{calls_first, calls_opened, calls_unopened, near_end, shorter_by}
 use Rattle.vs_top.proofs.Counting.{only_output, all_counted}
@@ -34,9 +35,9 @@ pub ends_some : (line : List ℕ) → 0 < length (line ++ 10 ∷ [])
 ends_some line = let ending : List ℕ = 10 ∷ [] in omega (arith, length-append line ending)
 
 -- no opening reply is empty
-pub opening_some : (name : List ℕ) (found : Option (ℕ × ℕ)) → 0 < length (opening_of name found).bytes
+pub opening_some : (name : List ℕ) (found : Option FileInfo) → 0 < length (opening_of name found).bytes
 opening_some name None = ends_some (codes "\"" ++ name ++ codes "\" [New]")
-opening_some name (Some (lines, bytes)) = ends_some (codes "\"" ++ name ++ codes "\" " ++ decimal lines ++ codes "L, " ++ decimal bytes ++ codes "B")
+opening_some name (Some info) = ends_some (file_line name info)
 
 -- nothing was answered
 abbrev pub did_none : Did
@@ -65,7 +66,7 @@ module _ (tells : Tells) (name : List ℕ) (old now : Scene) (session : Session)
           did = did_none;
           kept = kept_none name old marks none;
           answered = inl (record { answered = record { none = none; output = here.begun.begins.works.output }; cleared = here.clean.cleared });
-          safe = λ free. not_opened (is_foreign (names_of_file name)) (names_of_file name) quit_line (text_at old name) (opening_at old name) old now here.begun.begins (opening_some name (opened_file old name).found);
+          safe = λ free. not_opened (is_foreign (names_of_file name)) (names_of_file name) quit_line (document_at old name) (opening_at old name) old now here.begun.begins (opening_some name (opened_file old name).found);
           left = (refl, inr (session, at.keeps.names, here.fits));
           last = tt;
           calls = calls_unopened (opened_file old name) old now here.begun.begins.works.output (opening_some name (opened_file old name).found) here.begun.begins.works.moments.added here.begun.begins.works.moments.is
@@ -122,9 +123,9 @@ module _ (tells : Tells) (name : List ℕ) (old now : Scene) (session : Session)
                   output = writes.output ∙ ap (λ (l : List ℕ). l ++ take cut.0 (opening_at old name)) here.begun.begins.works.output;
                   whole = omega arith;
                 });
-                safe = λ free. opening_cut (is_foreign (names_of_file name)) (names_of_file name) quit_line (text_at old name) (opening_at old name) old now here.begun new (take cut.0 (opening_at old name)) (opening_some name (opened_file old name).found)
+                safe = λ free. opening_cut (is_foreign (names_of_file name)) (names_of_file name) quit_line (document_at old name) (opening_at old name) old now here.begun new (take cut.0 (opening_at old name)) (opening_some name (opened_file old name).found)
                     (wrote_one now new cut.0 (opening_at old name) writes) (first_part cut.0 (opening_at old name));
-                left = (session, at.keeps.names, subst (λ (d : Disk). Fits session d (opened_file old name).state (opened (text_at old name))) (sym writes.folder) here.fits);
+                left = (session, at.keeps.names, subst (λ (d : Disk). Fits session d (opened_file old name).state (opened (document_at old name))) (sym writes.folder) here.fits);
                 last = rose_at output_count old now new WroteOutput [] writes.added rose here.counted;
                 calls = calls_opened (opened_file old name) old now new here.clean (near_end now new writes.added writes.folder writes.faults) here.begun.begins.works.moments.added here.begun.begins.works.moments.is
                     (shorter_by (names_of_file name) None _ old now here.begun.begins.works (length old.output + length (opening_at old name)) (let some = opening_some name (opened_file old name).found in omega (arith, some)));
@@ -155,8 +156,8 @@ module _ (tells : Tells) (name : List ℕ) (old now : Scene) (session : Session)
                 record {
                   kept = kept_none name old marks none;
                   errors = refl;
-                  fits = subst (λ (d : Disk). Fits session d (opened_file old name).state (opened (text_at old name))) (sym writes.folder) here.fits;
-                  waits = waits_first (is_foreign (names_of_file name)) (names_of_file name) old (text_at old name) (opening_at old name) now new here.begun (replied_one (opening_at old name) now new some writes);
+                  fits = subst (λ (d : Disk). Fits session d (opened_file old name).state (opened (document_at old name))) (sym writes.folder) here.fits;
+                  waits = waits_first (is_foreign (names_of_file name)) (names_of_file name) old (document_at old name) (opening_at old name) now new here.begun (replied_one (opening_at old name) now new some writes);
                   counted = all_counted old now new (recorded (opening_at old name) now new some writes) here.begun.begins.works.moments.added here.begun.begins.works.moments.is;
                   calls = calls_first (opened_file old name) old now new here.clean (recorded (opening_at old name) now new some writes) writes.folder writes.faults
                       (whole_opening told new writes) here.begun.begins.works.moments.added here.begun.begins.works.moments.is

@@ -24,7 +24,7 @@ use Rattle.vs_tagged.specs.Tagged.{WritesTagged}
 use Rattle.vs_tagged.proofs.Lines.{tagged_some}
 use Rattle.vs_top.specs.Run.{TellsRun}
 use Rattle.vs_top.specs.Tags.{prefix_of, tagged_for}
-use Rattle.vs_top.specs.Turns.{text_at}
+use Rattle.vs_top.specs.Turns.{document_at}
 use Rattle.vs_top.specs.PairHistory.{BothFiles, file_for, opening_for, stage_before, stage_of, stage_opened, state_for}
 use Rattle.vs_top.specs.PairPromise.{BeforeOpening, BetweenOpenings, HasRunBoth, LeavesOthers, files_in, party_for}
 use Rattle.vs_top.specs.PairTurns.{IsInState, ToldOpenPair, ToldPair}
@@ -63,7 +63,7 @@ module _ (tells : Tells) (told : TellsRun tells) (one two : List ℕ) (old now :
   greet_cut_one s stands Failed new puts failed =
       let part = puts.part told.folder told.output in
       let taken = part_taken part.0 one_line part.1 in
-      let kept = both_first_cut first second old now (text_at old one) (text_at old two) one_line two_line here.first here.second part.0 new some_one part.2 part.1 in
+      let kept = both_first_cut first second old now (document_at old one) (document_at old two) one_line two_line here.first here.second part.0 new some_one part.2 part.1 in
       record {
         did = record { transcript = []; reach = BeforeOpening };
         read = tt;
@@ -75,7 +75,7 @@ module _ (tells : Tells) (told : TellsRun tells) (one two : List ℕ) (old now :
         second = λ free. kept_as second old (stage_before which.Two files) new kept.second_kept;
         others = others_wrote one two old now new here.others part.0 part.2;
         failed = rose_last output_count old now new (λ m no_fault. no_fault.out) (puts.last told.folder) (puts.cause.risen failed) here.counted;
-        left = λ is. (s, stands.names, subst (λ (d : Disk). Fits s d files.one.state (opened (text_at old one))) (sym part.2.folder) (stands.fits told.folder));
+        left = λ is. (s, stands.names, subst (λ (d : Disk). Fits s d files.one.state (opened (document_at old one))) (sym part.2.folder) (stands.fits told.folder));
       }
 
   module _ (mid : Scene) (one_puts : WritesTagged tells one_line ⊥ now mid) where
@@ -100,7 +100,7 @@ module _ (tells : Tells) (told : TellsRun tells) (one two : List ℕ) (old now :
       greet_cut_two failed =
           let part = puts.part told.folder told.output in
           let taken = part_taken part.0 two_line part.1 in
-          let kept = both_second_cut first second old now (text_at old one) (text_at old two) one_line two_line here.first here.second mid part.0 new one_replied some_two part.2 part.1 in
+          let kept = both_second_cut first second old now (document_at old one) (document_at old two) one_line two_line here.first here.second mid part.0 new one_replied some_two part.2 part.1 in
           record {
             did = record { transcript = []; reach = BetweenOpenings };
             read = tt;
@@ -130,7 +130,7 @@ module _ (tells : Tells) (told : TellsRun tells) (one two : List ℕ) (old now :
             synced = tt;
             errors = refl;
             output = wrote.output ∙ ap (λ (l : List ℕ). l ++ two_line) output_mid ∙ append_assoc old.output one_line two_line;
-            both = both_opened first second old now (text_at old one) (text_at old two) one_line two_line here.first here.second mid new here.apart one_replied (record { some = some_two; wrote = wrote });
+            both = both_opened first second old now (document_at old one) (document_at old two) one_line two_line here.first here.second mid new here.apart one_replied (record { some = some_two; wrote = wrote });
             in_state = both_in;
             counted = counted_quiet old mid new (one_wrote.moments.added ++ here.counted.moments)
                 (one_wrote.moments.is ∙ ap (λ l. one_wrote.moments.added ++ l) here.counted.added ∙ sym (append_assoc one_wrote.moments.added here.counted.moments old.trace))
@@ -144,10 +144,10 @@ module _ (tells : Tells) (told : TellsRun tells) (one two : List ℕ) (old now :
           both_in : (session : Which) → IsInState (file_for session files) (session_of session multi) (state_for session files []) (stage_of session files []) new.folder
           both_in which.One =
               subst (λ (o : Option Session). IsInState files.one o (state_for which.One files []) (stage_of which.One files []) new.folder) (sym is_one)
-              (stands_one.names, subst (λ (d : Disk). Fits s d files.one.state (opened (text_at old one))) (sym (wrote_two.folder ∙ one_wrote.folder)) (stands_one.fits told.folder))
+              (stands_one.names, subst (λ (d : Disk). Fits s d files.one.state (opened (document_at old one))) (sym (wrote_two.folder ∙ one_wrote.folder)) (stands_one.fits told.folder))
           both_in which.Two =
               subst (λ (o : Option Session). IsInState files.two o (state_for which.Two files []) (stage_of which.Two files []) new.folder) (sym is_two)
-              (stands_two.names, subst (λ (d : Disk). Fits t d files.two.state (opened (text_at old two))) (sym (wrote_two.folder ∙ one_wrote.folder)) (stands_two.fits told.folder))
+              (stands_two.names, subst (λ (d : Disk). Fits t d files.two.state (opened (document_at old two))) (sym (wrote_two.folder ∙ one_wrote.folder)) (stands_two.fits told.folder))
 
   -- the opening replies are those of the files
   pub greeting_one : (s : Session) → HasOpened files.one s → tagged_for which.One (opening_of (string_bytes s.name) s.found).bytes ≡ one_line

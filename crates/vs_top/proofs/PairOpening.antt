@@ -37,7 +37,7 @@ use Rattle.vs_tagged.proofs.Lines.{tagged_some}
 use Rattle.vs_top.specs.Ending.{open_ending}
 use Rattle.vs_top.specs.Run.{TellsRun}
 use Rattle.vs_top.specs.Tags.{prefix_of}
-use Rattle.vs_top.specs.Turns.{text_at}
+use Rattle.vs_top.specs.Turns.{document_at}
 use Rattle.vs_top.specs.PairHistory.{BothFiles, opening_for}
 use Rattle.vs_top.specs.PairPromise.{BeforeOpening, Both, EitherHasSwap, HasRunBoth, IsJustOpened, LeavesOthers, OpensNone, files_in, party_for, row_both}
 use Rattle.vs_top.specs.PairTurns.{ToldOpenPair}
@@ -93,19 +93,19 @@ module _ (tells : Tells) (told : TellsRun tells) (one two : List ℕ) (old new :
   second = party_for which.Two files
 
   module _ (free : ¬ EitherHasSwap one two old.folder) where
-    pub begins_one : BeginsAmong (others_of first) first.names (text_at old one) old new
+    pub begins_one : BeginsAmong (others_of first) first.names (document_at old one) old new
     begins_one = record {
       settled = pending;
       at_start = λ image whole. inl (none_there first.names old.folder (settled first.names old.folder pending) (λ is. free (inl is)) image whole);
-      works = works_from (others_of first) first.names (RecoversOrNone first.names (text_at old one ∷ [])) (OpensBoth one two) old old new refl refl refl acts.frame (acts.runs told.folder)
+      works = works_from (others_of first) first.names (RecoversOrNone first.names (document_at old one ∷ [])) (OpensBoth one two) old old new refl refl refl acts.frame (acts.runs told.folder)
           (λ d opens. record { folder = opens.first (λ is. free (inl is)); spared = same_weaker (is_of_neither one two) (others_of first) old.folder d (others_neither first second beside) opens.spared });
     }
 
-    pub begins_two : BeginsAmong (others_of second) second.names (text_at old two) old new
+    pub begins_two : BeginsAmong (others_of second) second.names (document_at old two) old new
     begins_two = record {
       settled = pending;
       at_start = λ image whole. inl (none_there second.names old.folder (settled second.names old.folder pending) (λ is. free (inr is)) image whole);
-      works = works_from (others_of second) second.names (RecoversOrNone second.names (text_at old two ∷ [])) (OpensBoth one two) old old new refl refl refl acts.frame (acts.runs told.folder)
+      works = works_from (others_of second) second.names (RecoversOrNone second.names (document_at old two ∷ [])) (OpensBoth one two) old old new refl refl refl acts.frame (acts.runs told.folder)
           (λ d opens. record { folder = opens.second (λ is. free (inr is)); spared = same_weaker (is_of_neither one two) (others_of second) old.folder d (others_neither_two first second beside) opens.spared });
     }
 
@@ -142,9 +142,9 @@ module _ (tells : Tells) (told : TellsRun tells) (one two : List ℕ) (old new :
       kept = none;
       wrote = (refl, (0, ap (λ (s : Scene). s.output) acts.frame ∙ sym (append-nil old.output)));
       ends = ends;
-      first = λ free. not_opened (others_of first) first.names first.line (text_at old one) (opening_for which.One files) old new (begins_one free) some_one;
+      first = λ free. not_opened (others_of first) first.names first.line (document_at old one) (opening_for which.One files) old new (begins_one free) some_one;
       second = λ free.
-          not_opened (others_of second) second.names second.line (text_at old two) (opening_for which.One files ++ opening_for which.Two files) old new (begins_two free) some_both;
+          not_opened (others_of second) second.names second.line (document_at old two) (opening_for which.One files ++ opening_for which.Two files) old new (begins_two free) some_both;
       others = others_opened;
       failed = failed;
       left = λ is. left;
@@ -177,11 +177,11 @@ module _ (tells : Tells) (told : TellsRun tells) (one two : List ℕ) (old new :
   -- ---- both were
 
   module _ (s t : Session) (one_stands : StandsOpen tells one old new s) (two_stands : StandsOpen tells two old new t) (free : ¬ EitherHasSwap one two old.folder) (own : AreSetApart first second new.folder) where
-    between_one : IsBetween first.names (opened (text_at old one)) new.folder
-    between_one = subst (λ n. IsBetween n (opened (text_at old one)) new.folder) one_stands.names (fits_between s.text new.folder _ _ (one_stands.fits told.folder).stands.text)
+    between_one : IsBetween first.names (opened (document_at old one)) new.folder
+    between_one = subst (λ n. IsBetween n (opened (document_at old one)) new.folder) one_stands.names (fits_between s.text new.folder _ _ (one_stands.fits told.folder).stands.text)
 
-    between_two : IsBetween second.names (opened (text_at old two)) new.folder
-    between_two = subst (λ n. IsBetween n (opened (text_at old two)) new.folder) two_stands.names (fits_between t.text new.folder _ _ (two_stands.fits told.folder).stands.text)
+    between_two : IsBetween second.names (opened (document_at old two)) new.folder
+    between_two = subst (λ n. IsBetween n (opened (document_at old two)) new.folder) two_stands.names (fits_between t.text new.folder _ _ (two_stands.fits told.folder).stands.text)
 
     pub told_opened : ToldOpenPair one two old new
     told_opened = record {

@@ -8,7 +8,7 @@ use Rattle.vs_host.specs.Disk.{Disk, Name}
 use Rattle.vs_host.specs.World.{Tells, Scene, content_of}
 use Rattle.vs_host.specs.declared.names.Names.{Names}
 use Rattle.vs_pair.specs.Acts.{Acts}
-use Rattle.vs_text.specs.Text.{lines_of}
+use Rattle.vs_text.specs.Documents.{document_of}
 use Rattle.vs_text.specs.Limits.{IsWithinLimits}
 use Rattle.vs_script.specs.Ahead.{script_limit}
 use Rattle.vs_script.specs.Feed as feed
@@ -35,7 +35,7 @@ use Rattle.vs_tagged.proofs.Lines.{tagged_some}
 use Rattle.vs_top.specs.Ending.{ending_in, open_ending}
 use Rattle.vs_top.specs.Run.{TellsRun, FileFits, counts_of, FaultHasCause}
 use Rattle.vs_top.specs.Tags.{prefix_of, tagged_for}
-use Rattle.vs_top.specs.Turns.{text_at}
+use Rattle.vs_top.specs.Turns.{document_at}
 use Rattle.vs_top.specs.PairHistory.{BothFiles, opening_for}
 use Rattle.vs_top.specs.PairScript.{Reads}
 use Rattle.vs_top.specs.PairPromise.{BeforeOpening, EitherHasSwap, EitherPasses, EndsPair, HasRunBoth, IsMixed, IsTimedBoth, RunsPair, files_in, party_for}
@@ -54,9 +54,9 @@ use Rattle.vs_top.proofs.PairOpening.{run_unopened, told_opened}
 -- ---- not both files were opened
 
 -- a file that is not over its limits
-fits_not_over : (file : Option (List ℕ)) → IfSome file (λ bytes. ¬ (¬ IsWithinLimits (lines_of bytes))) → FileFits file
+fits_not_over : (file : Option (List ℕ)) → IfSome file (λ bytes. ¬ (¬ IsWithinLimits ((document_of bytes).text))) → FileFits file
 fits_not_over None not_over = tt
-fits_not_over (Some bytes) not_over = elim (within_or_not (lines_of bytes)) [ inl within ↦ within | inr over ↦ absurd (not_over over) ]
+fits_not_over (Some bytes) not_over = elim (within_or_not ((document_of bytes).text)) [ inl within ↦ within | inr over ↦ absurd (not_over over) ]
 
 -- the one that is too large
 too_large : (tells : Tells) (size : ℕ) (one two : List ℕ) (old : Scene) → IsTrue tells.folder → IsEitherTooLarge tells size (content_of old one) (content_of old two) → EitherPasses size (content_of old one) (content_of old two)
@@ -235,8 +235,8 @@ module _ (tells : Tells) (one two : List ℕ) (old now : Scene) (multi : Multi) 
         kept = none;
         wrote = (refl, (0, output ∙ sym (append-nil old.output)));
         ends = inl (record { none = record { none = none; output = output }; did_none = refl });
-        first = λ free. not_opened (others_of (party_for which.One files)) (party_for which.One files).names (party_for which.One files).line (text_at old one) (opening_for which.One files) old now here.first.begins one_some;
-        second = λ free. not_opened (others_of (party_for which.Two files)) (party_for which.Two files).names (party_for which.Two files).line (text_at old two) (opening_for which.One files ++ opening_for which.Two files) old now here.second.begins some;
+        first = λ free. not_opened (others_of (party_for which.One files)) (party_for which.One files).names (party_for which.One files).line (document_at old one) (opening_for which.One files) old now here.first.begins one_some;
+        second = λ free. not_opened (others_of (party_for which.Two files)) (party_for which.Two files).names (party_for which.Two files).line (document_at old two) (opening_for which.One files ++ opening_for which.Two files) old now here.second.begins some;
         others = here.others;
         failed = tt;
         left = λ is. inr (first.0, first.2.names, first.2.fits told.folder);

@@ -1,6 +1,6 @@
 -- An answer of a run of two sessions, from the work for it to its last byte: where both sessions stand then, and what each promises where the
 -- answer is cut short.
-use Rattle.std.proofs.Common.{◌≡◌, ◌≢◌, ◌⊎◌, ℕ, ◌<◌, Bool, not, List, [], ◌∷◌, ◌++◌, length, Option, Some, None, refl, sym, ap, subst, ◌∙◌, append_assoc, arith}
+use Rattle.std.proofs.Common.{◌≡◌, ◌≢◌, ◌⊎◌, ℕ, ◌<◌, Bool, not, List, [], ◌∷◌, ◌++◌, length, Option, Some, None, sym, ap, subst, ◌∙◌, append_assoc, arith}
 use Rattle.std.proofs.lemmas.List.{length-append}
 use Rattle.vs_host.specs.Disk.{Disk, Name}
 use Rattle.vs_host.specs.Trace.{Snapshot, GoesOn}

@@ -17,7 +17,8 @@ use Rattle.vs_pair.specs.Pair.{is_foreign}
 use Rattle.vs_pair.specs.Steps.{BothMoved, IsFresh}
 use Rattle.vs_excmd.specs.Request.{Instruction}
 use Rattle.vs_machine.specs.declared.command.Mark.{Mark}
-use Rattle.vs_safety.specs.Texts.{Text, Sync, IsBetween, Recovers, RecoversOrNone, recoverable}
+use Rattle.vs_text.specs.Documents.{Document}
+use Rattle.vs_safety.specs.Texts.{Sync, IsBetween, Recovers, RecoversOrNone, recoverable}
 use Rattle.vs_safety.specs.Turns.{NotBegun, Turn}
 use Rattle.vs_safety.specs.History.{syncs_of}
 use Rattle.vs_safety.specs.Safety.{IsAdded, Spares, Works}
@@ -37,7 +38,7 @@ use Rattle.vs_top.specs.Ending.{ending_in}
 use Rattle.vs_top.specs.History.{Past, any_error}
 use Rattle.vs_top.specs.Promise.{HasStress, RunsStress, row}
 use Rattle.vs_top.specs.Run.{Did, FaultHasCause, KeepsMarks, IsTimed, OnlyFolder, counts_of, opened_file}
-use Rattle.vs_top.specs.Stress.{TellsStress, HasStressed, HasStretches, IsBeforeLine, IsBehind, IsStressMoment, IsStressSafe, StressEnds, folder_after, is_up_to, stress_history, stress_line, stress_name, stress_state, stress_text, stress_turns}
+use Rattle.vs_top.specs.Stress.{TellsStress, HasStressed, HasStretches, IsBeforeLine, IsBehind, IsStressMoment, IsStressSafe, StressEnds, folder_after, is_up_to, stress_history, stress_line, stress_name, stress_state, stress_document, stress_turns}
 use Rattle.vs_top.specs.StressCalls.{StressCalls}
 use Rattle.vs_top.specs.StressTurns.{IsStressTurn}
 use Rattle.vs_top.specs.declared.ending.Ending.{Ending}
@@ -55,8 +56,8 @@ names = names_of_file stress_name
 abbrev pub did_of : Past → Did
 did_of past = record { past = past; closing = NotBegun }
 
-pub at_moment : (start : Scene) (text : Text) (turns : List Turn) (line : List ℕ) (m : Snapshot) → IsBeforeLine names start text turns m → IsStressMoment names start text turns line m
-at_moment start text turns line m is = record { spared = is.spared; recovers = elim is.recovers [ inl opening ↦ inl opening | inr command ↦ inr (inl command) ] }
+pub at_moment : (start : Scene) (document : Document) (turns : List Turn) (line : List ℕ) (m : Snapshot) → IsBeforeLine names start document turns m → IsStressMoment names start document turns line m
+at_moment start document turns line m is = record { spared = is.spared; recovers = elim is.recovers [ inl opening ↦ inl opening | inr command ↦ inr (inl command) ] }
 
 all_times : (old new : Scene) (marks : List Mark) → new.answers ≡ old.answers ++ map (λ mark. mark.at) marks → IsTimed old new marks
 all_times old new marks is = record { more = []; one = omega arith; is = is ∙ sym (append-nil (old.answers ++ map (λ mark. mark.at) marks)) }
@@ -67,13 +68,13 @@ full_last start now moments added (inl less) = absurd (omega (arith, less))
 full_last start now moments added (inr full) = record { last = []; earlier = moments; one = omega arith; is = added; rose = inr full }
 
 module _ (OfHost : Scene → Type 0) (tells : Tells) (old now : Scene) (session : Session) (marks : List Mark) (clean : Bool) (commands : List Instruction) (turn : IsStressTurn OfHost tells old now session marks clean commands) where
-  moments_now : (told : TellsStress tells) (line : List ℕ) → let here = turn.told told in Each (IsStressMoment names old (stress_text old) (stress_turns old here.0) line) here.2.moments
+  moments_now : (told : TellsStress tells) (line : List ℕ) → let here = turn.told told in Each (IsStressMoment names old (stress_document old) (stress_turns old here.0) line) here.2.moments
   moments_now told line =
       let here = turn.told told in
       let turns = stress_turns old here.0 in
-      Each-weaker (IsBeforeLine names old (stress_text old) turns) (IsStressMoment names old (stress_text old) turns line) (λ m is. at_moment old (stress_text old) turns line m is) here.2.moments here.2.safe
+      Each-weaker (IsBeforeLine names old (stress_document old) turns) (IsStressMoment names old (stress_document old) turns line) (λ m is. at_moment old (stress_document old) turns line m is) here.2.moments here.2.safe
 
-  safe_now : (told : TellsStress tells) (line : List ℕ) → let here = turn.told told in IsStressSafe OfHost names old now (stress_text old) (stress_turns old here.0) line
+  safe_now : (told : TellsStress tells) (line : List ℕ) → let here = turn.told told in IsStressSafe OfHost names old now (stress_document old) (stress_turns old here.0) line
   safe_now told line =
       let here = turn.told told in record { moments = here.2.moments; added = here.2.added; safe = moments_now told line; spared = here.2.spared; steps = here.2.steps }
 
@@ -182,7 +183,7 @@ module _ (OfHost : Scene → Type 0) (tells : Tells) (old now : Scene) (session 
 
     -- what is known of the folder after the write of the line, or of a part of it
     put_safe : (new : Scene) → ChangesOutput now new → (IsTrue tells.folder → IsAdded WroteOutput [] now new) → (told : TellsStress tells) → (n : ℕ) → new.output ≡ old.output ++ take n (told_line told)
-        → IsStressSafe OfHost names old new (stress_text old) (turns told) (told_line told)
+        → IsStressSafe OfHost names old new (stress_document old) (turns told) (told_line told)
     put_safe new frame added told n output =
         let here = (turn.told told).2 in
         let syncs : List Sync = syncs_of (stress_history old (past told)) in
@@ -193,7 +194,7 @@ module _ (OfHost : Scene → Type 0) (tells : Tells) (old now : Scene) (session 
         let steps : HasStretches OfHost names old here.moments (turns told) new.folder_faults =
         subst (λ (n : ℕ). HasStretches OfHost names old here.moments (turns told) n) (sym (ap (λ (s : Scene). s.folder_faults) frame)) here.steps in
         let last : Snapshot = snapshot_of new WroteOutput [] in
-        let moment : IsStressMoment names old (stress_text old) (turns told) (told_line told) last = record {
+        let moment : IsStressMoment names old (stress_document old) (turns told) (told_line told) last = record {
           spared = spared;
           recovers = inr (inr (inl (record {
             answered = answers;
@@ -304,7 +305,7 @@ module _ (OfHost : Scene → Type 0) (tells : Tells) (old now : Scene) (session 
         long_line : length old.output < length (old.output ++ told_line told)
         long_line = omega (arith, some, ap (λ (l : List ℕ). length l) (line_is told), length-append old.output (told_line told))
 
-        mid_safe : IsStressSafe OfHost names old mid (stress_text old) (turns told) (told_line told)
+        mid_safe : IsStressSafe OfHost names old mid (stress_document old) (turns told) (told_line told)
         mid_safe = put_safe mid frame added told (length (told_line told)) (mid_output ∙ ap (λ (l : List ℕ). old.output ++ l) (sym (take_all (length (told_line told)) (told_line told) (omega arith))))
 
         works : Works names None (RecoversOrNone names (recoverable syncs)) mid new
@@ -316,7 +317,7 @@ module _ (OfHost : Scene → Type 0) (tells : Tells) (old now : Scene) (session 
         abbrev OfRemoval : Snapshot → Type 0
         OfRemoval m = Inside new (Spares names None (RecoversOrNone names (recoverable syncs)) mid.folder) m
 
-        removal : (m : Snapshot) → OfRemoval m → IsStressMoment names old (stress_text old) (turns told) (told_line told) m
+        removal : (m : Snapshot) → OfRemoval m → IsStressMoment names old (stress_document old) (turns told) (told_line told) m
         removal m inside = record {
           spared = same_then (is_foreign names) old.folder mid.folder m.folder mid_safe.spared inside.folder.spared;
           recovers = inr (inr (inr (record {
@@ -337,14 +338,14 @@ module _ (OfHost : Scene → Type 0) (tells : Tells) (old now : Scene) (session 
         all_behind k most =
             Each-weaker OfRemoval (IsBehind old k) (λ m inside. inl (later_written old k m (omega (arith, long_line, ap (λ (l : List ℕ). length l) (inside.output ∙ works.output ∙ mid_output))))) works.moments.added works.moments.each
 
-        end_safe : IsStressSafe OfHost names old new (stress_text old) (turns told) (told_line told)
+        end_safe : IsStressSafe OfHost names old new (stress_document old) (turns told) (told_line told)
         end_safe =
             let was = mid_safe in
             record {
               moments = works.moments.added ++ was.moments;
               added = works.moments.is ∙ ap (λ (ms : List Snapshot). works.moments.added ++ ms) was.added ∙ sym (append_assoc works.moments.added was.moments old.trace);
-              safe = Each-append (IsStressMoment names old (stress_text old) (turns told) (told_line told)) works.moments.added was.moments
-                  (Each-weaker OfRemoval (IsStressMoment names old (stress_text old) (turns told) (told_line told)) removal works.moments.added works.moments.each) was.safe;
+              safe = Each-append (IsStressMoment names old (stress_document old) (turns told) (told_line told)) works.moments.added was.moments
+                  (Each-weaker OfRemoval (IsStressMoment names old (stress_document old) (turns told) (told_line told)) removal works.moments.added works.moments.each) was.safe;
               spared = same_then (is_foreign names) old.folder mid.folder new.folder was.spared works.spared;
               steps = stretches_later OfHost names old (works.moments.added ++ was.moments) (turns told) mid.folder_faults new.folder_faults finishes.cause.later
                   (stretches_on OfHost names old was.moments works.moments.added (turns told) mid.folder_faults all_behind same_folders was.steps);

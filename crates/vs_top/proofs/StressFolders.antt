@@ -11,13 +11,13 @@ use Rattle.vs_host.specs.World.{Scene, HasNewest}
 use Rattle.vs_host.specs.declared.names.Names.{Names}
 use Rattle.vs_disk.proofs.Runs.{Each-append, Each-weaker}
 use Rattle.vs_machine.specs.declared.command.Mark.{Mark}
-use Rattle.vs_safety.specs.Texts.{Text}
+use Rattle.vs_text.specs.Documents.{Document}
 use Rattle.vs_safety.specs.Turns.{Turn, after_turns, opened}
 use Rattle.vs_safety.specs.History.{syncs_of, turns_then}
 use Rattle.vs_session.specs.declared.session.Session.{Session}
 use Rattle.vs_session.specs.Session.{turn_of}
 use Rattle.vs_top.specs.History.{Past}
-use Rattle.vs_top.specs.Stress.{HasCount, HasEnds, HasSteps, HasStretches, IsBeforeLine, IsBehind, folder_after, is_up_to, stress_history, stress_name, stress_state, stress_text, stress_turns}
+use Rattle.vs_top.specs.Stress.{HasCount, HasEnds, HasSteps, HasStretches, IsBeforeLine, IsBehind, folder_after, is_up_to, stress_history, stress_name, stress_state, stress_document, stress_turns}
 use Rattle.vs_top.specs.StressCalls.{EachCalled, IsAfter}
 use Rattle.vs_top.specs.StressTurns.{StressTold}
 
@@ -37,8 +37,8 @@ pub up_to_start : (start : Scene) (m : Snapshot) → m.answered ≡ length start
 up_to_start start m answered output = up_to start 0 m (omega (arith, answered)) (omega (arith, ap (λ (l : List ℕ). length l) output))
 
 -- no moment before the line is
-pub before_line : (names : Names) (start : Scene) (text : Text) (turns : List Turn) (n : ℕ) → length turns ≤ n → (m : Snapshot) → IsBeforeLine names start text turns m → is_up_to start n m ≡ true
-before_line names start text turns n most m is = elim is.recovers [
+pub before_line : (names : Names) (start : Scene) (document : Document) (turns : List Turn) (n : ℕ) → length turns ≤ n → (m : Snapshot) → IsBeforeLine names start document turns m → is_up_to start n m ≡ true
+before_line names start document turns n most m is = elim is.recovers [
   | inl opening ↦ up_to start n m (omega (arith, opening.answered)) (omega (arith, ap (λ (l : List ℕ). length l) opening.written))
   | inr at ↦
       let rest : List Turn = at.turn ∷ at.rest in
@@ -47,7 +47,7 @@ before_line names start text turns n most m is = elim is.recovers [
 
 -- ---- the syncs
 
-pub stress_syncs : (old : Scene) (past : Past) (rest : List Turn) → after_turns (opened (stress_text old)) (turns_then (stress_history old past) rest) ≡ after_turns (syncs_of (stress_history old past)) rest
+pub stress_syncs : (old : Scene) (past : Past) (rest : List Turn) → after_turns (opened (stress_document old)) (turns_then (stress_history old past) rest) ≡ after_turns (syncs_of (stress_history old past)) rest
 stress_syncs old [] rest = refl
 stress_syncs old (last ∷ past) rest = stress_syncs old past (turn_of (stress_state old past) last.instruction last.ended ∷ rest)
 
@@ -79,8 +79,8 @@ pub told_folder : (OfHost : Scene → Type 0) (old now : Scene) (session : Sessi
 told_folder OfHost old now session marks clean past here =
     let turns = stress_turns old past in
     folder_now old now (length turns) here.moments here.newest_at_start here.newest here.added
-    (Each-weaker (IsBeforeLine (names_of_file stress_name) old (stress_text old) turns) (λ m. is_up_to old (length turns) m ≡ true)
-    (before_line (names_of_file stress_name) old (stress_text old) turns (length turns) (omega arith)) here.moments here.safe)
+    (Each-weaker (IsBeforeLine (names_of_file stress_name) old (stress_document old) turns) (λ m. is_up_to old (length turns) m ≡ true)
+    (before_line (names_of_file stress_name) old (stress_document old) turns (length turns) (omega arith)) here.moments here.safe)
 
 -- ---- the counts
 

@@ -26,7 +26,7 @@ use Rattle.vs_stress.specs.Commands.{stress_commands}
 use Rattle.vs_top.specs.Ending.{open_ending}
 use Rattle.vs_top.specs.Promise.{HasStress, RunsStress, row}
 use Rattle.vs_top.specs.Run.{FileFits, FaultHasCause, counts_of, opened_file}
-use Rattle.vs_top.specs.Stress.{TellsStress, HasStretches, IsBeforeLine, IsStressMoment, is_up_to, stress_line, stress_name, stress_text}
+use Rattle.vs_top.specs.Stress.{TellsStress, HasStretches, IsBeforeLine, IsStressMoment, is_up_to, stress_line, stress_name, stress_document}
 use Rattle.vs_top.specs.StressTurns.{IsStressTurn}
 use Rattle.vs_top.specs.declared.ending.Ending.{Ending}
 use Rattle.vs_top.specs.declared.ending.Ending.TheVariants as ending
@@ -40,12 +40,12 @@ abbrev names : Names
 names = names_of_file stress_name
 
 module _ (OfHost : Scene → Type 0) (tells : Tells) (old new : Scene) (acts : Acts tells (Opens stress_name) old new) (of_host : OfHost new) where
-  before : (free : HasSwap names old.folder → ⊥) → (m : Snapshot) → Inside old (Opens stress_name old.folder) m → IsBeforeLine names old (stress_text old) [] m
+  before : (free : HasSwap names old.folder → ⊥) → (m : Snapshot) → Inside old (Opens stress_name old.folder) m → IsBeforeLine names old (stress_document old) [] m
   before free m inside = record { spared = inside.folder.spared; recovers = inl (record { answered = inside.answered; written = inside.output; recovers = inside.folder.safe free }) }
 
   -- no command has begun at it
   up_to_none : (free : HasSwap names old.folder → ⊥) → (m : Snapshot) → Inside old (Opens stress_name old.folder) m → is_up_to old 0 m ≡ true
-  up_to_none free m inside = before_line names old (stress_text old) [] 0 (omega arith) m (before free m inside)
+  up_to_none free m inside = before_line names old (stress_document old) [] 0 (omega arith) m (before free m inside)
 
   -- so that nothing is said of the names under which its swap files are made
   moved_none : (moments : List Snapshot) → Each (Inside old (Opens stress_name old.folder)) moments → Each (λ m. is_up_to old 0 m ≡ false → BothMoved names m.folder) moments
@@ -68,7 +68,7 @@ module _ (OfHost : Scene → Type 0) (tells : Tells) (old new : Scene) (acts : A
           record {
             moments = runs.moments.added;
             added = runs.moments.is;
-            safe = Each-weaker (Inside old (Opens stress_name old.folder)) (IsStressMoment names old (stress_text old) [] (stress_line count old [])) (λ m inside. at_moment old (stress_text old) [] (stress_line count old []) m (before free m inside)) runs.moments.added runs.moments.each;
+            safe = Each-weaker (Inside old (Opens stress_name old.folder)) (IsStressMoment names old (stress_document old) [] (stress_line count old [])) (λ m inside. at_moment old (stress_document old) [] (stress_line count old []) m (before free m inside)) runs.moments.added runs.moments.each;
             spared = runs.now.spared;
             steps = first_count runs.moments.added runs.moments.is (Each-weaker (Inside old (Opens stress_name old.folder)) (λ m. is_up_to old 0 m ≡ true) (up_to_none free) runs.moments.added runs.moments.each);
           };
@@ -130,7 +130,7 @@ module _ (OfHost : Scene → Type 0) (tells : Tells) (old new : Scene) (acts : A
 
   -- it was opened
   pub stress_opened : (session : Session) → names_of session ≡ names → (IsTrue tells.folder → HasSwap names old.folder → ⊥) → (IsTrue tells.folder → FileFits (content_of old stress_name))
-      → (IsTrue tells.folder → Fits session new.folder (opened_file old stress_name).state (opened (stress_text old))) → (IsTrue tells.folder → HasNewest old) → (IsTrue tells.folder → HasNewest new)
+      → (IsTrue tells.folder → Fits session new.folder (opened_file old stress_name).state (opened (stress_document old))) → (IsTrue tells.folder → HasNewest old) → (IsTrue tells.folder → HasNewest new)
       → (IsTrue tells.folder → LeavesNoneMade old.folder new.folder) → (IsTrue tells.folder → BothMoved names new.folder) → IsStressTurn OfHost tells old new session [] true []
   stress_opened session same free file fits newest_at_start newest cleared moved = record {
     told = λ told.
@@ -143,7 +143,7 @@ module _ (OfHost : Scene → Type 0) (tells : Tells) (old new : Scene) (acts : A
             fits = fits told.folder;
             moments = runs.moments.added;
             added = runs.moments.is;
-            safe = Each-weaker (Inside old (Opens stress_name old.folder)) (IsBeforeLine names old (stress_text old) []) (before (free told.folder)) runs.moments.added runs.moments.each;
+            safe = Each-weaker (Inside old (Opens stress_name old.folder)) (IsBeforeLine names old (stress_document old) []) (before (free told.folder)) runs.moments.added runs.moments.each;
             spared = runs.now.spared;
             steps = first_count runs.moments.added runs.moments.is (Each-weaker (Inside old (Opens stress_name old.folder)) (λ m. is_up_to old 0 m ≡ true) (up_to_none (free told.folder)) runs.moments.added runs.moments.each);
             of_host = of_host;

@@ -23,7 +23,8 @@ use Rattle.vs_machine.specs.Replies.{Answer}
 use Rattle.vs_machine.specs.declared.command.Mark.{Mark}
 use Rattle.vs_machine.specs.declared.command.Outcome.{Outcome}
 use Rattle.vs_machine.specs.declared.command.Outcome.TheVariants as outcome
-use Rattle.vs_safety.specs.Texts.{Text, Sync, Recovers, recoverable}
+use Rattle.vs_text.specs.Documents.{Document}
+use Rattle.vs_safety.specs.Texts.{Sync, Recovers, recoverable}
 use Rattle.vs_safety.specs.Turns.{Turn, with_begun}
 use Rattle.vs_safety.specs.History.{syncs_of}
 use Rattle.vs_safety.specs.FileWork.{FileWork}
@@ -38,7 +39,7 @@ use Rattle.vs_session.specs.Made.{ClearsMade, IsLeftBy, LeavesNoneBut, LeavesNon
 use Rattle.vs_top.specs.Calls.{StepCalls}
 use Rattle.vs_top.specs.History.{Past, any_error, commands_then, marks_of}
 use Rattle.vs_top.specs.Run.{counts_of, FaultHasCause, opened_file}
-use Rattle.vs_top.specs.Stress.{TellsStress, HasEnds, HasStretches, IsBeforeLine, IsBehind, folder_after, is_up_to, stress_history, stress_name, stress_state, stress_text, stress_turns}
+use Rattle.vs_top.specs.Stress.{TellsStress, HasEnds, HasStretches, IsBeforeLine, IsBehind, folder_after, is_up_to, stress_history, stress_name, stress_state, stress_document, stress_turns}
 use Rattle.vs_top.specs.StressCalls.{EachCalled, HasCalled}
 use Rattle.vs_top.specs.StressTurns.{IsStressTurn, StressTold}
 use Rattle.vs_top.proofs.Counting.{causes_on, counted_works}
@@ -47,8 +48,8 @@ use Rattle.vs_top.proofs.Stepping.{HasStepped}
 use Rattle.vs_top.proofs.StressFolders.{as_many, called_on, stress_syncs, before_line, counts_now, folder_now, folders_on, later_read, stretches_on, stretches_push, told_folder}
 
 -- the moments so far, with one command more
-pub moment_on : (names : Names) (start : Scene) (text : Text) (turns : List Turn) (turn : Turn) (m : Snapshot) → IsBeforeLine names start text turns m → IsBeforeLine names start text (turns ++ turn ∷ []) m
-moment_on names start text turns turn m is = record {
+pub moment_on : (names : Names) (start : Scene) (document : Document) (turns : List Turn) (turn : Turn) (m : Snapshot) → IsBeforeLine names start document turns m → IsBeforeLine names start document (turns ++ turn ∷ []) m
+moment_on names start document turns turn m is = record {
   spared = is.spared;
   recovers = elim is.recovers [
     | inl opening ↦ inl opening
@@ -141,7 +142,7 @@ module _ (OfHost : Scene → Type 0) (tells : Tells) (old now new : Scene) (sess
         let at : List ℕ = mark.at ∷ [] in
         omega (arith, ap (λ (l : List ℕ). length l) (step.clock told.clock), length-append now.answers at, here.answers)
 
-    moment_here : (m : Snapshot) → Inside new (Spares names None (IsUnderWay names (with_begun one.sync syncs) None) now.folder) m → IsBeforeLine names old (stress_text old) (turns ++ one ∷ []) m
+    moment_here : (m : Snapshot) → Inside new (Spares names None (IsUnderWay names (with_begun one.sync syncs) None) now.folder) m → IsBeforeLine names old (stress_document old) (turns ++ one ∷ []) m
     moment_here m inside = record {
       spared = same_then (is_foreign names) old.folder now.folder m.folder here.spared inside.folder.spared;
       recovers = inr (record {
@@ -164,12 +165,12 @@ module _ (OfHost : Scene → Type 0) (tells : Tells) (old now new : Scene) (sess
     added : new.trace ≡ moments ++ old.trace
     added = works.moments.is ∙ ap (λ (ms : List Snapshot). newer ++ ms) here.added ∙ sym (append_assoc newer here.moments old.trace)
 
-    safe : Each (IsBeforeLine names old (stress_text old) (turns ++ one ∷ [])) moments
+    safe : Each (IsBeforeLine names old (stress_document old) (turns ++ one ∷ [])) moments
     safe =
-        let each : List Turn → Snapshot → Type 0 = λ ts. IsBeforeLine names old (stress_text old) ts in
+        let each : List Turn → Snapshot → Type 0 = λ ts. IsBeforeLine names old (stress_document old) ts in
         Each-append (each (turns ++ one ∷ [])) newer here.moments
         (Each-weaker (Inside new (Spares names None (IsUnderWay names (with_begun one.sync syncs) None) now.folder)) (each (turns ++ one ∷ [])) moment_here newer works.moments.each)
-        (Each-weaker (each turns) (each (turns ++ one ∷ [])) (λ m is. moment_on names old (stress_text old) turns one m is) here.moments here.safe)
+        (Each-weaker (each turns) (each (turns ++ one ∷ [])) (λ m is. moment_on names old (stress_document old) turns one m is) here.moments here.safe)
 
     -- the folders of the commands before are those that they were
     same_before : (n : ℕ) → 0 ≤ n → n ≤ 0 + length turns → folder_after old here.moments n ≡ folder_after old moments n
@@ -185,8 +186,8 @@ module _ (OfHost : Scene → Type 0) (tells : Tells) (old now new : Scene) (sess
     left_folder =
         let last : List Turn = one ∷ [] in
         sym (folder_now old new (length turns + 1) moments here.newest_at_start (newest told.folder) added
-        (Each-weaker (IsBeforeLine names old (stress_text old) (turns ++ last)) (λ m. is_up_to old (length turns + 1) m ≡ true)
-        (before_line names old (stress_text old) (turns ++ last) (length turns + 1) (omega (arith, length-append turns last))) moments safe))
+        (Each-weaker (IsBeforeLine names old (stress_document old) (turns ++ last)) (λ m. is_up_to old (length turns + 1) m ≡ true)
+        (before_line names old (stress_document old) (turns ++ last) (length turns + 1) (omega (arith, length-append turns last))) moments safe))
 
     ends_here : HasEnds names one (folder_after old moments (length turns)) (folder_after old moments (length turns + 1)) now.folder_faults new.folder_faults
     ends_here =
@@ -202,8 +203,8 @@ module _ (OfHost : Scene → Type 0) (tells : Tells) (old now new : Scene) (sess
     all_up_to : Each (λ m. is_up_to old (length turns + 1) m ≡ true) moments
     all_up_to =
         let last : List Turn = one ∷ [] in
-        Each-weaker (IsBeforeLine names old (stress_text old) (turns ++ last)) (λ m. is_up_to old (length turns + 1) m ≡ true)
-        (before_line names old (stress_text old) (turns ++ last) (length turns + 1) (omega (arith, length-append turns last))) moments safe
+        Each-weaker (IsBeforeLine names old (stress_document old) (turns ++ last)) (λ m. is_up_to old (length turns + 1) m ≡ true)
+        (before_line names old (stress_document old) (turns ++ last) (length turns + 1) (omega (arith, length-append turns last))) moments safe
 
     steps : HasStretches OfHost names old moments (turns ++ one ∷ []) new.folder_faults
     steps =
@@ -234,8 +235,8 @@ module _ (OfHost : Scene → Type 0) (tells : Tells) (old now new : Scene) (sess
               earlier = here.moments;
               moments_are = refl;
               later_are = behind_before (length turns) (omega arith);
-              earlier_are = Each-weaker (IsBeforeLine names old (stress_text old) turns) (λ m. is_up_to old (length turns) m ≡ true)
-                  (before_line names old (stress_text old) turns (length turns) (omega arith)) here.moments here.safe;
+              earlier_are = Each-weaker (IsBeforeLine names old (stress_document old) turns) (λ m. is_up_to old (length turns) m ≡ true)
+                  (before_line names old (stress_document old) turns (length turns) (omega arith)) here.moments here.safe;
               trace = here.added;
             };
             ends = record { of_host = of_host; later = []; earlier = moments; moments_are = refl; later_are = tt; earlier_are = all_up_to; trace = added };
@@ -263,7 +264,7 @@ module _ (OfHost : Scene → Type 0) (tells : Tells) (old now new : Scene) (sess
           fits = answers.fits;
           moments = moments;
           added = added;
-          safe = subst (λ (ts : List Turn). Each (IsBeforeLine names old (stress_text old) ts) moments) (sym turns_are) safe;
+          safe = subst (λ (ts : List Turn). Each (IsBeforeLine names old (stress_document old) ts) moments) (sym turns_are) safe;
           spared = same_then (is_foreign names) old.folder now.folder new.folder here.spared works.spared;
           steps = subst (λ (ts : List Turn). HasStretches OfHost names old moments ts new.folder_faults) (sym turns_are) steps;
           of_host = of_host;

@@ -5,7 +5,7 @@ use Rattle.vs_machine.specs.Machine.{is_done}
 use Rattle.vs_machine.specs.Replies.{opening_of}
 use Rattle.vs_machine.specs.declared.command.Mark.{Mark}
 use Rattle.vs_safety.specs.History as safety
-use Rattle.vs_session.specs.Session.{SessionState, Ended, HasFound, accepts_quit, reply_of, state_after, turn_of}
+use Rattle.vs_session.specs.Session.{SessionState, Ended, HasFound, accepts_quit, document_in, reply_of, state_after, turn_of}
 use Rattle.vs_session.specs.Opened.{Opened}
 
 -- One command that a run answered, and how it ended.
@@ -47,7 +47,7 @@ AreAnswered first (last ∷ past) =
 
 -- the history of a run over a file, as far as safety goes
 abbrev pub history_of : Opened → Past → safety.History
-history_of file [] = safety.Open file.state.machine.text (opening_of file.name file.found).bytes
+history_of file [] = safety.Open (document_in file.state) (opening_of file.name file.found).bytes
 history_of file (last ∷ past) = safety.After (history_of file past) (turn_of (state_of file.state past) last.instruction last.ended)
 
 -- what is written over a file: the opening reply, and the replies to these commands

@@ -12,7 +12,7 @@ use Rattle.vs_safety.specs.History.{Open}
 use Rattle.vs_safety.specs.Turns.{Closing, NotBegun, Quits, Turn, last_turn, preserved_line, quit_line}
 use Rattle.vs_both.specs.Beside.{of_others}
 use Rattle.vs_both.specs.Both.{PartyStage, Running, Gone, with_turn}
-use Rattle.vs_session.specs.Session.{SessionState, accepts_quit, reply_of, sync_in, turn_of}
+use Rattle.vs_session.specs.Session.{SessionState, accepts_quit, document_in, reply_of, sync_in, turn_of}
 use Rattle.vs_session.specs.Opened.{Opened}
 use Rattle.vs_top.specs.History.{CommandRun, Past, AreAnswered, state_of}
 use Rattle.vs_top.specs.Tags.{no_session, session_ended, tagged_for}
@@ -188,8 +188,8 @@ stage_after session files earlier (Preserved whose synced) stage = with_turn sta
 
 -- Where a session stands before the first opening reply is whole: its run begins with its own opening reply, or with both.
 abbrev pub stage_before : Which → BothFiles → PartyStage
-stage_before which.One files = Running (Open files.one.state.machine.text (opening_for which.One files))
-stage_before which.Two files = Running (Open files.two.state.machine.text (opening_for which.One files ++ opening_for which.Two files))
+stage_before which.One files = Running (Open (document_in files.one.state) (opening_for which.One files))
+stage_before which.Two files = Running (Open (document_in files.two.state) (opening_for which.One files ++ opening_for which.Two files))
 
 -- where it stands when both sessions are open: for the first one the other's opening reply is a turn
 abbrev pub stage_opened : Which → BothFiles → PartyStage

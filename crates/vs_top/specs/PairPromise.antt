@@ -11,7 +11,7 @@ use Rattle.vs_disk.specs.Runs.{Looks}
 use Rattle.vs_family.specs.Family.{clash, is_of_family}
 use Rattle.vs_family.specs.declared.which.Which.{Which}
 use Rattle.vs_family.specs.declared.which.Which.TheVariants as which
-use Rattle.vs_text.specs.Text.{lines_of}
+use Rattle.vs_text.specs.Documents.{document_of}
 use Rattle.vs_script.specs.Ahead.{script_limit, whole_lines}
 use Rattle.vs_machine.specs.declared.command.Mark.{Mark}
 use Rattle.vs_safety.specs.Causes.{RoseLast, folder_count, output_count, script_count}
@@ -181,7 +181,8 @@ no_memory_both = record (after_both (λ files old new marks did. OpensNone old n
 -- the number is what passed a limit of the first file; or of the second one, where the first is within the limits
 abbrev pub EitherPasses : ℕ → Option (List ℕ) → Option (List ℕ) → Type 0
 EitherPasses size one two =
-    IsSomeAnd one (λ bytes. PassesLimit (lines_of bytes) size) ⊎ (FileFits one × IsSomeAnd two (λ bytes. PassesLimit (lines_of bytes) size))
+    IsSomeAnd one (λ bytes. PassesLimit ((document_of bytes).text) size)
+    ⊎ (FileFits one × IsSomeAnd two (λ bytes. PassesLimit ((document_of bytes).text) size))
 
 -- the row of each ending
 abbrev pub row_both : Ending → RowBoth

@@ -29,7 +29,7 @@ use Rattle.vs_multi.specs.Opening.{BothStandOpen}
 use Rattle.vs_top.specs.Run.{TellsRun, FaultHasCause, OnlyFolder, counts_of}
 use Rattle.vs_tagged.specs.Tagged.{WritesTagged}
 use Rattle.vs_top.specs.Tags.{tagged_for}
-use Rattle.vs_top.specs.Turns.{AreCounted, text_at}
+use Rattle.vs_top.specs.Turns.{AreCounted, document_at}
 use Rattle.vs_top.specs.PairHistory.{PairAnswer, Answered, Left, AfterQuit, OfNone, Preserved, MayAnswer, WereSynced, file_for, has_error}
 use Rattle.vs_top.specs.PairHistory.{marks_of_both, stage_of, state_for, written_both}
 use Rattle.vs_top.specs.PairScript.{AnswersCommand, Comes, IsLastTaken, IsTranscript, FeedPlace, Reads, Over, ScriptEnd, SessionEnd, Source}
@@ -197,9 +197,9 @@ pub record ToldOpenPair (one two : List ℕ) (old now : Scene) : Type 0 where
   pub settled : old.folder.pending ≡ []
   pub apart : AreSetApart (party_for which.One (files_in old one two)) (party_for which.Two (files_in old one two)) now.folder
   pub first : let party = party_for which.One (files_in old one two) in
-      HasBegunAmong (others_of party) party.names (text_at old one) old now
+      HasBegunAmong (others_of party) party.names (document_at old one) old now
   pub second : let party = party_for which.Two (files_in old one two) in
-      HasBegunAmong (others_of party) party.names (text_at old two) old now
+      HasBegunAmong (others_of party) party.names (document_at old two) old now
   pub counted : IsCounted output_count old now
   pub others : LeavesOthers one two old now
 

@@ -6,7 +6,7 @@ use Rattle.vs_faults.specs.Faults.{HasRisen}
 use Rattle.vs_host.specs.Names.{names_of_file}
 use Rattle.vs_host.specs.World.{Tells, Scene, content_of}
 use Rattle.vs_disk.specs.Runs.{Looks}
-use Rattle.vs_text.specs.Text.{lines_of}
+use Rattle.vs_text.specs.Documents.{document_of}
 use Rattle.vs_script.specs.Ahead.{script_limit}
 use Rattle.vs_machine.specs.declared.command.Mark.{Mark}
 use Rattle.vs_safety.specs.Turns.{NotBegun}
@@ -18,7 +18,7 @@ use Rattle.vs_session.specs.Fits.{HasSwap, Opens}
 use Rattle.vs_top.specs.Run.{TellsRun, Did, KeepsMarks, AnswersNone, AnswersAll, AnswersTaken, AnswersLimit, LacksAtOnce, LacksMemory, IsCutShort, IsCutLast}
 use Rattle.vs_top.specs.Run.{FailsToClose, KeepsSwap, Counts, counts_of, OnlyFolder, FaultHasCause, FileFits, IsBarred, IsTimed, opened_file, ran_of}
 use Rattle.vs_top.specs.Calls.{CallsAsMarked}
-use Rattle.vs_top.specs.Stress.{TellsStress, HasStressed, IsStressing, IsStressSafe, StressEnds, stress_line, stress_name, stress_text, stress_turns}
+use Rattle.vs_top.specs.Stress.{TellsStress, HasStressed, IsStressing, IsStressSafe, StressEnds, stress_line, stress_name, stress_document, stress_turns}
 use Rattle.vs_top.specs.StressCalls.{StressCalls}
 use Rattle.vs_top.specs.declared.ending.Ending.{Ending}
 use Rattle.vs_top.specs.declared.ending.Ending.TheVariants as ending
@@ -138,7 +138,7 @@ row ending.NoMemory = no_memory
 row ending.Encrypted = never
 row ending.NotSwap = never
 row ending.Salvaged = never
-row (ending.TextLimit size) = unopened (λ file. IsSomeAnd file (λ bytes. PassesLimit (lines_of bytes) size))
+row (ending.TextLimit size) = unopened (λ file. IsSomeAnd file (λ bytes. PassesLimit ((document_of bytes).text) size))
 row ending.ScriptTooLong = record (after_opening (λ file old new marks did. AnswersLimit file old new did) none_stressed) { taken = script_limit + 1 }
 
 -- ---- `edit`
@@ -173,7 +173,7 @@ pub record HasStress (OfHost : Scene → Type 0) (count : ℕ) (old new : Scene)
   pub kept : KeepsMarks (opened_file old stress_name) marks did.past
   pub answered : (row end).stressed count old new marks did
   pub safe : (HasSwap (names_of_file stress_name) old.folder → ⊥)
-      → IsStressSafe OfHost (names_of_file stress_name) old new (stress_text old) (stress_turns old did.past) (stress_line count old did.past)
+      → IsStressSafe OfHost (names_of_file stress_name) old new (stress_document old) (stress_turns old did.past) (stress_line count old did.past)
   pub last : (row end).last old new
   pub calls : StressCalls OfHost old new did.past
 

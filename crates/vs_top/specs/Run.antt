@@ -10,6 +10,7 @@ use Rattle.vs_host.specs.World.{Tells, Scene, content_of}
 use Rattle.vs_host.specs.declared.names.Names.{Names}
 use Rattle.vs_disk.specs.Runs.{Looks}
 use Rattle.vs_pair.specs.Pair.{Rises}
+use Rattle.vs_text.specs.Documents.{document_of}
 use Rattle.vs_text.specs.Text.{lines_of}
 use Rattle.vs_text.specs.Limits.{IsWithinLimits}
 use Rattle.vs_excmd.specs.Request.{Instruction}
@@ -232,7 +233,7 @@ FaultHasCause old new mark = is_fault mark.outcome ≡ true → HasRisen old.fol
 
 -- a file whose text is within its limits
 abbrev pub FileFits : Option (List ℕ) → Type 0
-FileFits file = IfSome file (λ bytes. IsWithinLimits (lines_of bytes))
+FileFits file = IfSome file (λ bytes. IsWithinLimits ((document_of bytes).text))
 
 -- a run over a file that has a swap file ends with `SwapFound`, unless it had no memory or a call failed before
 abbrev pub EndsBarred : Ending → Type 0

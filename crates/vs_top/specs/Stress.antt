@@ -9,14 +9,15 @@ use Rattle.vs_host.specs.World.{Tells, Scene, content_of}
 use Rattle.vs_host.specs.declared.names.Names.{Names}
 use Rattle.vs_disk.specs.Names.{SameAt}
 use Rattle.vs_disk.specs.Runs.{Looks}
+use Rattle.vs_text.specs.Documents.{Document}
 use Rattle.vs_pair.specs.Pair.{is_foreign}
 use Rattle.vs_pair.specs.Steps.{BothMoved, IsFresh}
 use Rattle.vs_excmd.specs.Request.{Instruction}
-use Rattle.vs_safety.specs.Texts.{Text, Recovers, RecoversOrNone, IsFlag, recoverable}
+use Rattle.vs_safety.specs.Texts.{Recovers, RecoversOrNone, IsFlag, recoverable}
 use Rattle.vs_safety.specs.Turns.{NotBegun, Turn, with_begun, after_turns, opened}
 use Rattle.vs_safety.specs.History.{History, syncs_of, turns_then}
 use Rattle.vs_session.specs.Session.{SessionState}
-use Rattle.vs_session.specs.Opened.{text_in}
+use Rattle.vs_session.specs.Opened.{document_of_file}
 use Rattle.vs_session.specs.Made.{LeavesNoneMade}
 use Rattle.vs_session.specs.Summary.{summary_of}
 use Rattle.vs_stress.specs.Arguments.{IsCount, summary_line}
@@ -40,9 +41,9 @@ pub record TellsStress (tells : Tells) : Type 0 where
 
 -- ---- what it answered
 
--- the text that the stress mode begins with
-abbrev pub stress_text : Scene → Text
-stress_text old = text_in (content_of old stress_name)
+-- the document that the stress mode begins with
+abbrev pub stress_document : Scene → Document
+stress_document old = document_of_file (content_of old stress_name)
 
 -- the history of the stress mode, as far as safety goes
 abbrev pub stress_history : Scene → Past → History
@@ -143,49 +144,49 @@ pub record HasStretches (OfHost : Scene → Type 0) (names : Names) (start : Sce
 -- ---- the moments
 
 -- A moment before the first command.
-pub record IsAtOpening (names : Names) (start : Scene) (text : Text) (moment : Snapshot) : Type 0 where
+pub record IsAtOpening (names : Names) (start : Scene) (document : Document) (moment : Snapshot) : Type 0 where
   pub answered : moment.answered ≡ length start.answers
   pub written : moment.output ≡ start.output
-  pub recovers : RecoversOrNone names (text ∷ []) moment.folder
+  pub recovers : RecoversOrNone names (document ∷ []) moment.folder
 
 -- A moment while the command after these was under way, or had ended: the clock was read as often as commands had begun.
-pub record IsAtCommand (names : Names) (start : Scene) (text : Text) (turns : List Turn) (moment : Snapshot) : Type 0 where
+pub record IsAtCommand (names : Names) (start : Scene) (document : Document) (turns : List Turn) (moment : Snapshot) : Type 0 where
   pub first : List Turn
   pub turn : Turn
   pub rest : List Turn
   pub turns_are : turns ≡ first ++ turn ∷ rest
   pub answered : moment.answered ≡ length start.answers + (length first + 1)
   pub written : moment.output ≡ start.output
-  -- what was recoverable is recovered, or the text of the sync that the command begins
-  pub recovers : Recovers names (recoverable (with_begun turn.sync (after_turns (opened text) first))) moment.folder
+  -- what was recoverable is recovered, or the document of the sync that the command begins
+  pub recovers : Recovers names (recoverable (with_begun turn.sync (after_turns (opened document) first))) moment.folder
 
 -- The moment at which the line was written, or a part of it.
-pub record IsAtLine (names : Names) (start : Scene) (text : Text) (turns : List Turn) (line : List ℕ) (moment : Snapshot) : Type 0 where
+pub record IsAtLine (names : Names) (start : Scene) (document : Document) (turns : List Turn) (line : List ℕ) (moment : Snapshot) : Type 0 where
   pub answered : moment.answered ≡ length start.answers + length turns
   pub written : (n : ℕ) × (moment.output ≡ start.output ++ take n line)
-  pub recovers : Recovers names (recoverable (after_turns (opened text) turns)) moment.folder
+  pub recovers : Recovers names (recoverable (after_turns (opened document) turns)) moment.folder
 
 -- A moment after that, while the swap files are removed: the line is whole.
-pub record IsAtRemoval (names : Names) (start : Scene) (text : Text) (turns : List Turn) (line : List ℕ) (moment : Snapshot) : Type 0 where
+pub record IsAtRemoval (names : Names) (start : Scene) (document : Document) (turns : List Turn) (line : List ℕ) (moment : Snapshot) : Type 0 where
   pub answered : moment.answered ≡ length start.answers + length turns
   pub written : moment.output ≡ start.output ++ line
-  pub recovers : RecoversOrNone names (recoverable (after_turns (opened text) turns)) moment.folder
+  pub recovers : RecoversOrNone names (recoverable (after_turns (opened document) turns)) moment.folder
 
 -- At a moment before the line no name but those of the pair has changed, and recovery gives what it may.
-pub record IsBeforeLine (names : Names) (start : Scene) (text : Text) (turns : List Turn) (moment : Snapshot) : Type 0 where
+pub record IsBeforeLine (names : Names) (start : Scene) (document : Document) (turns : List Turn) (moment : Snapshot) : Type 0 where
   pub spared : SameAt (is_foreign names) start.folder moment.folder
-  pub recovers : IsAtOpening names start text moment ⊎ IsAtCommand names start text turns moment
+  pub recovers : IsAtOpening names start document moment ⊎ IsAtCommand names start document turns moment
 
 -- And so at any moment.
-pub record IsStressMoment (names : Names) (start : Scene) (text : Text) (turns : List Turn) (line : List ℕ) (moment : Snapshot) : Type 0 where
+pub record IsStressMoment (names : Names) (start : Scene) (document : Document) (turns : List Turn) (line : List ℕ) (moment : Snapshot) : Type 0 where
   pub spared : SameAt (is_foreign names) start.folder moment.folder
-  pub recovers : IsAtOpening names start text moment ⊎ IsAtCommand names start text turns moment ⊎ IsAtLine names start text turns line moment
-      ⊎ IsAtRemoval names start text turns line moment
+  pub recovers : IsAtOpening names start document moment ⊎ IsAtCommand names start document turns moment ⊎ IsAtLine names start document turns line moment
+      ⊎ IsAtRemoval names start document turns line moment
 
 -- So it is at each moment from one scene to another, for the commands and the line that follows them.
-pub record IsStressSafe (OfHost : Scene → Type 0) (names : Names) (start now : Scene) (text : Text) (turns : List Turn) (line : List ℕ) : Type 0 where
+pub record IsStressSafe (OfHost : Scene → Type 0) (names : Names) (start now : Scene) (document : Document) (turns : List Turn) (line : List ℕ) : Type 0 where
   pub moments : List Snapshot
   pub added : now.trace ≡ moments ++ start.trace
-  pub safe : Each (IsStressMoment names start text turns line) moments
+  pub safe : Each (IsStressMoment names start document turns line) moments
   pub spared : SameAt (is_foreign names) start.folder now.folder
   pub steps : HasStretches OfHost names start moments turns now.folder_faults

@@ -16,7 +16,7 @@ use Rattle.vs_session.specs.Made.{LeavesNoneMade}
 use Rattle.vs_stress.specs.Commands.{stress_commands}
 use Rattle.vs_top.specs.History.{Past, any_error, commands_then}
 use Rattle.vs_top.specs.Run.{KeepsMarks, opened_file}
-use Rattle.vs_top.specs.Stress.{TellsStress, HasStretches, IsBeforeLine, is_up_to, stress_history, stress_name, stress_state, stress_text, stress_turns}
+use Rattle.vs_top.specs.Stress.{TellsStress, HasStretches, IsBeforeLine, is_up_to, stress_history, stress_name, stress_state, stress_document, stress_turns}
 use Rattle.vs_top.specs.StressCalls.{EachCalled}
 use Rattle.vs_top.specs.Turns.{KeepsOpenFile}
 
@@ -27,7 +27,7 @@ pub record StressTold (OfHost : Scene → Type 0) (old now : Scene) (session : S
   pub fits : Fits session now.folder (stress_state old past) (syncs_of (stress_history old past))
   pub moments : List Snapshot
   pub added : now.trace ≡ moments ++ old.trace
-  pub safe : Each (IsBeforeLine (names_of_file stress_name) old (stress_text old) (stress_turns old past)) moments
+  pub safe : Each (IsBeforeLine (names_of_file stress_name) old (stress_document old) (stress_turns old past)) moments
   pub spared : SameAt (is_foreign (names_of_file stress_name)) old.folder now.folder
   pub steps : HasStretches OfHost (names_of_file stress_name) old moments (stress_turns old past) now.folder_faults
   pub of_host : OfHost now

@@ -2,6 +2,7 @@
 use Rattle.std.specs.Prelude.{ℕ, Bool, true, not, List, [], ◌∷◌, ◌≡◌, ◌≤◌, ◌+◌, All, length, IsTrue}
 use Rattle.vs_host.specs.Names.{names_of_file}
 use Rattle.vs_host.specs.World.{Tells, Scene, content_of}
+use Rattle.vs_text.specs.Documents.{Document}
 use Rattle.vs_excmd.specs.Request.{Instruction}
 use Rattle.vs_script.specs.Ahead.{script_limit}
 use Rattle.vs_machine.specs.Replies.{opening_of}
@@ -13,15 +14,15 @@ use Rattle.vs_session.specs.declared.session.Session.{Session}
 use Rattle.vs_session.specs.declared.ending.End.{End}
 use Rattle.vs_session.specs.declared.ending.End.TheVariants as end
 use Rattle.vs_session.specs.Session.{accepts_quit}
-use Rattle.vs_session.specs.Opened.{Opened, text_in}
+use Rattle.vs_session.specs.Opened.{Opened, document_of_file}
 use Rattle.vs_session.specs.Fits.{Fits, HasOpened, HasSwap, names_of}
 use Rattle.vs_top.specs.History.{Past, any_error, commands_then, history_of, state_of}
 use Rattle.vs_top.specs.Calls.{CallsSoFar, OpensClean}
 use Rattle.vs_top.specs.Run.{TellsRun, KeepsMarks, counts_of, OnlyFolder, FaultHasCause, FileFits, IsTimed, commands_in, opened_file}
 
--- the text that a run opens, and its opening reply
-abbrev pub text_at : Scene → List ℕ → List (List ℕ)
-text_at old name = text_in (content_of old name)
+-- the document that a run opens
+abbrev pub document_at : Scene → List ℕ → Document
+document_at old name = document_of_file (content_of old name)
 
 -- the reply to the opening of a file
 abbrev pub opening_at : Scene → List ℕ → List ℕ
@@ -45,8 +46,8 @@ pub record Told (name : List ℕ) (old now : Scene) (session : Session) (marks :
 -- The file was opened, and nothing was written.
 pub record ToldOpen (name : List ℕ) (old now : Scene) (session : Session) : Type 0 where
   pub file : HasOpened (opened_file old name) session
-  pub fits : Fits session now.folder (opened_file old name).state (opened (text_at old name))
-  pub begun : HasBegun (names_of_file name) (text_at old name) old now
+  pub fits : Fits session now.folder (opened_file old name).state (opened (document_at old name))
+  pub begun : HasBegun (names_of_file name) (document_at old name) old now
   pub counted : IsCounted output_count old now
   pub clean : OpensClean (names_of_file name) old now
 

@@ -10,7 +10,7 @@ pub returns-clause-opens : goal.returns-clause-opens
 returns-clause-opens c = has_begun
 
 pub returns-clause-first : goal.returns-clause-first
-returns-clause-first c = λ party other text other_text start mid now has other_has apart frame. begun_first party other has other_has apart text None (RecoversOrNone other.names (other_text ∷ [])) start mid now frame
+returns-clause-first c = λ party other document other_document start mid now has other_has apart frame. begun_first party other has other_has apart document None (RecoversOrNone other.names (other_document ∷ [])) start mid now frame
 
 pub returns-clause-second : goal.returns-clause-second
-returns-clause-second c = λ party other text other_text start mid now has other_has apart frame. begins_second party other has other_has apart text None (RecoversOrNone other.names (other_text ∷ [])) start mid now frame
+returns-clause-second c = λ party other document other_document start mid now has other_has apart frame. begins_second party other has other_has apart document None (RecoversOrNone other.names (other_document ∷ [])) start mid now frame

@@ -1,6 +1,7 @@
 -- Each turn shows what is shown at one line more.
-use Rattle.std.proofs.Common.{◌∙◌, ℕ, ◌+◌, get_or, Ok, Err, IfErr, refl, ap, sym, subst, arith, ◌≡◌}
+use Rattle.std.proofs.Common.{◌∙◌, ℕ, ◌+◌, get_or, Ok, Err, IfErr, refl, ap, sym, subst, arith, rules, ◌≡◌}
 use Rattle.std.proofs.lemmas.Result.{err_from_is_err_and}
+use Rattle.vs_faults.proofs.Causes.{risen_after}
 use Rattle.vs_edit.proofs.Steps.{OnlyReads-trans}
 use Rattle.vs_global.specs.Carry.{IsRefused}
 use Rattle.vs_machine.specs.Shown.{shown_at, shown_by}
@@ -31,5 +32,16 @@ loop-line-preserved g c =
           (λ text has. read.bytes text (before.kept.present.text text has)) refl;
       some = λ _. read.some;
       kept = OnlyReads-trans g.met.S.LineStore.stays_on before.kept read.kept;
-      faults = omega (arith, before.faults, read.cause.later);
+      faults = read.cause.none (λ failed. absurd (cc)) ∙ before.faults;
+    }
+
+pub returns-in_err-span-clause-cause : goal.returns-in_err-span-clause-cause
+returns-in_err-span-clause-cause g c =
+    let same = c.loop-line.invariant.faults in
+    let cause = c.push_shown.ensures.cause in
+    record {
+      later = omega (arith, same, cause.later);
+      risen = λ failed. risen_after (omega (arith, same)) (cause.risen (search rules));
+      none = λ calm. cause.none (λ failed. calm (search rules)) ∙ same;
+      last = λ failed. let within = cause.last (search rules) in omega (arith, same, within);
     }

@@ -22,5 +22,5 @@ loop-i-preserved g c =
       at = next-at c.loop-i.reader c.line.new.self (top + c.loop-i.i) last (top + (c.loop-i.i + 1)) before.at read.at (omega arith);
       copied = λ text has. read.copied text (before.kept.present.text text has) (before.copied text has);
       kept = OnlyReads-trans law.stays_on before.kept read.kept;
-      faults = omega (arith, before.faults, read.cause.later);
+      faults = read.cause.none (λ failed. absurd (cc)) ∙ before.faults;
     }

@@ -1,5 +1,5 @@
 -- The lines that were read are numbered.
-use Rattle.std.proofs.Common.{◌≡◌, ◌≤◌, ◌<◌, ◌+◌, ◌-◌, List, ℕ, length}
+use Rattle.std.proofs.Common.{◌≡◌, ◌<◌, ◌+◌, ◌-◌, List, ℕ, length}
 use Rattle.vs_text.specs.Text.{file_of}
 use Rattle.vs_edit.specs.Calls.{OnlyReads}
 use Rattle.vs_edit.specs.Splices.{cut_out}
@@ -14,5 +14,5 @@ invariant-loop-i g l = let old = l.fn.store in record {
   at : IsAt l.reader ((l.span.first - 1) + l.i) l.span.last;
   copied : (text : List (List ℕ)) → (g.S.LineStore.shows old).present.Is text → HasCopied text l.reader;
   kept : OnlyReads g.S.LineStore old l.store;
-  faults : (g.S.LineStore.shows old).faults ≤ (g.S.LineStore.shows l.store).faults;
+  faults : (g.S.LineStore.shows l.store).faults ≡ (g.S.LineStore.shows old).faults;
 }

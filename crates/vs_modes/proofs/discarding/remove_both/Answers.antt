@@ -1,4 +1,4 @@
-use Rattle.std.proofs.Common.{◌≤◌, arith}
+use Rattle.std.proofs.Common.{arith}
 use Rattle.vs_host.specs.Disk.{SyncsNames}
 use Rattle.vs_host.specs.Trace.{SyncedNames}
 use Rattle.vs_disk.proofs.Quiet.{calls_one, calls_then, calls_within, none_call, none_then}

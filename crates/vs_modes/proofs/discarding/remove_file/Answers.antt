@@ -1,4 +1,4 @@
-use Rattle.std.proofs.Common.{◌≤◌, arith, inr, refl, subst}
+use Rattle.std.proofs.Common.{arith, inr, refl, subst}
 use Rattle.vs_host.specs.Disk.{Disk, ChangesNames, Removes}
 use Rattle.vs_host.specs.Trace.{Looked, Removed}
 use Rattle.vs_disk.proofs.Quiet.{calls_one, calls_then, calls_within, none_call, none_then}

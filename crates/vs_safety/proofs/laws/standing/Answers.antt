@@ -4,5 +4,5 @@ use Rattle.vs_safety.proofs.laws.standing.Goals as goal
 pub returns-clause-recovers : goal.returns-clause-recovers
 returns-clause-recovers c = between_recovers
 
-pub returns-clause-texts : goal.returns-clause-texts
-returns-clause-texts c = recoverable_are
+pub returns-clause-documents : goal.returns-clause-documents
+returns-clause-documents c = recoverable_are

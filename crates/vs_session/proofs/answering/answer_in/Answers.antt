@@ -55,7 +55,7 @@ returns-clause-kept g c =
       bounded = subst (λ (t : LineTree). IsBounded t) (sym (c.tree-1.given.1 (sym stays.0))) (bounded_tree g.F.World.tells.folder c.answer.new.store.pages.pair.now.pages c.answer.new.store.tree.now ready.valid.1 ready.committed);
       counts = subst (λ (t : LineTree). FitsCount c.answer.new.history (max 1 t.present.lines)) (sym (c.tree-1.given.1 (sym stays.0))) ready.counts;
       keeps = keeps_back g.F.World.tells c.args.pair.now _ _ (g.F.World.scene c.args.host.now) _ _ (c.pair-1.given.1 (sym stays.1.0)) (ap (λ (h : g.row.F.Denot). g.F.World.scene h) (c.host-1.given.1 (sym stays.1.1))) stays.1.2;
-      cause = cause_back (g.F.World.scene c.args.host.now).folder_faults _ _ (ap (λ (h : g.row.F.Denot). g.F.World.scene h) (c.host-1.given.1 (sym stays.1.1))) c.answer.ensures.atomic.cause;
+      cause = cause_back g.F.World.tells (g.F.World.scene c.args.host.now).folder_faults _ _ (ap (λ (h : g.row.F.Denot). g.F.World.scene h) (c.host-1.given.1 (sym stays.1.1))) c.answer.ensures.atomic.cause;
     }
 
 pub returns-clause-works : goal.returns-clause-works

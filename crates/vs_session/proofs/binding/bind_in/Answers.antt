@@ -40,7 +40,7 @@ returns-clause-kept g c =
           (bounded_stays g.F.World.tells.folder c.args.pair.now.pages c.bind.new.text.pages.pair.now.pages c.args.tree.now c.bind.new.text.tree.now kept.valid.1 c.bind.ensures.present kept.committed c.requires.lent.bounded);
       lines = ap (λ (t : LineTree). t.present.lines) (c.tree-1.given.1 (sym stays.0)) ∙ c.bind.ensures.present.lines;
       keeps = keeps_back g.F.World.tells c.args.pair.now _ _ (g.F.World.scene c.args.host.now) _ _ (c.pair-1.given.1 (sym stays.1.0)) (ap (λ (h : g.row.F.Denot). g.F.World.scene h) (c.host-1.given.1 (sym stays.1.1))) stays.1.2;
-      cause = cause_back (g.F.World.scene c.args.host.now).folder_faults _ _ (ap (λ (h : g.row.F.Denot). g.F.World.scene h) (c.host-1.given.1 (sym stays.1.1))) c.bind.ensures.cause;
+      cause = cause_back g.F.World.tells (g.F.World.scene c.args.host.now).folder_faults _ _ (ap (λ (h : g.row.F.Denot). g.F.World.scene h) (c.host-1.given.1 (sym stays.1.1))) c.bind.ensures.cause;
     }
 
 pub returns-clause-works : goal.returns-clause-works

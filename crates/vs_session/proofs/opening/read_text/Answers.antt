@@ -1,6 +1,6 @@
 use Rattle.std.proofs.Common.{◌∙◌, ℕ, List, Option, IfSome, ap, refl, subst}
 use Rattle.vs_text.specs.Limits.{IsWithinLimits}
-use Rattle.vs_text.specs.Text.{lines_of}
+use Rattle.vs_text.specs.Documents.{document_of}
 use Rattle.vs_session.specs.Open.{IsTooLarge}
 use Rattle.vs_session.specs.Opened.{sizes_of, text_in}
 use Rattle.vs_session.proofs.OpenLemmas.{err_is, failed_no_limit, handed_back, handed_on, not_failed, ok_never, same_content}
@@ -41,7 +41,7 @@ returns-clause-found g c = λ told.
 pub returns-clause-limits : goal.returns-clause-limits
 returns-clause-limits g c = record {
   within = λ told.
-      let P : Option (List ℕ) → Type 0 = λ file. IfSome file (λ bytes. IsWithinLimits (lines_of bytes)) in
+      let P : Option (List ℕ) → Type 0 = λ file. IfSome file (λ bytes. IsWithinLimits ((document_of bytes).text)) in
       subst P (same_content (g.H.World.scene c.args.host.now) (g.H.World.scene c.has_swap.new.host) c.args.name.now c.in_ok-has_swap.ensures.look.frame) (c.in_ok-found.ensures.limits.within told);
   limit = λ size of. absurd (cc);
 }

@@ -37,7 +37,7 @@ returns-clause-kept g c =
           (bounded_tree g.F.World.tells.folder c.unbind.new.text.pages.pair.now.pages c.unbind.new.text.tree.now kept.valid.1 (kept_same g.F.World.tells.folder c.args.pair.now.pages c.unbind.new.text.pages.pair.now.pages c.args.tree.now c.unbind.new.text.tree.now c.requires.lent.bounded paged kept.present kept.committed));
       counts = subst (λ (t : LineTree). FitsCount c.args.history.now (max 1 t.present.lines)) (sym (c.tree-1.given.1 (sym stays.0))) (subst (λ n. FitsCount c.args.history.now (max 1 n)) (sym kept.present.lines) c.requires.lent.counts);
       keeps = keeps_back g.F.World.tells c.args.pair.now _ _ (g.F.World.scene c.args.host.now) _ _ (c.pair-1.given.1 (sym stays.1.0)) (ap (λ (h : g.row.F.Denot). g.F.World.scene h) (c.host-1.given.1 (sym stays.1.1))) stays.1.2;
-      cause = cause_back (g.F.World.scene c.args.host.now).folder_faults _ _ (ap (λ (h : g.row.F.Denot). g.F.World.scene h) (c.host-1.given.1 (sym stays.1.1))) c.unbind.ensures.cause;
+      cause = cause_back g.F.World.tells (g.F.World.scene c.args.host.now).folder_faults _ _ (ap (λ (h : g.row.F.Denot). g.F.World.scene h) (c.host-1.given.1 (sym stays.1.1))) c.unbind.ensures.cause;
     }
 
 pub returns-clause-works : goal.returns-clause-works

@@ -1,4 +1,5 @@
-use Rattle.std.proofs.Common.{false, refl, sym, subst, arith}
+use Rattle.std.proofs.Common.{refl, sym, subst, ap, arith}
+use Rattle.vs_pair.specs.declared.head.Head.{Head}
 use Rattle.vs_pair.specs.Pair.{sync_with}
 use Rattle.vs_pair.specs.Steps as steps
 use Rattle.vs_pair.proofs.Acts.{acts_as}
@@ -8,38 +9,46 @@ use Rattle.vs_pages.specs.Memory.{committed_of}
 use Rattle.vs_pages.specs.declared.memory.MemPages.{MemPages}
 use Rattle.vs_paged.specs.Fits.{Starting}
 use Rattle.vs_paged.proofs.PageLemmas.{is_bounded}
-use Rattle.vs_paged.proofs.SyncLemmas.{names_opened, opened_starting, opened_fits, lines_opened}
+use Rattle.vs_paged.proofs.SyncLemmas.{opened_in, names_opened, opened_starting, opened_fits, lines_opened}
 use Rattle.vs_paged.proofs.opening.OpeningText.start.Goals as goal
 
 pub returns-in_err-start-clause-acts : goal.returns-in_err-start-clause-acts
 returns-in_err-start-clause-acts g c =
-    acts_as _ (steps.Starting c.self.inside.pair.files.names (sync_with c.self.inside.pair 1 _) (sync_with c.self.inside.pair 2 _)) (Starting (names_of_file c.args.self.name) c.args.self.text)
+    acts_as _ (steps.Starting c.self.inside.pair.files.names (sync_with c.self.inside.pair 1 _) (sync_with c.self.inside.pair 2 _)) (Starting (names_of_file c.args.self.name) (opened_in c.args.format c.args.self))
     (g.F.World.scene c.args.host.now) (g.F.World.scene c.start.new.host)
-    (λ told d starting. opened_starting c.self.inside.pair c.self.inside.tree _ c.args.self c.self.invariant.0 refl c.self.view_is _ d starting) c.start.ensures.acts
+    (λ told d starting.
+    opened_starting c.self.inside.pair c.self.inside.tree c.args.self c.self.invariant.0 c.self.view_is c.head_of.result c.args.format
+    (ap (λ (h : Head). h.empty) c.head_of.ensures.head) (ap (λ (h : Head). h.format) c.head_of.ensures.head) _ d starting)
+    c.start.ensures.acts
 
 pub returns-clause-acts : goal.returns-clause-acts
 returns-clause-acts g c =
-    acts_as _ (steps.Starting c.self.inside.pair.files.names (sync_with c.self.inside.pair 1 _) (sync_with c.self.inside.pair 2 _)) (Starting (names_of_file c.args.self.name) c.args.self.text)
+    acts_as _ (steps.Starting c.self.inside.pair.files.names (sync_with c.self.inside.pair 1 _) (sync_with c.self.inside.pair 2 _)) (Starting (names_of_file c.args.self.name) (opened_in c.args.format c.args.self))
     (g.F.World.scene c.args.host.now) (g.F.World.scene c.start.new.host)
-    (λ told d starting. opened_starting c.self.inside.pair c.self.inside.tree _ c.args.self c.self.invariant.0 refl c.self.view_is _ d starting) c.start.ensures.acts
+    (λ told d starting.
+    opened_starting c.self.inside.pair c.self.inside.tree c.args.self c.self.invariant.0 c.self.view_is c.head_of.result c.args.format
+    (ap (λ (h : Head). h.empty) c.head_of.ensures.head) (ap (λ (h : Head). h.format) c.head_of.ensures.head) _ d starting)
+    c.start.ensures.acts
 
 pub invariant_of-result : goal.invariant_of-result
 invariant_of-result g c = record { bounded = is_bounded c.self.inside.pair.pages c.self.inside.tree c.self.invariant.0; started = omega (arith, c.in_ok-start.ensures.generation) }
 
 pub returns-clause-fits : goal.returns-clause-fits
 returns-clause-fits g c told =
-    opened_fits c.self.inside.pair c.self.inside.tree _ c.args.self c.self.invariant.0 refl c.self.view_is _ _ c.start.ensures.pages refl refl (c.in_ok-start.ensures.ok told)
+    opened_fits c.self.inside.pair c.self.inside.tree c.args.self c.self.invariant.0 c.self.view_is c.head_of.result c.args.format
+    (ap (λ (h : Head). h.empty) c.head_of.ensures.head) (ap (λ (h : Head). h.format) c.head_of.ensures.head)
+    _ _ c.start.ensures.pages refl (ap (λ (h : Head). h.dirty) c.head_of.ensures.head) (c.in_ok-start.ensures.ok told)
 
 pub returns-clause-ends : goal.returns-clause-ends
 returns-clause-ends g c told =
     subst (λ (pages : MemPages). steps.BothEnd (names_of_file c.args.self.name) (committed_of pages) (g.F.World.scene c.start.new.host).folder) (sym c.start.ensures.pages)
     (subst (λ (names : Names). steps.BothEnd names (committed_of c.self.inside.pair.pages) (g.F.World.scene c.start.new.host).folder)
-    (names_opened c.self.inside.pair c.self.inside.tree (record { dirty = false; empty = _ }) c.args.self c.self.invariant.0 refl c.self.view_is) (c.in_ok-start.ensures.ends told))
+    (names_opened c.self.inside.pair c.self.inside.tree c.args.self c.self.invariant.0 c.self.view_is) (c.in_ok-start.ensures.ends told))
 
 pub returns-clause-moved : goal.returns-clause-moved
 returns-clause-moved g c told =
     subst (λ (names : Names). steps.BothMoved names (g.F.World.scene c.start.new.host).folder)
-    (names_opened c.self.inside.pair c.self.inside.tree (record { dirty = false; empty = _ }) c.args.self c.self.invariant.0 refl c.self.view_is) (c.in_ok-start.ensures.moved told)
+    (names_opened c.self.inside.pair c.self.inside.tree c.args.self c.self.invariant.0 c.self.view_is) (c.in_ok-start.ensures.moved told)
 
 pub returns-clause-lines : goal.returns-clause-lines
-returns-clause-lines g c = lines_opened c.self.inside.pair c.self.inside.tree (record { dirty = false; empty = _ }) c.args.self c.self.invariant.0 refl c.self.view_is
+returns-clause-lines g c = lines_opened c.self.inside.pair c.self.inside.tree c.args.self c.self.invariant.0 c.self.view_is

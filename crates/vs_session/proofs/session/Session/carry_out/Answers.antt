@@ -13,7 +13,7 @@ returns-in-Some-clause-reply g c told state syncs instruction fits is = reply_ow
 pub returns-in-Some-clause-fits : goal.returns-in-Some-clause-fits
 returns-in-Some-clause-fits g c told state syncs instruction fits is =
     let now = own_carried c.args.self.now _ _ _ state syncs instruction _ _ is.parsed (sym c.in-Some.ensures) c.options_set-self.ensures.set c.options_set-self.ensures.some fits in
-    record { stands = now.stands; name = now.name; cursor = now.cursor; saved = now.saved; steps = now.steps; options = now.options; acknowledged = now.acknowledged }
+    record { stands = now.stands; name = now.name; cursor = now.cursor; saved = now.saved; saved_format = now.saved_format; steps = now.steps; options = now.options; acknowledged = now.acknowledged }
 
 pub returns-in-None-clause-reply : goal.returns-in-None-clause-reply
 returns-in-None-clause-reply g c told state syncs instruction fits is =

@@ -1,10 +1,14 @@
-use Rattle.std.proofs.Common.{◌≤◌, ◌∙◌, ℕ, IsTrue, List, min, length, refl, sym, ap, subst, arith}
+use Rattle.std.proofs.Common.{◌≡◌, ◌≤◌, ◌∙◌, ℕ, IsTrue, List, Option, min, length, refl, sym, ap, subst, arith}
 use Rattle.vs_host.specs.Disk.{Disk}
 use Rattle.vs_host.specs.Names.{AreNames, is_allowed, names_of_file}
 use Rattle.vs_host.specs.World.{Scene}
 use Rattle.vs_disk.proofs.Quiet.{none_then}
 use Rattle.vs_pair.specs.Acts.{Acts}
 use Rattle.vs_pair.specs.Steps.{BothMoved, IsFresh}
+use Rattle.vs_text.specs.Documents.{Document}
+use Rattle.vs_host.specs.World.{content_of}
+use Rattle.vs_options.specs.Options.{first_options}
+use Rattle.vs_session.specs.Opened.{document_of_file, format_in, text_in}
 use Rattle.vs_safety.specs.Texts.{Text}
 use Rattle.vs_safety.specs.Turns as turns
 use Rattle.vs_paged.specs.Fits as folder
@@ -12,6 +16,10 @@ use Rattle.vs_session.proofs.Cleared.{cleared_same, cleared_started, cleared_the
 use Rattle.vs_session.proofs.OpenLemmas.{handed_back, never_over, allowed_short}
 use Rattle.vs_session.proofs.LookLemmas.{looks_none, is_fresh, opens_looks, opens_then}
 use Rattle.vs_session.proofs.session.Session.open.Goals as goal
+
+-- the document of a file, by its text and its format
+document_is : (file : Option (List ℕ)) (document : Document) → document.text ≡ text_in file → document.format ≡ format_in file → document ≡ document_of_file file
+document_is file document text format = λ i. record { text = text i; format = format i }
 
 pub returns-in_err-kept-clause-acts : goal.returns-in_err-kept-clause-acts
 returns-in_err-kept-clause-acts g c =
@@ -52,17 +60,25 @@ start-requires g c = record {
 
 pub returns-in_err-text-clause-acts : goal.returns-in_err-text-clause-acts
 returns-in_err-text-clause-acts g c =
+    let old = g.H.World.scene c.args.host.now in
     let mid = g.H.World.scene c.read_text.new.host in
     let new = g.H.World.scene c.start.new.host in
-    opens_then g.H.World.tells c.args.name.now c.in_ok-opening.opening.text (g.H.World.scene c.args.host.now) mid new c.requires.settled c.in_ok-opening.ensures.text c.in_ok-opening.ensures.reading.look.none c.in_ok-opening.ensures.reading.look.looks
-    (subst (λ (n : List ℕ). Acts g.H.World.tells (folder.Starting (names_of_file n) c.in_ok-opening.opening.text) mid new) c.in_ok-opening.ensures.name c.in_err-text.ensures.acts)
+    let document : Document = record { text = c.in_ok-opening.opening.text; format = c.found_format-format.result } in
+    opens_then g.H.World.tells c.args.name.now document old mid new c.requires.settled
+    (λ told. document_is (content_of old c.args.name.now) document (c.in_ok-opening.ensures.text told) (c.found_format-format.ensures (content_of old c.args.name.now) (c.in_ok-opening.ensures.found told)))
+    c.in_ok-opening.ensures.reading.look.none c.in_ok-opening.ensures.reading.look.looks
+    (subst (λ (n : List ℕ). Acts g.H.World.tells (folder.Starting (names_of_file n) document) mid new) c.in_ok-opening.ensures.name c.in_err-text.ensures.acts)
 
 pub returns-clause-acts : goal.returns-clause-acts
 returns-clause-acts g c =
+    let old = g.H.World.scene c.args.host.now in
     let mid = g.H.World.scene c.read_text.new.host in
     let new = g.H.World.scene c.start.new.host in
-    opens_then g.H.World.tells c.args.name.now c.in_ok-opening.opening.text (g.H.World.scene c.args.host.now) mid new c.requires.settled c.in_ok-opening.ensures.text c.in_ok-opening.ensures.reading.look.none c.in_ok-opening.ensures.reading.look.looks
-    (subst (λ (n : List ℕ). Acts g.H.World.tells (folder.Starting (names_of_file n) c.in_ok-opening.opening.text) mid new) c.in_ok-opening.ensures.name c.in_ok-text.ensures.acts)
+    let document : Document = record { text = c.in_ok-opening.opening.text; format = c.found_format-format.result } in
+    opens_then g.H.World.tells c.args.name.now document old mid new c.requires.settled
+    (λ told. document_is (content_of old c.args.name.now) document (c.in_ok-opening.ensures.text told) (c.found_format-format.ensures (content_of old c.args.name.now) (c.in_ok-opening.ensures.found told)))
+    c.in_ok-opening.ensures.reading.look.none c.in_ok-opening.ensures.reading.look.looks
+    (subst (λ (n : List ℕ). Acts g.H.World.tells (folder.Starting (names_of_file n) document) mid new) c.in_ok-opening.ensures.name c.in_ok-text.ensures.acts)
 
 pub returns-clause-barred_looks : goal.returns-clause-barred_looks
 returns-clause-barred_looks g c = λ told has. absurd (c.in_ok-opening.ensures.free told has)
@@ -72,18 +88,22 @@ returns-clause-undo g c = c.in_ok-history.ensures.counts _
 
 pub returns-clause-fits : goal.returns-clause-fits
 returns-clause-fits g c = λ told.
+    let old = g.H.World.scene c.args.host.now in
     let new = g.H.World.scene c.start.new.host in
+    let document : Document = record { text = c.in_ok-opening.opening.text; format = c.found_format-format.result } in
     let is = c.in_ok-opening.ensures.text told in
+    let format_is = c.found_format-format.ensures (content_of old c.args.name.now) (c.in_ok-opening.ensures.found told) in
     record {
       stands = record {
-        text = subst (λ (t : Text). folder.Fits c.in_ok-text.text new.folder t (turns.opened t)) is (c.in_ok-text.ensures.fits told);
+        text = subst (λ (x : Document). folder.Fits c.in_ok-text.text new.folder x.text (turns.opened x)) (document_is (content_of old c.args.name.now) document is format_is) (c.in_ok-text.ensures.fits told);
         history = c.in_ok-history.ensures.history _;
       };
       name = c.in_ok-kept.ensures.ok;
       cursor = c.min-cursor.ensures ∙ ap (λ (n : ℕ). min n 1) (c.len.ensures ∙ c.in_ok-text.ensures.lines ∙ ap (λ (t : Text). length t) is) ∙ omega arith;
       saved = refl;
+      saved_format = format_is;
       steps = refl;
-      options = c.first_options.ensures;
+      options = c.first_options.ensures ∙ ap first_options format_is;
       acknowledged = refl;
     }
 

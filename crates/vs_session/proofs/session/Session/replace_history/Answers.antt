@@ -14,7 +14,7 @@ returns-in-Ok-clause-read g c told state syncs fits =
       taken.1,
       refl,
       c.undo_file_read-reply.ensures ∙ read_line c.in-Ok.field-0.tree state.machine.text taken.0 _ _ taken.2 c.current.ensures taken.3,
-      fits_replaced c.take_undo.new.self _ c.in-Ok.field-0.tree new.folder state syncs taken.0 (c.in-Ok.ensures.fits told state syncs fits) taken.2 refl refl refl refl refl refl refl c.saved_in-saved.ensures,
+      fits_replaced c.take_undo.new.self _ c.in-Ok.field-0.tree new.folder state syncs taken.0 (c.in-Ok.ensures.fits told state syncs fits) taken.2 refl refl refl refl refl refl refl refl c.saved_in-saved.ensures,
     )
 
 pub returns-in-Err-clause-read : goal.returns-in-Err-clause-read

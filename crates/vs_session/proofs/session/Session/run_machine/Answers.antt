@@ -1,10 +1,12 @@
-use Rattle.std.proofs.Common.{sym, ◌∙◌}
+use Rattle.std.proofs.Common.{rules, refl, sym, ◌∙◌}
+use Rattle.std.proofs.lemmas.Bool.{true≢false}
 use Rattle.vs_machine.specs.Answers.{meaning_at}
 use Rattle.vs_machine.specs.Machine as machine
 use Rattle.vs_machine.specs.Machine.{current_of}
 use Rattle.vs_machine.specs.declared.command.Mark.{Mark}
 use Rattle.vs_machine.specs.declared.command.Outcome.TheVariants.{Done}
 use Rattle.vs_session.specs.Session.{keep_of}
+use Rattle.vs_session.proofs.Calls.{goes_reading}
 use Rattle.vs_session.proofs.SessionLemmas.{counted_is, counted_same, kept_alike, saved_is_left, stands_kept, stays_set}
 use Rattle.vs_session.proofs.session.Session.run_machine.Goals as goal
 
@@ -26,6 +28,7 @@ returns-in-Ok-clause-fits g c told state syncs instruction fits is =
       name = fits.name;
       cursor = after.1;
       saved = saved_is_left alike state.machine meaning _ _ _ _ oldest fits.saved (c.saved_after-self.ensures.history _ _ after.0.history);
+      saved_format = fits.saved_format;
       steps = c.counted-self.ensures.count ∙ counted_is c.args.self.now _ (g.F.World.scene c.args.host.now).folder state (machine.done_state state.machine (keep_of state mark) meaning) syncs c.current-before.result c.current.result fits after.0.history c.current-before.ensures c.current.ensures;
       options = stays_set c.args.self.now _ state syncs instruction _ fits is.parsed c.requires.own;
       acknowledged = fits.acknowledged;
@@ -37,6 +40,7 @@ returns-in-Err-NoMemory-clause-fits g c told state syncs instruction fits is = r
   name = fits.name;
   cursor = fits.cursor;
   saved = fits.saved;
+  saved_format = fits.saved_format;
   steps = fits.steps ∙ sym (counted_same state.steps (current_of state.machine));
   options = fits.options;
   acknowledged = fits.acknowledged;
@@ -48,6 +52,7 @@ returns-in-Err-Failed-clause-fits g c told state syncs instruction fits is = rec
   name = fits.name;
   cursor = fits.cursor;
   saved = fits.saved;
+  saved_format = fits.saved_format;
   steps = fits.steps ∙ sym (counted_same state.steps (current_of state.machine));
   options = fits.options;
   acknowledged = fits.acknowledged;
@@ -61,3 +66,21 @@ returns-in-Err-NoMemory-clause-works g c told state syncs instruction fits is = 
 
 pub returns-in-Err-Failed-clause-works : goal.returns-in-Err-Failed-clause-works
 returns-in-Err-Failed-clause-works g c told state syncs instruction fits is = c.in-Err-Failed.ensures.idle told
+
+pub returns-in-Ok-clause-kept : goal.returns-in-Ok-clause-kept
+returns-in-Ok-clause-kept g c =
+    let kept = c.in-Ok.ensures.kept in
+    goes_reading g.F.World.tells _ _ c.args.self.now _ (g.F.World.scene c.args.host.now) (g.F.World.scene c.answer_text.new.host) refl refl kept.keeps kept.counts kept.cause
+    (λ failed. absurd (cc)) (λ failed. absurd (true≢false (sym failed)))
+
+pub returns-in-Err-NoMemory-clause-kept : goal.returns-in-Err-NoMemory-clause-kept
+returns-in-Err-NoMemory-clause-kept g c =
+    let kept = c.in-Err-NoMemory.ensures.kept in
+    goes_reading g.F.World.tells _ _ c.args.self.now _ (g.F.World.scene c.args.host.now) (g.F.World.scene c.answer_text.new.host) refl refl kept.keeps kept.counts kept.cause
+    (λ failed. let is = c.in-Err-NoMemory.field-0-is in absurd (cc)) (λ failed. absurd (true≢false (sym failed)))
+
+pub returns-in-Err-Failed-clause-kept : goal.returns-in-Err-Failed-clause-kept
+returns-in-Err-Failed-clause-kept g c =
+    let kept = c.in-Err-Failed.ensures.kept in
+    goes_reading g.F.World.tells _ _ c.args.self.now _ (g.F.World.scene c.args.host.now) (g.F.World.scene c.answer_text.new.host) refl refl kept.keeps kept.counts kept.cause
+    (λ failed. refl) (λ failed. search rules)

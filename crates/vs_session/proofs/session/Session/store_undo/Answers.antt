@@ -1,15 +1,25 @@
-use Rattle.std.proofs.Common.{ap, refl}
+use Rattle.std.proofs.Common.{◌≡◌, Result, Ok, Err, IsErrAnd, IsErrOf, ap, refl, ◌∙◌}
+use Rattle.vs_edit.specs.declared.store.StoreErr.{StoreErr}
 use Rattle.vs_host.specs.World.{Scene}
 use Rattle.vs_backup.proofs.Stops.{stops_as, stops_then}
 use Rattle.vs_session.specs.Fits.{names_of}
 use Rattle.vs_session.proofs.Stored.{stored_bytes, stored_runs, stores_looked}
 use Rattle.vs_session.proofs.session.Session.store_undo.Goals as goal
 
+-- an error that is handed on is the same after that
+handed_on : {T U : Type 0} (r : Result U StoreErr) (e f : StoreErr) → IsErrAnd r (λ x. x ≡ e) → IsErrOf {T = T} (Err e) f → IsErrOf r f
+handed_on (Ok x) e f is of = absurd is
+handed_on (Err x) e f is of = let one : e ≡ f = cc in ap (λ (y : StoreErr). Err y) (is ∙ one)
+
+pub returns-in_err-bytes-clause-stops : goal.returns-in_err-bytes-clause-stops
+returns-in_err-bytes-clause-stops g c =
+    stops_as _ _ _ _ _ (λ calm failed. calm (handed_on c.from_residual.result _ _ c.from_residual.ensures.1 failed)) c.in_err-bytes.ensures.kept.stops
+
 pub returns-in_err-bytes-clause-runs : goal.returns-in_err-bytes-clause-runs
 returns-in_err-bytes-clause-runs g c told state syncs fits = stores_looked _ _ _ _ _ (c.in_err-bytes.ensures.kept.looks told)
 
 pub returns-in_err-bytes-clause-idle : goal.returns-in_err-bytes-clause-idle
-returns-in_err-bytes-clause-idle g c = λ lacks told. ap (λ (s : Scene). s.folder) (c.in_err-bytes.ensures.still told)
+returns-in_err-bytes-clause-idle g c = λ lacks told. ap (λ (s : Scene). s.folder) c.in_err-bytes.ensures.kept.frame
 
 pub returns-in-Ok-clause-runs : goal.returns-in-Ok-clause-runs
 returns-in-Ok-clause-runs g c told state syncs fits =

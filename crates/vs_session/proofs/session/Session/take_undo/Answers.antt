@@ -39,13 +39,13 @@ pub returns-in_err-tree-clause-fits : goal.returns-in_err-tree-clause-fits
 returns-in_err-tree-clause-fits g c told state syncs fits =
     let same = ap (λ (s : Scene). s.folder) c.in_ok-contents.ensures.reads.frame in
     let text = subst (λ (d : Disk). paged.Fits c.args.self.now.text d state.machine.text syncs) (sym same) fits.stands.text in
-    fits_again c.args.self.now _ _ _ state syncs fits (record { text = c.bind_undo.ensures.kept.fits told state.machine.text syncs text; history = fits.stands.history }) refl refl refl refl refl refl
+    fits_again c.args.self.now _ _ _ state syncs fits (record { text = c.bind_undo.ensures.kept.fits told state.machine.text syncs text; history = fits.stands.history }) refl refl refl refl refl refl refl
 
 pub returns-clause-fits : goal.returns-clause-fits
 returns-clause-fits g c told state syncs fits =
     let same = ap (λ (s : Scene). s.folder) c.in_ok-contents.ensures.reads.frame in
     let text = subst (λ (d : Disk). paged.Fits c.args.self.now.text d state.machine.text syncs) (sym same) fits.stands.text in
-    fits_again c.args.self.now _ _ _ state syncs fits (record { text = c.bind_undo.ensures.kept.fits told state.machine.text syncs text; history = fits.stands.history }) refl refl refl refl refl refl
+    fits_again c.args.self.now _ _ _ state syncs fits (record { text = c.bind_undo.ensures.kept.fits told state.machine.text syncs text; history = fits.stands.history }) refl refl refl refl refl refl refl
 
 pub returns-in_err-contents-clause-reads : goal.returns-in_err-contents-clause-reads
 returns-in_err-contents-clause-reads g c =

@@ -1,5 +1,6 @@
 use Rattle.std.proofs.Common.{Bool, Some, Ok, Err, ap, subst, ◌∙◌}
 use Rattle.vs_backup.specs.Backups.{IsNoName}
+use Rattle.vs_options.specs.declared.setting.Options.{Options}
 use Rattle.vs_undo.specs.declared.parts.Parts.{Parts}
 use Rattle.vs_session.specs.Fits.{names_of}
 use Rattle.vs_session.proofs.FileWritten.{wrote, marked_current}
@@ -18,6 +19,7 @@ returns-in-Ok-clause-wrote g c told state syncs fits =
       name = fits.name;
       cursor = fits.cursor;
       saved = ap Some (c.current.ensures ∙ ap (λ (p : Parts). p.current) c.mark_write.ensures.parts ∙ marked_current c.args.self.now.history ∙ current_is c.args.self.now.history state.machine fits.stands.history);
+      saved_format = ap (λ (o : Options). o.write.format) fits.options;
       steps = fits.steps;
       options = fits.options;
       acknowledged = fits.acknowledged;
@@ -36,6 +38,7 @@ returns-in-Err-clause-wrote g c told state syncs fits =
       name = fits.name;
       cursor = fits.cursor;
       saved = fits.saved;
+      saved_format = fits.saved_format;
       steps = fits.steps;
       options = fits.options;
       acknowledged = fits.acknowledged;

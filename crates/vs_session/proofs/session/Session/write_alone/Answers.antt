@@ -1,4 +1,4 @@
-use Rattle.std.proofs.Common.{◌∷◌, inr, true, refl, ◌∙◌}
+use Rattle.std.proofs.Common.{◌∷◌, inr, true, ◌∙◌}
 use Rattle.vs_machine.specs.declared.command.Outcome.TheVariants.{Done}
 use Rattle.vs_session.specs.Session.{after_sync, sync_in}
 use Rattle.vs_session.proofs.Calls.{GoesOn-weaker}
@@ -12,7 +12,7 @@ returns-in-Ok-clause-step g c told state syncs instruction before start at is of
     let new = g.F.World.scene c.write.new.host in
     let wrote = c.in-Ok.ensures.wrote told (after_sync state true) (sync_in state true ∷ syncs) s.synced in
     answers_alone state syncs instruction is before c.args.self.now start mid s c.in-Ok.bytes at c.write.new.self _ new c.in-Ok.ensures.kept.frame (c.in-Ok.ensures.kept.file.names ∙ s.names) wrote off
-    (c.written.ensures ∙ numbers c.write.new.self _ _ _ Done _ _ c.in-Ok.bytes wrote.fits refl refl)
+    (c.written.ensures ∙ numbers c.write.new.self _ _ _ Done c.in-Ok.bytes wrote.fits)
 
 pub returns-in-Err-clause-step : goal.returns-in-Err-clause-step
 returns-in-Err-clause-step g c told state syncs instruction before start at is off s =

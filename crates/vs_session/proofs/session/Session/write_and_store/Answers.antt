@@ -1,4 +1,4 @@
-use Rattle.std.proofs.Common.{◌∷◌, inr, true, refl, sym, ◌∙◌, subst}
+use Rattle.std.proofs.Common.{◌∷◌, inr, true, sym, ◌∙◌, subst}
 use Rattle.std.proofs.lemmas.Bool.{true≢false}
 use Rattle.vs_host.specs.declared.names.Names.{Names}
 use Rattle.vs_disk.specs.Runs.{Runs}
@@ -25,7 +25,7 @@ returns-in-Ok-clause-step g c told state syncs instruction before start at is on
     let store = c.store_written.ensures in
     answers_both state syncs instruction is before c.args.self.now start mid s on c.in-Ok.bytes at after made new c.in-Ok.ensures.kept.frame same wrote store.stores.frame store.stores.cause.later
     (subst (λ (n : Names). Runs (StoresUndo n state.machine.text history) made new) same (store.stores.runs told state.machine.text history undo_is)) _ _ store.ended
-    (store.reply ∙ numbers after made.folder _ _ _ _ _ c.in-Ok.bytes wrote.fits refl refl)
+    (store.reply ∙ numbers after made.folder _ _ _ c.in-Ok.bytes wrote.fits)
     (λ done. subst (λ (n : Names). HasUndo n state.machine.text history new.folder) same (store.stored done told state.machine.text history undo_is))
     store.stores.cause
     (subst (λ (n : Names). StoresBy n.undo_new n.undo made new) same (store.stores.calls told)) (store.stores.stops.last told)
