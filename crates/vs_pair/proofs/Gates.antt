@@ -64,7 +64,7 @@ mark_closes name gate old new changes has = record {
 
 -- ---- the body stays while the identifier changes
 
-same_page : (c d : List ℕ) → drop 2 c ≡ drop 2 d → (k : ℕ) (page : List ℕ) → 1 ≤ k → page_in d k ≡ Some page → page_in c k ≡ Some page
+pub same_page : (c d : List ℕ) → drop 2 c ≡ drop 2 d → (k : ℕ) (page : List ℕ) → 1 ≤ k → page_in d k ≡ Some page → page_in c k ≡ Some page
 same_page c d same k page least is =
     let found = page_found d k page is in
     let from : 4096 * k ≡ 2 + (4096 * k - 2) = omega (arith, least) in

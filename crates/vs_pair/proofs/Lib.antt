@@ -5,6 +5,7 @@ pub mod PageWrites
 pub mod FreshPages
 pub mod Bounds
 pub mod Gates
+pub mod Spared
 pub mod Reading
 pub mod Offers
 pub mod FitLemmas

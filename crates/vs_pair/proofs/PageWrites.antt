@@ -58,7 +58,7 @@ part bytes piece at from n le within =
     ∙ drop-take from n bytes
 
 -- a part of a part
-part_of : (bytes : List ℕ) (from n to : ℕ) → from + n ≤ to → take n (drop from (take to bytes)) ≡ take n (drop from bytes)
+pub part_of : (bytes : List ℕ) (from n to : ℕ) → from + n ≤ to → take n (drop from (take to bytes)) ≡ take n (drop from bytes)
 part_of bytes from n to within = sym (drop-take from n (take to bytes)) ∙ ap (λ (l : List ℕ). drop from l) (take-take (from + n) to bytes within) ∙ drop-take from n bytes
 
 pub page_is : (bytes : List ℕ) (k : ℕ) → 4096 * (k + 1) ≤ length bytes → page_in bytes k ≡ Some (take 4096 (drop (4096 * k) bytes))

@@ -1,5 +1,6 @@
 -- In which page numbers a swap file may differ from the committed pages.
 use Rattle.std.specs.Prelude.{◌≡◌, ℕ, zero, suc, ◌+◌, ◌-◌, ◌<◌, ◌≤◌, ◌||◌, Bool, true, false, nat_le, List, length, Some, None, IsSome}
+use Rattle.vs_host.specs.File.{File, IsFileImage}
 use Rattle.vs_pages.specs.Maps.{Map}
 use Rattle.vs_pages.specs.Memory.{commits_of, committed_of, IsSince}
 use Rattle.vs_pages.specs.declared.memory.MemPages.{MemPages}
@@ -21,6 +22,14 @@ is_stale pages written k = nat_le written.commits ((commits_of pages).last k) ||
 pub record HasFresh (pages : MemPages) (written : Written) (c : List ℕ) : Type 0 where
   pub long : 2 ≤ length c
   pub fresh : (k : ℕ) → 1 ≤ k → is_stale pages written k ≡ false → page_in c k ≡ Some (page_or_zeros (committed_of pages k))
+
+-- Each page that is not stale stands in these bytes as it stood before.
+abbrev pub HasUnstale : MemPages → Written → List ℕ → List ℕ → Type 0
+HasUnstale pages written was c = (k : ℕ) (page : List ℕ) → 1 ≤ k → is_stale pages written k ≡ false → page_in was k ≡ Some page → page_in c k ≡ Some page
+
+-- Only stale pages are written: each image of the file has all others as one from before has them.
+abbrev pub SparesFresh : MemPages → Written → File → File → Type 0
+SparesFresh pages written old new = (c : List ℕ) → IsFileImage new c → (d : List ℕ) × IsFileImage old d × HasUnstale pages written d c
 
 -- What is known to stand of the pages of a file with this gate, that of a sync of this map: all that no commit changed since, up to its
 -- last page. While the gate is closed the pages may be torn, so nothing is known.

@@ -10,7 +10,7 @@ ghost use Rattle.vs_pair.specs.Acts.{Acts};
 ghost use Rattle.vs_text.specs.Documents.{Document};
 ghost use Rattle.vs_pair.specs.Swap.{IsFormatNumber, Lengthens, Synced, page_zero};
 ghost use Rattle.vs_pair.specs.Pair.{IsFit, HasFit, Syncing, IsDocumentOf, Rises, name_of, other_side};
-ghost use Rattle.vs_pair.specs.Stale.{IsEnd, stale_below};
+ghost use Rattle.vs_pair.specs.Stale.{IsEnd, SparesFresh, stale_below};
 
 use crate::head::page_zero;
 use crate::side::{Side, swap_name};
@@ -81,6 +81,10 @@ impl SwapPair {
         ensures err { OnErr result (IsTrue F.tells.folder → (newest : Synced) (begun past : List Synced)
             → IsFit (known_of self.old) (F.scene host.old).folder newest begun past
             → IsFit (known_of self.new) (F.scene host.new).folder newest (sync_of self.old head.now ∷ begun) past) }
+
+        // Only pages that may differ in the file are written: in each image at each moment all others stand as before.
+        ensures spared { Acts F.tells (ChangesFile (name_of self.old.files.names (other_side self.old.files.newer))
+            (SparesFresh self.old.pages self.old.files.older_has)) (F.scene host.old) (F.scene host.new) }
 
         // The file comes to go up to its last page, or goes as far as before.
         ensures grown { OnOk result (IsTrue F.tells.folder → ChangesFile (name_of self.old.files.names (other_side self.old.files.newer))

@@ -7,7 +7,7 @@ ghost use Rattle.vs_disk.specs.Images.{FileHas, KeepsImages};
 ghost use Rattle.vs_pages.specs.Memory.{committed_of};
 ghost use Rattle.vs_disk.specs.Runs.{CallsAtMost, NoneFails};
 ghost use Rattle.vs_pair.specs.Acts.{Acts};
-ghost use Rattle.vs_pair.specs.Stale.{HasFresh, IsEnd, Keeps, stale_below};
+ghost use Rattle.vs_pair.specs.Stale.{HasFresh, IsEnd, Keeps, SparesFresh, stale_below};
 ghost use Rattle.vs_pair.specs.Writes.{HasRun, page_or_zeros};
 ghost use Rattle.vs_pair.specs.Swap.{Body, Holds, HasMark, ChangesMark, KeepsMark, KeepsLength, Lengthens, WritesBody, Fits, CloseStep, Closes, SyncStep, FailedSync, open_mark};
 
@@ -115,6 +115,7 @@ pub(crate) fn write_pages<F: Folder>(
 
     // At each moment each image has an identifier from before.
     ensures acts { Acts F.tells (ChangesFile name.now KeepsMark) (F.scene host.old) (F.scene host.new) }
+    ensures spared { Acts F.tells (ChangesFile name.now (SparesFresh pages.now written.now)) (F.scene host.old) (F.scene host.new) }
     ensures written { OnOk result (IsTrue F.tells.folder
         → ChangesFile name.now (WritesBody (record { first = first.now; pages = committed_of pages.now }))
         (F.scene host.old).folder (F.scene host.new).folder) }
@@ -196,6 +197,7 @@ pub(crate) fn sync_file<F: Folder>(
     // At each moment each image is not open, or has the body before or this one.
     ensures acts { Acts F.tells (ChangesFile name.now (SyncStep gate.old (record { first = first.now; pages = committed_of pages.now })))
         (F.scene host.old) (F.scene host.new) }
+    ensures spared { Acts F.tells (ChangesFile name.now (SparesFresh pages.now written.now)) (F.scene host.old) (F.scene host.new) }
     ensures opened { OnOk result (gate.new ≡ Gate.Open) }
     ensures stands { OnOk result (IsTrue F.tells.folder
         → FileHas (F.scene host.new).folder name.now (λ file. Leaves file (Holds (record { first = first.now; pages = committed_of pages.now })))) }

@@ -7,6 +7,7 @@ use Rattle.vs_pair.specs.Swap.{Body, Fits, FailedSync}
 use Rattle.vs_disk.proofs.Quiet.{none_then, calls_then, calls_within}
 use Rattle.vs_pair.proofs.Calls.{on_err_from, on_err_both}
 use Rattle.vs_pair.proofs.Gates.{ShutsWith, closing_acts, closing_failed, writing_acts, writing_failed, written_file, opening_acts, opening_failed, opened_file, grown_file, fresh_behind, still_there}
+use Rattle.vs_pair.proofs.Spared.{closes, marks, spares_on}
 use Rattle.std.proofs.Common.{◌+◌, arith}
 use Rattle.vs_pair.specs.Stale.{stale_below}
 use Rattle.vs_pair.proofs.writing.sync_file.Goals as goal
@@ -16,6 +17,9 @@ close_gate-requires g c = record { there = λ told. let was = c.requires.fits to
 
 pub returns-in_err-close_gate-clause-acts : goal.returns-in_err-close_gate-clause-acts
 returns-in_err-close_gate-clause-acts g c = closing_acts c.args.name.now c.args.gate.now (record { first = c.args.first.now; pages = committed_of c.args.pages.now }) g.F.World.tells (g.F.World.scene c.args.host.now) _ c.close_gate.ensures.acts
+
+pub returns-in_err-close_gate-clause-spared : goal.returns-in_err-close_gate-clause-spared
+returns-in_err-close_gate-clause-spared g c = closes c.args.pages.now c.args.written.now g.F.World.tells c.args.name.now c.args.gate.now _ _ c.close_gate.ensures.acts
 
 pub returns-in_err-close_gate-clause-failed : goal.returns-in_err-close_gate-clause-failed
 returns-in_err-close_gate-clause-failed g c =
@@ -34,6 +38,11 @@ pub returns-in_err-write_pages-clause-acts : goal.returns-in_err-write_pages-cla
 returns-in_err-write_pages-clause-acts g c =
     writing_acts c.args.name.now c.args.gate.now (record { first = c.args.first.now; pages = committed_of c.args.pages.now }) g.F.World.tells (g.F.World.scene c.args.host.now) _ _ c.in_ok-close_gate.ensures.none c.close_gate.ensures.acts c.in_ok-close_gate.ensures.closes
     c.write_pages.ensures.acts
+
+pub returns-in_err-write_pages-clause-spared : goal.returns-in_err-write_pages-clause-spared
+returns-in_err-write_pages-clause-spared g c =
+    spares_on c.args.pages.now c.args.written.now g.F.World.tells c.args.name.now _ _ _ c.in_ok-close_gate.ensures.none
+    (closes c.args.pages.now c.args.written.now g.F.World.tells c.args.name.now c.args.gate.now _ _ c.close_gate.ensures.acts) c.write_pages.ensures.spared
 
 pub returns-in_err-write_pages-clause-failed : goal.returns-in_err-write_pages-clause-failed
 returns-in_err-write_pages-clause-failed g c =
@@ -57,6 +66,13 @@ returns-clause-acts g c =
     c.write_pages.ensures.acts)
     (λ told. (written_file c.args.name.now c.args.gate.now (record { first = c.args.first.now; pages = committed_of c.args.pages.now }) _ _ _ (c.in_ok-close_gate.ensures.closes told) (c.in_ok-write_pages.ensures.written told)))
     c.open_gate.ensures.acts
+
+pub returns-clause-spared : goal.returns-clause-spared
+returns-clause-spared g c =
+    spares_on c.args.pages.now c.args.written.now g.F.World.tells c.args.name.now _ _ _ (none_then g.F.World.tells _ _ _ c.in_ok-close_gate.ensures.none c.in_ok-write_pages.ensures.none)
+    (spares_on c.args.pages.now c.args.written.now g.F.World.tells c.args.name.now _ _ _ c.in_ok-close_gate.ensures.none
+    (closes c.args.pages.now c.args.written.now g.F.World.tells c.args.name.now c.args.gate.now _ _ c.close_gate.ensures.acts) c.write_pages.ensures.spared)
+    (marks c.args.pages.now c.args.written.now g.F.World.tells c.args.name.now _ _ c.open_gate.ensures.acts)
 
 pub returns-clause-stands : goal.returns-clause-stands
 returns-clause-stands g c =

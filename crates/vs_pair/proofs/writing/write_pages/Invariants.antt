@@ -2,7 +2,7 @@ use Rattle.std.proofs.Common.{◌≡◌, ◌<◌, ◌≤◌, ◌+◌, ◌-◌, m
 use Rattle.vs_host.specs.Disk.{ChangesFile}
 use Rattle.vs_disk.specs.Runs.{CallsAtMost, NoneFails}
 use Rattle.vs_pair.specs.Acts.{Acts}
-use Rattle.vs_pair.specs.Stale.{is_stale, stale_below}
+use Rattle.vs_pair.specs.Stale.{SparesFresh, is_stale, stale_below}
 use Rattle.vs_pair.specs.Swap.{KeepsMark}
 use Rattle.vs_pair.proofs.PageWrites.{SoFar}
 use Rattle.vs_pair.proofs.writing.write_pages.Given as goal
@@ -14,6 +14,7 @@ invariant-runs g l = record {
   calls : CallsAtMost g.F.World.tells (g.F.World.scene l.fn.host) (g.F.World.scene l.host) (1 + stale_below l.pages l.written l.at);
   stale : l.at < l.end → is_stale l.pages l.written l.at ≡ true;
   acts : Acts g.F.World.tells (ChangesFile l.name KeepsMark) (g.F.World.scene l.fn.host) (g.F.World.scene l.host);
+  spared : Acts g.F.World.tells (ChangesFile l.name (SparesFresh l.pages l.written)) (g.F.World.scene l.fn.host) (g.F.World.scene l.host);
   none : NoneFails g.F.World.tells (g.F.World.scene l.fn.host) (g.F.World.scene l.host);
   so_far : IsTrue g.F.World.tells.folder → ChangesFile l.name (SoFar l.first l.pages l.written l.at) (g.F.World.scene l.fn.host).folder (g.F.World.scene l.host).folder;
 }

@@ -8,6 +8,8 @@ use Rattle.vs_pair.specs.declared.gate.Gate.TheVariants.{Open}
 use Rattle.vs_pair.specs.declared.side.Side.{Side}
 use Rattle.vs_pair.specs.Swap.{Body, body_of, Fits, Holds, Lengthens, SyncStep, FailedSync}
 use Rattle.vs_pair.specs.Pair.{Known, known_of, sync_of, name_of, other_side, IsFit, Syncing}
+use Rattle.vs_pair.specs.Acts.{Acts}
+use Rattle.vs_pair.specs.Stale.{SparesFresh}
 use Rattle.vs_pair.proofs.Acts.{acts_as}
 use Rattle.vs_pair.proofs.Calls.{on_err_from}
 use Rattle.vs_pair.proofs.FitLemmas.{body_is, moved, moved_has, syncing, there, failed, done, rises, none_rises, above_newest}
@@ -97,6 +99,16 @@ returns-clause-ok g c told newest begun past fit =
     (subst (λ (h : Gate). IsFit (now (other_side files.newer) h c.commits.result) (g.F.World.scene c.sync_file.new.host).folder (sync_of c.args.self.now c.args.head.now) [] (newest ∷ past))
     (sym c.in_ok-sync_file.ensures.opened)
     (subst (λ (n : ℕ). IsFit (now (other_side files.newer) Open n) (g.F.World.scene c.sync_file.new.host).folder (sync_of c.args.self.now c.args.head.now) [] (newest ∷ past)) (sym c.commits.ensures) after))
+
+pub returns-in_err-sync_file-clause-spared : goal.returns-in_err-sync_file-clause-spared
+returns-in_err-sync_file-clause-spared g c =
+    subst (λ (n : Name). Acts g.F.World.tells (ChangesFile n (SparesFresh c.args.self.now.pages c.args.self.now.files.older_has)) (g.F.World.scene c.args.host.now) (g.F.World.scene c.sync_file.new.host))
+    (c.swap_name-name.ensures ∙ ap (λ (s : Side). name_of c.args.self.now.files.names s) c.other-older.ensures) c.sync_file.ensures.spared
+
+pub returns-clause-spared : goal.returns-clause-spared
+returns-clause-spared g c =
+    subst (λ (n : Name). Acts g.F.World.tells (ChangesFile n (SparesFresh c.args.self.now.pages c.args.self.now.files.older_has)) (g.F.World.scene c.args.host.now) (g.F.World.scene c.sync_file.new.host))
+    (c.swap_name-name.ensures ∙ ap (λ (s : Side). name_of c.args.self.now.files.names s) c.other-older.ensures) c.sync_file.ensures.spared
 
 pub returns-clause-grown : goal.returns-clause-grown
 returns-clause-grown g c told =
