@@ -38,6 +38,11 @@ pub record Keeps (gate : Gate) (pages : MemPages) (written : Written) (map : Map
   pub last : 0 < written.end → IsSome (map (written.end - 1))
   pub torn : gate ≡ Closed → written ≡ nothing
 
+-- What is known of a file that has all committed pages: no commit came since, and no page lies after its end.
+pub record KnowsAll (pages : MemPages) (written : Written) : Type 0 where
+  pub commits : written.commits ≡ (commits_of pages).count
+  pub past : (k : ℕ) → written.end ≤ k → committed_of pages k ≡ None
+
 -- ---- how much is written
 
 -- 1 where this is so, else 0

@@ -10,7 +10,7 @@ ghost use Rattle.vs_pair.specs.Acts.{Acts};
 ghost use Rattle.vs_text.specs.Documents.{Document};
 ghost use Rattle.vs_pair.specs.Swap.{IsFormatNumber, Lengthens, Synced, page_zero};
 ghost use Rattle.vs_pair.specs.Pair.{IsFit, HasFit, Syncing, IsDocumentOf, Rises, name_of, other_side};
-ghost use Rattle.vs_pair.specs.Stale.{IsEnd, SparesFresh, stale_below};
+ghost use Rattle.vs_pair.specs.Stale.{IsEnd, SparesFresh, nothing, stale_below};
 
 use crate::head::page_zero;
 use crate::side::{Side, swap_name};
@@ -108,6 +108,9 @@ impl SwapPair {
             → CallsAtMost F.tells (F.scene host.old) (F.scene host.new) (6 + stale_below self.old.pages self.old.files.older_has end) }
         ensures turned { OnOk result (self.new.files.older_has ≡ self.old.files.newer_has) }
         ensures commits { OnOk result (self.new.files.newer_has.commits ≡ (commits_of self.new.pages).count) }
+        // After an error nothing is known of the pages of that file, and of the other one all that was.
+        ensures forgotten { OnErr result (self.new.files.older_has ≡ nothing) }
+        ensures remembered { OnErr result (self.new.files.newer_has ≡ self.old.files.newer_has) }
         ensures ended { OnOk result ((k : ℕ) → self.new.files.newer_has.end ≤ k → committed_of self.old.pages k ≡ None) }
     {
         let files = &mut self.files;

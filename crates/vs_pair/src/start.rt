@@ -5,6 +5,7 @@ ghost use Rattle.vs_disk.specs.Runs.{NoneFails};
 ghost use Rattle.vs_pair.specs.Acts.{Acts};
 ghost use Rattle.vs_pair.specs.Pair.{IsFit, known_of, name_of, temporary_of, sync_with};
 ghost use Rattle.vs_pair.specs.Steps.{BothEnd, BothMoved, IsAbsent, IsFresh, Makes, Starting};
+ghost use Rattle.vs_pair.specs.Stale.{KnowsAll};
 ghost use Rattle.vs_pair.specs.Swap.{IsFormatNumber, IsMade, body_of};
 ghost use Rattle.vs_pages.specs.Memory.{committed_of};
 ghost use Rattle.vs_host.specs.Disk.{names_of};
@@ -63,6 +64,9 @@ impl SwapPair {
         ensures moved { OnOk result (IsTrue F.tells.folder → BothMoved self.old.files.names (F.scene host.new).folder) }
         ensures sides { OnOk result ((self.new.files.newer ≡ Side.Swo) × (self.new.files.gate ≡ Gate.Open)) }
         ensures generation { OnOk result (self.new.files.generation ≡ 2) }
+
+        // Each file has all pages that are committed, so what a later sync writes is what changed since.
+        ensures known_all { OnOk result (KnowsAll self.new.pages self.new.files.newer_has × KnowsAll self.new.pages self.new.files.older_has) }
         ensures stays { OnErr result (self.new.files ≡ self.old.files) }
         ensures pages { self.new.pages ≡ self.old.pages }
         ensures names { self.new.files.names ≡ self.old.files.names }
