@@ -1,5 +1,5 @@
 -- In which page numbers a swap file may differ from the committed pages.
-use Rattle.std.specs.Prelude.{◌≡◌, ℕ, zero, suc, ◌+◌, ◌-◌, ◌<◌, ◌≤◌, ◌||◌, Bool, true, false, nat_le, List, length, Some, None, IsSome}
+use Rattle.std.specs.Prelude.{◌≡◌, ℕ, zero, suc, ◌+◌, ◌-◌, ◌<◌, ◌≤◌, ◌||◌, Bool, true, false, nat_le, List, length, Some, None, IsSome, Contains}
 use Rattle.vs_host.specs.File.{File, IsFileImage}
 use Rattle.vs_pages.specs.Maps.{Map}
 use Rattle.vs_pages.specs.Memory.{commits_of, committed_of, IsSince}
@@ -59,3 +59,8 @@ stale_below pages written (suc n) = one_if (is_stale pages written n) + stale_be
 pub record IsEnd (pages : MemPages) (end : ℕ) : Type 0 where
   pub some : 1 ≤ end
   pub past : (k : ℕ) → end ≤ k → committed_of pages k ≡ None
+
+-- The list has each number below this end that a commit changed since, and each that lies after the last page of the file.
+pub record HasChanged (pages : MemPages) (written : Written) (end : ℕ) (numbers : List ℕ) : Type 0 where
+  pub changed : (k : ℕ) → k < end → written.commits ≤ (commits_of pages).last k → Contains numbers k
+  pub added : (k : ℕ) → k < end → written.end ≤ k → Contains numbers k

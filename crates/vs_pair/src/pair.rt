@@ -1,5 +1,5 @@
 // The swap pair of a session.
-ghost use Rattle.std.specs.Prelude.{◌≡◌, ◌+◌, ◌<◌, ◌≤◌, ◌^◌, ◌∷◌, [], ℕ, List, None, OnOk, OnErr, IfOk, IsErr, IsTrue};
+ghost use Rattle.std.specs.Prelude.{◌≡◌, ◌+◌, ◌<◌, ◌≤◌, ◌^◌, ◌∷◌, [], ℕ, List, length, None, OnOk, OnErr, IfOk, IsErr, IsTrue};
 ghost use Rattle.vs_faults.specs.Faults.{HasCause};
 ghost use Rattle.vs_host.specs.Disk.{ChangesFile};
 ghost use Rattle.vs_host.specs.Names.{is_allowed, names_of_file};
@@ -10,7 +10,7 @@ ghost use Rattle.vs_pair.specs.Acts.{Acts};
 ghost use Rattle.vs_text.specs.Documents.{Document};
 ghost use Rattle.vs_pair.specs.Swap.{IsFormatNumber, Lengthens, Synced, page_zero};
 ghost use Rattle.vs_pair.specs.Pair.{IsFit, HasFit, Syncing, IsDocumentOf, Rises, name_of, other_side};
-ghost use Rattle.vs_pair.specs.Stale.{IsEnd, SparesFresh, nothing, stale_below};
+ghost use Rattle.vs_pair.specs.Stale.{HasChanged, IsEnd, SparesFresh, nothing, stale_below};
 
 use crate::head::page_zero;
 use crate::side::{Side, swap_name};
@@ -106,6 +106,8 @@ impl SwapPair {
         // Six calls and one for each page that may differ in the file, at most. What may differ is what was committed since it was synced.
         ensures calls { (end : ℕ) → IsEnd self.old.pages end
             → CallsAtMost F.tells (F.scene host.old) (F.scene host.new) (6 + stale_below self.old.pages self.old.files.older_has end) }
+        ensures few { (end : ℕ) (numbers : List ℕ) → IsEnd self.old.pages end → HasChanged self.old.pages self.old.files.older_has end numbers
+            → CallsAtMost F.tells (F.scene host.old) (F.scene host.new) (6 + length numbers) }
         ensures turned { OnOk result (self.new.files.older_has ≡ self.old.files.newer_has) }
         ensures commits { OnOk result (self.new.files.newer_has.commits ≡ (commits_of self.new.pages).count) }
         // After an error nothing is known of the pages of that file, and of the other one all that was.

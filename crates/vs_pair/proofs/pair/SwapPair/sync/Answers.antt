@@ -1,4 +1,4 @@
-use Rattle.std.proofs.Common.{◌≡◌, ℕ, ◌+◌, ◌∙◌, refl, sym, subst, ap}
+use Rattle.std.proofs.Common.{◌≡◌, ℕ, ◌+◌, ◌∙◌, refl, sym, subst, ap, arith}
 use Rattle.std.specs.Prelude.{[], ◌∷◌}
 use Rattle.vs_host.specs.File.{Leaves}
 use Rattle.vs_host.specs.Disk.{ChangesFile, Name}
@@ -10,7 +10,9 @@ use Rattle.vs_pair.specs.Swap.{Body, body_of, Fits, Holds, Lengthens, SyncStep, 
 use Rattle.vs_pair.specs.Pair.{Known, known_of, sync_of, name_of, other_side, IsFit, Syncing}
 use Rattle.vs_pair.specs.Acts.{Acts}
 use Rattle.vs_pair.specs.Stale.{SparesFresh}
+use Rattle.vs_disk.proofs.Quiet.{calls_within}
 use Rattle.vs_pair.proofs.Acts.{acts_as}
+use Rattle.vs_pair.proofs.Bounds.{stale_in}
 use Rattle.vs_pair.proofs.Calls.{on_err_from}
 use Rattle.vs_pair.proofs.FitLemmas.{body_is, moved, moved_has, syncing, there, failed, done, rises, none_rises, above_newest}
 use Rattle.vs_pair.proofs.pair.SwapPair.sync.Goals as goal
@@ -132,6 +134,16 @@ returns-in_err-sync_file-clause-calls g c = c.sync_file.ensures.calls
 
 pub returns-clause-calls : goal.returns-clause-calls
 returns-clause-calls g c = c.sync_file.ensures.calls
+
+pub returns-in_err-sync_file-clause-few : goal.returns-in_err-sync_file-clause-few
+returns-in_err-sync_file-clause-few g c end numbers is changed =
+    calls_within g.F.World.tells (g.F.World.scene c.args.host.now) (g.F.World.scene c.sync_file.new.host) _ _
+    (omega (arith, stale_in c.args.self.now.pages c.args.self.now.files.older_has end numbers changed)) (c.sync_file.ensures.calls end is)
+
+pub returns-clause-few : goal.returns-clause-few
+returns-clause-few g c end numbers is changed =
+    calls_within g.F.World.tells (g.F.World.scene c.args.host.now) (g.F.World.scene c.sync_file.new.host) _ _
+    (omega (arith, stale_in c.args.self.now.pages c.args.self.now.files.older_has end numbers changed)) (c.sync_file.ensures.calls end is)
 
 pub returns-clause-turned : goal.returns-clause-turned
 returns-clause-turned g c = refl
