@@ -1,23 +1,26 @@
--- The pages that are not stale stay in each image, since no write reaches them.
-use Rattle.std.proofs.Common.{◌≡◌, ◌⊎◌, inl, inr, ℕ, ◌+◌, ◌-◌, ◌*◌, ◌<◌, ◌≤◌, true, false, List, take, drop, Some, sym, ◌∙◌, ap, subst, arith, IsTrue}
+-- The pages that are not stale stay in each image, since no write reaches them; so they are as they are committed.
+use Rattle.std.proofs.Common.{◌≡◌, ◌⊎◌, inl, inr, ℕ, ◌+◌, ◌-◌, ◌*◌, ◌<◌, ◌≤◌, true, false, List, take, drop, Some, refl, sym, ◌∙◌, ap, subst, arith, IsTrue}
 use Rattle.std.proofs.lemmas.Bool.{cases_lt, true≢false}
 use Rattle.std.proofs.lemmas.List.{drop-drop}
-use Rattle.vs_host.specs.File.{File, IsFileImage, WritesSome}
+use Rattle.vs_host.specs.File.{File, IsFileImage, WritesSome, Leaves}
 use Rattle.vs_host.specs.Disk.{Disk, Name, ChangesFile}
 use Rattle.vs_host.specs.World.{Tells, Scene}
-use Rattle.vs_disk.specs.Images.{MaySync, Torn}
+use Rattle.vs_disk.specs.Images.{MaySync, Torn, Holds as HoldsAlways}
 use Rattle.vs_disk.specs.Runs.{NoneFails}
 use Rattle.vs_disk.proofs.Images.{torn_image, sync_narrows}
-use Rattle.vs_disk.proofs.Steps.{file_as}
+use Rattle.vs_disk.proofs.Steps.{same_at, file_as}
 use Rattle.vs_pages.specs.declared.memory.MemPages.{MemPages}
 use Rattle.vs_swap.specs.Files.{page_in}
 use Rattle.vs_pair.specs.declared.gate.Gate.{Gate}
+use Rattle.vs_pair.specs.declared.gate.Gate.TheVariants.{Open, Closed, Unknown}
 use Rattle.vs_pair.specs.declared.written.Written.{Written}
 use Rattle.vs_pair.specs.Acts.{Acts}
-use Rattle.vs_pair.specs.Stale.{SparesFresh, is_stale}
-use Rattle.vs_pair.specs.Swap.{ChangesMark, CloseStep}
+use Rattle.vs_pair.specs.Stale.{HasCommitted, Keeps, SparesFresh, is_stale}
+use Rattle.vs_pair.specs.Swap.{Synced, Body, body_of, ChangesMark, CloseStep, Fits}
+use Rattle.vs_pair.specs.Pair.{Known, IsFit, name_of, other_side}
 use Rattle.vs_pair.proofs.Acts.{acts_as}
 use Rattle.vs_pair.proofs.Calls.{acts_file}
+use Rattle.vs_pair.proofs.FreshPages.{fresh_in, none_fresh}
 use Rattle.vs_pair.proofs.Gates.{same_page}
 use Rattle.vs_pair.proofs.PageWrites.{page_is, page_found, part_of}
 
@@ -92,3 +95,22 @@ module _ (pages : MemPages) (has : Written) where
     pub spares_on : (old mid new : Scene) → NoneFails tells old mid → Acts tells (ChangesFile name (SparesFresh pages has)) old mid → Acts tells (ChangesFile name (SparesFresh pages has)) mid new
         → Acts tells (ChangesFile name (SparesFresh pages has)) old new
     spares_on old mid new none first second = acts_file tells name (SparesFresh pages has) (SparesFresh pages has) (SparesFresh pages has) (λ a b s. s) spares_joins old mid new none first second
+
+-- ---- what the file fitted
+
+committed_still : (gate : Gate) (pages : MemPages) (has : Written) (before : Body) → Keeps gate pages has before.pages → (a b : File) → Fits gate before a → SparesFresh pages has a b → Leaves b (HasCommitted pages has)
+committed_still Closed pages has before keeps a b fits spares c image k least is = absurd (none_fresh pages k (subst (λ (w : Written). is_stale pages w k ≡ false) (keeps.torn refl) is))
+committed_still Open pages has before keeps a b fits spares c image k least is =
+    let was = spares c image in was.2 k _ least is (fresh_in pages has before Open keeps was.0 (fits was.0 was.1).whole k least is)
+committed_still Unknown pages has before keeps a b fits spares c image k least is =
+    let was = spares c image in was.2 k _ least is (fresh_in pages has before Unknown keeps was.0 (fits was.0 was.1) k least is)
+
+pub fit_spared : (files : Known) (old new : Disk) (newest : Synced) (begun past : List Synced) → IsFit files old newest begun past
+    → ChangesFile (name_of files.names (other_side files.newer)) (SparesFresh files.pages files.older_has) old new
+    → HoldsAlways (name_of files.names (other_side files.newer)) (HasCommitted files.pages files.older_has) new
+fit_spared files old new newest begun past fit changes lost = record {
+  number = fit.older_number;
+  leads = same_at (name_of files.names (other_side files.newer)) (SparesFresh files.pages files.older_has) old new changes lost (name_of files.names (other_side files.newer)) ∙ fit.older.leads lost;
+  leaves = committed_still files.gate files.pages files.older_has (body_of files.names.file fit.older_sync) fit.older_keeps (old.files fit.older_number) (new.files fit.older_number) fit.older.has
+      (changes.this fit.older_number (fit.older.leads 0));
+}

@@ -18,18 +18,19 @@ nothing = record { commits = 0; end = 0 }
 abbrev pub is_stale : MemPages → Written → ℕ → Bool
 is_stale pages written k = nat_le written.commits ((commits_of pages).last k) || nat_le written.end k
 
--- The bytes have an identifier, and after page 0 each number that is not stale, as it is committed.
+-- After page 0 the bytes have each number that is not stale, as it is committed.
+abbrev pub HasCommitted : MemPages → Written → List ℕ → Type 0
+HasCommitted pages written c = (k : ℕ) → 1 ≤ k → is_stale pages written k ≡ false → page_in c k ≡ Some (page_or_zeros (committed_of pages k))
+
+-- They have an identifier, too.
 pub record HasFresh (pages : MemPages) (written : Written) (c : List ℕ) : Type 0 where
   pub long : 2 ≤ length c
-  pub fresh : (k : ℕ) → 1 ≤ k → is_stale pages written k ≡ false → page_in c k ≡ Some (page_or_zeros (committed_of pages k))
+  pub fresh : HasCommitted pages written c
 
--- Each page that is not stale stands in these bytes as it stood before.
-abbrev pub HasUnstale : MemPages → Written → List ℕ → List ℕ → Type 0
-HasUnstale pages written was c = (k : ℕ) (page : List ℕ) → 1 ≤ k → is_stale pages written k ≡ false → page_in was k ≡ Some page → page_in c k ≡ Some page
-
--- Only stale pages are written: each image of the file has all others as one from before has them.
+-- Only stale pages are written: each image of the file has all others as some image from before has them.
 abbrev pub SparesFresh : MemPages → Written → File → File → Type 0
-SparesFresh pages written old new = (c : List ℕ) → IsFileImage new c → (d : List ℕ) × IsFileImage old d × HasUnstale pages written d c
+SparesFresh pages written old new = (c : List ℕ) → IsFileImage new c → (was : List ℕ) × IsFileImage old was
+    × ((k : ℕ) (page : List ℕ) → 1 ≤ k → is_stale pages written k ≡ false → page_in was k ≡ Some page → page_in c k ≡ Some page)
 
 -- What is known to stand of the pages of a file with this gate, that of a sync of this map: all that no commit changed since, up to its
 -- last page. While the gate is closed the pages may be torn, so nothing is known.

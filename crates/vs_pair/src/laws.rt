@@ -1,14 +1,16 @@
 // Laws of a pair. They do nothing: their contracts are the laws.
 ghost use Rattle.std.specs.Prelude.{◌≡◌, ◌∷◌, [], ◌<◌, ◌^◌, ℕ, List, None, Ok, IsTrue, take};
-ghost use Rattle.vs_host.specs.Disk.{Disk, SyncsNames, IsImage, content_in};
+ghost use Rattle.vs_host.specs.Disk.{ChangesFile, Disk, SyncsNames, IsImage, content_in};
 ghost use Rattle.vs_host.specs.Names.{AreNames, is_allowed};
 ghost use Rattle.vs_host.specs.declared.names.Names.{Names};
+ghost use Rattle.vs_disk.specs.Images.{Holds as HoldsAlways};
 ghost use Rattle.vs_disk.specs.Names.{SameAt};
 ghost use Rattle.vs_zero.specs.Zero.{reading_of};
 ghost use Rattle.vs_text.specs.Documents.{Document};
 ghost use Rattle.vs_swap.specs.Recovery.{Recovered};
 ghost use Rattle.vs_pair.specs.Swap.{Synced, Holds, IsFormatNumber, body_of, zero_of};
-ghost use Rattle.vs_pair.specs.Pair.{Image, Known, is_swap, IsFit, IsBetween, IsDocumentOf, Offers, Recovers, Rises, known_of};
+ghost use Rattle.vs_pair.specs.Pair.{Image, Known, is_swap, IsFit, IsBetween, IsDocumentOf, Offers, Recovers, Rises, known_of, name_of, other_side};
+ghost use Rattle.vs_pair.specs.Stale.{HasCommitted, SparesFresh};
 ghost use Rattle.vs_pages.specs.Memory.{KeepsSince};
 ghost use Rattle.vs_pair.specs.declared.pair.SwapPair.{SwapPair};
 ghost use Rattle.vs_pair.specs.Steps.{IsFresh};
@@ -20,6 +22,13 @@ pub fn fitting()
         → IsFit files disk newest begun past → IsBetween files.names newest begun past disk }
     ensures recovers { (files : Known) (disk : Disk) (newest : Synced) (begun past : List Synced) → IsFit files disk newest begun past
         → Recovers files.names (newest ∷ begun) (newest ∷ past) disk }
+{}
+
+/// While a sync writes only the pages that may differ in its file, each image of that file has all others as they are committed.
+pub fn sparing()
+    ensures { (files : Known) (old new : Disk) (newest : Synced) (begun past : List Synced) → IsFit files old newest begun past
+        → ChangesFile (name_of files.names (other_side files.newer)) (SparesFresh files.pages files.older_has) old new
+        → HoldsAlways (name_of files.names (other_side files.newer)) (HasCommitted files.pages files.older_has) new }
 {}
 
 /// From two files that offer a sync of a document, that document is recovered.

@@ -18,7 +18,7 @@ mod written;
 pub use files::SwapFiles;
 pub use gate::Gate;
 pub use head::Head;
-pub use laws::{beginning, changing, fitting, leaving, recovering};
+pub use laws::{beginning, changing, fitting, leaving, recovering, sparing};
 pub use lent::PairPages;
 pub use pair::SwapPair;
 pub use side::Side;

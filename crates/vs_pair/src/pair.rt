@@ -110,10 +110,11 @@ impl SwapPair {
             → CallsAtMost F.tells (F.scene host.old) (F.scene host.new) (6 + length numbers) }
         ensures turned { OnOk result (self.new.files.older_has ≡ self.old.files.newer_has) }
         ensures commits { OnOk result (self.new.files.newer_has.commits ≡ (commits_of self.new.pages).count) }
+        ensures ended { OnOk result ((k : ℕ) → self.new.files.newer_has.end ≤ k → committed_of self.old.pages k ≡ None) }
+
         // After an error nothing is known of the pages of that file, and of the other one all that was.
         ensures forgotten { OnErr result (self.new.files.older_has ≡ nothing) }
         ensures remembered { OnErr result (self.new.files.newer_has ≡ self.old.files.newer_has) }
-        ensures ended { OnOk result ((k : ℕ) → self.new.files.newer_has.end ≤ k → committed_of self.old.pages k ≡ None) }
     {
         let files = &mut self.files;
         files.generation += 1;

@@ -28,7 +28,7 @@ runs-init g c = record {
   stale = c.next_stale-at.ensures.stale;
   acts = write_acts g.F.World.tells c.args.name.now KeepsMark 2 _ (write_after 2 _ (omega arith)) c.write_at.result _ _ c.write_at.ensures.some c.write_at.ensures.cause c.write_at.ensures.told c.write_at.ensures.frame;
   spared = write_acts g.F.World.tells c.args.name.now (SparesFresh c.args.pages.now c.args.written.now) 2 _ (write_spares c.args.pages.now c.args.written.now 2 _ (λ k least fresh. misses_first _ (omega (arith, c.requires.size, length-drop 2 c.args.first.now)) k least))
-    c.write_at.result _ _ c.write_at.ensures.some c.write_at.ensures.cause c.write_at.ensures.told c.write_at.ensures.frame;
+      c.write_at.result _ _ c.write_at.ensures.some c.write_at.ensures.cause c.write_at.ensures.told c.write_at.ensures.frame;
   none = none_call g.F.World.tells Wrote _ c.write_at.result _ _ c.write_at.ensures.frame c.write_at.ensures.told c.in_ok-write_at.ensures.quiet;
   so_far = λ told.
       has_passed c.args.name.now c.args.first.now c.args.pages.now c.args.written.now 1 c.next_stale-at.result (omega arith) c.next_stale-at.ensures.later c.next_stale-at.ensures.passed _ _
@@ -72,9 +72,9 @@ runs-preserved g c = record {
       (write_acts g.F.World.tells c.args.name.now KeepsMark _ _ (write_after _ _ (omega (arith, c.runs.invariant.some))) c.write_at-in-runs.result _ _ c.write_at-in-runs.ensures.some c.write_at-in-runs.ensures.cause
       c.write_at-in-runs.ensures.told c.write_at-in-runs.ensures.frame);
   spared = spares_on c.args.pages.now c.args.written.now g.F.World.tells c.args.name.now _ _ _ c.runs.invariant.none c.runs.invariant.spared
-    (write_acts g.F.World.tells c.args.name.now (SparesFresh c.args.pages.now c.args.written.now) _ _
-    (write_spares c.args.pages.now c.args.written.now _ _ (λ k least fresh. misses_run c.args.pages.now c.args.written.now _ _ c.runs.at c.stale_run-count.result (omega arith) c.run_bytes-bytes.ensures.size c.stale_run-count.ensures.stale k fresh))
-    c.write_at-in-runs.result _ _ c.write_at-in-runs.ensures.some c.write_at-in-runs.ensures.cause c.write_at-in-runs.ensures.told c.write_at-in-runs.ensures.frame);
+      (write_acts g.F.World.tells c.args.name.now (SparesFresh c.args.pages.now c.args.written.now) _ _
+      (write_spares c.args.pages.now c.args.written.now _ _ (λ k least fresh. misses_run c.args.pages.now c.args.written.now _ _ c.runs.at c.stale_run-count.result (omega arith) c.run_bytes-bytes.ensures.size c.stale_run-count.ensures.stale k fresh))
+      c.write_at-in-runs.result _ _ c.write_at-in-runs.ensures.some c.write_at-in-runs.ensures.cause c.write_at-in-runs.ensures.told c.write_at-in-runs.ensures.frame);
   none = none_then g.F.World.tells _ _ _ c.runs.invariant.none
       (none_call g.F.World.tells Wrote _ c.write_at-in-runs.result _ _ c.write_at-in-runs.ensures.frame c.write_at-in-runs.ensures.told c.in_ok-write_at-2.ensures.quiet);
   so_far = λ told.
