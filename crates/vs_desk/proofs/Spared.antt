@@ -29,6 +29,7 @@ use Rattle.vs_safety.specs.Texts.{Sync, Text, recoverable}
 use Rattle.vs_paged.specs.Fits.{Fits, names_of}
 use Rattle.vs_paged.specs.Pages.{IsPaged}
 use Rattle.vs_paged.specs.declared.paged.PagedText.{PagedText}
+use Rattle.vs_paged.proofs.PageLemmas.{filled_stays}
 use Rattle.vs_paged.proofs.SyncLemmas.{fits_kept, fits_recovers}
 use Rattle.vs_desk.specs.Pages.{SamePages}
 use Rattle.vs_desk.specs.Writes.{KeepsSwap}
@@ -109,6 +110,10 @@ pub paged_same : (told : Bool) (p q : MemPages) (t u : LineTree) (text : Text) �
 paged_same told p q t u text is same paged = record {
   present = has_same (λ x. x.present) (same.present is) paged.present;
   committed = has_same (λ x. x.committed) (same.committed is) paged.committed;
+  filled = record {
+    present = filled_stays _ _ _ _ (same.present is) (ap (λ (x : LineTree). x.present) same.tree) paged.filled.present;
+    committed = filled_stays _ _ _ _ (same.committed is) (ap (λ (x : LineTree). x.committed) same.tree) paged.filled.committed;
+  };
   idle = same.work is ∙ paged.idle ∙ sym (ap (λ (made : Commits). made.last) (same.commits is));
 }
   where

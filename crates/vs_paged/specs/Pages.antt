@@ -1,10 +1,14 @@
 -- A text in pages in memory.
 use Rattle.std.specs.Prelude.{◌≡◌, ◌≤◌, ℕ, List, true}
+use Rattle.vs_pages.specs.Maps.{Map}
 use Rattle.vs_pages.specs.Memory.{commits_of, committed_of, present_of, state_of}
 use Rattle.vs_pages.specs.declared.memory.MemPages.{MemPages}
 use Rattle.vs_text.specs.declared.TheConstants.{MAX_LINES, MAX_TEXT_BYTES}
+use Rattle.vs_tree_shape.specs.Filled.{HasFilled}
+use Rattle.vs_tree_blocks.specs.Blocks.{tree_format}
 use Rattle.vs_tree.specs.TextIn.{text_in}
 use Rattle.vs_tree.specs.Texts.{Fits, HasText, worked_by}
+use Rattle.vs_tree.specs.declared.texts.Extent.{Extent}
 use Rattle.vs_tree.specs.declared.tree.LineTree.{LineTree}
 use Rattle.vs_safety.specs.Texts.{Text}
 
@@ -12,18 +16,29 @@ use Rattle.vs_safety.specs.Texts.{Text}
 abbrev pub IsIdle : MemPages → Type 0
 IsIdle pages = worked_by (state_of pages) ≡ (commits_of pages).last
 
--- The pages have a text, and what is committed is the same one.
+-- The tree of a text with these numbers is filled.
+abbrev pub IsFilledIn : Map → Extent → Type 0
+IsFilledIn m extent = HasFilled tree_format m extent.height
+
+-- The tree is filled, as it is now and as it was committed.
+pub record AreFilled (pages : MemPages) (tree : LineTree) : Type 0 where
+  pub present : IsFilledIn (present_of pages) tree.present
+  pub committed : IsFilledIn (committed_of pages) tree.committed
+
+-- The pages have a text in a filled tree, and what is committed is the same one.
 pub record IsCommitted (pages : MemPages) (tree : LineTree) : Type 0 where
   pub present_fits : Fits true (present_of pages) tree.present
   pub committed_fits : Fits true (committed_of pages) tree.committed
+  pub filled : AreFilled pages tree
   pub same : text_in (committed_of pages) tree.committed ≡ text_in (present_of pages) tree.present
   pub same_height : tree.committed.height ≡ tree.present.height
   pub idle : IsIdle pages
 
--- The pages have this text, as it is now and as it was committed, and none was worked since.
+-- The pages have this text in a filled tree, as it is now and as it was committed, and none was worked since.
 pub record IsPaged (pages : MemPages) (tree : LineTree) (text : Text) : Type 0 where
   pub present : HasText (present_of pages) tree.present text
   pub committed : HasText (committed_of pages) tree.committed text
+  pub filled : AreFilled pages tree
   pub idle : IsIdle pages
 
 -- The numbers of a text are within the limits, also where no text is told, and the committed ones are the same.

@@ -13,19 +13,18 @@ ghost use Rattle.vs_text.specs.Limits.{IsWithinLimits};
 ghost use Rattle.vs_tree.specs.TextIn.{text_in};
 ghost use Rattle.vs_tree.specs.Texts.{Fits as FitsPages};
 ghost use Rattle.vs_paged.specs.Fits.{Fits, Starting, acknowledged_sync, names_of};
-ghost use Rattle.vs_paged.specs.Pages.{IsCommitted};
+ghost use Rattle.vs_paged.specs.Pages.{IsCommitted, IsFilledIn};
 
 use crate::PagedText;
 use crate::head::head_of;
 use std::alloc::{AllocError, Global};
 use std::marker::Model;
-use vs_edit::LineStore;
 use vs_host::{Failed, Folder};
-use vs_pages::{LentPages, MemPages, PageErr};
+use vs_pages::{MemPages, PageErr, Pages};
 use vs_pair::SwapPair;
 use vs_pieces::EndedLines;
 use vs_text::Format;
-use vs_tree::{LineTree, TreeStore};
+use vs_tree::LineTree;
 
 /// A text that is read, piece by piece, into the pages of a pair, seen as the name of its file and the lines so far. It has made
 /// no file yet.
@@ -67,15 +66,12 @@ fn memory_of_pages(error: PageErr) -> AllocError
 // Commits a text in pages.
 fn commit_in(tree: &mut LineTree, pages: &mut MemPages)
     requires present { FitsPages true (present_of pages.old) tree.old.present }
-    requires committed { FitsPages true (committed_of pages.old) tree.old.committed }
+    requires filled { IsFilledIn (present_of pages.old) tree.old.present }
     ensures text { text_in (present_of pages.new) tree.new.present ≡ text_in (present_of pages.old) tree.old.present }
     ensures committed { IsCommitted pages.new tree.new }
 {
-    let mut store = TreeStore {
-        tree,
-        pages: LentPages { pages },
-    };
-    store.commit();
+    pages.commit();
+    tree.commit();
 }
 
 // Puts lines at the end of a text in pages.

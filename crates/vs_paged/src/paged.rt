@@ -5,8 +5,8 @@ ghost use Rattle.vs_paged.specs.Pages.{IsBounded};
 use vs_pair::SwapPair;
 use vs_tree::LineTree;
 
-/// A text that stands as a tree of blocks in the pages of a pair of swap files, which were made. As a store of lines it is a
-/// `TreeStore` over `PairPages`, to which tree and pair are lent; each change is then committed, or it is taken back.
+/// A text that stands as a filled tree of blocks in the pages of a pair of swap files, which were made. As a store of lines it is the
+/// `MergedStore` of vs_merge over `PairPages`, to which tree and pair are lent; each change is then committed, or it is taken back.
 #[derive(Drop)]
 pub struct PagedText {
     pub tree: LineTree,

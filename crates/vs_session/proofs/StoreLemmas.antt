@@ -23,7 +23,7 @@ use Rattle.vs_paged.specs.Fits as folder
 use Rattle.vs_paged.specs.declared.paged.PagedText.{PagedText}
 use Rattle.vs_paged.proofs.SyncLemmas.{fits_changed, known_changed}
 use Rattle.vs_session.specs.Standing.{Stands, FitsState}
-use Rattle.vs_paged.specs.Pages.{IsBounded, IsPaged}
+use Rattle.vs_paged.specs.Pages.{IsBounded, IsFilledIn, IsPaged}
 
 -- ---- answers
 
@@ -46,6 +46,12 @@ committed_fits tells pages tree bounded paged = record {
   few_bytes = omega (arith, bounded.few_bytes, bounded.same_bytes);
   one = λ told. let is = paged told in (is.0, is.1.committed);
 }
+
+pub present_filled : (tells : Bool) (pages : MemPages) (tree : LineTree) → (IsTrue tells → (text : Text) × IsPaged pages tree text) → IsTrue tells → IsFilledIn (present_of pages) tree.present
+present_filled tells pages tree paged told = (paged told).1.filled.present
+
+pub committed_filled : (tells : Bool) (pages : MemPages) (tree : LineTree) → (IsTrue tells → (text : Text) × IsPaged pages tree text) → IsTrue tells → IsFilledIn (committed_of pages) tree.committed
+committed_filled tells pages tree paged told = (paged told).1.filled.committed
 
 pub same_text : (tells : Bool) (pages : MemPages) (tree : LineTree) → IsBounded tree → (IsTrue tells → (text : Text) × IsPaged pages tree text)
     → SameText (text_of tells (worked_by (state_of pages)) (present_of pages) tree.present) (text_of tells (commits_of pages).last (committed_of pages) tree.committed)
@@ -71,10 +77,11 @@ pub told_text : (tells : Bool) (pages : MemPages) (tree : LineTree) (text : Text
 told_text tells pages tree text told is = record { told = told; has = is.present }
 
 pub paged_text : (tells : Bool) (pages : MemPages) (tree : LineTree) (text : Text) → SameText (text_of tells (worked_by (state_of pages)) (present_of pages) tree.present) (text_of tells (commits_of pages).last (committed_of pages) tree.committed)
-    → Tells tells (present_of pages) tree.present text → IsPaged pages tree text
-paged_text tells pages tree text same is = record {
+    → (IsTrue tells → IsFilledIn (present_of pages) tree.present) → (IsTrue tells → IsFilledIn (committed_of pages) tree.committed) → Tells tells (present_of pages) tree.present text → IsPaged pages tree text
+paged_text tells pages tree text same present committed is = record {
   present = is.has;
   committed = (same.text text is).has;
+  filled = record { present = present is.told; committed = committed is.told };
   idle = shown_told tells (commits_of pages).last (worked_by (state_of pages)) is.told (sym same.worked_by);
 }
 

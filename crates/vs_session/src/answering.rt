@@ -13,9 +13,10 @@ use vs_edit::StoreErr;
 use vs_excmd::Request;
 use vs_host::Folder;
 use vs_machine::{Answered, Keep, UndoTree, answer};
+use vs_merge::MergedStore;
 use vs_paged::PagedText;
 use vs_pair::{PairPages, SwapPair};
-use vs_tree::{LineTree, TreeStore};
+use vs_tree::LineTree;
 
 // Answers a request over a text in the pages of a pair, with its undo tree.
 fn answer_in<F: Folder>(
@@ -49,7 +50,7 @@ fn answer_in<F: Folder>(
         → Stands pair.new.pages tree.new history.new state) }
     ensures kept { KeepsLentWithUndo F.tells (IsErrOf result StoreErr.Failed) pair.old pair.new tree.new history.new (F.scene host.old) (F.scene host.new) }
 {
-    let mut store = TreeStore {
+    let mut store = MergedStore {
         tree,
         pages: PairPages { pair, host },
     };

@@ -14,9 +14,10 @@ ghost use Rattle.vs_session.specs.Work.{SameWork};
 use std::alloc::Global;
 use vs_host::Folder;
 use vs_machine::UndoTree;
+use vs_merge::MergedStore;
 use vs_paged::PagedText;
 use vs_pair::{PairPages, SwapPair};
-use vs_tree::{LineTree, TreeStore};
+use vs_tree::LineTree;
 use vs_ubind::{BindErr, bind};
 use vs_ufile::FileHistory;
 
@@ -38,7 +39,7 @@ fn bind_in<F: Folder>(
     ensures kept { KeepsLent F.tells (IsErrOf result BindErr.Failed) pair.old pair.new tree.old tree.new (F.scene host.old) (F.scene host.new) }
     ensures works { SameWork F.tells pair.old.pages pair.new.pages }
 {
-    let mut store = TreeStore {
+    let mut store = MergedStore {
         tree,
         pages: PairPages { pair, host },
     };

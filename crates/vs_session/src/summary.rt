@@ -17,9 +17,10 @@ use crate::Session;
 use std::alloc::Global;
 use vs_edit::StoreErr;
 use vs_host::Folder;
+use vs_merge::MergedStore;
 use vs_paged::PagedText;
 use vs_pair::{PairPages, SwapPair};
-use vs_tree::{LineTree, TreeStore};
+use vs_tree::LineTree;
 use vs_ubind::digest;
 
 /// What a session has come to.
@@ -46,7 +47,7 @@ fn digest_in<F: Folder>(
     ensures digest { IfOk result (λ digest. IsTrue F.tells.folder → (text : Text) → IsPaged pair.old.pages tree.old text → digest ≡ digest_of text) }
     ensures kept { KeepsLent F.tells (IsErrOf result StoreErr.Failed) pair.old pair.new tree.old tree.new (F.scene host.old) (F.scene host.new) }
 {
-    let mut store = TreeStore {
+    let mut store = MergedStore {
         tree,
         pages: PairPages { pair, host },
     };

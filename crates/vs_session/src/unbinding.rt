@@ -19,9 +19,10 @@ use std::alloc::Global;
 use vs_edit::StoreErr;
 use vs_host::Folder;
 use vs_machine::UndoTree;
+use vs_merge::MergedStore;
 use vs_paged::PagedText;
 use vs_pair::{PairPages, SwapPair};
-use vs_tree::{LineTree, TreeStore};
+use vs_tree::LineTree;
 use vs_ubind::unbind;
 use vs_ufile::{FileHistory, encode};
 
@@ -43,7 +44,7 @@ fn unbind_in<F: Folder>(
     ensures kept { KeepsLentWithUndo F.tells (IsErrOf result StoreErr.Failed) pair.old pair.new tree.new history.now (F.scene host.old) (F.scene host.new) }
     ensures works { SameWork F.tells pair.old.pages pair.new.pages }
 {
-    let mut store = TreeStore {
+    let mut store = MergedStore {
         tree,
         pages: PairPages { pair, host },
     };

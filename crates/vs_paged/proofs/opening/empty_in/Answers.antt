@@ -9,3 +9,6 @@ new-requires-clause-there c = λ told. fresh_first _ c.requires
 
 pub returns-clause-text : goal.returns-clause-text
 returns-clause-text c = c.commit_in.ensures.text ∙ text_in-HasText (present_of c.new.new.pages) c.in-Ok.tree.present [] (c.in-Ok.ensures.text refl)
+
+pub commit_in-requires-clause-filled : goal.commit_in-requires-clause-filled
+commit_in-requires-clause-filled c = c.in-Ok.ensures.filled refl

@@ -6,7 +6,8 @@ use Rattle.vs_tree.proofs.Working.{history_worked}
 use Rattle.vs_tree.specs.declared.texts.Extent.{Extent}
 use Rattle.vs_tree.specs.declared.tree.LineTree.{LineTree}
 use Rattle.vs_tree.specs.TextIn.{text_in, text_in-HasText}
-use Rattle.vs_paged.proofs.PageLemmas.{text_had, room_end, text_back, text_stays}
+use Rattle.vs_pages.proofs.Steps.{history_present}
+use Rattle.vs_paged.proofs.PageLemmas.{text_had, room_end, text_back, text_stays, filled_stays}
 use Rattle.vs_paged.proofs.opening.push_in.Goals as goal
 
 pub push_lines-requires-clause-few_lines : goal.push_lines-requires-clause-few_lines
@@ -18,9 +19,8 @@ push_lines-requires-clause-short_lines c = (room_end (present_of c.args.pages.no
 pub push_lines-requires-clause-few_bytes : goal.push_lines-requires-clause-few_bytes
 push_lines-requires-clause-few_bytes c = (room_end (present_of c.args.pages.now) c.args.tree.now.present c.args.lines.now c.requires.committed.present_fits c.requires.within).2
 
-pub commit_in-requires-clause-committed : goal.commit_in-requires-clause-committed
-commit_in-requires-clause-committed c =
-    fits_kept true (committed_of c.args.pages.now) (committed_of c.push_lines.new.pages) _ _ (λ told. c.push_lines.ensures.kept.committed refl) c.push_lines.ensures.before c.requires.committed.committed_fits
+pub commit_in-requires-clause-filled : goal.commit_in-requires-clause-filled
+commit_in-requires-clause-filled c = c.in-Ok.ensures.filled refl c.requires.committed.filled.present
 
 pub returns-in-Ok-clause-ok : goal.returns-in-Ok-clause-ok
 returns-in-Ok-clause-ok c =
@@ -41,6 +41,10 @@ returns-in-Err-clause-committed c =
     record {
       present_fits = c.push_lines.ensures.fits;
       committed_fits = fits_kept true (committed_of old) (committed_of new) _ _ (λ told. c.push_lines.ensures.kept.committed refl) c.push_lines.ensures.before c.requires.committed.committed_fits;
+      filled = record {
+        present = filled_stays _ _ _ _ (history_present (state_of old) (state_of new) (c.in-Err.ensures.back refl)) (ap (λ (t : LineTree). t.present) c.in-Err.ensures.same) c.requires.committed.filled.present;
+        committed = filled_stays _ _ _ _ (c.push_lines.ensures.kept.committed refl) c.push_lines.ensures.before c.requires.committed.filled.committed;
+      };
       same = then ∙ c.requires.committed.same ∙ sym now;
       same_height = ap (λ (e : Extent). e.height) c.push_lines.ensures.before ∙ c.requires.committed.same_height ∙ sym (ap (λ (t : LineTree). t.present.height) c.in-Err.ensures.same);
       idle = work_kept (state_of old) (state_of new) (history_worked (state_of old) (state_of new) (c.in-Err.ensures.back refl)) (c.push_lines.ensures.kept.commits refl)

@@ -2,7 +2,7 @@ use Rattle.std.proofs.Common.{sym, ap, subst, max}
 use Rattle.vs_tree.specs.declared.tree.LineTree.{LineTree}
 use Rattle.vs_undo.specs.History.{FitsCount, IsHistory}
 use Rattle.vs_paged.specs.Pages.{IsBounded}
-use Rattle.vs_session.proofs.StoreLemmas.{if_ok_as, present_fits, committed_fits, same_text, told_text, paged_text, bounded_tree, stands_paged, stands_undo, stands_back, keeps_back, cause_back}
+use Rattle.vs_session.proofs.StoreLemmas.{if_ok_as, present_fits, committed_fits, present_filled, committed_filled, same_text, told_text, paged_text, bounded_tree, stands_paged, stands_undo, stands_back, keeps_back, cause_back}
 use Rattle.vs_paged.proofs.SyncLemmas.{on_err_as}
 use Rattle.vs_machine.specs.Answers.{meaning_at}
 use Rattle.vs_session.specs.Work.{most_in}
@@ -13,7 +13,7 @@ pub answer-requires-clause-ready : goal.answer-requires-clause-ready
 answer-requires-clause-ready g c =
     let paged = stands_paged g.F.World.tells.folder c.args.pair.now.pages c.args.tree.now c.args.history.now c.requires.lent.stands in
     record {
-      valid = (c.requires.lent.ready, present_fits _ _ _ c.requires.lent.bounded paged, committed_fits _ _ _ c.requires.lent.bounded paged);
+      valid = (c.requires.lent.ready, present_fits _ _ _ c.requires.lent.bounded paged, committed_fits _ _ _ c.requires.lent.bounded paged, present_filled _ _ _ paged, committed_filled _ _ _ paged);
       committed = same_text _ _ _ c.requires.lent.bounded paged;
       counts = c.requires.lent.counts;
       texts = stands_undo g.F.World.tells.folder c.args.pair.now.pages c.args.tree.now c.args.history.now c.requires.lent.stands;
@@ -30,7 +30,7 @@ returns-clause-state g c =
     if_ok_as c.answer.result _ _
     (λ answered ans told state instruction stands cursor is.
     let after = (ans state instruction (record { text = told_text _ _ _ _ told stands.text; history = stands.history; cursor = cursor }) is).after in
-    (stands_back _ _ _ _ _ _ (c.pair-1.given.1 (sym stays.1.0)) (c.tree-1.given.1 (sym stays.0)) (record { text = paged_text _ _ _ _ ready.committed after.text; history = after.history }), after.cursor))
+    (stands_back _ _ _ _ _ _ (c.pair-1.given.1 (sym stays.1.0)) (c.tree-1.given.1 (sym stays.0)) (record { text = paged_text _ _ _ _ ready.committed ready.valid.3 ready.valid.4 after.text; history = after.history }), after.cursor))
     c.answer.ensures.answers
 
 pub returns-clause-oldest : goal.returns-clause-oldest
@@ -44,7 +44,7 @@ returns-clause-err g c =
     on_err_as c.answer.result _ _
     (λ stayed told state stands.
     stands_back _ _ _ _ _ _ (c.pair-1.given.1 (sym stays.1.0)) (c.tree-1.given.1 (sym stays.0))
-    (record { text = paged_text _ _ _ _ ready.committed (stayed.text.text state.text (told_text _ _ _ _ told stands.text)); history = subst (λ p. IsHistory p state.text state.history) (sym stayed.tree) stands.history }))
+    (record { text = paged_text _ _ _ _ ready.committed ready.valid.3 ready.valid.4 (stayed.text.text state.text (told_text _ _ _ _ told stands.text)); history = subst (λ p. IsHistory p state.text state.history) (sym stayed.tree) stands.history }))
     c.answer.ensures.atomic.stayed
 
 pub returns-clause-kept : goal.returns-clause-kept

@@ -3,13 +3,13 @@ use Rattle.vs_tree.specs.declared.tree.LineTree.{LineTree}
 use Rattle.vs_undo.specs.History.{FitsCount}
 use Rattle.vs_paged.specs.Pages.{IsBounded}
 use Rattle.vs_session.proofs.Bindings.{history_there, if_err_as, if_ok_two}
-use Rattle.vs_session.proofs.StoreLemmas.{if_ok_as, present_fits, committed_fits, same_text, told_text, keeps_back, cause_back}
+use Rattle.vs_session.proofs.StoreLemmas.{if_ok_as, present_fits, committed_fits, present_filled, committed_filled, same_text, told_text, keeps_back, cause_back}
 use Rattle.vs_session.proofs.SummaryLemmas.{bounded_stays, paged_stays}
 use Rattle.vs_session.proofs.WorkLemmas.{unworked_back}
 use Rattle.vs_session.proofs.binding.bind_in.Goals as goal
 
 pub bind-requires-clause-valid : goal.bind-requires-clause-valid
-bind-requires-clause-valid g c = (c.requires.lent.ready, present_fits _ _ _ c.requires.lent.bounded c.requires.lent.paged, committed_fits _ _ _ c.requires.lent.bounded c.requires.lent.paged)
+bind-requires-clause-valid g c = (c.requires.lent.ready, present_fits _ _ _ c.requires.lent.bounded c.requires.lent.paged, committed_fits _ _ _ c.requires.lent.bounded c.requires.lent.paged, present_filled _ _ _ c.requires.lent.paged, committed_filled _ _ _ c.requires.lent.paged)
 
 pub bind-requires-clause-committed : goal.bind-requires-clause-committed
 bind-requires-clause-committed g c = same_text _ _ _ c.requires.lent.bounded c.requires.lent.paged
@@ -35,7 +35,7 @@ returns-clause-kept g c =
     record {
       paged = λ told text paged.
           paged_stays g.F.World.tells.folder _ c.bind.new.text.pages.pair.now c.args.pair.now.pages _ c.bind.new.text.tree.now c.args.tree.now text (c.pair-1.given.1 (sym stays.1.0)) (c.tree-1.given.1 (sym stays.0))
-          c.bind.ensures.present kept.committed told paged;
+          c.bind.ensures.present kept.committed kept.valid.3 kept.valid.4 told paged;
       bounded = subst (λ (t : LineTree). IsBounded t) (sym (c.tree-1.given.1 (sym stays.0)))
           (bounded_stays g.F.World.tells.folder c.args.pair.now.pages c.bind.new.text.pages.pair.now.pages c.args.tree.now c.bind.new.text.tree.now kept.valid.1 c.bind.ensures.present kept.committed c.requires.lent.bounded);
       lines = ap (λ (t : LineTree). t.present.lines) (c.tree-1.given.1 (sym stays.0)) ∙ c.bind.ensures.present.lines;

@@ -1,12 +1,12 @@
 use Rattle.std.proofs.Common.{sym, ap, subst, ◌∙◌}
 use Rattle.vs_tree.specs.declared.tree.LineTree.{LineTree}
 use Rattle.vs_paged.specs.Pages.{IsBounded}
-use Rattle.vs_session.proofs.StoreLemmas.{if_ok_as, present_fits, committed_fits, told_text, keeps_back, cause_back}
+use Rattle.vs_session.proofs.StoreLemmas.{if_ok_as, present_fits, committed_fits, present_filled, committed_filled, told_text, keeps_back, cause_back}
 use Rattle.vs_session.proofs.SummaryLemmas.{bounded_stays, paged_stays}
 use Rattle.vs_session.proofs.summary.digest_in.Goals as goal
 
 pub digest-requires : goal.digest-requires
-digest-requires g c = (c.requires.lent.ready, present_fits _ _ _ c.requires.lent.bounded c.requires.lent.paged, committed_fits _ _ _ c.requires.lent.bounded c.requires.lent.paged)
+digest-requires g c = (c.requires.lent.ready, present_fits _ _ _ c.requires.lent.bounded c.requires.lent.paged, committed_fits _ _ _ c.requires.lent.bounded c.requires.lent.paged, present_filled _ _ _ c.requires.lent.paged, committed_filled _ _ _ c.requires.lent.paged)
 
 pub returns-clause-digest : goal.returns-clause-digest
 returns-clause-digest g c =
@@ -19,7 +19,7 @@ returns-clause-kept g c =
     record {
       paged = λ told text paged.
           paged_stays g.F.World.tells.folder _ c.digest.new.text.pages.pair.now c.args.pair.now.pages _ c.digest.new.text.tree.now c.args.tree.now text (c.pair-1.given.1 (sym stays.1.0)) (c.tree-1.given.1 (sym stays.0))
-          kept.present kept.committed told paged;
+          kept.present kept.committed kept.valid.3 kept.valid.4 told paged;
       bounded = subst (λ (t : LineTree). IsBounded t) (sym (c.tree-1.given.1 (sym stays.0)))
           (bounded_stays g.F.World.tells.folder c.args.pair.now.pages c.digest.new.text.pages.pair.now.pages c.args.tree.now c.digest.new.text.tree.now kept.valid.1 kept.present kept.committed c.requires.lent.bounded);
       lines = ap (λ (t : LineTree). t.present.lines) (c.tree-1.given.1 (sym stays.0)) ∙ kept.present.lines;

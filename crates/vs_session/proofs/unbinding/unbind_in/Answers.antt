@@ -2,7 +2,7 @@ use Rattle.std.proofs.Common.{sym, ap, subst, max}
 use Rattle.vs_tree.specs.declared.tree.LineTree.{LineTree}
 use Rattle.vs_undo.specs.History.{FitsCount}
 use Rattle.vs_paged.specs.Pages.{IsBounded}
-use Rattle.vs_session.proofs.StoreLemmas.{if_ok_as, present_fits, committed_fits, same_text, told_text, paged_text, bounded_tree, stands_paged, stands_undo, stands_back, keeps_back, cause_back, kept_same}
+use Rattle.vs_session.proofs.StoreLemmas.{if_ok_as, present_fits, committed_fits, present_filled, committed_filled, same_text, told_text, paged_text, bounded_tree, stands_paged, stands_undo, stands_back, keeps_back, cause_back, kept_same}
 use Rattle.vs_session.proofs.WorkLemmas.{unworked_back}
 use Rattle.vs_session.proofs.unbinding.unbind_in.Goals as goal
 
@@ -10,7 +10,7 @@ pub unbind-requires : goal.unbind-requires
 unbind-requires g c =
     let paged = stands_paged g.F.World.tells.folder c.args.pair.now.pages c.args.tree.now c.args.history.now c.requires.lent.stands in
     record {
-      valid = (c.requires.lent.ready, present_fits _ _ _ c.requires.lent.bounded paged, committed_fits _ _ _ c.requires.lent.bounded paged);
+      valid = (c.requires.lent.ready, present_fits _ _ _ c.requires.lent.bounded paged, committed_fits _ _ _ c.requires.lent.bounded paged, present_filled _ _ _ paged, committed_filled _ _ _ paged);
       committed = same_text _ _ _ c.requires.lent.bounded paged;
       counts = c.requires.lent.counts;
       texts = stands_undo g.F.World.tells.folder c.args.pair.now.pages c.args.tree.now c.args.history.now c.requires.lent.stands;
@@ -25,7 +25,7 @@ returns-clause-stands g c told state stands =
     let kept = c.unbind.ensures.kept in
     let paged = stands_paged g.F.World.tells.folder c.args.pair.now.pages c.args.tree.now c.args.history.now c.requires.lent.stands in
     stands_back _ _ _ _ _ _ (c.pair-1.given.1 (sym kept.stays.1.0)) (c.tree-1.given.1 (sym kept.stays.0))
-    (record { text = paged_text _ _ _ _ (kept_same g.F.World.tells.folder c.args.pair.now.pages c.unbind.new.text.pages.pair.now.pages c.args.tree.now c.unbind.new.text.tree.now c.requires.lent.bounded paged kept.present kept.committed) (kept.present.text state.text (told_text _ _ _ _ told stands.text)); history = stands.history })
+    (record { text = paged_text _ _ _ _ (kept_same g.F.World.tells.folder c.args.pair.now.pages c.unbind.new.text.pages.pair.now.pages c.args.tree.now c.unbind.new.text.tree.now c.requires.lent.bounded paged kept.present kept.committed) kept.valid.3 kept.valid.4 (kept.present.text state.text (told_text _ _ _ _ told stands.text)); history = stands.history })
 
 pub returns-clause-kept : goal.returns-clause-kept
 returns-clause-kept g c =
