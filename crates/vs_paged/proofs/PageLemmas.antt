@@ -1,6 +1,6 @@
 -- A text in pages is the function of them and of its numbers, so it stays where those stay, and its tree with it.
-use Rattle.std.proofs.Common.{◌≡◌, ◌≤◌, ◌+◌, ℕ, true, List, [], ◌++◌, length, drop, All, refl, sym, ap, subst, ◌∙◌, arith}
-use Rattle.std.proofs.lemmas.List.{length-append}
+use Rattle.std.proofs.Common.{◌≡◌, ◌≤◌, ◌+◌, ℕ, true, List, [], ◌∷◌, ◌++◌, length, drop, All, refl, sym, ap, subst, ◌∙◌, arith}
+use Rattle.std.proofs.lemmas.List.{length-append, length-map}
 use Rattle.std.proofs.lemmas.List.Elements.{All-drop}
 use Rattle.std.proofs.lemmas.Grind.{common_steps}
 use Rattle.vs_pages.specs.Maps.{Map}
@@ -8,10 +8,12 @@ use Rattle.vs_pages.specs.Memory.{commits_of, committed_of, present_of, state_of
 use Rattle.vs_pages.specs.State.{history_of, one_more}
 use Rattle.vs_pages.proofs.Steps.{history_present}
 use Rattle.vs_pages.specs.declared.memory.MemPages.{MemPages}
-use Rattle.vs_text.specs.Text.{bytes_of}
+use Rattle.vs_text.specs.Text.{bytes_of, stored, stored_line}
 use Rattle.vs_text.specs.Limits.{IsShort, IsWithinLimits}
 use Rattle.vs_text.specs.declared.TheConstants.{MAX_LINES, MAX_TEXT_BYTES}
 use Rattle.vs_text.proofs.FileForm.{bytes_of-append}
+use Rattle.vs_tree_shape.proofs.Fills.{filled_height}
+use Rattle.vs_tree_blocks.specs.Blocks.{tree_format}
 use Rattle.vs_tree.specs.declared.texts.Extent.{Extent}
 use Rattle.vs_tree.specs.Texts.{HasText, Fits}
 use Rattle.vs_tree.specs.TextIn.{text_in, text_in-HasText}
@@ -84,3 +86,12 @@ is_bounded pages tree is =
       same_bytes = sym paged.committed.bytes ∙ paged.present.bytes;
       same_height = is.same_height;
     }
+
+few_stored : (text : List (List ℕ)) → length text ≤ 4000000 → length (stored text) ≤ 4000000
+few_stored [] few = omega arith
+few_stored (line ∷ text) few = let same : length (stored (line ∷ text)) ≡ length (line ∷ text) = length-map (line ∷ text) stored_line in omega (arith, few, same)
+
+-- the tree of a text is low
+pub low_paged : (pages : MemPages) (tree : LineTree) (text : List (List ℕ)) → IsPaged pages tree text → tree.present.height ≤ 5
+low_paged pages tree text is =
+    filled_height tree_format (present_of pages) tree.present.height (stored text) is.filled.present is.present.tree (few_stored text is.present.within.few_lines)

@@ -1,3 +1,4 @@
+use Rattle.vs_paged.proofs.PageLemmas.{low_paged}
 use Rattle.vs_paged.proofs.SyncLemmas.{fits_between, fits_recovers}
 use Rattle.vs_paged.proofs.laws.fitting.Goals as goal
 
@@ -6,3 +7,6 @@ returns-clause-between c = fits_between
 
 pub returns-clause-recovers : goal.returns-clause-recovers
 returns-clause-recovers c = fits_recovers
+
+pub returns-clause-low : goal.returns-clause-low
+returns-clause-low c = λ paged disk text syncs fits. low_paged paged.pair.pages paged.tree text fits.pages
