@@ -1,6 +1,6 @@
 -- What a stop leaves under a name on which a write does not work, it might leave there before: until the two syncs at the beginning
 -- are through nothing but these happens, and from then on such names are spared.
-use Rattle.std.proofs.Common.{◌≡◌, ◌⊎◌, inl, inr, ℕ, Bool, true, false, List, [], ◌∷◌, ◌++◌, Option, Some, None, Result, refl, sym, ◌∙◌, ap, subst}
+use Rattle.std.proofs.Common.{◌≡◌, inl, inr, ℕ, Bool, true, false, List, [], ◌∷◌, ◌++◌, Option, Some, None, Result, refl, sym, ◌∙◌, ap, subst}
 use Rattle.std.specs.Prelude.{is_some, IsSome}
 use Rattle.std.specs.Str.{bytes_eq}
 use Rattle.std.proofs.lemmas.Slice.Eq.{bytes_eq-Decides}
@@ -21,8 +21,8 @@ use Rattle.vs_backup.specs.declared.options.WriteOptions.{WriteOptions}
 use Rattle.vs_backup.specs.declared.errors.WriteErr.{WriteErr}
 use Rattle.vs_backup.specs.Backups.{WorksOn, backs_up, backup_of, copies}
 use Rattle.vs_backup.specs.Backups.WorksOn.{TheFile, TheNewFile, TheBackup, TheCopy}
-use Rattle.vs_backup.specs.Works.{IsOutside, Narrowed, Spares, Steps, one_name, two_names}
-use Rattle.vs_backup.specs.Writing.{FindsNoName, IsUnseen, WritesFresh, WritesPlain, WritesWith, backed_names}
+use Rattle.vs_backup.specs.Works.{Narrowed, Spares, Steps, one_name, two_names}
+use Rattle.vs_backup.specs.Writing.{WritesFresh, WritesPlain, WritesWith, backed_names}
 use Rattle.vs_backup.proofs.Following.{narrowed_runs}
 use Rattle.vs_backup.proofs.NamesApart.{new_name}
 use Rattle.vs_desk.specs.Still.{KeepsLeft}
