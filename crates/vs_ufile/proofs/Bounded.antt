@@ -16,8 +16,8 @@ use Rattle.vs_ufile.proofs.Laws.{row_one}
 record AtLeast (n : ℕ) (row : Row) : Type 0 where
   size : (bytes : List ℕ) (following : ℕ) → row bytes following → n ≤ length bytes
 
-record AllAtLeast (n : ℕ) (rows : List Row) : Type 0 where
-  sizes : (bytes : List ℕ) (following : ℕ) → InOrder rows bytes following → n ≤ length bytes
+pub record AllAtLeast (n : ℕ) (rows : List Row) : Type 0 where
+  pub sizes : (bytes : List ℕ) (following : ℕ) → InOrder rows bytes following → n ≤ length bytes
 
 least_end : AllAtLeast 0 []
 least_end = record { sizes = λ bytes following h. omega arith }
@@ -76,7 +76,7 @@ least_entry e = as_least _ (entry_size e) (entry_rows e) (omega arith)
     (least_more 4 _ _ _ (least_number 4 e.count) (least_more 4 _ _ _ (least_number 4 (length e.lines))
     (least_more _ 0 _ _ (least_each line_rows (λ line. 4 + length line) least_line e.lines) least_end))))))
 
-least_change : (p : Placed) → AllAtLeast (change_size p.change) (change_rows p)
+pub least_change : (p : Placed) → AllAtLeast (change_size p.change) (change_rows p)
 least_change p =
     let c = p.change in
     as_least _ (change_size c) (change_rows p) (omega arith)

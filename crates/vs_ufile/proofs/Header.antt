@@ -15,7 +15,7 @@ use Rattle.vs_ufile.proofs.Whole.{follows_any, reads_entries}
 abbrev none_kind : Option UfKind
 none_kind = None
 
-save_small : (n : ℕ) (b : Bool) → ltb 2000000000 n ≡ b → cond b (Some NumberZero) None ≡ none_kind → n ≤ 2000000000
+pub save_small : (n : ℕ) (b : Bool) → ltb 2000000000 n ≡ b → cond b (Some NumberZero) None ≡ none_kind → n ≤ 2000000000
 save_small n true e k = absurd cc
 save_small n false e k = ltb-false 2000000000 n e
 
@@ -74,7 +74,7 @@ option_is = refl
 abbrev pub option_or : Option (Option ℕ) → List Row
 option_or o = end_or option_rows (IsNumber 1 0 ∷ []) o
 
-save_or_not : (size kind : ℕ) (by : Bool) → is_save kind size ≡ by → by ≡ true → (size ≡ 4) × (kind ≡ 1)
+pub save_or_not : (size kind : ℕ) (by : Bool) → is_save kind size ≡ by → by ≡ true → (size ≡ 4) × (kind ≡ 1)
 save_or_not size kind by e t = save_of size kind (eqb kind 1) (eqb size 4) refl refl (e ∙ t)
 
 option_takes : (size : ℕ) (is_end : Bool) → eqb size 0 ≡ is_end → (bytes mid : List ℕ) (y : Option (Option ℕ)) (rest : List ℕ)

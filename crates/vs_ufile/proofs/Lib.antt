@@ -7,6 +7,11 @@ pub mod Header
 pub mod File
 pub mod Obeys
 pub mod Refused
+pub mod Moved
+pub mod Completed
+pub mod Unused
+pub mod Completions
+pub mod Late
 pub mod Signed
 pub mod Places
 pub mod Writes

@@ -149,7 +149,7 @@ obeys_lines count = record {
   faults = λ bytes fault h. lines_fault count [] h.0 bytes fault h.1 h.2;
 }
 
-obeys_entry : ObeysAll entry (field 4 ∷ field 4 ∷ field 4 ∷ some_of (λ count. all_of (holding 4 count ∷ lines_part count ∷ [])) ∷ [])
+pub obeys_entry : ObeysAll entry (field 4 ∷ field 4 ∷ field 4 ∷ some_of (λ count. all_of (holding 4 count ∷ lines_part count ∷ [])) ∷ [])
 unfolding entry
 obeys_entry =
     obeys_then (number 4) _ (field 4) _ (obeys_number 4) (λ top.
@@ -246,17 +246,17 @@ obeys_body = obeys_all body _ (
     obeys_then entries _ entries_part _ obeys_entries (λ entries. obeys_end _))))))
 
 -- the parts of a change after its magic number
-abbrev tail_parts : List Placed → List Part
+abbrev pub tail_parts : List Placed → List Part
 tail_parts before = links_part ∷ allowed_number 4 (change_number_kind (numbers_of before)) ∷ body_part ∷ []
 
-abbrev tail_reader : List Placed → ℕ → Read Placed
+abbrev pub tail_reader : List Placed → ℕ → Read Placed
 tail_reader before left = do
   links ← links
   number ← checked 4 (change_number_kind (numbers_of before))
   body ← body
   give (change_from left links number body)
 
-obeys_tail : (before : List Placed) (left : ℕ) → ObeysAll (tail_reader before left) (tail_parts before)
+pub obeys_tail : (before : List Placed) (left : ℕ) → ObeysAll (tail_reader before left) (tail_parts before)
 obeys_tail before left =
     obeys_then links _ links_part _ obeys_links (λ links.
     obeys_then (checked 4 (change_number_kind (numbers_of before))) _ (allowed_number 4 (change_number_kind (numbers_of before))) _ (obeys_checked 4 (change_number_kind (numbers_of before))) (λ number.
@@ -301,7 +301,7 @@ change_fault_by heads before bytes mid fault t e =
     ap (λ q. carry q (λ m. after_magic tail (eqb m 0xe7aa))) (checked_reads 2 (magic_kind 0x5fd0 0xe7aa) 0x5fd0 (one_is 0x5fd0 0xe7aa) bytes mid t)
     ∙ ap (λ c. after_magic tail c mid) (ne_eqb 0x5fd0 0xe7aa differ) ∙ ap (λ q. carry q (λ v. give (Some v))) e
 
-change_as : (heads : ℕ) (before : List Placed) (left : ℕ) (full : Bool) (bytes : List ℕ) → eqb (length before) heads ≡ full
+pub change_as : (heads : ℕ) (before : List Placed) (left : ℕ) (full : Bool) (bytes : List ℕ) → eqb (length before) heads ≡ full
     → change heads before left bytes ≡ cond full (refuse left TooManyHeads heads bytes) (tail_reader before left bytes)
 unfolding change
 change_as heads before left full bytes is = ap (λ b. cond b (refuse left TooManyHeads heads bytes) (tail_reader before left bytes)) is

@@ -103,7 +103,7 @@ distinct_at heads placed h i j d lt within = λ e.
     get_or_default (numbers_of placed) i 0 d (omega (arith, lt, within)) ∙ e ∙ get_or_default (numbers_of placed) j d 0 within in
     index_found x.change.number (numbers_of (take j placed)) none i inside (before_is placed j i lt le ∙ first ∙ n)
 
-few_heads : (heads : ℕ) (placed : List Placed) → Follows (Allowed heads) [] placed → length placed ≤ heads
+pub few_heads : (heads : ℕ) (placed : List Placed) → Follows (Allowed heads) [] placed → length placed ≤ heads
 few_heads heads placed h = elim (cases_lt heads (length placed)) [
   | inl lt ↦
       let a = allowed_at heads placed h heads lt in
@@ -115,7 +115,7 @@ few_heads heads placed h = elim (cases_lt heads (length placed)) [
 pub numbers_from : (heads : ℕ) (placed : List Placed) → Follows (Allowed heads) [] placed → AreNumbers (numbers_of placed)
 numbers_from heads placed h = record { range = range_at heads placed h; distinct = distinct_at heads placed h }
 
-kind_none : (n : ℕ) (seen : List ℕ) → 0 < n → n ≤ 2147483647 → is_some (index_of n seen) ≡ false → change_number_kind seen n ≡ None
+pub kind_none : (n : ℕ) (seen : List ℕ) → 0 < n → n ≤ 2147483647 → is_some (index_of n seen) ≡ false → change_number_kind seen n ≡ None
 kind_none n seen pos le absent =
     let some : eqb n 0 ≡ false = ne_eqb n 0 (omega (arith, pos)) in
     let small : ltb 2147483647 n ≡ false = le-ltb 2147483647 n le in

@@ -4,6 +4,7 @@ pub mod Changes
 pub mod Form
 pub mod Format
 pub mod Refusals
+pub mod Completing
 pub mod Sizes
 pub mod Decode
 pub mod Signature

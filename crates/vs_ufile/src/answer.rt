@@ -2,6 +2,7 @@ ghost use Rattle.std.specs.Prelude.{◌≡◌, ◌≤◌, length, map, IfErr, If
 ghost use Rattle.vs_ufile.specs.declared.fault.Fault.{Fault};
 ghost use Rattle.vs_ufile.specs.declared.fault.Stop.TheVariants.{Memory};
 ghost use Rattle.vs_ufile.specs.Changes.{placed_of};
+ghost use Rattle.vs_ufile.specs.Completing.{NoneIsLate};
 ghost use Rattle.vs_ufile.specs.Decode.{Answers, IsChecked, IsUndoFile, OneReading, error_of, first_unknown, history, no_memory, unknown, unknown_among, unknown_in, with_links};
 ghost use Rattle.vs_ufile.specs.Form.{file_of};
 ghost use Rattle.vs_ufile.specs.Reading.{Gives, file, numbers_of};
@@ -180,6 +181,11 @@ pub fn one_reading()
 /// The parts by which bytes are refused are the rows by which they are read.
 pub fn same_format()
     ensures { SameFormat }
+{}
+
+/// What stands in front of a refusal of form is the beginning of an undo file, so that none comes later than it could.
+pub fn none_is_late()
+    ensures { NoneIsLate }
 {}
 
 /// Reads an undo file of version 2 (docs/FORMATS.md, "Undo file"). Bytes after its end are ignored.
