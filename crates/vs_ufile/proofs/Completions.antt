@@ -1,7 +1,6 @@
 -- Each part of an undo file can be completed from where it is refused, and so can the file.
-use Rattle.std.proofs.Common.{◌≡◌, ◌≢◌, ℕ, zero, suc, ◌+◌, ◌<◌, ◌^◌, ◌⊎◌, inl, inr, Bool, true, false, eqb, ◌&&◌, List, [], ◌∷◌, ◌++◌, length, replicate, Option, Some, None, Ok, refl, sym, ap, subst, ◌∙◌, append_assoc, arith}
-use Rattle.std.proofs.lemmas.Bool.{eqb-false, ne_eqb}
-use Rattle.std.proofs.lemmas.List.{append-nil, append_cancel_right, length-append, length-replicate}
+use Rattle.std.proofs.Common.{◌≡◌, ℕ, zero, suc, ◌+◌, ◌<◌, ◌^◌, inl, inr, Bool, true, false, List, [], ◌∷◌, length, replicate, Option, Some, None, refl, sym, ap, subst, arith}
+use Rattle.std.proofs.lemmas.List.{length-replicate}
 use Rattle.std.proofs.Math.Nat.{mod-lt}
 use Rattle.std.specs.Int.{byte_at, bytes_high_first}
 use Rattle.vs_bytes.specs.Fields.{Big, bytes_of}
@@ -10,13 +9,13 @@ use Rattle.vs_text.specs.Text.{plain_line}
 use Rattle.vs_ufile.specs.declared.error.UfKind.{UfKind}
 use Rattle.vs_ufile.specs.declared.fault.Fault.{Fault}
 use Rattle.vs_ufile.specs.Completing.{AreBytes}
-use Rattle.vs_ufile.specs.Format.{Row, InOrder, Each, Follows, Any, Is, IsLine, IsNumber, Skipped, line_rows, option_rows}
-use Rattle.vs_ufile.specs.Reading.{Read, save_number_kind, start_bytes, version_kind}
-use Rattle.vs_ufile.specs.Refusals.{IsCut, Part, Past, RefusedAtOne, all_of, allowed_number, data_part, field, front_part, holding, length_part, lines_part, magic, option_part, sized_part, some_of, start_part, up_to}
-use Rattle.vs_ufile.proofs.Completed.{AllComplete, Begins, Completes, CompletesSome, Ending, begins_as, begins_here, begins_past, begins_then, both_bytes, completes_all, completes_here, completes_some, ending_as, ending_then, fewer, filled_all, most, past_some, rows_of, some_then, zero_bytes}
+use Rattle.vs_ufile.specs.Format.{Row, InOrder, Each, Any, IsLine, IsNumber, Skipped, line_rows, option_rows}
+use Rattle.vs_ufile.specs.Reading.{save_number_kind, start_bytes, version_kind}
+use Rattle.vs_ufile.specs.Refusals.{IsCut, Part, Past, all_of, allowed_number, data_part, field, front_part, holding, length_part, lines_part, magic, option_part, sized_part, some_of, start_part}
+use Rattle.vs_ufile.proofs.Completed.{AllComplete, Begins, Completes, CompletesSome, Ending, begins_as, begins_here, begins_past, begins_then, completes_all, completes_here, completes_some, ending_as, ending_then, fewer, most, rows_of, some_then, zero_bytes}
 use Rattle.vs_ufile.proofs.Header.{is_save, save_or_not, save_small}
-use Rattle.vs_ufile.proofs.Laws.{Reads, one_row, row_one}
-use Rattle.vs_ufile.proofs.Moved.{Moves, move_any, move_each, move_line, move_number, move_option, move_run}
+use Rattle.vs_ufile.proofs.Laws.{one_row, row_one}
+use Rattle.vs_ufile.proofs.Moved.{move_any, move_each, move_line, move_number, move_run}
 use Rattle.vs_ufile.proofs.Obeys.{past_next, past_none}
 
 -- ---- fields

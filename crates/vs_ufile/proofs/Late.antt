@@ -1,15 +1,14 @@
 -- Items up to their end can be completed from where they are refused: by the end, or by the rest of an item and the end.
-use Rattle.std.proofs.Common.{◌≡◌, ℕ, zero, suc, ◌+◌, ◌<◌, ◌^◌, ◌⊎◌, inl, inr, true, false, cond, eqb, List, [], ◌∷◌, ◌++◌, length, replicate, Option, Some, None, Ok, refl, sym, ap, subst, ◌∙◌, append_assoc, arith}
-use Rattle.std.proofs.lemmas.Bool.{eqb-false, ne_eqb}
+use Rattle.std.proofs.Common.{◌≡◌, ℕ, zero, suc, ◌+◌, ◌<◌, ◌^◌, ◌⊎◌, inl, inr, false, eqb, List, [], ◌∷◌, ◌++◌, length, replicate, Option, Some, Ok, refl, sym, ap, subst, ◌∙◌, append_assoc, arith}
+use Rattle.std.proofs.lemmas.Bool.{ne_eqb}
 use Rattle.std.proofs.lemmas.List.{append-nil, append_cancel_right, length-append, length-replicate}
-use Rattle.vs_ufile.specs.declared.error.UfKind.TheVariants.{TooManyHeads}
 use Rattle.vs_ufile.specs.declared.fault.Fault.{Fault}
 use Rattle.vs_ufile.specs.Completing.{NoneIsLate}
 use Rattle.vs_ufile.specs.Failing.{AreNumbers}
-use Rattle.vs_ufile.specs.Format.{Row, InOrder, Each, Follows, Allowed, HasForm, IsNumber, change_rows, entry_rows, option_rows}
-use Rattle.vs_ufile.specs.Reading.{◌>>=◌, File, Placed, Read, carry, change, change_number_kind, change_or_end, checked, entry, entry_or_end, give, magic_kind, next_entry, numbers_of, refuse}
+use Rattle.vs_ufile.specs.Format.{Row, InOrder, Each, Follows, Allowed, IsNumber, change_rows, entry_rows, option_rows}
+use Rattle.vs_ufile.specs.Reading.{Placed, Read, carry, change, change_number_kind, change_or_end, checked, entry, entry_or_end, give, magic_kind, next_entry, numbers_of}
 use Rattle.vs_ufile.specs.Values.{Entry}
-use Rattle.vs_ufile.specs.Refusals.{Part, Past, RefusedAtOne, all_of, allowed_number, body_part, change_magic, change_part, changes_part, entries_part, entry_part, field, file_part, flags_part, front_part, holding, lines_part, links_part, magic, marks_part, numbers_part, option_part, options_part, some_of, up_to}
+use Rattle.vs_ufile.specs.Refusals.{Part, all_of, body_part, change_magic, change_part, changes_part, entries_part, entry_part, field, file_part, flags_part, front_part, holding, lines_part, links_part, magic, marks_part, numbers_part, option_part, options_part, some_of, up_to}
 use Rattle.vs_ufile.proofs.Completed.{AllComplete, Begins, Completes, CompletesSome, Ending, begins_all, begins_past, both_bytes, completes_all, completes_some, ending_as, fewer, most, past_some, rows_of, some_then}
 use Rattle.vs_ufile.proofs.Completions.{completes_allowed, completes_field, completes_front, completes_lines, completes_magic, completes_option, number_ending, option_is, some_holding}
 use Rattle.vs_ufile.proofs.Faults.{same_format}
@@ -18,10 +17,10 @@ use Rattle.vs_ufile.proofs.Laws.{Reads, one_row, row_one}
 use Rattle.vs_ufile.proofs.Moved.{Moves, move_each, move_entry, move_number, move_option, replaced}
 use Rattle.vs_ufile.proofs.Obeys.{Front, checked_reads, halves}
 use Rattle.vs_ufile.proofs.Parts.{IfIs, end_or}
-use Rattle.vs_ufile.proofs.Refused.{change_as, obeys_entry, obeys_tail, tail_parts, tail_reader}
+use Rattle.vs_ufile.proofs.Refused.{change_as, obeys_entry, obeys_tail, tail_parts}
 use Rattle.vs_ufile.proofs.Rules.{few_heads, follows_numbers, numbers_from}
 use Rattle.vs_ufile.proofs.Unused.{few_changes, unused}
-use Rattle.vs_ufile.proofs.Whole.{after_magic, follows_any, one_is, reads_next_entry}
+use Rattle.vs_ufile.proofs.Whole.{after_magic, one_is, reads_next_entry}
 use Rattle.vs_ufile.proofs.Writes.{each_more}
 
 follows_more : {A : Type 0} (asked : List A → A → Type 0) (before xs : List A) (x : A) → Follows asked before xs → asked (before ++ xs) x → Follows asked before (xs ++ x ∷ [])
@@ -112,10 +111,10 @@ end_moved width n part a b is = one_row (IsNumber width n) part b (move_number w
 
 -- ---- optional fields
 
-option_of : (part : List ℕ) (following : ℕ) → option_part.row part following → (o : Option ℕ) × InOrder (option_rows o) part following
+pub option_of : (part : List ℕ) (following : ℕ) → option_part.row part following → (o : Option ℕ) × InOrder (option_rows o) part following
 option_of part following h = option_is h.0 h.1.0 _ refl part following h.1.1
 
-completes_options : Completes options_part
+pub completes_options : Completes options_part
 completes_options = completes_up_to (λ _ _. Unit {0}) option_rows (IsNumber 1 0 ∷ []) (λ _. option_part)
     (λ xs part m n follows each. record {
       again = xs;
@@ -146,10 +145,10 @@ magic_reads a b tail differ bytes mid rest x first e =
 front_at : (row : Row) (part : List ℕ) (following : ℕ) → row part following → Front row (part ++ replicate following 0) (replicate following 0)
 front_at row part following h = record { part = part; whole = refl; is = subst (λ (n : ℕ). row part n) (sym (length-replicate following 0)) h }
 
-abbrev entry_tail : List Part
+abbrev pub entry_tail : List Part
 entry_tail = field 4 ∷ field 4 ∷ field 4 ∷ some_of (λ count. all_of (holding 4 count ∷ lines_part count ∷ [])) ∷ []
 
-entry_is : (part : List ℕ) (following : ℕ) → entry_part.row part following → (e : Entry) × InOrder (entry_rows e) part following
+pub entry_is : (part : List ℕ) (following : ℕ) → entry_part.row part following → (e : Entry) × InOrder (entry_rows e) part following
 unfolding entry_or_end
 entry_is part following h =
     let rest : List ℕ = replicate following 0 in
@@ -169,7 +168,7 @@ completes_entry =
     completes_all (magic 0xf518 0x3581 ∷ entry_tail)
     (completes_magic 0xf518 0x3581 (omega arith), (completes_field 4, (completes_field 4, (completes_field 4, (count_completes, tt)))))
 
-completes_entries : Completes entries_part
+pub completes_entries : Completes entries_part
 completes_entries = completes_up_to (λ _ _. Unit {0}) entry_rows (IsNumber 2 0x3581 ∷ []) (λ _. entry_part)
     (λ xs part m n follows each. record {
       again = xs;
@@ -246,7 +245,7 @@ changes_move heads xs part m n follows each =
           (p.0, allowed, p.2);
     }
 
-completes_changes : (heads : ℕ) → Completes (changes_part heads)
+pub completes_changes : (heads : ℕ) → Completes (changes_part heads)
 completes_changes heads = completes_up_to (Allowed heads) change_rows (IsNumber 2 0xe7aa ∷ []) (change_part heads)
     (changes_move heads) (end_moved 2 0xe7aa) (end_ending 2 0xe7aa (omega arith)) (change_starts heads)
 
@@ -274,4 +273,4 @@ none_is_late bytes fault few refused =
     let e = b.ends 0 in
     let all : List ℕ = b.before ++ e.after in
     let form = (same_format all).0 (all, [], sym (append-nil all), e.is, tt) in
-    record { before = b.before; rest = b.rest; whole = b.whole; place = b.place; after = e.after; are_bytes = e.are_bytes; file = form.0; form = form.1 }
+    (b.before, b.rest, b.whole, b.place, record { after = e.after; are_bytes = e.are_bytes; file = form.0; form = form.1 })

@@ -12,6 +12,8 @@ pub mod Completed
 pub mod Unused
 pub mod Completions
 pub mod Late
+pub mod Kept
+pub mod Early
 pub mod Signed
 pub mod Places
 pub mod Writes

@@ -1,6 +1,6 @@
 -- Bytes are those of a part whatever follows them: only the places of changes are others then.
 use Rattle.std.proofs.Common.{◌≡◌, ℕ, suc, ◌+◌, List, [], ◌∷◌, ◌++◌, length, Bool, Option, Some, None, refl, sym, ap, subst, ◌∙◌}
-use Rattle.vs_ufile.specs.Format.{Row, InOrder, Each, Any, Here, Is, IsFlags, IsLine, IsNumber, IsOptions, IsSave, Skipped, change_rows, entry_rows, line_rows, option_rows, plain_rows, sized}
+use Rattle.vs_ufile.specs.Format.{Row, InOrder, Each, Any, Is, IsFlags, IsLine, IsNumber, IsOptions, IsSave, Skipped, change_rows, entry_rows, line_rows, option_rows, plain_rows, sized}
 use Rattle.vs_ufile.specs.Reading.{Placed, numbers_of}
 use Rattle.vs_ufile.specs.Values.{Change, Entry}
 

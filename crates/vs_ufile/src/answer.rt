@@ -2,7 +2,7 @@ ghost use Rattle.std.specs.Prelude.{◌≡◌, ◌≤◌, length, map, IfErr, If
 ghost use Rattle.vs_ufile.specs.declared.fault.Fault.{Fault};
 ghost use Rattle.vs_ufile.specs.declared.fault.Stop.TheVariants.{Memory};
 ghost use Rattle.vs_ufile.specs.Changes.{placed_of};
-ghost use Rattle.vs_ufile.specs.Completing.{NoneIsLate};
+ghost use Rattle.vs_ufile.specs.Completing.{NoneIsEarly, NoneIsLate};
 ghost use Rattle.vs_ufile.specs.Decode.{Answers, IsChecked, IsUndoFile, OneReading, error_of, first_unknown, history, no_memory, unknown, unknown_among, unknown_in, with_links};
 ghost use Rattle.vs_ufile.specs.Form.{file_of};
 ghost use Rattle.vs_ufile.specs.Reading.{Gives, file, numbers_of};
@@ -186,6 +186,11 @@ pub fn same_format()
 /// What stands in front of a refusal of form is the beginning of an undo file, so that none comes later than it could.
 pub fn none_is_late()
     ensures { NoneIsLate }
+{}
+
+/// What is refused for its form stands in no undo file that begins like the bytes in front, so that no refusal comes sooner than it has to.
+pub fn none_is_early()
+    ensures { NoneIsEarly }
 {}
 
 /// Reads an undo file of version 2 (docs/FORMATS.md, "Undo file"). Bytes after its end are ignored.

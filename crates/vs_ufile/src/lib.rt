@@ -24,7 +24,7 @@ mod tree;
 mod walks;
 mod writing;
 
-pub use answer::{decode, none_is_late, one_reading, same_format};
+pub use answer::{decode, none_is_early, none_is_late, one_reading, same_format};
 pub use descent::{Lineage, lineage_of};
 pub use encoding::{encode, round_trip};
 pub use error::{UfErr, UfKind};
