@@ -159,7 +159,7 @@ some_then q ps s all = record {
     | inr w ↦ (
       x,
       begins_past (q x).row (rows_of (ps x)) bytes w.0 w.1 fault.left w.2 (λ n. s.moved x w.0 (length w.1) n w.3)
-      (begins_all (ps x) (all x) w.1 fault (fewer bytes w.0 w.1 w.2 few) w.4),
+          (begins_all (ps x) (all x) w.1 fault (fewer bytes w.0 w.1 w.2 few) w.4),
     )
   ];
 }

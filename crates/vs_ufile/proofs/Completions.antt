@@ -203,7 +203,9 @@ completes_lines count = record {
 
 front_parts_complete : AllComplete (start_part ∷ allowed_number 2 version_kind ∷ field 32 ∷ field 4 ∷ sized_part ∷ field 4 ∷ field 4 ∷ [])
 front_parts_complete = (
-    completes_start, (completes_allowed 2 version_kind 2 refl (omega arith), (completes_field 32, (completes_field 4, (completes_sized, (completes_field 4, (completes_field 4, tt)))))))
+  completes_start,
+  (completes_allowed 2 version_kind 2 refl (omega arith), (completes_field 32, (completes_field 4, (completes_sized, (completes_field 4, (completes_field 4, tt)))))),
+)
 
 pub completes_front : Completes front_part
 completes_front = completes_all (start_part ∷ allowed_number 2 version_kind ∷ field 32 ∷ field 4 ∷ sized_part ∷ field 4 ∷ field 4 ∷ []) front_parts_complete

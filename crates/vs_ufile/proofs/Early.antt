@@ -42,8 +42,8 @@ kept_items asked rows end item moves keeps bytes fault r =
     let p = r.2 in
     kept_past (item r.0).refusal (up_to asked rows end item).refusal bytes p.0 p.1 fault p.2
     (λ rest fault s.
-        let q = moves r.0 p.0 (length p.1) (length rest) r.1 p.3 in
-        (q.again, q.follows, (p.0, rest, refl, q.each, q.refuses rest fault s)))
+    let q = moves r.0 p.0 (length p.1) (length rest) r.1 p.3 in
+    (q.again, q.follows, (p.0, rest, refl, q.each, q.refuses rest fault s)))
     ((keeps r.0).kept p.1 fault p.4)
 
 keeps_data : (by : Bool) (size : ℕ) → Keeps (data_part by size)

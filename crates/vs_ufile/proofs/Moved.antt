@@ -40,7 +40,9 @@ move_line line = let own : Moves (IsLine line) = λ part m n is. (is.0, is.1, mo
 
 pub move_entry : (e : Entry) → Moves (InOrder (entry_rows e))
 move_entry e = move_all (entry_rows e) (
-    move_number 2 0xf518, (move_number 4 e.top, (move_number 4 e.bottom, (move_number 4 e.count, (move_number 4 (length e.lines), (move_each line_rows move_line e.lines, tt))))))
+  move_number 2 0xf518,
+  (move_number 4 e.top, (move_number 4 e.bottom, (move_number 4 e.count, (move_number 4 (length e.lines), (move_each line_rows move_line e.lines, tt))))),
+)
 
 move_save : (save : ℕ) → Moves (IsSave save)
 move_save save part m n is = record { number = move_number 4 save part m n is.number; small = is.small }
@@ -67,10 +69,45 @@ move_flags empty part m n is = (is.0, is.1, move_all (IsNumber 2 is.0 ∷ []) (m
 
 move_change : (c : Change) → Moves (InOrder (plain_rows c))
 move_change c = move_all (plain_rows c) (
-    move_number 2 0x5fd0,
-    (move_number 4 c.next, (move_number 4 c.prev, (move_number 4 c.alt_next, (move_number 4 c.alt_prev, (move_number 4 c.number,
-    (move_any 12, (move_any 4, (move_flags c.empty, (move_any 312, (move_any 24, (move_any 4, (move_any 4,
-    (move_number 8 c.time, (move_options c.save, (move_each entry_rows move_entry c.entries, (move_number 2 0x3581, tt)))))))))))))))))
+  move_number 2 0x5fd0,
+  (
+    move_number 4 c.next,
+    (
+      move_number 4 c.prev,
+      (
+        move_number 4 c.alt_next,
+        (
+          move_number 4 c.alt_prev,
+          (
+            move_number 4 c.number,
+            (
+              move_any 12,
+              (
+                move_any 4,
+                (
+                  move_flags c.empty,
+                  (
+                    move_any 312,
+                    (
+                      move_any 24,
+                      (
+                        move_any 4,
+                        (
+                          move_any 4,
+                          (move_number 8 c.time, (move_options c.save, (move_each entry_rows move_entry c.entries, (move_number 2 0x3581, tt)))),
+                        ),
+                      ),
+                    ),
+                  ),
+                ),
+              ),
+            ),
+          ),
+        ),
+      ),
+    ),
+  ),
+)
 
 -- ---- changes with other places
 

@@ -24,10 +24,11 @@ pub record CanBeCompleted (before : List ℕ) : Type 0 where
 abbrev pub AtPlace : ℕ → (List ℕ → List ℕ → Type 0) → List ℕ → Type 0
 AtPlace left holds bytes = (before rest : List ℕ) × (bytes ≡ before ++ rest) × (length rest ≡ left) × holds before rest
 
--- Where bytes are refused for their form, those in front of the place can be completed. They are fewer than those of a file that has
--- given each number to a change and begins one more.
+-- Where bytes are refused for their form, those in front of the place can be completed. After a file that gave each number to a change
+-- none could begin; it has more bytes than are asked of here.
 abbrev pub NoneIsLate : Type 0
-NoneIsLate = (bytes : List ℕ) (fault : Fault) → length bytes < 2 ^ 39 → file_part.refusal bytes fault → AtPlace fault.left (λ before rest. CanBeCompleted before) bytes
+NoneIsLate =
+    (bytes : List ℕ) (fault : Fault) → length bytes < 2 ^ 39 → file_part.refusal bytes fault → AtPlace fault.left (λ before rest. CanBeCompleted before) bytes
 
 -- What is refused with this kind at the front of some bytes is at the front of the others too: the same start, version, magic number,
 -- or number of a change or of a write; or the others are no more, where a part is cut.
