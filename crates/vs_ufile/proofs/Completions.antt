@@ -74,7 +74,7 @@ completes_start = completes_here start_part
     (λ following. record { after = start_bytes; are_bytes = start_are_bytes; is = record { same = refl } }) (move_run start_bytes)
     (λ bytes fault r. ap (λ (f : Fault). f.left) r.1)
 
-pub completes_sized : Completes sized_part
+completes_sized : Completes sized_part
 completes_sized =
     completes_some _ (some_then (λ size. holding 4 size) (λ size. field size ∷ []) (some_holding 4 (omega arith)) (λ size. (completes_field size, tt)))
 

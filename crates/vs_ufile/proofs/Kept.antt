@@ -58,7 +58,7 @@ moved_all : (ps : List Part) → AllKeep ps → Moves (InOrder (rows_of ps))
 moved_all [] h part m n is = is
 moved_all (p ∷ ps) h part m n is = (is.0, is.1, is.2, h.0.moved is.0 (length is.1 + m) (length is.1 + n) is.3, moved_all ps h.1 is.1 m n is.4)
 
-pub kept_all : (ps : List Part) → AllKeep ps → (bytes : List ℕ) (fault : Fault) → RefusedAtOne ps bytes fault → Kept (RefusedAtOne ps) bytes fault
+kept_all : (ps : List Part) → AllKeep ps → (bytes : List ℕ) (fault : Fault) → RefusedAtOne ps bytes fault → Kept (RefusedAtOne ps) bytes fault
 kept_all [] h bytes fault r = absurd r
 kept_all (p ∷ ps) h bytes fault (inl now) = kept_as p.refusal (RefusedAtOne (p ∷ ps)) bytes fault (λ bytes fault r. inl r) (h.0.kept bytes fault now)
 kept_all (p ∷ ps) h bytes fault (inr w) =

@@ -111,7 +111,7 @@ end_moved width n part a b is = one_row (IsNumber width n) part b (move_number w
 
 -- ---- optional fields
 
-pub option_of : (part : List ℕ) (following : ℕ) → option_part.row part following → (o : Option ℕ) × InOrder (option_rows o) part following
+option_of : (part : List ℕ) (following : ℕ) → option_part.row part following → (o : Option ℕ) × InOrder (option_rows o) part following
 option_of part following h = option_is h.0 h.1.0 _ refl part following h.1.1
 
 pub completes_options : Completes options_part
@@ -127,12 +127,13 @@ completes_options = completes_up_to (λ _ _. Unit {0}) option_rows (IsNumber 1 0
 -- ---- entries
 
 -- what a reader of items takes is in the rows of an item
-item_is : {A : Type 0} (r : Read (Option A)) (D : A → Type 0) (rows : A → List Row) (end : List Row) → Reads r (IfIs D) (end_or rows end) → (part rest : List ℕ) (x : A)
-    → r (part ++ rest) ≡ Ok (Some x, rest) → D x × InOrder (rows x) part (length rest)
-item_is r D rows end law part rest x e =
+item_is : {A : Type 0} (r : Read (Option A)) (D : A → Type 0) (rows : A → List Row) (end : List Row) → Reads r (IfIs D) (end_or rows end) → (part rest : List ℕ) (following : ℕ) (x : A)
+    → length rest ≡ following → r (part ++ rest) ≡ Ok (Some x, rest) → D x × InOrder (rows x) part following
+item_is r D rows end law part rest following x size e =
     let t = law.takes (part ++ rest) (Some x) rest e in
     let same : part ≡ t.1.part = append_cancel_right part t.1.part rest t.1.whole in
-    (t.0, subst (λ (p : List ℕ). InOrder (rows x) p (length rest)) (sym same) t.1.in_order)
+    let row : InOrder (rows x) part (length rest) = subst (λ (p : List ℕ). InOrder (rows x) p (length rest)) (sym same) t.1.in_order in
+    (t.0, subst (λ (n : ℕ). InOrder (rows x) part n) size row)
 
 -- an item is read after its magic number
 magic_reads : {A : Type 0} (a b : ℕ) (tail : Read A) → (a ≡ b → ⊥) → (bytes mid rest : List ℕ) (x : A) → Front (IsNumber 2 a) bytes mid → tail mid ≡ Ok (x, rest)
@@ -148,15 +149,14 @@ front_at row part following h = record { part = part; whole = refl; is = subst (
 abbrev pub entry_tail : List Part
 entry_tail = field 4 ∷ field 4 ∷ field 4 ∷ some_of (λ count. all_of (holding 4 count ∷ lines_part count ∷ [])) ∷ []
 
-pub entry_is : (part : List ℕ) (following : ℕ) → entry_part.row part following → (e : Entry) × InOrder (entry_rows e) part following
+entry_is : (part : List ℕ) (following : ℕ) → entry_part.row part following → (e : Entry) × InOrder (entry_rows e) part following
 unfolding entry_or_end
 entry_is part following h =
     let rest : List ℕ = replicate following 0 in
     let s = halves (IsNumber 2 0xf518) (rows_of entry_tail) (part ++ rest) rest (front_at entry_part.row part following h) in
     let x = obeys_entry.reads s.mid rest s.second in
     let e : next_entry [] (part ++ rest) ≡ Ok (Some x.0, rest) = magic_reads 0xf518 0x3581 entry (λ (e : 0xf518 ≡ 0x3581). omega (arith, e)) (part ++ rest) s.mid rest x.0 s.first x.1 in
-    let i = item_is (next_entry []) (λ _. Unit {0}) entry_rows (IsNumber 2 0x3581 ∷ []) (reads_next_entry []) part rest x.0 e in
-    (x.0, subst (λ (n : ℕ). InOrder (entry_rows x.0) part n) (length-replicate following 0) i.1)
+    (x.0, (item_is (next_entry []) (λ _. Unit {0}) entry_rows (IsNumber 2 0x3581 ∷ []) (reads_next_entry []) part rest following x.0 (length-replicate following 0) e).1)
 
 count_completes : Completes (some_of (λ count. all_of (holding 4 count ∷ lines_part count ∷ [])))
 count_completes =
@@ -193,8 +193,8 @@ change_is heads before part following h =
     change_as heads before (length bytes) false s.mid (ne_eqb (length before) heads s.first.is.0) ∙ x.1 in
     let all : change_or_end heads before bytes ≡ Ok (Some x.0, rest) =
     magic_reads 0x5fd0 0xe7aa (change heads before (length bytes)) (λ (e : 0x5fd0 ≡ 0xe7aa). omega (arith, e)) bytes s.mid rest x.0 magic read in
-    let i = item_is (change_or_end heads before) (Allowed heads before) change_rows (IsNumber 2 0xe7aa ∷ []) (reads_change_or_end heads before) part rest x.0 all in
-    (x.0, i.0, subst (λ (n : ℕ). InOrder (change_rows x.0) part n) (length-replicate following 0) i.1)
+    let i = item_is (change_or_end heads before) (Allowed heads before) change_rows (IsNumber 2 0xe7aa ∷ []) (reads_change_or_end heads before) part rest following x.0 (length-replicate following 0) all in
+    (x.0, i.0, i.1)
 
 completes_links : Completes links_part
 completes_links = completes_all (field 4 ∷ field 4 ∷ field 4 ∷ field 4 ∷ []) (completes_field 4, (completes_field 4, (completes_field 4, (completes_field 4, tt))))
