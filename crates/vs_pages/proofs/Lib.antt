@@ -1,3 +1,4 @@
+pub mod Ends
 pub mod Lending
 pub mod MapsLemmas
 pub mod Notes

@@ -1,5 +1,5 @@
 -- The commit that last changed each number.
-use Rattle.std.proofs.Common.{◌≡◌, ℕ, ◌+◌, ◌-◌, ◌<◌, ◌≤◌, ◌⊎◌, List, [], ◌∷◌, ◌++◌, length, reverse, get_or, set, Option, refl, sym, ap, ◌∙◌, subst, inl, inr, arith}
+use Rattle.std.proofs.Common.{◌≡◌, ℕ, ◌+◌, ◌-◌, ◌<◌, ◌≤◌, ◌⊎◌, List, [], ◌∷◌, ◌++◌, length, reverse, get_or, set, Option, IsSome, refl, sym, ap, ◌∙◌, subst, inl, inr, arith}
 use Rattle.std.specs.List.{All}
 use Rattle.std.specs.Prelude.{nat_eq, if◌then◌else◌}
 use Rattle.std.proofs.lemmas.Bool.{cases_eq, cases_lt}
@@ -16,7 +16,8 @@ use Rattle.vs_pages.specs.declared.change.Change.{Change}
 use Rattle.vs_pages.specs.declared.change.Change.TheVariants as kinds
 use Rattle.vs_pages.specs.declared.memory.MemPages.{MemPages}
 use Rattle.vs_pages.proofs.MapsLemmas.{one-other, one-zero, put-other, span-add, span-within, total-append, total_numbers}
-use Rattle.vs_pages.proofs.Places.{put_places-other}
+use Rattle.vs_pages.proofs.Places.{put_places-other, shown_some}
+use Rattle.vs_pages.proofs.Ends.{none_if, now_has}
 use Rattle.vs_pages.proofs.Undos.{numbers_append, total_reversed}
 
 -- how often a number is in a list
@@ -122,6 +123,20 @@ commit_keeps old new later kept committed last = record {
         | inl none ↦
             ap (λ (m : Map). m k) committed ∙ ap (λ (m : Map). seen m k) kept ∙ ap (λ (o : Option (List ℕ)). shown o) (sym (first_other (kept_of old) (changes_of old) k none))
             ∙ since k (omega (arith, lt, now, noted_miss (numbers_in (changes_of old)) old.commits (last_in old.last.items) k none))
+      ];
+  reach = λ commit end le reach k j from upto there.
+      let now : last_in new.last.items k ≡ noted (numbers_in (changes_of old)) old.commits (last_in old.last.items) k = ap (λ (f : ℕ → ℕ). f k) last in
+      elim (cases_eq (times k (numbers_in (changes_of old))) 0) [
+        | inr some ↦ omega (arith, le, now, noted_hit (numbers_in (changes_of old)) old.commits (last_in old.last.items) k (omega (arith, some)))
+        | inl none ↦
+            let before : last_in new.last.items k ≡ last_in old.last.items k = now ∙ noted_miss (numbers_in (changes_of old)) old.commits (last_in old.last.items) k none in
+            elim (cases_lt (last_in old.last.items k) commit) [
+              | inr ge ↦ omega (arith, ge, before)
+              | inl less ↦
+                  let page : IsSome (kept_of old j) = sym (shown_some (kept_of old j)) ∙ subst (λ (m : Map). IsSome (seen m j)) kept (subst (λ (m : Map). IsSome (m j)) committed there) in
+                  absurd (now_has (kept_of old) (changes_of old) old.no_gaps k j upto page none (λ i le_i.
+                  none_if (first_of (kept_of old) (changes_of old) i) (λ is. omega (arith, less, reach k i from le_i (shown_some (first_of (kept_of old) (changes_of old) i) ∙ is)))))
+            ]
       ];
 }
 

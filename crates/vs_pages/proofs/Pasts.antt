@@ -1,5 +1,5 @@
 -- What was before each change, after one change more and after one was taken back.
-use Rattle.std.proofs.Common.{◌≡◌, ℕ, ◌+◌, ◌-◌, ◌<◌, true, List, [], ◌∷◌, ◌++◌, length, drop, reverse, refl, sym, ap, ◌∙◌, subst, arith}
+use Rattle.std.proofs.Common.{◌≡◌, ℕ, ◌+◌, ◌-◌, ◌<◌, ◌≤◌, IsSome, true, List, [], ◌∷◌, ◌++◌, length, drop, reverse, refl, sym, ap, ◌∙◌, subst, arith}
 use Rattle.std.specs.Prelude.{Result, Ok, Err, OnErr}
 use Rattle.std.proofs.lemmas.Bool.Decides.{nat_tests}
 use Rattle.std.proofs.lemmas.Grind.{common_steps}
@@ -29,6 +29,7 @@ pub keeps_same : (old new : MemPages) → committed_of new ≡ committed_of old 
 keeps_same old new committed commits = record {
   later = omega (arith, ap (λ c. c.count) commits);
   since = λ commit map le since k lt. ap (λ (m : Map). m k) committed ∙ since k (subst (λ c. c.last k < commit) commits lt);
+  reach = λ commit end le reach k j from upto there. subst (λ c. commit ≤ c.last k) (sym commits) (reach k j from upto (subst (λ (m : Map). IsSome (m j)) committed there));
 }
 
 one_before : (old new : MemPages) (map : Map) (numbers : List ℕ) → IsOne old new map numbers → (state_of new).before ≡ history_of (state_of old)

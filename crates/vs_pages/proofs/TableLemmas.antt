@@ -6,11 +6,11 @@ use Rattle.std.proofs.lemmas.Bool.{cases_eq, cases_lt}
 use Rattle.std.proofs.lemmas.Bool.Decides.{nat_tests}
 use Rattle.std.proofs.lemmas.Grind.{common_steps}
 use mathlib.Core.Path.{fun_ext}
-use Rattle.vs_pages.specs.Maps.{put, lacks, one, total, HasPages, IsVacant}
+use Rattle.vs_pages.specs.Maps.{put, lacks, one, total, HasPages}
 use Rattle.vs_pages.specs.Table.{bytes_of, map_of, page_count, pages_in, seen, shown}
 use Rattle.vs_pages.specs.declared.page.Page.{Page}
 use Rattle.vs_pages.specs.declared.page.Page.TheVariants.{Zeros, Written}
-use Rattle.vs_pages.proofs.MapsLemmas.{put-itself, one-same, one-other, total-append, span-below, span-most}
+use Rattle.vs_pages.proofs.MapsLemmas.{put-itself, one-same, one-other, total-append}
 
 pub page_count-most : (place : Option Page) → page_count place ≤ 1
 page_count-most None = omega arith
@@ -67,13 +67,6 @@ map_of-take places n k lt = ap bytes_of (get_or-take n places k None lt)
 pub map_of-take_past : (places : List (Option Page)) (n k : ℕ) → n ≤ k → map_of (take n places) k ≡ None
 map_of-take_past places n k le = map_of-end (take n places) k (omega (arith, length-take n places))
 
--- nothing comes after a table
-pub end-vacant : (places : List (Option Page)) (at n : ℕ) → length places ≤ at → IsVacant (map_of places) at n
-end-vacant places at n le = λ k. elim (cases_lt k at) [
-  | inl lt ↦ omega (arith, span-below at n k lt)
-  | inr past ↦ omega (arith, span-most at n k, ap (λ o. lacks o) (map_of-end places k (omega arith)))
-]
-
 -- the numbers of a table that have a page
 
 keys_of : List (Option Page) → List ℕ
@@ -125,9 +118,6 @@ lacks-seen (Some (x ∷ xs)) = refl
 
 pub seen-counted : (places : List (Option Page)) (n : ℕ) → n ≡ pages_in places → HasPages (seen (map_of places)) n
 seen-counted places n is = let counted = table-counted places n is in (counted.0, counted.1, λ k. omega (arith, counted.2 k, lacks-seen (map_of places k)))
-
-pub seen-vacant : (places : List (Option Page)) (at n : ℕ) → length places ≤ at → IsVacant (seen (map_of places)) at n
-seen-vacant places at n le = λ k. omega (arith, end-vacant places at n le k, lacks-seen (map_of places k))
 
 pub length_set : (places : List (Option Page)) (at : ℕ) (place : Option Page) → length (set places at place) ≡ length places
 length_set places at place = grind (arith, common_steps)

@@ -1,6 +1,6 @@
 -- What was before each change.
-use Rattle.std.specs.Prelude.{◌≡◌, ℕ, ◌+◌, ◌≤◌, List, [], ◌∷◌, ◌++◌, Option, None, IsSomeAnd, length, reverse}
-use Rattle.vs_pages.specs.Maps.{Map, numbers, patched, put}
+use Rattle.std.specs.Prelude.{◌≡◌, ℕ, ◌+◌, ◌≤◌, List, [], ◌∷◌, ◌++◌, Option, None, IsSome, IsSomeAnd, length, reverse}
+use Rattle.vs_pages.specs.Maps.{Map, numbers, one, patched, put, total}
 use Rattle.vs_pages.specs.State.{Moment}
 use Rattle.vs_pages.specs.Table.{bytes_of, map_of, seen}
 use Rattle.vs_pages.specs.declared.page.Page.{Page}
@@ -74,3 +74,16 @@ CanUndoAll m n (c ∷ cs) = CanUndo m n c × CanUndoAll (undone c m) (places_bef
 -- The changes of a log, whose last one is last, can be taken back one after the other in this table.
 abbrev pub AreSteps : List (Option Page) → List Change → Type 0
 AreSteps places log = CanUndoAll (map_of places) (length places) (reverse log)
+
+-- Each number at or before a page was worked, or a page was committed at or after it.
+abbrev pub HasNoGap : Map → Map → List ℕ → Type 0
+HasNoGap committed now worked = (k j : ℕ) → k ≤ j → IsSome (now j) → total (λ at. one at k) worked ≡ 0 → ((i : ℕ) → k ≤ i → committed i ≡ None) → ⊥
+
+-- It was so after each change.
+abbrev pub EachHasNoGap : Map → List Change → Type 0
+EachHasNoGap m [] = Unit {0}
+EachHasNoGap m (c ∷ cs) = HasNoGap (first_of m (c ∷ cs)) m (numbers_in (c ∷ cs)) × EachHasNoGap (undone c m) cs
+
+-- No change of a log, whose last one is last, left a number that was never worked between the committed pages and a page.
+abbrev pub HaveNoGaps : List (Option Page) → List Change → Type 0
+HaveNoGaps places log = EachHasNoGap (map_of places) (reverse log)

@@ -10,7 +10,7 @@ use Rattle.vs_bytes.specs.Fields.{with_field}
 use Rattle.vs_bytes.proofs.FieldLaws.{length-with_field}
 use Rattle.vs_pages.specs.Maps.{Map, put, patched, zeros}
 use Rattle.vs_pages.specs.Table.{bytes_of, map_of, shown}
-use Rattle.vs_pages.specs.History.{AreSteps, first_of, places_before, put_places, undone, CanUndo, CanUndoAll}
+use Rattle.vs_pages.specs.History.{AreSteps, EachHasNoGap, HaveNoGaps, first_of, places_before, put_places, undone, CanUndo, CanUndoAll}
 use Rattle.vs_pages.specs.declared.page.Page.{Page}
 use Rattle.vs_pages.specs.declared.page.Page.TheVariants.{Zeros, Written}
 use Rattle.vs_pages.specs.declared.change.Change.{Change}
@@ -26,6 +26,13 @@ CanUndoAll-prop m n (c ∷ cs) = ×_prop (CanUndo-prop m n c) (CanUndoAll-prop (
 
 pub AreSteps-prop : (places : List (Option Page)) (log : List Change) → IsProp (AreSteps places log)
 AreSteps-prop places log = CanUndoAll-prop (map_of places) (length places) (reverse log)
+
+EachHasNoGap-prop : (m : Map) (cs : List Change) → IsProp (EachHasNoGap m cs)
+EachHasNoGap-prop m [] = Unit-prop
+EachHasNoGap-prop m (c ∷ cs) = ×_prop (hlevel props) (EachHasNoGap-prop (undone c m) cs)
+
+pub HaveNoGaps-prop : (places : List (Option Page)) (log : List Change) → IsProp (HaveNoGaps places log)
+HaveNoGaps-prop places log = EachHasNoGap-prop (map_of places) (reverse log)
 
 put_same : (m : Map) (at : ℕ) (v : Option (List ℕ)) → put m at v at ≡ v
 put_same m at v = grind (arith, nat_tests)

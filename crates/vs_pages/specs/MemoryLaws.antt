@@ -7,17 +7,22 @@ use Rattle.vs_pages.specs.Maps.{ArePages, Map}
 use Rattle.vs_pages.specs.Table.{map_of, seen, shown}
 use Rattle.vs_pages.specs.History.{first_of}
 use Rattle.vs_pages.specs.HistoryLaws.{IsWhole, place_whole, first_past, first_whole}
-use Rattle.vs_pages.specs.Memory.{present_of, committed_of, kept_of, changes_of, KeepsSince}
+use Rattle.vs_pages.specs.Memory.{present_of, committed_of, commits_of, kept_of, changes_of, HasReach, KeepsSince}
 use Rattle.vs_pages.specs.declared.page.Page.{Page}
 use Rattle.vs_pages.specs.declared.memory.MemPages.{MemPages}
 
 pub keeps_none : (pages : MemPages) → KeepsSince pages pages
-keeps_none pages = record { later = omega arith; since = λ commit map le since. since }
+keeps_none pages = record { later = omega arith; since = λ commit map le since. since; reach = λ commit end le reach. reach }
+
+-- where no page is committed from this number on
+pub reach_begins : (pages : MemPages) (end : ℕ) → ((k : ℕ) → end ≤ k → committed_of pages k ≡ None) → HasReach pages (commits_of pages).count end
+reach_begins pages end none k j from upto there = absurd (let gone = none j (omega (arith, from, upto)) in cc)
 
 pub keeps_then : (a b c : MemPages) → KeepsSince a b → KeepsSince b c → KeepsSince a c
 keeps_then a b c first second = record {
   later = omega (arith, first.later, second.later);
   since = λ commit map le since. second.since commit map (omega (arith, le, first.later)) (first.since commit map le since);
+  reach = λ commit end le reach. second.reach commit end (omega (arith, le, first.later)) (first.reach commit end le reach);
 }
 
 map_end : (places : List (Option Page)) (k : ℕ) → length places ≤ k → map_of places k ≡ None

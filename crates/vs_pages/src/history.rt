@@ -1,6 +1,6 @@
 // Changes that are taken back, and that are committed.
 ghost use Rattle.std.specs.Prelude.{◌≡◌, ◌+◌, ◌≤◌, All, length};
-ghost use Rattle.vs_pages.specs.Maps.{numbers};
+ghost use Rattle.vs_pages.specs.Maps.{numbers, IsEnd};
 ghost use Rattle.vs_pages.specs.Table.{last_in, map_of, noted};
 ghost use Rattle.vs_pages.specs.History.{HasRun, end_of, numbers_in, numbers_of, put_places};
 
@@ -9,9 +9,12 @@ use crate::exchange::exchange;
 use crate::table::Table;
 use crate::vacant::Vacant;
 
-// Takes a run back. A number that it used is vacant again, and one that it left is not.
-pub fn undo_run(table: &mut Table, vacant: &mut Vacant, run: Run)
-    requires { HasRun (map_of table.old.places.items) (length table.old.places.items) run }
+// Takes a run back, and gives the number after the last page, which was `used`. A number that the run used is vacant again, and one
+// that it left is not.
+pub fn undo_run(table: &mut Table, vacant: &mut Vacant, used: u64, run: Run) -> u64
+    requires run { HasRun (map_of table.old.places.items) (length table.old.places.items) run }
+    requires used { IsEnd (map_of table.old.places.items) used }
+    ensures used { IsEnd (map_of table.new.places.items) result }
     ensures map { map_of table.new.places.items ≡ put_places (map_of table.old.places.items) run.at run.was.items }
     ensures places { length table.new.places.items ≡ run.places }
 {
@@ -29,6 +32,7 @@ pub fn undo_run(table: &mut Table, vacant: &mut Vacant, run: Run)
     } else if at < places {
         vacant.put(at, pages);
     }
+    table.end_below(used.max(at + pages as u64))
 }
 
 // The first number that a change worked, and how many these are.

@@ -1,9 +1,9 @@
 // Pages in memory.
 ghost use Rattle.std.specs.Prelude.{◌≡◌, ◌+◌, ◌-◌, ◌^◌, ◌<◌, ◌≤◌, [], ◌∷◌, ℕ, Some, None, IfOk, OnOk, OnErr, IsSome, IfSome, IsTrue, IsSomeAnd, ◌↔◌, if◌then◌else◌, false, drop, length, reverse, vec_len};
-ghost use Rattle.vs_pages.specs.Maps.{numbers, patched, pages_at, put, first_pages, IsVacant};
+ghost use Rattle.vs_pages.specs.Maps.{numbers, patched, pages_at, put, first_pages, IsEnd, IsVacant};
 ghost use Rattle.vs_pages.specs.Table.{last_in, map_of};
-ghost use Rattle.vs_pages.specs.History.{AreSteps, put_places};
-ghost use Rattle.vs_pages.specs.HistoryLaws.{AreSteps-prop};
+ghost use Rattle.vs_pages.specs.History.{AreSteps, HaveNoGaps, put_places};
+ghost use Rattle.vs_pages.specs.HistoryLaws.{AreSteps-prop, HaveNoGaps-prop};
 
 mod store;
 
@@ -28,12 +28,16 @@ pub struct MemPages {
     // The changes since the last commit or rollback, the last one last.
     log: Vec<Change>,
     vacant: Vacant,
+    // The number after the last page, or 0 where there is none.
+    used: u64,
     // The commit that last changed each place. No rollback shortens it.
     last: Vec<u64>,
     // How many commits there were.
     commits: u64,
     ghost undo: { AreSteps table.places.items log.items } by { AreSteps-prop table.places.items log.items },
     ghost counted: { length table.places.items ≤ vec_len last },
+    ghost ends: { IsEnd (map_of table.places.items) used },
+    ghost no_gaps: { HaveNoGaps table.places.items log.items } by { HaveNoGaps-prop table.places.items log.items },
 }
 
 // A value with much in it is dropped by a call.
@@ -43,6 +47,7 @@ impl Drop for MemPages {
             table: _,
             log: _,
             vacant: _,
+            used: _,
             last: _,
             commits: _,
         } = self;
@@ -62,6 +67,7 @@ impl MemPages {
             table: Table::new(alloc),
             log: Vec::new(alloc),
             vacant: Vacant::new(alloc),
+            used: 0,
             last: Vec::new(alloc),
             commits: 0,
         };
@@ -76,6 +82,7 @@ impl MemPages {
         requires { len ≤ 2 ^ 40 }
         ensures map { kept_of self.new ≡ kept_of self.old }
         ensures log { self.new.log ≡ self.old.log }
+        ensures used { self.new.used ≡ self.old.used }
         ensures commits { commits_of self.new ≡ commits_of self.old }
         ensures len { OnOk result (len ≤ length self.new.table.places.items) }
         ensures longer { length self.old.table.places.items ≤ length self.new.table.places.items }
@@ -89,7 +96,8 @@ impl MemPages {
 
     // Puts pages, or none, at neighbouring places.
     fn change(&mut self, at: u64, pages: Vec<Option<Page>>) -> Result<(), AllocError>
-        requires { 0 < length pages.items → at + length pages.items ≤ 2 ^ 40 }
+        requires bound { 0 < length pages.items → at + length pages.items ≤ 2 ^ 40 }
+        requires near { 0 < length pages.items → at ≤ self.old.used }
         ensures ok { OnOk result (IsOne self.old self.new (put_places (kept_of self.old) at pages.items) (numbers at (length pages.items))) }
         ensures err { OnErr result (IsSame self.old self.new) }
     {
@@ -99,6 +107,7 @@ impl MemPages {
         self.extend_to(at + pages.len() as u64)?;
         let mut was = pages;
         exchange(&mut self.table, at, &mut was);
+        self.used = self.table.end_below(self.used.max(at + was.len() as u64));
         self.log.push(Change::Run(Run { at, was, places }))?;
         Ok(())
     }
@@ -132,7 +141,9 @@ impl MemPages {
         ensures log { length self.new.log.items + 1 ≡ length self.old.log.items }
     {
         match self.log.pop() {
-            Some(Change::Run(run)) => undo_run(&mut self.table, &mut self.vacant, run),
+            Some(Change::Run(run)) => {
+                self.used = undo_run(&mut self.table, &mut self.vacant, self.used, run);
+            }
             Some(Change::Patch(patch)) => self.table.patch(patch.at, patch.from, &patch.was),
             None => {}
         }
@@ -190,12 +201,13 @@ impl MemPages {
         true
     }
 
-    // The first of `pages` neighbouring numbers without a page.
+    // The first of `pages` neighbouring numbers without a page, which is the one after the last page at most.
     fn vacant_run(&self, pages: u32) -> Option<u64>
         ensures vacant { IfSome result (λ at. IsVacant (present_of self.now) at pages) }
         ensures bound { IfSome result (λ at. at + pages ≤ 2 ^ 40) }
+        ensures near { IfSome result (λ at. at ≤ self.now.used) }
     {
-        let end = self.table.len();
+        let end = self.used;
         if let Some(first) = self.vacant.run(pages as usize) {
             if first < end && end - first >= pages as u64 && self.is_vacant(first, pages) {
                 return Some(first);

@@ -1,6 +1,6 @@
 // A table of pages by number, which counts them.
-ghost use Rattle.std.specs.Prelude.{◌≡◌, ◌+◌, ◌-◌, ◌^◌, ◌<◌, ◌≤◌, [], Some, None, option_map, is_some, IfOk, IsSome, IsSomeAnd, IsTrue, false, OnOk, length, max, take, slice_set, slice_index_or};
-ghost use Rattle.vs_pages.specs.Maps.{patched, put};
+ghost use Rattle.std.specs.Prelude.{◌≡◌, ◌+◌, ◌-◌, ◌^◌, ◌<◌, ◌≤◌, ℕ, [], Some, None, option_map, is_some, IfOk, IsSome, IsSomeAnd, IsTrue, false, OnOk, length, max, take, slice_set, slice_index_or};
+ghost use Rattle.vs_pages.specs.Maps.{patched, put, IsEnd};
 ghost use Rattle.vs_pages.specs.Table.{IsPlace, bytes_of, page_count, pages_in, map_of};
 
 use crate::page::{Page, copy_place};
@@ -51,6 +51,18 @@ impl Table {
         ensures { result ≡ is_some (map_of self.now.places.items at) }
     {
         self.page(at).is_some()
+    }
+
+    // The number after the last page, where no page has the number `most` or a greater one.
+    pub fn end_below(&self, most: u64) -> u64
+        requires { (k : ℕ) → most ≤ k → map_of self.now.places.items k ≡ None }
+        ensures { IsEnd (map_of self.now.places.items) result }
+    {
+        let mut end = most;
+        'places: while end > 0 && !self.has(end - 1) {
+            end -= 1;
+        }
+        end
     }
 
     // Whether there is a page that was written.

@@ -83,6 +83,7 @@ impl Pages for MemPages {
     }
 
     fn grow(&mut self, alloc: Global, pages: u32) -> Result<u64, PageErr> {
+        self.vacant.forget(&self.table, self.used);
         let at = self.vacant_run(pages).ok_or(PageErr::NoMemory)?;
         let fresh = places_of(alloc, pages, true)?;
         self.change(at, fresh)?;

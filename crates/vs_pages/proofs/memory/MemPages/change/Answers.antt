@@ -1,4 +1,5 @@
-use Rattle.std.proofs.Common.{◌≡◌, ◌<◌, List, [], ◌∷◌, ◌++◌, Option, length, ap, sym, subst, ◌∙◌}
+use Rattle.std.proofs.Common.{◌≡◌, ◌<◌, ℕ, true, List, [], ◌∷◌, ◌++◌, Option, length, ap, sym, subst, ◌∙◌, arith}
+use Rattle.std.specs.Result.{is_ok}
 use Rattle.vs_pages.specs.Maps.{Map, numbers}
 use Rattle.vs_pages.specs.History.{put_places}
 use Rattle.vs_pages.specs.Memory.{kept_of}
@@ -6,14 +7,37 @@ use Rattle.vs_pages.specs.declared.page.Page.{Page}
 use Rattle.vs_pages.specs.declared.change.Run.{Run}
 use Rattle.vs_pages.specs.declared.change.Change.{Change}
 use Rattle.vs_pages.specs.declared.change.Change.TheVariants as kinds
+use Rattle.vs_pages.proofs.Ends.{gaps_more, near_places, past_put}
+use Rattle.vs_pages.proofs.Patches.{pushed}
 use Rattle.vs_pages.proofs.Places.{put_places-start, numbers-start}
 use Rattle.vs_pages.proofs.Undos.{reverse_last}
 use Rattle.vs_pages.proofs.memory.MemPages.change.Goals as goal
 
+-- where there is a page, the first place is the one that was asked for
+starts_at : (pages lent : List (Option Page)) (asked at : ℕ) → lent ≡ pages → (0 < length lent → at ≡ asked) → 0 < length pages → at ≡ asked
+starts_at pages lent asked at same first some = first (subst (λ (ps : List (Option Page)). 0 < length ps) (sym same) some)
+
+pub end_below-self-requires : goal.end_below-self-requires
+end_below-self-requires c = past_put _ _ c.extend_to.new.self.used c.max.result c.first_place-at.result c.args.pages.items c.exchange.ensures.put c.extend_to.new.self.ends
+    (omega (arith, c.max.ensures)) (omega (arith, c.max.ensures, c.len-2.ensures, c.exchange.ensures.len))
+
+pub invariant_of-self-2-clause-no_gaps : goal.invariant_of-self-2-clause-no_gaps
+invariant_of-self-2-clause-no_gaps c =
+    let at = c.first_place-at.result in
+    let run : Run = record { at = at; was = c.exchange.new.pages; places = c.len-places.result } in
+    let room : is_ok c.push.result ≡ true = c.push.ensures.succeeds (omega (arith, c.in_ok-reserve.ensures.ok, ap (λ l. l.cap) c.extend_to.ensures.log, ap (λ l. length l.items) c.extend_to.ensures.log)) in
+    let log = pushed (is_ok c.push.result) c.extend_to.new.self.log.items c.push.new.self.items (kinds.Run run) c.push.ensures.items room
+    ∙ ap (λ (cs : List Change). cs ++ kinds.Run run ∷ []) (ap (λ l. l.items) c.extend_to.ensures.log ∙ c.reserve.ensures.items) in
+    gaps_more _ (kept_of c.args.self.now) (kinds.Run run) _ _ (reverse_last c.push.new.self.items c.args.self.now.log.items (kinds.Run run) log)
+    (sym c.exchange.ensures.was ∙ c.extend_to.ensures.map)
+    c.args.self.now.no_gaps
+    (near_places (kept_of c.args.self.now) _ c.args.self.now.used at _ c.args.pages.items c.exchange.ensures.len (c.exchange.ensures.put ∙ ap (λ (m : Map). put_places m at c.args.pages.items) c.extend_to.ensures.map)
+    c.args.self.now.ends (λ some. omega (arith, starts_at c.args.pages.items _ c.args.at at c.deref.ensures.value c.first_place-at.ensures.some some, c.requires.near some)))
+
 pub returns-clause-ok : goal.returns-clause-ok
 returns-clause-ok c =
     let at = c.first_place-at.result in
-    let start : 0 < length c.args.pages.items → at ≡ c.args.at = λ lt. c.first_place-at.ensures.some (subst (λ (ps : List (Option Page)). 0 < length ps) (sym c.deref.ensures.value) lt) in
+    let start : 0 < length c.args.pages.items → at ≡ c.args.at = starts_at c.args.pages.items _ c.args.at at c.deref.ensures.value c.first_place-at.ensures.some in
     let run : Run = record { at = at; was = c.exchange.new.pages; places = c.len-places.result } in
     let log = c.in_ok-push.ensures.items ∙ ap (λ (cs : List Change). cs ++ kinds.Run run ∷ []) (ap (λ l. l.items) c.extend_to.ensures.log ∙ c.reserve.ensures.items) in
     record {

@@ -1,9 +1,11 @@
 use Rattle.std.proofs.Common.{List, [], ◌∷◌, ◌++◌, ap, ◌∙◌, refl, arith}
 use Rattle.std.specs.Result.{is_ok}
+use Rattle.vs_pages.specs.Maps.{numbers}
 use Rattle.vs_pages.specs.Memory.{kept_of}
 use Rattle.vs_pages.specs.declared.change.Patch.{Patch}
 use Rattle.vs_pages.specs.declared.change.Change.{Change}
 use Rattle.vs_pages.specs.declared.change.Change.TheVariants as kinds
+use Rattle.vs_pages.proofs.Ends.{end_patched, gaps_more, near_patch}
 use Rattle.vs_pages.proofs.Patches.{patch_back, patch_written, pushed}
 use Rattle.vs_pages.proofs.TableLemmas.{written_within}
 use Rattle.vs_pages.proofs.Undos.{can_more, reverse_last}
@@ -23,6 +25,19 @@ invariant_of-self-2-clause-undo c =
     })
     (patch_back old _ c.args.at c.args.from c.args.bytes.now c.patch.ensures.map c.requires.written c.requires.within c.in_ok-was.was'.items c.in_ok-was.ensures.len c.in_ok-was.ensures.bytes)
     c.patch.ensures.places c.args.self.now.undo
+
+pub invariant_of-self-2-clause-ends : goal.invariant_of-self-2-clause-ends
+invariant_of-self-2-clause-ends c = end_patched _ _ _ c.args.at c.args.from c.args.bytes.now c.patch.ensures.map c.args.self.now.ends
+
+pub invariant_of-self-2-clause-no_gaps : goal.invariant_of-self-2-clause-no_gaps
+invariant_of-self-2-clause-no_gaps c =
+    let old = kept_of c.args.self.now in
+    let patch : Patch = record { at = c.args.at; from = c.args.from; was = c.in_ok-was.was' } in
+    let log = pushed (is_ok c.push.result) c.reserve.new.self.items c.push.new.self.items (kinds.Patch patch) c.push.ensures.items (c.push.ensures.succeeds (omega (arith, c.in_ok-reserve.ensures.ok)))
+    ∙ ap (λ (cs : List Change). cs ++ kinds.Patch patch ∷ []) c.reserve.ensures.items in
+    gaps_more _ old (kinds.Patch patch) _ _ (reverse_last c.push.new.self.items c.args.self.now.log.items (kinds.Patch patch) log)
+    (patch_back old _ c.args.at c.args.from c.args.bytes.now c.patch.ensures.map c.requires.written c.requires.within c.in_ok-was.was'.items c.in_ok-was.ensures.len c.in_ok-was.ensures.bytes)
+    c.args.self.now.no_gaps (near_patch old _ c.args.at c.args.from c.args.bytes.now (numbers c.args.at 1) c.patch.ensures.map)
 
 pub returns-clause-ok : goal.returns-clause-ok
 returns-clause-ok c =

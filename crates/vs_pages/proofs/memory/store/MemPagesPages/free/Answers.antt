@@ -4,6 +4,7 @@ use Rattle.vs_pages.specs.State.{IsChange}
 use Rattle.vs_pages.specs.Table.{seen}
 use Rattle.vs_pages.specs.Memory.{kept_of, present_of, state_of}
 use Rattle.vs_pages.specs.MemoryLaws.{are_present, keeps_none}
+use Rattle.vs_pages.proofs.Ends.{begins_before}
 use Rattle.vs_pages.proofs.MapsLemmas.{pages_at-bound}
 use Rattle.vs_pages.proofs.Pasts.{on_err_from, one_change, one_kept, same_kept, same_present, same_still}
 use Rattle.vs_pages.proofs.Places.{seen_none}
@@ -22,8 +23,11 @@ returns-in_err-change-clause-still c = on_err_from c.from_residual-in_err-change
 pub returns-in_err-change-clause-kept : goal.returns-in_err-change-clause-kept
 returns-in_err-change-clause-kept c = same_kept c.args.self.now c.change.new.self c.in_err-change.ensures.err
 
-pub change-requires : goal.change-requires
-change-requires c = λ some.
+pub change-requires-clause-near : goal.change-requires-clause-near
+change-requires-clause-near c = λ some. begins_before (kept_of c.args.self.now) c.args.self.now.used c.args.at c.args.pages c.args.self.now.ends (c.requires.there refl) (omega (arith, c.in_ok-none.ensures.len, some))
+
+pub change-requires-clause-bound : goal.change-requires-clause-bound
+change-requires-clause-bound c = λ some.
     omega (arith, c.in_ok-none.ensures.len, some, pages_at-bound (present_of c.args.self.now) c.args.at c.args.pages (are_present c.args.self.now) (c.requires.there refl) (omega (arith, c.in_ok-none.ensures.len, some)))
 
 pub add-requires : goal.add-requires

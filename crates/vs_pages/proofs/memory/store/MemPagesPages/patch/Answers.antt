@@ -6,6 +6,7 @@ use Rattle.vs_pages.specs.State.{IsChange}
 use Rattle.vs_pages.specs.Table.{seen, shown}
 use Rattle.vs_pages.specs.Memory.{kept_of, present_of, state_of}
 use Rattle.vs_pages.specs.MemoryLaws.{keeps_none}
+use Rattle.vs_pages.proofs.Ends.{before_end}
 use Rattle.vs_pages.proofs.MapsLemmas.{length-zeros}
 use Rattle.vs_pages.proofs.Pasts.{on_err_from, one_change, one_kept, same_kept, same_present, same_still}
 use Rattle.vs_pages.proofs.Places.{seen_first, seen_patched, shown_some}
@@ -37,8 +38,11 @@ returns-in_err-change_bytes-clause-still c = on_err_from c.from_residual.result 
 pub returns-in_err-change_bytes-clause-kept : goal.returns-in_err-change_bytes-clause-kept
 returns-in_err-change_bytes-clause-kept c = same_kept c.args.self.now c.change_bytes.new.self c.in_err-change_bytes.ensures.err
 
-pub change-requires : goal.change-requires
-change-requires c = λ some.
+pub change-requires-clause-near : goal.change-requires-clause-near
+change-requires-clause-near c = λ some. omega (arith, before_end (kept_of c.args.self.now) c.args.self.now.used c.args.at c.args.self.now.ends (sym (shown_some (kept_of c.args.self.now c.args.at)) ∙ c.requires.there refl))
+
+pub change-requires-clause-bound : goal.change-requires-clause-bound
+change-requires-clause-bound c = λ some.
     let one = ap (λ ps. length ps) c.in_ok-fresh.ensures in
     let inside = map_of-within c.args.self.now.table.places.items c.args.at (sym (shown_some (kept_of c.args.self.now c.args.at)) ∙ c.requires.there refl) in
     omega (arith, one, inside, c.args.self.now.table.bound)

@@ -1,0 +1,126 @@
+-- The number after the last page, and that no number that was never worked comes to lie before a page.
+use Rattle.std.proofs.Common.{◌≡◌, ℕ, ◌+◌, ◌-◌, ◌<◌, ◌≤◌, ◌⊎◌, List, [], ◌∷◌, ◌++◌, Option, None, Some, IsSome, is_some, false, length, refl, sym, ap, ◌∙◌, subst, inl, inr, arith}
+use Rattle.std.proofs.lemmas.Bool.{cases_eq, cases_lt}
+use Rattle.vs_pages.specs.Maps.{Map, numbers, one, patched, put, total, IsEnd, IsVacant, lacks, pages_at}
+use Rattle.vs_pages.specs.Table.{map_of, seen}
+use Rattle.vs_pages.specs.History.{first_of, numbers_in, numbers_of, put_places, undone, EachHasNoGap, HasNoGap}
+use Rattle.vs_pages.specs.declared.page.Page.{Page}
+use Rattle.vs_pages.specs.declared.change.Change.{Change}
+use Rattle.vs_pages.proofs.MapsLemmas.{pages_at-each, put-other, put-same, span-below, span-most, span-within, total-append, total_numbers}
+use Rattle.vs_pages.proofs.Places.{put_places-other, shown_some}
+use Rattle.vs_pages.proofs.TableLemmas.{lacks-seen, map_of-within}
+
+pub none_of : (o : Option (List ℕ)) → is_some o ≡ false → o ≡ None
+none_of None gone = refl
+none_of (Some page) gone = absurd (cc)
+
+pub none_if : (o : Option (List ℕ)) → (IsSome o → ⊥) → o ≡ None
+none_if None never = refl
+none_if (Some page) never = absurd (never refl)
+
+pub not_none : (o : Option (List ℕ)) → o ≡ None → IsSome o → ⊥
+not_none None gone there = absurd (cc)
+not_none (Some page) gone there = absurd (cc)
+
+-- ---- the number after the last page
+
+pub end_within : (places : List (Option Page)) (end : ℕ) → IsEnd (map_of places) end → end ≤ length places
+end_within places end is = elim (cases_lt (length places) end) [
+  | inl lt ↦ absurd (omega (arith, lt, map_of-within places (end - 1) (is.last (omega (arith, lt)))))
+  | inr le ↦ le
+]
+
+pub before_end : (m : Map) (end k : ℕ) → IsEnd m end → IsSome (m k) → k < end
+before_end m end k is there = elim (cases_lt k end) [ inl lt ↦ lt | inr past ↦ absurd (not_none (m k) (is.past k past) there) ]
+
+pub end_as : (m next : Map) (end : ℕ) → next ≡ m → IsEnd m end → IsEnd next end
+end_as m next end is ends = subst (λ (o : Map). IsEnd o end) (sym is) ends
+
+there_patched : (kept : Option (List ℕ)) (from : ℕ) (bytes : List ℕ) → is_some (patched kept from bytes) ≡ is_some kept
+there_patched None from bytes = refl
+there_patched (Some page) from bytes = refl
+
+-- a page whose bytes were written over is there still
+still_there : (m next : Map) (at from : ℕ) (bytes : List ℕ) → next ≡ put m at (patched (m at) from bytes) → (k : ℕ) → is_some (next k) ≡ is_some (m k)
+still_there m next at from bytes is k = elim (cases_eq k at) [
+  | inl e ↦ ap (λ j. is_some (next j)) e ∙ ap (λ (o : Map). is_some (o at)) is ∙ ap (λ o. is_some o) (put-same m at (patched (m at) from bytes)) ∙ there_patched (m at) from bytes ∙ ap (λ j. is_some (m j)) (sym e)
+  | inr ne ↦ ap (λ (o : Map). is_some (o k)) is ∙ ap (λ o. is_some o) (put-other m at (patched (m at) from bytes) k ne)
+]
+
+pub end_patched : (m next : Map) (end at from : ℕ) (bytes : List ℕ) → next ≡ put m at (patched (m at) from bytes) → IsEnd m end → IsEnd next end
+end_patched m next end at from bytes is ends = record {
+  past = λ k past. none_of (next k) (still_there m next at from bytes is k ∙ ap (λ o. is_some o) (ends.past k past));
+  last = λ some. still_there m next at from bytes is (end - 1) ∙ ends.last some;
+}
+
+-- nothing comes past the end and the places that were put
+pub past_put : (m next : Map) (end most at : ℕ) (ps : List (Option Page)) → next ≡ put_places m at ps → IsEnd m end → end ≤ most → at + length ps ≤ most → (k : ℕ) → most ≤ k → next k ≡ None
+past_put m next end most at ps is ends old new k past =
+    ap (λ (o : Map). o k) is ∙ put_places-other m at ps k (inr (omega (arith, new, past))) ∙ ends.past k (omega (arith, old, past))
+
+pub end_none : (places : List (Option Page)) → places ≡ [] → IsEnd (map_of places) 0
+end_none places is = subst (λ (ps : List (Option Page)). IsEnd (map_of ps) 0) (sym is) (record { past = λ k past. refl; last = λ some. absurd (omega (arith, some)) })
+
+-- neighbouring pages begin before the end
+pub begins_before : (kept : Map) (end at n : ℕ) → IsEnd kept end → IsSome (pages_at (seen kept) at n) → 0 < n → at ≤ end
+begins_before kept end at n ends is some =
+    let there : IsSome (seen kept (at + 0)) = pages_at-each (seen kept) at n 0 is some in
+    omega (arith, before_end kept end (at + 0) ends (sym (shown_some (kept (at + 0))) ∙ there))
+
+-- ---- no gaps
+
+pub now_has : (m : Map) (cs : List Change) → EachHasNoGap m cs → HasNoGap (first_of m cs) m (numbers_in cs)
+now_has m [] each k j le there free none = not_none (m j) (none j le) there
+now_has m (c ∷ cs) each k j le there free none = each.0 k j le there free none
+
+-- Each number at or before a page now was worked by the change, or lies at or before a page from before it.
+abbrev pub IsNear : Map → Map → List ℕ → Type 0
+IsNear was now worked = (k j : ℕ) → k ≤ j → IsSome (now j) → total (λ at. one at k) worked ≡ 0 → ((i : ℕ) → k ≤ i → IsSome (was i) → ⊥) → ⊥
+
+-- after one change more
+pub gaps_more : (m was : Map) (c : Change) (all cs : List Change) → all ≡ c ∷ cs → undone c m ≡ was → EachHasNoGap was cs → IsNear was m (numbers_of c) → EachHasNoGap m all
+gaps_more m was c all cs is map rest near =
+    let before : EachHasNoGap (undone c m) cs = subst (λ (o : Map). EachHasNoGap o cs) (sym map) rest in
+    let now : HasNoGap (first_of (undone c m) cs) m (numbers_of c ++ numbers_in cs) = λ k j le there free none.
+    let both : total (λ at. one at k) (numbers_of c) + total (λ at. one at k) (numbers_in cs) ≡ 0 = sym (total-append (λ at. one at k) (numbers_of c) (numbers_in cs)) ∙ free in
+    near k j le there (omega (arith, both)) (λ i le_i there_i.
+    now_has (undone c m) cs before k i le_i (subst (λ (o : Map). IsSome (o i)) (sym map) there_i) (omega (arith, both)) none) in
+    subst (λ (ds : List Change). EachHasNoGap m ds) (sym is) (now, before)
+
+-- after the last change was taken back
+pub gaps_rest : (m next : Map) (c : Change) (all cs : List Change) → all ≡ c ∷ cs → next ≡ undone c m → EachHasNoGap m all → EachHasNoGap next cs
+gaps_rest m next c all cs is map each =
+    let both : EachHasNoGap m (c ∷ cs) = subst (λ (ds : List Change). EachHasNoGap m ds) is each in
+    subst (λ (o : Map). EachHasNoGap o cs) (sym map) both.1
+
+-- the same, of an equal map
+pub gaps_as : (m next : Map) (cs : List Change) → next ≡ m → EachHasNoGap m cs → EachHasNoGap next cs
+gaps_as m next cs is each = subst (λ (o : Map). EachHasNoGap o cs) (sym is) each
+
+-- neighbouring places, which begin at the end at the latest
+pub near_places : (was now : Map) (end at n : ℕ) (ps : List (Option Page)) → n ≡ length ps → now ≡ put_places was at ps → IsEnd was end → (0 < length ps → at ≤ end) → IsNear was now (numbers at n)
+near_places was now end at n ps size is ends near k j le there free none =
+    let same : (j < at) ⊎ (at + length ps ≤ j) → ⊥ = λ out. none j le (subst (λ o. IsSome o) (ap (λ (o : Map). o j) is ∙ put_places-other was at ps j out) there) in
+    elim (cases_lt j at) [
+      | inl lt ↦ same (inl lt)
+      | inr from ↦ elim (cases_lt j (at + length ps)) [
+        | inr past ↦ same (inr past)
+        | inl lt ↦ elim (cases_lt k at) [
+          | inl before ↦
+              let some : 0 < end = omega (arith, before, near (omega (arith, from, lt))) in
+              none (end - 1) (omega (arith, before, near (omega (arith, from, lt)))) (ends.last some)
+          | inr inside ↦ omega (arith, free, total_numbers at n k, span-within at n k inside (omega (arith, le, lt, size)))
+        ]
+      ]
+    ]
+
+-- bytes of a page
+pub near_patch : (was now : Map) (at from : ℕ) (bytes : List ℕ) (worked : List ℕ) → now ≡ put was at (patched (was at) from bytes) → IsNear was now worked
+near_patch was now at from bytes worked is k j le there free none = none j le (sym (still_there was now at from bytes is j) ∙ there)
+
+-- no page comes after the last one
+pub end_vacant : (places : List (Option Page)) (end n : ℕ) → IsEnd (map_of places) end → IsVacant (seen (map_of places)) end n
+end_vacant places end n ends k = elim (cases_lt k end) [
+  | inl lt ↦ omega (arith, span-below end n k lt)
+  | inr past ↦ omega (arith, span-most end n k, ap (λ o. lacks o) (ends.past k past), lacks-seen (map_of places k))
+]
