@@ -181,6 +181,27 @@ fn gives_numbers_again(rt: HostRuntime) -> Result<(), Fail> {
     Ok(())
 }
 
+// Growth begins at the number after the last page at most, whatever was freed there.
+#[test]
+fn leaves_no_gap(rt: HostRuntime) -> Result<(), Fail> {
+    let alloc = rt.alloc();
+    let mut store = MemPages::new(alloc)?;
+    store.grow(alloc, 6)?;
+    for at in [4, 7, 8] {
+        if store.has(at, 1) {
+            store.free(alloc, at, 1)?;
+        }
+    }
+    let runs = [
+        store.grow(alloc, 2)?,
+        store.grow(alloc, 1)?,
+        store.grow(alloc, 1)?,
+    ];
+    assert!(rt; runs == [7, 4, 9]);
+    assert!(rt; store.count() == 10);
+    Ok(())
+}
+
 /// Fills a page with a byte, if it is there.
 pub(crate) fn fill_page(
     store: &mut MemPages,
