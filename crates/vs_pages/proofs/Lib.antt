@@ -1,3 +1,4 @@
+pub mod Commits
 pub mod Ends
 pub mod Lending
 pub mod MapsLemmas

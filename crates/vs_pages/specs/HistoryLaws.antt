@@ -9,6 +9,7 @@ use mathlib.Core.HLevel.{×_prop, Unit-prop}
 use Rattle.vs_bytes.specs.Fields.{with_field}
 use Rattle.vs_bytes.proofs.FieldLaws.{length-with_field}
 use Rattle.vs_pages.specs.Maps.{Map, put, patched, zeros}
+use Rattle.vs_pages.specs.State.{AreMade}
 use Rattle.vs_pages.specs.Table.{bytes_of, map_of, shown}
 use Rattle.vs_pages.specs.History.{AreSteps, EachHasNoGap, HaveNoGaps, first_of, places_before, put_places, undone, CanUndo, CanUndoAll}
 use Rattle.vs_pages.specs.declared.page.Page.{Page}
@@ -33,6 +34,9 @@ EachHasNoGap-prop m (c ∷ cs) = ×_prop (hlevel props) (EachHasNoGap-prop (undo
 
 pub HaveNoGaps-prop : (places : List (Option Page)) (log : List Change) → IsProp (HaveNoGaps places log)
 HaveNoGaps-prop places log = EachHasNoGap-prop (map_of places) (reverse log)
+
+pub AreMade-prop : (count : ℕ) (last : ℕ → ℕ) → IsProp (AreMade (record { count = count; last = last }))
+AreMade-prop count last = hlevel props
 
 put_same : (m : Map) (at : ℕ) (v : Option (List ℕ)) → put m at v at ≡ v
 put_same m at v = grind (arith, nat_tests)

@@ -3,7 +3,8 @@ ghost use Rattle.std.specs.Prelude.{◌≡◌, ◌+◌, ◌-◌, ◌^◌, ◌<�
 ghost use Rattle.vs_pages.specs.Maps.{numbers, patched, pages_at, put, first_pages, IsEnd, IsVacant};
 ghost use Rattle.vs_pages.specs.Table.{last_in, map_of};
 ghost use Rattle.vs_pages.specs.History.{AreSteps, HaveNoGaps, put_places};
-ghost use Rattle.vs_pages.specs.HistoryLaws.{AreSteps-prop, HaveNoGaps-prop};
+ghost use Rattle.vs_pages.specs.HistoryLaws.{AreMade-prop, AreSteps-prop, HaveNoGaps-prop};
+ghost use Rattle.vs_pages.specs.State.{AreMade};
 
 mod store;
 
@@ -38,6 +39,7 @@ pub struct MemPages {
     ghost counted: { length table.places.items ≤ vec_len last },
     ghost ends: { IsEnd (map_of table.places.items) used },
     ghost no_gaps: { HaveNoGaps table.places.items log.items } by { HaveNoGaps-prop table.places.items log.items },
+    ghost made: { AreMade (record { count = commits; last = last_in last.items }) } by { AreMade-prop commits (last_in last.items) },
 }
 
 // A value with much in it is dropped by a call.
