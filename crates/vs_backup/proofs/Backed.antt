@@ -11,7 +11,7 @@ use Rattle.vs_disk.specs.Images.{HoldsBytes, MayLeave}
 use Rattle.vs_disk.specs.Runs.{Looks, Runs}
 use Rattle.vs_disk.proofs.Runs.{runs_as}
 use Rattle.vs_disk.proofs.Contents.{image_holds}
-use Rattle.vs_backup.specs.Works.{Drops, HasSynced, IsGone, Narrowed, Spares, SparesOthers, Steps, one_name}
+use Rattle.vs_backup.specs.Works.{Drops, HasSynced, IsGone, Narrowed, Spares, SparesOthers, StaysGone, Steps, one_name}
 use Rattle.vs_backup.specs.Writing.{IsKept, IsWhole, IsSettled, OldIn, WritesOver, WritesBacked, BeginsWhole, backed_names, stopped}
 use Rattle.vs_backup.specs.declared.errors.Place.{Place}
 use Rattle.vs_backup.specs.declared.errors.Place.TheVariants as place
@@ -23,7 +23,7 @@ use Rattle.vs_backup.proofs.Calls.{runs_wider, spares_on}
 use Rattle.vs_backup.proofs.Following.{looks_narrowed, narrowed_now, narrowed_on, narrowed_starts}
 use Rattle.vs_backup.proofs.Frames.{holds_spared}
 use Rattle.vs_backup.proofs.Kept.{may_leave_now}
-use Rattle.vs_backup.proofs.Copying.{content_held, kept_on, never_refused}
+use Rattle.vs_backup.proofs.Copying.{content_held, kept_on, never_failed, never_refused}
 use Rattle.vs_backup.proofs.Others.{others_spared, others_looks, others_on, others_starts}
 use Rattle.vs_backup.proofs.Places.{places_keep, places_dropped}
 use Rattle.vs_backup.proofs.Renewing.{renews_dropped}
@@ -65,6 +65,9 @@ narrowed_content name a b narrowed = ap (λ (at : Option ℕ). read_under b at) 
     same None = refl
     same (Some number) = ap (λ (bytes : List ℕ). Some bytes) (narrowed.files number).bytes
 
+gone_narrowed : (name : Name) (a b : Disk) → Narrowed a b → StaysGone name a b
+gone_narrowed name a b narrowed was lost = let at = narrowed.back lost in at.1 name ∙ was at.0
+
 -- ---- from a settled file
 module _ (copying keep : Bool) (name temporary backup : Name) (old new : List ℕ) (s0 s1 : Scene) (moment : HasNewest s0) (order : HasSynced name s0) (is : IsSettled name old s0.folder) where
   abbrev begins : (result : Result ℕ WriteErr) → WritesOver copying name temporary backup old new s0 s1 result
@@ -103,6 +106,7 @@ module _ (copying keep : Bool) (name temporary backup : Name) (old new : List �
     kept = λ keeps. tt;
     gone = λ goes. tt;
     aside = λ copies. tt;
+    clears = λ copies calm was. over.aside copies calm;
     not_written = over.not_written;
     returned = returned_over why over;
     in_file = λ refused. inr (over.in_file refused);
@@ -118,7 +122,8 @@ module _ (copying keep : Bool) (name temporary backup : Name) (old new : List �
     written = (over.written.0, over.written.1);
     kept = λ keeps. over.written.2;
     gone = λ goes. absurd (true≢false (sym keeps ∙ goes));
-    aside = λ copies. over.aside copies;
+    aside = λ copies. over.aside copies (never_failed size);
+    clears = λ copies calm was. over.aside copies calm;
     not_written = tt;
     returned = tt;
     in_file = λ refused. absurd (never_refused size place.File refused);
@@ -148,13 +153,14 @@ module _ (copying keep : Bool) (name temporary backup : Name) (old new : List �
           replaced = replaces_dropped copying name backup old s0 s1 s2 frame free over.replaced dropped;
           places = places_dropped copying keep name backup s0 s1 s2 size goes frame differ over.places drops;
           spares = spares;
-          anew = λ copies. renews_dropped temporary s0 s1 s2 frame (over.anew copies) backup differ_backup (over.aside copies) drops;
+          anew = λ copies. renews_dropped temporary s0 s1 s2 frame (over.anew copies) backup differ_backup (over.aside copies (never_failed size)) drops;
         });
         others = others_spared on s0 s2 spares;
         written = (over.written.0, holds_spared (one_name backup) name (λ c. c ≡ new) s1.folder s2.folder differ drops.now holds);
         kept = λ keeps. absurd (true≢false (sym keeps ∙ goes));
         gone = λ goes none. gone none;
-        aside = λ copies. gone_spared (one_name backup) temporary s1.folder s2.folder differ_backup drops.now (over.aside copies);
+        aside = λ copies. gone_spared (one_name backup) temporary s1.folder s2.folder differ_backup drops.now (over.aside copies (never_failed size));
+        clears = λ copies calm was. gone_spared (one_name backup) temporary s1.folder s2.folder differ_backup drops.now (over.aside copies (never_failed size));
         not_written = tt;
         returned = tt;
         in_file = λ refused. absurd (never_refused size place.File refused);
@@ -178,6 +184,7 @@ module _ (copying keep : Bool) (name temporary backup : Name) (old new : List �
     kept = λ keeps. tt;
     gone = λ goes. tt;
     aside = λ copies. tt;
+    clears = λ copies calm. gone_narrowed temporary s0.folder s1.folder (narrowed_now s0 s1 looked);
     not_written = inl may_leave_narrowed;
     returned = inl (narrowed_content name s0.folder s1.folder (narrowed_now s0 s1 looked) ∙ content);
     in_file = λ refused. inl looked;
@@ -209,6 +216,7 @@ module _ (copying keep : Bool) (name temporary backup : Name) (old new : List �
     kept = backed.kept;
     gone = λ goes. gone_after result goes;
     aside = backed.aside;
+    clears = λ copies calm was. backed.clears copies calm (gone_narrowed temporary s0.folder s1.folder (narrowed_now s0 s1 looked) was);
     not_written = backed.not_written;
     returned = backed.returned;
     in_file = λ refused. elim (backed.in_file refused) [

@@ -12,7 +12,7 @@ use Rattle.vs_disk.proofs.Images.{read_image}
 use Rattle.vs_disk.proofs.Runs.{runs_as, runs_then}
 use Rattle.vs_disk.proofs.Contents.{file_of_content, content_of_file, holds_synced}
 use Rattle.vs_backup.specs.Works.{ChangesOne, Fills, IsAlone, IsGone, LeadsTo, Renews, Spares, one_name, two_names, three_names}
-use Rattle.vs_backup.specs.Writing.{IsKept, IsSettled, Places, Replaces, StartsOver, IsStartedOver, WritesOver, OldIn, backed_names, stopped, stopped_after}
+use Rattle.vs_backup.specs.Writing.{IsFailed, IsKept, IsSettled, Places, Replaces, StartsOver, IsStartedOver, WritesOver, OldIn, backed_names, stopped, stopped_after}
 use Rattle.vs_backup.specs.declared.errors.Place.{Place}
 use Rattle.vs_backup.specs.declared.errors.Place.TheVariants as place
 use Rattle.vs_backup.specs.declared.errors.Stop.{Stop}
@@ -103,6 +103,9 @@ pub never_refused : (size : ℕ) (at : Place) → OldIn at (Ok size) → ⊥
 never_refused size at (inl is) = cc
 never_refused size at (inr is) = cc
 
+pub never_failed : (size : ℕ) → IsFailed (Ok size) → ⊥
+never_failed size failed = let same = failed.1 in cc
+
 pub only_file : (at : Place) → (at ≡ place.File → ⊥) → OldIn {T = ℕ} at (Err (error.Failed place.File)) → ⊥
 only_file at other (inl is) = let same : place.File ≡ at = cc in other (sym same)
 only_file at other (inr is) = cc
@@ -137,7 +140,7 @@ module _ (name backup temporary : Name) (old new : List ℕ) (s0 s1 s2 : Scene) 
     kept = all_kept;
     places = in_place_on name s0 s1 s2 frame over.in_place runs;
     replaced = all_replaced;
-    aside = λ copies. gone_changed temporary name Changes s1.folder s2.folder runs.now aside;
+    aside = λ copies calm. gone_changed temporary name Changes s1.folder s2.folder runs.now aside;
     anew = λ copies. renews_gone temporary s0 s1 s2 frame over.anew name aside runs;
     written = (is, holds_synced name new s2.folder backed.pending synced, settled_holds backup old s2.folder backed);
     not_written = tt;
@@ -154,7 +157,7 @@ module _ (name backup temporary : Name) (old new : List ℕ) (s0 s1 s2 : Scene) 
     kept = all_kept;
     places = in_place_on name s0 s1 s2 frame over.in_place runs;
     replaced = all_replaced;
-    aside = λ copies. tt;
+    aside = λ copies calm. gone_changed temporary name Changes s1.folder s2.folder runs.now aside;
     anew = λ copies. renews_gone temporary s0 s1 s2 frame over.anew name aside runs;
     written = tt;
     not_written = inl (may_leave_held name old s2.folder (holds_synced name old s2.folder backed.pending synced));
@@ -167,7 +170,7 @@ module _ (name backup temporary : Name) (old new : List ℕ) (s0 s1 s2 : Scene) 
     kept = all_kept;
     places = in_place_on name s0 s1 s2 frame over.in_place runs;
     replaced = all_replaced;
-    aside = λ copies. tt;
+    aside = λ copies calm. gone_changed temporary name Changes s1.folder s2.folder runs.now aside;
     anew = λ copies. renews_gone temporary s0 s1 s2 frame over.anew name aside runs;
     written = tt;
     not_written = inl (may_leave_filled name old s1.folder s2.folder fills started.may_leave);
@@ -185,7 +188,7 @@ over_not_begun copying name temporary backup old new s0 s1 spares kept replaced 
   kept = kept;
   places = places;
   replaced = replaced;
-  aside = λ copies. tt;
+  aside = λ copies calm. absurd (calm (place.File, refl));
   anew = anew;
   written = tt;
   not_written = inl (may_leave_held name old s1.folder holds);

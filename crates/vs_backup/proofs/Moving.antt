@@ -139,7 +139,7 @@ module _ (name backup : Name) (old new : List ℕ) (s0 s1 s2 : Scene) (is : IsSe
         in_backup = λ refused. absurd (never_other why place.File place.Backup (λ e. cc) refused);
       };
       replaced = back_replaced;
-      aside = λ copies. tt;
+      aside = λ copies. absurd (true≢false (sym copies));
       anew = λ copies. absurd (true≢false (sym copies));
       written = tt;
       not_written = inl (may_leave_held name old s3.folder (settled_holds name old s3.folder returned.0));
@@ -158,7 +158,7 @@ module _ (name backup : Name) (old new : List ℕ) (s0 s1 s2 : Scene) (is : IsSe
         in_backup = λ refused. back_under.now;
       };
       replaced = back_replaced;
-      aside = λ copies. tt;
+      aside = λ copies. absurd (true≢false (sym copies));
       anew = λ copies. absurd (true≢false (sym copies));
       written = tt;
       not_written = inr (widens None anew.absent);

@@ -53,6 +53,9 @@ pub nowhere_renamed : (from to : Name) (old new : Disk) → (from ≡ to → ⊥
 nowhere_renamed from to old new differ renames number leads =
     let clash : None ≡ Some number = sym (moved_away from to old new (λ e. differ (sym e)) renames) ∙ leads in absurd (cc clash)
 
+pub nowhere_removed : (name : Name) (old new : Disk) → ChangesNames (Removes name) old new → LeadsNowhereElse name old new
+nowhere_removed name old new removes number leads = let clash : None ≡ Some number = sym (absent_removed name old new removes) ∙ leads in absurd (cc clash)
+
 pub nowhere_synced : (name : Name) (old new : Disk) → SyncsNames old new → LeadsNowhereElse name old new
 nowhere_synced name old new syncs number leads = sym (settled old new syncs 0 name) ∙ leads
 

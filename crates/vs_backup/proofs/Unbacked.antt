@@ -1,4 +1,5 @@
 -- Writing without a backup: the file alone changes, or its temporary name until the file takes its own.
+use Rattle.std.specs.Prelude.{IsErrOf}
 use Rattle.std.proofs.Common.{◌≡◌, inl, inr, ℕ, List, [], ◌∷◌, Some, None, length, OnOk, OnErr, IfOk, Result, Ok, Err, refl, sym, ◌∙◌, subst, arith}
 use Rattle.vs_host.specs.File.{Cuts}
 use Rattle.vs_host.specs.Disk.{Disk, Name, content_in, ChangesFile, IsFolder}
@@ -10,9 +11,10 @@ use Rattle.vs_disk.specs.Runs.{Runs}
 use Rattle.vs_disk.proofs.Images.{cut_keeps_images}
 use Rattle.vs_disk.proofs.Runs.{one_call, runs_on}
 use Rattle.vs_disk.proofs.Contents.{holds_synced}
-use Rattle.vs_backup.specs.Works.{ChangesOne, Fills, HasSynced, IsAlone, IsGone, Narrowed, Renews, Spares, SparesOthers, Steps, one_name, two_names}
+use Rattle.vs_backup.specs.Works.{ChangesOne, Fills, HasSynced, IsAlone, IsGone, Narrowed, Renews, Spares, SparesOthers, StaysGone, Steps, one_name, two_names}
 use Rattle.vs_backup.specs.Writing.{BeginsPlain, IsSettled, WritesFresh, WritesPlain}
 use Rattle.vs_backup.specs.declared.errors.Stop.{Stop}
+use Rattle.vs_backup.specs.declared.errors.Stop.TheVariants as stop
 use Rattle.vs_backup.proofs.Calls.{runs_wider, runs_file, spares_on, synced_bytes}
 use Rattle.vs_backup.proofs.Frames.{spares_same, content_spared, absent_now}
 use Rattle.vs_backup.proofs.Filling.{changes_by, changes_same, changes_then}
@@ -102,27 +104,33 @@ module _ (name temporary : Name) (new : List ℕ) (s0 s1 : Scene) (differ : name
   pub fresh_free : content_in s1.folder name ≡ None
   fresh_free = content_spared (one_name temporary) name s0.folder s1.folder differ spares.now ∙ free
 
-  pub fresh_not_taken : Runs (Renews temporary) s0 s1 → (result : Result ℕ Stop) → OnOk result ⊥ → WritesFresh (two_names temporary name) name new s0 s1 result
-  fresh_not_taken renews (Ok size) none = absurd none
-  fresh_not_taken renews (Err why) none = record {
+  pub fresh_not_taken : Runs (Renews temporary) s0 s1 → (result : Result ℕ Stop) → OnOk result ⊥ → (IsErrOf result stop.NoMemory → StaysGone temporary s0.folder s1.folder)
+      → WritesFresh (two_names temporary name) name new s0 s1 result
+  fresh_not_taken renews (Ok size) none clears = absurd none
+  fresh_not_taken renews (Err why) none clears = record {
     takes = fresh_takes;
     spares = fresh_spares;
     written = tt;
     not_written = absent_now name s1.folder fresh_free;
     anew = renews_but temporary name s0 s1 renews;
     aside = tt;
+    clears = λ memory other works not_name. elim works [
+      | inl same ↦ subst (λ (n : Name). StaysGone n s0.folder s1.folder) (sym same) (clears memory)
+      | inr same ↦ absurd (not_name same)
+    ];
   }
 
   module _ (s2 : Scene) (frame : ChangesFolder s0 s1) (renews : Runs (Renews temporary) s0 s2) (takes : Runs (Takes name new) s1 s2) (moved : Runs (Spares (two_names temporary name)) s1 s2) where
-    pub fresh_refused : (result : Result ℕ Stop) → OnOk result ⊥ → MayLeave s2.folder name None → WritesFresh (two_names temporary name) name new s0 s2 result
-    fresh_refused (Ok size) none absent = absurd none
-    fresh_refused (Err why) none absent = record {
+    pub fresh_refused : (result : Result ℕ Stop) → OnOk result ⊥ → (IsErrOf result stop.NoMemory → ⊥) → MayLeave s2.folder name None → WritesFresh (two_names temporary name) name new s0 s2 result
+    fresh_refused (Ok size) none failed absent = absurd none
+    fresh_refused (Err why) none failed absent = record {
       takes = takes_on name new s0 s1 s2 frame fresh_takes takes;
       spares = spares_on (two_names temporary name) s0 s1 s2 frame fresh_spares moved;
       written = tt;
       not_written = absent;
       anew = renews_but temporary name s0 s2 renews;
       aside = tt;
+      clears = λ memory. absurd (failed memory);
     }
 
     pub fresh_done : (size : ℕ) → size ≡ length new → IsSettled name new s2.folder → IsGone temporary s2.folder → WritesFresh (two_names temporary name) name new s0 s2 (Ok size)
@@ -136,4 +144,5 @@ module _ (name temporary : Name) (new : List ℕ) (s0 s1 : Scene) (differ : name
         | inl same ↦ subst (λ (n : Name). IsGone n s2.folder) (sym same) gone
         | inr same ↦ absurd (not_name same)
       ];
+      clears = λ memory. absurd (cc);
     }

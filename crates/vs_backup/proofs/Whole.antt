@@ -12,7 +12,7 @@ use Rattle.vs_disk.proofs.Runs.{runs_as, runs_then, looks_on, reads_change}
 use Rattle.vs_backup.specs.Backups.{WorksOn, backup_of, copies}
 use Rattle.vs_backup.specs.Backups.WorksOn.{TheFile, TheNewFile, TheBackup, TheCopy}
 use Rattle.vs_backup.specs.declared.options.WriteOptions.{WriteOptions}
-use Rattle.vs_backup.specs.Works.{RenewsBut, Spares, SparesOthers, one_name, two_names}
+use Rattle.vs_backup.specs.Works.{IsGone, RenewsBut, Spares, SparesOthers, one_name, two_names}
 use Rattle.vs_backup.specs.Writing.{FindsNoName, IsUnseen, OldIn, WritesFresh, WritesInPlace, WritesPlain, WritesWith, backed_names}
 use Rattle.vs_backup.specs.declared.errors.Place.TheVariants as place
 use Rattle.vs_backup.specs.declared.errors.Stop.{Stop}
@@ -89,6 +89,7 @@ module _ (s0 s1 s2 : Scene) (frame : ReadsFolder s0 s1) (looks : Looks s0 s1) (r
         anew = runs_then (λ a b. b ≡ a) (RenewsBut on name) (RenewsBut on name) s0 s1 s2 (λ d same other works differ. renews_same other s0.folder d same)
             (λ d renews. subst (λ (e : Disk). RenewsBut on name e d) looks.now renews) changed looks here.anew;
         aside = here.aside;
+        clears = λ memory other works differ was. here.clears memory other works differ (subst (λ (d : Disk). IsGone other d) (sym looks.now) was);
       }
 
 -- ---- the names on which a write works

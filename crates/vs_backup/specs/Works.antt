@@ -63,6 +63,10 @@ LeadsAway name old new = (lost : ℕ) → names_at new lost name ≡ names_of ol
 abbrev pub IsGone : Name → Disk → Type 0
 IsGone name disk = (lost : ℕ) → names_at disk lost name ≡ None
 
+-- A name that led to no file, whatever a stop had left, leads to none now either.
+abbrev pub StaysGone : Name → Disk → Disk → Type 0
+StaysGone name old new = IsGone name old → IsGone name new
+
 -- in no state of the names that a stop may leave does a name lead to the file of this number
 abbrev pub IsUnused : ℕ → Disk → Type 0
 IsUnused number disk = (lost : ℕ) (name : Name) → names_at disk lost name ≢ Some number

@@ -13,7 +13,7 @@ use Rattle.vs_host.specs.declared.traits.Failed.{Failed}
 use Rattle.vs_disk.specs.Images.{HoldsBytes, IsSynced, MayLeave, Takes}
 use Rattle.vs_disk.specs.Runs.{FailsLast, Looks, Quiet, Runs}
 use Rattle.vs_backup.specs.Works.{HasSynced, IsGone, IsHeld, LeadsAway, LeadsTo, Narrowed, Renews, RenewsBut, Spares, SparesOthers}
-use Rattle.vs_backup.specs.Works.{StandsUnder, Steps, one_name, two_names, three_names}
+use Rattle.vs_backup.specs.Works.{StandsUnder, StaysGone, Steps, one_name, two_names, three_names}
 use Rattle.vs_backup.specs.Backups.{copies}
 use Rattle.vs_backup.specs.declared.options.WriteOptions.{WriteOptions}
 use Rattle.vs_backup.specs.declared.errors.Place.{Place}
@@ -192,7 +192,7 @@ pub record WritesOver (copying : Bool) (name temporary backup : Name) (old new :
   pub places : Places copying true name backup before after result
   pub replaced : Runs (Replaces copying name backup old) before after
   pub written : IfOk result (λ size. (size ≡ length new) × HoldsBytes name new after.folder × HoldsBytes backup old after.folder)
-  pub aside : copying ≡ true → OnOk result (IsGone temporary after.folder)
+  pub aside : copying ≡ true → ¬ IsFailed result → IsGone temporary after.folder
   pub anew : copying ≡ true → Runs (Renews temporary) before after
   pub not_written : OnErr result (MayLackNew name old after.folder)
   pub in_file : OldIn File result → HoldsBytes name old after.folder
@@ -257,6 +257,7 @@ pub record WritesBacked (copying keep : Bool) (name temporary backup : Name) (ol
   pub gone : keep ≡ false → OnOk result ((HasRisen before.folder_faults after.folder_faults → ⊥) → IsGone backup after.folder)
   -- the name under which the copy was made
   pub aside : copying ≡ true → OnOk result (IsGone temporary after.folder)
+  pub clears : copying ≡ true → ¬ IsFailed result → StaysGone temporary before.folder after.folder
   pub not_written : OnErr result (MayLackNew name old after.folder)
   -- the file as it is read after an error
   pub returned : OnErr result ((content_of after name ≡ Some old) ⊎ OldIn Backup result)
@@ -297,6 +298,7 @@ pub record WritesFresh (on : Name → Type 0) (name : Name) (new : List ℕ) (be
   -- the other names on which it worked
   pub anew : Runs (RenewsBut on name) before after
   pub aside : OnOk result ((other : Name) → on other → (other ≡ name → ⊥) → IsGone other after.folder)
+  pub clears : IsErrOf result stop.NoMemory → (other : Name) → on other → (other ≡ name → ⊥) → StaysGone other before.folder after.folder
 
 -- It was not found out whether there is a file, and nothing has changed.
 pub record IsUnseen (before after : Scene) (result : Result ℕ WriteErr) : Type 0 where

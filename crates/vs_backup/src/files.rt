@@ -178,6 +178,7 @@ pub(crate) fn drop_name<D: Desk>(desk: &mut D, name: &str) -> Result<(), Failed>
     requires there { IsTrue (D.tells).folder → IsSome (content_of (D.scene desk.old) name.now) }
     ensures spares { IsTrue (D.tells).folder → Runs (Spares (one_name name.now)) (D.scene desk.old) (D.scene desk.new) }
     ensures drops { IsTrue (D.tells).folder → Runs (Drops name.now) (D.scene desk.old) (D.scene desk.new) }
+    ensures leads { IsTrue (D.tells).folder → Runs (LeadsNowhereElse name.now) (D.scene desk.old) (D.scene desk.new) }
     ensures gone { OnOk result (IsTrue (D.tells).folder → IsGone name.now (D.scene desk.new).folder) }
     ensures kept { GoesOn D.tells D.scene D.valid D.stays (IsErr result) desk.old desk.new }
 {

@@ -4,8 +4,9 @@ use Rattle.vs_host.specs.Trace.{Removed, SyncedNames}
 use Rattle.vs_host.specs.World.{Scene}
 use Rattle.vs_disk.proofs.Runs.{one_call, call_on}
 use Rattle.vs_disk.proofs.Steps.{gone_for_good}
-use Rattle.vs_backup.specs.Works.{Drops, IsGone, Spares, one_name}
+use Rattle.vs_backup.specs.Works.{Drops, IsGone, LeadsNowhereElse, Spares, one_name}
 use Rattle.vs_backup.proofs.Frames.{either, spares_same, spares_then, spares_removed, spares_synced, ok_leads}
+use Rattle.vs_backup.proofs.Renewing.{nowhere_removed, nowhere_same, nowhere_synced, nowhere_then}
 use Rattle.vs_backup.proofs.Replacing.{drops_removed, drops_same, drops_synced, drops_then}
 use Rattle.vs_backup.proofs.Going as going
 use Rattle.vs_backup.proofs.files.drop_name.Goals as goal
@@ -46,6 +47,24 @@ returns-clause-drops g c told =
     either (IsTrue g.D.World.tells.folder → SyncsNames s1.folder s2.folder) (s2.folder ≡ s1.folder) (Drops name s1.folder s2.folder) c.sync_names.result
     c.sync_names.ensures.ok c.sync_names.ensures.err (λ syncs. drops_synced name s1.folder s2.folder (syncs told)) (λ same. drops_same name s1.folder s2.folder same) in
     call_on (Drops name) (drops_then name) SyncedNames [] c.sync_names.result s0 s1 s2 c.remove.ensures.kept.frame first c.sync_names.ensures.kept.frame here (c.sync_names.ensures.told told)
+
+pub returns-in_err-remove-clause-leads : goal.returns-in_err-remove-clause-leads
+returns-in_err-remove-clause-leads g c told =
+    let s0 : Scene = g.D.World.scene c.args.desk.now in
+    let s1 : Scene = g.D.World.scene c.remove.new.self in
+    one_call (LeadsNowhereElse c.args.name.now) Removed (c.args.name.now ∷ []) c.remove.result s0 s1 c.remove.ensures.kept.frame (c.remove.ensures.told told) (nowhere_same c.args.name.now s0.folder s1.folder c.in_err-remove.ensures.err)
+
+pub returns-clause-leads : goal.returns-clause-leads
+returns-clause-leads g c told =
+    let name = c.args.name.now in
+    let s0 : Scene = g.D.World.scene c.args.desk.now in
+    let s1 : Scene = g.D.World.scene c.remove.new.self in
+    let s2 : Scene = g.D.World.scene c.sync_names.new.self in
+    let first = one_call (LeadsNowhereElse name) Removed (name ∷ []) c.remove.result s0 s1 c.remove.ensures.kept.frame (c.remove.ensures.told told) (nowhere_removed name s0.folder s1.folder (c.in_ok-remove.ensures.ok told)) in
+    let here : LeadsNowhereElse name s1.folder s2.folder =
+    either (IsTrue g.D.World.tells.folder → SyncsNames s1.folder s2.folder) (s2.folder ≡ s1.folder) (LeadsNowhereElse name s1.folder s2.folder) c.sync_names.result
+    c.sync_names.ensures.ok c.sync_names.ensures.err (λ syncs. nowhere_synced name s1.folder s2.folder (syncs told)) (λ same. nowhere_same name s1.folder s2.folder same) in
+    call_on (LeadsNowhereElse name) (nowhere_then name) SyncedNames [] c.sync_names.result s0 s1 s2 c.remove.ensures.kept.frame first c.sync_names.ensures.kept.frame here (c.sync_names.ensures.told told)
 
 pub returns-clause-gone : goal.returns-clause-gone
 returns-clause-gone g c =

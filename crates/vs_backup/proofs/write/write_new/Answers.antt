@@ -16,7 +16,7 @@ returns-in_err-piece-clause-fresh g c told free text has =
     let on = one_name c.args.temporary.now in
     let p = err_from_is_err_and c.from_residual.result c.from_residual.ensures.1 in
     fresh_not_taken c.args.name.now c.args.temporary.now (file_in c.args.format text) s0 s0 c.requires.differ free (starts (Spares on) s0 (spares_none on s0.folder))
-    (starts (Renews c.args.temporary.now) s0 (renews_same c.args.temporary.now s0.folder s0.folder refl)) c.from_residual.result (rw p.1 tt)
+    (starts (Renews c.args.temporary.now) s0 (renews_same c.args.temporary.now s0.folder s0.folder refl)) c.from_residual.result (rw p.1 tt) (λ memory was. was)
 
 pub returns-in_err-piece-clause-kept : goal.returns-in_err-piece-clause-kept
 returns-in_err-piece-clause-kept g c = going.GoesOn-nothing c.requires.valid (g.met.D.Desk.stays_itself c.args.desk.now) (going.err_other c.from_residual.result _ _ c.from_residual.ensures.1 (λ is. absurd (cc)))
