@@ -12,9 +12,11 @@ use Rattle.vs_disk.proofs.Images.{cut_keeps_images}
 use Rattle.vs_disk.proofs.Runs.{one_call, runs_on}
 use Rattle.vs_disk.proofs.Contents.{holds_synced}
 use Rattle.vs_backup.specs.Works.{ChangesOne, Fills, HasSynced, IsAlone, IsGone, Narrowed, Renews, Spares, SparesOthers, StaysGone, Steps, one_name, two_names}
-use Rattle.vs_backup.specs.Writing.{BeginsPlain, IsSettled, WritesFresh, WritesPlain}
+use Rattle.vs_backup.specs.Writing.{BeginsPlain, IsFailed, IsSettled, WritesFresh, WritesNew, WritesPlain, nowhere}
+use Rattle.vs_backup.specs.declared.errors.Place.TheVariants.{Nowhere}
 use Rattle.vs_backup.specs.declared.errors.Stop.{Stop}
 use Rattle.vs_backup.specs.declared.errors.Stop.TheVariants as stop
+use Rattle.vs_backup.specs.declared.errors.WriteErr.{WriteErr}
 use Rattle.vs_backup.proofs.Calls.{runs_wider, runs_file, spares_on, synced_bytes}
 use Rattle.vs_backup.proofs.Frames.{spares_same, content_spared, absent_now}
 use Rattle.vs_backup.proofs.Filling.{changes_by, changes_same, changes_then}
@@ -146,3 +148,13 @@ module _ (name temporary : Name) (new : List ℕ) (s0 s1 : Scene) (differ : name
       ];
       clears = λ memory. absurd (cc);
     }
+
+-- under the temporary name a write that is not answered as a failed call leaves no file where none was
+pub fresh_clears : (temporary name : Name) (new : List ℕ) (before after : Scene) (result : Result ℕ WriteErr) → (IsFailed result → ⊥) → (temporary ≡ name → ⊥) → WritesNew temporary name new before after result
+    → StaysGone temporary before.folder after.folder
+fresh_clears temporary name new before after result calm differ writes = by writes.answer writes.is writes.fresh
+  where
+    by : (answer : Result ℕ Stop) → result ≡ nowhere answer → WritesFresh (two_names temporary name) name new before after answer → StaysGone temporary before.folder after.folder
+    by (Ok size) is fresh was = fresh.aside temporary (inl refl) differ
+    by (Err stop.Failed) is fresh was = absurd (calm (Nowhere, is))
+    by (Err stop.NoMemory) is fresh was = fresh.clears refl temporary (inl refl) differ was
