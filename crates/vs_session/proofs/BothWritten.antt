@@ -26,6 +26,7 @@ use Rattle.vs_backup.specs.declared.errors.WriteErr.TheVariants as error
 use Rattle.vs_backup.specs.declared.errors.Place.TheVariants.{Backup, Nowhere}
 use Rattle.vs_backup.specs.Writing.{BecomesWritten, IsUnseen, IsWhole, OldIn}
 use Rattle.vs_backup.proofs.Backed.{whole_new}
+use Rattle.vs_backup.proofs.Copying.{never_failed}
 use Rattle.vs_backup.proofs.Replacing.{replaces_spared}
 use Rattle.vs_machine.specs.Machine.{took_effect}
 use Rattle.vs_machine.specs.Replies.{Answer, says}
@@ -298,7 +299,7 @@ module _ (state : SessionState) (syncs : List Sync) (instruction : Instruction) 
       both_runs.now.folder.whole rises cause
 
   cleared_made : LeavesNoneMade old.folder made.folder
-  cleared_made = cleared_by state syncs instruction is before between old mid s after (Ok size) made second wrote size refl
+  cleared_made = cleared_by state syncs instruction is before between old mid s after (Ok size) made second wrote (never_failed size)
 
   replied_as : (outcome : Outcome) → (outcome ≡ Done) ⊎ (outcome ≡ NoUndo) → write_reply state outcome old.folder ≡ reply_of state instruction (ended state syncs instruction is before between old mid s outcome at)
   replied_as outcome (inl done) =

@@ -1,5 +1,5 @@
 -- The names under which files are made that are renamed then: what a command leaves of them.
-use Rattle.std.proofs.Common.{◌≡◌, ◌≢◌, ◌⊎◌, inl, inr, ℕ, Bool, true, false, ◌&&◌, ◌||◌, not, codes, length, List, [], ◌∷◌, ◌++◌, Option, Some, None, IsSome, Ok, Err, OnOk, refl, sym, ◌∙◌, ap, subst, append_assoc, arith}
+use Rattle.std.proofs.Common.{◌≡◌, ◌≢◌, ◌⊎◌, inl, inr, ℕ, Bool, true, false, ◌&&◌, ◌||◌, not, codes, length, List, [], ◌∷◌, ◌++◌, Option, Some, None, IsSome, Result, refl, sym, ◌∙◌, ap, subst, append_assoc, arith}
 use Rattle.std.specs.List.{ends_with, list_all}
 use Rattle.std.specs.Prelude.{nat_eq, nat_le}
 use Rattle.std.specs.Str.{bytes_eq}
@@ -26,10 +26,13 @@ use Rattle.vs_pair.proofs.FitLemmas.{at_side}
 use Rattle.vs_backup.specs.Backups.{IsBackupName, WorksOn, backup_of, copies}
 use Rattle.vs_backup.specs.Backups.WorksOn.{TheFile, TheNewFile, TheBackup, TheCopy}
 use Rattle.vs_backup.specs.Works.{IsGone, Spares as SparesNames, SparesOthers, two_names}
-use Rattle.vs_backup.specs.Writing.{IsUnseen, WritesNew, WritesWith, nowhere}
+use Rattle.vs_backup.specs.Writing.{IsFailed, IsUnseen, WritesNew, WritesWith}
+use Rattle.vs_backup.specs.declared.errors.Place.TheVariants.{Nowhere}
+use Rattle.vs_backup.specs.declared.errors.WriteErr.{WriteErr}
 use Rattle.vs_backup.specs.declared.options.WriteOptions.{WriteOptions}
 use Rattle.vs_backup.proofs.Choosing.{some_name}
 use Rattle.vs_backup.proofs.NamesApart.{backup_apart, new_name, temporary_apart}
+use Rattle.vs_backup.proofs.Unbacked.{fresh_clears}
 use Rattle.vs_desk.specs.Writes.{WritesFile}
 use Rattle.vs_excmd.specs.Request.{Instruction}
 use Rattle.vs_machine.specs.Machine.{took_effect}
@@ -38,7 +41,7 @@ use Rattle.vs_machine.specs.declared.command.Outcome.TheVariants.{Done, NoMemory
 use Rattle.vs_desk.proofs.Left.{goes_both}
 use Rattle.vs_desk.proofs.Spared.{chosen_name}
 use Rattle.vs_session.specs.Made.{ClearsMade, IsLeftBy, LeavesNoneBut, LeavesNoneMade, StaysMoved, WritesUnder}
-use Rattle.vs_session.specs.Session.{SessionState, Ended}
+use Rattle.vs_session.specs.Session.{SessionState, Ended, is_fault}
 use Rattle.vs_session.proofs.UndoNames.{not_temporary}
 
 pub cleared_same : (old new : Disk) → new ≡ old → LeavesNoneMade old new
@@ -51,13 +54,13 @@ cleared_then old mid new first second made was = second made (first made was)
 pub clears_none : (names : Names) (state : SessionState) (instruction : Instruction) (ended : Ended) (old new : Scene) → LeavesNoneMade old.folder new.folder → StaysMoved names old new → ClearsMade names state instruction ended old new
 clears_none names state instruction ended old new none moved = record { left = λ made out was. none made was; moved = moved }
 
--- a write that was refused leaves one under the names on which it works, and no other
+-- a write that was refused leaves one under the names on which it works, and no other; without a failed call it leaves none
 pub but_refused : (names : Names) (state : SessionState) (instruction : Instruction) (found : Disk) (outcome : Outcome) → took_effect outcome ≡ false → (old new : Disk) → LeavesNoneBut (WritesUnder names state instruction found) old new
-    → LeavesNoneBut (IsLeftBy outcome names state instruction found) old new
-but_refused names state instruction found Done none old new but = absurd (true≢false none)
-but_refused names state instruction found NoMemory none old new but = but
-but_refused names state instruction found Fault none old new but = λ made out was. but made (λ works. out (inl works)) was
-but_refused names state instruction found NoUndo none old new but = absurd (true≢false none)
+    → (is_fault outcome ≡ false → LeavesNoneMade old new) → LeavesNoneBut (IsLeftBy outcome names state instruction found) old new
+but_refused names state instruction found Done none old new but calm = absurd (true≢false none)
+but_refused names state instruction found NoMemory none old new but calm = λ made out was. calm refl made was
+but_refused names state instruction found Fault none old new but calm = λ made out was. but made (λ works. out (inl works)) was
+but_refused names state instruction found NoUndo none old new but calm = absurd (true≢false none)
 
 -- one that was carried out leaves none, or that of an undo file that was not stored
 pub but_carried : (names : Names) (state : SessionState) (instruction : Instruction) (found : Disk) (outcome : Outcome) → (outcome ≡ Done) ⊎ (outcome ≡ NoUndo) → (old new : Disk) → (outcome ≡ Done → LeavesNoneMade old new)
@@ -241,9 +244,9 @@ module _ (names : Names) (are : AreNames names) where
       let swo = gone_goes names.swo_new old new moved.1 (spared_alone on names.swo_new old new others (swo_unworked options old.folder) moved.1) in
       (goes_both (λ m. IsGone names.swp_new m.folder) (λ m. IsGone names.swo_new m.folder) old.trace new.trace swp.0 swo.0, (swp.1, swo.1))
 
-  -- a write that was carried out
-  module _ (options : WriteOptions) (bytes : List ℕ) (size : ℕ) (old new : Scene) (file : WritesFile options names bytes old new (Ok size)) (others : SparesOthers (WorksOn options names.file old.folder) old new)
-      (made : Name) (was : IsGone (temporary made) old.folder) where
+  -- a write in which no call failed, or which was carried out
+  module _ (options : WriteOptions) (bytes : List ℕ) (result : Result ℕ WriteErr) (calm : IsFailed result → ⊥) (old new : Scene) (file : WritesFile options names bytes old new result)
+      (others : SparesOthers (WorksOn options names.file old.folder) old new) (made : Name) (was : IsGone (temporary made) old.folder) where
     abbrev On : Name → Type 0
     On = WorksOn options names.file old.folder
 
@@ -254,13 +257,12 @@ module _ (names : Names) (are : AreNames names) where
     unworked out = gone_spared On (temporary made) old new others out was
 
     -- of a new file
-    renamed_by : (answer : _) → Ok size ≡ nowhere answer → OnOk answer ((other : Name) → two_names names.file_new names.file other → (other ≡ names.file → ⊥) → IsGone other new.folder) → IsGone names.file_new new.folder
-    renamed_by (Ok count) is aside = aside names.file_new (inl refl) (λ same. file_unmade names.file (sym (new_name names are) ∙ same))
-    renamed_by (Err why) is aside = absurd (cc)
+    apart_new : names.file_new ≡ names.file → ⊥
+    apart_new same = file_unmade names.file (sym (new_name names are) ∙ same)
 
-    renamed : IsUnseen old new (Ok size) ⊎ WritesNew names.file_new names.file bytes old new (Ok size) → IsGone names.file_new new.folder
-    renamed (inl unseen) = let failed = unseen.failed in absurd (cc)
-    renamed (inr fresh) = renamed_by fresh.answer fresh.is fresh.fresh.aside
+    renamed : IsUnseen old new result ⊎ WritesNew names.file_new names.file bytes old new result → IsGone names.file_new old.folder → IsGone names.file_new new.folder
+    renamed (inl unseen) gone = absurd (calm (Nowhere, unseen.failed))
+    renamed (inr fresh) gone = fresh_clears names.file_new names.file bytes old new result calm apart_new fresh gone
 
     unworked_new : content_of old names.file ≡ None → bytes_eq (temporary made) names.file_new ≡ false → On (temporary made) → ⊥
     unworked_new none other (TheFile same) = file_unmade made same
@@ -270,14 +272,17 @@ module _ (names : Names) (are : AreNames names) where
 
     of_new : content_of old names.file ≡ None → Gone
     of_new none = elim (cases_Bool (bytes_eq (temporary made) names.file_new)) [
-      | inl same ↦ subst (λ (n : Name). IsGone n new.folder) (sym ((bytes_eq-Decides (temporary made) names.file_new).0 same)) (renamed (file.fresh none))
+      | inl same ↦
+          let is = (bytes_eq-Decides (temporary made) names.file_new).0 same in
+          subst (λ (n : Name). IsGone n new.folder) (sym is) (renamed (file.fresh none) (subst (λ (n : Name). IsGone n old.folder) is was))
       | inr other ↦ unworked (unworked_new none other)
     ]
 
     -- of one that was there
-    copied_aside : (backup : Name) (was_bytes : List ℕ) → copies options.copy ≡ true → IsUnseen old new (Ok size) ⊎ WritesWith options names.file backup was_bytes bytes old new (Ok size) → IsGone (temporary backup) new.folder
-    copied_aside backup was_bytes copied (inl unseen) = let failed = unseen.failed in absurd (cc)
-    copied_aside backup was_bytes copied (inr backed) = backed.aside copied
+    copied_aside : (backup : Name) (was_bytes : List ℕ) → copies options.copy ≡ true → IsUnseen old new result ⊎ WritesWith options names.file backup was_bytes bytes old new result
+        → IsGone (temporary backup) old.folder → IsGone (temporary backup) new.folder
+    copied_aside backup was_bytes copied (inl unseen) gone = absurd (calm (Nowhere, unseen.failed))
+    copied_aside backup was_bytes copied (inr backed) gone = backed.clears copied calm gone
 
     unworked_copy : (was_bytes : List ℕ) → content_of old names.file ≡ Some was_bytes → ((backup : Name) → backup_of options names.file old.folder ≡ Some backup → copies options.copy ≡ true → temporary made ≡ temporary backup → ⊥)
         → On (temporary made) → ⊥
@@ -288,7 +293,9 @@ module _ (names : Names) (are : AreNames names) where
 
     of_copy : (was_bytes : List ℕ) → content_of old names.file ≡ Some was_bytes → (backup : Name) → backup_of options names.file old.folder ≡ Some backup → copies options.copy ≡ true → Gone
     of_copy was_bytes there backup chosen copied = elim (cases_Bool (bytes_eq (temporary made) (temporary backup))) [
-      | inl same ↦ subst (λ (n : Name). IsGone n new.folder) (sym ((bytes_eq-Decides (temporary made) (temporary backup)).0 same)) (copied_aside backup was_bytes copied (file.backed was_bytes there backup chosen))
+      | inl same ↦
+          let is = (bytes_eq-Decides (temporary made) (temporary backup)).0 same in
+          subst (λ (n : Name). IsGone n new.folder) (sym is) (copied_aside backup was_bytes copied (file.backed was_bytes there backup chosen) (subst (λ (n : Name). IsGone n old.folder) is was))
       | inr other ↦ unworked (unworked_copy was_bytes there (λ other_backup other_chosen _ same.
           let one : Some other_backup ≡ Some backup = sym other_chosen ∙ chosen in
           true≢false (sym ((bytes_eq-Decides (temporary made) (temporary backup)).1 (same ∙ ap temporary (some_is other_backup backup one))) ∙ other)))

@@ -25,6 +25,7 @@ use Rattle.vs_backup.specs.Backups.{IsNoName, WorksOn, backup_of, is_backed}
 use Rattle.vs_backup.specs.Works.{SparesOthers}
 use Rattle.vs_backup.specs.declared.errors.Place.TheVariants.{Backup}
 use Rattle.vs_backup.specs.Writing.{FailsNoEarlier, IsFailed, OldIn, PutsBack}
+use Rattle.vs_backup.proofs.Copying.{never_failed}
 use Rattle.vs_machine.specs.Machine as machine
 use Rattle.vs_machine.specs.Machine.{took_effect}
 use Rattle.vs_machine.specs.Replies.{Answer, says, refuses, device_fault, no_backup_name, out_of_memory, written_line}
@@ -263,11 +264,11 @@ module _ (state : SessionState) (syncs : List Sync) (instruction : Instruction) 
     pub stays_whole : (outcome : Outcome) (at : ℕ) → (IsErr result → took_effect outcome ≡ false) → StaysWhole names state instruction (ended outcome at) old new
     stays_whole outcome at none is_begun was backup there made = elim (became was backup there made) [ inl whole ↦ inl whole | inr refused ↦ inr (none refused.0, refused.1) ]
 
-    pub cleared_by : (size : ℕ) → result ≡ Ok size → LeavesNoneMade old.folder new.folder
-    cleared_by size ok = cleared_then old.folder mid.folder new.folder (cleared_synced names are old.folder mid.folder same)
-        (cleared_written names are options (file_in options.format text) size mid new (subst (λ (r : Result ℕ WriteErr). WritesFile options names (file_in options.format text) mid new r) ok did.file) did.others)
+    pub cleared_by : (IsFailed result → ⊥) → LeavesNoneMade old.folder new.folder
+    cleared_by calm = cleared_then old.folder mid.folder new.folder (cleared_synced names are old.folder mid.folder same)
+        (cleared_written names are options (file_in options.format text) result calm mid new did.file did.others)
 
-    -- and one that was not leaves one only where it works
+    -- and one in which a call failed leaves one only where it works
     but_by : LeavesNoneBut (WritesUnder names state instruction old.folder) old.folder new.folder
     but_by made out was =
         gone_spared (WorksOn options names.file mid.folder) (temporary made) mid new did.others (λ works. out (is, works_same names are old.folder mid.folder same options (temporary made) works))
@@ -340,9 +341,9 @@ module _ (state : SessionState) (syncs : List Sync) (instruction : Instruction) 
     abbrev IsAnswer : Outcome → Answer → Type 0
     IsAnswer outcome reply = Answers state syncs instruction before after (mark outcome at) reply old new
 
-    -- where no fault is answered, no call failed, or the write says that none did
+    -- where no fault is answered, no call failed before the write began, or the write says that none did
     abbrev IsCalm : Outcome → Type 0
-    IsCalm outcome = is_fault outcome ≡ false → Quiet mid new ⊎ (IsFailed (err_of why) → ⊥)
+    IsCalm outcome = is_fault outcome ≡ false → (Quiet mid new × (new.folder ≡ mid.folder)) ⊎ (IsFailed (err_of why) → ⊥)
 
     -- what put the file back failed after a call that failed, where a fault is answered
     abbrev HasFailed : Outcome → Type 0
@@ -357,7 +358,7 @@ module _ (state : SessionState) (syncs : List Sync) (instruction : Instruction) 
     stops_as : (outcome : Outcome) (fault : Bool) → is_fault outcome ≡ fault → IsCalm outcome → StopsWriting fault mid new
     stops_as outcome true is_fault_here calm = put_back true (λ none. absurd (true≢false none))
     stops_as outcome false is_fault_here calm = elim (calm is_fault_here) [
-      | inl quiet ↦ record { stopped = new; last = last_then mid new new quiet (fails_none new); none = λ _. quiet; back_last = fails_none new; back_none = λ _. quiet_none new }
+      | inl idle ↦ record { stopped = new; last = last_then mid new new idle.0 (fails_none new); none = λ _. idle.0; back_last = fails_none new; back_none = λ _. quiet_none new }
       | inr none ↦ put_back false (λ _. wrote.calls.refused.none none)
     ]
 
@@ -374,8 +375,15 @@ module _ (state : SessionState) (syncs : List Sync) (instruction : Instruction) 
         elim (cases_Bool (is_backed options state.name old.folder)) [
           | inl backed ↦ once_refused names state instruction (ended outcome at) mid new (λ i. begun i && backed i) unwritten (stops_as outcome (is_fault outcome) refl calm)
           | inr off ↦ once_unwritten names state instruction (ended outcome at) mid new unwritten (alone off).last
-              (λ here. elim (calm here) [ inl quiet ↦ quiet | inr never ↦ (alone off).none never ])
+              (λ here. elim (calm here) [ inl idle ↦ idle.0 | inr never ↦ (alone off).none never ])
         ]
+
+    -- nor does it leave a file that it made
+    cleared_calm : (outcome : Outcome) → IsCalm outcome → is_fault outcome ≡ false → LeavesNoneMade old.folder new.folder
+    cleared_calm outcome calm here = elim (calm here) [
+      | inl idle ↦ cleared_then old.folder mid.folder new.folder (cleared_synced names are old.folder mid.folder same) (cleared_same mid.folder new.folder idle.1)
+      | inr never ↦ cleared_by after (Err why) new second wrote never
+    ]
 
     -- no backup name is free
     refused_taken : lacks ≡ true → (outcome : Outcome) (reply : Answer) → (outcome ≡ NoUndo → ⊥) → IsCalm outcome → reply ≡ reply_of state instruction (ended outcome at) → (is_fault outcome ≡ true → HasRisen old.folder_faults new.folder_faults)
@@ -386,7 +394,7 @@ module _ (state : SessionState) (syncs : List Sync) (instruction : Instruction) 
         let now : Fits after new.folder (state_after state instruction (ended outcome at)) all = stays after new.folder outcome at unwritten wrote.fits in
         assemble state syncs instruction before old goes_on s.fits after (mark outcome at) true reply new (Some (sync_in state true)) None (no_read instruction.parsed is) (λ none. absurd (stored none))
         (once_after names state instruction (ended outcome at) old mid new s.quiet (once_unwritten names state instruction (ended outcome at) mid new unwritten idle.last
-        (λ here. elim (calm here) [ inl quiet ↦ quiet | inr none ↦ idle.none none ])))
+        (λ here. elim (calm here) [ inl looked ↦ looked.0 | inr none ↦ idle.none none ])))
         (whole_unbegun names state instruction (ended outcome at) old new (λ i. (is i && true) && not (taken i)))
         (clears_none names state instruction (ended outcome at) old new
         (cleared_then old.folder mid.folder new.folder (cleared_synced names are old.folder mid.folder same) (cleared_same mid.folder new.folder idle.looks.now))
@@ -404,7 +412,7 @@ module _ (state : SessionState) (syncs : List Sync) (instruction : Instruction) 
         answers_free free b refl after outcome at reply new names_after (λ unstored. absurd (stored unstored))
         (once_after names state instruction (ended outcome at) old mid new s.quiet (once_free free outcome calm none))
         (stays_whole after (Err why) new second wrote outcome at (λ _. none)) (record {
-          left = but_refused names state instruction old.folder outcome none old.folder new.folder (but_by after (Err why) new second wrote);
+          left = but_refused names state instruction old.folder outcome none old.folder new.folder (but_by after (Err why) new second wrote) (cleared_calm outcome calm);
           moved = moved_by after (Err why) new second wrote;
         }) replied
         (stays after new.folder outcome at unwritten wrote.fits)
@@ -475,7 +483,7 @@ module _ (state : SessionState) (syncs : List Sync) (instruction : Instruction) 
           refused = λ unwritten. absurd (true≢false (sym (written free) ∙ unwritten));
           last = λ unwritten. absurd (true≢false (sym (written free) ∙ unwritten));
           none = λ unwritten. absurd (true≢false (sym (written free) ∙ unwritten));
-        })) (stays_whole after (Ok size) new second wrote Done at (λ failed. absurd (true≢false (sym failed)))) (clears_none names state instruction (ended Done at) old new (cleared_by after (Ok size) new second wrote size refl) (moved_by after (Ok size) new second wrote))
+        })) (stays_whole after (Ok size) new second wrote Done at (λ failed. absurd (true≢false (sym failed)))) (clears_none names state instruction (ended Done at) old new (cleared_by after (Ok size) new second wrote (never_failed size)) (moved_by after (Ok size) new second wrote))
         (reply_to ∙ line_is free Done size (bytes_left after (Ok size) new second wrote).0 ∙ replied_done at)
         (fits_by after new.folder Done at true (written free) wrote.fits)
         (works_runs names (Some (EditedFile write)) (IsUnderWay names under (Some (EditedFile write))) AtMoment old new (written_frame after (Ok size) new second wrote) (lead false) runs)

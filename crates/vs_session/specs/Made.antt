@@ -29,11 +29,11 @@ StaysMoved names old new = BothMoved names old.folder → GoesOn (λ m. BothMove
 abbrev pub WritesUnder : Names → SessionState → Instruction → Disk → Name → Type 0
 WritesUnder names state instruction found name = (is_write instruction.parsed ≡ true) × WorksOn state.options.write names.file found name
 
--- The names under which a command that ended so may leave a file that it made: none where it was done; that of the undo file where this
--- alone was not stored; and else those on which a `w` works, and where a call failed in `wundo`, that of the undo file.
+-- The names under which a command that ended so may leave a file that it made: none where it was done, or there was no memory; that of the
+-- undo file where this alone was not stored; and where a call failed, those on which a `w` works, and in `wundo` that of the undo file.
 abbrev pub IsLeftBy : Outcome → Names → SessionState → Instruction → Disk → Name → Type 0
 IsLeftBy outcome.Done names state instruction found name = ⊥
-IsLeftBy outcome.NoMemory names state instruction found name = WritesUnder names state instruction found name
+IsLeftBy outcome.NoMemory names state instruction found name = ⊥
 IsLeftBy outcome.Fault names state instruction found name =
     WritesUnder names state instruction found name ⊎ ((is_wundo instruction.parsed ≡ true) × (name ≡ names.undo_new))
 IsLeftBy outcome.NoUndo names state instruction found name = name ≡ names.undo_new

@@ -37,7 +37,7 @@ returns-in-Err-NoMemory-clause-step g c told state syncs instruction before star
     let why = c.in-Err-NoMemory.ensures in
     answers_refused state syncs instruction is before c.args.self.now start mid s (error.Failed Nowhere) at c.undo_bytes.new.self seen (reads_change mid seen why.kept.frame) (why.kept.file.names ∙ s.names)
     (wrote_nothing (after_sync state true) (sync_in state true ∷ syncs) c.args.self.now c.undo_bytes.new.self mid seen (g.F.World.is_folder c.args.host.now told) (why.kept.looks told) (why.kept.stops.last told) (above_counted mid seen (why.counts told)) s.synced (why.fits told (after_sync state true) (sync_in state true ∷ syncs) s.synced))
-    NoMemory _ (λ _. inl (why.kept.stops.none told (λ failed. let is = c.in-Err-NoMemory.field-0-is in absurd (cc)))) (λ fault in_backup. (Nowhere, refl)) (record { later = why.kept.cause.later; risen = λ e. absurd (true≢false (sym e)) }) (inl (refl, c.out_of_memory.ensures))
+    NoMemory _ (λ _. inl (why.kept.stops.none told (λ failed. let is = c.in-Err-NoMemory.field-0-is in absurd (cc)), (why.kept.looks told).now)) (λ fault in_backup. (Nowhere, refl)) (record { later = why.kept.cause.later; risen = λ e. absurd (true≢false (sym e)) }) (inl (refl, c.out_of_memory.ensures))
 
 pub returns-in-Err-Failed-clause-step : goal.returns-in-Err-Failed-clause-step
 returns-in-Err-Failed-clause-step g c told state syncs instruction before start at is on s =
