@@ -1,4 +1,5 @@
 pub mod Appending
+pub mod Clearing
 pub mod Counting
 pub mod Entries
 pub mod Fresh

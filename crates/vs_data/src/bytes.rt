@@ -1,5 +1,5 @@
 // Bytes that are moved within a block, and lines as bytes.
-ghost use Rattle.std.specs.Prelude.{◌≡◌, ◌+◌, ◌-◌, ◌≤◌, ◌==◌, not, length};
+ghost use Rattle.std.specs.Prelude.{◌≡◌, ◌+◌, ◌-◌, ◌≤◌, ◌==◌, not, length, replicate};
 ghost use Rattle.std.specs.List.{list_all};
 ghost use Rattle.vs_bytes.specs.Fields.{field_at, with_field};
 ghost use Rattle.vs_data.specs.Blocks.{is_line, zeros_in};
@@ -106,4 +106,13 @@ pub(crate) fn put_bytes(block: &mut [u8], at: usize, bytes: &[u8])
     ensures { block.new ≡ with_field block.old at bytes.now }
 {
     block[at..at + bytes.len()].copy_from_slice(bytes);
+}
+
+// Puts zeros in place of the bytes from one place up to another.
+pub(crate) fn clear_bytes(block: &mut [u8], from: usize, to: usize)
+    requires order { from ≤ to }
+    requires within { to ≤ length block.old }
+    ensures { block.new ≡ with_field block.old from (replicate (to - from) 0) }
+{
+    block[from..to].fill(0);
 }

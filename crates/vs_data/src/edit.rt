@@ -1,16 +1,16 @@
 // The changes of a block.
-ghost use Rattle.std.specs.Prelude.{◌≡◌, ◌≢◌, ◌+◌, ◌-◌, ◌*◌, ◌^◌, ◌<◌, ◌≤◌, ◌++◌, [], Some, Ok, length, replicate, take};
+ghost use Rattle.std.specs.Prelude.{◌≡◌, ◌≢◌, ◌+◌, ◌-◌, ◌*◌, ◌^◌, ◌<◌, ◌≤◌, ◌++◌, [], Some, Ok, drop, length, replicate, take};
 ghost use Rattle.std.specs.List.{All, insert, remove};
 ghost use Rattle.std.specs.Option.{option_map};
 ghost use Rattle.vs_bytes.specs.Fields.{with_field};
 ghost use Rattle.vs_data.specs.Blocks.{HasRest, IsBlockLength, KeepsFrame, end_at, free_space, header_of, id_bytes, lines_in, marks_in, put_in, start_at, view_in, with_lines_in};
 
-use crate::bytes::{move_bytes, put_bytes};
+use crate::bytes::{clear_bytes, move_bytes, put_bytes};
 use crate::index::{
     close_index, entry_place, join_index, join_text, move_starts, open_index, open_text,
 };
 use crate::{COUNT, DataView, FREE, ID, INDEX, TEXT_END, TEXT_START};
-use vs_bytes::{put_le_u16, put_le_u32, put_le_u64};
+use vs_bytes::{put_le_u32, put_le_u64};
 
 impl DataView {
     /// Makes a block without lines, with zeros after its header. The block is one or more whole pages of 4,096 bytes, at most
@@ -23,17 +23,16 @@ impl DataView {
         ensures bytes { block.new ≡ id_bytes ++ header_of result ++ replicate (length block.old - 24) 0 }
     {
         block.fill(0);
-        DataView::fresh_in_zeros(block)
+        DataView::fresh_over(block)
     }
 
-    /// Makes a block without lines of zeros, as `fresh` does of any bytes.
-    pub fn fresh_in_zeros(block: &mut [u8]) -> DataView
-        requires length { IsBlockLength (length block.old) }
-        requires zeros { block.old ≡ replicate (length block.old) 0 }
+    /// Makes a block without lines, as `fresh` does, but leaves the bytes after its header. `clear_free` puts zeros there.
+    pub fn fresh_over(block: &mut [u8]) -> DataView
+        requires { IsBlockLength (length block.old) }
         ensures header { result ≡ record { count = 0; text_start = length block.old; text_end = length block.old } }
         ensures view { view_in block.new ≡ Ok result }
         ensures lines { lines_in block.new ≡ Some [] }
-        ensures bytes { block.new ≡ id_bytes ++ header_of result ++ replicate (length block.old - 24) 0 }
+        ensures bytes { block.new ≡ id_bytes ++ header_of result ++ drop 24 block.old }
     {
         let length = block.len() as u32;
         let view = DataView {
@@ -41,9 +40,19 @@ impl DataView {
             text_start: length,
             text_end: length,
         };
-        put_le_u16(block, 0, ID);
+        put_le_u32(block, 0, u32::from(ID));
         view.write_header(block);
         view
+    }
+
+    /// Puts zeros between the index and the text.
+    pub fn clear_free(&self, block: &mut [u8])
+        requires { view_in block.old ≡ Ok self.now }
+        ensures view { view_in block.new ≡ Ok self.now }
+        ensures lines { lines_in block.new ≡ lines_in block.old }
+        ensures bytes { block.new ≡ with_field block.old (24 + 4 * self.now.count) (replicate (free_space self.now) 0) }
+    {
+        clear_bytes(block, entry_place(self.count), self.text_start as usize);
     }
 
     /// Puts the line before line `at`, or last where `at` is the count. Its mark bit is 0. The index has places below 2^31,

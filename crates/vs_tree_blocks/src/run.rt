@@ -7,7 +7,7 @@ ghost use Rattle.vs_tree_shape.specs.Changes.{splice};
 ghost use Rattle.vs_tree_blocks.specs.Blocks.{FitsFields};
 ghost use Rattle.vs_tree_blocks.specs.Edits.{IsStored};
 ghost use Rattle.vs_tree_blocks.specs.Parts.{IsBlock, IsPage, page_lines};
-ghost use Rattle.vs_tree_blocks.specs.Runs.{IsFirstRun, lines_within, pages_of};
+ghost use Rattle.vs_tree_blocks.specs.Runs.{IsFirstRun, IsRun, lines_within, pages_of};
 ghost use Rattle.vs_tree_blocks.specs.Writes.{AddsBlock, Touches};
 
 use crate::add_block;
@@ -24,6 +24,28 @@ fn pages_for(len: usize) -> u32
     ensures { result ≡ (len + 29 + 4095) / 4096 }
 {
     ((len + 29 + 4095) / PAGE_SIZE) as u32
+}
+
+// A page that begins with the first of some bytes. Where all of it is to be written over, that takes less than a page of zeros.
+fn page_beginning(alloc: Global, bytes: &[u8]) -> Result<Vec<u8>, AllocError>
+    ensures { IfOk result (λ page. length page.items ≡ 4096) }
+{
+    let mut page = Vec::with_capacity(alloc, PAGE_SIZE)?;
+    page.extend_from_slice(&bytes[..bytes.len().min(PAGE_SIZE)])?;
+    page.resize(PAGE_SIZE, 0)?;
+    Ok(page)
+}
+
+// Makes a page a block of the first of some stored lines, from their bytes, and gives its header and the number of the bytes of these lines.
+fn fill_page(page: &mut [u8], lines: &[u8]) -> (DataView, usize)
+    requires { length page.old ≡ 4096 }
+    ensures run { IsRun page.new result.0 1 }
+    ensures first { IsFirstRun lines.now (lines_within page.new) result.1 }
+{
+    let mut view = DataView::fresh_over(page);
+    let taken = view.append_ended(page, lines);
+    view.clear_free(page);
+    (view, taken)
 }
 
 /// Stored lines that are put in together: as many as a page has room for, or one line alone, which may be longer. They are
@@ -71,9 +93,8 @@ impl Run {
     pub fn of_first(alloc: Global, lines: &[u8]) -> Result<FirstRun, AllocError>
         ensures { IfOk result (λ first. IsFirstRun lines.now first.run first.taken) }
     {
-        let mut bytes = vec![in alloc; 0u8; PAGE_SIZE]?;
-        let mut view = DataView::fresh_in_zeros(&mut bytes);
-        let taken = view.append_ended(&mut bytes, lines);
+        let mut bytes = page_beginning(alloc, lines)?;
+        let (view, taken) = fill_page(&mut bytes, lines);
         let run = Run {
             bytes,
             view,
