@@ -5,19 +5,20 @@ use Rattle.std.specs.Option.{option_map}
 use Rattle.std.proofs.lemmas.Bool.{cases_lt}
 use Rattle.std.proofs.lemmas.Bool.Decides.{nat_tests}
 use Rattle.std.proofs.lemmas.Grind.{common_steps}
-use Rattle.std.proofs.lemmas.List.{get_or-append_right, get_or_append_left, get_or-drop, get_or-take, get_or_default, replicate-append-replicate, take_at}
+use Rattle.std.proofs.lemmas.List.{get_or-append_right, get_or_append_left, get_or-drop, get_or-take, get_or_default, drop-append-le, drop-drop, drop-take, length-take-le, replicate-append-replicate, take_at}
 use Rattle.std.proofs.lemmas.List.Concat.{flat_map-append}
 use Rattle.std.proofs.lemmas.List.FromFn.{length-map-range_with_len}
 use Rattle.std.proofs.lemmas.List.Elements.{All-append, All-nil, All-from_recursion}
 use Rattle.std.proofs.Math.Seq.{take-add, take-suc}
 use Rattle.memchr.specs.Find.{NoneBefore, Nowhere, Passes, is_byte}
 use Rattle.vs_bytes.specs.Fields.{Little, bytes_of, with_field, with_number}
-use Rattle.vs_bytes.proofs.FieldLaws.{field_at-with_field, length-bytes_of, number_at-with_number}
+use Rattle.vs_bytes.proofs.FieldLaws.{drop-with_field, field_at-with_field, length-bytes_of, length-with_field, number_at-with_number, take-with_field}
 use Rattle.vs_data.specs.declared.DataView.{DataView}
-use Rattle.vs_data.specs.Blocks.{PutsLast, count_in, each_line, end_at, line_at, mark_at, ended_of, free_space, header_of, lines_in, marks_in, text_start_in, view_in}
+use Rattle.vs_data.specs.Blocks.{PutsLast, count_in, each_line, end_at, line_at, mark_at, ended_of, free_space, header_of, headed, lines_in, marks_in, text_start_in, view_in}
 use Rattle.vs_data.proofs.Entries.{none_moved}
-use Rattle.vs_data.proofs.Headers.{header_written}
+use Rattle.vs_data.proofs.Headers.{header_written, length-header_of}
 use Rattle.vs_data.proofs.Inserting.{HasRoom, IndexOpened, Inserted, TextOpened, inserted}
+use Rattle.vs_data.proofs.Keeping.{header_again, kept_lines, kept_marks, kept_view}
 use Rattle.vs_data.proofs.Lines.{lines_are}
 use Rattle.vs_data.proofs.Moves.{kept_by_write}
 use Rattle.vs_data.proofs.Reading.{HasView, has_view, text_starts, view_bounds, view_holds}
@@ -101,6 +102,54 @@ module _ (old : List ℕ) (before : DataView) (line : List ℕ) (e : view_in old
       let index_at = rw (at, from) at index_is in
       subst (λ (n : ℕ). Inserted old new after_view n line) (sym at) (appended_at text index new text_at index_at new_is)
 
+-- ---- a header that is written after the lines
+
+-- the same but for the header
+record Beside (one other : List ℕ) : Type 0 where
+  same_length : length one ≡ length other
+  front : take 4 one ≡ take 4 other
+  behind : drop 24 one ≡ drop 24 other
+
+behind_write : (block : List ℕ) (place : ℕ) (field : List ℕ) → 24 + place + length field ≤ length block → drop 24 (with_field block (24 + place) field) ≡ with_field (drop 24 block) place field
+behind_write block place field within =
+    let front : List ℕ = take (24 + place) block in
+    let rest : List ℕ = drop (24 + place + length field) block in
+    let cut : length front ≡ 24 + place = length-take-le (24 + place) block (omega arith) in
+    let past : 24 + (place + length field) ≡ 24 + place + length field = omega arith in
+    drop-append-le 24 (front ++ field) rest (omega (arith, length-append front field))
+    ∙ ap (λ (xs : List ℕ). xs ++ rest) (drop-append-le 24 front field (omega arith) ∙ ap (λ (xs : List ℕ). xs ++ field) (drop-take 24 place block))
+    ∙ ap (λ (xs : List ℕ). take place (drop 24 block) ++ field ++ xs) (ap (λ (n : ℕ). drop n block) (sym past) ∙ sym (drop-drop (place + length field) 24 block))
+
+beside_write : (one other : List ℕ) (place : ℕ) (field : List ℕ) → Beside one other → 24 + place + length field ≤ length one → Beside (with_field one (24 + place) field) (with_field other (24 + place) field)
+beside_write one other place field same within = record {
+  same_length = length-with_field one (24 + place) field within ∙ same.same_length ∙ sym (length-with_field other (24 + place) field (omega (arith, same.same_length)));
+  front = take-with_field one (24 + place) field 4 (omega arith) (omega arith) ∙ same.front ∙ sym (take-with_field other (24 + place) field 4 (omega (arith, same.same_length)) (omega arith));
+  behind = behind_write one place field within ∙ ap (λ (xs : List ℕ). with_field xs place field) same.behind ∙ sym (behind_write other place field (omega (arith, same.same_length)));
+}
+
+headed_same : (one other header : List ℕ) → Beside one other → length header ≡ 20 → with_field one 4 header ≡ with_field other 4 header
+headed_same one other header same wide =
+    let end : 4 + length header ≡ 24 = omega arith in
+    ap (λ (n : ℕ). take 4 one ++ header ++ drop n one) end
+    ∙ (λ i. same.front i ++ header ++ same.behind i)
+    ∙ ap (λ (n : ℕ). take 4 other ++ header ++ drop n other) (sym end)
+
+-- a header that was there before two writes behind it is nothing to one that is written over it
+pub headed_once : (block before after : List ℕ) (place : ℕ) (text : List ℕ) (at : ℕ) (entry : List ℕ) → length before ≡ 20 → length after ≡ 20 → 24 ≤ place → place + length text ≤ length block
+    → 24 + at + length entry ≤ length block
+    → with_field (with_field (with_field block place text) (24 + at) entry) 4 after ≡ with_field (with_field (with_field (with_field block 4 before) place text) (24 + at) entry) 4 after
+headed_once block before after place text at entry before_wide after_wide behind room inside =
+    let is : place ≡ 24 + (place - 24) = omega arith in
+    let first : Beside block (with_field block 4 before) = record {
+      same_length = sym (length-with_field block 4 before (omega arith));
+      front = sym (take-with_field block 4 before 4 (omega arith) (omega arith));
+      behind = sym (drop-with_field block 4 before 24 (omega arith) (omega arith));
+    } in
+    let second : Beside (with_field block place text) (with_field (with_field block 4 before) place text) =
+    subst (λ (n : ℕ). Beside (with_field block n text) (with_field (with_field block 4 before) n text)) (sym is) (beside_write block (with_field block 4 before) (place - 24) text first (omega arith)) in
+    let third = beside_write (with_field block place text) (with_field (with_field block 4 before) place text) at entry second (omega (arith, length-with_field block place text room)) in
+    headed_same (with_field (with_field block place text) (24 + at) entry) (with_field (with_field (with_field block 4 before) place text) (24 + at) entry) after third after_wide
+
 -- ---- where a line ends
 
 is_zero : (byte : ℕ) → Passes (is_byte 0) (byte ∷ []) 0 → byte ≡ 0
@@ -175,23 +224,28 @@ end_cut ended line is =
 pub put_last : {X : Type 0} (xs : List X) (at : ℕ) (x : X) → at ≡ length xs → insert xs at x ≡ xs ++ x ∷ []
 put_last xs at x last = grind (arith, common_steps)
 
--- so far no line was put
-pub none_put : (block : List ℕ) (view : DataView) (bytes : List ℕ) → view_in block ≡ Ok view → PutsLast block block view view bytes 0
-none_put block view bytes is = record {
-  put = [];
-  lines_end = refl;
-  within = omega arith;
-  no_zero = All-nil (All (λ byte. byte ≢ 0));
-  count = omega arith;
-  start = omega arith;
-  end = refl;
-  view = is;
-  lines = option_same (lines_in block);
-  marks = sym (append-nil (marks_in block));
-  free = λ some. absurd (omega arith);
-  front = refl;
-  beyond = refl;
-}
+-- so far no line was put, and no more than the header was written
+pub none_put : (block : List ℕ) (view : DataView) (bytes : List ℕ) → view_in block ≡ Ok view → view.text_end ≤ 2 ^ 31 → PutsLast block (headed block view) view view bytes 0
+none_put block view bytes is places =
+    let v = has_view block view (view_bounds block view is) in
+    let bounds = v.bounds in
+    let same = header_again block view is places in
+    let wide = length-header_of view in
+    record {
+      put = [];
+      lines_end = refl;
+      within = omega arith;
+      no_zero = All-nil (All (λ byte. byte ≢ 0));
+      count = omega arith;
+      start = omega arith;
+      end = refl;
+      view = kept_view block (headed block view) view is same;
+      lines = kept_lines block (headed block view) view is same ∙ option_same (lines_in block);
+      marks = kept_marks block (headed block view) view is same ∙ sym (append-nil (marks_in block));
+      free = λ some. absurd (omega arith);
+      front = take-with_field block 4 (header_of view) 4 (omega arith) (omega arith);
+      beyond = drop-with_field block 4 (header_of view) view.text_end (omega arith) (omega (arith, v.start, v.end));
+    }
   where
     option_same : (o : Option (List (List ℕ))) → o ≡ option_map (λ lines. lines ++ []) o
     option_same None = refl

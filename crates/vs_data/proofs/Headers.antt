@@ -27,6 +27,17 @@ number_last front width value at place fits =
 number_ahead : (front rest : List ℕ) (width at : ℕ) → at + width ≤ length front → number_at Little width (front ++ rest) at ≡ number_at Little width front at
 number_ahead front rest width at within = ap (number_of Little width) (field_at-append_left front rest at width within)
 
+pub length-header_of : (view : DataView) → length (header_of view) ≡ 20
+length-header_of view =
+    omega (
+      arith,
+      length-append {A = ℕ},
+      length-bytes_of Little 4 (free_space view),
+      length-bytes_of Little 4 view.text_start,
+      length-bytes_of Little 4 view.text_end,
+      length-bytes_of Little 8 view.count,
+    )
+
 pub header_written : (old : List ℕ) (view : DataView) → 24 ≤ length old → view.count < 2 ^ 32 → view.text_start < 2 ^ 32 → view.text_end < 2 ^ 32
     → HasHeader old (with_field old 4 (header_of view)) view
 header_written old view within count_fits start_fits end_fits =

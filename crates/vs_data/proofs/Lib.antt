@@ -1,11 +1,11 @@
 pub mod Appending
-pub mod Clearing
 pub mod Counting
 pub mod Entries
 pub mod Fresh
 pub mod Headers
 pub mod Inserting
 pub mod Joining
+pub mod Keeping
 pub mod Lines
 pub mod Lists
 pub mod Moves

@@ -5,7 +5,7 @@ use Rattle.std.specs.Prelude.{[], ◌∷◌, ◌++◌, length, take, drop, map, 
 use Rattle.std.specs.Option.{option_and_then, option_map}
 use Rattle.std.specs.Result.{result_ok}
 use Rattle.std.specs.List.{find, flat_map, list_all, range_with_len, sum_by}
-use Rattle.vs_bytes.specs.Fields.{Little, bytes_of, number_at}
+use Rattle.vs_bytes.specs.Fields.{Little, bytes_of, number_at, with_field}
 use Rattle.vs_data.specs.declared.DataView.{DataView}
 use Rattle.vs_data.specs.declared.DataErr.{DataErr}
 use Rattle.vs_data.specs.declared.DataErr.TheVariants.{BadId, BadBounds, BadIndex}
@@ -147,6 +147,10 @@ abbrev pub header_of : DataView → List ℕ
 header_of view =
     bytes_of Little 4 (free_space view) ++ bytes_of Little 4 view.text_start ++ bytes_of Little 4 view.text_end
     ++ bytes_of Little 8 view.count
+
+-- the bytes of a block under the header of a view
+abbrev pub headed : List ℕ → DataView → List ℕ
+headed block view = with_field block 4 (header_of view)
 
 -- a block with the lines of another from one line on, at its end
 pub record HasRest (old : List ℕ) (from : ℕ) (new : List ℕ) (view : DataView) : Type 0 where

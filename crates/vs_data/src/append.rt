@@ -4,7 +4,7 @@ ghost use Rattle.std.specs.List.{All, insert, prefix_len};
 ghost use Rattle.std.specs.Option.{option_map};
 ghost use Rattle.std.specs.Simd.Lanes.{chunk};
 ghost use Rattle.memchr.specs.Find.{IsFirst, Passes, is_byte};
-ghost use Rattle.vs_data.specs.Blocks.{HasNoRoom, KeepsFrame, PutsLast, free_space, lines_in, marks_in, view_in};
+ghost use Rattle.vs_data.specs.Blocks.{HasNoRoom, KeepsFrame, PutsLast, free_space, headed, lines_in, marks_in, view_in};
 
 use crate::DataView;
 use crate::bytes::put_bytes;
@@ -61,9 +61,10 @@ fn find_zero(bytes: &[u8], from: usize) -> Option<usize>
 }
 
 impl DataView {
-    // Puts a line after the last one, from its bytes with the zero byte at their end.
+    // Puts a line after the last one, from its bytes with the zero byte at their end. The header in the block stays as it was.
     fn append(&mut self, block: &mut [u8], ended: &[u8])
-        requires view { view_in block.old ≡ Ok self.old }
+        requires header { 24 ≤ length block.old }
+        requires view { view_in (headed block.old self.old) ≡ Ok self.old }
         requires places { self.old.text_end ≤ 2 ^ 31 }
         requires some { 0 < length ended.now }
         requires fits { length ended.now + 4 ≤ free_space self.old }
@@ -73,17 +74,35 @@ impl DataView {
           count = self.old.count + 1;
           text_start = self.old.text_start - length ended.now;
         } }
-        ensures view { view_in block.new ≡ Ok self.new }
-        ensures lines { lines_in block.new ≡ option_map (λ lines. insert lines self.old.count (take (length ended.now - 1) ended.now)) (lines_in block.old) }
-        ensures marks { marks_in block.new ≡ insert (marks_in block.old) self.old.count 0 }
-        ensures frame { KeepsFrame block.old block.new self.new }
+        ensures view { view_in (headed block.new self.new) ≡ Ok self.new }
+        ensures lines { lines_in (headed block.new self.new) ≡
+            option_map (λ lines. insert lines self.old.count (take (length ended.now - 1) ended.now)) (lines_in (headed block.old self.old)) }
+        ensures marks { marks_in (headed block.new self.new) ≡ insert (marks_in (headed block.old self.old)) self.old.count 0 }
+        ensures frame { KeepsFrame (headed block.old self.old) (headed block.new self.new) self.new }
     {
         let text_start = self.text_start - ended.len() as u32;
         put_bytes(block, text_start as usize, ended);
         put_le_u32(block, entry_place(self.count), text_start);
         self.count += 1;
         self.text_start = text_start;
-        self.write_header(block);
+    }
+
+    // Puts stored lines after the last one, as `append_ended` does, but the header in the block stays as it was.
+    fn append_all(&mut self, block: &mut [u8], lines: &[u8]) -> usize
+        requires view { view_in block.old ≡ Ok self.old }
+        requires places { self.old.text_end ≤ 2 ^ 31 }
+        ensures put { PutsLast block.old (headed block.new self.new) self.old self.new lines.now result }
+        ensures full { HasNoRoom self.new (drop result lines.now) }
+    {
+        let mut taken = 0;
+        'lines: while let Some(end) = find_zero(lines, taken) {
+            if !self.fits(end - taken) {
+                return taken;
+            }
+            self.append(block, &lines[taken..end + 1]);
+            taken = end + 1;
+        }
+        taken
     }
 
     /// Puts stored lines after the last one, from their bytes, each followed by a zero byte: as many as there is room for. Gives the
@@ -95,14 +114,8 @@ impl DataView {
         ensures put { PutsLast block.old block.new self.old self.new lines.now result }
         ensures full { HasNoRoom self.new (drop result lines.now) }
     {
-        let mut taken = 0;
-        'lines: while let Some(end) = find_zero(lines, taken) {
-            if !self.fits(end - taken) {
-                return taken;
-            }
-            self.append(block, &lines[taken..end + 1]);
-            taken = end + 1;
-        }
+        let taken = self.append_all(block, lines);
+        self.write_header(block);
         taken
     }
 }

@@ -4,7 +4,7 @@ use Rattle.std.proofs.lemmas.List.{length-replicate}
 use Rattle.vs_bytes.specs.Fields.{with_field}
 use Rattle.vs_data.specs.declared.DataView.{DataView}
 use Rattle.vs_data.specs.Blocks.{free_space}
-use Rattle.vs_data.proofs.Clearing.{cleared_lines, cleared_view}
+use Rattle.vs_data.proofs.Keeping.{gap_changed, kept_lines, kept_view}
 use Rattle.vs_data.proofs.Moves.{Keeps, kept_by_write}
 use Rattle.vs_data.proofs.Reading.{has_view, view_bounds}
 use Rattle.vs_data.proofs.DataView.clear_free.Goals as goal
@@ -33,8 +33,9 @@ returns c =
     let bytes : c.clear_bytes.new.block ≡ with_field block place zeros =
     c.clear_bytes.ensures ∙ ap (λ (n : ℕ). with_field block n (replicate (view.text_start - n) 0)) c.entry_place.ensures in
     let keeps : Keeps block c.clear_bytes.new.block place view.text_start = rw bytes (kept_by_write block place zeros place view.text_start (omega arith) (omega arith) (omega arith)) in
+    let same = gap_changed block c.clear_bytes.new.block view c.requires keeps in
     record {
-      view = cleared_view block c.clear_bytes.new.block view c.requires keeps;
-      lines = cleared_lines block c.clear_bytes.new.block view c.requires keeps;
+      view = kept_view block c.clear_bytes.new.block view c.requires same;
+      lines = kept_lines block c.clear_bytes.new.block view c.requires same;
       bytes = bytes;
     }
