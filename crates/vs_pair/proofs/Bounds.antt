@@ -1,13 +1,16 @@
 -- How many calls a sync makes: a run has one stale number at least, and no number is in two runs. A list that has each stale number is no
 -- shorter than there are.
-use Rattle.std.proofs.Common.{◌≡◌, ◌⊎◌, inl, inr, ℕ, zero, suc, ◌+◌, ◌-◌, ◌<◌, ◌≤◌, ◌&&◌, ◌||◌, not, Bool, true, false, nat_eq, nat_le, List, [], ◌∷◌, length, IsSome, Option, refl, sym, ◌∙◌, ap, subst, arith}
-use Rattle.std.specs.Prelude.{Contains}
+use Rattle.std.proofs.Common.{◌≡◌, ◌⊎◌, inl, inr, ℕ, zero, suc, ◌+◌, ◌-◌, ◌^◌, ◌<◌, ◌≤◌, ◌&&◌, ◌||◌, not, Bool, true, false, nat_eq, nat_le, List, [], ◌∷◌, length, IsSome, IsTrue, Option, Some, None, refl, sym, ◌∙◌, ap, subst, arith}
+use Rattle.std.specs.Prelude.{Contains, is_some}
 use Rattle.std.proofs.lemmas.Bool.{cases_Bool, cases_lt, or_cases, true≢false}
 use Rattle.std.proofs.lemmas.Bool.Decides.{nat_tests}
-use Rattle.vs_pages.specs.Memory.{commits_of, committed_of}
+use Rattle.vs_host.specs.World.{Tells, Scene}
+use Rattle.vs_disk.specs.Runs.{CallsAtMost}
+use Rattle.vs_pages.specs.Memory.{commits_of, committed_of, HasReach}
+use Rattle.vs_pages.specs.MemoryLaws.{are_committed}
 use Rattle.vs_pages.specs.declared.memory.MemPages.{MemPages}
 use Rattle.vs_pair.specs.declared.written.Written.{Written}
-use Rattle.vs_pair.specs.Stale.{HasChanged, IsEnd, is_stale, one_if, stale_below}
+use Rattle.vs_pair.specs.Stale.{HasChanged, IsBehind, IsEnd, is_stale, one_if, stale_below}
 
 -- ---- stale numbers
 
@@ -20,9 +23,10 @@ module _ (pages : MemPages) (has : Written) where
   ]
 
   -- a stale number counts
-  pub one_more : (n to : ℕ) → is_stale pages has n ≡ true → n < to → stale_below pages has n + 1 ≤ stale_below pages has to
-  one_more n to is less =
-      let one : one_if (is_stale pages has n) ≡ 1 = ap one_if is in
+  pub one_more : (n to : ℕ) → 1 ≤ n → is_stale pages has n ≡ true → n < to → stale_below pages has n + 1 ≤ stale_below pages has to
+  one_more n to some is less =
+      let after_first : nat_le 1 n ≡ true = grind (arith, nat_tests) in
+      let one : one_if (nat_le 1 n && is_stale pages has n) ≡ 1 = ap (λ (b : Bool). one_if (b && is_stale pages has n)) after_first ∙ ap one_if is in
       let after : stale_below pages has (suc n) ≤ stale_below pages has to = stale_up_to (suc n) to (omega (arith, less)) in
       omega (arith, one, after)
 
@@ -94,15 +98,81 @@ held [] passes (suc n) all = elim (cases_Bool (passes n)) [
 held (x ∷ rest) passes n all =
     omega (arith, but_one passes x n, held rest (but passes x) n (λ k less is. let parts = but_is passes x k is in in_rest x k rest parts.1 (all k less parts.0)))
 
-counted : (pages : MemPages) (has : Written) (n : ℕ) → stale_below pages has n ≡ count (λ k. is_stale pages has k) n
-counted pages has zero = refl
-counted pages has (suc n) = ap (λ (m : ℕ). one_if (is_stale pages has n) + m) (counted pages has n)
+-- ---- the numbers that are written
 
-pub stale_in : (pages : MemPages) (has : Written) (end : ℕ) (numbers : List ℕ) → HasChanged pages has end numbers → stale_below pages has end ≤ length numbers
-stale_in pages has end numbers changed = omega (arith, counted pages has end, held numbers (λ k. is_stale pages has k) end each)
+-- The number after the last committed page, or 1, which is no greater than this end.
+record HasLast (pages : MemPages) (end : ℕ) : Type 0 where
+  last : ℕ
+  within : last ≤ end
+  is : IsEnd pages last
+  page : 1 < last → IsSome (committed_of pages (last - 1))
+
+last_of : (pages : MemPages) (end : ℕ) → IsEnd pages end → HasLast pages end
+last_of pages zero is = absurd (omega (arith, is.some))
+last_of pages (suc zero) is = record { last = 1; within = omega arith; is = is; page = λ less. absurd (omega (arith, less)) }
+last_of pages (suc (suc n)) is = at_last (committed_of pages (suc n)) refl (λ below. last_of pages (suc n) below)
   where
-    each : (k : ℕ) → k < end → is_stale pages has k ≡ true → Contains numbers k
-    each k less is = elim (or_cases (nat_le has.commits ((commits_of pages).last k)) (nat_le has.end k) is) [
-      | inl later ↦ changed.changed k less (grind (arith, nat_tests))
-      | inr past ↦ changed.added k less (grind (arith, nat_tests))
+    none_from : committed_of pages (suc n) ≡ None → (k : ℕ) → suc n ≤ k → committed_of pages k ≡ None
+    none_from none k from = elim (cases_lt k (suc (suc n))) [
+      | inl less ↦ let same : suc n ≡ k = omega (arith, from, less) in subst (λ (j : ℕ). committed_of pages j ≡ None) same none
+      | inr past ↦ is.past k past
     ]
+
+    at_last : (found : Option (List ℕ)) → committed_of pages (suc n) ≡ found → (IsEnd pages (suc n) → HasLast pages (suc n)) → HasLast pages (suc (suc n))
+    at_last None none before =
+        let below : HasLast pages (suc n) = before (record { some = omega arith; past = none_from none }) in
+        record { last = below.last; within = omega (arith, below.within); is = below.is; page = below.page }
+    at_last (Some page) some before =
+        let there : IsSome (committed_of pages (suc n)) = ap is_some some in
+        let same : suc n ≡ suc (suc n) - 1 = omega arith in
+        record { last = suc (suc n); within = omega arith; is = is; page = λ less. subst (λ (j : ℕ). IsSome (committed_of pages j)) same there }
+
+counted : (pages : MemPages) (has : Written) (n : ℕ) → stale_below pages has n ≡ count (λ k. nat_le 1 k && is_stale pages has k) n
+counted pages has zero = refl
+counted pages has (suc n) = ap (λ (m : ℕ). one_if (nat_le 1 n && is_stale pages has n) + m) (counted pages has n)
+
+both_true : (a b : Bool) → (a && b) ≡ true → (a ≡ true) × (b ≡ true)
+both_true true b is = (refl, is)
+both_true false b is = absurd (true≢false (sym is))
+
+module _ (pages : MemPages) (has : Written) (reach : HasReach pages has.commits has.end) (end : ℕ) (numbers : List ℕ) (changed : HasChanged pages has end numbers) (ends : HasLast pages end) where
+  -- what lies after the last page of the file was changed since, too
+  is_changed : (k : ℕ) → 1 ≤ k → k < ends.last → is_stale pages has k ≡ true → has.commits ≤ (commits_of pages).last k
+  is_changed k some less is = elim (or_cases (nat_le has.commits ((commits_of pages).last k)) (nat_le has.end k) is) [
+    | inl later ↦ grind (arith, nat_tests)
+    | inr past ↦
+        let from : has.end ≤ k = grind (arith, nat_tests) in
+        reach k (ends.last - 1) from (omega (arith, less)) (ends.page (omega (arith, some, less)))
+  ]
+
+  in_list : (k : ℕ) → k < ends.last → (nat_le 1 k && is_stale pages has k) ≡ true → Contains numbers k
+  in_list k less is =
+      let parts = both_true (nat_le 1 k) (is_stale pages has k) is in
+      let some : 1 ≤ k = let test : nat_le 1 k ≡ true = parts.0 in grind (arith, nat_tests) in
+      changed k some (omega (arith, less, ends.within)) (is_changed k some less parts.1)
+
+  stale_in : stale_below pages has ends.last ≤ length numbers
+  stale_in = omega (arith, counted pages has ends.last, held numbers (λ k. nat_le 1 k && is_stale pages has k) ends.last in_list)
+
+-- ---- calls
+
+module _ (tells : Tells) (old new : Scene) (pages : MemPages) (has : Written) (reach : IsTrue tells.folder → HasReach pages has.commits has.end)
+    (calls : (end : ℕ) → IsEnd pages end → CallsAtMost tells old new (6 + stale_below pages has end)) where
+  pub few_calls : (end : ℕ) (numbers : List ℕ) → IsEnd pages end → HasChanged pages has end numbers → CallsAtMost tells old new (6 + length numbers)
+  few_calls end numbers is changed =
+      let ends : HasLast pages end = last_of pages end is in
+      let within : CallsAtMost tells old new (6 + stale_below pages has ends.last) = calls ends.last ends.is in
+      record { calls = λ told. omega (arith, within.calls told, stale_in pages has (reach told) end numbers changed ends) }
+
+  -- all page numbers lie below a bound
+  ends_at_bound : IsEnd pages (2 ^ 40)
+  ends_at_bound = record { some = omega arith; past = λ k from. none_past k from (committed_of pages k) refl }
+    where
+      none_past : (k : ℕ) → 2 ^ 40 ≤ k → (found : Option (List ℕ)) → committed_of pages k ≡ found → committed_of pages k ≡ None
+      none_past k from None is = is
+      none_past k from (Some page) is = absurd (omega (arith, from, (are_committed pages).below k page is))
+
+  pub behind_calls : (most : ℕ) → IsBehind pages has most → CallsAtMost tells old new (6 + most)
+  behind_calls most behind =
+      let few : CallsAtMost tells old new (6 + length behind.numbers) = few_calls (2 ^ 40) behind.numbers ends_at_bound (λ k some less since. behind.changed k since) in
+      record { calls = λ told. omega (arith, few.calls told, behind.few) }

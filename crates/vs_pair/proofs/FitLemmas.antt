@@ -1,5 +1,5 @@
 -- The pair through a sync of its older file.
-use Rattle.std.proofs.Common.{◌≡◌, ◌≢◌, ◌⊎◌, inl, inr, ℕ, ◌+◌, ◌-◌, ◌<◌, ◌≤◌, ◌^◌, Bool, true, false, not, ◌||◌, cond, List, [], ◌∷◌, Option, Some, IsSome, option_map, refl, sym, ◌∙◌, ap, subst, arith}
+use Rattle.std.proofs.Common.{◌≡◌, ◌≢◌, ◌⊎◌, inl, inr, ℕ, ◌+◌, ◌-◌, ◌<◌, ◌≤◌, ◌^◌, Bool, true, false, not, ◌||◌, cond, List, [], ◌∷◌, Option, Some, None, IsSome, option_map, refl, sym, ◌∙◌, ap, subst, arith}
 use Rattle.std.specs.Str.{bytes_eq}
 use Rattle.std.proofs.lemmas.Slice.Eq.{bytes_eq-Decides}
 use Rattle.std.proofs.lemmas.Bool.{cases_Bool, cond-true, cond-false, true≢false, or_cases}
@@ -335,8 +335,9 @@ module _ (files : Known) (newest : Synced) (begun past : List Synced) (old : Dis
         let leads = λ (lost : ℕ). same_at older step old new changes lost older ∙ fit.older.leads lost in
         record { leads = leads; has = has_at older (λ f. Leaves f (Holds (body_of file sync))) new has fit.older_number (leads 0) }
 
-    pub done : (end : ℕ) → sync.pages ≡ committed_of files.pages → (0 < end → IsSome (sync.pages (end - 1))) → IsFit (turned end) new sync [] (newest ∷ past)
-    done end all last =
+    pub done : (end : ℕ) → sync.pages ≡ committed_of files.pages → ((k : ℕ) → end ≤ k → committed_of files.pages k ≡ None) → (0 < end → IsSome (sync.pages (end - 1)))
+        → IsFit (turned end) new sync [] (newest ∷ past)
+    done end all none last =
         let first = newest_stays step new changes in
         record {
           named = fit.named;
@@ -349,7 +350,7 @@ module _ (files : Known) (newest : Synced) (begun past : List Synced) (old : Dis
           ordered = record { member = inl refl; less = more };
           newer_used = omega (arith, next);
           older_used = omega (arith, fit.newer_used);
-          newer_keeps = keeps_all files.pages sync.pages (commits_of files.pages).count end all last;
+          newer_keeps = keeps_all files.pages sync.pages end all none last;
           older_keeps = fit.newer_keeps;
           newer_known = omega arith;
           older_known = fit.newer_known;

@@ -4,6 +4,7 @@ use Rattle.std.proofs.lemmas.Bool.{cases_lt, true≢false}
 use Rattle.std.proofs.lemmas.Bool.Decides.{nat_tests}
 use Rattle.vs_pages.specs.Maps.{Map}
 use Rattle.vs_pages.specs.Memory.{commits_of, committed_of, KeepsSince}
+use Rattle.vs_pages.specs.MemoryLaws.{reach_begins}
 use Rattle.vs_pages.specs.declared.memory.MemPages.{MemPages}
 use Rattle.vs_swap.specs.Files.{page_in}
 use Rattle.vs_pair.specs.declared.gate.Gate.{Gate}
@@ -51,17 +52,25 @@ fresh_in pages has before gate keeps c body k least is =
 pub keeps_nothing : (gate : Gate) (pages : MemPages) (map : Map) → Keeps gate pages nothing map
 keeps_nothing gate pages map = record {
   since = λ k less. absurd (omega (arith, less));
+  reach = λ k j from upto there. omega arith;
   last = λ less. absurd (omega (arith, less));
   torn = λ is. refl;
 }
 
 -- after a sync
-pub keeps_all : (pages : MemPages) (map : Map) (commits end : ℕ) → map ≡ committed_of pages → (0 < end → IsSome (map (end - 1))) → Keeps Open pages (record { commits = commits; end = end }) map
-keeps_all pages map commits end same last = record {
+pub keeps_all : (pages : MemPages) (map : Map) (end : ℕ) → map ≡ committed_of pages → ((k : ℕ) → end ≤ k → committed_of pages k ≡ None) → (0 < end → IsSome (map (end - 1)))
+    → Keeps Open pages (record { commits = (commits_of pages).count; end = end }) map
+keeps_all pages map end same past last = record {
   since = λ k less. ap (λ (m : Map). m k) (sym same);
+  reach = reach_begins pages end past;
   last = last;
   torn = λ is. let clash : Open ≡ Closed = is in absurd (cc);
 }
 
 pub keeps_changed : (gate : Gate) (old new : MemPages) (has : Written) (map : Map) → has.commits ≤ (commits_of old).count → KeepsSince old new → Keeps gate old has map → Keeps gate new has map
-keeps_changed gate old new has map le since keeps = record { since = since.since has.commits map le keeps.since; last = keeps.last; torn = keeps.torn }
+keeps_changed gate old new has map le since keeps = record {
+  since = since.since has.commits map le keeps.since;
+  reach = since.reach has.commits has.end le keeps.reach;
+  last = keeps.last;
+  torn = keeps.torn;
+}

@@ -4,6 +4,7 @@ pub mod Marks
 pub mod PageWrites
 pub mod FreshPages
 pub mod Bounds
+pub mod Behind
 pub mod Gates
 pub mod Spared
 pub mod Reading

@@ -1,5 +1,5 @@
 -- Both files as they are made: in each state of the names that a stop may leave, each of them is absent or whole.
-use Rattle.std.proofs.Common.{◌≡◌, ◌≢◌, ◌⊎◌, inl, inr, ℕ, ◌-◌, ◌<◌, Bool, true, false, not, ◌||◌, List, [], ◌∷◌, Option, Some, None, IsSome, IsTrue, refl, sym, ◌∙◌, ap, subst, arith}
+use Rattle.std.proofs.Common.{◌≡◌, ◌≢◌, ◌⊎◌, inl, inr, ℕ, ◌-◌, ◌<◌, ◌≤◌, Bool, true, false, not, ◌||◌, List, [], ◌∷◌, Option, Some, None, IsSome, IsTrue, refl, sym, ◌∙◌, ap, subst, arith}
 use Rattle.std.specs.Str.{bytes_eq}
 use Rattle.std.proofs.lemmas.Bool.{true≢false, or_parts}
 use Rattle.vs_host.specs.File.{File, Leaves}
@@ -211,9 +211,10 @@ module _ (tells : Tells) (names : Names) (are : AreNames names) (one two : Synce
     older_has = record { commits = (commits_of pages).count; end = end };
   }
 
-  pub both_fit : (pages : MemPages) (end : ℕ) → one.pages ≡ committed_of pages → two.pages ≡ committed_of pages → (0 < end → IsSome (committed_of pages (end - 1))) → (first second new : Disk) → IsFolder new → FileHas first names.swp (λ file. Leaves file (Holds (body_of names.file one))) → MakesSecond first second
+  pub both_fit : (pages : MemPages) (end : ℕ) → one.pages ≡ committed_of pages → two.pages ≡ committed_of pages → ((k : ℕ) → end ≤ k → committed_of pages k ≡ None)
+      → (0 < end → IsSome (committed_of pages (end - 1))) → (first second new : Disk) → IsFolder new → FileHas first names.swp (λ file. Leaves file (Holds (body_of names.file one))) → MakesSecond first second
       → FileHas second names.swo (λ file. Leaves file (Holds (body_of names.file two))) → SyncsNames second new → IsFit (both_known pages end) new two [] (one ∷ [])
-  both_fit pages end one_has two_has last first second new folder has_one makes has_two syncs =
+  both_fit pages end one_has two_has past last first second new folder has_one makes has_two syncs =
       let one_there = has_stays (is_neither names.swo_new names.swo) names.swp (λ file. Leaves file (Holds (body_of names.file one))) first second (swp_apart names are) makes.spared has_one in
       let one_now = always_synced names.swp (λ file. Leaves file (Holds (body_of names.file one))) second new syncs one_there in
       let two_now = always_synced names.swo (λ file. Leaves file (Holds (body_of names.file two))) second new syncs has_two in
@@ -228,8 +229,8 @@ module _ (tells : Tells) (names : Names) (are : AreNames names) (one two : Synce
         ordered = record { member = inl refl; less = omega (arith, first_is, second_is) };
         newer_used = omega (arith, second_is);
         older_used = omega (arith, first_is);
-        newer_keeps = keeps_all pages two.pages (commits_of pages).count end two_has (λ less. subst (λ (m : Map). IsSome (m (end - 1))) (sym two_has) (last less));
-        older_keeps = keeps_all pages one.pages (commits_of pages).count end one_has (λ less. subst (λ (m : Map). IsSome (m (end - 1))) (sym one_has) (last less));
+        newer_keeps = keeps_all pages two.pages end two_has past (λ less. subst (λ (m : Map). IsSome (m (end - 1))) (sym two_has) (last less));
+        older_keeps = keeps_all pages one.pages end one_has past (λ less. subst (λ (m : Map). IsSome (m (end - 1))) (sym one_has) (last less));
         newer_known = omega arith;
         older_known = omega arith;
         bound = omega arith;

@@ -1,8 +1,8 @@
 -- In which page numbers a swap file may differ from the committed pages.
-use Rattle.std.specs.Prelude.{◌≡◌, ℕ, zero, suc, ◌+◌, ◌-◌, ◌<◌, ◌≤◌, ◌||◌, Bool, true, false, nat_le, List, length, Some, None, IsSome, Contains}
+use Rattle.std.specs.Prelude.{◌≡◌, ℕ, zero, suc, ◌+◌, ◌-◌, ◌^◌, ◌<◌, ◌≤◌, ◌&&◌, ◌||◌, Bool, true, false, nat_le, List, length, Some, None, IsSome, Contains}
 use Rattle.vs_host.specs.File.{File, IsFileImage}
 use Rattle.vs_pages.specs.Maps.{Map}
-use Rattle.vs_pages.specs.Memory.{commits_of, committed_of, IsSince}
+use Rattle.vs_pages.specs.Memory.{commits_of, committed_of, HasReach, IsSince}
 use Rattle.vs_pages.specs.declared.memory.MemPages.{MemPages}
 use Rattle.vs_swap.specs.Files.{page_in}
 use Rattle.vs_pair.specs.declared.gate.Gate.{Gate}
@@ -33,9 +33,11 @@ SparesFresh pages written old new = (c : List ℕ) → IsFileImage new c → (wa
     × ((k : ℕ) (page : List ℕ) → 1 ≤ k → is_stale pages written k ≡ false → page_in was k ≡ Some page → page_in c k ≡ Some page)
 
 -- What is known to stand of the pages of a file with this gate, that of a sync of this map: all that no commit changed since, up to its
--- last page. While the gate is closed the pages may be torn, so nothing is known.
+-- last page. After that page each number up to the last committed page was changed since. While the gate is closed the pages may be
+-- torn, so nothing is known.
 pub record Keeps (gate : Gate) (pages : MemPages) (written : Written) (map : Map) : Type 0 where
   pub since : IsSince pages written.commits map
+  pub reach : HasReach pages written.commits written.end
   pub last : 0 < written.end → IsSome (map (written.end - 1))
   pub torn : gate ≡ Closed → written ≡ nothing
 
@@ -51,17 +53,27 @@ abbrev pub one_if : Bool → ℕ
 one_if true = 1
 one_if false = 0
 
--- how many numbers below this one are stale
+-- how many numbers after page 0 and below this one are stale
 abbrev pub stale_below : MemPages → Written → ℕ → ℕ
 stale_below pages written zero = 0
-stale_below pages written (suc n) = one_if (is_stale pages written n) + stale_below pages written n
+stale_below pages written (suc n) = one_if (nat_le 1 n && is_stale pages written n) + stale_below pages written n
 
 -- No page is committed from this number on, which lies after page 0.
 pub record IsEnd (pages : MemPages) (end : ℕ) : Type 0 where
   pub some : 1 ≤ end
   pub past : (k : ℕ) → end ≤ k → committed_of pages k ≡ None
 
--- The list has each number below this end that a commit changed since, and each that lies after the last page of the file.
-pub record HasChanged (pages : MemPages) (written : Written) (end : ℕ) (numbers : List ℕ) : Type 0 where
-  pub changed : (k : ℕ) → k < end → written.commits ≤ (commits_of pages).last k → Contains numbers k
-  pub added : (k : ℕ) → k < end → written.end ≤ k → Contains numbers k
+-- The list has each number after page 0 and below this end that a commit changed since.
+abbrev pub HasChanged : MemPages → Written → ℕ → List ℕ → Type 0
+HasChanged pages written end numbers = (k : ℕ) → 1 ≤ k → k < end → written.commits ≤ (commits_of pages).last k → Contains numbers k
+
+-- A file is behind the committed pages by at most so many: a list of no more has each number that a commit changed since.
+pub record IsBehind (pages : MemPages) (written : Written) (most : ℕ) : Type 0 where
+  pub numbers : List ℕ
+  pub few : length numbers ≤ most
+  pub changed : (k : ℕ) → written.commits ≤ (commits_of pages).last k → Contains numbers k
+
+-- There were commits, and fewer than are counted.
+pub record IsCounted (pages : MemPages) : Type 0 where
+  pub some : 1 ≤ (commits_of pages).count
+  pub fits : (commits_of pages).count < 2 ^ 64 - 1

@@ -10,7 +10,7 @@ ghost use Rattle.vs_pair.specs.Acts.{Acts};
 ghost use Rattle.vs_text.specs.Documents.{Document};
 ghost use Rattle.vs_pair.specs.Swap.{IsFormatNumber, Lengthens, Synced, page_zero};
 ghost use Rattle.vs_pair.specs.Pair.{IsFit, HasFit, Syncing, IsDocumentOf, Rises, name_of, other_side};
-ghost use Rattle.vs_pair.specs.Stale.{HasChanged, IsEnd, SparesFresh, nothing, stale_below};
+ghost use Rattle.vs_pair.specs.Stale.{HasChanged, IsBehind, IsEnd, SparesFresh, nothing, stale_below};
 
 use crate::head::page_zero;
 use crate::side::{Side, swap_name};
@@ -103,11 +103,14 @@ impl SwapPair {
         ensures none { OnOk result (NoneFails F.tells (F.scene host.old) (F.scene host.new)) }
         ensures cause { HasCause (F.scene host.old).folder_faults (F.scene host.new).folder_faults (IsErr result) }
 
-        // Six calls and one for each page that may differ in the file, at most. What may differ is what was committed since it was synced.
+        // Six calls and one for each page that may differ in the file, at most. What may differ is what a commit changed since the file was
+        // synced.
         ensures calls { (end : ℕ) → IsEnd self.old.pages end
             → CallsAtMost F.tells (F.scene host.old) (F.scene host.new) (6 + stale_below self.old.pages self.old.files.older_has end) }
         ensures few { (end : ℕ) (numbers : List ℕ) → IsEnd self.old.pages end → HasChanged self.old.pages self.old.files.older_has end numbers
             → CallsAtMost F.tells (F.scene host.old) (F.scene host.new) (6 + length numbers) }
+        ensures behind { (most : ℕ) → IsBehind self.old.pages self.old.files.older_has most
+            → CallsAtMost F.tells (F.scene host.old) (F.scene host.new) (6 + most) }
         ensures turned { OnOk result (self.new.files.older_has ≡ self.old.files.newer_has) }
         ensures commits { OnOk result (self.new.files.newer_has.commits ≡ (commits_of self.new.pages).count) }
         ensures ended { OnOk result ((k : ℕ) → self.new.files.newer_has.end ≤ k → committed_of self.old.pages k ≡ None) }

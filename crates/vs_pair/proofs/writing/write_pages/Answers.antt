@@ -63,7 +63,7 @@ runs-preserved g c = record {
   calls = calls_then g.F.World.tells _ _ _ (1 + stale_below c.args.pages.now c.args.written.now c.runs.at) 1 _
       (omega (
         arith,
-        one_more c.args.pages.now c.args.written.now c.runs.at c.next_stale-at-in-runs.result (c.runs.invariant.stale c.runs-test.true)
+        one_more c.args.pages.now c.args.written.now c.runs.at c.next_stale-at-in-runs.result c.runs.invariant.some (c.runs.invariant.stale c.runs-test.true)
             (omega (arith, c.next_stale-at-in-runs.ensures.later, c.stale_run-count.ensures.some)),
       ))
       c.runs.invariant.calls (calls_one g.F.World.tells Wrote _ c.write_at-in-runs.result _ _ c.write_at-in-runs.ensures.told);

@@ -45,7 +45,7 @@ returns-clause-ok g c told =
       older_has = record { commits = commits; end = c.committed_end.result };
     } in
     subst (λ (n : ℕ). IsFit (known n) (g.F.World.scene c.sync_names.new.self).folder (sync_with c.args.self.now 2 c.args.head.now) [] (sync_with c.args.self.now 1 c.args.head.now ∷ [])) (sym c.commits.ensures)
-    (both_fit g.F.World.tells c.args.self.now.files.names c.args.self.now.files.named (sync_with c.args.self.now 1 c.args.head.now) (sync_with c.args.self.now 2 c.args.head.now) refl refl (g.F.World.scene c.args.host.now) c.requires.fresh c.args.self.now.pages c.committed_end.result refl refl c.committed_end.ensures.last (g.F.World.scene c.make.new.host).folder (g.F.World.scene c.make-2.new.host).folder (g.F.World.scene c.sync_names.new.self).folder (g.F.World.is_folder c.sync_names.new.self told)
+    (both_fit g.F.World.tells c.args.self.now.files.names c.args.self.now.files.named (sync_with c.args.self.now 1 c.args.head.now) (sync_with c.args.self.now 2 c.args.head.now) refl refl (g.F.World.scene c.args.host.now) c.requires.fresh c.args.self.now.pages c.committed_end.result refl refl c.committed_end.ensures.past c.committed_end.ensures.last (g.F.World.scene c.make.new.host).folder (g.F.World.scene c.make-2.new.host).folder (g.F.World.scene c.sync_names.new.self).folder (g.F.World.is_folder c.sync_names.new.self told)
     (made_holds _ _ _ (c.in_ok-make.ensures.made told)) (c.make-2.ensures.acts.runs told).now (made_holds _ _ _ (c.in_ok-make-2.ensures.made told)) (c.in_ok-sync_names.ensures.ok told))
 
 pub returns-clause-ends : goal.returns-clause-ends

@@ -1,4 +1,4 @@
-use Rattle.std.proofs.Common.{◌≡◌, ℕ, ◌+◌, ◌∙◌, refl, sym, subst, ap, arith}
+use Rattle.std.proofs.Common.{◌≡◌, ℕ, ◌+◌, ◌∙◌, refl, sym, subst, ap}
 use Rattle.std.specs.Prelude.{[], ◌∷◌}
 use Rattle.vs_host.specs.File.{Leaves}
 use Rattle.vs_host.specs.Disk.{ChangesFile, Name}
@@ -10,9 +10,8 @@ use Rattle.vs_pair.specs.Swap.{Body, body_of, Fits, Holds, Lengthens, SyncStep, 
 use Rattle.vs_pair.specs.Pair.{Known, known_of, sync_of, name_of, other_side, IsFit, Syncing}
 use Rattle.vs_pair.specs.Acts.{Acts}
 use Rattle.vs_pair.specs.Stale.{SparesFresh}
-use Rattle.vs_disk.proofs.Quiet.{calls_within}
 use Rattle.vs_pair.proofs.Acts.{acts_as}
-use Rattle.vs_pair.proofs.Bounds.{stale_in}
+use Rattle.vs_pair.proofs.Bounds.{behind_calls, few_calls}
 use Rattle.vs_pair.proofs.Calls.{on_err_from}
 use Rattle.vs_pair.proofs.FitLemmas.{body_is, moved, moved_has, syncing, there, failed, done, rises, none_rises, above_newest}
 use Rattle.vs_pair.proofs.pair.SwapPair.sync.Goals as goal
@@ -95,7 +94,7 @@ returns-clause-ok g c told newest begun past fit =
     done files newest begun past _ fit (sync_of c.args.self.now c.args.head.now) refl c.requires.room (SyncStep files.gate (body_of files.names.file (sync_of c.args.self.now c.args.head.now))) _
     (moved c.swap_name-name.result.now (name_of files.names (other_side files.newer)) name body _ same (SyncStep files.gate) _ _ (c.sync_file.ensures.acts.runs told).now)
     (moved_has c.swap_name-name.result.now (name_of files.names (other_side files.newer)) name body _ same (λ b file. Leaves file (Holds b)) _ (c.in_ok-sync_file.ensures.stands told))
-    c.committed_end.result refl c.committed_end.ensures.last in
+    c.committed_end.result refl c.committed_end.ensures.past c.committed_end.ensures.last in
     subst (λ (s : Side). IsFit (now s c.sync_file.new.gate c.commits.result) (g.F.World.scene c.sync_file.new.host).folder (sync_of c.args.self.now c.args.head.now) [] (newest ∷ past))
     (sym c.other-older.ensures)
     (subst (λ (h : Gate). IsFit (now (other_side files.newer) h c.commits.result) (g.F.World.scene c.sync_file.new.host).folder (sync_of c.args.self.now c.args.head.now) [] (newest ∷ past))
@@ -136,14 +135,20 @@ pub returns-clause-calls : goal.returns-clause-calls
 returns-clause-calls g c = c.sync_file.ensures.calls
 
 pub returns-in_err-sync_file-clause-few : goal.returns-in_err-sync_file-clause-few
-returns-in_err-sync_file-clause-few g c end numbers is changed =
-    calls_within g.F.World.tells (g.F.World.scene c.args.host.now) (g.F.World.scene c.sync_file.new.host) _ _
-    (omega (arith, stale_in c.args.self.now.pages c.args.self.now.files.older_has end numbers changed)) (c.sync_file.ensures.calls end is)
+returns-in_err-sync_file-clause-few g c =
+    few_calls g.F.World.tells (g.F.World.scene c.args.host.now) (g.F.World.scene c.sync_file.new.host) c.args.self.now.pages c.args.self.now.files.older_has (λ told. (c.requires.fits told).3.older_keeps.reach) c.sync_file.ensures.calls
 
 pub returns-clause-few : goal.returns-clause-few
-returns-clause-few g c end numbers is changed =
-    calls_within g.F.World.tells (g.F.World.scene c.args.host.now) (g.F.World.scene c.sync_file.new.host) _ _
-    (omega (arith, stale_in c.args.self.now.pages c.args.self.now.files.older_has end numbers changed)) (c.sync_file.ensures.calls end is)
+returns-clause-few g c =
+    few_calls g.F.World.tells (g.F.World.scene c.args.host.now) (g.F.World.scene c.sync_file.new.host) c.args.self.now.pages c.args.self.now.files.older_has (λ told. (c.requires.fits told).3.older_keeps.reach) c.sync_file.ensures.calls
+
+pub returns-in_err-sync_file-clause-behind : goal.returns-in_err-sync_file-clause-behind
+returns-in_err-sync_file-clause-behind g c =
+    behind_calls g.F.World.tells (g.F.World.scene c.args.host.now) (g.F.World.scene c.sync_file.new.host) c.args.self.now.pages c.args.self.now.files.older_has (λ told. (c.requires.fits told).3.older_keeps.reach) c.sync_file.ensures.calls
+
+pub returns-clause-behind : goal.returns-clause-behind
+returns-clause-behind g c =
+    behind_calls g.F.World.tells (g.F.World.scene c.args.host.now) (g.F.World.scene c.sync_file.new.host) c.args.self.now.pages c.args.self.now.files.older_has (λ told. (c.requires.fits told).3.older_keeps.reach) c.sync_file.ensures.calls
 
 pub returns-clause-turned : goal.returns-clause-turned
 returns-clause-turned g c = refl
