@@ -99,7 +99,7 @@ none_both state instruction ended plain =
 none_left : (o : Outcome) (names : Names) (state : SessionState) (instruction : Instruction) (found old new : Disk) → writes_files instruction.parsed ≡ false → (o ≡ outcome.NoUndo → ⊥)
     → LeavesNoneBut (IsLeftBy o names state instruction found) old new → LeavesNoneMade old new
 none_left outcome.Done names state instruction found old new plain stored but made gone = but made (λ never. never) gone
-none_left outcome.NoMemory names state instruction found old new plain stored but made gone = but made (λ left. true≢false (sym left.0 ∙ no_write instruction.parsed plain)) gone
+none_left outcome.NoMemory names state instruction found old new plain stored but made gone = but made (λ never. never) gone
 none_left outcome.Fault names state instruction found old new plain stored but made gone =
     but made (λ left. elim left [ inl writes ↦ true≢false (sym writes.0 ∙ no_write instruction.parsed plain) | inr stores ↦ true≢false (sym stores.0 ∙ no_store instruction.parsed plain) ]) gone
 none_left outcome.NoUndo names state instruction found old new plain stored but made gone = absurd (stored refl)
