@@ -97,6 +97,7 @@ pub fn write_text<F: Folder>(
         → Runs (KeepsLeft (WorksOn options.now (names_of text.old).file (F.scene host.old).folder)) (F.scene host.old) (F.scene host.new) }
     ensures names { names_of text.new ≡ names_of text.old }
     ensures generation { text.new.pair.files.generation ≡ text.old.pair.files.generation }
+    ensures files { text.new.pair.files ≡ text.old.pair.files }
     ensures tree { text.new.tree ≡ text.old.tree }
     ensures work { IsTrue F.tells.folder → worked_by (state_of text.new.pair.pages) ≡ worked_by (state_of text.old.pair.pages) }
 

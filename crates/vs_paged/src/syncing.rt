@@ -1,11 +1,13 @@
 // The syncs of a text, and the end of its swap files.
-ghost use Rattle.std.specs.Prelude.{◌≡◌, ◌+◌, ◌<◌, ◌^◌, ◌∷◌, List, IsErr, IsTrue, OnErr, OnOk};
+ghost use Rattle.std.specs.Prelude.{◌≡◌, ◌+◌, ◌<◌, ◌^◌, ◌∷◌, ℕ, List, IsErr, IsTrue, OnErr, OnOk, is_ok};
 ghost use Rattle.vs_faults.specs.Faults.{HasCause};
-ghost use Rattle.vs_disk.specs.Runs.{NoneFails};
+ghost use Rattle.vs_disk.specs.Runs.{CallsAtMost, NoneFails};
 ghost use Rattle.vs_pair.specs.Acts.{Acts};
 ghost use Rattle.vs_pair.specs.Pair.{Rises};
+ghost use Rattle.vs_pair.specs.Stale.{IsBehind};
 ghost use Rattle.vs_pair.specs.Steps.{IsAbsent};
 ghost use Rattle.vs_safety.specs.Texts.{Text, Sync, begun};
+ghost use Rattle.vs_paged.specs.Turns.{TurnsFiles};
 ghost use Rattle.vs_paged.specs.Fits.{Ending, Fits, FitsFolder, Syncing, acknowledged_sync, names_of};
 
 use crate::PagedText;
@@ -40,6 +42,12 @@ impl PagedText {
         // Some file stands in every image with a generation above all before, exactly where the sync is acknowledged.
         ensures rises { OnOk result (IsTrue F.tells.folder → Rises (names_of self.old) (F.scene host.old).folder (F.scene host.new).folder) }
         ensures stays { OnErr result (IsTrue F.tells.folder → Rises (names_of self.old) (F.scene host.old).folder (F.scene host.new).folder → ⊥) }
+
+        // It makes at most six calls and one for each number by which its file is behind the committed pages. After its Ok that file has all
+        // that was committed, and the other one is the next; after an error nothing is known of its file.
+        ensures behind { (most : ℕ) → IsBehind self.old.pair.pages self.old.pair.files.older_has most
+            → CallsAtMost F.tells (F.scene host.old) (F.scene host.new) (6 + most) }
+        ensures turns { TurnsFiles (is_ok result) self.old.pair self.new.pair }
         ensures pages { self.new.pair.pages ≡ self.old.pair.pages }
         ensures tree { self.new.tree ≡ self.old.tree }
         ensures names { names_of self.new ≡ names_of self.old }

@@ -6,6 +6,7 @@ use Rattle.vs_pair.specs.Pair.{known_of, sync_of}
 use Rattle.vs_pair.proofs.Acts.{acts_as}
 use Rattle.vs_paged.specs.Fits.{Syncing}
 use Rattle.vs_paged.proofs.SyncLemmas.{on_ok_as, on_err_as, document_synced, syncing_documents, synced_fits, failed_fits}
+use Rattle.vs_paged.proofs.TurnLemmas.{turns}
 use Rattle.vs_paged.proofs.paged.PagedText.sync.Goals as goal
 
 pub sync-requires-clause-fits : goal.sync-requires-clause-fits
@@ -42,3 +43,6 @@ pub returns-clause-stays : goal.returns-clause-stays
 returns-clause-stays g c =
     on_err_as c.sync.result _ _
     (λ stays told. let fits = (c.requires.fits told).2 in stays told fits.newest fits.later fits.past fits.fit fits.syncs_are.last.document fits.syncs_are.newest_is.document) c.sync.ensures.stays
+
+pub returns-clause-turns : goal.returns-clause-turns
+returns-clause-turns g c = turns c.sync.result c.args.self.now.pair _ c.sync.ensures.turned c.sync.ensures.commits c.sync.ensures.forgotten c.sync.ensures.remembered
