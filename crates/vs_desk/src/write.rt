@@ -14,6 +14,7 @@ ghost use Rattle.vs_backup.specs.Works.{SparesOthers};
 ghost use Rattle.vs_backup.specs.Writing.{FailsNoEarlier, IsFailed, OldIn};
 ghost use Rattle.vs_backup.specs.declared.errors.Place.TheVariants.{Nowhere};
 ghost use Rattle.vs_safety.specs.Texts.{Sync, Text, recoverable};
+ghost use Rattle.vs_paged.specs.Turns.{KeepsKnown};
 ghost use Rattle.vs_paged.specs.Fits.{Fits, names_of};
 ghost use Rattle.vs_paged.specs.Pages.{IsBounded, IsPaged};
 ghost use Rattle.vs_desk.specs.Counts.{NoneAbove};
@@ -97,7 +98,7 @@ pub fn write_text<F: Folder>(
         → Runs (KeepsLeft (WorksOn options.now (names_of text.old).file (F.scene host.old).folder)) (F.scene host.old) (F.scene host.new) }
     ensures names { names_of text.new ≡ names_of text.old }
     ensures generation { text.new.pair.files.generation ≡ text.old.pair.files.generation }
-    ensures files { text.new.pair.files ≡ text.old.pair.files }
+    ensures known { KeepsKnown text.old.pair text.new.pair }
     ensures tree { text.new.tree ≡ text.old.tree }
     ensures work { IsTrue F.tells.folder → worked_by (state_of text.new.pair.pages) ≡ worked_by (state_of text.old.pair.pages) }
 

@@ -9,3 +9,8 @@ use Rattle.vs_pair.specs.declared.pair.SwapPair.{SwapPair}
 abbrev pub TurnsFiles : Bool → SwapPair → SwapPair → Type 0
 TurnsFiles true before after = (after.files.older_has ≡ before.files.newer_has) × (after.files.newer_has.commits ≡ (commits_of after.pages).count)
 TurnsFiles false before after = (after.files.older_has ≡ nothing) × (after.files.newer_has ≡ before.files.newer_has)
+
+-- What is known of the pages of both files stays.
+pub record KeepsKnown (before after : SwapPair) : Type 0 where
+  pub newer : after.files.newer_has ≡ before.files.newer_has
+  pub older : after.files.older_has ≡ before.files.older_has
