@@ -18,12 +18,13 @@ use Rattle.vs_session.specs.declared.session.Session.{Session}
 use Rattle.vs_session.specs.declared.taking.TakeErr.{TakeErr}
 use Rattle.vs_session.specs.Calls.{GoesOn, GoesOnReading, OnlyReads}
 use Rattle.vs_session.specs.Fits.{FitsUndo}
+use Rattle.vs_paged.proofs.TurnLemmas.{keeps_known}
 use Rattle.vs_session.specs.Lent.{KeepsText}
 use Rattle.vs_session.proofs.OpenLemmas.{ReadsFolder-trans}
 
 -- a failure that is told of in other words
 pub GoesOn-weaker : {F G : Type 0} {before after : Session} {old new : Scene} → GoesOn F before after old new → (G → F) → GoesOn G before after old new
-GoesOn-weaker is so = record { frame = is.frame; file = is.file; generation = is.generation; undo = is.undo; cause = HasCause-weaker is.cause so }
+GoesOn-weaker is so = record { frame = is.frame; file = is.file; generation = is.generation; known = is.known; undo = is.undo; cause = HasCause-weaker is.cause so }
 
 pub reads_as : (tells : Tells) (F G : Type 0) (old new : Scene) → OnlyReads tells F old new → (F → G) → (G → F) → OnlyReads tells G old new
 reads_as tells F G old new is on back = record { frame = is.frame; looks = is.looks; stops = stops_as tells F G old new (λ calm failed. calm (on failed)) is.stops; cause = HasCause-weaker is.cause back }
@@ -48,6 +49,7 @@ goes_reading tells F G before after old new name found keeps undo cause on back 
   stops = reads_stop tells F G before.text.pair after.text.pair old new keeps cause on;
   file = record { name = name; found = found; names = ap (λ (f : SwapFiles). f.names) keeps.files };
   generation = ap (λ (f : SwapFiles). f.generation) keeps.files;
+  known = keeps_known before.text.pair after.text.pair keeps.files;
   undo = undo;
   cause = record { later = cause.later; risen = λ failed. cause.risen (back failed) };
 }

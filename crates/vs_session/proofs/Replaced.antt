@@ -45,7 +45,7 @@ and_false : (b : Bool) → (b && false) ≡ false
 and_false true = refl
 and_false false = refl
 
-begins_none : (steps : ℕ) (parsed : _) → is_rundo parsed ≡ true → begins_after steps parsed ≡ false
+pub begins_none : (steps : ℕ) (parsed : _) → is_rundo parsed ≡ true → begins_after steps parsed ≡ false
 begins_none steps (Ok ReadUndo) is = and_false _
 begins_none steps parsed is = absurd (true≢false (sym is))
 

@@ -16,6 +16,7 @@ use Rattle.vs_safety.specs.Texts.{Sync, Text}
 use Rattle.vs_safety.specs.Turns.{last_turn}
 use Rattle.vs_safety.specs.Undo.{IsUndoOf}
 use Rattle.vs_ubind.specs.Storing.{StoresBy}
+use Rattle.vs_paged.specs.Turns.{KeepsKnown}
 use Rattle.vs_session.specs.declared.session.Session.{Session}
 use Rattle.vs_session.specs.declared.session.Step.{Step}
 use Rattle.vs_session.specs.declared.ending.End.{End}
@@ -65,6 +66,7 @@ pub record GoesOn (Failed : Type 0) (before after : Session) (old new : Scene) :
   pub frame : ChangesFolder old new
   pub file : SameFile before after
   pub generation : generation_of after ≡ generation_of before
+  pub known : KeepsKnown before.text.pair after.text.pair
   pub undo : FitsUndo after
   pub cause : HasCause old.folder_faults new.folder_faults Failed
 
@@ -75,6 +77,7 @@ pub record GoesOnReading (tells : Tells) (Failed : Type 0) (before after : Sessi
   pub stops : StopsAtFault tells Failed old new
   pub file : SameFile before after
   pub generation : generation_of after ≡ generation_of before
+  pub known : KeepsKnown before.text.pair after.text.pair
   pub undo : FitsUndo after
   pub cause : HasCause old.folder_faults new.folder_faults Failed
 

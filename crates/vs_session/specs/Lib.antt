@@ -14,3 +14,4 @@ pub mod Wholeness
 pub mod Calls
 pub mod Lent
 pub mod Work
+pub mod SwapWrites

@@ -4,6 +4,7 @@
 mod answering;
 mod binding;
 mod ending;
+mod laws;
 mod looking;
 mod open;
 mod opening;
@@ -19,6 +20,7 @@ mod unbinding;
 mod writing;
 
 pub use ending::End;
+pub use laws::falling_behind;
 pub use open::OpenErr;
 pub use session::{Session, Step};
 pub use summary::Summary;

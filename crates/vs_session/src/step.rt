@@ -1,18 +1,21 @@
 // One step of a session.
-ghost use Rattle.std.specs.Prelude.{◌≡◌, ◌≢◌, ◌+◌, ◌<◌, ◌≤◌, ◌^◌, ◌∷◌, List, None, true, false, IsErr, IsTrue, OnErr, OnOk, length};
+ghost use Rattle.std.specs.Prelude.{◌≡◌, ◌≢◌, ◌+◌, ◌<◌, ◌≤◌, ◌^◌, ◌∷◌, ℕ, List, None, true, false, IsErr, IsTrue, OnErr, OnOk, is_ok, length};
 ghost use Rattle.vs_faults.specs.Faults.{HasCause};
-ghost use Rattle.vs_disk.specs.Runs.{NoneFails};
+ghost use Rattle.vs_disk.specs.Runs.{CallsAtMost, NoneFails};
 ghost use Rattle.vs_pair.specs.Acts.{Acts};
 ghost use Rattle.vs_pair.specs.Pair.{Rises};
+ghost use Rattle.vs_pair.specs.Stale.{IsBehind};
 ghost use Rattle.vs_exparse.specs.Command.{command_of, result_of};
 ghost use Rattle.vs_excmd.specs.Request.{Instruction, IsFormed, IsRequest};
 ghost use Rattle.vs_machine.specs.Machine.{reply_of as machine_reply};
 ghost use Rattle.vs_machine.specs.declared.command.Mark.{Mark};
 ghost use Rattle.vs_safety.specs.Texts.{Sync};
 ghost use Rattle.vs_paged.specs.Fits.{Syncing};
+ghost use Rattle.vs_paged.specs.Turns.{TurnsFiles};
 ghost use Rattle.vs_session.specs.Calls.{AnswersRequest, CarriesRequest, FitsFolder, GoesOnReading, GoesOnSyncing, IsUsable};
 ghost use Rattle.vs_session.specs.Fits.{Fits, FitsUndo, IsFault, IsMarkedAt, IsTimed, SameFile, StepsIn, generation_of, is_clean_session, names_of};
 ghost use Rattle.vs_session.specs.Session.{SessionState, after_sync, answered, begins_after, carried, counted, is_fault, is_move, is_rundo, is_saved, is_write, is_wundo, options_set, own_reply, quits, sync_in, uses_files};
+ghost use Rattle.vs_session.specs.SwapWrites.{SyncsIn};
 ghost use Rattle.vs_session.specs.Work.{WorksIn, WorksRequest};
 
 use crate::answering::answer_text;
@@ -149,6 +152,9 @@ impl Session {
         ensures stays { OnErr result (IsTrue F.tells.folder → Rises (names_of self.old) (F.scene host.old).folder (F.scene host.new).folder → ⊥) }
         ensures file { SameFile self.old self.new }
         ensures generation { generation_of self.new ≡ generation_of self.old + 1 }
+        ensures behind { (most : ℕ) → IsBehind self.old.text.pair.pages self.old.text.pair.files.older_has most
+            → CallsAtMost F.tells (F.scene host.old) (F.scene host.new) (6 + most) }
+        ensures turns { TurnsFiles (is_ok result) self.old.text.pair self.new.text.pair }
         ensures pages { self.new.text.pair.pages ≡ self.old.text.pair.pages }
         ensures tree { self.new.text.tree ≡ self.old.text.tree }
         ensures undo { FitsUndo self.old → FitsUndo self.new }
@@ -179,6 +185,7 @@ impl Session {
         ensures fits { CarriesRequest F.tells request.now (record { outcome = result.0; at = at }) self.old self.new
             (F.scene host.old).folder (F.scene host.new).folder }
         ensures kept { GoesOnReading F.tells (is_fault result.0 ≡ true) self.old self.new (F.scene host.old) (F.scene host.new) }
+        ensures still { IsTrue F.tells.folder → F.scene host.new ≡ F.scene host.old }
         ensures works { WorksRequest F.tells request.now result.0 self.old self.new (F.scene host.old).folder }
         ensures stored { result.0 ≢ Outcome.NoUndo }
     {
@@ -229,6 +236,7 @@ impl Session {
         ensures fits { CarriesRequest F.tells request.now (record { outcome = result.0; at = at }) self.old self.new
             (F.scene host.old).folder (F.scene host.new).folder }
         ensures kept { GoesOnReading F.tells (is_fault result.0 ≡ true) self.old self.new (F.scene host.old) (F.scene host.new) }
+        ensures still { IsTrue F.tells.folder → F.scene host.new ≡ F.scene host.old }
         ensures works { WorksRequest F.tells request.now result.0 self.old self.new (F.scene host.old).folder }
         ensures stored { result.0 ≢ Outcome.NoUndo }
     {
@@ -259,6 +267,7 @@ impl Session {
         ensures time { IsMarkedAt result at }
         ensures kept { GoesOnSyncing (IsFault result) self.old self.new (F.scene host.old) (F.scene host.new) }
         ensures works { WorksIn F.tells request.now result self.old self.new (F.scene host.old).folder }
+        ensures behind { SyncsIn F.tells request.now result self.old self.new (F.scene host.old) (F.scene host.new) }
     {
         match self.sync(host) {
             Ok(()) => {
@@ -288,6 +297,7 @@ impl Session {
         ensures time { IsMarkedAt result at }
         ensures kept { GoesOnSyncing (IsFault result) self.old self.new (F.scene host.old) (F.scene host.new) }
         ensures works { WorksIn F.tells request.now result self.old self.new (F.scene host.old).folder }
+        ensures behind { SyncsIn F.tells request.now result self.old self.new (F.scene host.old) (F.scene host.new) }
     {
         if is_write(request) {
             return self.answer_write(alloc, host, at);
@@ -323,6 +333,7 @@ impl Session {
         ensures room { generation_of self.new ≤ generation_of self.old + 1 }
         ensures quit { result ≡ Step.Quit → quits (result_of request.now.parsed) (is_clean_session self.old) ≡ true }
         ensures works { WorksIn H.tells request.now result self.old self.new (H.scene host.old).folder }
+        ensures behind { SyncsIn H.tells request.now result self.old self.new (H.scene host.old) (H.scene host.new) }
         ensures clock { IsTrue (H.tells).clock → IsTimed result (H.scene host.old) (H.scene host.new) }
         ensures frame { StepsIn (H.scene host.old) (H.scene host.new) }
         ensures cause { HasCause (H.scene host.old).folder_faults (H.scene host.new).folder_faults (IsFault result) }

@@ -117,6 +117,7 @@ impl Session {
         ensures reads { OnlyReads F.tells (IsErrOf result TakeErr.Failed) (F.scene host.old) (F.scene host.new) }
         ensures file { SameFile self.old self.new }
         ensures generation { generation_of self.new ≡ generation_of self.old }
+        ensures files { self.new.text.pair.files ≡ self.old.text.pair.files }
         ensures undo { FitsUndo self.old → FitsUndo self.new }
         ensures works { SameWork F.tells self.old.text.pair.pages self.new.text.pair.pages }
     {

@@ -10,6 +10,7 @@ ghost use Rattle.vs_safety.specs.Undo.{HasUndo, IsUndoOf};
 ghost use Rattle.vs_session.specs.Calls.{GoesOn, GoesOnSyncing, IsUsable, StoresBytes};
 ghost use Rattle.vs_session.specs.Fits.{Answers, Fits, IsFault, IsMarkedAt, IsStep, generation_of, names_of};
 ghost use Rattle.vs_session.specs.Session.{SessionState, is_fault, is_write, line_by};
+ghost use Rattle.vs_session.specs.SwapWrites.{SyncsFirst};
 ghost use Rattle.vs_session.specs.Work.{SameWork};
 ghost use Rattle.vs_session.specs.Writes.{HasSynced, Wrote, info_of, outcome_to, reply_to};
 
@@ -174,6 +175,7 @@ impl Session {
         ensures time { IsMarkedAt result at }
         ensures kept { GoesOnSyncing (IsFault result) self.old self.new (F.scene host.old) (F.scene host.new) }
         ensures works { SameWork F.tells self.old.text.pair.pages self.new.text.pair.pages }
+        ensures behind { SyncsFirst F.tells true result self.old self.new (F.scene host.old) (F.scene host.new) }
     {
         match self.sync(host) {
             Ok(()) => {

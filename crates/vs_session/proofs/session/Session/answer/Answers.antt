@@ -1,8 +1,13 @@
-use Rattle.std.proofs.Common.{◌≡◌, ◌||◌, false, sym, ap, ◌∙◌}
+use Rattle.std.proofs.Common.{◌≡◌, ◌||◌, true, false, sym, ap, ◌∙◌}
 use Rattle.vs_session.specs.Session.{is_rundo, is_write, is_wundo, uses_files}
 use Rattle.vs_session.proofs.SessionLemmas.{quits_is, begins_is}
 use Rattle.vs_session.proofs.Steps.{answers_plainly}
 use Rattle.vs_session.proofs.WorkLemmas.{step_unworked}
+use Rattle.vs_session.specs.declared.session.Step.TheVariants as step
+use Rattle.vs_session.proofs.SwapSyncs.{syncs_first, syncs_none}
+use Rattle.vs_session.proofs.Replaced as replaced
+use Rattle.vs_session.proofs.Stored as stored
+use Rattle.vs_session.proofs.WriteCommand as write
 use Rattle.vs_session.proofs.session.Session.answer.Goals as goal
 
 pub returns-clause-step : goal.returns-clause-step
@@ -37,3 +42,24 @@ returns-then-is_wundo-clause-works g c = step_unworked g.F.World.tells c.args.re
 
 pub returns-then-is_rundo-clause-works : goal.returns-then-is_rundo-clause-works
 returns-then-is_rundo-clause-works g c = step_unworked g.F.World.tells c.args.request.now c.answer_rundo.result c.args.self.now c.answer_rundo.new.self (g.F.World.scene c.args.host.now).folder c.answer_rundo.ensures.works
+
+pub returns-clause-behind : goal.returns-clause-behind
+returns-clause-behind g c =
+    syncs_none g.F.World.tells c.args.request.now c.args.self.now c.carry_out-outcome.new.self (g.F.World.scene c.args.host.now) (g.F.World.scene c.carry_out-outcome.new.host)
+    (step.Answer (record { outcome = c.carry_out-outcome.result.0; at = c.args.at }) c.carry_out-outcome.result.1) (sym c.begins_sync.ensures ∙ c.if-begins_sync.false) c.carry_out-outcome.ensures.kept.known
+
+pub returns-then-is_write-clause-behind : goal.returns-then-is_write-clause-behind
+returns-then-is_write-clause-behind g c =
+    let writes = sym c.is_write.ensures ∙ c.if-is_write.true in
+    syncs_first g.F.World.tells c.args.request.now c.args.self.now c.answer_write.new.self (g.F.World.scene c.args.host.now) (g.F.World.scene c.answer_write.new.host) c.answer_write.result c.args.at true
+    c.answer_write.ensures.time (write.begins_is c.args.self.now.steps _ writes) writes c.answer_write.ensures.behind
+
+pub returns-then-is_wundo-clause-behind : goal.returns-then-is_wundo-clause-behind
+returns-then-is_wundo-clause-behind g c =
+    syncs_none g.F.World.tells c.args.request.now c.args.self.now c.answer_wundo.new.self (g.F.World.scene c.args.host.now) (g.F.World.scene c.answer_wundo.new.host) c.answer_wundo.result
+    (stored.begins_none c.args.self.now.steps _ (sym c.is_wundo.ensures ∙ c.if-is_wundo.true)) c.answer_wundo.ensures.kept.known
+
+pub returns-then-is_rundo-clause-behind : goal.returns-then-is_rundo-clause-behind
+returns-then-is_rundo-clause-behind g c =
+    syncs_none g.F.World.tells c.args.request.now c.args.self.now c.answer_rundo.new.self (g.F.World.scene c.args.host.now) (g.F.World.scene c.answer_rundo.new.host) c.answer_rundo.result
+    (replaced.begins_none c.args.self.now.steps _ (sym c.is_rundo.ensures ∙ c.if-is_rundo.true)) c.answer_rundo.ensures.kept.known

@@ -1,10 +1,16 @@
 use Rattle.std.proofs.Common.{◌∷◌, true, false, refl, sym, ap, ◌∙◌}
-use Rattle.vs_session.specs.Session.{after_sync, sync_in, uses_files}
+use Rattle.std.proofs.lemmas.Bool.{true≢false}
+use Rattle.vs_exparse.specs.Command.{result_of}
+use Rattle.vs_machine.specs.declared.command.Outcome.TheVariants.{Fault}
+use Rattle.vs_session.specs.declared.session.Step.TheVariants as step
+use Rattle.vs_session.specs.Session.{after_sync, is_write, sync_in, uses_files}
 use Rattle.vs_session.proofs.SessionLemmas.{quits_is, begins_is}
 use Rattle.vs_session.proofs.Steps.{answers_synced, answers_failed}
 use Rattle.vs_machine.specs.Answers.{meaning_at}
 use Rattle.vs_session.specs.Work.{work_in}
 use Rattle.vs_session.proofs.WorkLemmas.{works_synced}
+use Rattle.vs_host.specs.World.{Scene}
+use Rattle.vs_session.proofs.SwapSyncs.{syncs_first}
 use Rattle.vs_session.proofs.session.Session.answer_synced.Goals as goal
 
 pub carry_out-outcome-requires-clause-usable : goal.carry_out-outcome-requires-clause-usable
@@ -39,3 +45,35 @@ returns-in-Ok-clause-works g c told state syncs instruction fits is =
 
 pub returns-in-Err-clause-works : goal.returns-in-Err-clause-works
 returns-in-Err-clause-works g c told state syncs instruction fits is = ap work_in c.in-Err.ensures.pages
+
+pub returns-in-Ok-clause-behind : goal.returns-in-Ok-clause-behind
+returns-in-Ok-clause-behind g c =
+    syncs_first g.F.World.tells c.args.request.now c.args.self.now c.carry_out-outcome.new.self (g.F.World.scene c.args.host.now) (g.F.World.scene c.carry_out-outcome.new.host)
+    (step.Answer (record { outcome = c.carry_out-outcome.result.0; at = c.args.at }) c.carry_out-outcome.result.1) c.args.at (is_write (result_of c.args.request.now.parsed)) refl c.requires.begins refl
+    (record {
+      synced = g.F.World.scene c.sync.new.host;
+      acknowledged = true;
+      calls = c.sync.ensures.behind;
+      between = c.sync.new.self.text.pair;
+      pages = c.in-Ok.ensures.pages;
+      turns = c.in-Ok.ensures.turns;
+      known = c.carry_out-outcome.ensures.kept.known;
+      failed = λ is. absurd (true≢false is);
+      rest = λ plain told. ap (λ (s : Scene). s.trace) (c.carry_out-outcome.ensures.still told);
+    })
+
+pub returns-in-Err-clause-behind : goal.returns-in-Err-clause-behind
+returns-in-Err-clause-behind g c =
+    syncs_first g.F.World.tells c.args.request.now c.args.self.now c.sync.new.self (g.F.World.scene c.args.host.now) (g.F.World.scene c.sync.new.host)
+    (step.Answer (record { outcome = Fault; at = c.args.at }) c.device_fault.result) c.args.at (is_write (result_of c.args.request.now.parsed)) refl c.requires.begins refl
+    (record {
+      synced = g.F.World.scene c.sync.new.host;
+      acknowledged = false;
+      calls = c.sync.ensures.behind;
+      between = c.sync.new.self.text.pair;
+      pages = c.in-Err.ensures.pages;
+      turns = c.in-Err.ensures.turns;
+      known = record { newer = refl; older = refl };
+      failed = λ is. refl;
+      rest = λ plain told. refl;
+    })

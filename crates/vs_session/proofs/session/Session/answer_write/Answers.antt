@@ -1,4 +1,5 @@
-use Rattle.std.proofs.Common.{◌∷◌, true, refl, ap, ◌∙◌}
+use Rattle.std.proofs.Common.{◌∷◌, true, false, refl, ap, ◌∙◌}
+use Rattle.std.proofs.lemmas.Bool.{true≢false}
 use Rattle.vs_session.specs.Session.{after_sync, sync_in}
 use Rattle.vs_session.proofs.Steps.{answers_failed}
 use Rattle.vs_session.proofs.WriteCommand.{begins_is, never_quits}
@@ -39,3 +40,29 @@ returns-in-Ok-clause-works g c told = c.write_files-outcome.ensures.works told �
 
 pub returns-in-Err-clause-works : goal.returns-in-Err-clause-works
 returns-in-Err-clause-works g c told = ap work_in c.in-Err.ensures.pages
+
+pub returns-in-Ok-clause-behind : goal.returns-in-Ok-clause-behind
+returns-in-Ok-clause-behind g c = record {
+  synced = g.F.World.scene c.sync.new.host;
+  acknowledged = true;
+  calls = c.sync.ensures.behind;
+  between = c.sync.new.self.text.pair;
+  pages = c.in-Ok.ensures.pages;
+  turns = c.in-Ok.ensures.turns;
+  known = c.write_files-outcome.ensures.kept.known;
+  failed = λ is. absurd (true≢false is);
+  rest = λ is. absurd (true≢false is);
+}
+
+pub returns-in-Err-clause-behind : goal.returns-in-Err-clause-behind
+returns-in-Err-clause-behind g c = record {
+  synced = g.F.World.scene c.sync.new.host;
+  acknowledged = false;
+  calls = c.sync.ensures.behind;
+  between = c.sync.new.self.text.pair;
+  pages = c.in-Err.ensures.pages;
+  turns = c.in-Err.ensures.turns;
+  known = record { newer = refl; older = refl };
+  failed = λ is. refl;
+  rest = λ is. absurd (true≢false is);
+}

@@ -4,6 +4,7 @@ use Rattle.vs_faults.proofs.Causes.{HasCause-weaker}
 use Rattle.vs_backup.proofs.Stops.{stops_as}
 use Rattle.vs_session.specs.Session.{is_fault}
 use Rattle.vs_session.proofs.Replaced.{err_taken, failed_taken, fault_taken, fits_replaced, read_line}
+use Rattle.vs_paged.proofs.TurnLemmas.{keeps_known}
 use Rattle.vs_session.proofs.session.Session.replace_history.Goals as goal
 
 pub returns-in-Ok-clause-read : goal.returns-in-Ok-clause-read
@@ -28,6 +29,7 @@ returns-in-Err-clause-kept g c = record {
   stops = stops_as _ _ _ _ _ (λ calm failed. calm (ap is_fault c.refused.ensures.outcome ∙ fault_taken c.in-Err.error failed)) c.in-Err.ensures.reads.stops;
   file = c.in-Err.ensures.file;
   generation = c.in-Err.ensures.generation;
+  known = keeps_known c.args.self.now.text.pair _ c.in-Err.ensures.files;
   undo = c.in-Err.ensures.undo c.requires.usable.undo;
   cause = HasCause-weaker c.in-Err.ensures.reads.cause (λ fault. ap err_taken (failed_taken c.in-Err.error _ c.refused.ensures.outcome fault));
 }
@@ -42,6 +44,7 @@ returns-in-Ok-clause-kept g c =
       stops = stops_as _ _ _ _ _ (λ _ e. cc) reads.stops;
       file = record { name = file.name; found = file.found; names = file.names };
       generation = c.in-Ok.ensures.generation;
+      known = keeps_known c.args.self.now.text.pair _ c.in-Ok.ensures.files;
       undo = c.in-Ok.ensures.counts;
       cause = record { later = reads.cause.later; risen = λ e. absurd (true≢false (sym e)) };
     }

@@ -3,6 +3,7 @@ use Rattle.vs_host.specs.World.{Scene}
 use Rattle.vs_session.proofs.Steps.{fits_moved, step_from}
 use Rattle.vs_host.specs.Disk.{Disk}
 use Rattle.vs_session.specs.Work.{WorksIn}
+use Rattle.vs_session.proofs.SwapSyncs.{syncs_from}
 use Rattle.vs_session.proofs.session.Session.step.Goals as goal
 
 pub answer-requires-clause-usable : goal.answer-requires-clause-usable
@@ -24,3 +25,8 @@ returns-clause-step g c told state syncs instruction fits is =
 pub returns-clause-works : goal.returns-clause-works
 returns-clause-works g c =
     subst (λ (d : Disk). WorksIn g.H.World.tells c.args.request.now c.answer.result c.args.self.now c.answer.new.self d) (ap (λ (s : Scene). s.folder) c.now-at.ensures.frame) c.answer.ensures.works
+
+pub returns-clause-behind : goal.returns-clause-behind
+returns-clause-behind g c =
+    syncs_from g.H.World.tells c.args.request.now c.answer.result c.args.self.now c.answer.new.self (g.H.World.scene c.args.host.now) (g.H.World.scene c.now-at.new.self) (g.H.World.scene c.answer.new.host)
+    (ap (λ (s : Scene). s.trace) c.now-at.ensures.frame) c.answer.ensures.behind
