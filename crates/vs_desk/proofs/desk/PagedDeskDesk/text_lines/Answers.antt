@@ -14,3 +14,9 @@ returns-in-Err-Failed-clause-kept g c =
     let looks = c.copy_lines.ensures.kept.stays.2 in
     reads_counted _ _ (search rules) (λ above. (search rules, search rules, search rules, search rules, above)) looks.frame looks.counts c.in-Err-Failed.ensures.cause
     (λ failed. search rules) (λ failed. search rules)
+
+pub returns-in-Ok-clause-kept : goal.returns-in-Ok-clause-kept
+returns-in-Ok-clause-kept g c =
+    let looks = c.copy_lines.ensures.kept.stays.2 in
+    reads_counted _ _ (search rules) (λ above. (search rules, search rules, search rules, search rules, above)) looks.frame looks.counts c.in-Ok.ensures.cause
+    (λ failed. absurd (cc)) (λ failed. absurd (cc))
