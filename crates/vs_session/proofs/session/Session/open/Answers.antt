@@ -133,3 +133,6 @@ pub returns-clause-none : goal.returns-clause-none
 returns-clause-none g c =
     none_then g.H.World.tells (g.H.World.scene c.args.host.now) (g.H.World.scene c.read_text.new.host) (g.H.World.scene c.start.new.host)
     c.in_ok-opening.ensures.reading.look.none c.in_ok-text.ensures.none
+
+pub returns-in_err-text-clause-over : goal.returns-in_err-text-clause-over
+returns-in_err-text-clause-over g c = λ told. never_over _ _ (c.in_ok-opening.ensures.limits.within told)
