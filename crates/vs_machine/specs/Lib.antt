@@ -5,4 +5,5 @@ pub mod Machine
 pub mod Reply
 pub mod Answers
 pub mod Listing
+pub mod Nearby
 pub mod Saved

@@ -8,6 +8,7 @@ mod errors;
 mod info;
 mod listing;
 mod moves;
+mod nearby;
 mod reply;
 mod saved;
 mod searching;

@@ -10,12 +10,14 @@ ghost use Rattle.vs_undo.specs.declared.keep.Keep.{Keep};
 ghost use Rattle.vs_undo.specs.declared.parts.Parts.{Parts};
 ghost use Rattle.vs_machine.specs.Answers.{AnswersAs, HasShown, IsIn};
 ghost use Rattle.vs_machine.specs.Machine.{State, printing_all};
+ghost use Rattle.vs_machine.specs.Nearby.{AreOf};
 ghost use Rattle.vs_machine.specs.Shown.{shown_at, shown_by, shown_in, shown_lines};
 
 use crate::answering::{Answered, not_planned};
+use crate::nearby::Nearby;
 use crate::reply::Reply;
 use crate::show::Showing;
-use crate::shown::shown_lines;
+use crate::shown::push_lines;
 use std::alloc::Global;
 use vs_edit::{LineStore, StoreErr};
 use vs_excmd::{PlanErr, Span, shown};
@@ -32,6 +34,7 @@ struct Output {
 fn push_shown<S: LineStore>(
     alloc: Global,
     store: &mut S,
+    near: &mut Nearby,
     showing: Showing,
     line: u64,
     into: &mut Vec<u8>,
@@ -40,16 +43,17 @@ fn push_shown<S: LineStore>(
     requires form { HasCount showing.count }
     requires line { line < (S.shows store.old).present.lines }
     ensures span { IfOk result (λ span. shown_by showing (S.shows store.old).present.lines (line + 1) ≡ Ok span) }
-    ensures bytes { IfOk result (λ span. (text : List (List ℕ)) → (S.shows store.old).present.Is text
+    ensures bytes { IfOk result (λ span. (text : List (List ℕ)) → (S.shows store.old).present.Is text → AreOf text near.old
         → into.new.items ≡ into.old.items ++ file_of (shown_lines showing.numbers text span)) }
     ensures some { OnOk result (0 < length into.new.items) }
+    ensures near { (text : List (List ℕ)) → (S.shows store.old).present.Is text → AreOf text near.old → AreOf text near.new }
     ensures refused { IfErr result (IsRefused (shown_by showing (S.shows store.old).present.lines (line + 1))) }
     ensures kept { OnlyReads S.LineStore store.old store.new }
     ensures cause { StopsAtFault S.LineStore (IsErrOf result PlanErr.Failed) store.old store.new }
 {
     let span = shown(showing.range, showing.count, store.len(), line + 1)?;
-    let bytes = shown_lines(alloc, store, span, showing.numbers)?;
-    into.extend_from_slice(&bytes)?;
+    near.reach(alloc, store, span.before(), span.size())?;
+    push_lines(alloc, near, span, showing.numbers, into)?;
     Ok(span)
 }
 
@@ -71,12 +75,13 @@ fn shown_at<S: LineStore>(
     ensures kept { OnlyReads S.LineStore store.old store.new }
     ensures cause { StopsAtFault S.LineStore (IsErrOf result PlanErr.Failed) store.old store.new }
 {
+    let mut near = Nearby::new(alloc);
     let mut output = Output {
         bytes: Vec::new(alloc),
         cursor,
     };
     for line in taken {
-        let span = push_shown(alloc, store, showing, *line, &mut output.bytes)?;
+        let span = push_shown(alloc, store, &mut near, showing, *line, &mut output.bytes)?;
         output.cursor = span.last;
     }
     Ok(output)

@@ -29,7 +29,8 @@ loop-line-preserved g c =
     let is = subst (λ (n : ℕ). shown_by c.args.showing n (line + 1) ≡ Ok span) before.kept.present.lines read.span in
     record {
       shown = show-more g.S.LineStore c.args.store.now c.args.showing lines c.args.cursor c.args.taken.now c.loop-line.line-index line c.loop-line.output _ span c.loop-line-test.true refl before.shown is
-          (λ text has. read.bytes text (before.kept.present.text text has)) refl;
+          (λ text has. read.bytes text (before.kept.present.text text has) (before.near text has)) refl;
+      near = λ text has. read.near text (before.kept.present.text text has) (before.near text has);
       some = λ _. read.some;
       kept = OnlyReads-trans g.met.S.LineStore.stays_on before.kept read.kept;
       faults = read.cause.none (λ failed. absurd (cc)) ∙ before.faults;
