@@ -242,7 +242,7 @@ none_put block view bytes is places =
       view = kept_view block (headed block view) view is same;
       lines = kept_lines block (headed block view) view is same ∙ option_same (lines_in block);
       marks = kept_marks block (headed block view) view is same ∙ sym (append-nil (marks_in block));
-      free = λ some. absurd (omega arith);
+      free = (header_written block view (omega arith) (omega (arith, v.count, v.start, v.end)) (omega (arith, v.count, v.start, v.end)) (omega arith)).free;
       front = take-with_field block 4 (header_of view) 4 (omega arith) (omega arith);
       beyond = drop-with_field block 4 (header_of view) view.text_end (omega arith) (omega (arith, v.start, v.end));
     }
@@ -287,7 +287,7 @@ one_put old mid new before m bytes taken at so first here line line_is after cou
       marks = done.marks ∙ put_last (marks_in mid) m.count 0 (mid_count ∙ sym (length-map-range_with_len (λ k. mark_at mid k) 0 (count_in mid)))
           ∙ ap (λ xs. xs ++ 0 ∷ []) so.marks ∙ append_assoc (marks_in old) (replicate (length so.put) 0) (0 ∷ [])
           ∙ ap (λ xs. marks_in old ++ xs) (replicate-append-replicate (length so.put) 1 0 ∙ ap (λ n. replicate n 0) (sym (length-append so.put (line ∷ []))));
-      free = λ some. done.frame.free;
+      free = done.frame.free;
       front = done.frame.front ∙ so.front;
       beyond = done.frame.beyond ∙ ap (λ n. drop n mid) end ∙ so.beyond ∙ ap (λ n. drop n old) (sym end);
     }

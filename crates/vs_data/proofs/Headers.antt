@@ -16,7 +16,7 @@ pub record HasHeader (old new : List ℕ) (view : DataView) : Type 0 where
   pub keeps : Keeps old new 4 24
 
 -- a number that stands last in a list of bytes
-number_last : (front : List ℕ) (width value at : ℕ) → at ≡ length front → value < 256 ^ width → number_at Little width (front ++ bytes_of Little width value) at ≡ value
+pub number_last : (front : List ℕ) (width value at : ℕ) → at ≡ length front → value < 256 ^ width → number_at Little width (front ++ bytes_of Little width value) at ≡ value
 number_last front width value at place fits =
     let bytes : List ℕ = bytes_of Little width value in
     let wide : length bytes ≡ width = length-bytes_of Little width value in
@@ -24,7 +24,7 @@ number_last front width value at place fits =
     ∙ number_of-bytes_of Little width value fits
 
 -- and one that stands before others
-number_ahead : (front rest : List ℕ) (width at : ℕ) → at + width ≤ length front → number_at Little width (front ++ rest) at ≡ number_at Little width front at
+pub number_ahead : (front rest : List ℕ) (width at : ℕ) → at + width ≤ length front → number_at Little width (front ++ rest) at ≡ number_at Little width front at
 number_ahead front rest width at within = ap (number_of Little width) (field_at-append_left front rest at width within)
 
 pub length-header_of : (view : DataView) → length (header_of view) ≡ 20

@@ -13,4 +13,5 @@ pub mod Reading
 pub mod Removing
 pub mod Splitting
 pub mod Stored
+pub mod Written
 pub mod Zeros

@@ -1,6 +1,6 @@
 -- A data block: stored lines of a text. Places are bytes of the block, and lines are counted from 0.
 use Rattle.std.specs.Prelude.{◌≡◌, ◌≢◌, All, replicate, ℕ, zero, suc, ◌+◌, ◌-◌, ◌*◌, ◌/◌, ◌%◌, ◌^◌, ◌<◌, ◌≤◌, Bool, not, ◌&&◌, ◌||◌}
-use Rattle.std.specs.Prelude.{if◌then◌else◌, ◌==◌, nat_le, nat_lt, List}
+use Rattle.std.specs.Prelude.{if◌then◌else◌, ◌==◌, nat_le, nat_lt, List, bytes_eq}
 use Rattle.std.specs.Prelude.{[], ◌∷◌, ◌++◌, length, take, drop, map, slice_index, slice_range, Option, None, Some, Result, Ok, Err}
 use Rattle.std.specs.Option.{option_and_then, option_map}
 use Rattle.std.specs.Result.{result_ok}
@@ -142,6 +142,13 @@ pub record KeepsFrame (old new : List ℕ) (view : DataView) : Type 0 where
 abbrev pub id_bytes : List ℕ
 id_bytes = 0x61 ∷ 0x64 ∷ 0 ∷ 0 ∷ []
 
+-- The bytes that a reader does not go by are as they are written: the unused ones are zeros, the free space stands in the header, the text
+-- ends where the block does, and no line is marked. All bytes of a block but those between index and text follow from this and its lines.
+abbrev pub is_as_written : List ℕ → Bool
+is_as_written block =
+    bytes_eq (take 4 block) id_bytes
+    && ((free_field block == free_space (view_of block)) && ((text_end_in block == length block) && list_all (λ mark. mark == 0) (marks_in block)))
+
 -- the bytes of the header after those
 abbrev pub header_of : DataView → List ℕ
 header_of view =
@@ -179,7 +186,7 @@ pub record PutsLast (old new : List ℕ) (before after : DataView) (bytes : List
   pub view : view_in new ≡ Ok after
   pub lines : lines_in new ≡ option_map (λ lines. lines ++ put) (lines_in old)
   pub marks : marks_in new ≡ marks_in old ++ replicate (length put) 0
-  pub free : 0 < length put → free_field new ≡ free_space after
+  pub free : free_field new ≡ free_space after
   pub front : take 4 new ≡ take 4 old
   pub beyond : drop after.text_end new ≡ drop after.text_end old
 

@@ -4,3 +4,4 @@ pub mod Headers
 pub mod Reading
 pub mod Slots
 pub mod Writing
+pub mod Written

@@ -1,6 +1,7 @@
 -- What the bytes of a pointer block say. Places are counted in bytes from 0, entries from 0.
 use Rattle.std.specs.Prelude.{◌≡◌, ℕ, ◌==◌, ◌+◌, ◌*◌, Bool, ◌&&◌, nat_le, if◌then◌else◌, is_ok, unwrap_or, ℤ, ◌+ℤ◌, List, [], length, map, drop, replicate}
-use Rattle.std.specs.Prelude.{Option, Some, None, Result, Ok, Err}
+use Rattle.std.specs.Prelude.{Option, Some, None, Result, Ok, Err, ◌-◌, ◌/◌, bytes_eq}
+use Rattle.std.specs.Cmp.Lexicographic.{pointwise}
 use Rattle.std.specs.Int.{w32, w64}
 use Rattle.std.specs.Simd.{first_chunks}
 use Rattle.vs_bytes.specs.Fields.{Little, field_at, number_at, signed_at, with_signed}
@@ -70,3 +71,10 @@ entries_in block = if is_ok (view_in block) then Some (map entry_of (slots_of bl
 -- the entries of a block that reads
 abbrev pub entries_of : List ℕ → List PtrEntry
 entries_of block = unwrap_or (entries_in block) []
+
+-- The block is as it is written for these entries: the greatest count, the unused bytes, and the 32 bytes of each entry. What stands past
+-- the last entry has no meaning.
+abbrev pub is_block_of : List PtrEntry → List ℕ → Bool
+is_block_of entries block =
+    (number_at Little 2 block 4 == (length block - HEADER_LEN) / ENTRY_LEN)
+    && (bytes_eq (unused_of block) (replicate 2 0) && pointwise bytes_eq (slots_of block) (map bytes_of_entry entries))

@@ -8,7 +8,8 @@ use Rattle.vs_ptr.specs.declared.PtrView.{PtrView}
 use Rattle.vs_ptr.specs.Blocks.{view_in, entries_of, entries_in}
 use Rattle.vs_ptr.proofs.Reading.{entries_there, entries_refused}
 use Rattle.vs_tree_shape.specs.declared.entries.Entry.{Entry}
-use Rattle.vs_tree_blocks.specs.Blocks.{before, entry_with, entry_read, entries_read, may_lead, points_in}
+use Rattle.vs_tree_blocks.specs.Blocks.{before, entry_with, entry_read, entries_read, file_points, may_lead, points_in}
+use Rattle.vs_tree_blocks.proofs.EntriesLemmas.{points_own}
 use Rattle.vs_swap.specs.Entries.{pointer_with, pointer_in, pointers_in, swap_points}
 
 -- ---- blocks that read, and others
@@ -66,7 +67,10 @@ wider_option : (o : Option (List PtrEntry)) (found : List Entry) → option_and_
 wider_option None found is = absurd (cc)
 wider_option (Some es) found is = wider_entries es found is
 
+wider_taken : (bytes : List ℕ) (found : List Entry) → file_points bytes ≡ Some found → swap_points bytes ≡ Some found
+unfolding file_points swap_points
+wider_taken bytes found is = wider_option (entries_in bytes) found is
+
 -- a pointer block that the line tree takes has these entries in any swap file
 pub wider_points : (bytes : List ℕ) (found : List Entry) → points_in bytes ≡ Some found → swap_points bytes ≡ Some found
-unfolding points_in swap_points
-wider_points bytes found is = wider_option (entries_in bytes) found is
+wider_points bytes found is = wider_taken bytes found (points_own bytes found is).0

@@ -21,7 +21,7 @@ use Rattle.vs_tree_shape.specs.Trees.{read_by, Tree, IsTree, uses, entry_of, Has
 use Rattle.vs_tree_shape.specs.Depths.{AreApart, same_at_depths}
 use Rattle.vs_tree_shape.proofs.Shapes.{kept, unused}
 use Rattle.vs_tree_blocks.specs.Blocks.{tree_format, data_lines, points_in}
-use Rattle.vs_tree_blocks.proofs.DataLemmas.{only_same}
+use Rattle.vs_tree_blocks.proofs.DataLemmas.{only_same, read_own}
 use Rattle.vs_swap.specs.Entries.{swap_points}
 use Rattle.vs_swap.specs.Files.{pages_in, HoldsPages, swap_format, format_by, GivesLines, IsHead, StandsFor}
 use Rattle.vs_swap.specs.Recovery.{StandsIn, Recovered}
@@ -80,7 +80,7 @@ one_recovered swp swo a b (inr p) (inr q) = (in_once swo p.generation q.generati
 
 wider_read : (pages : ℕ) (o : Option (List ℕ)) (found : List (List ℕ)) → read_by (data_lines pages) o ≡ Some found → read_by lines.lines_in o ≡ Some found
 wider_read pages None found is = absurd (cc)
-wider_read pages (Some bytes) found is = only_same bytes pages found is
+wider_read pages (Some bytes) found is = only_same bytes pages found (read_own bytes pages found is).1
 
 wider_root : (o : Option (List ℕ)) (found : List Entry) → read_by points_in o ≡ Some found → read_by swap_points o ≡ Some found
 wider_root None found is = absurd (cc)

@@ -5,7 +5,7 @@ use Rattle.std.specs.List.{AllByRecursion}
 use Rattle.std.proofs.lemmas.Bool.Decides.{nat_tests}
 use Rattle.std.proofs.lemmas.List.{map-append}
 use Rattle.vs_pages.specs.Maps.{Map, pages_at, span}
-use Rattle.vs_data.specs.Blocks.{lines_in}
+use Rattle.vs_data.specs.Blocks.{is_as_written, lines_in}
 use Rattle.vs_tree_shape.specs.declared.entries.Entry.{Entry}
 use Rattle.vs_tree_shape.specs.Places.{lines_below}
 use Rattle.vs_tree_shape.specs.Trees.{Leaf, entry_of, leaf}
@@ -17,7 +17,7 @@ use Rattle.vs_tree_blocks.specs.Blocks.{tree_format, lines_at, may_lead, FitsFie
 use Rattle.vs_tree_blocks.specs.Cuts.{all_lines, spread}
 use Rattle.vs_tree_blocks.specs.Writes.{HasBlocks}
 use Rattle.vs_tree_blocks.proofs.CutsLemmas.{all_both, spread_last, spread_lines, spread_mid}
-use Rattle.vs_tree_blocks.proofs.DataLemmas.{entry_with, one_page, page_read, replaced_by}
+use Rattle.vs_tree_blocks.proofs.DataLemmas.{entry_with, own_page, page_read, replaced_by}
 use Rattle.vs_tree_blocks.proofs.RunsLemmas.{within_is}
 use Rattle.vs_tree_blocks.specs.Runs.{lines_within}
 
@@ -66,20 +66,20 @@ pub kept_block : (m : Map) (block pages : ℕ) (lines : List (List ℕ)) → lin
 kept_block m block pages lines reads some = record { leaves = leaf block pages lines ∷ []; entries_are = refl; replaces = kept_leaf tree_format m block pages lines reads some; blocks_are = refl }
 
 -- one part of a block in its place
-pub first_block : (m n : Map) (block : ℕ) (bytes : List ℕ) (lines : List (List ℕ)) → Stored m n block 1 bytes → lines_in bytes ≡ Some lines → HasBlocks m n (λ k. span block 1 k) (lines ∷ []) (entry_with block 1 (length lines) ∷ [])
-first_block m n block bytes lines stored reads = record {
+pub first_block : (m n : Map) (block : ℕ) (bytes : List ℕ) (lines : List (List ℕ)) → Stored m n block 1 bytes → lines_in bytes ≡ Some lines → is_as_written bytes ≡ true → HasBlocks m n (λ k. span block 1 k) (lines ∷ []) (entry_with block 1 (length lines) ∷ [])
+first_block m n block bytes lines stored reads own = record {
   leaves = leaf block 1 lines ∷ [];
   entries_are = refl;
-  replaces = put_leaf tree_format m n block 1 bytes lines stored (omega arith) (one_page bytes 1 refl ∙ reads);
+  replaces = put_leaf tree_format m n block 1 bytes lines stored (omega arith) (own_page bytes lines own reads);
   blocks_are = refl;
 }
 
 -- the other part in a new block
-pub last_block : (m n : Map) (block : ℕ) (bytes : List ℕ) (lines : List (List ℕ)) → Added m n block 1 bytes → lines_in bytes ≡ Some lines → HasBlocks m n (λ k. 0) (lines ∷ []) (entry_with block 1 (length lines) ∷ [])
-last_block m n block bytes lines added reads = record {
+pub last_block : (m n : Map) (block : ℕ) (bytes : List ℕ) (lines : List (List ℕ)) → Added m n block 1 bytes → lines_in bytes ≡ Some lines → is_as_written bytes ≡ true → HasBlocks m n (λ k. 0) (lines ∷ []) (entry_with block 1 (length lines) ∷ [])
+last_block m n block bytes lines added reads own = record {
   leaves = leaf block 1 lines ∷ [];
   entries_are = refl;
-  replaces = new_leaf tree_format m n block 1 bytes lines added (omega arith) (one_page bytes 1 refl ∙ reads);
+  replaces = new_leaf tree_format m n block 1 bytes lines added (omega arith) (own_page bytes lines own reads);
   blocks_are = refl;
 }
 
@@ -103,13 +103,13 @@ pub behind_count : (entry : Entry) (new entries : List Entry) → entries ≡ (e
 behind_count entry new entries is = (omega (arith, ap length is, length-append (entry ∷ []) new), omega (arith, ap lines_below is, below_both (entry ∷ []) new))
 
 -- runs between the two parts of a block
-pub among_written : (m n1 n2 n3 : Map) (block other : ℕ) (first second : List ℕ) (a b : List (List ℕ)) (runs : List (List (List ℕ))) (one two : Entry) (new entries : List Entry) → Stored m n1 block 1 first → lines_in first ≡ Some a → HasBlocks n1 n2 (λ k. 0) runs new
-    → Added n2 n3 other 1 second → lines_in second ≡ Some b → one ≡ entry_with block 1 (length a) → two ≡ entry_with other 1 (length b) → entries ≡ ((one ∷ []) ++ new) ++ two ∷ [] → HasBlocks m n3 (λ k. span block 1 k) (a ∷ (runs ++ b ∷ [])) entries
-among_written m n1 n2 n3 block other first second a b runs one two new entries stored reads put added reads2 one_is two_is is =
+pub among_written : (m n1 n2 n3 : Map) (block other : ℕ) (first second : List ℕ) (a b : List (List ℕ)) (runs : List (List (List ℕ))) (one two : Entry) (new entries : List Entry) → Stored m n1 block 1 first → lines_in first ≡ Some a → is_as_written first ≡ true → HasBlocks n1 n2 (λ k. 0) runs new
+    → Added n2 n3 other 1 second → lines_in second ≡ Some b → is_as_written second ≡ true → one ≡ entry_with block 1 (length a) → two ≡ entry_with other 1 (length b) → entries ≡ ((one ∷ []) ++ new) ++ two ∷ [] → HasBlocks m n3 (λ k. span block 1 k) (a ∷ (runs ++ b ∷ [])) entries
+among_written m n1 n2 n3 block other first second a b runs one two new entries stored reads own put added reads2 own2 one_is two_is is =
     let left : Entry = entry_with block 1 (length a) in
     let right : Entry = entry_with other 1 (length b) in
-    let front = blocks_behind m n1 n2 (λ k. span block 1 k) (a ∷ []) runs (left ∷ []) new (first_block m n1 block first a stored reads) put in
-    let whole = blocks_behind m n2 n3 (λ k. span block 1 k) ((a ∷ []) ++ runs) (b ∷ []) ((left ∷ []) ++ new) (right ∷ []) front (last_block n2 n3 other second b added reads2) in
+    let front = blocks_behind m n1 n2 (λ k. span block 1 k) (a ∷ []) runs (left ∷ []) new (first_block m n1 block first a stored reads own) put in
+    let whole = blocks_behind m n2 n3 (λ k. span block 1 k) ((a ∷ []) ++ runs) (b ∷ []) ((left ∷ []) ++ new) (right ∷ []) front (last_block n2 n3 other second b added reads2 own2) in
     subst (λ (es : List Entry). HasBlocks m n3 (λ k. span block 1 k) (a ∷ (runs ++ b ∷ [])) es)
     (sym (is ∙ ap (λ (e : Entry). ((e ∷ []) ++ new) ++ two ∷ []) one_is ∙ ap (λ (e : Entry). ((left ∷ []) ++ new) ++ e ∷ []) two_is)) whole
 
@@ -126,13 +126,13 @@ among_count a b runs one two new entries one_is two_is count is = (
 
 -- runs after a line of a block of one page
 
-pub page_leads : (m : Map) (entry : Entry) (bytes : List ℕ) (lines : List (List ℕ)) → entry.pages ≡ 1 → pages_at m entry.block 1 ≡ Some bytes → lines_in bytes ≡ Some lines → length lines ≡ entry.lines → LeadsToData m entry
-page_leads m entry bytes lines one loaded reads count = record { lines = lines; reads = ap (λ (p : ℕ). lines_at m entry.block p) one ∙ page_read m entry.block bytes lines loaded reads; count = count }
+pub page_leads : (m : Map) (entry : Entry) (bytes : List ℕ) (lines : List (List ℕ)) → entry.pages ≡ 1 → pages_at m entry.block 1 ≡ Some bytes → is_as_written bytes ≡ true → lines_in bytes ≡ Some lines → length lines ≡ entry.lines → LeadsToData m entry
+page_leads m entry bytes lines one loaded own reads count = record { lines = lines; reads = ap (λ (p : ℕ). lines_at m entry.block p) one ∙ page_read m entry.block bytes lines loaded own reads; count = count }
 
-pub spread_behind : (m n : Map) (entry : Entry) (at : ℕ) (bytes : List ℕ) (lines : List (List ℕ)) (runs : List (List (List ℕ))) (entries : List Entry) → entry.pages ≡ 1 → pages_at m entry.block 1 ≡ Some bytes → lines_in bytes ≡ Some lines → at ≡ length lines → 0 < length lines
+pub spread_behind : (m n : Map) (entry : Entry) (at : ℕ) (bytes : List ℕ) (lines : List (List ℕ)) (runs : List (List (List ℕ))) (entries : List Entry) → entry.pages ≡ 1 → pages_at m entry.block 1 ≡ Some bytes → is_as_written bytes ≡ true → lines_in bytes ≡ Some lines → at ≡ length lines → 0 < length lines
     → ((ls : List (List ℕ)) → lines_at m entry.block entry.pages ≡ Some ls → HasBlocks m n (λ k. span entry.block entry.pages k) (ls ∷ runs) entries) → HasBlocks m n (λ k. span entry.block 1 k) (spread lines at runs) entries
-spread_behind m n entry at bytes lines runs entries one loaded reads all some stand =
-    let there : lines_at m entry.block entry.pages ≡ Some lines = ap (λ (p : ℕ). lines_at m entry.block p) one ∙ page_read m entry.block bytes lines loaded reads in
+spread_behind m n entry at bytes lines runs entries one loaded own reads all some stand =
+    let there : lines_at m entry.block entry.pages ≡ Some lines = ap (λ (p : ℕ). lines_at m entry.block p) one ∙ page_read m entry.block bytes lines loaded own reads in
     subst (λ (p : ℕ). HasBlocks m n (λ k. span entry.block p k) (spread lines at runs) entries) one
     (subst (λ (bs : List (List (List ℕ))). HasBlocks m n (λ k. span entry.block entry.pages k) bs entries) (spread_last lines at runs all some) (stand lines there))
 

@@ -5,7 +5,7 @@ ghost use Rattle.vs_pages.specs.Calls.{Continues, StopsAtFault};
 ghost use Rattle.vs_tree_shape.specs.Places.{lines_below};
 ghost use Rattle.vs_tree_blocks.specs.Blocks.{FitsFields, LeadsToData};
 ghost use Rattle.vs_tree_blocks.specs.Cuts.{all_lines, spread};
-ghost use Rattle.vs_tree_blocks.specs.Parts.{IsBlock, page_lines, runs_around};
+ghost use Rattle.vs_tree_blocks.specs.Parts.{AreToldOwn, IsBlock, IsToldOwn, page_lines, runs_around};
 ghost use Rattle.vs_tree_blocks.specs.Writes.{AddsBlocks, HasPage, IsThere, StandsBefore, StandsIn};
 
 use crate::split::{Page, Parts, split_page};
@@ -69,6 +69,7 @@ fn put_among<P: Pages>(
     requires there { IsThere P.Pages pages.old block }
     requires first { IsBlock parts.now.first }
     requires second { IsBlock parts.now.second }
+    requires own { AreToldOwn P.Pages parts.now }
     requires few { length runs.now ≤ 126 }
     ensures wrote { IfOk result (λ entries. StandsIn P.Pages pages.old pages.new block (runs_around parts.now runs.now) entries.items) }
     ensures fields { IfOk result (λ entries. AllByRecursion FitsFields entries.items) }
@@ -102,6 +103,7 @@ pub fn put_runs<P: Pages>(
     requires single { entry.pages ≡ 1 }
     requires there { HasPage P.Pages pages.old entry.block page.bytes.items }
     requires page { IsBlock page }
+    requires own { IsToldOwn P.Pages page }
     requires count { page.view.count ≡ entry.lines }
     requires some { 0 < at }
     requires at { at ≤ page.view.count }

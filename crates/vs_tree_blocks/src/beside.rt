@@ -3,7 +3,7 @@ ghost use Rattle.std.specs.Prelude.{◌≡◌, ◌≤◌, ◌<◌, ◌^◌, ◌�
 ghost use Rattle.vs_pages.specs.Calls.{Continues, StopsAtFault};
 ghost use Rattle.vs_data.specs.Blocks.{space_of};
 ghost use Rattle.vs_tree_blocks.specs.Cuts.{parted};
-ghost use Rattle.vs_tree_blocks.specs.Parts.{IsBlock, lines_around, page_lines};
+ghost use Rattle.vs_tree_blocks.specs.Parts.{AreToldOwn, IsBlock, IsToldOwn, lines_around, page_lines};
 ghost use Rattle.vs_tree_blocks.specs.Writes.{HasPage, IsThere, Touches, Writes};
 
 use crate::split::{Page, Parts, split_page};
@@ -25,6 +25,7 @@ fn write_between<P: Pages>(
     requires there { IsThere P.Pages pages.old block }
     requires first { IsBlock parts.now.first }
     requires second { IsBlock parts.now.second }
+    requires own { AreToldOwn P.Pages parts.now }
     ensures wrote { IfOk result (λ entries. Writes P.Pages pages.old pages.new block (lines_around parts.now run.now) entries.items) }
     ensures works { OnOk result (space_of run.now ≤ 4072 → Touches P.Pages pages.old pages.new 3) }
     ensures kept { Continues P.Pages pages.old pages.new }
@@ -51,6 +52,7 @@ pub fn put_between<P: Pages>(
     requires block { block < 2 ^ 63 }
     requires there { HasPage P.Pages pages.old block page.bytes.items }
     requires page { IsBlock page }
+    requires own { IsToldOwn P.Pages page }
     requires some { 0 < page.view.count }
     requires at { at ≤ page.view.count }
     ensures wrote { IfOk result (λ entries. Writes P.Pages pages.old pages.new block (parted (page_lines page) at run.now) entries.items) }
@@ -78,6 +80,7 @@ fn put_beside<P: Pages>(
     requires block { block < 2 ^ 63 }
     requires there { HasPage P.Pages pages.old block page.now.bytes.items }
     requires page { IsBlock page.now }
+    requires own { IsToldOwn P.Pages page.now }
     requires some { 0 < page.now.view.count }
     requires at { (at ≡ 0) ⊎ (at ≡ page.now.view.count) }
     ensures wrote { IfOk result (λ entries. Writes P.Pages pages.old pages.new block (parted (page_lines page.now) at run.now) entries.items) }

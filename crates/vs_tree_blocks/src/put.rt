@@ -3,7 +3,7 @@ ghost use Rattle.std.specs.Prelude.{◌≤◌, ◌<◌, ◌-◌, ◌^◌, ◌∷
 ghost use Rattle.vs_pages.specs.Calls.{Continues, StopsAtFault};
 ghost use Rattle.vs_data.specs.Blocks.{free_space, space_of};
 ghost use Rattle.vs_tree_blocks.specs.Cuts.{blocks_with, split_with};
-ghost use Rattle.vs_tree_blocks.specs.Parts.{IsBlock, page_lines};
+ghost use Rattle.vs_tree_blocks.specs.Parts.{AreToldOwn, IsBlock, IsToldOwn, page_lines};
 ghost use Rattle.vs_tree_blocks.specs.Writes.{HasPage, IsThere, Touches, TouchesOnly, Writes};
 
 use crate::beside::put_between;
@@ -25,6 +25,7 @@ fn write_parts<P: Pages>(
     requires block { block < 2 ^ 63 }
     requires first { IsBlock parts.now.first }
     requires second { IsBlock parts.now.second }
+    requires own { AreToldOwn P.Pages parts.now }
     ensures wrote { IfOk result (λ by. Writes P.Pages pages.old pages.new block (page_lines parts.now.first ∷ page_lines parts.now.second ∷ []) by.items) }
     ensures works { OnOk result (Touches P.Pages pages.old pages.new 2) }
     ensures kept { Continues P.Pages pages.old pages.new }
@@ -48,6 +49,7 @@ pub fn write_whole<P: Pages>(
     requires there { IsThere P.Pages pages.old block }
     requires block { block < 2 ^ 63 }
     requires page { IsBlock page }
+    requires own { IsToldOwn P.Pages page }
     ensures wrote { IfOk result (λ entries. Writes P.Pages pages.old pages.new block (page_lines page ∷ []) entries.items) }
     ensures works { OnOk result (TouchesOnly P.Pages pages.old pages.new 1) }
     ensures single { IfOk result (λ entries. length entries.items ≤ 1) }
@@ -73,6 +75,7 @@ fn put_split<P: Pages>(
     requires block { block < 2 ^ 63 }
     requires there { HasPage P.Pages pages.old block page.bytes.items }
     requires page { IsBlock page }
+    requires own { IsToldOwn P.Pages page }
     requires some { 0 < page.view.count }
     requires at { at ≤ page.view.count }
     requires full { free_space page.view < space_of run.now }
@@ -102,6 +105,7 @@ pub fn put_run<P: Pages>(
     requires block { block < 2 ^ 63 }
     requires there { HasPage P.Pages pages.old block page.bytes.items }
     requires page { IsBlock page }
+    requires own { IsToldOwn P.Pages page }
     requires some { 0 < page.view.count }
     requires at { at ≤ page.view.count }
     ensures wrote { IfOk result

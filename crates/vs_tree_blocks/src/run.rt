@@ -1,12 +1,12 @@
 // Lines that are put in together.
 ghost use Rattle.std.specs.Prelude.{◌≡◌, ◌≤◌, ◌<◌, ◌+◌, ◌*◌, ◌/◌, ◌^◌, ◌↔◌, ◌++◌, ◌∷◌, [], Some, Ok, IsErrOf, IfOk, OnOk};
-ghost use Rattle.std.specs.Prelude.{ℕ, List, IsTrue, length, false};
+ghost use Rattle.std.specs.Prelude.{ℕ, List, IsTrue, length, true, false};
 ghost use Rattle.vs_pages.specs.Calls.{Continues, StopsAtFault};
-ghost use Rattle.vs_data.specs.Blocks.{lines_in, free_space, space_of};
+ghost use Rattle.vs_data.specs.Blocks.{is_as_written, lines_in, free_space, space_of};
 ghost use Rattle.vs_tree_shape.specs.Changes.{splice};
 ghost use Rattle.vs_tree_blocks.specs.Blocks.{FitsFields};
 ghost use Rattle.vs_tree_blocks.specs.Edits.{IsStored};
-ghost use Rattle.vs_tree_blocks.specs.Parts.{IsBlock, IsPage, page_lines};
+ghost use Rattle.vs_tree_blocks.specs.Parts.{IsBlock, IsOwn, IsPage, page_lines};
 ghost use Rattle.vs_tree_blocks.specs.Runs.{IsFirstRun, IsRun, lines_within, pages_of};
 ghost use Rattle.vs_tree_blocks.specs.Writes.{AddsBlock, Touches};
 
@@ -130,6 +130,7 @@ impl Run {
     pub fn bytes(&self) -> &[u8]
         ensures lines { lines_in result.now ≡ Some self.now }
         ensures size { length result.now ≡ 4096 * pages_of self.now }
+        ensures own { is_as_written result.now ≡ true }
     {
         &self.bytes
     }
@@ -156,7 +157,8 @@ impl Run {
         requires page { IsBlock page }
         requires at { at ≤ page.view.count }
         requires fits { space_of self.now ≤ free_space page.view }
-        ensures { IsPage (splice (page_lines page) at 0 self.now) page.view.text_end result }
+        ensures page { IsPage (splice (page_lines page) at 0 self.now) page.view.text_end result }
+        ensures own { IsOwn page → IsOwn result }
     {
         let mut now = page;
         now.view

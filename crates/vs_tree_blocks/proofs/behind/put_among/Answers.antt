@@ -22,9 +22,9 @@ returns-clause-wrote g c = λ told-pages.
     c.in_ok-push.ensures.items ∙ ap (λ (xs : List Entry). xs ++ c.entry-two.result ∷ [])
     (c.in_ok-extend_from_slice.ensures.items ∙ ap (λ (xs : List Entry). xs ++ c.deref-3.result.now) c.in_ok-entries.ensures.items ∙ ap (λ (xs : List Entry). (c.entry-one.result ∷ []) ++ xs) c.deref-3.ensures.value) in
     among_written _ _ _ _ c.args.block c.in_ok-other.other p.first.bytes.items p.second.bytes.items (page_lines p.first) (page_lines p.second) c.args.runs.now c.entry-one.result c.entry-two.result new _
-    (stored_as _ _ _ _ _ (c.in_ok-touch.ensures.ok told-pages) c.deref.ensures.value c.requires.first.size) a.lines_are
+    (stored_as _ _ _ _ _ (c.in_ok-touch.ensures.ok told-pages) c.deref.ensures.value c.requires.first.size) a.lines_are (c.requires.own told-pages).0
     (c.in_ok-new.ensures.added told-pages)
-    (added_as _ _ _ _ _ _ (c.in_ok-other.ensures.added told-pages) c.deref-2.ensures.value) b.lines_are one two all
+    (added_as _ _ _ _ _ _ (c.in_ok-other.ensures.added told-pages) c.deref-2.ensures.value) b.lines_are (c.requires.own told-pages).1 one two all
 
 pub returns-clause-fields : goal.returns-clause-fields
 returns-clause-fields g c =

@@ -18,14 +18,14 @@ pub put_behind-requires-clause-there : goal.put_behind-requires-clause-there
 put_behind-requires-clause-there g c = λ told-pages.
     let bytes = c.args.page.bytes.items in
     let t = told bytes c.args.page.view c.requires.page.view_is in
-    page_leads _ c.args.entry bytes (lines_within bytes) c.requires.single (c.requires.there told-pages) t.lines_are (t.count ∙ c.requires.count)
+    page_leads _ c.args.entry bytes (lines_within bytes) c.requires.single (c.requires.there told-pages) (c.requires.own told-pages) t.lines_are (t.count ∙ c.requires.count)
 
 pub returns-then-at-page-clause-wrote : goal.returns-then-at-page-clause-wrote
 returns-then-at-page-clause-wrote g c = if_ok_weaker c.put_behind.result _ _
     (λ (entries : Vec Entry Global) wrote told-pages.
     let bytes = c.args.page.bytes.items in
     let t = told bytes c.args.page.view c.requires.page.view_is in
-    spread_behind _ _ c.args.entry c.args.at bytes (lines_within bytes) c.args.runs.now entries.items c.requires.single (c.requires.there told-pages) t.lines_are (omega (arith, t.count, c.if-at-page.true)) (omega (arith, t.count, c.requires.some, c.requires.at)) (wrote told-pages))
+    spread_behind _ _ c.args.entry c.args.at bytes (lines_within bytes) c.args.runs.now entries.items c.requires.single (c.requires.there told-pages) (c.requires.own told-pages) t.lines_are (omega (arith, t.count, c.if-at-page.true)) (omega (arith, t.count, c.requires.some, c.requires.at)) (wrote told-pages))
     c.put_behind.ensures.wrote
 
 pub put_among-requires-clause-first : goal.put_among-requires-clause-first
@@ -53,3 +53,6 @@ returns-clause-lines g c = if_ok_weaker c.put_among.result _ _
     around_is lines (page_lines c.in_ok-parts.parts.first) (page_lines c.in_ok-parts.parts.second) c.args.at c.args.runs.now c.requires.some (omega (arith, t.count, c.requires.at, c.if-at-page.false)) c.in_ok-parts.ensures.first.lines_are c.in_ok-parts.ensures.second.lines_are in
     omega (arith, count, ap (λ (bs : List (List (List ℕ))). length (all_lines bs)) is, spread_count lines c.args.at c.args.runs.now (omega (arith, t.count, c.requires.at)), t.count, c.requires.count))
     c.put_among.ensures.lines
+
+pub put_among-requires-clause-own : goal.put_among-requires-clause-own
+put_among-requires-clause-own g c = λ told-pages. c.in_ok-parts.ensures.own (c.requires.own told-pages)

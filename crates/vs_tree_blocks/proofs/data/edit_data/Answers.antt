@@ -19,7 +19,7 @@ use Rattle.vs_tree_blocks.proofs.Outcomes.{if_ok_weaker, if_ok_both}
 use Rattle.vs_tree_blocks.proofs.EditedLemmas.{none_taken, takes_some, removed, too_long}
 use Rattle.vs_text.specs.Text.{bytes_of}
 use Rattle.vs_pages.specs.Maps.{span}
-use Rattle.vs_tree_blocks.proofs.DataLemmas.{count_is, at_alone, promise_page, promise_long}
+use Rattle.vs_tree_blocks.proofs.DataLemmas.{count_is, at_alone, own_loaded, promise_page, promise_long}
 use Rattle.vs_tree_shape.proofs.Walks.{above_lines}
 use Rattle.vs_tree_blocks.proofs.LoadLemmas.{alone_pages}
 use Rattle.vs_tree_shape.proofs.Working.{works_beside, works_most, works_from, works_still}
@@ -281,3 +281,20 @@ returns-in_ok-entries-in-After-clause-only g c = λ told out. absurd (omega (ari
 
 pub returns-in_ok-entries-in-Behind-clause-only : goal.returns-in_ok-entries-in-Behind-clause-only
 returns-in_ok-entries-in-Behind-clause-only g c = λ told out. absurd (omega (arith, out, ap most_entries c.in-Behind.is))
+
+-- the block was as it is written
+pub put_run-requires-clause-own : goal.put_run-requires-clause-own
+put_run-requires-clause-own g c = λ told.
+    own_loaded _ c.load_data.new.bytes.items c.args.entry.pages _ (c.in_ok-view.ensures.loaded told) (above_lines tree_format _ c.args.entry c.args.at (c.requires.there told)).0
+
+pub put_run-requires-in-After-clause-own : goal.put_run-requires-in-After-clause-own
+put_run-requires-in-After-clause-own g c = λ told.
+    own_loaded _ c.load_data.new.bytes.items c.args.entry.pages _ (c.in_ok-view.ensures.loaded told) (above_lines tree_format _ c.args.entry c.args.at (c.requires.there told)).0
+
+pub put_runs-requires-clause-own : goal.put_runs-requires-clause-own
+put_runs-requires-clause-own g c = λ told.
+    own_loaded _ c.load_data.new.bytes.items c.args.entry.pages _ (c.in_ok-view.ensures.loaded told) (above_lines tree_format _ c.args.entry c.args.at (c.requires.there told)).0
+
+pub remove_lines-requires-clause-own : goal.remove_lines-requires-clause-own
+remove_lines-requires-clause-own g c = λ told.
+    own_loaded _ c.load_data.new.bytes.items c.args.entry.pages _ (c.in_ok-view.ensures.loaded told) (above_lines tree_format _ c.args.entry c.args.at (c.requires.there told)).0

@@ -18,8 +18,8 @@ returns-clause-wrote g c =
     let two : c.entry-two.result ≡ entry_with c.in_ok-other.other 1 (length (page_lines p.second)) = c.entry-two.ensures ∙ ap (λ (n : ℕ). entry_with c.in_ok-other.other 1 n) (sym b.count) in
     written_parts _ _ _ _ c.args.block c.in_ok-other.other p.first.bytes.items p.second.bytes.items (page_lines p.first) (page_lines p.second) _ c.requires.block (omega (arith, c.in_ok-other.ensures.bound))
     (page_small _ _ c.requires.first.view_is c.requires.first.size) (page_small _ _ c.requires.second.view_is c.requires.second.size)
-    (λ told-pages. stored_as _ _ _ _ _ (c.in_ok-touch.ensures.ok told-pages) c.deref.ensures.value c.requires.first.size) a.lines_are
-    (λ told-pages. added_as _ _ _ _ _ _ (c.in_ok-other.ensures.added told-pages) c.deref-2.ensures.value) b.lines_are
+    (λ told-pages. stored_as _ _ _ _ _ (c.in_ok-touch.ensures.ok told-pages) c.deref.ensures.value c.requires.first.size) a.lines_are (λ told-pages. (c.requires.own told-pages).0)
+    (λ told-pages. added_as _ _ _ _ _ _ (c.in_ok-other.ensures.added told-pages) c.deref-2.ensures.value) b.lines_are (λ told-pages. (c.requires.own told-pages).1)
     (c.in_ok-vec.ensures.items ∙ ap (λ (e : Entry). e ∷ c.entry-two.result ∷ []) one ∙ ap (λ (e : Entry). entry_with c.args.block 1 (length (page_lines p.first)) ∷ e ∷ []) two)
 
 pub returns-clause-works : goal.returns-clause-works
