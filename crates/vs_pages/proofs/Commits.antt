@@ -4,7 +4,7 @@ use Rattle.std.proofs.lemmas.Bool.Decides.{nat_tests}
 use Rattle.vs_pages.specs.State.{AreMade, Commits, one_more}
 use Rattle.vs_pages.specs.Table.{last_in}
 
-pub made_none : AreMade (record { count = 0; last = last_in [] })
+pub made_none : AreMade (record { count = 1; last = last_in [] })
 made_none small k = omega arith
 
 pub made_as : (old new : Commits) → new ≡ old → AreMade old → AreMade new

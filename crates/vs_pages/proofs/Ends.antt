@@ -24,14 +24,20 @@ not_none (Some page) gone there = absurd (cc)
 
 -- ---- the number after the last page
 
+pub end_from : (m : Map) (end : ℕ) → ((k : ℕ) → end ≤ k → m k ≡ None) → (0 < end → IsSome (m (end - 1))) → IsEnd m end
+unfolding IsEnd
+end_from m end past last = (past, last)
+
 pub end_within : (places : List (Option Page)) (end : ℕ) → IsEnd (map_of places) end → end ≤ length places
+unfolding IsEnd
 end_within places end is = elim (cases_lt (length places) end) [
-  | inl lt ↦ absurd (omega (arith, lt, map_of-within places (end - 1) (is.last (omega (arith, lt)))))
+  | inl lt ↦ absurd (omega (arith, lt, map_of-within places (end - 1) (is.1 (omega (arith, lt)))))
   | inr le ↦ le
 ]
 
 pub before_end : (m : Map) (end k : ℕ) → IsEnd m end → IsSome (m k) → k < end
-before_end m end k is there = elim (cases_lt k end) [ inl lt ↦ lt | inr past ↦ absurd (not_none (m k) (is.past k past) there) ]
+unfolding IsEnd
+before_end m end k is there = elim (cases_lt k end) [ inl lt ↦ lt | inr past ↦ absurd (not_none (m k) (is.0 k past) there) ]
 
 pub end_as : (m next : Map) (end : ℕ) → next ≡ m → IsEnd m end → IsEnd next end
 end_as m next end is ends = subst (λ (o : Map). IsEnd o end) (sym is) ends
@@ -48,18 +54,19 @@ still_there m next at from bytes is k = elim (cases_eq k at) [
 ]
 
 pub end_patched : (m next : Map) (end at from : ℕ) (bytes : List ℕ) → next ≡ put m at (patched (m at) from bytes) → IsEnd m end → IsEnd next end
-end_patched m next end at from bytes is ends = record {
-  past = λ k past. none_of (next k) (still_there m next at from bytes is k ∙ ap (λ o. is_some o) (ends.past k past));
-  last = λ some. still_there m next at from bytes is (end - 1) ∙ ends.last some;
-}
+unfolding IsEnd
+end_patched m next end at from bytes is ends =
+    (λ k past. none_of (next k) (still_there m next at from bytes is k ∙ ap (λ o. is_some o) (ends.0 k past)), λ some. still_there m next at from bytes is (end - 1) ∙ ends.1 some)
 
 -- nothing comes past the end and the places that were put
 pub past_put : (m next : Map) (end most at : ℕ) (ps : List (Option Page)) → next ≡ put_places m at ps → IsEnd m end → end ≤ most → at + length ps ≤ most → (k : ℕ) → most ≤ k → next k ≡ None
+unfolding IsEnd
 past_put m next end most at ps is ends old new k past =
-    ap (λ (o : Map). o k) is ∙ put_places-other m at ps k (inr (omega (arith, new, past))) ∙ ends.past k (omega (arith, old, past))
+    ap (λ (o : Map). o k) is ∙ put_places-other m at ps k (inr (omega (arith, new, past))) ∙ ends.0 k (omega (arith, old, past))
 
 pub end_none : (places : List (Option Page)) → places ≡ [] → IsEnd (map_of places) 0
-end_none places is = subst (λ (ps : List (Option Page)). IsEnd (map_of ps) 0) (sym is) (record { past = λ k past. refl; last = λ some. absurd (omega (arith, some)) })
+unfolding IsEnd
+end_none places is = subst (λ (ps : List (Option Page)). IsEnd (map_of ps) 0) (sym is) ((λ k past. refl), (λ some. absurd (omega (arith, some))))
 
 -- neighbouring pages begin before the end
 pub begins_before : (kept : Map) (end at n : ℕ) → IsEnd kept end → IsSome (pages_at (seen kept) at n) → 0 < n → at ≤ end
@@ -99,6 +106,7 @@ gaps_as m next cs is each = subst (λ (o : Map). EachHasNoGap o cs) (sym is) eac
 
 -- neighbouring places, which begin at the end at the latest
 pub near_places : (was now : Map) (end at n : ℕ) (ps : List (Option Page)) → n ≡ length ps → now ≡ put_places was at ps → IsEnd was end → (0 < length ps → at ≤ end) → IsNear was now (numbers at n)
+unfolding IsEnd
 near_places was now end at n ps size is ends near k j le there free none =
     let same : (j < at) ⊎ (at + length ps ≤ j) → ⊥ = λ out. none j le (subst (λ o. IsSome o) (ap (λ (o : Map). o j) is ∙ put_places-other was at ps j out) there) in
     elim (cases_lt j at) [
@@ -108,7 +116,7 @@ near_places was now end at n ps size is ends near k j le there free none =
         | inl lt ↦ elim (cases_lt k at) [
           | inl before ↦
               let some : 0 < end = omega (arith, before, near (omega (arith, from, lt))) in
-              none (end - 1) (omega (arith, before, near (omega (arith, from, lt)))) (ends.last some)
+              none (end - 1) (omega (arith, before, near (omega (arith, from, lt)))) (ends.1 some)
           | inr inside ↦ omega (arith, free, total_numbers at n k, span-within at n k inside (omega (arith, le, lt, size)))
         ]
       ]
@@ -120,7 +128,8 @@ near_patch was now at from bytes worked is k j le there free none = none j le (s
 
 -- no page comes after the last one
 pub end_vacant : (places : List (Option Page)) (end n : ℕ) → IsEnd (map_of places) end → IsVacant (seen (map_of places)) end n
+unfolding IsEnd
 end_vacant places end n ends k = elim (cases_lt k end) [
   | inl lt ↦ omega (arith, span-below end n k lt)
-  | inr past ↦ omega (arith, span-most end n k, ap (λ o. lacks o) (ends.past k past), lacks-seen (map_of places k))
+  | inr past ↦ omega (arith, span-most end n k, ap (λ o. lacks o) (ends.0 k past), lacks-seen (map_of places k))
 ]

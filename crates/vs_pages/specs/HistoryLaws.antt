@@ -8,7 +8,7 @@ use Rattle.std.proofs.lemmas.Bool.Decides.{nat_tests}
 use mathlib.Core.HLevel.{×_prop, Unit-prop}
 use Rattle.vs_bytes.specs.Fields.{with_field}
 use Rattle.vs_bytes.proofs.FieldLaws.{length-with_field}
-use Rattle.vs_pages.specs.Maps.{Map, put, patched, zeros}
+use Rattle.vs_pages.specs.Maps.{Map, put, patched, zeros, IsEnd}
 use Rattle.vs_pages.specs.State.{AreMade}
 use Rattle.vs_pages.specs.Table.{bytes_of, map_of, shown}
 use Rattle.vs_pages.specs.History.{AreSteps, EachHasNoGap, HaveNoGaps, first_of, places_before, put_places, undone, CanUndo, CanUndoAll}
@@ -34,6 +34,10 @@ EachHasNoGap-prop m (c ∷ cs) = ×_prop (hlevel props) (EachHasNoGap-prop (undo
 
 pub HaveNoGaps-prop : (places : List (Option Page)) (log : List Change) → IsProp (HaveNoGaps places log)
 HaveNoGaps-prop places log = EachHasNoGap-prop (map_of places) (reverse log)
+
+pub IsEnd-prop : (m : Map) (end : ℕ) → IsProp (IsEnd m end)
+unfolding IsEnd
+IsEnd-prop m end = hlevel props
 
 pub AreMade-prop : (count : ℕ) (last : ℕ → ℕ) → IsProp (AreMade (record { count = count; last = last }))
 AreMade-prop count last = hlevel props

@@ -1,9 +1,9 @@
 // Pages in memory.
-ghost use Rattle.std.specs.Prelude.{◌≡◌, ◌+◌, ◌-◌, ◌^◌, ◌<◌, ◌≤◌, [], ◌∷◌, ℕ, Some, None, IfOk, OnOk, OnErr, IsSome, IfSome, IsTrue, IsSomeAnd, ◌↔◌, if◌then◌else◌, false, drop, length, reverse, vec_len};
+ghost use Rattle.std.specs.Prelude.{◌≡◌, ◌+◌, ◌-◌, ◌^◌, ◌<◌, ◌≤◌, [], ℕ, Some, None, IfOk, OnOk, OnErr, IsSome, IfSome, IsTrue, IsSomeAnd, ◌↔◌, if◌then◌else◌, false, drop, length, vec_len};
 ghost use Rattle.vs_pages.specs.Maps.{numbers, patched, pages_at, put, first_pages, IsEnd, IsVacant};
 ghost use Rattle.vs_pages.specs.Table.{last_in, map_of};
 ghost use Rattle.vs_pages.specs.History.{AreSteps, HaveNoGaps, put_places};
-ghost use Rattle.vs_pages.specs.HistoryLaws.{AreMade-prop, AreSteps-prop, HaveNoGaps-prop};
+ghost use Rattle.vs_pages.specs.HistoryLaws.{AreMade-prop, AreSteps-prop, HaveNoGaps-prop, IsEnd-prop};
 ghost use Rattle.vs_pages.specs.State.{AreMade};
 
 mod store;
@@ -33,12 +33,13 @@ pub struct MemPages {
     used: u64,
     // The commit that last changed each place. No rollback shortens it.
     last: Vec<u64>,
-    // How many commits there were.
+    // The number of the next commit. The first one, of the pages that are there at first, has the number 1.
     commits: u64,
     ghost undo: { AreSteps table.places.items log.items } by { AreSteps-prop table.places.items log.items },
     ghost counted: { length table.places.items ≤ vec_len last },
-    ghost ends: { IsEnd (map_of table.places.items) used },
+    ghost ends: { IsEnd (map_of table.places.items) used } by { IsEnd-prop (map_of table.places.items) used },
     ghost no_gaps: { HaveNoGaps table.places.items log.items } by { HaveNoGaps-prop table.places.items log.items },
+    ghost begun: { 1 ≤ commits },
     ghost made: { AreMade (record { count = commits; last = last_in last.items }) } by { AreMade-prop commits (last_in last.items) },
 }
 
@@ -57,13 +58,14 @@ impl Drop for MemPages {
 }
 
 impl MemPages {
-    ghost use Rattle.vs_pages.specs.State.{history_of, moment_of, one_more};
-    ghost use Rattle.vs_pages.specs.Memory.{present_of, committed_of, commits_of, changes_of, kept_of, state_of, IsOne, IsSame, KeepsSince};
+    ghost use Rattle.vs_pages.specs.State.{history_of, one_more};
+    ghost use Rattle.vs_pages.specs.Memory.{present_of, committed_of, commits_of, kept_of, state_of, IsOne, IsSame};
 
     /// A store with the pages 0, 1 and 2, as zeros, which are committed.
     pub fn new(alloc: Global) -> Result<MemPages, AllocError>
         ensures present { IfOk result (λ pages. present_of pages ≡ first_pages) }
         ensures committed { IfOk result (λ pages. committed_of pages ≡ first_pages) }
+        ensures commits { IfOk result (λ pages. 1 ≤ (commits_of pages).count) }
     {
         let mut pages = MemPages {
             table: Table::new(alloc),
@@ -71,7 +73,7 @@ impl MemPages {
             vacant: Vacant::new(alloc),
             used: 0,
             last: Vec::new(alloc),
-            commits: 0,
+            commits: 1,
         };
         let first = places_of(alloc, 3, true)?;
         pages.change(0, first)?;
@@ -176,14 +178,14 @@ impl MemPages {
         self.commits = self.commits.saturating_add(1);
     }
 
-    /// How many commits there were so far.
+    /// The number of the next commit. Commits are counted from 1.
     pub fn commits(&self) -> u64
         ensures { result ≡ (commits_of self.now).count }
     {
         self.commits
     }
 
-    /// The commit that last changed this page, or 0 where there was no such page yet. Commits are counted from 0.
+    /// The commit that last changed this page, or 0 where there was no such page yet. Commits are counted from 1.
     pub fn last_commit(&self, at: u64) -> u64
         ensures { result ≡ (commits_of self.now).last at }
     {

@@ -22,22 +22,22 @@ fn notes_what_a_commit_changed(rt: HostRuntime) -> Result<(), Fail> {
     let mut store = MemPages::new(alloc)?;
     fill_page(&mut store, alloc, 1, 9)?;
     store.commit();
-    assert!(rt; last_commits(&store) == [0, 1, 0, 0, 0]);
+    assert!(rt; last_commits(&store) == [1, 2, 1, 0, 0]);
     store.grow(alloc, 2)?;
     fill_page(&mut store, alloc, 2, 8)?;
     store.rollback();
     store.commit();
-    assert!(rt; last_commits(&store) == [0, 1, 0, 0, 0]);
+    assert!(rt; last_commits(&store) == [1, 2, 1, 0, 0]);
     store.grow(alloc, 1)?;
     fill_page(&mut store, alloc, 1, 8)?;
     store.commit();
-    assert!(rt; last_commits(&store) == [0, 3, 0, 3, 0]);
+    assert!(rt; last_commits(&store) == [1, 4, 1, 4, 0]);
     if store.has(3, 1) {
         store.free(alloc, 3, 1)?;
     }
     store.commit();
-    assert!(rt; last_commits(&store) == [0, 3, 0, 4, 0]);
-    assert!(rt; store.commits() == 5);
+    assert!(rt; last_commits(&store) == [1, 4, 1, 5, 0]);
+    assert!(rt; store.commits() == 6);
     Ok(())
 }
 

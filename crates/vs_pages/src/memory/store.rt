@@ -1,9 +1,8 @@
 // Pages in memory as a store of pages.
-ghost use Rattle.std.specs.Prelude.{◌≡◌, ◌+◌, ◌-◌, ◌*◌, ◌^◌, ◌≤◌, [], true, Some, IfOk, OnOk, OnErr, IsErrOf, IfSome, IsSome, drop, length, option_map};
+ghost use Rattle.std.specs.Prelude.{◌≡◌, ◌*◌, true, Some, OnOk, IsErrOf, IfSome, IsSome, length, option_map};
 ghost use Rattle.vs_faults.specs.OneCause.{HasOneCause};
-ghost use Rattle.vs_pages.specs.Maps.{numbers, patched, pages_at, put, put_pages, without, zeros, IsVacant};
-ghost use Rattle.vs_pages.specs.State.{IsChange, IsStill, history_of, one_more};
-ghost use Rattle.vs_pages.specs.Memory.{present_of, committed_of, commits_of, state_of, GoesOn, KeepsSince, OnlyRead};
+ghost use Rattle.vs_pages.specs.Maps.{pages_at};
+ghost use Rattle.vs_pages.specs.Memory.{present_of, state_of, KeepsSince, OnlyRead};
 ghost use Rattle.vs_pages.specs.MemoryLaws.{are_present, are_committed, keeps_none, keeps_then};
 
 use super::MemPages;

@@ -5,8 +5,15 @@ use Rattle.vs_pages.specs.History.{first_of}
 use Rattle.vs_pages.specs.Memory.{kept_of}
 use Rattle.vs_pages.specs.declared.page.Page.{Page}
 use Rattle.vs_pages.specs.declared.change.Change.{Change}
+use Rattle.vs_pages.proofs.Ends.{end_none}
 use Rattle.vs_pages.proofs.Places.{seen_zeros}
 use Rattle.vs_pages.proofs.memory.MemPages.new.Goals as goal
+
+pub invariant_of-pages-clause-ends : goal.invariant_of-pages-clause-ends
+invariant_of-pages-clause-ends c = end_none c.new.result.places.items c.new.ensures
+
+pub invariant_of-pages-2-clause-ends : goal.invariant_of-pages-2-clause-ends
+invariant_of-pages-2-clause-ends c = end_none c.new.result.places.items c.new.ensures
 
 pub returns-clause-present : goal.returns-clause-present
 returns-clause-present c =

@@ -7,6 +7,9 @@ use Rattle.vs_pages.proofs.Ends.{end_patched, gaps_rest}
 use Rattle.vs_pages.proofs.Undos.{reverse_last}
 use Rattle.vs_pages.proofs.memory.MemPages.undo.Goals as goal
 
+pub invariant_of-self-clause-ends : goal.invariant_of-self-clause-ends
+invariant_of-self-clause-ends c = c.undo_run-self.ensures.used
+
 pub invariant_of-self-in-Some-Patch-clause-ends : goal.invariant_of-self-in-Some-Patch-clause-ends
 invariant_of-self-in-Some-Patch-clause-ends c =
     end_patched (kept_of c.args.self.now) _ _ c.in-Some-Patch.patch.at c.in-Some-Patch.patch.from c.deref.result.now c.patch.ensures.map c.args.self.now.ends
