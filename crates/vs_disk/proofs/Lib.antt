@@ -5,5 +5,6 @@ pub mod Runs
 pub mod Quiet
 pub mod Steps
 pub mod Others
+pub mod Modes
 pub mod Parts
 pub mod Contents

@@ -1,16 +1,16 @@
 -- What calls on names outside of a set leave of the names inside: no file of theirs is reached, so each state of theirs is one from before.
-use Rattle.std.proofs.Common.{◌≡◌, ◌≢◌, inl, inr, ℕ, zero, suc, Bool, true, false, cond, List, Option, Some, None, refl, sym, ◌∙◌, ap, subst}
+use Rattle.std.proofs.Common.{◌≡◌, ◌≢◌, inl, inr, ℕ, zero, suc, nat_eq, Bool, true, false, cond, List, Option, Some, None, refl, sym, ◌∙◌, ap, subst}
 use Rattle.std.specs.Str.{bytes_eq}
 use Rattle.std.proofs.lemmas.Slice.Eq.{bytes_eq-Decides}
-use Rattle.std.proofs.lemmas.Bool.{cases_Bool, cond-true, cond-false, true≢false}
+use Rattle.std.proofs.lemmas.Bool.{cases_Bool, cond-true, cond-false, eqb-true, true≢false}
 use Rattle.vs_host.specs.File.{File, IsFileImage}
-use Rattle.vs_host.specs.Disk.{Disk, Name, Directory, Change, Creates, Renames, Removes, changed_names, names_of, names_at, IsImageOf, ChangesFile, ChangesNames, CreatesFile, SyncsNames}
+use Rattle.vs_host.specs.Disk.{Disk, Mode, Name, Directory, Change, Creates, Renames, Removes, changed_names, names_of, names_at, IsImageOf, ChangesFile, ChangesNames, CreatesFile, SyncsNames, like, modes_like}
 use Rattle.vs_disk.specs.Names.{IsImageAt, SameAt, IsApart, Undivided}
 use Rattle.vs_disk.proofs.Steps.{at_name, same_at, older_names, newest_names, settled}
 use Rattle.vs_disk.proofs.Hands.{Stays, stays_renamed, stays_removed, hands_file, hands_names, hands_created, hands_synced}
 
 pub same_none : (inside : Name → Bool) (disk : Disk) → SameAt inside disk disk
-same_none inside disk = record { now = λ name is. refl; back = λ lost. (lost, λ name is. refl); files = λ lost name number is leads. refl; hands = λ part undivided apart. apart }
+same_none inside disk = record { now = λ name is. refl; back = λ lost. (lost, λ name is. refl); files = λ lost name number is leads. refl; modes = λ lost name number is leads. refl; hands = λ part undivided apart. apart }
 
 pub same_then : (inside : Name → Bool) (old mid new : Disk) → SameAt inside old mid → SameAt inside mid new → SameAt inside old new
 same_then inside old mid new first second = record {
@@ -19,6 +19,9 @@ same_then inside old mid new first second = record {
   files = λ lost name number is leads.
       let at = second.back lost in
       second.files lost name number is leads ∙ first.files at.0 name number is (sym (at.1 name is) ∙ leads);
+  modes = λ lost name number is leads.
+      let at = second.back lost in
+      second.modes lost name number is leads ∙ first.modes at.0 name number is (sym (at.1 name is) ∙ leads);
   hands = λ part undivided apart. second.hands part undivided (first.hands part undivided apart);
 }
 
@@ -43,10 +46,29 @@ file_outside inside other step old new out apart changes =
         now = λ name is. at 0 name;
         back = λ lost. (lost, λ name is. at lost name);
         files = λ lost name number is leads. changes.others number (λ there. apart.alone lost name other number is out (sym (at lost name) ∙ leads) there);
+        modes = λ lost name number is leads. ap (λ (f : ℕ → Mode). f number) changes.modes;
         hands = λ part undivided. hands_file other step old new changes part;
       },
       record { alone = λ lost name some number is not leads there. apart.alone lost name some number is not (sym (at lost name) ∙ leads) (sym (at 0 some) ∙ there) },
     )
+
+-- a file of a name outside that takes the mode of another one
+pub mode_others : (model at : Option ℕ) (modes : ℕ → Mode) (number : ℕ) → at ≢ Some number → modes_like model at modes number ≡ modes number
+mode_others None at modes number other = refl
+mode_others (Some model) None modes number other = refl
+mode_others (Some model) (Some at) modes number other = elim (cases_Bool (nat_eq number at)) [
+  | inl same ↦ absurd (other (ap (λ (n : ℕ). Some n) (sym (eqb-true number at same))))
+  | inr differ ↦ cond-false (nat_eq number at) (modes model) (modes number) differ
+]
+
+pub like_outside : (inside : Name → Bool) (model other : Name) (old : Disk) → inside other ≡ false → IsApart inside old → SameAt inside old (like model other old)
+like_outside inside model other old out apart = record {
+  now = λ name is. refl;
+  back = λ lost. (lost, λ name is. refl);
+  files = λ lost name number is leads. refl;
+  modes = λ lost name number is leads. mode_others (names_of old model) (names_of old other) old.modes number (apart.alone lost name other number is out leads);
+  hands = λ part undivided apart. record { alone = apart.alone };
+}
 
 pub apart_text : (inside : Name → Bool) (a b : Name) → inside a ≡ false → inside b ≡ true → bytes_eq a b ≡ false
 apart_text inside a b out is = elim (cases_Bool (bytes_eq a b)) [
@@ -106,6 +128,7 @@ module _ (inside : Name → Bool) (change : Change) (old new : Disk) (out : IsOu
       now = λ name is. now_at name ∙ out.leaves (names_of old) name is;
       back = was;
       files = λ lost name number is leads. ap (λ (f : ℕ → File). f number) changes.files;
+      modes = λ lost name number is leads. ap (λ (f : ℕ → Mode). f number) changes.modes;
       hands = λ part undivided. hands_names part change old new (out.stays part undivided) changes;
     },
     record {
@@ -147,7 +170,13 @@ module _ (inside : Name → Bool) (made : Name) (old new : Disk) (out : inside m
 
   pub create_outside : SameAt inside old new × IsApart inside new
   create_outside = (
-    record { now = left; back = were; files = λ lost name number is leads. creates.others number (not_made lost name number is leads); hands = λ part undivided. hands_created part made old new creates },
+    record {
+      now = left;
+      back = were;
+      files = λ lost name number is leads. creates.others number (not_made lost name number is leads);
+      modes = λ lost name number is leads. creates.modes number (not_made lost name number is leads);
+      hands = λ part undivided. hands_created part made old new creates;
+    },
     record {
       alone = λ lost name other number is not leads there.
           let at = were lost in
@@ -162,6 +191,7 @@ sync_outside inside old new apart syncs = (
     now = λ name is. settled old new syncs 0 name;
     back = λ lost. (0, λ name is. settled old new syncs lost name);
     files = λ lost name number is leads. ap (λ (f : ℕ → File). f number) syncs.files;
+    modes = λ lost name number is leads. ap (λ (f : ℕ → Mode). f number) syncs.modes;
     hands = λ part undivided. hands_synced part old new syncs;
   },
   record {

@@ -55,7 +55,7 @@ gone_for_good one old mid new removes syncs lost =
 
 -- ---- steps of one file
 pub same_file : (name : Name) (step : File → File → Type 0) → ((a : File) → step a a) → (old : Disk) → ChangesFile name step old old
-same_file name step same old = record { synced = refl; pending = refl; others = λ number other. refl; this = λ number is. same (old.files number) }
+same_file name step same old = record { synced = refl; pending = refl; modes = refl; others = λ number other. refl; this = λ number is. same (old.files number) }
 
 pub file_then : (name : Name) (S T U : File → File → Type 0) → ((a b c : File) → S a b → T b c → U a c) → (old mid new : Disk) → ChangesFile name S old mid → ChangesFile name T mid new → ChangesFile name U old new
 file_then name S T U joins old mid new first second =
@@ -63,6 +63,7 @@ file_then name S T U joins old mid new first second =
     record {
       synced = second.synced ∙ first.synced;
       pending = second.pending ∙ first.pending;
+      modes = second.modes ∙ first.modes;
       others = λ number other. second.others number (λ is. other (sym now ∙ is)) ∙ first.others number other;
       this = λ number is. joins (old.files number) (mid.files number) (new.files number) (first.this number is) (second.this number (now ∙ is));
     }
@@ -71,6 +72,7 @@ pub file_as : (name : Name) (S T : File → File → Type 0) → ((a b : File) �
 file_as name S T leads old new changes = record {
   synced = changes.synced;
   pending = changes.pending;
+  modes = changes.modes;
   others = changes.others;
   this = λ number is. leads (old.files number) (new.files number) (changes.this number is);
 }

@@ -16,12 +16,13 @@ pub record IsApart (inside : Name → Bool) (disk : Disk) : Type 0 where
 abbrev pub Undivided : (Name → Bool) → (Name → Bool) → Type 0
 Undivided inside part = (a b : Name) → inside a ≡ false → inside b ≡ false → part a ≡ part b
 
--- The names of this set are read as before, and a stop leaves under them together only what it left before. No file was handed to a
+-- The names of this set are read as before, and a stop leaves under them together only what it left before, with the same modes. No file was handed to a
 -- name on another side of a set that does not divide the names outside.
 pub record SameAt (inside : Name → Bool) (old new : Disk) : Type 0 where
   pub now : (name : Name) → inside name ≡ true → names_of new name ≡ names_of old name
   pub back : (lost : ℕ) → (l : ℕ) × ((name : Name) → inside name ≡ true → names_at new lost name ≡ names_at old l name)
   pub files : (lost : ℕ) (name : Name) (number : ℕ) → inside name ≡ true → names_at new lost name ≡ Some number → new.files number ≡ old.files number
+  pub modes : (lost : ℕ) (name : Name) (number : ℕ) → inside name ≡ true → names_at new lost name ≡ Some number → new.modes number ≡ old.modes number
   pub hands : (part : Name → Bool) → Undivided inside part → IsApart part old → IsApart part new
 
 -- the name change concerns a name of the set
@@ -34,6 +35,7 @@ concerns inside (Removes name) = inside name
 abbrev pub part_of : (Name → Bool) → Disk → Disk
 part_of inside disk = record {
   files = disk.files;
+  modes = disk.modes;
   made = disk.made;
   synced = λ name. if inside name then disk.synced name else None;
   pending = filter (concerns inside) disk.pending;

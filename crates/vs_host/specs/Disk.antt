@@ -1,5 +1,5 @@
--- A folder on a disk: files by number, the names as last synced, and the name changes since.
-use Rattle.std.specs.Prelude.{◌≡◌, ◌≢◌, ℕ, List, [], ◌∷◌, drop, Some, None, if◌then◌else◌}
+-- A folder on a disk: files and their modes by number, the names as last synced, and the name changes since.
+use Rattle.std.specs.Prelude.{◌≡◌, ◌≢◌, ◌⊎◌, ℕ, nat_eq, List, [], ◌∷◌, drop, Some, None, option_map, if◌then◌else◌}
 use Rattle.std.specs.declared.option.Option.{Option}
 use Rattle.std.specs.Str.{bytes_eq}
 use Rattle.vs_host.specs.File.{File, IsFileImage, synced_file}
@@ -27,10 +27,19 @@ abbrev pub after_changes : List Change → Directory → Directory
 after_changes [] names = names
 after_changes (change ∷ changes) names = changed_names change (after_changes changes names)
 
+-- the mode bits of a file: who may read it, and who may write it
+abbrev pub Mode : Type 0
+Mode = ℕ
+
+-- the mode of a file that only its owner may read and write: 600 in octal
+abbrev pub owner_mode : Mode
+owner_mode = 384
+
 -- `pending` has the name changes since the names were last synced, the newest first. `made` is the host's own: the number that
 -- it gives to the next file.
 pub record Disk : Type 0 where
   pub files : ℕ → File
+  pub modes : ℕ → Mode
   pub made : ℕ
   pub synced : Directory
   pub pending : List Change
@@ -52,6 +61,23 @@ read_under disk (Some number) = Some (disk.files number).bytes
 abbrev pub content_in : Disk → Name → Option (List ℕ)
 content_in disk name = read_under disk (names_of disk name)
 
+-- the mode of the file under a name
+abbrev pub mode_in : Disk → Name → Option Mode
+mode_in disk name = option_map disk.modes (names_of disk name)
+
+-- the modes after the file of the second number took the mode of that of the first
+abbrev pub modes_like : Option ℕ → Option ℕ → (ℕ → Mode) → ℕ → Mode
+modes_like (Some model) (Some number) modes = λ other. if nat_eq other number then modes model else modes other
+modes_like model number modes = modes
+
+-- the folder after a file took the mode of another one
+abbrev pub like : Name → Name → Disk → Disk
+like model name disk = record disk { modes = modes_like (names_of disk model) (names_of disk name) disk.modes }
+
+-- the folder is as it was, but that the file may have taken the mode of the model
+abbrev pub MayBeLike : Name → Name → Disk → Disk → Type 0
+MayBeLike model name old new = (new ≡ old) ⊎ (new ≡ like model name old)
+
 -- what a stop may leave under a name that leads to this file, or to none
 abbrev pub IsImageOf : Disk → Option ℕ → Option (List ℕ) → Type 0
 IsImageOf disk None found = found ≡ None
@@ -65,6 +91,7 @@ IsImage disk image = (lost : ℕ) × ((name : Name) → IsImageOf disk (names_at
 pub record ChangesFile (name : Name) (step : File → File → Type 0) (old new : Disk) : Type 0 where
   pub synced : new.synced ≡ old.synced
   pub pending : new.pending ≡ old.pending
+  pub modes : new.modes ≡ old.modes
   pub others : (number : ℕ) → names_of old name ≢ Some number → new.files number ≡ old.files number
   pub this : (number : ℕ) → names_of old name ≡ Some number → step (old.files number) (new.files number)
 
@@ -73,6 +100,7 @@ pub record ChangesNames (change : Change) (old new : Disk) : Type 0 where
   pub synced : new.synced ≡ old.synced
   pub pending : new.pending ≡ change ∷ old.pending
   pub files : new.files ≡ old.files
+  pub modes : new.modes ≡ old.modes
 
 -- A call makes an empty file of this name, under a number to which no name led.
 pub record CreatesFile (name : Name) (old new : Disk) : Type 0 where
@@ -82,12 +110,14 @@ pub record CreatesFile (name : Name) (old new : Disk) : Type 0 where
   pub pending : new.pending ≡ Creates name number ∷ old.pending
   pub empty : new.files number ≡ synced_file []
   pub others : (other : ℕ) → other ≢ number → new.files other ≡ old.files other
+  pub modes : (other : ℕ) → other ≢ number → new.modes other ≡ old.modes other
 
 -- A call makes all name changes lasting, and leaves all files.
 pub record SyncsNames (old new : Disk) : Type 0 where
   pub synced : new.synced ≡ names_of old
   pub pending : new.pending ≡ []
   pub files : new.files ≡ old.files
+  pub modes : new.modes ≡ old.modes
 
 -- In no state of the names that a stop may leave do two names lead to one file.
 pub record IsFolder (disk : Disk) : Type 0 where

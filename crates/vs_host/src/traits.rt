@@ -1,8 +1,8 @@
 // What the editing core asks of the outside.
-ghost use Rattle.std.specs.Prelude.{◌≡◌, ◌≢◌, ◌<◌, ◌≤◌, ◌+◌, ◌^◌, ◌++◌, ◌∷◌, [], ℕ, Bool, length, take, drop, IfSome, IfOk, OnOk, OnErr, IsErr, IsTrue, is_ok, is_some, IsSome, IsSomeAnd, None};
+ghost use Rattle.std.specs.Prelude.{◌≡◌, ◌≢◌, ◌<◌, ◌≤◌, ◌+◌, ◌^◌, ◌++◌, ◌∷◌, [], ℕ, Bool, length, take, drop, IfSome, IfOk, OnOk, OnErr, IsErr, IsTrue, is_ok, is_some, IsSome, IsSomeAnd, None, Some};
 ghost use Rattle.vs_faults.specs.Faults.{HasRisen, HasCause};
 ghost use Rattle.vs_host.specs.File.{Writes, WritesSome, Cuts, Syncs};
-ghost use Rattle.vs_host.specs.Disk.{ChangesFile, ChangesNames, CreatesFile, SyncsNames, IsFolder, Renames, Removes};
+ghost use Rattle.vs_host.specs.Disk.{ChangesFile, ChangesNames, CreatesFile, SyncsNames, IsFolder, MayBeLike, Renames, Removes, like, mode_in, owner_mode};
 ghost use Rattle.vs_host.specs.Trace.{ReadScript, WroteOutput, Looked, Created, Measured, Read, Wrote, Cut, Synced, Renamed, Removed, SyncedNames};
 ghost use Rattle.vs_host.specs.World.{Tells, Scene, HasNewest, content_of, IsTold, CountsFault, ChangesScript, ChangesOutput, ChangesClock, ReadsFolder, ChangesFolder};
 
@@ -18,8 +18,8 @@ pub trait World {
     ghost tells: { Tells };
     /// The outside now. Its counts of faults are always told.
     ghost scene: { Self → Scene };
-    /// What the hosts of this type say of each of their calls but `now` and `take_mode`, from the host before to the host after,
-    /// and whether the call succeeded.
+    /// What the hosts of this type say of each of their calls but `now`, from the host before to the host after, and whether the
+    /// call succeeded.
     ghost plays: { Self → Self → Bool → Type 0 };
     /// In no state of the names that a stop may leave do two names lead to one file.
     ghost is_folder: { (host : Self) → IsTrue tells.folder → IsFolder (scene host).folder };
@@ -92,17 +92,13 @@ pub trait Folder: World {
     fn create_private(&mut self, name: &str) -> Result<(), Failed>
         requires { IsTrue (Self.tells).folder → content_of (Self.scene self.old) name.now ≡ None }
         ensures ok { OnOk result (IsTrue (Self.tells).folder → CreatesFile name.now (Self.scene self.old).folder (Self.scene self.new).folder) }
+        ensures mode { OnOk result (IsTrue (Self.tells).folder → mode_in (Self.scene self.new).folder name.now ≡ Some owner_mode) }
         ensures err { OnErr result ((Self.scene self.new).folder ≡ (Self.scene self.old).folder) }
         ensures cause { HasCause (Self.scene self.old).folder_faults (Self.scene self.new).folder_faults (IsErr result) }
         ensures quiet { OnOk result ((Self.scene self.new).folder_faults ≡ (Self.scene self.old).folder_faults) }
         ensures told { IsTrue (Self.tells).folder → IsTold Created (name.now ∷ []) result (Self.scene self.old) (Self.scene self.new) }
         ensures plays { Self.plays self.old self.new (is_ok result) }
         ensures frame { ChangesFolder (Self.scene self.old) (Self.scene self.new) };
-
-    /// Gives the file `to` the mode bits of the file `from`, where the system has them and allows it. Nothing that is told has
-    /// them, so it counts as no call.
-    fn take_mode(&mut self, from: &str, to: &str)
-        ensures { Self.scene self.new ≡ Self.scene self.old };
 
     /// The number of bytes of the file.
     fn len(&mut self, name: &str) -> Result<u64, Failed>
@@ -156,6 +152,20 @@ pub trait Folder: World {
         requires { IsTrue (Self.tells).folder → IsSome (content_of (Self.scene self.old) name.now) }
         ensures ok { OnOk result (IsTrue (Self.tells).folder → ChangesFile name.now Syncs (Self.scene self.old).folder (Self.scene self.new).folder) }
         ensures err { OnErr result ((Self.scene self.new).folder ≡ (Self.scene self.old).folder) }
+        ensures cause { HasCause (Self.scene self.old).folder_faults (Self.scene self.new).folder_faults (IsErr result) }
+        ensures quiet { OnOk result ((Self.scene self.new).folder_faults ≡ (Self.scene self.old).folder_faults) }
+        ensures told { IsTrue (Self.tells).folder → IsTold Synced (name.now ∷ []) result (Self.scene self.old) (Self.scene self.new) }
+        ensures plays { Self.plays self.old self.new (is_ok result) }
+        ensures frame { ChangesFolder (Self.scene self.old) (Self.scene self.new) };
+
+    /// Gives the file the mode bits of the model, if that is there, and syncs it. A stop during the call may leave either mode.
+    ///
+    /// A host gives no more rights than the model has, and fewer where the system does not allow to give all of them.
+    fn sync_like(&mut self, model: &str, name: &str) -> Result<(), Failed>
+        requires { IsTrue (Self.tells).folder → IsSome (content_of (Self.scene self.old) name.now) }
+        ensures ok { OnOk result (IsTrue (Self.tells).folder →
+            ChangesFile name.now Syncs (like model.now name.now (Self.scene self.old).folder) (Self.scene self.new).folder) }
+        ensures err { OnErr result (MayBeLike model.now name.now (Self.scene self.old).folder (Self.scene self.new).folder) }
         ensures cause { HasCause (Self.scene self.old).folder_faults (Self.scene self.new).folder_faults (IsErr result) }
         ensures quiet { OnOk result ((Self.scene self.new).folder_faults ≡ (Self.scene self.old).folder_faults) }
         ensures told { IsTrue (Self.tells).folder → IsTold Synced (name.now ∷ []) result (Self.scene self.old) (Self.scene self.new) }

@@ -278,11 +278,6 @@ impl Folder for RealHost {
         self.folder_answer(answer)
     }
 
-    // A file whose rights cannot be set is still a file, so that is no fault.
-    fn take_mode(&mut self, from: &str, to: &str) {
-        let _ = self.copy_rights(from, to);
-    }
-
     fn len(&mut self, name: &str) -> Result<u64, Failed> {
         let answer = size_of(&self.rt, name);
         self.folder_answer(answer)
@@ -304,6 +299,13 @@ impl Folder for RealHost {
     }
 
     fn sync(&mut self, name: &str) -> Result<(), Failed> {
+        let answer = self.sync_written(name);
+        self.folder_answer(answer)
+    }
+
+    // A file whose rights cannot be set is still a file, so that is no fault.
+    fn sync_like(&mut self, model: &str, name: &str) -> Result<(), Failed> {
+        let _ = self.copy_rights(model, name);
         let answer = self.sync_written(name);
         self.folder_answer(answer)
     }

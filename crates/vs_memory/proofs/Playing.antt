@@ -7,9 +7,9 @@ use Rattle.std.specs.declared.alloc.AllocError.{AllocError}
 use Rattle.std.proofs.lemmas.Bool.{cond-true, cond-false}
 use Rattle.std.proofs.lemmas.Bool.Decides.{nat_tests}
 use Rattle.vs_host.specs.File.{File, Writes, WritesSome, Cuts, Syncs, written, cut_to, synced_file}
-use Rattle.vs_host.specs.Disk.{Disk, Name, names_of, read_under, content_in, ChangesFile}
+use Rattle.vs_host.specs.Disk.{Disk, Name, names_of, read_under, content_in, ChangesFile, MayBeLike, like}
 use Rattle.vs_memory.specs.declared.log.Call.{Call}
-use Rattle.vs_memory.specs.declared.log.Call.TheVariants.{Sync, Cut, WriteAt}
+use Rattle.vs_memory.specs.declared.log.Call.TheVariants.{Sync, SyncLike, Cut, WriteAt}
 use Rattle.vs_memory.specs.Memory.{Memory, recorded, counted, folder_of}
 use Rattle.vs_memory.specs.Folders.{on_number, on_file}
 use Rattle.vs_memory.specs.Replay.{played}
@@ -26,12 +26,14 @@ on_at : (name : Name) (change : File → File) (step : File → File → Type 0)
 on_at name change step disk makes None leads = record {
   synced = refl;
   pending = refl;
+  modes = refl;
   others = λ number not. refl;
   this = λ number is. let clash : None ≡ Some number = sym leads ∙ is in absurd (cc clash);
 }
 on_at name change step disk makes (Some k) leads = record {
   synced = refl;
   pending = refl;
+  modes = refl;
   others = λ number not. cond-false (nat_eq number k) (change (disk.files number)) (disk.files number) (eqb_not number k (λ same. not (leads ∙ ap (λ (n : ℕ). Some n) (sym same))));
   this = λ number is.
       let same : number ≡ k = sym (some_same k number (sym leads ∙ is)) in
@@ -58,6 +60,7 @@ pub writes_some : (name : Name) (at : ℕ) (piece : List ℕ) (old new : Disk) �
 writes_some name at piece old new within changes = record {
   synced = changes.synced;
   pending = changes.pending;
+  modes = changes.modes;
   others = changes.others;
   this = λ number is.
       inr (piece, written_at old at number (subst (λ (o : Option ℕ). IsSomeAnd (read_under old o) (λ bytes. at ≤ length bytes)) is within), omega arith, changes.this number is);
@@ -67,6 +70,7 @@ pub writes_none : (name : Name) (at n : ℕ) (old new : Disk) → new ≡ old �
 writes_none name at n old new same = subst (λ (d : Disk). ChangesFile name (WritesSome at n) old d) (sym same) (record {
   synced = refl;
   pending = refl;
+  modes = refl;
   others = λ number not. refl;
   this = λ number is. inl refl;
 })
@@ -83,6 +87,23 @@ pub sync_called : (old new : Memory) (name : Name) (call : Result Call AllocErro
 sync_called old new name call made is =
     played_as old new call (λ x. (n : String Global) × (string_bytes n ≡ name) × (x ≡ Sync n)) (ChangesFile name Syncs) made
     (λ x m. named name m.0 x (Sync m.0) (λ file. synced_file file.bytes) Syncs (folder_of old) (λ a. refl) m.1 m.2 refl) is
+
+-- the same with the mode of another file
+liked : (model name : Name) (m n : String Global) (call : Call) (disk : Disk) → string_bytes m ≡ model → string_bytes n ≡ name → call ≡ SyncLike m n
+    → ChangesFile name Syncs (like model name disk) (played call disk)
+liked model name m n call disk model_is name_is same =
+    subst (λ (c : Call). ChangesFile name Syncs (like model name disk) (played c disk)) (sym same)
+    (subst (λ (a : Name). ChangesFile name Syncs (like a name disk) (played (SyncLike m n) disk)) model_is
+    (subst (λ (b : Name). ChangesFile b Syncs (like (string_bytes m) b disk) (played (SyncLike m n) disk)) name_is
+    (file_called (string_bytes n) (λ file. synced_file file.bytes) Syncs (like (string_bytes m) (string_bytes n) disk) (λ a. refl))))
+
+pub sync_like_called : (old new : Memory) (model name : Name) (call : Result Call AllocError)
+    → IfOk call (λ x. (m : String Global) × (n : String Global) × (string_bytes m ≡ model) × (string_bytes n ≡ name) × (x ≡ SyncLike m n))
+    → ((c : Call) × (call ≡ Ok c) × (new ≡ recorded c true (counted old))) → ChangesFile name Syncs (like model name (folder_of old)) (folder_of new)
+sync_like_called old new model name call made is =
+    played_as old new call (λ x. (m : String Global) × (n : String Global) × (string_bytes m ≡ model) × (string_bytes n ≡ name) × (x ≡ SyncLike m n))
+    (λ before after. ChangesFile name Syncs (like model name before) after) made
+    (λ x m. liked model name m.0 m.1 x (folder_of old) m.2 m.3 m.4) is
 
 pub cut_called : (old new : Memory) (name : Name) (len : ℕ) (call : Result Call AllocError) → IfOk call (λ x. (n : String Global) × (string_bytes n ≡ name) × (x ≡ Cut n len))
     → ((c : Call) × (call ≡ Ok c) × (new ≡ recorded c true (counted old))) → ChangesFile name (Cuts len) (folder_of old) (folder_of new)

@@ -4,7 +4,7 @@ use Rattle.std.specs.Prelude.{IfSome, string_bytes}
 use Rattle.std.proofs.lemmas.Bool.{cases_Bool, cond-true, cond-false}
 use Rattle.std.proofs.lemmas.Bool.Decides.{nat_tests}
 use Rattle.vs_host.specs.File.{File, IsFileImage, written, cut_to, synced_file}
-use Rattle.vs_host.specs.Disk.{Disk, Name, names_of, read_under, content_in}
+use Rattle.vs_host.specs.Disk.{Disk, Name, like, names_of, read_under, content_in}
 use Rattle.vs_disk.proofs.Images.{read_image, image_kept, image_cut}
 use Rattle.vs_memory.specs.declared.log.Call.{Call}
 use Rattle.vs_memory.specs.Folders.{on_number}
@@ -42,7 +42,7 @@ pub played_synced : (call : Call) (disk : Disk) → CanPlay call disk → AreSyn
 played_synced Call.Read disk can all = all
 played_synced (Call.Write piece) disk can all = all
 played_synced (Call.Has name) disk can all = all
-played_synced (Call.Create name) disk can all = more disk.files disk.made [] all
+played_synced (Call.Create name mode) disk can all = more disk.files disk.made [] all
 played_synced (Call.Len name) disk can all = all
 played_synced (Call.ReadAt name) disk can all = all
 played_synced (Call.WriteAt name at piece) disk can all =
@@ -53,6 +53,9 @@ played_synced (Call.Cut name len) disk can all =
     (λ n leads. image_cut (disk.files n) len (disk.files n).synced (within disk (string_bytes name) len n can leads) (all n)) all
 played_synced (Call.Sync name) disk can all =
     on_at (names_of disk (string_bytes name)) (λ file. synced_file file.bytes) disk (λ n leads. synced_is (disk.files n).bytes) all
+played_synced (Call.SyncLike model name) disk can all =
+    on_at (names_of disk (string_bytes name)) (λ file. synced_file file.bytes) (like (string_bytes model) (string_bytes name) disk)
+    (λ n leads. synced_is (disk.files n).bytes) all
 played_synced (Call.Rename from to) disk can all = all
 played_synced (Call.Remove name) disk can all = all
 played_synced Call.SyncNames disk can all = all

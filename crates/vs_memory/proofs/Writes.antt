@@ -21,12 +21,13 @@ same_write : (name : List ℕ) (call : Call) → is_write name call ≡ is_write
 same_write name Call.Read = refl
 same_write name (Call.Write piece) = refl
 same_write name (Call.Has other) = refl
-same_write name (Call.Create other) = refl
+same_write name (Call.Create other mode) = refl
 same_write name (Call.Len other) = refl
 same_write name (Call.ReadAt other) = refl
 same_write name (Call.WriteAt other at piece) = refl
 same_write name (Call.Cut other len) = refl
 same_write name (Call.Sync other) = refl
+same_write name (Call.SyncLike model other) = refl
 same_write name (Call.Rename from to) = refl
 same_write name (Call.Remove other) = refl
 same_write name Call.SyncNames = refl

@@ -3,7 +3,7 @@ use Rattle.std.specs.Prelude.{◌≤◌, ◌+◌, nat_eq, nat_lt, IsTrue, Bool, 
 use Rattle.std.specs.Prelude.{get_or, Some, None, All, string_bytes}
 use Rattle.std.specs.declared.option.Option.{Option}
 use Rattle.vs_host.specs.File.{File, synced_file}
-use Rattle.vs_host.specs.Disk.{Disk, Name, Directory, Creates, Renames, Removes, after_changes, names_of}
+use Rattle.vs_host.specs.Disk.{Disk, Name, Directory, Mode, Creates, Renames, Removes, after_changes, names_of, owner_mode}
 use Rattle.vs_host.specs.Disk as Disks
 use Rattle.vs_memory.specs.declared.names.NameChange.{NameChange}
 use Rattle.vs_memory.specs.declared.names.NameChange.TheVariants.{Create, Rename, Remove}
@@ -47,10 +47,15 @@ file_of file = record {
 abbrev pub file_at : List MemFile → ℕ → File
 file_at files number = get_or (map file_of files) number (synced_file [])
 
+-- the mode of the file of a number
+abbrev pub mode_at : List MemFile → ℕ → Mode
+mode_at files number = get_or (map (λ (file : MemFile). file.mode) files) number owner_mode
+
 -- the folder with these name changes, the oldest first, the newest `pending` of which are not synced, and these files
 abbrev pub disk_of : List NameChange → ℕ → List MemFile → Disk
 disk_of changes pending files = record {
   files = λ number. file_at files number;
+  modes = λ number. mode_at files number;
   made = length files;
   synced = after_changes (drop pending (map change_of (reverse changes))) no_names;
   pending = take pending (map change_of (reverse changes));
@@ -61,6 +66,7 @@ abbrev pub on_number : Option ℕ → (File → File) → Disk → Disk
 on_number None change disk = disk
 on_number (Some number) change disk = record {
   files = λ other. if nat_eq other number then change (disk.files other) else disk.files other;
+  modes = disk.modes;
   made = disk.made;
   synced = disk.synced;
   pending = disk.pending;
@@ -70,10 +76,11 @@ on_number (Some number) change disk = record {
 abbrev pub on_file : Name → (File → File) → Disk → Disk
 on_file name change disk = on_number (names_of disk name) change disk
 
--- one file more, under a name
-abbrev pub with_file : Name → Disk → Disk
-with_file name disk = record {
+-- one file more, of a mode, under a name
+abbrev pub with_file : Name → Mode → Disk → Disk
+with_file name mode disk = record {
   files = λ other. if nat_eq other disk.made then synced_file [] else disk.files other;
+  modes = λ other. if nat_eq other disk.made then mode else disk.modes other;
   made = disk.made + 1;
   synced = disk.synced;
   pending = Creates name disk.made ∷ disk.pending;
@@ -81,11 +88,11 @@ with_file name disk = record {
 
 -- one name change more
 abbrev pub with_change : Disks.Change → Disk → Disk
-with_change change disk = record { files = disk.files; made = disk.made; synced = disk.synced; pending = change ∷ disk.pending }
+with_change change disk = record disk { pending = change ∷ disk.pending }
 
 -- all name changes synced
 abbrev pub with_names : Disk → Disk
-with_names disk = record { files = disk.files; made = disk.made; synced = names_of disk; pending = [] }
+with_names disk = record disk { synced = names_of disk; pending = [] }
 
 -- a file that is given a name is one of those that were made
 abbrev pub is_below : ℕ → NameChange → Bool

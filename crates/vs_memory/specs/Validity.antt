@@ -6,7 +6,7 @@ use Rattle.std.proofs.lemmas.Bool.{cases_Bool, cond-true, cond-false, false≢tr
 use Rattle.std.proofs.lemmas.Slice.Eq.{bytes_eq-Decides}
 use Rattle.std.specs.Prelude.{string_bytes}
 use Rattle.vs_host.specs.File.{File, written, cut_to, synced_file}
-use Rattle.vs_host.specs.Disk.{Disk, Name, Directory, Change, Creates, Renames, Removes, changed_names, after_changes, names_of, names_at, IsFolder}
+use Rattle.vs_host.specs.Disk.{Disk, Name, Directory, Mode, like, Change, Creates, Renames, Removes, changed_names, after_changes, names_of, names_at, IsFolder}
 use Rattle.vs_memory.specs.declared.log.Call.{Call}
 use Rattle.vs_memory.specs.declared.log.Entry.{Entry}
 use Rattle.vs_memory.specs.Folders.{no_names, on_number, with_file, with_change, with_names}
@@ -110,9 +110,9 @@ valid_removed name names made valid = record {
       | inr old ↦ old.1
     ]
 
-file_valid : (name : Name) (disk : Disk) → IsValid disk → IsValid (with_file name disk)
-file_valid name disk valid zero = valid_created name (names_of disk) disk.made (valid 0)
-file_valid name disk valid (suc lost) = valid_more (names_at disk lost) disk.made (disk.made + 1) (omega arith) (valid lost)
+file_valid : (name : Name) (mode : Mode) (disk : Disk) → IsValid disk → IsValid (with_file name mode disk)
+file_valid name mode disk valid zero = valid_created name (names_of disk) disk.made (valid 0)
+file_valid name mode disk valid (suc lost) = valid_more (names_at disk lost) disk.made (disk.made + 1) (omega arith) (valid lost)
 
 change_valid : (change : Change) (disk : Disk) → AreValid (changed_names change (names_of disk)) disk.made → IsValid disk → IsValid (with_change change disk)
 change_valid change disk now valid zero = now
@@ -133,12 +133,14 @@ played_valid : (call : Call) (disk : Disk) → IsValid disk → IsValid (played 
 played_valid Call.Read disk valid = valid
 played_valid (Call.Write piece) disk valid = valid
 played_valid (Call.Has name) disk valid = valid
-played_valid (Call.Create name) disk valid = file_valid (string_bytes name) disk valid
+played_valid (Call.Create name mode) disk valid = file_valid (string_bytes name) mode disk valid
 played_valid (Call.Len name) disk valid = valid
 played_valid (Call.ReadAt name) disk valid = valid
 played_valid (Call.WriteAt name at piece) disk valid = number_valid (names_of disk (string_bytes name)) (written at piece.items) disk valid
 played_valid (Call.Cut name len) disk valid = number_valid (names_of disk (string_bytes name)) (cut_to len) disk valid
 played_valid (Call.Sync name) disk valid = number_valid (names_of disk (string_bytes name)) (λ file. synced_file file.bytes) disk valid
+played_valid (Call.SyncLike model name) disk valid = number_valid (names_of disk (string_bytes name)) (λ file. synced_file file.bytes)
+    (like (string_bytes model) (string_bytes name) disk) valid
 played_valid (Call.Rename from to) disk valid = change_valid (Renames (string_bytes from) (string_bytes to)) disk
     (valid_renamed (string_bytes from) (string_bytes to) (names_of disk) disk.made (valid 0)) valid
 played_valid (Call.Remove name) disk valid = change_valid (Removes (string_bytes name)) disk

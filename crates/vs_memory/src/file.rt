@@ -5,6 +5,12 @@ ghost use Rattle.vs_memory.specs.Folders.{file_of};
 
 use std::alloc::{AllocError, Global};
 
+// All may read the file, and its owner may write it.
+pub const USUAL_MODE: u32 = 0o644;
+
+// The owner alone may.
+pub const OWNER_MODE: u32 = 0o600;
+
 /// A range of bytes that changed, and what was there before. Past the file's end there was nothing.
 #[derive(Drop)]
 pub struct Changed {
@@ -13,19 +19,22 @@ pub struct Changed {
     pub before: Vec<u8>,
 }
 
-/// The bytes of a file, and what was done to it since its last sync, the oldest first.
+/// The mode of a file and its bytes, and what was done to these since its last sync, the oldest first.
 #[derive(Drop)]
 pub struct MemFile {
+    pub mode: u32,
     pub bytes: Vec<u8>,
     pub changed: Vec<Changed>,
     pub least: usize,
     pub greatest: usize,
 }
 
-pub fn empty(alloc: Global) -> MemFile
-    ensures { file_of result ≡ synced_file [] }
+pub fn empty(alloc: Global, mode: u32) -> MemFile
+    ensures file { file_of result ≡ synced_file [] }
+    ensures mode { result.mode ≡ mode }
 {
     MemFile {
+        mode,
         bytes: Vec::new(alloc),
         changed: Vec::new(alloc),
         least: 0,
@@ -34,11 +43,13 @@ pub fn empty(alloc: Global) -> MemFile
 }
 
 /// A file that has these bytes since its last sync.
-pub fn of_bytes(alloc: Global, bytes: Vec<u8>) -> MemFile
-    ensures { file_of result ≡ synced_file bytes.items }
+pub fn of_bytes(alloc: Global, mode: u32, bytes: Vec<u8>) -> MemFile
+    ensures file { file_of result ≡ synced_file bytes.items }
+    ensures mode { result.mode ≡ mode }
 {
     let size = bytes.len();
     MemFile {
+        mode,
         bytes,
         changed: Vec::new(alloc),
         least: size,
@@ -74,6 +85,7 @@ impl MemFile {
         requires { at ≤ length self.old.bytes.items }
         ensures ok { OnOk result (Writes at piece.now (file_of self.old) (file_of self.new)) }
         ensures err { OnErr result (file_of self.new ≡ file_of self.old) }
+        ensures mode { self.new.mode ≡ self.old.mode }
     {
         let size = self.bytes.len();
         let range = changed_at(alloc, &self.bytes, at, piece.len())?;
@@ -92,6 +104,7 @@ impl MemFile {
         requires { len ≤ length self.old.bytes.items }
         ensures ok { OnOk result (Cuts len (file_of self.old) (file_of self.new)) }
         ensures err { OnErr result (file_of self.new ≡ file_of self.old) }
+        ensures mode { self.new.mode ≡ self.old.mode }
     {
         let size = self.bytes.len();
         let range = changed_at(alloc, &self.bytes, len, size - len)?;
@@ -104,7 +117,8 @@ impl MemFile {
 
     /// Syncs the file.
     pub fn sync(&mut self)
-        ensures { Syncs (file_of self.old) (file_of self.new) }
+        ensures file { Syncs (file_of self.old) (file_of self.new) }
+        ensures mode { self.new.mode ≡ self.old.mode }
     {
         self.changed.clear();
         self.least = self.bytes.len();

@@ -1,12 +1,12 @@
 // Calls on a folder in memory.
 ghost use Rattle.std.specs.Prelude.{◌≡◌, ◌<◌, ◌≤◌, ◌∷◌, length, OnOk, OnErr, IfSome, is_some, MatchOption, None, Some};
 ghost use Rattle.vs_host.specs.File.{written, cut_to, synced_file};
-ghost use Rattle.vs_host.specs.Disk.{content_in, names_of, Renames, Removes};
+ghost use Rattle.vs_host.specs.Disk.{content_in, mode_in, names_of, like, Renames, Removes};
 ghost use Rattle.vs_memory.specs.Folders.{IsBelow, on_file, with_file, with_change, with_names, change_of};
 ghost use Rattle.vs_memory.specs.Replay.{with_put};
 ghost use Rattle.vs_memory.specs.Present.{disk_in};
 
-use crate::file::{empty, of_bytes};
+use crate::file::{USUAL_MODE, empty, of_bytes};
 use crate::folder::MemFolder;
 use crate::names::{NameChange, number_of};
 use std::alloc::{AllocError, Global};
@@ -29,12 +29,22 @@ impl MemFolder {
         }
     }
 
-    pub fn create(&mut self, alloc: Global, name: &str) -> Result<(), AllocError>
-        ensures ok { OnOk result (disk_in self.new ≡ with_file name.now (disk_in self.old)) }
+    /// The mode of a file.
+    pub fn mode(&self, name: &str) -> Option<u32>
+        ensures { result ≡ mode_in (disk_in self.now) name.now }
+    {
+        match self.number(name) {
+            Some(number) => Some(self.files[number].mode),
+            None => None,
+        }
+    }
+
+    pub fn create(&mut self, alloc: Global, name: &str, mode: u32) -> Result<(), AllocError>
+        ensures ok { OnOk result (disk_in self.new ≡ with_file name.now mode (disk_in self.old)) }
         ensures err { OnErr result (disk_in self.new ≡ disk_in self.old) }
     {
         let change = NameChange::Create(String::from_str(alloc, name)?, self.files.len());
-        self.files.push(empty(alloc))?;
+        self.files.push(empty(alloc, mode))?;
         if let Err(_) = self.changes.push(change) {
             self.files.pop();
             return Err(AllocError);
@@ -79,6 +89,24 @@ impl MemFolder {
         }
     }
 
+    /// Gives a file the mode of the model, where both are there.
+    fn take_mode(&mut self, model: &str, name: &str)
+        ensures { disk_in self.new ≡ like model.now name.now (disk_in self.old) }
+    {
+        if let Some(from) = self.number(model) {
+            if let Some(to) = self.number(name) {
+                self.files[to].mode = self.files[from].mode;
+            }
+        }
+    }
+
+    pub fn sync_like(&mut self, model: &str, name: &str)
+        ensures { disk_in self.new ≡ on_file name.now (λ file. synced_file file.bytes) (like model.now name.now (disk_in self.old)) }
+    {
+        self.take_mode(model, name);
+        self.sync(name);
+    }
+
     /// Adds a rename or a removal.
     fn change(&mut self, change: NameChange) -> Result<(), AllocError>
         requires { IsBelow 0 change }
@@ -113,13 +141,13 @@ impl MemFolder {
         self.pending = 0;
     }
 
-    /// Puts a file of these bytes under a name, and makes all names lasting.
+    /// Puts a file of these bytes and of the usual mode under a name, and makes all names lasting.
     pub fn put(&mut self, alloc: Global, name: &str, bytes: Vec<u8>) -> Result<(), AllocError>
         ensures ok { OnOk result (disk_in self.new ≡ with_put name.now bytes.items (disk_in self.old)) }
         ensures err { OnErr result (disk_in self.new ≡ disk_in self.old) }
     {
         let change = NameChange::Create(String::from_str(alloc, name)?, self.files.len());
-        self.files.push(of_bytes(alloc, bytes))?;
+        self.files.push(of_bytes(alloc, USUAL_MODE, bytes))?;
         if let Err(_) = self.changes.push(change) {
             self.files.pop();
             return Err(AllocError);

@@ -103,11 +103,15 @@ fn apply(
             output.extend_from_slice(piece)?;
             Ok(())
         }
-        Call::Create(name) => folder.create(alloc, name),
+        Call::Create(name, mode) => folder.create(alloc, name, *mode),
         Call::WriteAt(name, at, piece) => folder.write_at(alloc, name, *at as usize, piece),
         Call::Cut(name, len) => folder.cut(alloc, name, *len as usize),
         Call::Sync(name) => {
             folder.sync(name);
+            Ok(())
+        }
+        Call::SyncLike(model, name) => {
+            folder.sync_like(model, name);
             Ok(())
         }
         Call::Rename(from, to) => folder.rename(alloc, from, to),

@@ -1,17 +1,18 @@
 // The log of the calls on a host.
 
-/// A call and what it was given.
+/// A call and what it was given; of a file that is made, its mode.
 #[derive(Drop)]
 pub enum Call {
     Read,
     Write(Vec<u8>),
     Has(String),
-    Create(String),
+    Create(String, u32),
     Len(String),
     ReadAt(String),
     WriteAt(String, u64, Vec<u8>),
     Cut(String, u64),
     Sync(String),
+    SyncLike(String, String),
     Rename(String, String),
     Remove(String),
     SyncNames,

@@ -1,6 +1,6 @@
 // The calls of a host in memory.
 ghost use Rattle.std.specs.Prelude.{◌≡◌, ◌⊎◌, ◌++◌, ◌∷◌, [], true, false, ℕ, List, IfOk, OnOk, OnErr, IsErr, Ok, MatchOption, None, Some, is_ok, reverse};
-ghost use Rattle.vs_host.specs.Disk.{content_in};
+ghost use Rattle.vs_host.specs.Disk.{content_in, mode_in};
 ghost use Rattle.vs_memory.specs.declared.log.Call.{Call};
 ghost use Rattle.vs_faults.specs.Faults.{HasCause};
 ghost use Rattle.vs_host.specs.Trace.{writes_in};
@@ -41,7 +41,7 @@ impl MemHost {
         })
     }
 
-    /// Puts a synced file under a synced name, before any call is made.
+    /// Puts a synced file of the usual mode under a synced name, before any call is made.
     pub fn put(&mut self, alloc: Global, name: &str, bytes: Vec<u8>) -> Result<(), AllocError>
         requires unused { self.old.calls ≡ 0 }
         requires absent { content_in (folder_of self.old) name.now ≡ None }
@@ -109,6 +109,13 @@ impl MemHost {
             (λ bytes. content_in (folder_of self.now) name.now ≡ Some bytes.now) }
     {
         self.folder.content(name)
+    }
+
+    /// The mode of a file.
+    pub fn mode(&self, name: &str) -> Option<u32>
+        ensures { result ≡ mode_in (folder_of self.now) name.now }
+    {
+        self.folder.mode(name)
     }
 
     /// How many calls of `write_at` were made on a name.

@@ -2,6 +2,7 @@
 ghost use Rattle.std.specs.Prelude.{◌≡◌, ◌<◌, ◌^◌, true, IfOk, length, string_bytes};
 ghost use Rattle.vs_memory.specs.Memory.{answered, faulted};
 
+use crate::file::{OWNER_MODE, USUAL_MODE};
 use crate::host::MemHost;
 use crate::log::{Call, Part};
 use std::alloc::{AllocError, Global};
@@ -59,17 +60,14 @@ impl Folder for MemHost {
     }
 
     fn create(&mut self, name: &str) -> Result<(), Failed> {
-        let call = create_call(self.alloc, name);
+        let call = create_call(self.alloc, name, USUAL_MODE);
         self.play(Part::Folder, call)
     }
 
     fn create_private(&mut self, name: &str) -> Result<(), Failed> {
-        self.create(name)
+        let call = create_call(self.alloc, name, OWNER_MODE);
+        self.play(Part::Folder, call)
     }
-
-    fn take_mode(&mut self, _from: &str, _to: &str)
-        ensures { self.new ≡ self.old }
-    {}
 
     fn len(&mut self, name: &str) -> Result<u64, Failed> {
         let call = String::from_str(self.alloc, name).map(Call::Len);
@@ -106,6 +104,11 @@ impl Folder for MemHost {
 
     fn sync(&mut self, name: &str) -> Result<(), Failed> {
         let call = sync_call(self.alloc, name);
+        self.play(Part::Folder, call)
+    }
+
+    fn sync_like(&mut self, model: &str, name: &str) -> Result<(), Failed> {
+        let call = sync_like_call(self.alloc, model, name);
         self.play(Part::Folder, call)
     }
 
@@ -155,6 +158,14 @@ fn sync_call(alloc: Global, name: &str) -> Result<Call, AllocError>
     Ok(Call::Sync(name))
 }
 
+fn sync_like_call(alloc: Global, model: &str, name: &str) -> Result<Call, AllocError>
+    ensures { IfOk result (λ call. (m : _) × (n : _) × (string_bytes m ≡ model.now) × (string_bytes n ≡ name.now) × (call ≡ Call.SyncLike m n)) }
+{
+    let model = String::from_str(alloc, model)?;
+    let name = String::from_str(alloc, name)?;
+    Ok(Call::SyncLike(model, name))
+}
+
 fn rename_call(alloc: Global, from: &str, to: &str) -> Result<Call, AllocError>
     ensures { IfOk result (λ call. (f : _) × (t : _) × (string_bytes f ≡ from.now) × (string_bytes t ≡ to.now) × (call ≡ Call.Rename f t)) }
 {
@@ -163,9 +174,9 @@ fn rename_call(alloc: Global, from: &str, to: &str) -> Result<Call, AllocError>
     Ok(Call::Rename(from, to))
 }
 
-fn create_call(alloc: Global, name: &str) -> Result<Call, AllocError>
-    ensures { IfOk result (λ call. (n : _) × (string_bytes n ≡ name.now) × (call ≡ Call.Create n)) }
+fn create_call(alloc: Global, name: &str, mode: u32) -> Result<Call, AllocError>
+    ensures { IfOk result (λ call. (n : _) × (string_bytes n ≡ name.now) × (call ≡ Call.Create n mode)) }
 {
     let name = String::from_str(alloc, name)?;
-    Ok(Call::Create(name))
+    Ok(Call::Create(name, mode))
 }

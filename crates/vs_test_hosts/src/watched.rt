@@ -88,11 +88,6 @@ impl<W: Watch + Drop> Folder for Watched<W> {
         self.inner.create_private(name)
     }
 
-    fn take_mode(&mut self, from: &str, to: &str) {
-        self.watch.took_mode(from, to);
-        self.inner.take_mode(from, to);
-    }
-
     fn len(&mut self, name: &str) -> Result<u64, Failed> {
         self.inner.len(name)
     }
@@ -115,6 +110,11 @@ impl<W: Watch + Drop> Folder for Watched<W> {
 
     fn sync(&mut self, name: &str) -> Result<(), Failed> {
         self.inner.sync(name)
+    }
+
+    fn sync_like(&mut self, model: &str, name: &str) -> Result<(), Failed> {
+        self.watch.took_mode(model, name);
+        self.inner.sync_like(model, name)
     }
 
     fn rename(&mut self, from: &str, to: &str) -> Result<(), Failed> {

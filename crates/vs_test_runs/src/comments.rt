@@ -125,8 +125,6 @@ impl Folder for Comments {
         Ok(())
     }
 
-    fn take_mode(&mut self, _from: &str, _to: &str) {}
-
     fn len(&mut self, _name: &str) -> Result<u64, Failed> {
         Err(self.fail())
     }
@@ -144,6 +142,10 @@ impl Folder for Comments {
     }
 
     fn sync(&mut self, _name: &str) -> Result<(), Failed> {
+        Ok(())
+    }
+
+    fn sync_like(&mut self, _model: &str, _name: &str) -> Result<(), Failed> {
         Ok(())
     }
 

@@ -17,5 +17,5 @@ returns-clause-ok c =
     let name : string_bytes c.in_ok-from_str.field-0 ≡ c.args.name.now = search rules in
     (λ i. disk_of (more i) (pending + 1) (filed i))
     ∙ ap (λ (n : ℕ). disk_of (changes ++ Create c.in_ok-from_str.field-0 n ∷ []) (pending + 1) (files ++ c.empty.result ∷ [])) count
-    ∙ more_files changes pending files c.in_ok-from_str.field-0 c.empty.result c.empty.ensures
-    ∙ ap (λ (b : List ℕ). with_file b (disk_of changes pending files)) name
+    ∙ more_files changes pending files c.in_ok-from_str.field-0 c.empty.result c.args.mode c.empty.ensures.file c.empty.ensures.mode
+    ∙ ap (λ (b : List ℕ). with_file b c.args.mode (disk_of changes pending files)) name

@@ -18,5 +18,5 @@ returns-clause-ok c =
     let name : string_bytes c.in_ok-from_str.field-0 ≡ c.args.name.now = search rules in
     (λ i. disk_of (more i) 0 (filed i))
     ∙ ap (λ (n : ℕ). disk_of (changes ++ Create c.in_ok-from_str.field-0 n ∷ []) 0 (files ++ c.of_bytes.result ∷ [])) count
-    ∙ put_file changes pending files c.in_ok-from_str.field-0 c.of_bytes.result c.args.bytes.items c.of_bytes.ensures
+    ∙ put_file changes pending files c.in_ok-from_str.field-0 c.of_bytes.result c.args.bytes.items c.of_bytes.ensures.file c.of_bytes.ensures.mode
     ∙ ap (λ (b : List ℕ). with_put b c.args.bytes.items (disk_of changes pending files)) name

@@ -5,12 +5,12 @@ use Rattle.vs_memory.proofs.Creating.{created}
 use Rattle.vs_memory.proofs.Results.{ok_leads}
 use Rattle.vs_memory.specs.Memory.{recorded, counted}
 use Rattle.vs_memory.specs.declared.log.Call.{Call}
-use Rattle.vs_memory.specs.Replay.{disk_after}
+use Rattle.vs_memory.specs.Replay.{disk_after, usual_mode}
 use Rattle.vs_memory.proofs.traits.MemHostFolder.create.Goals as goal
 
 pub returns-clause-ok : goal.returns-clause-ok
 returns-clause-ok c =
     ok_leads ((x : Call) × (c.create_call-call.result ≡ Ok x) × (c.play.new.self ≡ recorded x true (counted c.args.self.now)))
     (IsTrue true → CreatesFile c.args.name.now (disk_after c.args.self.now.base c.args.self.now.log) (disk_after c.play.new.self.base c.play.new.self.log)) c.play.result
-    (λ is told. created c.args.self.now c.play.new.self c.args.name.now c.create_call-call.result c.create_call-call.ensures is)
+    (λ is told. created c.args.self.now c.play.new.self c.args.name.now usual_mode c.create_call-call.result c.create_call-call.ensures is)
     c.play.ensures.ok
