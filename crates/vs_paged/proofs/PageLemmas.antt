@@ -5,7 +5,7 @@ use Rattle.std.proofs.lemmas.List.Elements.{All-drop}
 use Rattle.std.proofs.lemmas.Grind.{common_steps}
 use Rattle.vs_pages.specs.Maps.{Map}
 use Rattle.vs_pages.specs.Memory.{commits_of, committed_of, present_of, state_of}
-use Rattle.vs_pages.specs.State.{history_of, one_more}
+use Rattle.vs_pages.specs.State.{PageState, history_of, one_more}
 use Rattle.vs_pages.proofs.Steps.{history_present}
 use Rattle.vs_pages.specs.declared.memory.MemPages.{MemPages}
 use Rattle.vs_text.specs.Text.{bytes_of, stored, stored_line}
@@ -67,7 +67,7 @@ committed_now old new before after fits filled present committed worked is =
     }
 
 -- the text of committed pages
-pub is_paged : (pages : MemPages) (tree : LineTree) → IsCommitted pages tree → IsPaged pages tree (text_in (present_of pages) tree.present)
+pub is_paged : (pages : MemPages) (tree : LineTree) → IsCommitted pages tree → IsPaged (state_of pages) tree (text_in (present_of pages) tree.present)
 is_paged pages tree is = record {
   present = text_had (present_of pages) tree.present is.present_fits;
   committed = let H : List (List ℕ) → Type 0 = λ text. HasText (committed_of pages) tree.committed text in subst H is.same (text_had (committed_of pages) tree.committed is.committed_fits);
@@ -92,6 +92,6 @@ few_stored [] few = omega arith
 few_stored (line ∷ text) few = let same : length (stored (line ∷ text)) ≡ length (line ∷ text) = length-map (line ∷ text) stored_line in omega (arith, few, same)
 
 -- the tree of a text is low
-pub low_paged : (pages : MemPages) (tree : LineTree) (text : List (List ℕ)) → IsPaged pages tree text → tree.present.height ≤ 5
-low_paged pages tree text is =
-    filled_height tree_format (present_of pages) tree.present.height (stored text) is.filled.present is.present.tree (few_stored text is.present.within.few_lines)
+pub low_paged : (shown : PageState) (tree : LineTree) (text : List (List ℕ)) → IsPaged shown tree text → tree.present.height ≤ 5
+low_paged shown tree text is =
+    filled_height tree_format shown.present tree.present.height (stored text) is.filled.present is.present.tree (few_stored text is.present.within.few_lines)

@@ -5,18 +5,18 @@ use Rattle.vs_host.specs.Disk.{Disk}
 use Rattle.vs_host.specs.declared.names.Names.{Names}
 use Rattle.vs_host.specs.Names.{is_allowed, names_of_file}
 use Rattle.vs_disk.specs.Names.{SameAt}
-use Rattle.vs_pages.specs.Memory.{present_of, KeepsSince}
-use Rattle.vs_pages.specs.declared.memory.MemPages.{MemPages}
+use Rattle.vs_pages.specs.Memory.{present_of}
+use Rattle.vs_pages.specs.State.{PageState}
 use Rattle.vs_text.specs.declared.format.Format.{Format}
 use Rattle.vs_text.specs.declared.format.Format.TheVariants.{Unix, Dos}
 use Rattle.vs_text.specs.Documents.{Document}
 use Rattle.vs_swap.specs.Files.{format_number}
 use Rattle.vs_pair.specs.Swap.{Synced, IsFormatNumber, body_of, zero_of, Holds}
+use Rattle.vs_pair.specs.Held.{KeepsHeld}
 use Rattle.vs_pair.specs.Pair as pair
-use Rattle.vs_pair.specs.Pair.{Image, IsIn, IsDocumentOf, IsFit, Known, known_of, sync_of, sync_with, is_swap, HasEarlier, HasLater, IsThere, NoneThere, name_of, other_side}
+use Rattle.vs_pair.specs.Pair.{Image, IsIn, IsDocumentOf, IsFit, held_in, known_of, shown_in, sync_of, sync_with, is_swap, HasEarlier, HasLater, IsThere, NoneThere, name_of, other_side}
 use Rattle.vs_pair.specs.Steps as steps
 use Rattle.vs_pair.specs.declared.head.Head.{Head}
-use Rattle.vs_pair.specs.declared.files.SwapFiles.{SwapFiles}
 use Rattle.vs_pair.specs.declared.pair.SwapPair.{SwapPair}
 use Rattle.vs_pair.proofs.Offers.{holds_stands, offered_recovered}
 use Rattle.vs_pair.proofs.Reading.{holds_reads}
@@ -195,7 +195,7 @@ fits_between paged disk text syncs fits =
     let allowed = fits.fit.named.allowed in
     let are = fits.syncs_are in
     let small : fits.newest.generation < 2 ^ 64 = omega (arith, fits.fit.newer_used, fits.fit.bound) in
-    let between = fit_between (known_of paged.pair) disk fits.newest fits.later fits.past fits.fit in
+    let between = fit_between (known_of paged.pair disk) disk fits.newest fits.later fits.past fits.fit in
     record {
       later = are.begun_since;
       newest = are.last;
@@ -210,14 +210,14 @@ fits_between paged disk text syncs fits =
 pub fits_recovers : (paged : PagedText) (disk : Disk) (text : Text) (syncs : List Sync) → Fits paged disk text syncs → Recovers (names_of paged) (recoverable syncs) disk
 fits_recovers paged disk text syncs fits =
     recovers_documents (names_of paged) fits.fit.named.allowed (fits.newest ∷ fits.later) (fits.newest ∷ fits.past) (recoverable syncs) (are_recoverable fits.newest fits.later fits.past syncs fits.syncs_are) disk
-    (fit_recovers (known_of paged.pair) disk fits.newest fits.later fits.past fits.fit)
+    (fit_recovers (known_of paged.pair disk) disk fits.newest fits.later fits.past fits.fit)
 
 -- ---- the calls of the pair
 
 -- the committed pages are those of the text
-committed_document : (source : SwapPair) (tree : LineTree) (generation : ℕ) (head : Head) (document : Document) → IsPaged source.pages tree document.text → head.empty ≡ (tree.committed.lines == 0)
-    → head.format ≡ format_number document.format → IsDocumentOf (sync_with source generation head) document
-committed_document source tree generation head document is empty format = record {
+committed_document : (source : SwapPair) (disk : Disk) (tree : LineTree) (generation : ℕ) (head : Head) (document : Document) → IsPaged (shown_in source disk) tree document.text → head.empty ≡ (tree.committed.lines == 0)
+    → head.format ≡ format_number document.format → IsDocumentOf (sync_with source disk generation head) document
+committed_document source disk tree generation head document is empty format = record {
   is_text = is.committed.is_text;
   depth = tree.committed.height;
   lines = is.committed.tree;
@@ -225,55 +225,52 @@ committed_document source tree generation head document is empty format = record
   format = format;
 }
 
-pub document_synced : (paged : PagedText) (generation : ℕ) (head : Head) (document : Document) → IsPaged paged.pair.pages paged.tree document.text → head.empty ≡ (paged.tree.committed.lines == 0)
-    → head.format ≡ format_number document.format → IsDocumentOf (sync_with paged.pair generation head) document
-document_synced paged generation head document is empty format = committed_document paged.pair paged.tree generation head document is empty format
+pub document_synced : (paged : PagedText) (disk : Disk) (generation : ℕ) (head : Head) (document : Document) → IsPaged (shown_in paged.pair disk) paged.tree document.text → head.empty ≡ (paged.tree.committed.lines == 0)
+    → head.format ≡ format_number document.format → IsDocumentOf (sync_with paged.pair disk generation head) document
+document_synced paged disk generation head document is empty format = committed_document paged.pair disk paged.tree generation head document is empty format
 
 pub syncing_documents : (paged : PagedText) (head : Head) (format : Format) (old new : Disk) → head.empty ≡ (paged.tree.committed.lines == 0) → head.format ≡ format_number format
-    → pair.Syncing (known_of paged.pair) (sync_of paged.pair head) old new → Syncing paged format old new
+    → pair.Syncing (known_of paged.pair old) (sync_of paged.pair old head) old new → Syncing paged format old new
 syncing_documents paged head format old new empty formatted syncing = record {
   spared = λ text syncs fits. syncing.spared fits.newest fits.later fits.past fits.fit;
   unmoved = λ text syncs fits. syncing.unmoved fits.newest fits.later fits.past fits.fit;
   safe = λ text syncs fits.
-      let sync : Synced = sync_of paged.pair head in
+      let sync : Synced = sync_of paged.pair old head in
       let document : Document = record { text = text; format = format } in
       recovers_documents (names_of paged) fits.fit.named.allowed (fits.newest ∷ sync ∷ fits.later) (fits.newest ∷ fits.past) (document ∷ recoverable syncs)
-      (are_syncing fits.newest sync fits.later fits.past syncs document fits.syncs_are (document_synced paged (paged.pair.files.generation + 1) head document fits.pages empty formatted)) new
+      (are_syncing fits.newest sync fits.later fits.past syncs document fits.syncs_are (document_synced paged old (paged.pair.files.generation + 1) head document fits.pages empty formatted)) new
       (syncing.safe fits.newest fits.later fits.past fits.fit);
 }
 
 -- the same pages and the same tree
-same_pages : (old new : PagedText) (text : Text) → new.tree ≡ old.tree → new.pair.pages ≡ old.pair.pages → IsPaged old.pair.pages old.tree text → IsPaged new.pair.pages new.tree text
-same_pages old new text tree pages is =
-    let P : MemPages → Type 0 = λ m. IsPaged m new.tree text in
-    let Q : LineTree → Type 0 = λ t. IsPaged old.pair.pages t text in
-    subst P (sym pages) (subst Q (sym tree) is)
+same_pages : (old new : PageState) (tree after : LineTree) (text : Text) → after ≡ tree → new ≡ old → IsPaged old tree text → IsPaged new after text
+same_pages old new tree after text same shown is = subst (λ (s : PageState). IsPaged s after text) (sym shown) (subst (λ (t : LineTree). IsPaged old t text) (sym same) is)
 
-module _ (old new : PagedText) (head : Head) (dirty : Bool) (was now : Disk) (document : Document) (syncs : List Sync) (tree : new.tree ≡ old.tree) (pages : new.pair.pages ≡ old.pair.pages) (is_dirty : head.dirty ≡ dirty)
+module _ (old new : PagedText) (head : Head) (dirty : Bool) (was now : Disk) (document : Document) (syncs : List Sync) (tree : new.tree ≡ old.tree) (shown : shown_in new.pair now ≡ shown_in old.pair was) (is_dirty : head.dirty ≡ dirty)
     (empty : head.empty ≡ (old.tree.committed.lines == 0)) (format : head.format ≡ format_number document.format) (fits : Fits old was document.text syncs) where
-  pub synced_fits : IsFit (known_of new.pair) now (sync_of old.pair head) [] (fits.newest ∷ fits.past) → Fits new now document.text (acknowledged_sync document dirty ∷ syncs)
+  pub synced_fits : IsFit (known_of new.pair now) now (sync_of old.pair was head) [] (fits.newest ∷ fits.past) → Fits new now document.text (acknowledged_sync document dirty ∷ syncs)
   synced_fits fit = record {
-    pages = same_pages old new document.text tree pages fits.pages;
-    newest = sync_of old.pair head;
+    pages = same_pages (shown_in old.pair was) (shown_in new.pair now) old.tree new.tree document.text tree shown fits.pages;
+    newest = sync_of old.pair was head;
     later = [];
     past = fits.newest ∷ fits.past;
     fit = fit;
-    syncs_are = more_syncs fits.newest (sync_of old.pair head) fits.later fits.past syncs document dirty fits.syncs_are
-        (record { document = document_synced old (old.pair.files.generation + 1) head document fits.pages empty format; dirty = is_dirty });
+    syncs_are = more_syncs fits.newest (sync_of old.pair was head) fits.later fits.past syncs document dirty fits.syncs_are
+        (record { document = document_synced old was (old.pair.files.generation + 1) head document fits.pages empty format; dirty = is_dirty });
   }
 
-  pub failed_fits : IsFit (known_of new.pair) now fits.newest (sync_of old.pair head ∷ fits.later) fits.past → Fits new now document.text (begun document dirty ∷ syncs)
+  pub failed_fits : IsFit (known_of new.pair now) now fits.newest (sync_of old.pair was head ∷ fits.later) fits.past → Fits new now document.text (begun document dirty ∷ syncs)
   failed_fits fit = record {
-    pages = same_pages old new document.text tree pages fits.pages;
+    pages = same_pages (shown_in old.pair was) (shown_in new.pair now) old.tree new.tree document.text tree shown fits.pages;
     newest = fits.newest;
-    later = sync_of old.pair head ∷ fits.later;
+    later = sync_of old.pair was head ∷ fits.later;
     past = fits.past;
     fit = fit;
-    syncs_are = failed_syncs fits.newest (sync_of old.pair head) fits.later fits.past syncs document dirty fits.syncs_are
-        (record { document = document_synced old (old.pair.files.generation + 1) head document fits.pages empty format; dirty = is_dirty });
+    syncs_are = failed_syncs fits.newest (sync_of old.pair was head) fits.later fits.past syncs document dirty fits.syncs_are
+        (record { document = document_synced old was (old.pair.files.generation + 1) head document fits.pages empty format; dirty = is_dirty });
   }
 
-pub ending_documents : (paged : PagedText) (old new : Disk) → steps.Ending (known_of paged.pair) old new → Ending paged old new
+pub ending_documents : (paged : PagedText) (old new : Disk) → steps.Ending (known_of paged.pair old) old new → Ending paged old new
 ending_documents paged old new ending = record {
   spared = λ text syncs fits. ending.spared;
   safe = λ text syncs fits.
@@ -283,32 +280,30 @@ ending_documents paged old new ending = record {
 
 -- ---- the start
 
-module _ (source : SwapPair) (tree : LineTree) (head : Head) (document : Document) (is : IsPaged source.pages tree document.text) (empty : head.empty ≡ (tree.committed.lines == 0)) (format : head.format ≡ format_number document.format) where
-  started_with : (generation : ℕ) → IsDocumentOf (sync_with source generation head) document
-  started_with generation = committed_document source tree generation head document is empty format
+module _ (source : SwapPair) (was : Disk) (tree : LineTree) (head : Head) (document : Document) (is : IsPaged (shown_in source was) tree document.text) (empty : head.empty ≡ (tree.committed.lines == 0)) (format : head.format ≡ format_number document.format) where
+  started_with : (generation : ℕ) → IsDocumentOf (sync_with source was generation head) document
+  started_with generation = committed_document source was tree generation head document is empty format
 
-  pub starting_document : (names : Names) → IsTrue (is_allowed names.file) → (old new : Disk) → steps.Starting names (sync_with source 1 head) (sync_with source 2 head) old new → Starting names document old new
-  starting_document names allowed old new starting = record {
+  pub starting_document : (names : Names) → IsTrue (is_allowed names.file) → (new : Disk) → steps.Starting names (sync_with source was 1 head) (sync_with source was 2 head) was new → Starting names document was new
+  starting_document names allowed new starting = record {
     spared = starting.spared;
-    safe = recovers_or_none names allowed (sync_with source 1 head ∷ sync_with source 2 head ∷ []) (sync_with source 1 head ∷ []) (document ∷ []) are new starting.safe;
+    safe = recovers_or_none names allowed (sync_with source was 1 head ∷ sync_with source was 2 head ∷ []) (sync_with source was 1 head ∷ []) (document ∷ []) are new starting.safe;
   }
     where
-      are : AreOf (sync_with source 1 head ∷ sync_with source 2 head ∷ []) (document ∷ [])
+      are : AreOf (sync_with source was 1 head ∷ sync_with source was 2 head ∷ []) (document ∷ [])
       are synced (inl one) = (document, inl refl, subst (λ (s : Synced). IsDocumentOf s document) (sym one) (started_with 1))
       are synced (inr (inl two)) = (document, inl refl, subst (λ (s : Synced). IsDocumentOf s document) (sym two) (started_with 2))
       are synced (inr (inr none)) = absurd none
 
-  pub started_fits : (paged : PagedText) (disk : Disk) → paged.pair.pages ≡ source.pages → paged.tree ≡ tree → head.dirty ≡ false
-      → IsFit (known_of paged.pair) disk (sync_with source 2 head) [] (sync_with source 1 head ∷ []) → Fits paged disk document.text (acknowledged_sync document false ∷ [])
-  started_fits paged disk pages same clean fit = record {
-    pages = let P : MemPages → Type 0 = λ m. IsPaged m paged.tree document.text in
-        let Q : LineTree → Type 0 = λ t. IsPaged source.pages t document.text in
-        subst P (sym pages) (subst Q (sym same) is);
-    newest = sync_with source 2 head;
+  pub started_fits : (paged : PagedText) (disk : Disk) → shown_in paged.pair disk ≡ shown_in source was → paged.tree ≡ tree → head.dirty ≡ false
+      → IsFit (known_of paged.pair disk) disk (sync_with source was 2 head) [] (sync_with source was 1 head ∷ []) → Fits paged disk document.text (acknowledged_sync document false ∷ [])
+  started_fits paged disk shown same clean fit = record {
+    pages = same_pages (shown_in source was) (shown_in paged.pair disk) tree paged.tree document.text same shown is;
+    newest = sync_with source was 2 head;
     later = [];
-    past = sync_with source 1 head ∷ [];
+    past = sync_with source was 1 head ∷ [];
     fit = fit;
-    syncs_are = first_syncs (sync_with source 1 head) (sync_with source 2 head) document false (record { document = started_with 1; dirty = clean }) (record { document = started_with 2; dirty = clean });
+    syncs_are = first_syncs (sync_with source was 1 head) (sync_with source was 2 head) document false (record { document = started_with 1; dirty = clean }) (record { document = started_with 2; dirty = clean });
   }
 
 -- ---- other names
@@ -319,26 +314,21 @@ fits_kept paged old new text syncs same fits = record {
   newest = fits.newest;
   later = fits.later;
   past = fits.past;
-  fit = fit_kept (known_of paged.pair) old new fits.newest fits.later fits.past same fits.fit;
+  fit = fit_kept (known_of paged.pair old) old new fits.newest fits.later fits.past same fits.fit;
   syncs_are = fits.syncs_are;
 }
 
 -- ---- other pages
 
--- the same files with these pages
-pub known_changed : (old new : SwapPair) → new.files ≡ old.files → known_of new ≡ known_of (record { files = old.files; pages = new.pages })
-known_changed old new files = ap (λ (f : SwapFiles). known_of (record { files = f; pages = new.pages })) files
-
 -- pages with another text, where each commit that changed a page is known
-pub fits_changed : (old new : PagedText) (disk : Disk) (text after : Text) (syncs : List Sync) → known_of new.pair ≡ known_of (record { files = old.pair.files; pages = new.pair.pages })
-    → KeepsSince old.pair.pages new.pair.pages → IsPaged new.pair.pages new.tree after → Fits old disk text syncs → Fits new disk after syncs
-fits_changed old new disk text after syncs known since pages fits = record {
+pub fits_changed : (old new : PagedText) (disk : Disk) (text after : Text) (syncs : List Sync) → new.pair.files ≡ old.pair.files
+    → KeepsHeld (held_in old.pair disk) (held_in new.pair disk) → IsPaged (shown_in new.pair disk) new.tree after → Fits old disk text syncs → Fits new disk after syncs
+fits_changed old new disk text after syncs files held pages fits = record {
   pages = pages;
   newest = fits.newest;
   later = fits.later;
   past = fits.past;
-  fit = subst (λ (k : Known). IsFit k disk fits.newest fits.later fits.past) (sym known)
-      (fit_changed old.pair (record { files = old.pair.files; pages = new.pair.pages }) disk fits.newest fits.later fits.past refl since fits.fit);
+  fit = fit_changed old.pair new.pair disk fits.newest fits.later fits.past files held fits.fit;
   syncs_are = fits.syncs_are;
 }
 
@@ -355,20 +345,20 @@ module _ (source : SwapPair) (tree : LineTree) (value : Opening) (is : IsCommitt
   pub names_opened : source.files.names ≡ names_of_file value.name
   names_opened = source.files.named.others ∙ ap (λ (o : Opening). names_of_file o.name) same
 
-  module _ (head : Head) (format : Format) (empty : head.empty ≡ (tree.committed.lines == 0)) (formatted : head.format ≡ format_number format) where
-    pub opened_starting : (old new : Disk) → steps.Starting source.files.names (sync_with source 1 head) (sync_with source 2 head) old new
-        → Starting (names_of_file value.name) (opened_in format value) old new
-    opened_starting old new starting =
-        let named : Starting source.files.names (opened_in format value) old new =
-        subst (λ (o : Opening). Starting source.files.names (opened_in format o) old new) same
-        (starting_document source tree head (opened_in format (value_of source tree)) (is_paged source.pages tree is) empty formatted source.files.names source.files.named.allowed old new starting) in
-        subst (λ (n : Names). Starting n (opened_in format value) old new) names_opened named
+  module _ (was : Disk) (head : Head) (format : Format) (empty : head.empty ≡ (tree.committed.lines == 0)) (formatted : head.format ≡ format_number format) where
+    pub opened_starting : (new : Disk) → steps.Starting source.files.names (sync_with source was 1 head) (sync_with source was 2 head) was new
+        → Starting (names_of_file value.name) (opened_in format value) was new
+    opened_starting new starting =
+        let named : Starting source.files.names (opened_in format value) was new =
+        subst (λ (o : Opening). Starting source.files.names (opened_in format o) was new) same
+        (starting_document source was tree head (opened_in format (value_of source tree)) (is_paged source.pages tree is) empty formatted source.files.names source.files.named.allowed new starting) in
+        subst (λ (n : Names). Starting n (opened_in format value) was new) names_opened named
 
-    pub opened_fits : (paged : PagedText) (disk : Disk) → paged.pair.pages ≡ source.pages → paged.tree ≡ tree → head.dirty ≡ false
-        → IsFit (known_of paged.pair) disk (sync_with source 2 head) [] (sync_with source 1 head ∷ []) → Fits paged disk value.text (acknowledged_sync (opened_in format value) false ∷ [])
-    opened_fits paged disk pages one clean fit =
+    pub opened_fits : (paged : PagedText) (disk : Disk) → shown_in paged.pair disk ≡ shown_in source was → paged.tree ≡ tree → head.dirty ≡ false
+        → IsFit (known_of paged.pair disk) disk (sync_with source was 2 head) [] (sync_with source was 1 head ∷ []) → Fits paged disk value.text (acknowledged_sync (opened_in format value) false ∷ [])
+    opened_fits paged disk shown one clean fit =
         subst (λ (o : Opening). Fits paged disk o.text (acknowledged_sync (opened_in format o) false ∷ [])) same
-        (started_fits source tree head (opened_in format (value_of source tree)) (is_paged source.pages tree is) empty formatted paged disk pages one clean fit)
+        (started_fits source was tree head (opened_in format (value_of source tree)) (is_paged source.pages tree is) empty formatted paged disk shown one clean fit)
 
   pub lines_opened : tree.present.lines ≡ length value.text
   lines_opened = sym (text_had (present_of source.pages) tree.present is.present_fits).lines ∙ ap (λ (o : Opening). length o.text) same

@@ -7,7 +7,7 @@ use Rattle.vs_disk.specs.Names.{SameAt}
 use Rattle.vs_text.specs.declared.format.Format.{Format}
 use Rattle.vs_text.specs.Documents.{Document}
 use Rattle.vs_pair.specs.Swap.{Synced}
-use Rattle.vs_pair.specs.Pair.{IsFit, IsIn, IsDocumentOf, Unmoved, is_apart, is_foreign, known_of}
+use Rattle.vs_pair.specs.Pair.{IsFit, IsIn, IsDocumentOf, Unmoved, is_apart, is_foreign, known_of, shown_in}
 use Rattle.vs_safety.specs.Texts.{Text, Sync, IsNewestOf, IsSyncIn, Recovers, RecoversOrNone, recoverable}
 use Rattle.vs_paged.specs.Pages.{IsPaged}
 use Rattle.vs_paged.specs.declared.paged.PagedText.{PagedText}
@@ -33,11 +33,11 @@ pub record AreSyncs (newest : Synced) (later past : List Synced) (syncs : List S
 
 -- The pages have this text, and the folder has the swap files that these syncs, the newest first, made.
 pub record Fits (paged : PagedText) (disk : Disk) (text : Text) (syncs : List Sync) : Type 0 where
-  pub pages : IsPaged paged.pair.pages paged.tree text
+  pub pages : IsPaged (shown_in paged.pair disk) paged.tree text
   pub newest : Synced
   pub later : List Synced
   pub past : List Synced
-  pub fit : IsFit (known_of paged.pair) disk newest later past
+  pub fit : IsFit (known_of paged.pair disk) disk newest later past
   pub syncs_are : AreSyncs newest later past syncs
 
 -- Where the folder is told, the pages have some text, and the folder has the swap files that some syncs made.

@@ -3,9 +3,10 @@ ghost use Rattle.std.specs.Prelude.{◌≡◌, ◌≢◌, ◌++◌, ◌∷◌, [
 ghost use Rattle.vs_faults.specs.Faults.{HasCause};
 ghost use Rattle.vs_host.specs.Names.{is_allowed, names_of_file};
 ghost use Rattle.vs_pages.specs.Maps.{first_pages};
-ghost use Rattle.vs_pages.specs.Memory.{committed_of, present_of};
+ghost use Rattle.vs_pages.specs.Memory.{present_of};
 ghost use Rattle.vs_disk.specs.Runs.{NoneFails};
 ghost use Rattle.vs_pair.specs.Acts.{Acts};
+ghost use Rattle.vs_pair.specs.Pair.{committed_in};
 ghost use Rattle.vs_pair.specs.Steps.{BothEnd, BothMoved, IsFresh};
 ghost use Rattle.vs_pair.specs.declared.gate.Gate.TheVariants.{Open};
 ghost use Rattle.vs_pair.specs.declared.side.Side.TheVariants.{Swo};
@@ -145,7 +146,7 @@ impl OpeningText {
             Fits paged (F.scene host.new).folder self.text (acknowledged_sync (record { text = self.text; format = format }) false ∷ [])) }
         ensures names { IfOk result (λ paged. names_of paged ≡ names_of_file self.name) }
         ensures ends { IfOk result (λ paged. IsTrue F.tells.folder
-            → BothEnd (names_of_file self.name) (committed_of paged.pair.pages) (F.scene host.new).folder) }
+            → BothEnd (names_of_file self.name) (committed_in paged.pair (F.scene host.new).folder) (F.scene host.new).folder) }
         ensures moved { OnOk result (IsTrue F.tells.folder → BothMoved (names_of_file self.name) (F.scene host.new).folder) }
         ensures sides { IfOk result (λ paged. (paged.pair.files.newer ≡ Swo) × (paged.pair.files.gate ≡ Open)) }
         ensures generation { IfOk result (λ paged. paged.pair.files.generation ≡ 2) }

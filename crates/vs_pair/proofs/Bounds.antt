@@ -6,28 +6,29 @@ use Rattle.std.proofs.lemmas.Bool.{cases_Bool, cases_lt, or_cases, true≢false}
 use Rattle.std.proofs.lemmas.Bool.Decides.{nat_tests}
 use Rattle.vs_host.specs.World.{Tells, Scene}
 use Rattle.vs_disk.specs.Runs.{CallsAtMost}
-use Rattle.vs_pages.specs.Memory.{commits_of, committed_of, HasReach}
+use Rattle.vs_pages.specs.Memory.{commits_of, committed_of}
 use Rattle.vs_pages.specs.MemoryLaws.{are_committed}
 use Rattle.vs_pages.specs.declared.memory.MemPages.{MemPages}
 use Rattle.vs_pair.specs.declared.written.Written.{Written}
+use Rattle.vs_pair.specs.Held.{HasReach, held_of}
 use Rattle.vs_pair.specs.Stale.{HasChanged, IsBehind, IsEnd, is_stale, one_if, stale_below}
 
 -- ---- stale numbers
 
 module _ (pages : MemPages) (has : Written) where
-  pub stale_up_to : (n to : ℕ) → n ≤ to → stale_below pages has n ≤ stale_below pages has to
-  stale_up_to n zero le = let same : n ≡ 0 = omega (arith, le) in omega (arith, ap (λ (m : ℕ). stale_below pages has m) same)
+  pub stale_up_to : (n to : ℕ) → n ≤ to → stale_below (commits_of pages) has n ≤ stale_below (commits_of pages) has to
+  stale_up_to n zero le = let same : n ≡ 0 = omega (arith, le) in omega (arith, ap (λ (m : ℕ). stale_below (commits_of pages) has m) same)
   stale_up_to n (suc to) le = elim (cases_lt to n) [
-    | inl less ↦ let same : n ≡ suc to = omega (arith, less, le) in omega (arith, ap (λ (m : ℕ). stale_below pages has m) same)
+    | inl less ↦ let same : n ≡ suc to = omega (arith, less, le) in omega (arith, ap (λ (m : ℕ). stale_below (commits_of pages) has m) same)
     | inr past ↦ omega (arith, stale_up_to n to past)
   ]
 
   -- a stale number counts
-  pub one_more : (n to : ℕ) → 1 ≤ n → is_stale pages has n ≡ true → n < to → stale_below pages has n + 1 ≤ stale_below pages has to
+  pub one_more : (n to : ℕ) → 1 ≤ n → is_stale (commits_of pages) has n ≡ true → n < to → stale_below (commits_of pages) has n + 1 ≤ stale_below (commits_of pages) has to
   one_more n to some is less =
       let after_first : nat_le 1 n ≡ true = grind (arith, nat_tests) in
-      let one : one_if (nat_le 1 n && is_stale pages has n) ≡ 1 = ap (λ (b : Bool). one_if (b && is_stale pages has n)) after_first ∙ ap one_if is in
-      let after : stale_below pages has (suc n) ≤ stale_below pages has to = stale_up_to (suc n) to (omega (arith, less)) in
+      let one : one_if (nat_le 1 n && is_stale (commits_of pages) has n) ≡ 1 = ap (λ (b : Bool). one_if (b && is_stale (commits_of pages) has n)) after_first ∙ ap one_if is in
+      let after : stale_below (commits_of pages) has (suc n) ≤ stale_below (commits_of pages) has to = stale_up_to (suc n) to (omega (arith, less)) in
       omega (arith, one, after)
 
 -- the number after the last page is no greater than one from which on there is none
@@ -127,17 +128,17 @@ last_of pages (suc (suc n)) is = at_last (committed_of pages (suc n)) refl (λ b
         let same : suc n ≡ suc (suc n) - 1 = omega arith in
         record { last = suc (suc n); within = omega arith; is = is; page = λ less. subst (λ (j : ℕ). IsSome (committed_of pages j)) same there }
 
-counted : (pages : MemPages) (has : Written) (n : ℕ) → stale_below pages has n ≡ count (λ k. nat_le 1 k && is_stale pages has k) n
+counted : (pages : MemPages) (has : Written) (n : ℕ) → stale_below (commits_of pages) has n ≡ count (λ k. nat_le 1 k && is_stale (commits_of pages) has k) n
 counted pages has zero = refl
-counted pages has (suc n) = ap (λ (m : ℕ). one_if (nat_le 1 n && is_stale pages has n) + m) (counted pages has n)
+counted pages has (suc n) = ap (λ (m : ℕ). one_if (nat_le 1 n && is_stale (commits_of pages) has n) + m) (counted pages has n)
 
 both_true : (a b : Bool) → (a && b) ≡ true → (a ≡ true) × (b ≡ true)
 both_true true b is = (refl, is)
 both_true false b is = absurd (true≢false (sym is))
 
-module _ (pages : MemPages) (has : Written) (reach : HasReach pages has.commits has.end) (end : ℕ) (numbers : List ℕ) (changed : HasChanged pages has end numbers) (ends : HasLast pages end) where
+module _ (pages : MemPages) (has : Written) (reach : HasReach (held_of pages) has.commits has.end) (end : ℕ) (numbers : List ℕ) (changed : HasChanged pages has end numbers) (ends : HasLast pages end) where
   -- what lies after the last page of the file was changed since, too
-  is_changed : (k : ℕ) → 1 ≤ k → k < ends.last → is_stale pages has k ≡ true → has.commits ≤ (commits_of pages).last k
+  is_changed : (k : ℕ) → 1 ≤ k → k < ends.last → is_stale (commits_of pages) has k ≡ true → has.commits ≤ (commits_of pages).last k
   is_changed k some less is = elim (or_cases (nat_le has.commits ((commits_of pages).last k)) (nat_le has.end k) is) [
     | inl later ↦ grind (arith, nat_tests)
     | inr past ↦
@@ -145,23 +146,23 @@ module _ (pages : MemPages) (has : Written) (reach : HasReach pages has.commits 
         reach k (ends.last - 1) from (omega (arith, less)) (ends.page (omega (arith, some, less)))
   ]
 
-  in_list : (k : ℕ) → k < ends.last → (nat_le 1 k && is_stale pages has k) ≡ true → Contains numbers k
+  in_list : (k : ℕ) → k < ends.last → (nat_le 1 k && is_stale (commits_of pages) has k) ≡ true → Contains numbers k
   in_list k less is =
-      let parts = both_true (nat_le 1 k) (is_stale pages has k) is in
+      let parts = both_true (nat_le 1 k) (is_stale (commits_of pages) has k) is in
       let some : 1 ≤ k = let test : nat_le 1 k ≡ true = parts.0 in grind (arith, nat_tests) in
       changed k some (omega (arith, less, ends.within)) (is_changed k some less parts.1)
 
-  stale_in : stale_below pages has ends.last ≤ length numbers
-  stale_in = omega (arith, counted pages has ends.last, held numbers (λ k. nat_le 1 k && is_stale pages has k) ends.last in_list)
+  stale_in : stale_below (commits_of pages) has ends.last ≤ length numbers
+  stale_in = omega (arith, counted pages has ends.last, held numbers (λ k. nat_le 1 k && is_stale (commits_of pages) has k) ends.last in_list)
 
 -- ---- calls
 
-module _ (tells : Tells) (old new : Scene) (pages : MemPages) (has : Written) (reach : IsTrue tells.folder → HasReach pages has.commits has.end)
-    (calls : (end : ℕ) → IsEnd pages end → CallsAtMost tells old new (6 + stale_below pages has end)) where
+module _ (tells : Tells) (old new : Scene) (pages : MemPages) (has : Written) (reach : IsTrue tells.folder → HasReach (held_of pages) has.commits has.end)
+    (calls : (end : ℕ) → IsEnd pages end → CallsAtMost tells old new (6 + stale_below (commits_of pages) has end)) where
   pub few_calls : (end : ℕ) (numbers : List ℕ) → IsEnd pages end → HasChanged pages has end numbers → CallsAtMost tells old new (6 + length numbers)
   few_calls end numbers is changed =
       let ends : HasLast pages end = last_of pages end is in
-      let within : CallsAtMost tells old new (6 + stale_below pages has ends.last) = calls ends.last ends.is in
+      let within : CallsAtMost tells old new (6 + stale_below (commits_of pages) has ends.last) = calls ends.last ends.is in
       record { calls = λ told. omega (arith, within.calls told, stale_in pages has (reach told) end numbers changed ends) }
 
   -- all page numbers lie below a bound

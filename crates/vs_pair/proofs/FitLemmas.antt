@@ -12,7 +12,6 @@ use Rattle.vs_disk.proofs.Images.{read_image}
 use Rattle.vs_disk.proofs.Steps.{same_at, itself, always_after, other_after}
 use Rattle.vs_disk.proofs.Others.{file_outside}
 use Rattle.vs_disk.proofs.Parts.{read_name}
-use Rattle.vs_pages.specs.Memory.{commits_of, committed_of}
 use Rattle.vs_swap.specs.Recovery.{StandsIn}
 use Rattle.vs_text.specs.Documents.{Document}
 use Rattle.vs_swap.specs.Files.{StandsFor}
@@ -325,7 +324,7 @@ module _ (files : Known) (newest : Synced) (begun past : List Synced) (old : Dis
     newer = other_side files.newer;
     gate = Open;
     generation = files.generation + 1;
-    newer_has = record { commits = (commits_of files.pages).count; end = end };
+    newer_has = record { commits = files.pages.commits.count; end = end };
     older_has = files.newer_has;
   }
 
@@ -335,7 +334,7 @@ module _ (files : Known) (newest : Synced) (begun past : List Synced) (old : Dis
         let leads = λ (lost : ℕ). same_at older step old new changes lost older ∙ fit.older.leads lost in
         record { leads = leads; has = has_at older (λ f. Leaves f (Holds (body_of file sync))) new has fit.older_number (leads 0) }
 
-    pub done : (end : ℕ) → sync.pages ≡ committed_of files.pages → ((k : ℕ) → end ≤ k → committed_of files.pages k ≡ None) → (0 < end → IsSome (sync.pages (end - 1)))
+    pub done : (end : ℕ) → sync.pages ≡ files.pages.committed → ((k : ℕ) → end ≤ k → files.pages.committed k ≡ None) → (0 < end → IsSome (sync.pages (end - 1)))
         → IsFit (turned end) new sync [] (newest ∷ past)
     done end all none last =
         let first = newest_stays step new changes in

@@ -10,11 +10,10 @@ use Rattle.vs_disk.proofs.Steps.{same_at, file_as, file_then, file_after}
 use Rattle.vs_pair.specs.declared.gate.Gate.{Gate}
 use Rattle.vs_pair.specs.declared.gate.Gate.TheVariants.{Open, Closed, Unknown}
 use Rattle.vs_swap.specs.Files.{page_in}
-use Rattle.vs_pages.specs.Memory.{committed_of}
-use Rattle.vs_pages.specs.declared.memory.MemPages.{MemPages}
 use Rattle.vs_pair.specs.declared.written.Written.{Written}
 use Rattle.vs_disk.specs.Runs.{NoneFails}
 use Rattle.vs_pair.specs.Acts.{Acts}
+use Rattle.vs_pair.specs.Held.{Held}
 use Rattle.vs_pair.specs.Swap.{Body, HasBody, Holds, IsOpen, HasMark, ChangesMark, KeepsMark, KeepsLength, Lengthens, WritesBody, Fits, CloseStep, Closes, SyncStep, FailedSync, open_mark, closed_mark, zeros_page}
 use Rattle.vs_pair.specs.Swap.FailedSync.{InClosing, InWriting, InOpening}
 use Rattle.vs_pair.specs.Stale.{HasFresh, Keeps, is_stale}
@@ -58,6 +57,7 @@ pub mark_closes : (name : Name) (gate : Gate) (old new : Disk) → ChangesFile n
 mark_closes name gate old new changes has = record {
   synced = changes.synced;
   pending = changes.pending;
+  modes = changes.modes;
   others = changes.others;
   this = λ number leads before. has_at name (λ file. Leaves file (HasMark closed_mark)) new has number (same_at name ChangesMark old new changes 0 name ∙ leads);
 }
@@ -139,11 +139,11 @@ written_shut gate body a b c shuts writes any fits = (
 open_step : (gate : Gate) (body : Body) (a b c : File) → ShutsWith gate body a b → ChangesMark b c → SyncStep gate body a c
 open_step gate body a b c shuts changes before fits e image opened = inr (body_stays body b c changes (shuts before fits).1 e image)
 
-fresh_stands : (gate : Gate) (pages : MemPages) (has : Written) (before : Body) → Keeps gate pages has before.pages → (a b : File) → Fits gate before a → Shuts gate a b → ChangesMark a b → HasFresh pages has b.bytes
+fresh_stands : (gate : Gate) (pages : Held) (has : Written) (before : Body) → Keeps gate pages has before.pages → (a b : File) → Fits gate before a → Shuts gate a b → ChangesMark a b → HasFresh pages has b.bytes
 fresh_stands gate pages has before keeps a b fits shuts changes = record { long = omega (arith, ap length (shuts before fits b.bytes (read_image b)), length-take 2 b.bytes); fresh = fresh gate keeps fits }
   where
-    fresh : (h : Gate) → Keeps h pages has before.pages → Fits h before a → (k : ℕ) → 1 ≤ k → is_stale pages has k ≡ false → page_in b.bytes k ≡ Some (page_or_zeros (committed_of pages k))
-    fresh Closed keeps fits k least is = absurd (none_fresh pages k (subst (λ (w : Written). is_stale pages w k ≡ false) (keeps.torn refl) is))
+    fresh : (h : Gate) → Keeps h pages has before.pages → Fits h before a → (k : ℕ) → 1 ≤ k → is_stale pages.commits has k ≡ false → page_in b.bytes k ≡ Some (page_or_zeros (pages.committed k))
+    fresh Closed keeps fits k least is = absurd (none_fresh pages.commits k (subst (λ (w : Written). is_stale pages.commits w k ≡ false) (keeps.torn refl) is))
     fresh Open keeps fits k least is =
         fresh_in pages has before Open keeps b.bytes (body_read before a b changes (fits_body Open before a (λ e. let clash : Open ≡ Closed = e in cc clash) fits)) k least is
     fresh Unknown keeps fits k least is = fresh_in pages has before Unknown keeps b.bytes (body_read before a b changes fits) k least is
@@ -217,7 +217,7 @@ module _ (name : Name) (gate : Gate) (body : Body) where
       file_as name (λ a b. CloseStep gate a b × KeepsImages a b) (FailedSync gate Unknown body) (λ a b both. InClosing not refl both.0.1 both.1) old new (both_files name (CloseStep gate) KeepsImages old new changes keeps)
 
   -- what is not stale stands after the identifier, whatever that is
-  pub fresh_behind : (pages : MemPages) (has : Written) (before : Body) → Keeps gate pages has before.pages → (old mid : Disk) → FileHas old name (Fits gate before) → ChangesFile name (Closes gate) old mid
+  pub fresh_behind : (pages : Held) (has : Written) (before : Body) → Keeps gate pages has before.pages → (old mid : Disk) → FileHas old name (Fits gate before) → ChangesFile name (Closes gate) old mid
       → ChangesFile name (CloseStep gate) old mid → FileHas mid name (λ file. HasFresh pages has file.bytes)
   fresh_behind pages has before keeps old mid there closes changes =
       file_after name (λ a b. Shuts gate a b × CloseStep gate a b) (Fits gate before) (λ file. HasFresh pages has file.bytes)

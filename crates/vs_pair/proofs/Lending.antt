@@ -6,9 +6,11 @@ use Rattle.vs_host.specs.World.{Tells, Scene, CountsFault}
 use Rattle.vs_disk.proofs.Faults.{never_none}
 use Rattle.vs_disk.proofs.Runs.{starts}
 use Rattle.vs_pages.specs.Memory.{KeepsSince}
-use Rattle.vs_pages.specs.MemoryLaws.{keeps_none}
 use Rattle.vs_pages.specs.declared.memory.MemPages.{MemPages}
 use Rattle.vs_pair.specs.declared.pair.SwapPair.{SwapPair}
+use Rattle.vs_pair.specs.HeldLaws.{held_none}
+use Rattle.vs_pair.proofs.HeldLemmas.{held_since}
+use Rattle.vs_pair.specs.Pair.{held_in}
 use Rattle.vs_pair.specs.Lent.{IsReady, KeepsFiles}
 use Rattle.vs_pair.proofs.Others.{fit_changed}
 
@@ -24,7 +26,7 @@ no_cause Failed n cause = record { later = omega arith; risen = λ failed. absur
 pub keeps_damaged : (tells : Tells) (pair : SwapPair) (old new : Scene) → (IsTrue tells.folder → ⊥) → CountsFault old new → KeepsFiles tells pair pair old new
 keeps_damaged tells pair old new silent counts = record {
   files = refl;
-  since = keeps_none pair.pages;
+  held = held_none (held_in pair old.folder);
   frame = counts ∙ (λ i. record old { folder_faults = new.folder_faults; trace = sym (ap (λ (s : Scene). s.trace) counts) i });
   looks = λ told. absurd (silent told);
   counts = λ told. absurd (silent told);
@@ -35,12 +37,12 @@ keeps_damaged tells pair old new silent counts = record {
 
 pub ready_with : (pair : SwapPair) (pages : MemPages) (disk : Disk) → KeepsSince pair.pages pages → IsReady pair disk → IsReady (record pair { pages = pages }) disk
 ready_with pair pages disk since (inl fresh) = inl fresh
-ready_with pair pages disk since (inr fits) = inr (fits.0, fits.1, fits.2, fit_changed pair (record pair { pages = pages }) disk fits.0 fits.1 fits.2 refl since fits.3)
+ready_with pair pages disk since (inr fits) = inr (fits.0, fits.1, fits.2, fit_changed pair (record pair { pages = pages }) disk fits.0 fits.1 fits.2 refl (held_since pair.pages pages since) fits.3)
 
 pub keeps_with : (tells : Tells) (pair : SwapPair) (pages : MemPages) (scene : Scene) → KeepsSince pair.pages pages → KeepsFiles tells pair (record pair { pages = pages }) scene scene
 keeps_with tells pair pages scene since = record {
   files = refl;
-  since = since;
+  held = held_since pair.pages pages since;
   frame = refl;
   looks = λ told. starts (λ a b. b ≡ a) scene refl;
   counts = λ told. never_none scene;

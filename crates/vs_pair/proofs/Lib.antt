@@ -1,5 +1,6 @@
 pub mod Acts
 pub mod Calls
+pub mod HeldLemmas
 pub mod Marks
 pub mod PageWrites
 pub mod FreshPages

@@ -4,7 +4,7 @@ use Rattle.std.specs.Str.{bytes_eq}
 use Rattle.std.proofs.lemmas.Slice.Eq.{bytes_eq-Decides}
 use Rattle.std.proofs.lemmas.Bool.{cond-true, cond-false, true≢false, or_parts}
 use Rattle.vs_host.specs.File.{File, IsFileImage, Leaves, Writes, put, synced_file}
-use Rattle.vs_host.specs.Disk.{Disk, Name, Directory, Change, Renames, Removes, Creates, ChangesFile, ChangesNames, CreatesFile, SyncsNames, changed_names, names_of, names_at, content_in}
+use Rattle.vs_host.specs.Disk.{Disk, Mode, Name, Directory, Change, Renames, Removes, Creates, ChangesFile, ChangesNames, CreatesFile, SyncsNames, changed_names, names_of, names_at, content_in}
 use Rattle.vs_disk.specs.Images.{FileHas}
 use Rattle.vs_disk.specs.Names.{SameAt, IsApart, Undivided}
 use Rattle.vs_disk.proofs.Hands.{Stays, hands_names, hands_synced}
@@ -16,7 +16,9 @@ use Rattle.vs_host.specs.World.{Tells, Scene}
 use Rattle.vs_disk.specs.Runs.{NoneFails}
 use Rattle.vs_pair.specs.Acts.{Acts}
 use Rattle.std.specs.Prelude.{IsSomeAnd}
+use Rattle.vs_pages.specs.Memory.{commits_of}
 use Rattle.vs_pages.specs.declared.memory.MemPages.{MemPages}
+use Rattle.vs_pair.specs.Held.{held_of}
 use Rattle.vs_pair.specs.Stale.{HasFresh, nothing}
 use Rattle.vs_pair.proofs.FreshPages.{none_fresh}
 use Rattle.vs_pair.proofs.Acts.{acts_as, acts_then}
@@ -66,6 +68,7 @@ same_weaker P Q old new leads same = record {
   now = λ name is. same.now name (leads name is);
   back = λ lost. let at = same.back lost in (at.0, λ name is. at.1 name (leads name is));
   files = λ lost name number is. same.files lost name number (leads name is);
+  modes = λ lost name number is. same.modes lost name number (leads name is);
   hands = λ part undivided apart. same.hands part (λ a b out_a out_b. undivided a b (out_too (Q a) (P a) (leads a) out_a) (out_too (Q b) (P b) (leads b) out_b)) apart;
 }
 
@@ -80,7 +83,13 @@ module _ (inside : Name → Bool) (change : Change) (leaves : (names : Directory
   was (suc l) = (l, λ name is. at_name (names_at new (suc l)) (names_at old l) name (older_names change old new changes.synced changes.pending l))
 
   pub names_same : SameAt inside old new
-  names_same = record { now = now_at; back = was; files = λ lost name number is leads_to. ap (λ (f : ℕ → File). f number) changes.files; hands = λ part undivided. hands_names part change old new (stays part undivided) changes }
+  names_same = record {
+    now = now_at;
+    back = was;
+    files = λ lost name number is leads_to. ap (λ (f : ℕ → File). f number) changes.files;
+    modes = λ lost name number is leads_to. ap (λ (f : ℕ → Mode). f number) changes.modes;
+    hands = λ part undivided. hands_names part change old new (stays part undivided) changes;
+  }
 
 pub removed_same : (inside : Name → Bool) (gone : Name) (old new : Disk) → inside gone ≡ false → ChangesNames (Removes gone) old new → SameAt inside old new
 removed_same inside gone old new out changes = names_same inside (Removes gone) (remove_outside inside gone out).leaves (remove_outside inside gone out).stays old new changes
@@ -97,6 +106,7 @@ synced_same inside old new syncs = record {
   now = λ name is. settled old new syncs 0 name;
   back = λ lost. (0, λ name is. settled old new syncs lost name);
   files = λ lost name number is leads. ap (λ (f : ℕ → File). f number) syncs.files;
+  modes = λ lost name number is leads. ap (λ (f : ℕ → Mode). f number) syncs.modes;
   hands = λ part undivided. hands_synced part old new syncs;
 }
 
@@ -216,11 +226,11 @@ marked_new temporary old new writes has =
     (λ a b empty is. ap (λ (f : File). f.bytes) is ∙ ap (λ (f : File). put f.bytes 0 open_mark) empty) old new has writes
 
 -- nothing is known of its pages
-pub new_fresh : (temporary : Name) (pages : MemPages) (disk : Disk) → FileHas disk temporary (λ file. file.bytes ≡ open_mark) → FileHas disk temporary (λ file. HasFresh pages nothing file.bytes)
+pub new_fresh : (temporary : Name) (pages : MemPages) (disk : Disk) → FileHas disk temporary (λ file. file.bytes ≡ open_mark) → FileHas disk temporary (λ file. HasFresh (held_of pages) nothing file.bytes)
 new_fresh temporary pages disk has = record {
   number = has.number;
   leads = has.leads;
-  has = record { long = let two : length (disk.files has.number).bytes ≡ 2 = ap length has.has in omega (arith, two); fresh = λ k least is. absurd (none_fresh pages k is) };
+  has = record { long = let two : length (disk.files has.number).bytes ≡ 2 = ap length has.has in omega (arith, two); fresh = λ k least is. absurd (none_fresh (commits_of pages) k is) };
 }
 
 pub whole_new : (temporary : Name) (body : Body) (old new : Disk) → ChangesFile temporary (WritesBody body) old new → FileHas old temporary (λ file. file.bytes ≡ open_mark) → FileHas new temporary (λ file. Leaves file (IsMade body))

@@ -11,15 +11,14 @@ use Rattle.vs_disk.proofs.Parts.{with_rest, image_with_rest}
 use Rattle.vs_disk.proofs.Steps.{one_state}
 use Rattle.vs_disk.proofs.Contents.{leads_nowhere}
 use Rattle.vs_swap.specs.Recovery.{StandsIn}
-use Rattle.vs_pages.specs.Memory.{KeepsSince}
-use Rattle.vs_pages.specs.declared.memory.MemPages.{MemPages}
 use Rattle.vs_pair.specs.declared.files.SwapFiles.{SwapFiles}
 use Rattle.vs_pair.specs.declared.gate.Gate.TheVariants.{Open}
 use Rattle.vs_pair.specs.declared.pair.SwapPair.{SwapPair}
 use Rattle.vs_pair.specs.declared.side.Side.{Side}
 use Rattle.vs_pair.specs.declared.side.Side.TheVariants.{Swp, Swo}
+use Rattle.vs_pair.specs.Held.{KeepsHeld}
 use Rattle.vs_pair.specs.Swap.{Synced, body_of, IsOpen, Holds, Fits}
-use Rattle.vs_pair.specs.Pair.{Image, Known, name_of, other_side, is_swap, IsThere, IsBelow, HasEarlier, HasLater, IsBeside, IsBetween, Recovers, IsFit, IsOrdered, RisesAt, Rises, known_of}
+use Rattle.vs_pair.specs.Pair.{Image, Known, name_of, other_side, is_swap, IsThere, IsBelow, HasEarlier, HasLater, IsBeside, IsBetween, Recovers, IsFit, IsOrdered, RisesAt, Rises, held_in, known_of, known_with}
 use Rattle.vs_pair.specs.Steps.{IsFresh}
 use Rattle.vs_pair.proofs.Ends.{class}
 use Rattle.vs_pair.proofs.FitLemmas.{side_is_swap}
@@ -87,22 +86,10 @@ fit_kept files old new newest begun past same fit =
 
 -- ---- other pages
 
--- what is known of these files, and of these pages
-abbrev known_with : SwapFiles → MemPages → Known
-known_with files pages = record {
-  names = files.names;
-  newer = files.newer;
-  gate = files.gate;
-  generation = files.generation;
-  pages = pages;
-  newer_has = files.newer_has;
-  older_has = files.older_has;
-}
-
-pub fit_changed : (old new : SwapPair) (disk : Disk) (newest : Synced) (begun past : List Synced) → new.files ≡ old.files → KeepsSince old.pages new.pages → IsFit (known_of old) disk newest begun past
-    → IsFit (known_of new) disk newest begun past
-fit_changed old new disk newest begun past files since fit =
-    let changed : IsFit (known_with old.files new.pages) disk newest begun past = record {
+pub fit_changed : (old new : SwapPair) (disk : Disk) (newest : Synced) (begun past : List Synced) → new.files ≡ old.files → KeepsHeld (held_in old disk) (held_in new disk) → IsFit (known_of old disk) disk newest begun past
+    → IsFit (known_of new disk) disk newest begun past
+fit_changed old new disk newest begun past files held fit =
+    let changed : IsFit (known_with old.files (held_in new disk)) disk newest begun past = record {
       named = fit.named;
       newer_number = fit.newer_number;
       older_number = fit.older_number;
@@ -113,13 +100,13 @@ fit_changed old new disk newest begun past files since fit =
       ordered = fit.ordered;
       newer_used = fit.newer_used;
       older_used = fit.older_used;
-      newer_keeps = keeps_changed Open old.pages new.pages old.files.newer_has newest.pages fit.newer_known since fit.newer_keeps;
-      older_keeps = keeps_changed old.files.gate old.pages new.pages old.files.older_has fit.older_sync.pages fit.older_known since fit.older_keeps;
-      newer_known = omega (arith, fit.newer_known, since.later);
-      older_known = omega (arith, fit.older_known, since.later);
+      newer_keeps = keeps_changed Open (held_in old disk) (held_in new disk) old.files.newer_has newest.pages fit.newer_known held fit.newer_keeps;
+      older_keeps = keeps_changed old.files.gate (held_in old disk) (held_in new disk) old.files.older_has fit.older_sync.pages fit.older_known held fit.older_keeps;
+      newer_known = omega (arith, fit.newer_known, held.later);
+      older_known = omega (arith, fit.older_known, held.later);
       bound = fit.bound;
     } in
-    subst (λ (f : SwapFiles). IsFit (known_with f new.pages) disk newest begun past) (sym files) changed
+    subst (λ (f : SwapFiles). IsFit (known_with f (held_in new disk)) disk newest begun past) (sym files) changed
 
 module _ (names : Names) (old new : Disk) (same : SameAt (is_swap names) old new) where
   -- an image from before, with the same swap files

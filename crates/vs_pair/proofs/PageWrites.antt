@@ -10,10 +10,9 @@ use Rattle.vs_disk.proofs.Images.{length-put, torn_image, sync_narrows}
 use Rattle.vs_disk.proofs.Contents.{some_bytes}
 use Rattle.vs_disk.proofs.Steps.{file_after, file_as, file_then}
 use Rattle.vs_pages.specs.Maps.{Map}
-use Rattle.vs_pages.specs.Memory.{committed_of}
-use Rattle.vs_pages.specs.declared.memory.MemPages.{MemPages}
 use Rattle.vs_swap.specs.Files.{page_in}
 use Rattle.vs_pair.specs.declared.written.Written.{Written}
+use Rattle.vs_pair.specs.Held.{Held}
 use Rattle.vs_pair.specs.Swap.{KeepsMark, HasBody, WritesBody}
 use Rattle.vs_pair.specs.Stale.{HasFresh, is_stale}
 use Rattle.vs_pair.specs.Writes.{HasRun, page_or_zeros}
@@ -93,11 +92,11 @@ page_after bytes piece page at k le past there =
 -- ---- the pages so far
 
 -- Page 0 is written after its identifier. Each number below this one, and each that is not stale, is as it is committed.
-pub record IsSoFar (first : List ℕ) (pages : MemPages) (has : Written) (old : List ℕ) (n : ℕ) (bytes : List ℕ) : Type 0 where
+pub record IsSoFar (first : List ℕ) (pages : Held) (has : Written) (old : List ℕ) (n : ℕ) (bytes : List ℕ) : Type 0 where
   pub marked : take 2 bytes ≡ take 2 old
   pub size : length bytes ≡ max (length old) (4096 * n)
   pub rest : take 4094 (drop 2 bytes) ≡ drop 2 first
-  pub placed : (k : ℕ) → 1 ≤ k → (k < n) ⊎ (is_stale pages has k ≡ false) → page_in bytes k ≡ Some (page_or_zeros (committed_of pages k))
+  pub placed : (k : ℕ) → 1 ≤ k → (k < n) ⊎ (is_stale pages.commits has k ≡ false) → page_in bytes k ≡ Some (page_or_zeros (pages.committed k))
 
 -- what the next write leaves at each place so far and at its own
 page_then : (bytes piece page : List ℕ) (at n k : ℕ) → at ≡ 4096 * n → length piece ≡ 4096 → 4096 * n ≤ length bytes → k < n + 1 → (k < n → page_in bytes k ≡ Some page) → (k ≡ n → piece ≡ page)
@@ -190,21 +189,21 @@ run_alone map at page size is k less =
     ∙ ap (λ (p : List ℕ). Some p) is
     ∙ ap (λ (j : ℕ). Some (page_or_zeros (map j))) (omega (arith, first))
 
-begins : (first : List ℕ) (pages : MemPages) (has : Written) (piece : List ℕ) → piece ≡ drop 2 first → length piece ≡ 4094 → (a b : File) → HasFresh pages has a.bytes → Writes 2 piece a b → IsSoFar first pages has a.bytes 1 b.bytes
+begins : (first : List ℕ) (pages : Held) (has : Written) (piece : List ℕ) → piece ≡ drop 2 first → length piece ≡ 4094 → (a b : File) → HasFresh pages has a.bytes → Writes 2 piece a b → IsSoFar first pages has a.bytes 1 b.bytes
 begins first pages has piece is whole a b fresh writes =
     let now : b.bytes ≡ put a.bytes 2 piece = ap (λ (f : File). f.bytes) writes in
     subst (λ (bytes : List ℕ). IsSoFar first pages has a.bytes 1 bytes) (sym now) (record {
       marked = front a.bytes piece 2 fresh.long;
       size = omega (arith, length-put a.bytes piece 2 fresh.long, whole);
       rest = written a.bytes piece 2 4094 fresh.long whole ∙ is;
-      placed = λ k least either. page_after a.bytes piece (page_or_zeros (committed_of pages k)) 2 k fresh.long (omega (arith, whole, least)) (fresh.fresh k least (not_zero k least either));
+      placed = λ k least either. page_after a.bytes piece (page_or_zeros (pages.committed k)) 2 k fresh.long (omega (arith, whole, least)) (fresh.fresh k least (not_zero k least either));
     })
   where
-    not_zero : (k : ℕ) → 1 ≤ k → (k < 1) ⊎ (is_stale pages has k ≡ false) → is_stale pages has k ≡ false
+    not_zero : (k : ℕ) → 1 ≤ k → (k < 1) ⊎ (is_stale pages.commits has k ≡ false) → is_stale pages.commits has k ≡ false
     not_zero k least (inl less) = absurd (omega (arith, least, less))
     not_zero k least (inr is) = is
 
-more : (first : List ℕ) (pages : MemPages) (has : Written) (piece old : List ℕ) (at n m : ℕ) → 1 ≤ n → at ≡ 4096 * n → length piece ≡ 4096 * m → HasRun (committed_of pages) n m piece → (a b : File)
+more : (first : List ℕ) (pages : Held) (has : Written) (piece old : List ℕ) (at n m : ℕ) → 1 ≤ n → at ≡ 4096 * n → length piece ≡ 4096 * m → HasRun (pages.committed) n m piece → (a b : File)
     → IsSoFar first pages has old n a.bytes → Writes at piece a b → IsSoFar first pages has old (n + m) b.bytes
 more first pages has piece old at n m some place whole run a b so_far writes =
     let now : b.bytes ≡ put a.bytes at piece = ap (λ (f : File). f.bytes) writes in
@@ -215,21 +214,21 @@ more first pages has piece old at n m some place whole run a b so_far writes =
       size = omega (arith, grown, place, whole, so_far.size);
       rest = part a.bytes piece at 2 4094 le (omega (arith, place, some)) ∙ so_far.rest;
       placed = λ k least either.
-          pages_then a.bytes piece (page_or_zeros (committed_of pages k)) at n m k place whole (omega (arith, so_far.size)) (λ around. so_far.placed k least (outside k either around))
-          (λ i same less. run i less ∙ ap (λ (j : ℕ). Some (page_or_zeros (committed_of pages j))) (sym same));
+          pages_then a.bytes piece (page_or_zeros (pages.committed k)) at n m k place whole (omega (arith, so_far.size)) (λ around. so_far.placed k least (outside k either around))
+          (λ i same less. run i less ∙ ap (λ (j : ℕ). Some (page_or_zeros (pages.committed j))) (sym same));
     })
   where
-    outside : (k : ℕ) → (k < n + m) ⊎ (is_stale pages has k ≡ false) → (k < n) ⊎ (n + m ≤ k) → (k < n) ⊎ (is_stale pages has k ≡ false)
+    outside : (k : ℕ) → (k < n + m) ⊎ (is_stale pages.commits has k ≡ false) → (k < n) ⊎ (n + m ≤ k) → (k < n) ⊎ (is_stale pages.commits has k ≡ false)
     outside k either (inl below) = inl below
     outside k (inl less) (inr after) = absurd (omega (arith, less, after))
     outside k (inr is) (inr after) = inr is
 
 -- numbers that are not stale are passed over
-passes : (first : List ℕ) (pages : MemPages) (has : Written) (old : List ℕ) (n to : ℕ) (bytes : List ℕ) → 1 ≤ n → n ≤ to → ((k : ℕ) → n ≤ k → k < to → is_stale pages has k ≡ false) → IsSoFar first pages has old n bytes
+passes : (first : List ℕ) (pages : Held) (has : Written) (old : List ℕ) (n to : ℕ) (bytes : List ℕ) → 1 ≤ n → n ≤ to → ((k : ℕ) → n ≤ k → k < to → is_stale pages.commits has k ≡ false) → IsSoFar first pages has old n bytes
     → IsSoFar first pages has old to bytes
 passes first pages has old n to bytes some le passed so_far = record { marked = so_far.marked; size = as_long; rest = so_far.rest; placed = λ k least either. so_far.placed k least (all k either) }
   where
-    all : (k : ℕ) → (k < to) ⊎ (is_stale pages has k ≡ false) → (k < n) ⊎ (is_stale pages has k ≡ false)
+    all : (k : ℕ) → (k < to) ⊎ (is_stale pages.commits has k ≡ false) → (k < n) ⊎ (is_stale pages.commits has k ≡ false)
     all k (inl less) = elim (cases_lt k n) [ inl below ↦ inl below | inr past ↦ inr (passed k past less) ]
     all k (inr is) = inr is
 
@@ -243,10 +242,10 @@ passes first pages has old n to bytes some le passed so_far = record { marked = 
 -- ---- in the folder
 
 -- the file so far
-abbrev pub SoFar : List ℕ → MemPages → Written → ℕ → File → File → Type 0
+abbrev pub SoFar : List ℕ → Held → Written → ℕ → File → File → Type 0
 SoFar first pages has n old new = IsSoFar first pages has old.bytes n new.bytes
 
-module _ (name : Name) (first : List ℕ) (pages : MemPages) (has : Written) where
+module _ (name : Name) (first : List ℕ) (pages : Held) (has : Written) where
   abbrev Fresh : File → Type 0
   Fresh file = HasFresh pages has file.bytes
 
@@ -254,6 +253,7 @@ module _ (name : Name) (first : List ℕ) (pages : MemPages) (has : Written) whe
   has_first piece whole is old new there writes = record {
     synced = writes.synced;
     pending = writes.pending;
+    modes = writes.modes;
     others = writes.others;
     this = λ number leads. begins first pages has piece is size (old.files number) (new.files number) (fresh number leads) (writes.this number leads);
   }
@@ -267,11 +267,11 @@ module _ (name : Name) (first : List ℕ) (pages : MemPages) (has : Written) whe
       fresh : (number : ℕ) → names_of old name ≡ Some number → HasFresh pages has (old.files number).bytes
       fresh number leads = subst (λ (n : ℕ). HasFresh pages has (old.files n).bytes) (some_same there.number number (sym there.leads ∙ leads)) there.has
 
-  pub has_passed : (n to : ℕ) → 1 ≤ n → n ≤ to → ((k : ℕ) → n ≤ k → k < to → is_stale pages has k ≡ false) → (old new : Disk) → ChangesFile name (SoFar first pages has n) old new → ChangesFile name (SoFar first pages has to) old new
+  pub has_passed : (n to : ℕ) → 1 ≤ n → n ≤ to → ((k : ℕ) → n ≤ k → k < to → is_stale pages.commits has k ≡ false) → (old new : Disk) → ChangesFile name (SoFar first pages has n) old new → ChangesFile name (SoFar first pages has to) old new
   has_passed n to some le passed old new so_far =
       file_as name (SoFar first pages has n) (SoFar first pages has to) (λ a b here. passes first pages has a.bytes n to b.bytes some le passed here) old new so_far
 
-  pub has_more : (piece : List ℕ) (at n m : ℕ) → 1 ≤ n → at ≡ 4096 * n → length piece ≡ 4096 * m → HasRun (committed_of pages) n m piece → (old mid new : Disk) → ChangesFile name (SoFar first pages has n) old mid
+  pub has_more : (piece : List ℕ) (at n m : ℕ) → 1 ≤ n → at ≡ 4096 * n → length piece ≡ 4096 * m → HasRun (pages.committed) n m piece → (old mid new : Disk) → ChangesFile name (SoFar first pages has n) old mid
       → ChangesFile name (Writes at piece) mid new → ChangesFile name (SoFar first pages has (n + m)) old new
   has_more piece at n m some place size run old mid new so_far writes =
       file_then name (SoFar first pages has n) (Writes at piece) (SoFar first pages has (n + m)) (λ a b c one two. more first pages has piece a.bytes at n m some place size run b c one two) old mid new so_far writes
@@ -282,15 +282,15 @@ module _ (name : Name) (first : List ℕ) (pages : MemPages) (has : Written) whe
       file_after name (SoFar first pages has n) Fresh (λ file. at ≤ length file.bytes) (λ a b fresh here. omega (arith, place, here.size)) old new there so_far
 
   -- all pages are written, and the file is synced
-  pub has_all : (n end : ℕ) → 1 ≤ n → end ≤ n → n ≤ max 1 end → ((k : ℕ) → end ≤ k → committed_of pages k ≡ None) → (0 < end → IsSome (committed_of pages (end - 1))) → (old mid new : Disk)
-      → ChangesFile name (SoFar first pages has n) old mid → ChangesFile name Syncs mid new → ChangesFile name (WritesBody (record { first = first; pages = committed_of pages })) old new
+  pub has_all : (n end : ℕ) → 1 ≤ n → end ≤ n → n ≤ max 1 end → ((k : ℕ) → end ≤ k → pages.committed k ≡ None) → (0 < end → IsSome (pages.committed (end - 1))) → (old mid new : Disk)
+      → ChangesFile name (SoFar first pages has n) old mid → ChangesFile name Syncs mid new → ChangesFile name (WritesBody (record { first = first; pages = pages.committed })) old new
   has_all n end some all most none last old mid new so_far syncs =
-      file_then name (SoFar first pages has n) Syncs (WritesBody (record { first = first; pages = committed_of pages }))
+      file_then name (SoFar first pages has n) Syncs (WritesBody (record { first = first; pages = pages.committed }))
       (λ a b c here sync.
       let now : c.bytes ≡ b.bytes = ap (λ (f : File). f.bytes) sync in
       record {
         mark = ap (λ (l : List ℕ). take 2 l) now ∙ here.marked;
-        has = subst (λ (bytes : List ℕ). HasBody (record { first = first; pages = committed_of pages }) bytes) (sym now) (record {
+        has = subst (λ (bytes : List ℕ). HasBody (record { first = first; pages = pages.committed }) bytes) (sym now) (record {
           rest = here.rest;
           pages = λ k page least there. here.placed k least (inl (below k page there)) ∙ ap (λ (o : Option (List ℕ)). Some (page_or_zeros o)) there;
           gaps = λ k above least less free some. here.placed k least (inl (omega (arith, less, below_some above some))) ∙ ap (λ (o : Option (List ℕ)). Some (page_or_zeros o)) free;
@@ -299,19 +299,19 @@ module _ (name : Name) (first : List ℕ) (pages : MemPages) (has : Written) whe
           end = n;
           some = some;
           past = λ k past. none k (omega (arith, past, all));
-          last = λ more. subst (λ (k : ℕ). IsSome (committed_of pages (k - 1))) (omega (arith, more, most, all)) (last (omega (arith, more, most)));
+          last = λ more. subst (λ (k : ℕ). IsSome (pages.committed (k - 1))) (omega (arith, more, most, all)) (last (omega (arith, more, most)));
           is = ap length now ∙ here.size;
         };
         synced = sync ∙ ap (λ (bytes : List ℕ). synced_file bytes) (sym now);
       }) old mid new so_far syncs
     where
-      below_some : (k : ℕ) → IsSome (committed_of pages k) → k < n
+      below_some : (k : ℕ) → IsSome (pages.committed k) → k < n
       below_some k some = elim (cases_lt k n) [
         | inl lt ↦ lt
         | inr past ↦ absurd (true≢false (sym (subst (λ (o : Option (List ℕ)). IsSome o) (none k (omega (arith, past, all))) some)))
       ]
 
-      below : (k : ℕ) (page : List ℕ) → committed_of pages k ≡ Some page → k < n
+      below : (k : ℕ) (page : List ℕ) → pages.committed k ≡ Some page → k < n
       below k page there = elim (cases_lt k n) [
         | inl lt ↦ lt
         | inr past ↦ let clash : None ≡ Some page = sym (none k (omega (arith, past, all))) ∙ there in absurd (cc)

@@ -9,12 +9,13 @@ use Rattle.vs_disk.specs.Images.{MaySync, Torn, Holds as HoldsAlways}
 use Rattle.vs_disk.specs.Runs.{NoneFails}
 use Rattle.vs_disk.proofs.Images.{torn_image, sync_narrows}
 use Rattle.vs_disk.proofs.Steps.{same_at, file_as}
-use Rattle.vs_pages.specs.declared.memory.MemPages.{MemPages}
+use Rattle.vs_pages.specs.State.{Commits}
 use Rattle.vs_swap.specs.Files.{page_in}
 use Rattle.vs_pair.specs.declared.gate.Gate.{Gate}
 use Rattle.vs_pair.specs.declared.gate.Gate.TheVariants.{Open, Closed, Unknown}
 use Rattle.vs_pair.specs.declared.written.Written.{Written}
 use Rattle.vs_pair.specs.Acts.{Acts}
+use Rattle.vs_pair.specs.Held.{Held}
 use Rattle.vs_pair.specs.Stale.{HasCommitted, Keeps, SparesFresh, is_stale}
 use Rattle.vs_pair.specs.Swap.{Synced, Body, body_of, ChangesMark, CloseStep, Fits}
 use Rattle.vs_pair.specs.Pair.{Known, IsFit, name_of, other_side}
@@ -51,66 +52,66 @@ misses_first n is k least = inr (omega (arith, is, least))
 
 -- ---- one file
 
-module _ (pages : MemPages) (has : Written) where
-  spares_joins : (a b c : File) → SparesFresh pages has a b → SparesFresh pages has b c → SparesFresh pages has a c
+module _ (commits : Commits) (has : Written) where
+  spares_joins : (a b c : File) → SparesFresh commits has a b → SparesFresh commits has b c → SparesFresh commits has a c
   spares_joins a b c first second e image =
       let mid = second e image in
       let old = first mid.0 mid.1 in
       (old.0, old.1, λ k page least is there. mid.2 k page least is (old.2 k page least is there))
 
   -- a run of stale pages
-  pub misses_run : (place n from count : ℕ) → place ≡ 4096 * from → n ≡ 4096 * count → ((i : ℕ) → i < count → is_stale pages has (from + i) ≡ true) → (k : ℕ) → is_stale pages has k ≡ false → Misses place n k
+  pub misses_run : (place n from count : ℕ) → place ≡ 4096 * from → n ≡ 4096 * count → ((i : ℕ) → i < count → is_stale commits has (from + i) ≡ true) → (k : ℕ) → is_stale commits has k ≡ false → Misses place n k
   misses_run place n from count at size stale k fresh = elim (cases_lt k from) [
     | inl before ↦ inl (omega (arith, at, before))
     | inr past ↦ elim (cases_lt k (from + count)) [
-      | inl within ↦ absurd (true≢false (sym (subst (λ (j : ℕ). is_stale pages has j ≡ true) (omega (arith, past)) (stale (k - from) (omega (arith, past, within)))) ∙ fresh))
+      | inl within ↦ absurd (true≢false (sym (subst (λ (j : ℕ). is_stale commits has j ≡ true) (omega (arith, past)) (stale (k - from) (omega (arith, past, within)))) ∙ fresh))
       | inr after ↦ inr (omega (arith, at, size, after))
     ]
   ]
 
-  pub write_spares : (at n : ℕ) → ((k : ℕ) → 1 ≤ k → is_stale pages has k ≡ false → Misses at n k) → (a b : File) → WritesSome at n a b → SparesFresh pages has a b
+  pub write_spares : (at n : ℕ) → ((k : ℕ) → 1 ≤ k → is_stale commits has k ≡ false → Misses at n k) → (a b : File) → WritesSome at n a b → SparesFresh commits has a b
   write_spares at n misses a b some c image =
       let torn = torn_image a b at n c some image in
       (torn.0, torn.1, λ k page least is there. page_torn at n torn.0 c torn.2 k (misses k least is) page there)
 
-  pub sync_spares : (a b : File) → MaySync a b → SparesFresh pages has a b
+  pub sync_spares : (a b : File) → MaySync a b → SparesFresh commits has a b
   sync_spares a b (inl same) c image = (c, subst (λ (f : File). IsFileImage f c) same image, λ k page least is there. there)
   sync_spares a b (inr syncs) c image = (c, (sync_narrows a b syncs).images c image, λ k page least is there. there)
 
-  mark_spares : (a b : File) → ChangesMark a b → SparesFresh pages has a b
+  mark_spares : (a b : File) → ChangesMark a b → SparesFresh commits has a b
   mark_spares a b changes c image = let was = changes c image in (was.0, was.1, λ k page least is there. same_page c was.0 was.2 k page least there)
 
   -- ---- in the folder
 
   module _ (tells : Tells) (name : Name) where
-    pub marks : (old new : Scene) → Acts tells (ChangesFile name ChangesMark) old new → Acts tells (ChangesFile name (SparesFresh pages has)) old new
+    pub marks : (old new : Scene) → Acts tells (ChangesFile name ChangesMark) old new → Acts tells (ChangesFile name (SparesFresh commits has)) old new
     marks old new acts =
-        acts_as tells (ChangesFile name ChangesMark) (ChangesFile name (SparesFresh pages has)) old new (λ told d s. file_as name ChangesMark (SparesFresh pages has) mark_spares old.folder d s) acts
+        acts_as tells (ChangesFile name ChangesMark) (ChangesFile name (SparesFresh commits has)) old new (λ told d s. file_as name ChangesMark (SparesFresh commits has) mark_spares old.folder d s) acts
 
-    pub closes : (gate : Gate) (old new : Scene) → Acts tells (ChangesFile name (CloseStep gate)) old new → Acts tells (ChangesFile name (SparesFresh pages has)) old new
+    pub closes : (gate : Gate) (old new : Scene) → Acts tells (ChangesFile name (CloseStep gate)) old new → Acts tells (ChangesFile name (SparesFresh commits has)) old new
     closes gate old new acts =
-        acts_as tells (ChangesFile name (CloseStep gate)) (ChangesFile name (SparesFresh pages has)) old new
-        (λ told d s. file_as name (CloseStep gate) (SparesFresh pages has) (λ a b step. mark_spares a b step.1) old.folder d s) acts
+        acts_as tells (ChangesFile name (CloseStep gate)) (ChangesFile name (SparesFresh commits has)) old new
+        (λ told d s. file_as name (CloseStep gate) (SparesFresh commits has) (λ a b step. mark_spares a b step.1) old.folder d s) acts
 
-    pub spares_on : (old mid new : Scene) → NoneFails tells old mid → Acts tells (ChangesFile name (SparesFresh pages has)) old mid → Acts tells (ChangesFile name (SparesFresh pages has)) mid new
-        → Acts tells (ChangesFile name (SparesFresh pages has)) old new
-    spares_on old mid new none first second = acts_file tells name (SparesFresh pages has) (SparesFresh pages has) (SparesFresh pages has) (λ a b s. s) spares_joins old mid new none first second
+    pub spares_on : (old mid new : Scene) → NoneFails tells old mid → Acts tells (ChangesFile name (SparesFresh commits has)) old mid → Acts tells (ChangesFile name (SparesFresh commits has)) mid new
+        → Acts tells (ChangesFile name (SparesFresh commits has)) old new
+    spares_on old mid new none first second = acts_file tells name (SparesFresh commits has) (SparesFresh commits has) (SparesFresh commits has) (λ a b s. s) spares_joins old mid new none first second
 
 -- ---- what the file fitted
 
-committed_still : (gate : Gate) (pages : MemPages) (has : Written) (before : Body) → Keeps gate pages has before.pages → (a b : File) → Fits gate before a → SparesFresh pages has a b → Leaves b (HasCommitted pages has)
-committed_still Closed pages has before keeps a b fits spares c image k least is = absurd (none_fresh pages k (subst (λ (w : Written). is_stale pages w k ≡ false) (keeps.torn refl) is))
+committed_still : (gate : Gate) (pages : Held) (has : Written) (before : Body) → Keeps gate pages has before.pages → (a b : File) → Fits gate before a → SparesFresh pages.commits has a b → Leaves b (HasCommitted pages has)
+committed_still Closed pages has before keeps a b fits spares c image k least is = absurd (none_fresh pages.commits k (subst (λ (w : Written). is_stale pages.commits w k ≡ false) (keeps.torn refl) is))
 committed_still Open pages has before keeps a b fits spares c image k least is =
     let was = spares c image in was.2 k _ least is (fresh_in pages has before Open keeps was.0 (fits was.0 was.1).whole k least is)
 committed_still Unknown pages has before keeps a b fits spares c image k least is =
     let was = spares c image in was.2 k _ least is (fresh_in pages has before Unknown keeps was.0 (fits was.0 was.1) k least is)
 
 pub fit_spared : (files : Known) (old new : Disk) (newest : Synced) (begun past : List Synced) → IsFit files old newest begun past
-    → ChangesFile (name_of files.names (other_side files.newer)) (SparesFresh files.pages files.older_has) old new
+    → ChangesFile (name_of files.names (other_side files.newer)) (SparesFresh files.pages.commits files.older_has) old new
     → HoldsAlways (name_of files.names (other_side files.newer)) (HasCommitted files.pages files.older_has) new
 fit_spared files old new newest begun past fit changes lost = record {
   number = fit.older_number;
-  leads = same_at (name_of files.names (other_side files.newer)) (SparesFresh files.pages files.older_has) old new changes lost (name_of files.names (other_side files.newer)) ∙ fit.older.leads lost;
+  leads = same_at (name_of files.names (other_side files.newer)) (SparesFresh files.pages.commits files.older_has) old new changes lost (name_of files.names (other_side files.newer)) ∙ fit.older.leads lost;
   leaves = committed_still files.gate files.pages files.older_has (body_of files.names.file fit.older_sync) fit.older_keeps (old.files fit.older_number) (new.files fit.older_number) fit.older.has
       (changes.this fit.older_number (fit.older.leads 0));
 }

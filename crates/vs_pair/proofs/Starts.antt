@@ -14,13 +14,12 @@ use Rattle.vs_disk.specs.Names.{SameAt}
 use Rattle.vs_disk.proofs.Steps.{settled}
 use Rattle.vs_disk.proofs.Others.{same_then}
 use Rattle.vs_pages.specs.Maps.{Map}
-use Rattle.vs_pages.specs.Memory.{commits_of, committed_of}
-use Rattle.vs_pages.specs.declared.memory.MemPages.{MemPages}
 use Rattle.vs_pair.specs.declared.gate.Gate.TheVariants.{Open}
 use Rattle.vs_pair.specs.declared.side.Side.{Side}
 use Rattle.vs_pair.specs.declared.side.Side.TheVariants.{Swp, Swo}
 use Rattle.vs_disk.specs.Runs.{NoneFails}
 use Rattle.vs_pair.specs.Acts.{Acts}
+use Rattle.vs_pair.specs.Held.{Held}
 use Rattle.vs_pair.specs.Swap.{Synced, Body, body_of, Holds, HasLength, IsMade}
 use Rattle.vs_pair.specs.Pair.{Image, Known, name_of, temporary_of, is_foreign, is_swap, is_pair_name, RecoversOrNone, IsFit}
 use Rattle.vs_pair.specs.Steps.{IsAbsent, MayHold, is_neither, Makes, IsFresh, Starting, BothMoved}
@@ -200,19 +199,19 @@ module _ (tells : Tells) (names : Names) (are : AreNames names) (one two : Synce
       ]) none so_far acts
 
   -- when all is done
-  abbrev both_known : MemPages → ℕ → Known
+  abbrev both_known : Held → ℕ → Known
   both_known pages end = record {
     names = names;
     newer = Swo;
     gate = Open;
     generation = 2;
     pages = pages;
-    newer_has = record { commits = (commits_of pages).count; end = end };
-    older_has = record { commits = (commits_of pages).count; end = end };
+    newer_has = record { commits = pages.commits.count; end = end };
+    older_has = record { commits = pages.commits.count; end = end };
   }
 
-  pub both_fit : (pages : MemPages) (end : ℕ) → one.pages ≡ committed_of pages → two.pages ≡ committed_of pages → ((k : ℕ) → end ≤ k → committed_of pages k ≡ None)
-      → (0 < end → IsSome (committed_of pages (end - 1))) → (first second new : Disk) → IsFolder new → FileHas first names.swp (λ file. Leaves file (Holds (body_of names.file one))) → MakesSecond first second
+  pub both_fit : (pages : Held) (end : ℕ) → one.pages ≡ pages.committed → two.pages ≡ pages.committed → ((k : ℕ) → end ≤ k → pages.committed k ≡ None)
+      → (0 < end → IsSome (pages.committed (end - 1))) → (first second new : Disk) → IsFolder new → FileHas first names.swp (λ file. Leaves file (Holds (body_of names.file one))) → MakesSecond first second
       → FileHas second names.swo (λ file. Leaves file (Holds (body_of names.file two))) → SyncsNames second new → IsFit (both_known pages end) new two [] (one ∷ [])
   both_fit pages end one_has two_has past last first second new folder has_one makes has_two syncs =
       let one_there = has_stays (is_neither names.swo_new names.swo) names.swp (λ file. Leaves file (Holds (body_of names.file one))) first second (swp_apart names are) makes.spared has_one in

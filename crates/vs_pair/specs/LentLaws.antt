@@ -3,14 +3,15 @@ use Rattle.std.proofs.Common.{◌≡◌, refl, ◌∙◌, ap}
 use Rattle.vs_host.specs.World.{Tells, Scene, ReadsFolder}
 use Rattle.vs_disk.proofs.Faults.{never_none, never_then}
 use Rattle.vs_disk.proofs.Runs.{starts, looks_on, reads_change}
-use Rattle.vs_pages.specs.MemoryLaws as pages
 use Rattle.vs_pair.specs.declared.pair.SwapPair.{SwapPair}
+use Rattle.vs_pair.specs.HeldLaws.{held_none, held_then}
 use Rattle.vs_pair.specs.Lent.{KeepsFiles}
+use Rattle.vs_pair.specs.Pair.{held_in}
 
 pub keeps_none : (tells : Tells) (pair : SwapPair) (scene : Scene) → KeepsFiles tells pair pair scene scene
 keeps_none tells pair scene = record {
   files = refl;
-  since = pages.keeps_none pair.pages;
+  held = held_none (held_in pair scene.folder);
   frame = refl;
   looks = λ told. starts (λ a b. b ≡ a) scene refl;
   counts = λ told. never_none scene;
@@ -24,7 +25,7 @@ pub keeps_then : (tells : Tells) (a b c : SwapPair) (old mid new : Scene) → Ke
     → KeepsFiles tells b c mid new → KeepsFiles tells a c old new
 keeps_then tells a b c old mid new first second = record {
   files = second.files ∙ first.files;
-  since = pages.keeps_then a.pages b.pages c.pages first.since second.since;
+  held = held_then (held_in a old.folder) (held_in b mid.folder) (held_in c new.folder) first.held second.held;
   frame = reads_then old mid new first.frame second.frame;
   looks = λ told. looks_on old mid new (reads_change old mid first.frame) (first.looks told) (second.looks told);
   counts = λ told. never_then old mid new first.frame (first.counts told) (second.counts told);

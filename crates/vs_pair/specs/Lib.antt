@@ -1,4 +1,6 @@
 pub mod Acts
+pub mod Held
+pub mod HeldLaws
 pub mod Pair
 pub mod Swap
 pub mod Writes

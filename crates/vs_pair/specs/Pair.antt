@@ -7,8 +7,9 @@ use Rattle.vs_host.specs.declared.names.Names.{Names}
 use Rattle.vs_host.specs.Names.{AreNames}
 use Rattle.vs_disk.specs.Images.{FileAlways}
 use Rattle.vs_disk.specs.Names.{SameAt}
-use Rattle.vs_pages.specs.Memory.{commits_of, committed_of}
-use Rattle.vs_pages.specs.declared.memory.MemPages.{MemPages}
+use Rattle.vs_pages.specs.Maps.{Map}
+use Rattle.vs_pages.specs.Memory.{state_of}
+use Rattle.vs_pages.specs.State.{PageState}
 use Rattle.vs_text.specs.Text.{IsText, stored}
 use Rattle.vs_text.specs.Documents.{Document}
 use Rattle.vs_tree_shape.specs.Trees.{HasLines}
@@ -20,8 +21,10 @@ use Rattle.vs_pair.specs.declared.gate.Gate.{Gate}
 use Rattle.vs_pair.specs.declared.gate.Gate.TheVariants.{Open, Closed, Unknown}
 use Rattle.vs_pair.specs.declared.side.Side.{Side}
 use Rattle.vs_pair.specs.declared.side.Side.TheVariants.{Swp, Swo}
+use Rattle.vs_pair.specs.declared.files.SwapFiles.{SwapFiles}
 use Rattle.vs_pair.specs.declared.pair.SwapPair.{SwapPair}
 use Rattle.vs_pair.specs.declared.written.Written.{Written}
+use Rattle.vs_pair.specs.Held.{Held, held_of}
 use Rattle.vs_pair.specs.Swap.{Synced, body_of, IsOpen, HasBody, Holds, Fits, MayBeClosed}
 use Rattle.vs_pair.specs.Stale.{Keeps}
 
@@ -122,29 +125,45 @@ pub record Known : Type 0 where
   pub newer : Side
   pub gate : Gate
   pub generation : ℕ
-  pub pages : MemPages
+  pub pages : Held
   pub newer_has : Written
   pub older_has : Written
 
 -- what a pair knows of its two files, as its fields say it
-abbrev pub known_of : SwapPair → Known
-known_of pair = record {
-  names = pair.files.names;
-  newer = pair.files.newer;
-  gate = pair.files.gate;
-  generation = pair.files.generation;
-  pages = pair.pages;
-  newer_has = pair.files.newer_has;
-  older_has = pair.files.older_has;
+abbrev pub known_with : SwapFiles → Held → Known
+known_with files pages = record {
+  names = files.names;
+  newer = files.newer;
+  gate = files.gate;
+  generation = files.generation;
+  pages = pages;
+  newer_has = files.newer_has;
+  older_has = files.older_has;
 }
 
+-- what a pair shows of its pages over this folder
+abbrev pub shown_in : SwapPair → Disk → PageState
+shown_in pair disk = state_of pair.pages
+
+-- what it holds of them
+abbrev pub held_in : SwapPair → Disk → Held
+held_in pair disk = held_of pair.pages
+
+-- its committed pages
+abbrev pub committed_in : SwapPair → Disk → Map
+committed_in pair disk = (held_in pair disk).committed
+
+-- what a pair knows over this folder
+abbrev pub known_of : SwapPair → Disk → Known
+known_of pair disk = known_with pair.files (held_in pair disk)
+
 -- a sync of the committed pages
-abbrev pub sync_with : SwapPair → ℕ → Head → Synced
-sync_with pair generation head = record { generation = generation; head = head; pages = committed_of pair.pages }
+abbrev pub sync_with : SwapPair → Disk → ℕ → Head → Synced
+sync_with pair disk generation head = record { generation = generation; head = head; pages = committed_in pair disk }
 
 -- the sync that is about to begin
-abbrev pub sync_of : SwapPair → Head → Synced
-sync_of pair head = sync_with pair (pair.files.generation + 1) head
+abbrev pub sync_of : SwapPair → Disk → Head → Synced
+sync_of pair disk head = sync_with pair disk (pair.files.generation + 1) head
 
 -- The file of the older sync has the text of one that was acknowledged before the newest.
 pub record IsEarlier (newest older : Synced) (past : List Synced) : Type 0 where
@@ -179,8 +198,8 @@ pub record IsFit (files : Known) (disk : Disk) (newest : Synced) (begun past : L
   pub older_used : older_sync.generation ≤ files.generation
   pub newer_keeps : Keeps Open files.pages files.newer_has newest.pages
   pub older_keeps : Keeps files.gate files.pages files.older_has older_sync.pages
-  pub newer_known : files.newer_has.commits ≤ (commits_of files.pages).count
-  pub older_known : files.older_has.commits ≤ (commits_of files.pages).count
+  pub newer_known : files.newer_has.commits ≤ files.pages.commits.count
+  pub older_known : files.older_has.commits ≤ files.pages.commits.count
   pub bound : files.generation ≤ 2 ^ 63
 
 -- the pair fits the folder with some last acknowledged sync, and some before and after it

@@ -14,8 +14,8 @@ impl SwapPair {
     /// Removes both files, that of the last acknowledged sync after the other one. After an error the files that are left stay.
     pub fn end<F: Folder>(self, host: &mut F) -> Result<(), Failed>
         requires started { 2 ≤ self.files.generation }
-        requires fits { IsTrue F.tells.folder → HasFit (known_of self) (F.scene host.old).folder }
-        ensures acts { Acts F.tells (Ending (known_of self)) (F.scene host.old) (F.scene host.new) }
+        requires fits { IsTrue F.tells.folder → HasFit (known_of self (F.scene host.old).folder) (F.scene host.old).folder }
+        ensures acts { Acts F.tells (Ending (known_of self (F.scene host.old).folder)) (F.scene host.old) (F.scene host.new) }
         ensures gone { OnOk result (IsTrue F.tells.folder
             → IsAbsent self.files.names.swp (F.scene host.new).folder × IsAbsent self.files.names.swo (F.scene host.new).folder) }
         ensures none { OnOk result (NoneFails F.tells (F.scene host.old) (F.scene host.new)) }

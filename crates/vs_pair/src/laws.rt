@@ -9,9 +9,9 @@ ghost use Rattle.vs_zero.specs.Zero.{reading_of};
 ghost use Rattle.vs_text.specs.Documents.{Document};
 ghost use Rattle.vs_swap.specs.Recovery.{Recovered};
 ghost use Rattle.vs_pair.specs.Swap.{Synced, Holds, IsFormatNumber, body_of, zero_of};
-ghost use Rattle.vs_pair.specs.Pair.{Image, Known, is_swap, IsFit, IsBetween, IsDocumentOf, Offers, Recovers, Rises, known_of, name_of, other_side};
+ghost use Rattle.vs_pair.specs.Pair.{Image, Known, is_swap, IsFit, IsBetween, IsDocumentOf, Offers, Recovers, Rises, held_in, known_of, name_of, other_side};
 ghost use Rattle.vs_pair.specs.Stale.{HasCommitted, SparesFresh};
-ghost use Rattle.vs_pages.specs.Memory.{KeepsSince};
+ghost use Rattle.vs_pair.specs.Held.{KeepsHeld};
 ghost use Rattle.vs_pair.specs.declared.pair.SwapPair.{SwapPair};
 ghost use Rattle.vs_pair.specs.Steps.{IsFresh};
 
@@ -27,7 +27,7 @@ pub fn fitting()
 /// While a sync writes only the pages that may differ in its file, each image of that file has all others as they are committed.
 pub fn sparing()
     ensures { (files : Known) (old new : Disk) (newest : Synced) (begun past : List Synced) → IsFit files old newest begun past
-        → ChangesFile (name_of files.names (other_side files.newer)) (SparesFresh files.pages files.older_has) old new
+        → ChangesFile (name_of files.names (other_side files.newer)) (SparesFresh files.pages.commits files.older_has) old new
         → HoldsAlways (name_of files.names (other_side files.newer)) (HasCommitted files.pages files.older_has) new }
 {}
 
@@ -54,8 +54,9 @@ pub fn leaving()
 
 /// Pages that changed leave all that is said of the files, as long as each commit that changed a page is known.
 pub fn changing()
-    ensures { (old new : SwapPair) (disk : Disk) (newest : Synced) (begun past : List Synced) → new.files ≡ old.files → KeepsSince old.pages new.pages
-        → IsFit (known_of old) disk newest begun past → IsFit (known_of new) disk newest begun past }
+    ensures { (old new : SwapPair) (disk : Disk) (newest : Synced) (begun past : List Synced) → new.files ≡ old.files
+        → KeepsHeld (held_in old disk) (held_in new disk)
+        → IsFit (known_of old disk) disk newest begun past → IsFit (known_of new disk) disk newest begun past }
 {}
 
 /// A folder in which nothing is pending, and neither swap file is there, is fresh.

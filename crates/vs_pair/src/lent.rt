@@ -1,9 +1,10 @@
 // The pages of a pair as a store of pages.
 ghost use Rattle.std.specs.Prelude.{◌≡◌, IfSome, IsTrue, length, option_map};
 ghost use Rattle.vs_disk.specs.Faults.{earlier_faults};
-ghost use Rattle.vs_pages.specs.Memory.{present_of, state_of};
+ghost use Rattle.vs_pages.specs.Memory.{present_of};
 ghost use Rattle.vs_pages.specs.MemoryLaws.{are_present, are_committed};
 ghost use Rattle.vs_pair.specs.Lent.{IsReady, KeepsFiles};
+ghost use Rattle.vs_pair.specs.Pair.{shown_in};
 
 use crate::SwapPair;
 use std::alloc::Global;
@@ -27,7 +28,7 @@ impl<'p, 'h, F: Folder> Pages for PairPages<'p, 'h, F> {
 
     ghost tells = { F.tells.folder };
 
-    ghost shows = { λ store. record (state_of store.pair.now.pages) { faults = (F.scene store.host.now).folder_faults } };
+    ghost shows = { λ store. record (shown_in store.pair.now (F.scene store.host.now).folder) { faults = (F.scene store.host.now).folder_faults } };
 
     ghost valid = { λ store. IsTrue F.tells.folder → IsReady store.pair.now (F.scene store.host.now).folder };
 

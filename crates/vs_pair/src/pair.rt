@@ -38,7 +38,7 @@ impl Drop for SwapPair {
 }
 
 impl SwapPair {
-    ghost use Rattle.vs_pair.specs.Pair.{known_of, sync_of};
+    ghost use Rattle.vs_pair.specs.Pair.{committed_in, known_of, sync_of};
 
     /// A pair for the file of this name, with the pages 0, 1 and 2 as zeros. It makes no file.
     pub fn new(alloc: Global, name: &str) -> Result<SwapPair, AllocError>
@@ -72,29 +72,33 @@ impl SwapPair {
         requires started { 2 ≤ self.old.files.generation }
         requires room { self.old.files.generation < 2 ^ 63 }
         requires known { IsFormatNumber head.now.format }
-        requires fits { IsTrue F.tells.folder → HasFit (known_of self.old) (F.scene host.old).folder }
+        requires fits { IsTrue F.tells.folder → HasFit (known_of self.old (F.scene host.old).folder) (F.scene host.old).folder }
 
-        ensures acts { Acts F.tells (Syncing (known_of self.old) (sync_of self.old head.now)) (F.scene host.old) (F.scene host.new) }
+        ensures acts { Acts F.tells (Syncing (known_of self.old (F.scene host.old).folder) (sync_of self.old (F.scene host.old).folder head.now))
+            (F.scene host.old) (F.scene host.new) }
         ensures ok { OnOk result (IsTrue F.tells.folder → (newest : Synced) (begun past : List Synced)
-            → IsFit (known_of self.old) (F.scene host.old).folder newest begun past
-            → IsFit (known_of self.new) (F.scene host.new).folder (sync_of self.old head.now) [] (newest ∷ past)) }
+            → IsFit (known_of self.old (F.scene host.old).folder) (F.scene host.old).folder newest begun past
+            → IsFit (known_of self.new (F.scene host.new).folder) (F.scene host.new).folder
+            (sync_of self.old (F.scene host.old).folder head.now) [] (newest ∷ past)) }
         ensures err { OnErr result (IsTrue F.tells.folder → (newest : Synced) (begun past : List Synced)
-            → IsFit (known_of self.old) (F.scene host.old).folder newest begun past
-            → IsFit (known_of self.new) (F.scene host.new).folder newest (sync_of self.old head.now ∷ begun) past) }
+            → IsFit (known_of self.old (F.scene host.old).folder) (F.scene host.old).folder newest begun past
+            → IsFit (known_of self.new (F.scene host.new).folder) (F.scene host.new).folder
+            newest (sync_of self.old (F.scene host.old).folder head.now ∷ begun) past) }
 
         // Only pages that may differ in the file are written: in each image at each moment all others stand as before.
         ensures spared { Acts F.tells (ChangesFile (name_of self.old.files.names (other_side self.old.files.newer))
-            (SparesFresh self.old.pages self.old.files.older_has)) (F.scene host.old) (F.scene host.new) }
+            (SparesFresh (commits_of self.old.pages) self.old.files.older_has)) (F.scene host.old) (F.scene host.new) }
 
         // The file comes to go up to its last page, or goes as far as before.
         ensures grown { OnOk result (IsTrue F.tells.folder → ChangesFile (name_of self.old.files.names (other_side self.old.files.newer))
-            (Lengthens (committed_of self.old.pages)) (F.scene host.old).folder (F.scene host.new).folder) }
+            (Lengthens (committed_in self.old (F.scene host.old).folder)) (F.scene host.old).folder (F.scene host.new).folder) }
 
         // Some file stands in every image with a generation above all before, exactly where the sync is acknowledged.
-        ensures rises { OnOk result (IsTrue F.tells.folder → (document : Document) → IsDocumentOf (sync_of self.old head.now) document
+        ensures rises { OnOk result (IsTrue F.tells.folder → (document : Document)
+            → IsDocumentOf (sync_of self.old (F.scene host.old).folder head.now) document
             → Rises self.old.files.names (F.scene host.old).folder (F.scene host.new).folder) }
         ensures stays { OnErr result (IsTrue F.tells.folder → (newest : Synced) (begun past : List Synced)
-            → IsFit (known_of self.old) (F.scene host.old).folder newest begun past
+            → IsFit (known_of self.old (F.scene host.old).folder) (F.scene host.old).folder newest begun past
             → (document : Document) → IsDocumentOf newest document
             → Rises self.old.files.names (F.scene host.old).folder (F.scene host.new).folder → ⊥) }
         ensures pages { self.new.pages ≡ self.old.pages }
@@ -106,7 +110,7 @@ impl SwapPair {
         // Six calls and one for each page that may differ in the file, at most. What may differ is what a commit changed since the file was
         // synced.
         ensures calls { (end : ℕ) → IsEnd self.old.pages end
-            → CallsAtMost F.tells (F.scene host.old) (F.scene host.new) (6 + stale_below self.old.pages self.old.files.older_has end) }
+            → CallsAtMost F.tells (F.scene host.old) (F.scene host.new) (6 + stale_below (commits_of self.old.pages) self.old.files.older_has end) }
         ensures few { (end : ℕ) (numbers : List ℕ) → IsEnd self.old.pages end → HasChanged self.old.pages self.old.files.older_has end numbers
             → CallsAtMost F.tells (F.scene host.old) (F.scene host.new) (6 + length numbers) }
         ensures behind { (most : ℕ) → IsBehind self.old.pages self.old.files.older_has most

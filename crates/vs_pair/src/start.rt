@@ -3,11 +3,10 @@ ghost use Rattle.std.specs.Prelude.{◌≡◌, ◌∷◌, [], None, OnOk, OnErr,
 ghost use Rattle.vs_faults.specs.Faults.{HasCause};
 ghost use Rattle.vs_disk.specs.Runs.{NoneFails};
 ghost use Rattle.vs_pair.specs.Acts.{Acts};
-ghost use Rattle.vs_pair.specs.Pair.{IsFit, known_of, name_of, temporary_of, sync_with};
+ghost use Rattle.vs_pair.specs.Pair.{IsFit, committed_in, known_of, name_of, temporary_of, sync_with};
 ghost use Rattle.vs_pair.specs.Steps.{BothEnd, BothMoved, IsAbsent, IsFresh, Makes, Starting};
 ghost use Rattle.vs_pair.specs.Stale.{KnowsAll};
 ghost use Rattle.vs_pair.specs.Swap.{IsFormatNumber, IsMade, body_of};
-ghost use Rattle.vs_pages.specs.Memory.{committed_of};
 ghost use Rattle.vs_host.specs.Disk.{names_of};
 ghost use Rattle.vs_host.specs.File.{Leaves};
 ghost use Rattle.vs_disk.specs.Images.{FileHas};
@@ -31,10 +30,10 @@ impl SwapPair {
         requires known { IsFormatNumber head.now.format }
         requires absent { IsTrue F.tells.folder → IsAbsent (name_of self.now.files.names side) (F.scene host.old).folder }
         ensures acts { Acts F.tells (Makes (temporary_of self.now.files.names side) (name_of self.now.files.names side)
-            (body_of self.now.files.names.file (sync_with self.now generation head.now)))
+            (body_of self.now.files.names.file (sync_with self.now (F.scene host.old).folder generation head.now)))
             (F.scene host.old) (F.scene host.new) }
         ensures made { OnOk result (IsTrue F.tells.folder → FileHas (F.scene host.new).folder (name_of self.now.files.names side)
-            (λ file. Leaves file (IsMade (body_of self.now.files.names.file (sync_with self.now generation head.now))))) }
+            (λ file. Leaves file (IsMade (body_of self.now.files.names.file (sync_with self.now (F.scene host.old).folder generation head.now))))) }
         ensures moved { OnOk result (IsTrue F.tells.folder → names_of (F.scene host.new).folder (temporary_of self.now.files.names side) ≡ None) }
         ensures none { OnOk result (NoneFails F.tells (F.scene host.old) (F.scene host.new)) }
         ensures cause { HasCause (F.scene host.old).folder_faults (F.scene host.new).folder_faults (IsErr result) }
@@ -56,11 +55,14 @@ impl SwapPair {
         requires new { self.old.files.generation ≡ 0 }
         requires known { IsFormatNumber head.now.format }
         requires fresh { IsTrue F.tells.folder → IsFresh self.old.files.names (F.scene host.old).folder }
-        ensures acts { Acts F.tells (Starting self.old.files.names (sync_with self.old 1 head.now) (sync_with self.old 2 head.now))
+        ensures acts { Acts F.tells (Starting self.old.files.names
+            (sync_with self.old (F.scene host.old).folder 1 head.now) (sync_with self.old (F.scene host.old).folder 2 head.now))
             (F.scene host.old) (F.scene host.new) }
         ensures ok { OnOk result (IsTrue F.tells.folder
-            → IsFit (known_of self.new) (F.scene host.new).folder (sync_with self.old 2 head.now) [] (sync_with self.old 1 head.now ∷ [])) }
-        ensures ends { OnOk result (IsTrue F.tells.folder → BothEnd self.old.files.names (committed_of self.old.pages) (F.scene host.new).folder) }
+            → IsFit (known_of self.new (F.scene host.new).folder) (F.scene host.new).folder
+            (sync_with self.old (F.scene host.old).folder 2 head.now) [] (sync_with self.old (F.scene host.old).folder 1 head.now ∷ [])) }
+        ensures ends { OnOk result (IsTrue F.tells.folder
+            → BothEnd self.old.files.names (committed_in self.old (F.scene host.old).folder) (F.scene host.new).folder) }
         ensures moved { OnOk result (IsTrue F.tells.folder → BothMoved self.old.files.names (F.scene host.new).folder) }
         ensures sides { OnOk result ((self.new.files.newer ≡ Side.Swo) × (self.new.files.gate ≡ Gate.Open)) }
         ensures generation { OnOk result (self.new.files.generation ≡ 2) }

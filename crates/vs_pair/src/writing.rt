@@ -4,9 +4,10 @@ ghost use Rattle.vs_faults.specs.Faults.{HasCause};
 ghost use Rattle.vs_host.specs.File.{Leaves, put};
 ghost use Rattle.vs_host.specs.Disk.{ChangesFile};
 ghost use Rattle.vs_disk.specs.Images.{FileHas, KeepsImages};
-ghost use Rattle.vs_pages.specs.Memory.{committed_of};
+ghost use Rattle.vs_pages.specs.Memory.{commits_of, committed_of};
 ghost use Rattle.vs_disk.specs.Runs.{CallsAtMost, NoneFails};
 ghost use Rattle.vs_pair.specs.Acts.{Acts};
+ghost use Rattle.vs_pair.specs.Held.{held_of};
 ghost use Rattle.vs_pair.specs.Stale.{HasFresh, IsEnd, Keeps, SparesFresh, stale_below};
 ghost use Rattle.vs_pair.specs.Writes.{HasRun, page_or_zeros};
 ghost use Rattle.vs_pair.specs.Swap.{Body, Holds, HasMark, ChangesMark, KeepsMark, KeepsLength, Lengthens, WritesBody, Fits, CloseStep, Closes, SyncStep, FailedSync, open_mark};
@@ -111,18 +112,18 @@ pub(crate) fn write_pages<F: Folder>(
     written: &Written,
 ) -> Result<(), Failed>
     requires size { length first.now ≡ 4096 }
-    requires there { IsTrue F.tells.folder → FileHas (F.scene host.old).folder name.now (λ file. HasFresh pages.now written.now file.bytes) }
+    requires there { IsTrue F.tells.folder → FileHas (F.scene host.old).folder name.now (λ file. HasFresh (held_of pages.now) written.now file.bytes) }
 
     // At each moment each image has an identifier from before.
     ensures acts { Acts F.tells (ChangesFile name.now KeepsMark) (F.scene host.old) (F.scene host.new) }
-    ensures spared { Acts F.tells (ChangesFile name.now (SparesFresh pages.now written.now)) (F.scene host.old) (F.scene host.new) }
+    ensures spared { Acts F.tells (ChangesFile name.now (SparesFresh (commits_of pages.now) written.now)) (F.scene host.old) (F.scene host.new) }
     ensures written { OnOk result (IsTrue F.tells.folder
         → ChangesFile name.now (WritesBody (record { first = first.now; pages = committed_of pages.now }))
         (F.scene host.old).folder (F.scene host.new).folder) }
     ensures none { OnOk result (NoneFails F.tells (F.scene host.old) (F.scene host.new)) }
     ensures cause { HasCause (F.scene host.old).folder_faults (F.scene host.new).folder_faults (IsErr result) }
     ensures calls { (end : ℕ) → IsEnd pages.now end →
-        CallsAtMost F.tells (F.scene host.old) (F.scene host.new) (2 + stale_below pages.now written.now end) }
+        CallsAtMost F.tells (F.scene host.old) (F.scene host.new) (2 + stale_below (commits_of pages.now) written.now end) }
 {
     host.write_at(name, 2, &first[2..])?;
     let mut run = [0; RUN_SIZE];
@@ -192,12 +193,13 @@ pub(crate) fn sync_file<F: Folder>(
 ) -> Result<(), Failed>
     requires size { length first.now ≡ 4096 }
     requires fits { IsTrue F.tells.folder
-        → (before : Body) × FileHas (F.scene host.old).folder name.now (Fits gate.old before) × Keeps gate.old pages.now written.now before.pages }
+        → (before : Body) × FileHas (F.scene host.old).folder name.now (Fits gate.old before)
+        × Keeps gate.old (held_of pages.now) written.now before.pages }
 
     // At each moment each image is not open, or has the body before or this one.
     ensures acts { Acts F.tells (ChangesFile name.now (SyncStep gate.old (record { first = first.now; pages = committed_of pages.now })))
         (F.scene host.old) (F.scene host.new) }
-    ensures spared { Acts F.tells (ChangesFile name.now (SparesFresh pages.now written.now)) (F.scene host.old) (F.scene host.new) }
+    ensures spared { Acts F.tells (ChangesFile name.now (SparesFresh (commits_of pages.now) written.now)) (F.scene host.old) (F.scene host.new) }
     ensures opened { OnOk result (gate.new ≡ Gate.Open) }
     ensures stands { OnOk result (IsTrue F.tells.folder
         → FileHas (F.scene host.new).folder name.now (λ file. Leaves file (Holds (record { first = first.now; pages = committed_of pages.now })))) }
@@ -209,7 +211,7 @@ pub(crate) fn sync_file<F: Folder>(
     ensures none { OnOk result (NoneFails F.tells (F.scene host.old) (F.scene host.new)) }
     ensures cause { HasCause (F.scene host.old).folder_faults (F.scene host.new).folder_faults (IsErr result) }
     ensures calls { (end : ℕ) → IsEnd pages.now end →
-        CallsAtMost F.tells (F.scene host.old) (F.scene host.new) (6 + stale_below pages.now written.now end) }
+        CallsAtMost F.tells (F.scene host.old) (F.scene host.new) (6 + stale_below (commits_of pages.now) written.now end) }
 {
     close_gate(host, name, gate)?;
     write_pages(host, name, first, pages, written)?;

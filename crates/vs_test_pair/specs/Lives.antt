@@ -12,4 +12,4 @@ HasText pair = IsSome (pages_at (present_of pair.pages) 2 1)
 
 -- the pair fits, whatever was synced
 abbrev pub Fits : SwapPair → Disk → Type 0
-Fits pair disk = HasFit (known_of pair) disk
+Fits pair disk = HasFit (known_of pair disk) disk

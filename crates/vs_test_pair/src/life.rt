@@ -2,9 +2,9 @@
 ghost use Rattle.std.specs.Prelude.{◌≡◌, ◌+◌, ◌<◌, ◌≤◌, ◌^◌, List, Some, IfOk, IfSome, OnOk, IsSome, IsTrue, codes};
 ghost use Rattle.vs_host.specs.Names.{names_of_file};
 ghost use Rattle.vs_pages.specs.Maps.{first_pages};
-ghost use Rattle.vs_pages.specs.Memory.{present_of, KeepsSince};
+ghost use Rattle.vs_pages.specs.Memory.{present_of};
+ghost use Rattle.vs_pair.specs.Held.{KeepsHeld, held_of};
 ghost use Rattle.vs_pair.specs.Swap.{IsFormatNumber, Synced};
-ghost use Rattle.vs_pair.specs.Pair.{IsFit, known_of};
 ghost use Rattle.vs_pair.specs.Steps.{IsFresh};
 ghost use Rattle.vs_pair.specs.Lent.{IsReady};
 ghost use Rattle.vs_test_pair.specs.Lives.{HasText, Fits};
@@ -37,7 +37,7 @@ fn put_text<F: Folder>(
     requires ready { IsTrue F.tells.folder → IsReady pair.old (F.scene host.old).folder }
     requires there { IsTrue F.tells.folder → HasText pair.old }
     ensures files { OnOk result (pair.new.files ≡ pair.old.files) }
-    ensures since { OnOk result (KeepsSince pair.old.pages pair.new.pages) }
+    ensures held { OnOk result (KeepsHeld (held_of pair.old.pages) (held_of pair.new.pages)) }
     ensures there { OnOk result (IsTrue F.tells.folder → HasText pair.new) }
     ensures folder { OnOk result ((F.scene host.new).folder ≡ (F.scene host.old).folder) }
 {

@@ -1,12 +1,13 @@
 use Rattle.std.proofs.lemmas.Result.{on_ok_weaker}
-use Rattle.vs_host.specs.Disk.{ChangesNames, CreatesFile, Renames}
+use Rattle.vs_host.specs.Disk.{ChangesNames, Renames, owner_mode}
 use Rattle.vs_host.specs.File.{Leaves, WritesSome}
 use Rattle.vs_host.specs.Trace.{Created, Wrote, Renamed}
 use Rattle.vs_disk.proofs.Contents.{not_there}
 use Rattle.vs_pages.specs.Memory.{committed_of}
 use Rattle.vs_pair.specs.Swap.{IsMade, KeepsMark}
+use Rattle.vs_disk.proofs.Modes.{mode_made, mode_stays, modes_renamed}
 use Rattle.vs_disk.proofs.Quiet.{none_call, none_then}
-use Rattle.vs_pair.proofs.Calls.{write_acts, either_acts, is_there}
+use Rattle.vs_pair.proofs.Calls.{create_acts, write_acts, either_acts, is_there}
 use Rattle.vs_pair.proofs.MadeFiles.{clearing, creating, writing, renaming, making_begins, making_creates, making_writes, created, created_there, marked_new, new_fresh, whole_new, made_holds, renamed_has, renamed_gone}
 use Rattle.vs_pair.proofs.making.make_file.Goals as goal
 
@@ -19,7 +20,7 @@ create_private-requires g c told = not_there (g.F.World.scene c.clear.new.host).
 pub returns-in_err-create_private-clause-acts : goal.returns-in_err-create_private-clause-acts
 returns-in_err-create_private-clause-acts g c =
     creating g.F.World.tells c.args.temporary.now c.args.name.now c.requires.differ (record { first = c.args.first.now; pages = committed_of c.args.pages.now }) _ c.requires.absent _ _ c.in_ok-clear.ensures.none c.clear.ensures.acts c.in_ok-clear.ensures.free
-    (either_acts g.F.World.tells (CreatesFile c.args.temporary.now) Created _ c.create_private.result _ _ c.create_private.ensures.ok c.create_private.ensures.err c.create_private.ensures.cause c.create_private.ensures.told c.create_private.ensures.frame)
+    (create_acts g.F.World.tells c.args.temporary.now c.create_private.result _ _ c.create_private.ensures.ok c.create_private.ensures.mode c.create_private.ensures.err c.create_private.ensures.cause c.create_private.ensures.told c.create_private.ensures.frame)
 
 pub write_at-requires : goal.write_at-requires
 write_at-requires g c told = created_there c.args.temporary.now (g.F.World.scene c.clear.new.host).folder (g.F.World.scene c.create_private.new.self).folder (c.in_ok-create_private.ensures.ok told)
@@ -28,7 +29,7 @@ pub returns-in_err-write_at-clause-acts : goal.returns-in_err-write_at-clause-ac
 returns-in_err-write_at-clause-acts g c =
     writing g.F.World.tells c.args.temporary.now c.args.name.now c.requires.differ (record { first = c.args.first.now; pages = committed_of c.args.pages.now }) _ c.requires.absent (WritesSome 0 2) _ _ (none_then g.F.World.tells _ _ _ c.in_ok-clear.ensures.none (none_call g.F.World.tells Created _ c.create_private.result _ _ c.create_private.ensures.frame c.create_private.ensures.told c.in_ok-create_private.ensures.quiet))
     (creating g.F.World.tells c.args.temporary.now c.args.name.now c.requires.differ (record { first = c.args.first.now; pages = committed_of c.args.pages.now }) _ c.requires.absent _ _ c.in_ok-clear.ensures.none c.clear.ensures.acts c.in_ok-clear.ensures.free
-    (either_acts g.F.World.tells (CreatesFile c.args.temporary.now) Created _ c.create_private.result _ _ c.create_private.ensures.ok c.create_private.ensures.err c.create_private.ensures.cause c.create_private.ensures.told c.create_private.ensures.frame))
+    (create_acts g.F.World.tells c.args.temporary.now c.create_private.result _ _ c.create_private.ensures.ok c.create_private.ensures.mode c.create_private.ensures.err c.create_private.ensures.cause c.create_private.ensures.told c.create_private.ensures.frame))
     (λ told. (making_creates c.args.temporary.now _ (g.F.World.scene c.clear.new.host).folder (g.F.World.scene c.create_private.new.self).folder (making_begins c.args.temporary.now _ _ (c.clear.ensures.acts.runs told).now (c.in_ok-clear.ensures.free told)) (c.in_ok-create_private.ensures.ok told)))
     (write_acts g.F.World.tells c.args.temporary.now (WritesSome 0 2) 0 2 (λ a b some. some) c.write_at.result _ _ c.write_at.ensures.some c.write_at.ensures.cause c.write_at.ensures.told c.write_at.ensures.frame)
 
@@ -42,7 +43,7 @@ returns-in_err-write_pages-clause-acts g c =
     (none_call g.F.World.tells Wrote _ c.write_at.result _ _ c.write_at.ensures.frame c.write_at.ensures.told c.in_ok-write_at.ensures.quiet))
     (writing g.F.World.tells c.args.temporary.now c.args.name.now c.requires.differ (record { first = c.args.first.now; pages = committed_of c.args.pages.now }) _ c.requires.absent (WritesSome 0 2) _ _ (none_then g.F.World.tells _ _ _ c.in_ok-clear.ensures.none (none_call g.F.World.tells Created _ c.create_private.result _ _ c.create_private.ensures.frame c.create_private.ensures.told c.in_ok-create_private.ensures.quiet))
     (creating g.F.World.tells c.args.temporary.now c.args.name.now c.requires.differ (record { first = c.args.first.now; pages = committed_of c.args.pages.now }) _ c.requires.absent _ _ c.in_ok-clear.ensures.none c.clear.ensures.acts c.in_ok-clear.ensures.free
-    (either_acts g.F.World.tells (CreatesFile c.args.temporary.now) Created _ c.create_private.result _ _ c.create_private.ensures.ok c.create_private.ensures.err c.create_private.ensures.cause c.create_private.ensures.told c.create_private.ensures.frame))
+    (create_acts g.F.World.tells c.args.temporary.now c.create_private.result _ _ c.create_private.ensures.ok c.create_private.ensures.mode c.create_private.ensures.err c.create_private.ensures.cause c.create_private.ensures.told c.create_private.ensures.frame))
     (λ told. (making_creates c.args.temporary.now _ (g.F.World.scene c.clear.new.host).folder (g.F.World.scene c.create_private.new.self).folder (making_begins c.args.temporary.now _ _ (c.clear.ensures.acts.runs told).now (c.in_ok-clear.ensures.free told)) (c.in_ok-create_private.ensures.ok told)))
     (write_acts g.F.World.tells c.args.temporary.now (WritesSome 0 2) 0 2 (λ a b some. some) c.write_at.result _ _ c.write_at.ensures.some c.write_at.ensures.cause c.write_at.ensures.told c.write_at.ensures.frame))
     (λ told. (making_writes c.args.temporary.now (WritesSome 0 2) _ (g.F.World.scene c.create_private.new.self).folder (g.F.World.scene c.write_at.new.self).folder (making_creates c.args.temporary.now _ (g.F.World.scene c.clear.new.host).folder (g.F.World.scene c.create_private.new.self).folder (making_begins c.args.temporary.now _ _ (c.clear.ensures.acts.runs told).now (c.in_ok-clear.ensures.free told)) (c.in_ok-create_private.ensures.ok told)) (c.write_at.ensures.some told)))
@@ -62,7 +63,7 @@ returns-clause-acts g c =
     (none_call g.F.World.tells Wrote _ c.write_at.result _ _ c.write_at.ensures.frame c.write_at.ensures.told c.in_ok-write_at.ensures.quiet))
     (writing g.F.World.tells c.args.temporary.now c.args.name.now c.requires.differ (record { first = c.args.first.now; pages = committed_of c.args.pages.now }) _ c.requires.absent (WritesSome 0 2) _ _ (none_then g.F.World.tells _ _ _ c.in_ok-clear.ensures.none (none_call g.F.World.tells Created _ c.create_private.result _ _ c.create_private.ensures.frame c.create_private.ensures.told c.in_ok-create_private.ensures.quiet))
     (creating g.F.World.tells c.args.temporary.now c.args.name.now c.requires.differ (record { first = c.args.first.now; pages = committed_of c.args.pages.now }) _ c.requires.absent _ _ c.in_ok-clear.ensures.none c.clear.ensures.acts c.in_ok-clear.ensures.free
-    (either_acts g.F.World.tells (CreatesFile c.args.temporary.now) Created _ c.create_private.result _ _ c.create_private.ensures.ok c.create_private.ensures.err c.create_private.ensures.cause c.create_private.ensures.told c.create_private.ensures.frame))
+    (create_acts g.F.World.tells c.args.temporary.now c.create_private.result _ _ c.create_private.ensures.ok c.create_private.ensures.mode c.create_private.ensures.err c.create_private.ensures.cause c.create_private.ensures.told c.create_private.ensures.frame))
     (λ told. (making_creates c.args.temporary.now _ (g.F.World.scene c.clear.new.host).folder (g.F.World.scene c.create_private.new.self).folder (making_begins c.args.temporary.now _ _ (c.clear.ensures.acts.runs told).now (c.in_ok-clear.ensures.free told)) (c.in_ok-create_private.ensures.ok told)))
     (write_acts g.F.World.tells c.args.temporary.now (WritesSome 0 2) 0 2 (λ a b some. some) c.write_at.result _ _ c.write_at.ensures.some c.write_at.ensures.cause c.write_at.ensures.told c.write_at.ensures.frame))
     (λ told. (making_writes c.args.temporary.now (WritesSome 0 2) _ (g.F.World.scene c.create_private.new.self).folder (g.F.World.scene c.write_at.new.self).folder (making_creates c.args.temporary.now _ (g.F.World.scene c.clear.new.host).folder (g.F.World.scene c.create_private.new.self).folder (making_begins c.args.temporary.now _ _ (c.clear.ensures.acts.runs told).now (c.in_ok-clear.ensures.free told)) (c.in_ok-create_private.ensures.ok told)) (c.write_at.ensures.some told)))
@@ -70,7 +71,12 @@ returns-clause-acts g c =
     (λ told. (making_writes c.args.temporary.now KeepsMark _ (g.F.World.scene c.write_at.new.self).folder (g.F.World.scene c.write_pages.new.host).folder (making_writes c.args.temporary.now (WritesSome 0 2) _ (g.F.World.scene c.create_private.new.self).folder (g.F.World.scene c.write_at.new.self).folder (making_creates c.args.temporary.now _ (g.F.World.scene c.clear.new.host).folder (g.F.World.scene c.create_private.new.self).folder (making_begins c.args.temporary.now _ _ (c.clear.ensures.acts.runs told).now (c.in_ok-clear.ensures.free told)) (c.in_ok-create_private.ensures.ok told)) (c.write_at.ensures.some told)) (c.write_pages.ensures.acts.runs told).now))
     (λ told. made_holds c.args.temporary.now (record { first = c.args.first.now; pages = committed_of c.args.pages.now }) _ (whole_new c.args.temporary.now (record { first = c.args.first.now; pages = committed_of c.args.pages.now }) (g.F.World.scene c.write_at.new.self).folder (g.F.World.scene c.write_pages.new.host).folder (c.in_ok-write_pages.ensures.written told)
     (marked_new c.args.temporary.now (g.F.World.scene c.create_private.new.self).folder (g.F.World.scene c.write_at.new.self).folder (c.in_ok-write_at.ensures.ok told) (created c.args.temporary.now (g.F.World.scene c.clear.new.host).folder (g.F.World.scene c.create_private.new.self).folder (c.in_ok-create_private.ensures.ok told)))))
-    (either_acts g.F.World.tells (ChangesNames (Renames c.args.temporary.now c.args.name.now)) Renamed _ c.rename.result _ _ c.rename.ensures.ok c.rename.ensures.err c.rename.ensures.cause c.rename.ensures.told c.rename.ensures.frame)
+    (either_acts g.F.World.tells (ChangesNames (Renames c.args.temporary.now c.args.name.now)) Renamed _ c.rename.result _ _ c.rename.ensures.ok c.rename.ensures.err c.rename.ensures.cause c.rename.ensures.told c.rename.ensures.frame
+    (λ told renames allowed may. modes_renamed allowed c.args.temporary.now c.args.name.now _ _
+    (mode_stays allowed c.args.temporary.now c.args.temporary.now KeepsMark (g.F.World.scene c.write_at.new.self).folder (g.F.World.scene c.write_pages.new.host).folder (c.write_pages.ensures.acts.runs told).now
+    (mode_stays allowed c.args.temporary.now c.args.temporary.now (WritesSome 0 2) (g.F.World.scene c.create_private.new.self).folder (g.F.World.scene c.write_at.new.self).folder (c.write_at.ensures.some told)
+    (mode_made allowed c.args.temporary.now owner_mode (g.F.World.scene c.create_private.new.self).folder may (c.in_ok-create_private.ensures.mode told))))
+    renames))
 
 pub returns-clause-made : goal.returns-clause-made
 returns-clause-made g c =

@@ -1,4 +1,5 @@
 use Rattle.std.proofs.Common.{◌≡◌, ◌+◌, ◌<◌, ◌≤◌, ◌-◌, ℕ, true}
+use Rattle.vs_pages.specs.Memory.{commits_of}
 use Rattle.vs_pair.specs.Stale.{is_stale}
 use Rattle.vs_pair.proofs.stale.stale_run.Given as goal
 
@@ -6,7 +7,7 @@ abbrev pub invariant-numbers : goal.invariant-numbers
 invariant-numbers l = record {
   some : 1 ≤ l.count;
   most : l.count ≤ l.most;
-  stale : (k : ℕ) → k < l.count → is_stale l.pages l.written (l.at + k) ≡ true;
+  stale : (k : ℕ) → k < l.count → is_stale (commits_of l.pages) l.written (l.at + k) ≡ true;
 }
 
 abbrev pub decreases-numbers : goal.decreases-numbers

@@ -1,7 +1,7 @@
 use Rattle.std.proofs.Common.{subst, sym}
 use Rattle.std.proofs.lemmas.Result.{on_ok_weaker}
 use Rattle.vs_host.specs.Disk.{ChangesFile}
-use Rattle.vs_pages.specs.Memory.{committed_of}
+use Rattle.vs_pages.specs.Memory.{commits_of, committed_of}
 use Rattle.vs_pair.specs.declared.gate.Gate.{Gate}
 use Rattle.vs_pair.specs.Swap.{Body, Fits, FailedSync}
 use Rattle.vs_disk.proofs.Quiet.{none_then, calls_then, calls_within}
@@ -9,6 +9,7 @@ use Rattle.vs_pair.proofs.Calls.{on_err_from, on_err_both}
 use Rattle.vs_pair.proofs.Gates.{ShutsWith, closing_acts, closing_failed, writing_acts, writing_failed, written_file, opening_acts, opening_failed, opened_file, grown_file, fresh_behind, still_there}
 use Rattle.vs_pair.proofs.Spared.{closes, marks, spares_on}
 use Rattle.std.proofs.Common.{◌+◌, arith}
+use Rattle.vs_pair.specs.Held.{held_of}
 use Rattle.vs_pair.specs.Stale.{stale_below}
 use Rattle.vs_pair.proofs.writing.sync_file.Goals as goal
 
@@ -19,7 +20,7 @@ pub returns-in_err-close_gate-clause-acts : goal.returns-in_err-close_gate-claus
 returns-in_err-close_gate-clause-acts g c = closing_acts c.args.name.now c.args.gate.now (record { first = c.args.first.now; pages = committed_of c.args.pages.now }) g.F.World.tells (g.F.World.scene c.args.host.now) _ c.close_gate.ensures.acts
 
 pub returns-in_err-close_gate-clause-spared : goal.returns-in_err-close_gate-clause-spared
-returns-in_err-close_gate-clause-spared g c = closes c.args.pages.now c.args.written.now g.F.World.tells c.args.name.now c.args.gate.now _ _ c.close_gate.ensures.acts
+returns-in_err-close_gate-clause-spared g c = closes (commits_of c.args.pages.now) c.args.written.now g.F.World.tells c.args.name.now c.args.gate.now _ _ c.close_gate.ensures.acts
 
 pub returns-in_err-close_gate-clause-failed : goal.returns-in_err-close_gate-clause-failed
 returns-in_err-close_gate-clause-failed g c =
@@ -31,7 +32,7 @@ returns-in_err-close_gate-clause-failed g c =
 pub write_pages-requires-clause-there : goal.write_pages-requires-clause-there
 write_pages-requires-clause-there g c told =
     let was = c.requires.fits told in
-    fresh_behind c.args.name.now c.args.gate.now (record { first = c.args.first.now; pages = committed_of c.args.pages.now }) c.args.pages.now c.args.written.now was.0 was.2 _ _ was.1 (c.in_ok-close_gate.ensures.closes told)
+    fresh_behind c.args.name.now c.args.gate.now (record { first = c.args.first.now; pages = committed_of c.args.pages.now }) (held_of c.args.pages.now) c.args.written.now was.0 was.2 _ _ was.1 (c.in_ok-close_gate.ensures.closes told)
     (c.close_gate.ensures.acts.runs told).now
 
 pub returns-in_err-write_pages-clause-acts : goal.returns-in_err-write_pages-clause-acts
@@ -41,8 +42,8 @@ returns-in_err-write_pages-clause-acts g c =
 
 pub returns-in_err-write_pages-clause-spared : goal.returns-in_err-write_pages-clause-spared
 returns-in_err-write_pages-clause-spared g c =
-    spares_on c.args.pages.now c.args.written.now g.F.World.tells c.args.name.now _ _ _ c.in_ok-close_gate.ensures.none
-    (closes c.args.pages.now c.args.written.now g.F.World.tells c.args.name.now c.args.gate.now _ _ c.close_gate.ensures.acts) c.write_pages.ensures.spared
+    spares_on (commits_of c.args.pages.now) c.args.written.now g.F.World.tells c.args.name.now _ _ _ c.in_ok-close_gate.ensures.none
+    (closes (commits_of c.args.pages.now) c.args.written.now g.F.World.tells c.args.name.now c.args.gate.now _ _ c.close_gate.ensures.acts) c.write_pages.ensures.spared
 
 pub returns-in_err-write_pages-clause-failed : goal.returns-in_err-write_pages-clause-failed
 returns-in_err-write_pages-clause-failed g c =
@@ -69,10 +70,10 @@ returns-clause-acts g c =
 
 pub returns-clause-spared : goal.returns-clause-spared
 returns-clause-spared g c =
-    spares_on c.args.pages.now c.args.written.now g.F.World.tells c.args.name.now _ _ _ (none_then g.F.World.tells _ _ _ c.in_ok-close_gate.ensures.none c.in_ok-write_pages.ensures.none)
-    (spares_on c.args.pages.now c.args.written.now g.F.World.tells c.args.name.now _ _ _ c.in_ok-close_gate.ensures.none
-    (closes c.args.pages.now c.args.written.now g.F.World.tells c.args.name.now c.args.gate.now _ _ c.close_gate.ensures.acts) c.write_pages.ensures.spared)
-    (marks c.args.pages.now c.args.written.now g.F.World.tells c.args.name.now _ _ c.open_gate.ensures.acts)
+    spares_on (commits_of c.args.pages.now) c.args.written.now g.F.World.tells c.args.name.now _ _ _ (none_then g.F.World.tells _ _ _ c.in_ok-close_gate.ensures.none c.in_ok-write_pages.ensures.none)
+    (spares_on (commits_of c.args.pages.now) c.args.written.now g.F.World.tells c.args.name.now _ _ _ c.in_ok-close_gate.ensures.none
+    (closes (commits_of c.args.pages.now) c.args.written.now g.F.World.tells c.args.name.now c.args.gate.now _ _ c.close_gate.ensures.acts) c.write_pages.ensures.spared)
+    (marks (commits_of c.args.pages.now) c.args.written.now g.F.World.tells c.args.name.now _ _ c.open_gate.ensures.acts)
 
 pub returns-clause-stands : goal.returns-clause-stands
 returns-clause-stands g c =
@@ -106,9 +107,9 @@ returns-in_err-close_gate-clause-calls g c end is = calls_within g.F.World.tells
 
 pub returns-in_err-write_pages-clause-calls : goal.returns-in_err-write_pages-clause-calls
 returns-in_err-write_pages-clause-calls g c end is =
-    calls_then g.F.World.tells _ _ _ 2 (2 + stale_below c.args.pages.now c.args.written.now end) _ (omega arith) c.close_gate.ensures.calls (c.write_pages.ensures.calls end is)
+    calls_then g.F.World.tells _ _ _ 2 (2 + stale_below (commits_of c.args.pages.now) c.args.written.now end) _ (omega arith) c.close_gate.ensures.calls (c.write_pages.ensures.calls end is)
 
 pub returns-clause-calls : goal.returns-clause-calls
 returns-clause-calls g c end is =
-    calls_then g.F.World.tells _ _ _ (4 + stale_below c.args.pages.now c.args.written.now end) 2 _ (omega arith)
-    (calls_then g.F.World.tells _ _ _ 2 (2 + stale_below c.args.pages.now c.args.written.now end) _ (omega arith) c.close_gate.ensures.calls (c.write_pages.ensures.calls end is)) c.open_gate.ensures.calls
+    calls_then g.F.World.tells _ _ _ (4 + stale_below (commits_of c.args.pages.now) c.args.written.now end) 2 _ (omega arith)
+    (calls_then g.F.World.tells _ _ _ 2 (2 + stale_below (commits_of c.args.pages.now) c.args.written.now end) _ (omega arith) c.close_gate.ensures.calls (c.write_pages.ensures.calls end is)) c.open_gate.ensures.calls

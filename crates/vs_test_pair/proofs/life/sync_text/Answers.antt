@@ -8,7 +8,7 @@ put_text-requires-clause-ready g c told = inr (c.requires.fits told)
 pub sync-requires-clause-fits : goal.sync-requires-clause-fits
 sync-requires-clause-fits g c told =
     let was = c.requires.fits told in
-    (was.0, was.1, was.2, fit_moved _ c.put_text.new.pair (g.F.World.scene c.args.host.now).folder (g.F.World.scene c.put_text.new.host).folder was.0 was.1 was.2 c.in_ok-put_text.ensures.files c.in_ok-put_text.ensures.since c.in_ok-put_text.ensures.folder was.3)
+    (was.0, was.1, was.2, fit_moved c.args.pair.now c.put_text.new.pair (g.F.World.scene c.args.host.now).folder (g.F.World.scene c.put_text.new.host).folder was.0 was.1 was.2 c.in_ok-put_text.ensures.files c.in_ok-put_text.ensures.held c.in_ok-put_text.ensures.folder was.3)
 
 pub returns-in-Ok-clause-fits : goal.returns-in-Ok-clause-fits
 returns-in-Ok-clause-fits g c told =
@@ -17,7 +17,7 @@ returns-in-Ok-clause-fits g c told =
       _,
       _,
       c.in-Ok.ensures.ok told was.0 was.1 was.2
-          (fit_moved _ c.put_text.new.pair (g.F.World.scene c.args.host.now).folder (g.F.World.scene c.put_text.new.host).folder was.0 was.1 was.2 c.in_ok-put_text.ensures.files c.in_ok-put_text.ensures.since c.in_ok-put_text.ensures.folder was.3),
+          (fit_moved c.args.pair.now c.put_text.new.pair (g.F.World.scene c.args.host.now).folder (g.F.World.scene c.put_text.new.host).folder was.0 was.1 was.2 c.in_ok-put_text.ensures.files c.in_ok-put_text.ensures.held c.in_ok-put_text.ensures.folder was.3),
     )
 
 pub returns-in-Err-clause-fits : goal.returns-in-Err-clause-fits
@@ -27,5 +27,5 @@ returns-in-Err-clause-fits g c told =
       _,
       _,
       c.in-Err.ensures.err told was.0 was.1 was.2
-          (fit_moved _ c.put_text.new.pair (g.F.World.scene c.args.host.now).folder (g.F.World.scene c.put_text.new.host).folder was.0 was.1 was.2 c.in_ok-put_text.ensures.files c.in_ok-put_text.ensures.since c.in_ok-put_text.ensures.folder was.3),
+          (fit_moved c.args.pair.now c.put_text.new.pair (g.F.World.scene c.args.host.now).folder (g.F.World.scene c.put_text.new.host).folder was.0 was.1 was.2 c.in_ok-put_text.ensures.files c.in_ok-put_text.ensures.held c.in_ok-put_text.ensures.folder was.3),
     )

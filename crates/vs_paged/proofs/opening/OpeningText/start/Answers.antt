@@ -5,7 +5,7 @@ use Rattle.vs_pair.specs.Steps as steps
 use Rattle.vs_pair.proofs.Acts.{acts_as}
 use Rattle.vs_host.specs.Names.{names_of_file}
 use Rattle.vs_host.specs.declared.names.Names.{Names}
-use Rattle.vs_pages.specs.Memory.{committed_of}
+use Rattle.vs_pages.specs.Memory.{committed_of, state_of}
 use Rattle.vs_pages.specs.declared.memory.MemPages.{MemPages}
 use Rattle.vs_paged.specs.Fits.{Starting}
 use Rattle.vs_paged.proofs.PageLemmas.{is_bounded}
@@ -14,20 +14,20 @@ use Rattle.vs_paged.proofs.opening.OpeningText.start.Goals as goal
 
 pub returns-in_err-start-clause-acts : goal.returns-in_err-start-clause-acts
 returns-in_err-start-clause-acts g c =
-    acts_as _ (steps.Starting c.self.inside.pair.files.names (sync_with c.self.inside.pair 1 _) (sync_with c.self.inside.pair 2 _)) (Starting (names_of_file c.args.self.name) (opened_in c.args.format c.args.self))
+    acts_as _ (steps.Starting c.self.inside.pair.files.names (sync_with c.self.inside.pair (g.F.World.scene c.args.host.now).folder 1 _) (sync_with c.self.inside.pair (g.F.World.scene c.args.host.now).folder 2 _)) (Starting (names_of_file c.args.self.name) (opened_in c.args.format c.args.self))
     (g.F.World.scene c.args.host.now) (g.F.World.scene c.start.new.host)
     (λ told d starting.
-    opened_starting c.self.inside.pair c.self.inside.tree c.args.self c.self.invariant.0 c.self.view_is c.head_of.result c.args.format
-    (ap (λ (h : Head). h.empty) c.head_of.ensures.head) (ap (λ (h : Head). h.format) c.head_of.ensures.head) _ d starting)
+    opened_starting c.self.inside.pair c.self.inside.tree c.args.self c.self.invariant.0 c.self.view_is (g.F.World.scene c.args.host.now).folder c.head_of.result c.args.format
+    (ap (λ (h : Head). h.empty) c.head_of.ensures.head) (ap (λ (h : Head). h.format) c.head_of.ensures.head) d starting)
     c.start.ensures.acts
 
 pub returns-clause-acts : goal.returns-clause-acts
 returns-clause-acts g c =
-    acts_as _ (steps.Starting c.self.inside.pair.files.names (sync_with c.self.inside.pair 1 _) (sync_with c.self.inside.pair 2 _)) (Starting (names_of_file c.args.self.name) (opened_in c.args.format c.args.self))
+    acts_as _ (steps.Starting c.self.inside.pair.files.names (sync_with c.self.inside.pair (g.F.World.scene c.args.host.now).folder 1 _) (sync_with c.self.inside.pair (g.F.World.scene c.args.host.now).folder 2 _)) (Starting (names_of_file c.args.self.name) (opened_in c.args.format c.args.self))
     (g.F.World.scene c.args.host.now) (g.F.World.scene c.start.new.host)
     (λ told d starting.
-    opened_starting c.self.inside.pair c.self.inside.tree c.args.self c.self.invariant.0 c.self.view_is c.head_of.result c.args.format
-    (ap (λ (h : Head). h.empty) c.head_of.ensures.head) (ap (λ (h : Head). h.format) c.head_of.ensures.head) _ d starting)
+    opened_starting c.self.inside.pair c.self.inside.tree c.args.self c.self.invariant.0 c.self.view_is (g.F.World.scene c.args.host.now).folder c.head_of.result c.args.format
+    (ap (λ (h : Head). h.empty) c.head_of.ensures.head) (ap (λ (h : Head). h.format) c.head_of.ensures.head) d starting)
     c.start.ensures.acts
 
 pub invariant_of-result : goal.invariant_of-result
@@ -35,9 +35,9 @@ invariant_of-result g c = record { bounded = is_bounded c.self.inside.pair.pages
 
 pub returns-clause-fits : goal.returns-clause-fits
 returns-clause-fits g c told =
-    opened_fits c.self.inside.pair c.self.inside.tree c.args.self c.self.invariant.0 c.self.view_is c.head_of.result c.args.format
+    opened_fits c.self.inside.pair c.self.inside.tree c.args.self c.self.invariant.0 c.self.view_is (g.F.World.scene c.args.host.now).folder c.head_of.result c.args.format
     (ap (λ (h : Head). h.empty) c.head_of.ensures.head) (ap (λ (h : Head). h.format) c.head_of.ensures.head)
-    _ _ c.start.ensures.pages refl (ap (λ (h : Head). h.dirty) c.head_of.ensures.head) (c.in_ok-start.ensures.ok told)
+    _ _ (ap (λ (m : MemPages). state_of m) c.start.ensures.pages) refl (ap (λ (h : Head). h.dirty) c.head_of.ensures.head) (c.in_ok-start.ensures.ok told)
 
 pub returns-clause-ends : goal.returns-clause-ends
 returns-clause-ends g c told =

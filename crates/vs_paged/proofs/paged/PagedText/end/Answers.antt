@@ -10,4 +10,4 @@ end-requires-clause-fits g c told = let fits = (c.requires.fits told).2 in (fits
 
 pub returns-clause-acts : goal.returns-clause-acts
 returns-clause-acts g c =
-    acts_as _ (steps.Ending (known_of c.args.self.pair)) (Ending c.args.self) (g.F.World.scene c.args.host.now) (g.F.World.scene c.end.new.host) (λ told d ending. ending_documents c.args.self _ d ending) c.end.ensures.acts
+    acts_as _ (steps.Ending (known_of c.args.self.pair (g.F.World.scene c.args.host.now).folder)) (Ending c.args.self) (g.F.World.scene c.args.host.now) (g.F.World.scene c.end.new.host) (λ told d ending. ending_documents c.args.self _ d ending) c.end.ensures.acts

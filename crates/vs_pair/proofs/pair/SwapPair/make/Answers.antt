@@ -17,14 +17,14 @@ make_file-requires-clause-absent g c told = subst (λ (n : Name). IsAbsent n (g.
 pub returns-clause-acts : goal.returns-clause-acts
 returns-clause-acts g c =
     made_as g.F.World.tells _ _ _ _ _ _ c.temporary_name.ensures c.swap_name.ensures
-    (body_is c.args.self.now.files.names.file (sync_with c.args.self.now c.args.generation c.args.head.now) c.as_str.result.now c.page_zero-first.result c.as_str.ensures c.page_zero-first.ensures.page)
+    (body_is c.args.self.now.files.names.file (sync_with c.args.self.now (g.F.World.scene c.args.host.now).folder c.args.generation c.args.head.now) c.as_str.result.now c.page_zero-first.result c.as_str.ensures c.page_zero-first.ensures.page)
     _ _ c.make_file.ensures.acts
 
 pub returns-clause-made : goal.returns-clause-made
 returns-clause-made g c =
     on_ok_weaker c.make_file.result
     (λ has told. has_as _ _ _ _ c.swap_name.ensures
-    (body_is c.args.self.now.files.names.file (sync_with c.args.self.now c.args.generation c.args.head.now) c.as_str.result.now c.page_zero-first.result c.as_str.ensures c.page_zero-first.ensures.page)
+    (body_is c.args.self.now.files.names.file (sync_with c.args.self.now (g.F.World.scene c.args.host.now).folder c.args.generation c.args.head.now) c.as_str.result.now c.page_zero-first.result c.as_str.ensures c.page_zero-first.ensures.page)
     (g.F.World.scene c.make_file.new.host).folder (has told))
     c.make_file.ensures.made
 

@@ -22,67 +22,67 @@ sync_file-requires-clause-fits g c told =
     let name = c.swap_name-name.ensures ∙ ap (λ (s : Side). name_of c.args.self.now.files.names s) c.other-older.ensures in (
       body_of c.args.self.now.files.names.file fits.3.older_sync,
       moved_has (name_of c.args.self.now.files.names (other_side c.args.self.now.files.newer)) c.swap_name-name.result.now (sym name) _ _ refl (Fits c.args.self.now.files.gate) _
-          (there (known_of c.args.self.now) fits.0 fits.1 fits.2 _ fits.3 (sync_of c.args.self.now c.args.head.now) refl c.requires.room),
+          (there (known_of c.args.self.now (g.F.World.scene c.args.host.now).folder) fits.0 fits.1 fits.2 _ fits.3 (sync_of c.args.self.now (g.F.World.scene c.args.host.now).folder c.args.head.now) refl c.requires.room),
       fits.3.older_keeps,
     )
 
 pub returns-in_err-sync_file-clause-acts : goal.returns-in_err-sync_file-clause-acts
 returns-in_err-sync_file-clause-acts g c =
-    let files : Known = known_of c.args.self.now in
+    let files : Known = known_of c.args.self.now (g.F.World.scene c.args.host.now).folder in
     let name = c.swap_name-name.ensures ∙ ap (λ (s : Side). name_of files.names s) c.other-older.ensures in
     let body : Body = record { first = c.page_zero-first.result; pages = committed_of c.args.self.now.pages } in
-    let same : body ≡ body_of files.names.file (sync_of c.args.self.now c.args.head.now) =
-    body_is files.names.file (sync_of c.args.self.now c.args.head.now) c.as_str.result.now c.page_zero-first.result c.as_str.ensures c.page_zero-first.ensures.page in
-    acts_as g.F.World.tells (ChangesFile c.swap_name-name.result.now (SyncStep files.gate body)) (Syncing files (sync_of c.args.self.now c.args.head.now)) _ _
-    (λ told d changes. syncing files (sync_of c.args.self.now c.args.head.now) _ d refl c.requires.room (g.F.World.is_folder c.args.host.now told)
+    let same : body ≡ body_of files.names.file (sync_of c.args.self.now (g.F.World.scene c.args.host.now).folder c.args.head.now) =
+    body_is files.names.file (sync_of c.args.self.now (g.F.World.scene c.args.host.now).folder c.args.head.now) c.as_str.result.now c.page_zero-first.result c.as_str.ensures c.page_zero-first.ensures.page in
+    acts_as g.F.World.tells (ChangesFile c.swap_name-name.result.now (SyncStep files.gate body)) (Syncing files (sync_of c.args.self.now (g.F.World.scene c.args.host.now).folder c.args.head.now)) _ _
+    (λ told d changes. syncing files (sync_of c.args.self.now (g.F.World.scene c.args.host.now).folder c.args.head.now) _ d refl c.requires.room (g.F.World.is_folder c.args.host.now told)
     (moved c.swap_name-name.result.now (name_of files.names (other_side files.newer)) name body _ same (SyncStep files.gate) _ d changes))
     c.sync_file.ensures.acts
 
 pub returns-in_err-sync_file-clause-err : goal.returns-in_err-sync_file-clause-err
 returns-in_err-sync_file-clause-err g c =
-    let files : Known = known_of c.args.self.now in
+    let files : Known = known_of c.args.self.now (g.F.World.scene c.args.host.now).folder in
     let name = c.swap_name-name.ensures ∙ ap (λ (s : Side). name_of files.names s) c.other-older.ensures in
     let body : Body = record { first = c.page_zero-first.result; pages = committed_of c.args.self.now.pages } in
-    let same : body ≡ body_of files.names.file (sync_of c.args.self.now c.args.head.now) =
-    body_is files.names.file (sync_of c.args.self.now c.args.head.now) c.as_str.result.now c.page_zero-first.result c.as_str.ensures c.page_zero-first.ensures.page in
+    let same : body ≡ body_of files.names.file (sync_of c.args.self.now (g.F.World.scene c.args.host.now).folder c.args.head.now) =
+    body_is files.names.file (sync_of c.args.self.now (g.F.World.scene c.args.host.now).folder c.args.head.now) c.as_str.result.now c.page_zero-first.result c.as_str.ensures c.page_zero-first.ensures.page in
     on_err_from c.from_residual.result _
     (λ told newest begun past fit.
-    failed files newest begun past _ fit (sync_of c.args.self.now c.args.head.now) refl c.requires.room c.sync_file.new.gate _
+    failed files newest begun past _ fit (sync_of c.args.self.now (g.F.World.scene c.args.host.now).folder c.args.head.now) refl c.requires.room c.sync_file.new.gate _
     (moved c.swap_name-name.result.now (name_of files.names (other_side files.newer)) name body _ same (FailedSync files.gate c.sync_file.new.gate) _ _ (c.in_err-sync_file.ensures.failed told)))
 
 pub returns-in_err-sync_file-clause-stays : goal.returns-in_err-sync_file-clause-stays
 returns-in_err-sync_file-clause-stays g c =
-    let files : Known = known_of c.args.self.now in
+    let files : Known = known_of c.args.self.now (g.F.World.scene c.args.host.now).folder in
     let name = c.swap_name-name.ensures ∙ ap (λ (s : Side). name_of files.names s) c.other-older.ensures in
     let body : Body = record { first = c.page_zero-first.result; pages = committed_of c.args.self.now.pages } in
-    let same : body ≡ body_of files.names.file (sync_of c.args.self.now c.args.head.now) =
-    body_is files.names.file (sync_of c.args.self.now c.args.head.now) c.as_str.result.now c.page_zero-first.result c.as_str.ensures c.page_zero-first.ensures.page in
+    let same : body ≡ body_of files.names.file (sync_of c.args.self.now (g.F.World.scene c.args.host.now).folder c.args.head.now) =
+    body_is files.names.file (sync_of c.args.self.now (g.F.World.scene c.args.host.now).folder c.args.head.now) c.as_str.result.now c.page_zero-first.result c.as_str.ensures c.page_zero-first.ensures.page in
     on_err_from c.from_residual.result _
     (λ told newest begun past fit document is.
-    none_rises _ newest (sync_of c.args.self.now c.args.head.now ∷ begun) past _
-    (failed files newest begun past _ fit (sync_of c.args.self.now c.args.head.now) refl c.requires.room c.sync_file.new.gate _
+    none_rises _ newest (sync_of c.args.self.now (g.F.World.scene c.args.host.now).folder c.args.head.now ∷ begun) past _
+    (failed files newest begun past _ fit (sync_of c.args.self.now (g.F.World.scene c.args.host.now).folder c.args.head.now) refl c.requires.room c.sync_file.new.gate _
     (moved c.swap_name-name.result.now (name_of files.names (other_side files.newer)) name body _ same (FailedSync files.gate c.sync_file.new.gate) _ _ (c.in_err-sync_file.ensures.failed told)))
     (g.F.World.scene c.args.host.now).folder (above_newest files newest begun past _ fit document is))
 
 pub returns-clause-acts : goal.returns-clause-acts
 returns-clause-acts g c =
-    let files : Known = known_of c.args.self.now in
+    let files : Known = known_of c.args.self.now (g.F.World.scene c.args.host.now).folder in
     let name = c.swap_name-name.ensures ∙ ap (λ (s : Side). name_of files.names s) c.other-older.ensures in
     let body : Body = record { first = c.page_zero-first.result; pages = committed_of c.args.self.now.pages } in
-    let same : body ≡ body_of files.names.file (sync_of c.args.self.now c.args.head.now) =
-    body_is files.names.file (sync_of c.args.self.now c.args.head.now) c.as_str.result.now c.page_zero-first.result c.as_str.ensures c.page_zero-first.ensures.page in
-    acts_as g.F.World.tells (ChangesFile c.swap_name-name.result.now (SyncStep files.gate body)) (Syncing files (sync_of c.args.self.now c.args.head.now)) _ _
-    (λ told d changes. syncing files (sync_of c.args.self.now c.args.head.now) _ d refl c.requires.room (g.F.World.is_folder c.args.host.now told)
+    let same : body ≡ body_of files.names.file (sync_of c.args.self.now (g.F.World.scene c.args.host.now).folder c.args.head.now) =
+    body_is files.names.file (sync_of c.args.self.now (g.F.World.scene c.args.host.now).folder c.args.head.now) c.as_str.result.now c.page_zero-first.result c.as_str.ensures c.page_zero-first.ensures.page in
+    acts_as g.F.World.tells (ChangesFile c.swap_name-name.result.now (SyncStep files.gate body)) (Syncing files (sync_of c.args.self.now (g.F.World.scene c.args.host.now).folder c.args.head.now)) _ _
+    (λ told d changes. syncing files (sync_of c.args.self.now (g.F.World.scene c.args.host.now).folder c.args.head.now) _ d refl c.requires.room (g.F.World.is_folder c.args.host.now told)
     (moved c.swap_name-name.result.now (name_of files.names (other_side files.newer)) name body _ same (SyncStep files.gate) _ d changes))
     c.sync_file.ensures.acts
 
 pub returns-clause-ok : goal.returns-clause-ok
 returns-clause-ok g c told newest begun past fit =
-    let files : Known = known_of c.args.self.now in
+    let files : Known = known_of c.args.self.now (g.F.World.scene c.args.host.now).folder in
     let name = c.swap_name-name.ensures ∙ ap (λ (s : Side). name_of files.names s) c.other-older.ensures in
     let body : Body = record { first = c.page_zero-first.result; pages = committed_of c.args.self.now.pages } in
-    let same : body ≡ body_of files.names.file (sync_of c.args.self.now c.args.head.now) =
-    body_is files.names.file (sync_of c.args.self.now c.args.head.now) c.as_str.result.now c.page_zero-first.result c.as_str.ensures c.page_zero-first.ensures.page in
+    let same : body ≡ body_of files.names.file (sync_of c.args.self.now (g.F.World.scene c.args.host.now).folder c.args.head.now) =
+    body_is files.names.file (sync_of c.args.self.now (g.F.World.scene c.args.host.now).folder c.args.head.now) c.as_str.result.now c.page_zero-first.result c.as_str.ensures c.page_zero-first.ensures.page in
     let now : Side → Gate → ℕ → Known = λ side gate commits. record files {
       newer = side;
       gate = gate;
@@ -90,25 +90,25 @@ returns-clause-ok g c told newest begun past fit =
       newer_has = record { commits = commits; end = c.committed_end.result };
       older_has = files.newer_has;
     } in
-    let after : IsFit (now (other_side files.newer) Open (commits_of files.pages).count) (g.F.World.scene c.sync_file.new.host).folder (sync_of c.args.self.now c.args.head.now) [] (newest ∷ past) =
-    done files newest begun past _ fit (sync_of c.args.self.now c.args.head.now) refl c.requires.room (SyncStep files.gate (body_of files.names.file (sync_of c.args.self.now c.args.head.now))) _
+    let after : IsFit (now (other_side files.newer) Open files.pages.commits.count) (g.F.World.scene c.sync_file.new.host).folder (sync_of c.args.self.now (g.F.World.scene c.args.host.now).folder c.args.head.now) [] (newest ∷ past) =
+    done files newest begun past _ fit (sync_of c.args.self.now (g.F.World.scene c.args.host.now).folder c.args.head.now) refl c.requires.room (SyncStep files.gate (body_of files.names.file (sync_of c.args.self.now (g.F.World.scene c.args.host.now).folder c.args.head.now))) _
     (moved c.swap_name-name.result.now (name_of files.names (other_side files.newer)) name body _ same (SyncStep files.gate) _ _ (c.sync_file.ensures.acts.runs told).now)
     (moved_has c.swap_name-name.result.now (name_of files.names (other_side files.newer)) name body _ same (λ b file. Leaves file (Holds b)) _ (c.in_ok-sync_file.ensures.stands told))
     c.committed_end.result refl c.committed_end.ensures.past c.committed_end.ensures.last in
-    subst (λ (s : Side). IsFit (now s c.sync_file.new.gate c.commits.result) (g.F.World.scene c.sync_file.new.host).folder (sync_of c.args.self.now c.args.head.now) [] (newest ∷ past))
+    subst (λ (s : Side). IsFit (now s c.sync_file.new.gate c.commits.result) (g.F.World.scene c.sync_file.new.host).folder (sync_of c.args.self.now (g.F.World.scene c.args.host.now).folder c.args.head.now) [] (newest ∷ past))
     (sym c.other-older.ensures)
-    (subst (λ (h : Gate). IsFit (now (other_side files.newer) h c.commits.result) (g.F.World.scene c.sync_file.new.host).folder (sync_of c.args.self.now c.args.head.now) [] (newest ∷ past))
+    (subst (λ (h : Gate). IsFit (now (other_side files.newer) h c.commits.result) (g.F.World.scene c.sync_file.new.host).folder (sync_of c.args.self.now (g.F.World.scene c.args.host.now).folder c.args.head.now) [] (newest ∷ past))
     (sym c.in_ok-sync_file.ensures.opened)
-    (subst (λ (n : ℕ). IsFit (now (other_side files.newer) Open n) (g.F.World.scene c.sync_file.new.host).folder (sync_of c.args.self.now c.args.head.now) [] (newest ∷ past)) (sym c.commits.ensures) after))
+    (subst (λ (n : ℕ). IsFit (now (other_side files.newer) Open n) (g.F.World.scene c.sync_file.new.host).folder (sync_of c.args.self.now (g.F.World.scene c.args.host.now).folder c.args.head.now) [] (newest ∷ past)) (sym c.commits.ensures) after))
 
 pub returns-in_err-sync_file-clause-spared : goal.returns-in_err-sync_file-clause-spared
 returns-in_err-sync_file-clause-spared g c =
-    subst (λ (n : Name). Acts g.F.World.tells (ChangesFile n (SparesFresh c.args.self.now.pages c.args.self.now.files.older_has)) (g.F.World.scene c.args.host.now) (g.F.World.scene c.sync_file.new.host))
+    subst (λ (n : Name). Acts g.F.World.tells (ChangesFile n (SparesFresh (commits_of c.args.self.now.pages) c.args.self.now.files.older_has)) (g.F.World.scene c.args.host.now) (g.F.World.scene c.sync_file.new.host))
     (c.swap_name-name.ensures ∙ ap (λ (s : Side). name_of c.args.self.now.files.names s) c.other-older.ensures) c.sync_file.ensures.spared
 
 pub returns-clause-spared : goal.returns-clause-spared
 returns-clause-spared g c =
-    subst (λ (n : Name). Acts g.F.World.tells (ChangesFile n (SparesFresh c.args.self.now.pages c.args.self.now.files.older_has)) (g.F.World.scene c.args.host.now) (g.F.World.scene c.sync_file.new.host))
+    subst (λ (n : Name). Acts g.F.World.tells (ChangesFile n (SparesFresh (commits_of c.args.self.now.pages) c.args.self.now.files.older_has)) (g.F.World.scene c.args.host.now) (g.F.World.scene c.sync_file.new.host))
     (c.swap_name-name.ensures ∙ ap (λ (s : Side). name_of c.args.self.now.files.names s) c.other-older.ensures) c.sync_file.ensures.spared
 
 pub returns-clause-grown : goal.returns-clause-grown
@@ -118,13 +118,13 @@ returns-clause-grown g c told =
 
 pub returns-clause-rises : goal.returns-clause-rises
 returns-clause-rises g c told document is =
-    let files : Known = known_of c.args.self.now in
+    let files : Known = known_of c.args.self.now (g.F.World.scene c.args.host.now).folder in
     let fits = c.requires.fits told in
     let name = c.swap_name-name.ensures ∙ ap (λ (s : Side). name_of files.names s) c.other-older.ensures in
     let body : Body = record { first = c.page_zero-first.result; pages = committed_of c.args.self.now.pages } in
-    let same : body ≡ body_of files.names.file (sync_of c.args.self.now c.args.head.now) =
-    body_is files.names.file (sync_of c.args.self.now c.args.head.now) c.as_str.result.now c.page_zero-first.result c.as_str.ensures c.page_zero-first.ensures.page in
-    rises files fits.0 fits.1 fits.2 _ fits.3 (sync_of c.args.self.now c.args.head.now) refl c.requires.room (SyncStep files.gate (body_of files.names.file (sync_of c.args.self.now c.args.head.now))) _
+    let same : body ≡ body_of files.names.file (sync_of c.args.self.now (g.F.World.scene c.args.host.now).folder c.args.head.now) =
+    body_is files.names.file (sync_of c.args.self.now (g.F.World.scene c.args.host.now).folder c.args.head.now) c.as_str.result.now c.page_zero-first.result c.as_str.ensures c.page_zero-first.ensures.page in
+    rises files fits.0 fits.1 fits.2 _ fits.3 (sync_of c.args.self.now (g.F.World.scene c.args.host.now).folder c.args.head.now) refl c.requires.room (SyncStep files.gate (body_of files.names.file (sync_of c.args.self.now (g.F.World.scene c.args.host.now).folder c.args.head.now))) _
     (moved c.swap_name-name.result.now (name_of files.names (other_side files.newer)) name body _ same (SyncStep files.gate) _ _ (c.sync_file.ensures.acts.runs told).now)
     (moved_has c.swap_name-name.result.now (name_of files.names (other_side files.newer)) name body _ same (λ b file. Leaves file (Holds b)) _ (c.in_ok-sync_file.ensures.stands told)) document is
 
